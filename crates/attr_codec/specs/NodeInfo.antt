@@ -1,0 +1,96 @@
+-- Node information: its fields, what 64 bytes say, and how it is spelled.
+-- InfiniBand Architecture Specification, Volume 1: subnet management, NodeInfo.
+use Rattle.std.specs.Prelude.{ℕ, ◌^◌, ◌<◌, List, [], ◌∷◌}
+use Rattle.smp_bytes.specs.Field.{Field, number_in}
+use Rattle.smp_bytes.specs.Field.{Entry}
+use Rattle.attr_codec.specs.Image.{image}
+use Rattle.attr_codec.specs.declared.node_info.NodeInfo.{NodeInfo}
+
+abbrev pub base_version : Field
+base_version = record { at = 0; len = 1 }
+
+abbrev pub class_version : Field
+class_version = record { at = 1; len = 1 }
+
+abbrev pub node_type : Field
+node_type = record { at = 2; len = 1 }
+
+abbrev pub num_ports : Field
+num_ports = record { at = 3; len = 1 }
+
+abbrev pub system_image_guid : Field
+system_image_guid = record { at = 4; len = 8 }
+
+abbrev pub node_guid : Field
+node_guid = record { at = 12; len = 8 }
+
+abbrev pub port_guid : Field
+port_guid = record { at = 20; len = 8 }
+
+abbrev pub partition_cap : Field
+partition_cap = record { at = 28; len = 2 }
+
+abbrev pub device_id : Field
+device_id = record { at = 30; len = 2 }
+
+abbrev pub revision : Field
+revision = record { at = 32; len = 4 }
+
+abbrev pub local_port_num : Field
+local_port_num = record { at = 36; len = 1 }
+
+abbrev pub vendor_id : Field
+vendor_id = record { at = 37; len = 3 }
+
+-- what 64 bytes say
+abbrev pub node_info_in : List ℕ → NodeInfo
+node_info_in bytes =
+    record {
+      base_version = number_in base_version bytes;
+      class_version = number_in class_version bytes;
+      node_type = number_in node_type bytes;
+      num_ports = number_in num_ports bytes;
+      system_image_guid = number_in system_image_guid bytes;
+      node_guid = number_in node_guid bytes;
+      port_guid = number_in port_guid bytes;
+      partition_cap = number_in partition_cap bytes;
+      device_id = number_in device_id bytes;
+      revision = number_in revision bytes;
+      local_port_num = number_in local_port_num bytes;
+      vendor_id = number_in vendor_id bytes;
+    }
+
+-- each field with its number
+abbrev pub entries_of : NodeInfo → List Entry
+entries_of info =
+    record { field = base_version; number = info.base_version }
+    ∷ record { field = class_version; number = info.class_version }
+    ∷ record { field = node_type; number = info.node_type }
+    ∷ record { field = num_ports; number = info.num_ports }
+    ∷ record { field = system_image_guid; number = info.system_image_guid }
+    ∷ record { field = node_guid; number = info.node_guid }
+    ∷ record { field = port_guid; number = info.port_guid }
+    ∷ record { field = partition_cap; number = info.partition_cap }
+    ∷ record { field = device_id; number = info.device_id }
+    ∷ record { field = revision; number = info.revision }
+    ∷ record { field = local_port_num; number = info.local_port_num }
+    ∷ record { field = vendor_id; number = info.vendor_id } ∷ []
+
+-- the 64 bytes that spell it; the bytes behind the last field are reserved and 0
+abbrev pub node_info_bytes : NodeInfo → List ℕ
+node_info_bytes info = image (entries_of info)
+
+-- each number fits its field
+pub record FitsNodeInfo (info : NodeInfo) : Type 0 where
+  pub base_version : info.base_version < 2 ^ 8
+  pub class_version : info.class_version < 2 ^ 8
+  pub node_type : info.node_type < 2 ^ 8
+  pub num_ports : info.num_ports < 2 ^ 8
+  pub system_image_guid : info.system_image_guid < 2 ^ 64
+  pub node_guid : info.node_guid < 2 ^ 64
+  pub port_guid : info.port_guid < 2 ^ 64
+  pub partition_cap : info.partition_cap < 2 ^ 16
+  pub device_id : info.device_id < 2 ^ 16
+  pub revision : info.revision < 2 ^ 32
+  pub local_port_num : info.local_port_num < 2 ^ 8
+  pub vendor_id : info.vendor_id < 2 ^ 24

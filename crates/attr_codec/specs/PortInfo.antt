@@ -1,0 +1,63 @@
+-- Port information: the places of its fields.
+-- InfiniBand Architecture Specification, Volume 1: subnet management, PortInfo.
+use Rattle.std.specs.Prelude.{ℕ, Option, Some, None, ◌==◌, if◌then◌else◌}
+use Rattle.smp_bytes.specs.Field.{Field, Bits}
+use Rattle.attr_codec.specs.declared.port_state.PortState.{PortState}
+use Rattle.attr_codec.specs.declared.port_state.PortState.TheVariants.{NoChange, Down, Initialize, Armed, Active}
+
+abbrev pub m_key : Field
+m_key = record { at = 0; len = 8 }
+
+abbrev pub gid_prefix : Field
+gid_prefix = record { at = 8; len = 8 }
+
+abbrev pub base_lid : Field
+base_lid = record { at = 16; len = 2 }
+
+abbrev pub master_sm_lid : Field
+master_sm_lid = record { at = 18; len = 2 }
+
+abbrev pub capability_mask : Field
+capability_mask = record { at = 20; len = 4 }
+
+abbrev pub local_port_num : Field
+local_port_num = record { at = 28; len = 1 }
+
+abbrev pub link_speed_supported : Bits
+link_speed_supported = record { at = 32; shift = 4; width = 4 }
+
+abbrev pub port_physical_state : Bits
+port_physical_state = record { at = 33; shift = 4; width = 4 }
+
+abbrev pub link_down_default_state : Bits
+link_down_default_state = record { at = 33; shift = 0; width = 4 }
+
+abbrev pub m_key_protect_bits : Bits
+m_key_protect_bits = record { at = 34; shift = 6; width = 2 }
+
+abbrev pub lmc : Bits
+lmc = record { at = 34; shift = 0; width = 3 }
+
+abbrev pub port_state : Bits
+port_state = record { at = 32; shift = 0; width = 4 }
+
+-- whether a subnet manager sits at the port: IsSM, bit 1 of the capability mask
+abbrev pub is_sm_bit : Bits
+is_sm_bit = record { at = 23; shift = 1; width = 1 }
+
+abbrev pub number_of_state : PortState → ℕ
+number_of_state NoChange = 0
+number_of_state Down = 1
+number_of_state Initialize = 2
+number_of_state Armed = 3
+number_of_state Active = 4
+
+-- the state of that number; other numbers are reserved
+abbrev pub state_of_number : ℕ → Option PortState
+state_of_number number =
+    if number == 0 then Some NoChange
+    else if number == 1 then Some Down
+    else if number == 2 then Some Initialize
+    else if number == 3 then Some Armed
+    else if number == 4 then Some Active
+    else None

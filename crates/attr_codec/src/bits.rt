@@ -1,0 +1,30 @@
+//! Some bits of one byte of an attribute, at a place that const parameters name.
+ghost use Rattle.std.specs.Prelude.{◌≡◌, ◌+◌, ◌^◌, ◌<◌, ◌≤◌};
+ghost use Rattle.smp_bytes.specs.Field.{bits_in, with_bits};
+
+use smp_bytes::wire::{bits_at, put_bits};
+
+/// The number that `WIDTH` bits of the byte at `AT` stand for, of which the lowest is bit `SHIFT`.
+pub fn bits<const AT: usize, const SHIFT: u32, const WIDTH: u32>(bytes: &[u8; 64]) -> u8
+    requires place { AT < 64 }
+    requires some { 1 ≤ WIDTH }
+    requires within { SHIFT + WIDTH ≤ 8 }
+    ensures number { result ≡ bits_in (record { at = AT; shift = SHIFT; width = WIDTH }) bytes.now }
+    ensures fits { result < 2 ^ WIDTH }
+{
+    bits_at(bytes, AT, SHIFT, WIDTH)
+}
+
+/// Writes a number into those bits; all others stay.
+pub fn with_bits<const AT: usize, const SHIFT: u32, const WIDTH: u32>(
+    bytes: &mut [u8; 64],
+    number: u8,
+)
+    requires place { AT < 64 }
+    requires some { 1 ≤ WIDTH }
+    requires within { SHIFT + WIDTH ≤ 8 }
+    requires fits { number < 2 ^ WIDTH }
+    ensures { bytes.new ≡ with_bits (record { at = AT; shift = SHIFT; width = WIDTH }) number bytes.old }
+{
+    put_bits(bytes, AT, SHIFT, WIDTH, number);
+}

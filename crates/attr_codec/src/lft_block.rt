@@ -1,0 +1,63 @@
+ghost use Rattle.std.specs.Prelude.{◌≡◌, ◌<◌, slice_index, slice_set};
+
+use crate::attribute::Attribute;
+use smp_bytes::PortNum;
+use std::marker::Model;
+
+/// A block of a linear forwarding table (subnet management, LinearForwardingTable): a port for each of 64 LIDs, where
+/// entry `i` of block `b` is for LID 64 `b` + `i`. Contracts see the list of ports.
+#[derive(Clone, Copy, Debug, PartialEq, Eq)]
+pub struct LftBlock {
+    ports: [u8; 64],
+}
+
+impl Model for LftBlock {
+    ghost use Rattle.std.specs.Prelude.{ℕ, List};
+
+    ghost Value = { List ℕ };
+
+    ghost view = { λ a. a.ports };
+
+    ghost inverse = { λ ports. record { ports = ports } };
+}
+
+impl LftBlock {
+    /// The port of entry `i`.
+    pub fn port(&self, i: usize) -> PortNum
+        requires { i < 64 }
+        ensures { result ≡ slice_index self.now i }
+    {
+        PortNum::new(self.ports[i])
+    }
+
+    pub fn set_port(&mut self, i: usize, to: PortNum)
+        requires { i < 64 }
+        ensures { self.new ≡ slice_set self.old i to }
+    {
+        self.ports[i] = to.number();
+    }
+}
+
+impl Attribute for LftBlock {
+    ghost use Rattle.std.specs.Prelude.{refl};
+
+    const ID: u16 = 0x0019;
+
+    ghost ID = { 0x0019 };
+
+    ghost is_value = { λ _. Unit {0} };
+
+    ghost value_in = { λ bytes. bytes };
+
+    ghost bytes_of = { λ ports. ports };
+
+    fn decode(bytes: &[u8; 64]) -> Self {
+        LftBlock { ports: *bytes }
+    }
+
+    fn encode(&self) -> [u8; 64] {
+        self.ports
+    }
+
+    ghost reads_back = { λ _ _. refl };
+}

@@ -1,0 +1,32 @@
+//! The attributes that subnet management packets carry: 64 bytes and what they say.
+#![tactic(auto)]
+
+mod attribute;
+pub mod bits;
+mod field;
+pub mod laws;
+mod lft_block;
+mod macros;
+mod nibble;
+mod node_description;
+mod node_info;
+mod node_type_number;
+mod port_info;
+mod port_state;
+mod sm_info;
+mod switch_info;
+#[cfg(test)]
+mod tests;
+mod vendor_id;
+
+pub use attribute::Attribute;
+pub use lft_block::LftBlock;
+pub use nibble::Nibble;
+pub use node_description::NodeDescription;
+pub use node_info::NodeInfo;
+pub use node_type_number::NodeTypeNumber;
+pub use port_info::PortInfo;
+pub use port_state::PortState;
+pub use sm_info::SmInfo;
+pub use switch_info::SwitchInfo;
+pub use vendor_id::VendorId;

@@ -1,0 +1,18 @@
+/// The body of `decode` or `encode` of an attribute, from its list of fields: `name: Type at PLACE` for whole bytes,
+/// and behind `bits` `name: PLACE, SHIFT, WIDTH` for four bits of one byte.
+macro_rules! fields {
+    (decode $bytes:ident, $attribute:ident { $($name:ident: $kind:ident at $at:ident),* $(,)? } $(bits { $($part:ident: $byte:ident, $shift:literal, $width:literal),* $(,)? })?) => {
+        $attribute {
+            $($name: field::read::<$kind, { $at }>($bytes),)*
+            $($($part: Nibble::from_bits(bits::<{ $byte }, $shift, $width>($bytes)),)*)?
+        }
+    };
+    (encode $value:ident, $attribute:ident { $($name:ident: $kind:ident at $at:ident),* $(,)? } $(bits { $($part:ident: $byte:ident, $shift:literal, $width:literal),* $(,)? })?) => {{
+        let mut bytes = [0u8; 64];
+        $(field::write::<$kind, { $at }>($value.$name, &mut bytes);)*
+        $($(with_bits::<{ $byte }, $shift, $width>(&mut bytes, $value.$part.number());)*)?
+        bytes
+    }};
+}
+
+pub(crate) use fields;

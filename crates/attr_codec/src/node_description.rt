@@ -1,0 +1,43 @@
+use crate::attribute::Attribute;
+use std::marker::Model;
+
+/// What an operator calls a node: 64 bytes of text, with zeros after it (subnet management, NodeDescription). All of
+/// them are carried. Contracts see the bytes.
+#[derive(Clone, Copy, Debug, PartialEq, Eq)]
+pub struct NodeDescription {
+    bytes: [u8; 64],
+}
+
+impl Model for NodeDescription {
+    ghost use Rattle.std.specs.Prelude.{ℕ, List};
+
+    ghost Value = { List ℕ };
+
+    ghost view = { λ a. a.bytes };
+
+    ghost inverse = { λ bytes. record { bytes = bytes } };
+}
+
+impl Attribute for NodeDescription {
+    ghost use Rattle.std.specs.Prelude.{refl};
+
+    const ID: u16 = 0x0010;
+
+    ghost ID = { 0x0010 };
+
+    ghost is_value = { λ _. Unit {0} };
+
+    ghost value_in = { λ bytes. bytes };
+
+    ghost bytes_of = { λ text. text };
+
+    fn decode(bytes: &[u8; 64]) -> Self {
+        NodeDescription { bytes: *bytes }
+    }
+
+    fn encode(&self) -> [u8; 64] {
+        self.bytes
+    }
+
+    ghost reads_back = { λ _ _. refl };
+}

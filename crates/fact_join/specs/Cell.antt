@@ -1,0 +1,28 @@
+-- The order of cells, and their join.
+use Rattle.std.specs.Prelude.{◌≡◌, ℕ, ◌<◌, Bool, ◌⊎◌, nat_lt, if◌then◌else◌}
+use Rattle.fact_join.specs.declared.cell.Cell.{Cell}
+use Rattle.fact_join.specs.declared.cell.Cell.TheVariants.{Known, Disputed}
+
+-- the generation of a cell
+abbrev pub generation_of : {V : Type 0} → Cell V → ℕ
+generation_of (Known generation value) = generation
+generation_of (Disputed generation) = generation
+
+-- no value is held
+abbrev pub IsDisputed : {V : Type 0} → Cell V → Type 0
+IsDisputed (Known generation value) = ⊥
+IsDisputed (Disputed generation) = Unit {0}
+
+-- the second cell is newer, or the same, or of the same generation and disputed
+abbrev pub IsBelow : {V : Type 0} → Cell V → Cell V → Type 0
+IsBelow a b = (generation_of a < generation_of b) ⊎ (a ≡ b) ⊎ ((generation_of a ≡ generation_of b) × IsDisputed b)
+
+-- of two cells of one generation: equal values stay known
+abbrev pub joined_alike : {V : Type 0} → (V → V → Bool) → Cell V → Cell V → Cell V
+joined_alike same (Known generation x) (Known other y) = if same x y then Known generation x else Disputed generation
+joined_alike same (Known generation x) (Disputed other) = Disputed generation
+joined_alike same (Disputed generation) b = Disputed generation
+
+-- the newer of the two, and at one generation what both say
+abbrev pub joined_by : {V : Type 0} → (V → V → Bool) → Cell V → Cell V → Cell V
+joined_by same a b = if nat_lt (generation_of b) (generation_of a) then a else (if nat_lt (generation_of a) (generation_of b) then b else joined_alike same a b)

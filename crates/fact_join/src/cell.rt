@@ -1,0 +1,25 @@
+ghost use Rattle.std.specs.Prelude.{◌≡◌};
+ghost use Rattle.fact_join.specs.Cell.{generation_of};
+
+use smp_bytes::Generation;
+
+/// What is held of one fact: the value at its newest generation, or that its values differ there.
+#[derive(Clone, Copy, Debug, PartialEq, Eq)]
+pub enum Cell<V> {
+    /// The one value that was told at its newest generation.
+    Known(Generation, V),
+    /// Different values were told at its newest generation.
+    Disputed(Generation),
+}
+
+impl<V> Cell<V> {
+    /// The newest generation at which the fact was told.
+    pub fn generation(&self) -> Generation
+        ensures { result ≡ generation_of self.now }
+    {
+        match self {
+            Cell::Known(generation, _) => *generation,
+            Cell::Disputed(generation) => *generation,
+        }
+    }
+}

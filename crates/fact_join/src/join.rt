@@ -1,0 +1,88 @@
+ghost use Rattle.std.specs.Prelude.{◌≡◌, true, Bool, IsTrue, ◌↔◌};
+
+use crate::cell::Cell;
+
+/// A type whose `==` tells all its values apart.
+pub trait Exact: Eq + Copy {
+    /// Values that `==` does not tell apart are one.
+    ghost exact: { (x y : Self) → Self.eq x y ≡ true → x ≡ y };
+}
+
+/// Values in an order, of which any two have a least value above both.
+pub trait Join: Sized {
+    /// The first value says no more than the second.
+    ghost below: { Self → Self → Type 0 };
+
+    /// The least value above both.
+    ghost joined: { Self → Self → Self };
+
+    /// Whether the other says at least as much.
+    fn below(&self, other: &Self) -> bool
+        ensures { IsTrue result ↔ below self.now other.now };
+
+    /// What the two say together.
+    fn join(&self, other: &Self) -> Self
+        ensures { result ≡ joined self.now other.now };
+
+    ghost reflexive: { (x : Self) → below x x };
+
+    ghost transitive: { (x y z : Self) → below x y → below y z → below x z };
+
+    ghost antisymmetric: { (x y : Self) → below x y → below y x → x ≡ y };
+
+    ghost above_first: { (x y : Self) → below x (joined x y) };
+
+    ghost above_second: { (x y : Self) → below y (joined x y) };
+
+    ghost least: { (x y z : Self) → below x z → below y z → below (joined x y) z };
+}
+
+/// The greater generation is above. At one generation a dispute is above all else, and two values
+/// are in no order.
+impl<V: Exact> Join for Cell<V> {
+    ghost use Rattle.fact_join.specs.Cell.{IsBelow, joined_by};
+
+    ghost below = { IsBelow };
+
+    ghost joined = { joined_by V.eq };
+
+    fn below(&self, other: &Self) -> bool {
+        let (first, second) = (self.generation(), other.generation());
+        if first != second {
+            return first < second;
+        }
+        match (self, other) {
+            (_, Cell::Disputed(_)) => true,
+            (Cell::Known(_, a), Cell::Known(_, b)) => a == b,
+            (Cell::Disputed(_), Cell::Known(..)) => false,
+        }
+    }
+
+    fn join(&self, other: &Self) -> Self {
+        let (first, second) = (self.generation(), other.generation());
+        if second < first {
+            *self
+        } else if first < second {
+            *other
+        } else {
+            match (self, other) {
+                (Cell::Known(_, a), Cell::Known(_, b)) if a == b => *self,
+                _ => Cell::Disputed(first),
+            }
+        }
+    }
+
+    ghost use Rattle.fact_join.specs.Joins.{below_itself, below_trans, below_antisymm, equal_itself, joined_above_first, joined_above_second, joined_least};
+
+    ghost reflexive = { below_itself };
+
+    ghost transitive = { below_trans };
+
+    ghost antisymmetric = { below_antisymm };
+
+    ghost above_first = { joined_above_first V.eq V.exact (equal_itself V.Eq.laws) };
+
+    ghost above_second = { joined_above_second V.eq V.exact (equal_itself V.Eq.laws) };
+
+    ghost least = { joined_least V.eq V.exact (equal_itself V.Eq.laws) };
+}

@@ -1,0 +1,9 @@
+//! Cells: what is held of one fact, and how two such cells are joined.
+#![tactic(auto)]
+
+mod cell;
+mod join;
+pub mod laws;
+
+pub use cell::Cell;
+pub use join::{Exact, Join};

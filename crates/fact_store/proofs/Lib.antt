@@ -1,0 +1,11 @@
+pub mod Entries
+pub mod Keys
+pub mod Members
+pub mod Merges
+pub mod Orders
+pub mod SightingRanges
+pub mod Steps
+pub mod ViewLaws
+pub mod Views
+pub mod Groupings
+pub mod Judged

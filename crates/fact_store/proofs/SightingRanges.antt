@@ -1,0 +1,149 @@
+-- What a list of sightings tells of its view: its cells, its keys, its ranges and its newest generation.
+use Rattle.std.proofs.Common.{◌≡◌, ◌≤◌, ◌+◌, ℕ, suc, List, [], ◌∷◌, ◌++◌, inl, inr, refl, sym, ap, ◌∙◌, subst, arith, Bool, true, false, cond, ◌||◌, map, length}
+use Rattle.std.proofs.lemmas.List.{length-map}
+use Rattle.std.proofs.lemmas.List.Elements.{Contains-append_left, Contains-append_right, Contains-append_cases}
+use Rattle.std.proofs.lemmas.Bool.{eq-eqb}
+use Rattle.std.specs.Prelude.{Option, None, Some, MatchOption, Contains, find, max}
+use Rattle.std.specs.FinMap.{get, entries, entries_sorted, keys, len, len-entries, len-empty, len-insert, from_entries, contains_key}
+use Rattle.fact_join.specs.declared.cell.Cell.{Cell}
+use Rattle.fact_join.specs.declared.cell.Cell.TheVariants.{Known, Disputed}
+use Rattle.fact_join.specs.Cell.{generation_of}
+use Rattle.fact_join.specs.Joins.{below-le}
+use Rattle.fact_store.specs.declared.key.Key.{Key}
+use Rattle.fact_store.specs.declared.value.Value.{Value}
+use Rattle.fact_store.specs.Key.{key_cmp}
+use Rattle.fact_store.specs.Sighting.{IsSighting, AreInRange}
+use Rattle.fact_store.specs.View.{Facts, is_of, cell_at, view, WasSighted, IsNewest, IsCellIn, IsNewestGeneration}
+use Rattle.fact_store.proofs.Keys.{key_total}
+use Rattle.fact_store.proofs.Members.{contains_here, contains_cases, contains_none}
+use Rattle.fact_store.proofs.Merges.{joined_there, get-merge}
+use Rattle.fact_store.proofs.Orders.{get_contained, contained_get, IsLeastKey, find-least}
+use Rattle.fact_store.proofs.ViewLaws.{view_law, newest_in}
+use Rattle.fact_store.proofs.Views.{summary, get-view, view_above, view_of_both}
+
+-- the view at a key, one sighting at a time ------------------------------------------------
+
+-- one cell alone says what it says
+one_cell : (c : Cell Value) → summary (c ∷ []) ≡ c
+one_cell c =
+    let g : max (generation_of c) 0 ≡ generation_of c = omega arith in
+    ap (λ t. Rattle.fact_store.specs.View.agreement (max (generation_of c) 0) (cond t (c ∷ []) [])) (eq-eqb _ _ (sym g))
+
+-- one sighting alone gives its key its cell
+get-view_of_one : (x : Key × Cell Value) (q : Key) → get (view (x ∷ [])) q ≡ cond (is_of q x) (Some x.1) None
+get-view_of_one x q =
+    get-view (x ∷ []) q
+    ∙ elim (is_of q x) as (λ t. is_of q x ≡ t → cond (t || false) (Some (cell_at q (x ∷ []))) None ≡ cond t (Some x.1) None) [
+      | true ↦ λ p. ap Some (ap (λ t. summary (map (λ y. y.1) (cond t (x ∷ []) []))) p ∙ one_cell x.1)
+      | false ↦ λ p. refl
+    ] refl
+
+-- one sighting more joins its cell to what the key has
+pub get-view_of_more : (s : List (Key × Cell Value)) (x : Key × Cell Value) (q : Key) → get (view (s ++ x ∷ [])) q ≡ joined_there (get (view s) q) (cond (is_of q x) (Some x.1) None)
+get-view_of_more s x q =
+    ap (λ (f : Facts). get f q) (view_of_both s (x ∷ []))
+    ∙ get-merge (view s) (view (x ∷ [])) q
+    ∙ ap (joined_there (get (view s) q)) (get-view_of_one x q)
+
+-- what is held was sighted, and what was sighted is held ------------------------------------
+
+-- what a view has at a key is what its sightings say
+pub cell_in : (s : List (Key × Cell Value)) (q : Key) (d : Cell Value) → get (view s) q ≡ Some d → IsCellIn q s d
+cell_in s q d e = subst (λ (o : Option (Cell Value)). MatchOption o ((c : Cell Value) → WasSighted q s c → ⊥) (IsCellIn q s)) e ((view_law s).cells q)
+
+-- and of their newest generation
+pub newest_at : (s : List (Key × Cell Value)) (q : Key) (d : Cell Value) → get (view s) q ≡ Some d → IsNewest q s (generation_of d)
+newest_at s q d e = newest_in q s d (cell_in s q d e)
+
+-- each entry of a view was sighted
+entry_sighted : (s : List (Key × Cell Value)) (e : Key × Cell Value) → Contains (entries (view s)) e → (c : Cell Value) × Contains s (e.0, c)
+entry_sighted s e h = let n = (newest_at s e.0 e.1 (contained_get (view s) e.0 e.1 h)).sighted in (n.0, n.1)
+
+-- each sighted key is that of an entry
+sighted_entry : (s : List (Key × Cell Value)) (q : Key) (c : Cell Value) → Contains s (q, c) → (d : Cell Value) × Contains (entries (view s)) (q, d)
+sighted_entry s q c h = let d = view_above s q c h in (d.0, get_contained (view s) q d.0 d.1)
+
+-- keys ----------------------------------------------------------------------------------------
+
+-- the least key of the sightings is that of the entries
+least_of_view : (p : Key → Bool) (s : List (Key × Cell Value)) (o : Option Key) → IsLeastKey p s o → IsLeastKey p (entries (view s)) o
+least_of_view p s None l = λ e h. let c = entry_sighted s e h in l (e.0, c.0) c.1
+least_of_view p s (Some k) l = (sighted_entry s k l.0.0 l.0.1, l.1, λ e h i. let c = entry_sighted s e h in l.2 (e.0, c.0) c.1 i)
+
+-- the least key of the sightings that passes is the first of the view's keys that does
+pub find-keys_of_view : (p : Key → Bool) (s : List (Key × Cell Value)) (o : Option Key) → IsLeastKey p s o → o ≡ find p (keys (view s))
+find-keys_of_view p s o l = sym (find-least p (entries (view s)) (entries_sorted (view s)) o (least_of_view p s o l))
+
+-- one at most is added
+at_most_one_more : (b : Bool) (m n : ℕ) → m ≤ n → cond b m (m + 1) ≤ suc n
+at_most_one_more true m n h = omega arith
+at_most_one_more false m n h = omega arith
+
+-- a map made of a list is no longer than it
+len-from_entries : (es : List (Key × Cell Value)) → len (from_entries {R = key_cmp} es) ≤ length es
+len-from_entries [] = subst (λ (n : ℕ). n ≤ 0) (sym (len-empty key_cmp (Cell Value))) (omega arith)
+len-from_entries (e ∷ es) =
+    subst (λ (n : ℕ). n ≤ length (e ∷ es)) (sym (len-insert key_total (from_entries es) e.0 e.1))
+    (at_most_one_more (contains_key (from_entries {R = key_cmp} es) e.0) (len (from_entries {R = key_cmp} es)) (length es) (len-from_entries es))
+
+-- a view has no more cells than there were sightings
+pub len-view : (s : List (Key × Cell Value)) → len (view s) ≤ length s
+len-view s = subst (λ (n : ℕ). len (view s) ≤ n) (length-map s (λ x. (x.0, cell_at x.0 s))) (len-from_entries (map (λ x. (x.0, cell_at x.0 s)) s))
+
+-- facts have as many keys as cells
+pub length-keys : (x : Facts) → length (keys x) ≡ len x
+length-keys x = length-map (entries x) (λ e. e.0) ∙ sym (len-entries x)
+
+-- ranges ----------------------------------------------------------------------------------------
+
+-- what sightings in range say is in range
+sighting_in : (s : List (Key × Cell Value)) → ((x : Key × Cell Value) → Contains s x → IsSighting x) → (q : Key) (d : Cell Value) → IsCellIn q s d → IsSighting (q, d)
+sighting_in s f q (Known g v) i =
+    let n = i.0.sighted in subst (λ (c : Cell Value). IsSighting (q, c)) (i.1 n.0 n.1 n.2) (f (q, n.0) n.1)
+sighting_in s f q (Disputed g) i =
+    let n = i.0.sighted in
+    let h = f (q, n.0) n.1 in
+    record { key = h.key; generation = subst Rattle.fact_store.specs.Sighting.IsGeneration n.2 h.generation; cell = tt }
+
+-- a view of sightings in range is in range
+pub in_range : (s : List (Key × Cell Value)) → ((x : Key × Cell Value) → Contains s x → IsSighting x) → AreInRange (view s)
+in_range s f q d e = sighting_in s f q d (cell_in s q d e)
+
+-- generations -------------------------------------------------------------------------------------
+
+-- the newest generation of the sightings is that of the view
+pub newest_of_view : (s : List (Key × Cell Value)) (x : Key × Cell Value) → Contains s x → ((y : Key × Cell Value) → Contains s y → generation_of y.1 ≤ generation_of x.1) → IsNewestGeneration (view s) (generation_of x.1)
+newest_of_view s x h f =
+    let d = view_above s x.0 x.1 h in
+    let n = (newest_at s x.0 d.0 d.1).sighted in
+    record {
+      held = (x.0, d.0, d.1, omega (arith, below-le x.1 d.0 d.2, n.2, f (x.0, n.0) n.1));
+      greatest = λ q c e. let m = (newest_at s q c e).sighted in omega (arith, m.2, f (q, m.0) m.1);
+    }
+
+-- the newest generation among sightings, if there are any
+abbrev pub IsNewestAmong : List (Key × Cell Value) → Option ℕ → Type 0
+IsNewestAmong s None = s ≡ []
+IsNewestAmong s (Some g) = ((x : Key × Cell Value) × Contains s x × (generation_of x.1 ≡ g)) × ((x : Key × Cell Value) → Contains s x → generation_of x.1 ≤ g)
+
+-- a list of one contains that one
+pub contained_one : (x y : Key × Cell Value) → Contains (x ∷ []) y → x ≡ y
+contained_one x y h = elim (contains_cases x y [] h) [ inl e ↦ e | inr k ↦ absurd (contains_none y k) ]
+
+-- one sighting more that is at least as new as all before it
+pub newer_sighting : (s : List (Key × Cell Value)) (x : Key × Cell Value) (g : ℕ) → generation_of x.1 ≡ g → ((y : Key × Cell Value) → Contains s y → generation_of y.1 ≤ g) → IsNewestAmong (s ++ x ∷ []) (Some g)
+newer_sighting s x g e f = (
+  (x, Contains-append_right s (x ∷ []) x (contains_here x []), e),
+  λ y h. elim (Contains-append_cases s (x ∷ []) y h) [ inl k ↦ f y k | inr k ↦ omega (arith, e, ap (λ (z : Key × Cell Value). generation_of z.1) (contained_one x y k)) ],
+)
+
+-- one sighting more that is no newer
+pub older_sighting : (s : List (Key × Cell Value)) (x : Key × Cell Value) (g : ℕ) → generation_of x.1 ≤ g → IsNewestAmong s (Some g) → IsNewestAmong (s ++ x ∷ []) (Some g)
+older_sighting s x g l n = (
+  (n.0.0, Contains-append_left s (x ∷ []) n.0.0 n.0.1, n.0.2),
+  λ y h. elim (Contains-append_cases s (x ∷ []) y h) [ inl k ↦ n.1 y k | inr k ↦ omega (arith, ap (λ (z : Key × Cell Value). generation_of z.1) (contained_one x y k)) ],
+)
+
+-- one sighting more that is in range
+pub range_step : (s : List (Key × Cell Value)) (x : Key × Cell Value) → ((y : Key × Cell Value) → Contains s y → IsSighting y) → IsSighting x → (y : Key × Cell Value) → Contains (s ++ x ∷ []) y → IsSighting y
+range_step s x f h y k = elim (Contains-append_cases s (x ∷ []) y k) [ inl i ↦ f y i | inr i ↦ subst IsSighting (contained_one x y i) h ]

@@ -1,0 +1,95 @@
+-- What a set of sightings says together: each key's newest generation, and whether its sightings agree there.
+use Rattle.std.specs.Prelude.{◌≡◌, ◌≤◌, ℕ, Bool, List, [], ◌∷◌, ◌==◌, max, map, filter, Contains, Some, MatchOption, if◌then◌else◌}
+use Rattle.std.specs.List.{list_all}
+use Rattle.std.specs.Ordering.{eq_by_cmp}
+use Rattle.std.specs.FinMap.{FinMap, entries, get, from_entries}
+use Rattle.fact_join.specs.declared.cell.Cell.{Cell}
+use Rattle.fact_join.specs.declared.cell.Cell.TheVariants.{Known, Disputed}
+use Rattle.fact_join.specs.Cell.{generation_of}
+use Rattle.fact_store.specs.declared.key.Key.{Key}
+use Rattle.fact_store.specs.declared.value.Value.{Value}
+use Rattle.fact_store.specs.Key.{key_cmp}
+use Rattle.fact_store.specs.Value.{is_same_cell}
+
+-- a finite map from keys to cells
+abbrev pub Facts : Type 0
+Facts = FinMap key_cmp (Cell Value)
+
+-- whether a sighting is of the key
+abbrev pub is_of : Key → Key × Cell Value → Bool
+is_of key s = eq_by_cmp key_cmp key s.0
+
+-- what the sightings of a key say
+abbrev pub cells_of : Key → List (Key × Cell Value) → List (Cell Value)
+cells_of key sightings = map (λ s. s.1) (filter (is_of key) sightings)
+
+-- the greatest of the cells' generations
+abbrev pub newest_of : List (Cell Value) → ℕ
+newest_of [] = 0
+newest_of (c ∷ cells) = max (generation_of c) (newest_of cells)
+
+-- the greatest generation of a sighting of the key
+abbrev pub newest : Key → List (Key × Cell Value) → ℕ
+newest key sightings = newest_of (cells_of key sightings)
+
+-- what cells of one generation say together: one value if all say it
+abbrev pub agreement : ℕ → List (Cell Value) → Cell Value
+agreement generation [] = Disputed generation
+agreement generation (c ∷ cells) = if list_all (is_same_cell c) cells then c else Disputed generation
+
+-- what the key's newest sightings say together
+abbrev pub cell_at : Key → List (Key × Cell Value) → Cell Value
+cell_at key sightings = agreement (newest key sightings) (filter (λ c. generation_of c == newest key sightings) (cells_of key sightings))
+
+-- each key that was sighted, with what its newest sightings say
+abbrev pub view : List (Key × Cell Value) → Facts
+view sightings = from_entries (map (λ s. (s.0, cell_at s.0 sightings)) sightings)
+
+-- the greatest generation of a cell of the facts
+pub record IsNewestGeneration (facts : Facts) (generation : ℕ) : Type 0 where
+  pub held : (key : Key) × (c : Cell Value) × (get facts key ≡ Some c) × (generation_of c ≡ generation)
+  pub greatest : (key : Key) (c : Cell Value) → get facts key ≡ Some c → generation_of c ≤ generation
+
+-- the law of a view, by membership alone: ----------------------------------------
+
+-- the key was sighted with this cell
+abbrev pub WasSighted : Key → List (Key × Cell Value) → Cell Value → Type 0
+WasSighted key sightings c = Contains sightings (key, c)
+
+-- there is a sighting of that generation, and none is newer
+pub record IsNewest (key : Key) (sightings : List (Key × Cell Value)) (generation : ℕ) : Type 0 where
+  pub sighted : (c : Cell Value) × WasSighted key sightings c × (generation_of c ≡ generation)
+  pub greatest : (c : Cell Value) → WasSighted key sightings c → generation_of c ≤ generation
+
+-- every newest sighting has the value
+abbrev pub AllSay : Key → List (Key × Cell Value) → ℕ → Value → Type 0
+AllSay key sightings generation value = (c : Cell Value) → WasSighted key sightings c → generation_of c ≡ generation → c ≡ Known generation value
+
+-- the one value that every newest sighting has, or a dispute where there is none
+abbrev pub IsCellIn : Key → List (Key × Cell Value) → Cell Value → Type 0
+IsCellIn key sightings (Known generation value) = IsNewest key sightings generation × AllSay key sightings generation value
+IsCellIn key sightings (Disputed generation) = IsNewest key sightings generation × ((value : Value) → AllSay key sightings generation value → ⊥)
+
+-- a key that was never sighted has no cell
+pub record IsView (sightings : List (Key × Cell Value)) (facts : Facts) : Type 0 where
+  pub cells : (key : Key) → MatchOption (get facts key) ((c : Cell Value) → WasSighted key sightings c → ⊥) (IsCellIn key sightings)
+
+-- the view is the one map with that law
+abbrev pub ViewLaw : Type 0
+ViewLaw = (sightings : List (Key × Cell Value)) → IsView sightings (view sightings)
+
+-- and no other map has it
+abbrev pub ViewIsUnique : Type 0
+ViewIsUnique = (sightings : List (Key × Cell Value)) (x y : Facts) → IsView sightings x → IsView sightings y → x ≡ y
+
+-- lists with the same members have the same view, however often and in whatever order
+abbrev pub HaveSameMembers : List (Key × Cell Value) → List (Key × Cell Value) → Type 0
+HaveSameMembers s t = ((x : Key × Cell Value) → Contains s x → Contains t x) × ((x : Key × Cell Value) → Contains t x → Contains s x)
+
+-- so they have the same view
+abbrev pub MembersDecideView : Type 0
+MembersDecideView = (s t : List (Key × Cell Value)) → HaveSameMembers s t → view s ≡ view t
+
+-- a view is the view of its own cells, so a store stands for any sightings that it was made of
+abbrev pub ViewOfItsCells : Type 0
+ViewOfItsCells = (x : Facts) → view (entries x) ≡ x

@@ -1,0 +1,40 @@
+ghost use Rattle.std.specs.Prelude.{◌≡◌, ◌↔◌, None, Some, Err, OnOk, OnErr};
+ghost use Rattle.fact_store.specs.Merge.{merge};
+ghost use Rattle.fact_store.specs.Report.{report_fault, sightings_of};
+ghost use Rattle.fact_store.specs.View.{view};
+ghost use Rattle.fact_store.specs.declared.report_fault.ReportFault.{ReportFault as Fault};
+
+use crate::report::Report;
+use crate::report_fault::ReportFault;
+use crate::report_sightings::sightings;
+use crate::store::Store;
+use thiserror::Error;
+
+/// Why a store did not take a report.
+#[derive(Clone, Copy, Debug, PartialEq, Eq, Error)]
+pub enum IngestFault {
+    #[error("{0}")]
+    Report(ReportFault),
+    /// The growth that the report's facts need was refused.
+    #[error("out of memory")]
+    Memory,
+}
+
+impl Store {
+    /// Takes in what a report tells. Want of memory is the last check.
+    pub fn ingest(&mut self, report: &Report) -> Result<(), IngestFault>
+        ensures ok { OnOk result (self.new ≡ merge self.old (view (sightings_of report.now))) }
+        ensures accepted { OnOk result (report_fault report.now ≡ None) }
+        ensures refused { (fault : Fault) → (result ≡ Err (IngestFault.Report fault)) ↔ (report_fault report.now ≡ Some fault) }
+        ensures err { OnErr result (self.new ≡ self.old) }
+    {
+        let told = match sightings(report) {
+            Ok(told) => told,
+            Err(fault) => return Err(IngestFault::Report(fault)),
+        };
+        match self.add_all(told.as_slice()) {
+            Ok(()) => Ok(()),
+            Err(_) => Err(IngestFault::Memory),
+        }
+    }
+}

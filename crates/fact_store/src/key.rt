@@ -1,0 +1,120 @@
+ghost use Rattle.std.specs.Prelude.{◌≡◌, ◌&&◌};
+
+use smp_bytes::{Guid, PortNum};
+use std::cmp::Ordering;
+
+/// What a fact is about. Keys are ordered by kind, in the order of this list, then by GUID and by port.
+#[derive(Clone, Copy, Debug)]
+pub enum Key {
+    /// A node, by its GUID.
+    Node(Guid),
+    /// The GUID of a port of a node.
+    PortGuid(Guid, PortNum),
+    /// What a port of a node is cabled to.
+    Link(Guid, PortNum),
+    /// Whether a port of a node is up.
+    Port(Guid, PortNum),
+    /// The LID that a port of a node claims.
+    Claim(Guid, PortNum),
+    /// The room of a switch's linear forwarding table.
+    Cap(Guid),
+}
+
+impl Key {
+    ghost use Rattle.fact_store.specs.Key.{key_numbers};
+
+    /// The place of its kind among the kinds, the GUID and the port; the port is 0 where there is none.
+    fn sort_key(self) -> [u64; 3]
+        ensures { result ≡ key_numbers self }
+    {
+        match self {
+            Key::Node(node) => [1, node.number(), 0],
+            Key::PortGuid(node, port) => [2, node.number(), u64::from(port.number())],
+            Key::Link(node, port) => [3, node.number(), u64::from(port.number())],
+            Key::Port(node, port) => [4, node.number(), u64::from(port.number())],
+            Key::Claim(node, port) => [5, node.number(), u64::from(port.number())],
+            Key::Cap(node) => [6, node.number(), 0],
+        }
+    }
+}
+
+impl PartialEq for Key {
+    ghost use Rattle.std.specs.Cmp.{eq_by_cmp_equiv, on_total, partial_equiv_from_equiv};
+    ghost use Rattle.std.specs.Cmp.Lexicographic.{nat_list_cmp_total};
+    ghost use Rattle.std.specs.Ordering.{eq_by_cmp};
+    ghost use Rattle.fact_store.specs.Key.{key_cmp, key_numbers};
+
+    ghost eq = { eq_by_cmp key_cmp };
+
+    ghost laws = { partial_equiv_from_equiv (eq_by_cmp_equiv (on_total key_numbers nat_list_cmp_total)) };
+
+    fn eq(&self, other: &Self) -> bool {
+        self.cmp(other) == Ordering::Equal
+    }
+}
+
+impl Eq for Key {
+    ghost use Rattle.std.specs.Cmp.{eq_by_cmp_equiv, on_total};
+    ghost use Rattle.std.specs.Cmp.Lexicographic.{nat_list_cmp_total};
+    ghost use Rattle.fact_store.specs.Key.{key_numbers};
+
+    ghost laws = { eq_by_cmp_equiv (on_total key_numbers nat_list_cmp_total) };
+}
+
+impl PartialOrd for Key {
+    ghost use Rattle.std.specs.Cmp.{on_total, partial_order_from_total};
+    ghost use Rattle.std.specs.Cmp.Lexicographic.{nat_list_cmp_total};
+    ghost use Rattle.std.specs.Ordering.{as_partial_cmp};
+    ghost use Rattle.fact_store.specs.Key.{key_cmp, key_numbers};
+
+    ghost partial_cmp = { as_partial_cmp key_cmp };
+
+    ghost laws = { partial_order_from_total (on_total key_numbers nat_list_cmp_total) };
+
+    fn partial_cmp(&self, other: &Self) -> Option<Ordering> {
+        Some(self.cmp(other))
+    }
+}
+
+impl Ord for Key {
+    ghost use Rattle.std.specs.Prelude.{refl};
+    ghost use Rattle.std.specs.Cmp.{on_total};
+    ghost use Rattle.std.specs.Cmp.Lexicographic.{nat_list_cmp_total};
+    ghost use Rattle.fact_store.specs.Key.{key_cmp, key_numbers};
+
+    ghost cmp = { key_cmp };
+
+    ghost total = { on_total key_numbers nat_list_cmp_total };
+
+    ghost matches_partial_cmp = { λ a b. refl };
+
+    ghost matches_eq = { λ a b. refl };
+
+    fn cmp(&self, other: &Self) -> Ordering {
+        self.sort_key().cmp(&other.sort_key())
+    }
+}
+
+ghost use Rattle.fact_store.specs.Key.{is_above, is_below};
+
+/// Whether the key comes after `low` and before `high`, where they are given.
+pub(crate) fn is_between(low: &Option<Key>, key: &Key, high: &Option<Key>) -> bool
+    ensures { result ≡ (is_above low.now key.now && is_below high.now key.now) }
+{
+    let after_low = match low {
+        None => true,
+        Some(low) => low < key,
+    };
+    let before_high = match high {
+        None => true,
+        Some(high) => key < high,
+    };
+    after_low && before_high
+}
+
+/// A port that has a LID: port 0 of a switch, or a port of an adapter.
+#[derive(Clone, Copy, Debug, PartialEq, Eq, PartialOrd, Ord)]
+pub struct EndPort {
+    pub node: Guid,
+    pub port: PortNum,
+}

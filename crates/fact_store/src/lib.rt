@@ -1,0 +1,26 @@
+//! Facts about a subnet: what replies tell, and the view that all of them together give.
+#![tactic(auto)]
+
+mod ingest;
+mod key;
+pub mod laws;
+mod report;
+mod report_fault;
+mod report_sightings;
+pub mod sample_fabric;
+mod sighting;
+mod store;
+mod value;
+
+pub use fact_join::Cell;
+pub use ingest::IngestFault;
+pub use key::{EndPort, Key};
+pub use report::{Context, Report};
+pub use report_fault::ReportFault;
+pub use report_sightings::sightings;
+pub use sighting::Sighting;
+pub use store::Store;
+pub use value::Value;
+
+#[cfg(test)]
+mod tests;

@@ -1,0 +1,36 @@
+//! The command line.
+use clap::{Arg, ArgAction, Command};
+use std::alloc::{AllocError, Global};
+
+/// The subcommand that prints facts.
+pub const FACTS: &str = "facts";
+
+/// The subcommand that writes a store file.
+pub const JOIN: &str = "join";
+
+/// The files of a subcommand.
+pub const FILE: &str = "FILE";
+
+/// The subcommands and their arguments.
+pub fn command_line<'a>(alloc: Global) -> Result<Command<'a>, AllocError> {
+    let facts = Command::new(alloc, FACTS)
+        .about("Prints the facts that all the files tell together")
+        .arg(files(alloc))?;
+    let join = Command::new(alloc, JOIN)
+        .about("Writes the facts that all the files tell together to standard output, as a store file")
+        .arg(files(alloc))?;
+    Command::new(alloc, "ibsm")
+        .about("InfiniBand subnet managers")
+        .subcommand_required(true)
+        .subcommand(facts)?
+        .subcommand(join)
+}
+
+/// At least one file.
+fn files<'a>(alloc: Global) -> Arg<'a> {
+    Arg::new(alloc, FILE)
+        .help("Report files and store files")
+        .required(true)
+        .num_args(1..)
+        .action(ArgAction::Set)
+}

@@ -1,0 +1,16 @@
+//! `ibsm`: what InfiniBand subnet managers know and do.
+#![tactic(auto)]
+
+mod arguments;
+mod files;
+mod run;
+
+use std::process::ExitCode;
+
+fn main(rt: HostRuntime) -> ExitCode {
+    let status = run::run(&rt, rt.stdout(), rt.stderr());
+    ExitCode::from(status.code())
+}
+
+#[cfg(test)]
+mod tests;

@@ -1,0 +1,50 @@
+-- Lemmas on what several reads or writes do to known bytes.
+use Rattle.std.proofs.Common.{◌≡◌, ℕ, ◌-◌, ◌≤◌, ◌+◌, List, ◌++◌, Option, None, Some, Result, Ok, Err, IfOk, length, take, drop, sym, ap, ◌∙◌, append_assoc, take-append-drop}
+use Rattle.std.proofs.lemmas.List.{take_rest, take-append-le, length-take-le}
+use Rattle.std.proofs.Math.Seq.{take-append-add}
+use Rattle.std.specs.Io.KnownBytes.{Appends, Consumes, Keeps, ReadConsumes}
+
+pub Appends-trans : (a b c : Option (List ℕ)) (bs cs : List ℕ) → Appends a b bs → Appends b c cs → Appends a c (bs ++ cs)
+Appends-trans None b c bs cs p q = tt
+Appends-trans (Some x) None c bs cs p q = absurd p
+Appends-trans (Some x) (Some y) None bs cs p q = absurd q
+Appends-trans (Some x) (Some y) (Some z) bs cs p q = q ∙ ap (λ l. l ++ cs) p ∙ append_assoc x bs cs
+
+-- the first bytes of the rest went out too
+pub more_gone : (old mid new : Option (List ℕ)) (bytes rest : List ℕ) (n : ℕ)
+    → ((front : List ℕ) × (bytes ≡ front ++ rest) × Appends old mid front) → Appends mid new (take n rest)
+    → (front : List ℕ) × (bytes ≡ front ++ take (length rest - n) (drop n rest)) × Appends old new front
+more_gone old mid new bytes rest n (front, whole, gone) more =
+    let split : front ++ rest ≡ (front ++ take n rest) ++ drop n rest =
+    ap (λ l. front ++ l) (sym (take-append-drop n rest)) ∙ sym (append_assoc front (take n rest) (drop n rest)) in (
+      front ++ take n rest,
+      whole ∙ split ∙ ap (λ l. (front ++ take n rest) ++ l) (sym (take_rest rest n)),
+      Appends-trans old mid new front (take n rest) gone more,
+    )
+
+pub Consumes-trans : (a b c : Option (List ℕ)) (bs cs : List ℕ) → Consumes a b bs → Consumes b c cs → Consumes a c (bs ++ cs)
+Consumes-trans None b c bs cs p q = tt
+Consumes-trans (Some x) None c bs cs p q = absurd p
+Consumes-trans (Some x) (Some y) None bs cs p q = absurd q
+Consumes-trans (Some x) (Some y) (Some z) bs cs p q = p ∙ ap (λ l. bs ++ l) q ∙ sym (append_assoc bs cs z)
+
+pub Consumes-kept : (a b c : Option (List ℕ)) (bs : List ℕ) → Consumes a b bs → Keeps b c → Consumes a c bs
+Consumes-kept None b c bs p q = tt
+Consumes-kept (Some x) None c bs p q = absurd p
+Consumes-kept (Some x) (Some y) None bs p q = absurd q
+Consumes-kept (Some x) (Some y) (Some z) bs p q = p ∙ ap (λ l. bs ++ l) (sym q)
+
+-- the front of a buffer, and the bytes that were read behind it
+pub take_part : (buffer room back : List ℕ) (filled n : ℕ) → filled ≤ length buffer → n ≤ length room
+    → take (filled + n) (take filled buffer ++ (room ++ back)) ≡ take filled buffer ++ take n room
+take_part buffer room back filled n front_fits fits =
+    ap (λ m. take (m + n) (take filled buffer ++ (room ++ back))) (sym (length-take-le filled buffer front_fits))
+    ∙ take-append-add (take filled buffer) (room ++ back) n
+    ∙ ap (λ l. take filled buffer ++ l) (take-append-le n room back fits)
+
+pub read_part : {E : Type 0} (r : Result ℕ E) (old new : Option (List ℕ)) (buffer room back : List ℕ) (filled : ℕ) → filled ≤ length buffer
+    → IfOk r (λ n. n ≤ length room) → ReadConsumes old new r room
+    → IfOk r (λ n. (piece : List ℕ) × (length piece ≡ n) × Consumes old new piece × (take (filled + n) (take filled buffer ++ (room ++ back)) ≡ take filled buffer ++ piece))
+read_part (Ok n) old new buffer room back filled fits within read =
+    (take n room, length-take-le n room within, read.0, take_part buffer room back filled n fits within)
+read_part (Err e) old new buffer room back filled fits within read = tt

@@ -1,0 +1,13 @@
+pub mod Accepted
+pub mod AbsorbLemmas
+pub mod Beginnings
+pub mod Bytes
+pub mod Cells
+pub mod Formats
+pub mod Places
+pub mod Records
+pub mod ReportRecords
+pub mod StoreFiles
+pub mod Stores
+pub mod Writing
+pub mod SplitFiles

@@ -1,0 +1,220 @@
+-- Lemmas on the records of a file, and on what reading it answers.
+use Rattle.std.proofs.Common.{◌≡◌, ℕ, suc, ◌+◌, ◌-◌, ◌*◌, ◌/◌, ◌<◌, ◌≤◌, ◌^◌, ◌%◌, ◌==◌, nat_le, true, false, List, [], ◌∷◌, ◌++◌, Option, None, Some, Result, Ok, Err, length, take, drop, refl, sym, ap, ◌∙◌, arith, append_assoc, append-nil, length-append}
+use Rattle.std.specs.List.{AllByRecursion, concat}
+use Rattle.std.proofs.lemmas.List.{take_all, take_at, drop_at}
+use Rattle.std.proofs.Math.Seq.{take-append-add}
+use Rattle.std.proofs.Math.Nat.{div-eq_of_lt, mod-eq_of_lt, mul-add-div, mul-add-mod_self_left}
+use Rattle.std.proofs.lemmas.Bool.Decides.{nat_tests}
+use Rattle.fact_join.specs.declared.cell.Cell.{Cell}
+use Rattle.fact_store.specs.declared.key.Key.{Key}
+use Rattle.fact_store.specs.declared.value.Value.{Value}
+use Rattle.record_file.specs.declared.file_fault.FileFault.{FileFault}
+use Rattle.record_file.specs.declared.file_fault.FileFault.TheVariants.{Truncated, TooLong}
+use Rattle.record_file.specs.declared.format.Format.{Format}
+use Rattle.record_file.specs.declared.format.Format.TheVariants.{Reports, Cells}
+use Rattle.record_file.specs.RecordFile.{Judgement, ending, fault_first, fault_in, fault_or, first_fault, first_records, format_of, judged, kept, key_in, magic, outcome, record_size, records, records_in_reach, told_by, told_then}
+
+abbrev pub Sightings : Type 0
+Sightings = List (Key × Cell Value)
+
+-- each has this size
+abbrev pub AreRecords : ℕ → List (List ℕ) → Type 0
+AreRecords size = AllByRecursion (λ r. length r ≡ size)
+
+pub size-positive : (format : Format) → 0 < record_size format
+size-positive Reports = omega arith
+size-positive Cells = omega arith
+
+pub size-short : (format : Format) → record_size format ≤ 272
+size-short Reports = omega arith
+size-short Cells = omega arith
+
+pub length-magic : (format : Format) → length (magic format) ≡ 8
+length-magic Reports = refl
+length-magic Cells = refl
+
+pub format_of-magic : (format : Format) (x : List ℕ) → format_of (magic format ++ x) ≡ Some format
+format_of-magic Reports x = refl
+format_of-magic Cells x = refl
+
+pub length-concat : (size : ℕ) (rs : List (List ℕ)) → AreRecords size rs → length (concat rs) ≡ size * length rs
+length-concat size [] h = omega arith
+length-concat size (r ∷ rs) h = let first = h.0 in let later = length-concat size rs h.1 in omega (arith, length-append r (concat rs))
+
+-- the records of records that stand one behind the other, and of what follows
+pub first_records-concat : (size : ℕ) (rs : List (List ℕ)) (n m : ℕ) (x : List ℕ) → AreRecords size rs → m ≡ length rs + n → first_records size m (concat rs ++ x) ≡ rs ++ first_records size n x
+first_records-concat size [] n m x h e = let same : m ≡ n = omega arith in rw same refl
+first_records-concat size (r ∷ rs) n m x h e =
+    let more : m ≡ suc (length rs + n) = omega arith in
+    rw (more, append_assoc, take_at r (concat rs ++ x) size h.0, drop_at r (concat rs ++ x) size h.0)
+    (ap (λ l. r ∷ l) (first_records-concat size rs n (length rs + n) x h.1 refl))
+
+pub records-concat : (size : ℕ) (rs : List (List ℕ)) (x : List ℕ) → 0 < size → AreRecords size rs → records size (concat rs ++ x) ≡ rs ++ records size x
+unfolding records
+records-concat size rs x some h =
+    let long : length (concat rs ++ x) ≡ size * length rs + length x = omega (arith, length-append (concat rs) x, length-concat size rs h) in
+    let count : length (concat rs ++ x) / size ≡ length rs + length x / size = ap (λ n. n / size) long ∙ mul-add-div some (length rs) (length x) in
+    first_records-concat size rs (length x / size) (length (concat rs ++ x) / size) x h count
+
+pub records-short : (size : ℕ) (x : List ℕ) → length x < size → records size x ≡ []
+unfolding records
+records-short size x h = let none : length x / size ≡ 0 = div-eq_of_lt h in rw none refl
+
+-- faults and sightings of records that stand one behind the other ---------------------
+
+-- the key of the last of the records, or the one before them
+abbrev pub last_key : Format → Option Key → List (List ℕ) → Option Key
+last_key format last [] = last
+last_key format last (r ∷ rs) = last_key format (key_in format r) rs
+
+pub last_key-more : (format : Format) (last : Option Key) (rs : List (List ℕ)) (r : List ℕ) → last_key format last (rs ++ r ∷ []) ≡ key_in format r
+last_key-more format last [] r = refl
+last_key-more format last (s ∷ rs) r = last_key-more format (key_in format s) rs r
+
+fault_or-none : (v : Judgement) (i : ℕ) (a b c : Option FileFault) → fault_or i v a ≡ None → (a ≡ None → b ≡ c) → fault_or i v b ≡ c
+fault_or-none (Ok told) i a b c h k = k h
+fault_or-none (Err f) i a b c h k = cc
+
+fault_or-some : (v : Judgement) (i : ℕ) (a b : Option FileFault) (f : FileFault) → fault_or i v a ≡ Some f → (a ≡ Some f → b ≡ Some f) → fault_or i v b ≡ Some f
+fault_or-some (Ok told) i a b f h k = k h
+fault_or-some (Err g) i a b f h k = h
+
+told_then-none : (v : Judgement) (i : ℕ) (a : Option FileFault) (x y z : Sightings) → fault_or i v a ≡ None → (a ≡ None → x ≡ y ++ z) → told_then v x ≡ told_then v y ++ z
+told_then-none (Ok told) i a x y z h k = ap (λ l. told ++ l) (k h) ∙ sym (append_assoc told y z)
+told_then-none (Err f) i a x y z h k = absurd (cc)
+
+told_then-some : (v : Judgement) (i : ℕ) (a : Option FileFault) (f : FileFault) (x y : Sightings) → fault_or i v a ≡ Some f → (a ≡ Some f → x ≡ y) → told_then v x ≡ told_then v y
+told_then-some (Ok told) i a f x y h k = ap (λ l. told ++ l) (k h)
+told_then-some (Err g) i a f x y h k = refl
+
+pub first_fault-good : (format : Format) (last : Option Key) (i : ℕ) (rs more : List (List ℕ)) → first_fault format last i rs ≡ None → first_fault format last i (rs ++ more) ≡ first_fault format (last_key format last rs) (i + length rs) more
+first_fault-good format last i [] more h = let same : i ≡ i + 0 = omega arith in ap (λ k. first_fault format last k more) same
+first_fault-good format last i (r ∷ rs) more h =
+    let place : (i + 1) + length rs ≡ i + suc (length rs) = omega arith in
+    let next = key_in format r in
+    fault_or-none (judged format last r) i (first_fault format next (i + 1) rs) (first_fault format next (i + 1) (rs ++ more)) (first_fault format (last_key format next rs) (i + suc (length rs)) more) h
+    (λ none. first_fault-good format next (i + 1) rs more none ∙ ap (λ k. first_fault format (last_key format next rs) k more) place)
+
+pub first_fault-bad : (format : Format) (last : Option Key) (i : ℕ) (rs more : List (List ℕ)) (f : FileFault) → first_fault format last i rs ≡ Some f → first_fault format last i (rs ++ more) ≡ Some f
+first_fault-bad format last i [] more f h = absurd (cc)
+first_fault-bad format last i (r ∷ rs) more f h =
+    let next = key_in format r in
+    fault_or-some (judged format last r) i (first_fault format next (i + 1) rs) (first_fault format next (i + 1) (rs ++ more)) f h (λ some. first_fault-bad format next (i + 1) rs more f some)
+
+pub told_by-good : (format : Format) (last : Option Key) (i : ℕ) (rs more : List (List ℕ)) → first_fault format last i rs ≡ None → told_by format last (rs ++ more) ≡ told_by format last rs ++ told_by format (last_key format last rs) more
+told_by-good format last i [] more h = refl
+told_by-good format last i (r ∷ rs) more h =
+    let next = key_in format r in
+    told_then-none (judged format last r) i (first_fault format next (i + 1) rs) (told_by format next (rs ++ more)) (told_by format next rs) (told_by format (last_key format next rs) more) h (λ none. told_by-good format next (i + 1) rs more none)
+
+pub told_by-bad : (format : Format) (last : Option Key) (i : ℕ) (rs more : List (List ℕ)) (f : FileFault) → first_fault format last i rs ≡ Some f → told_by format last (rs ++ more) ≡ told_by format last rs
+told_by-bad format last i [] more f h = absurd (cc)
+told_by-bad format last i (r ∷ rs) more f h =
+    let next = key_in format r in
+    told_then-some (judged format last r) i (first_fault format next (i + 1) rs) f (told_by format next (rs ++ more)) (told_by format next rs) h (λ some. told_by-bad format next (i + 1) rs more f some)
+
+-- whole files ---------------------------------------------------------------------
+
+-- the magic, records, and what follows
+abbrev pub file : Format → List (List ℕ) → List ℕ → List ℕ
+file format rs x = magic format ++ (concat rs ++ x)
+
+-- the bytes of the magic and of so many records
+abbrev pub bytes_of : Format → ℕ → ℕ
+bytes_of format n = 8 + record_size format * n
+
+pub length-file : (format : Format) (rs : List (List ℕ)) (x : List ℕ) → AreRecords (record_size format) rs → length (file format rs x) ≡ bytes_of format (length rs) + length x
+length-file format rs x h = omega (arith, length-append (magic format) (concat rs ++ x), length-append (concat rs) x, length-concat (record_size format) rs h, length-magic format)
+
+pub records_in_reach-file : (format : Format) (rs : List (List ℕ)) (x : List ℕ) → AreRecords (record_size format) rs → bytes_of format (length rs) ≤ 2 ^ 40
+    → records_in_reach format (file format rs x) ≡ rs ++ records (record_size format) (take (2 ^ 40 - bytes_of format (length rs)) x)
+records_in_reach-file format rs x h fits =
+    let w = record_size format in
+    let m = magic format in
+    let back = take (2 ^ 40 - bytes_of format (length rs)) x in
+    let size : length (m ++ concat rs) ≡ bytes_of format (length rs) = omega (arith, length-append m (concat rs), length-concat w rs h, length-magic format) in
+    let most : 2 ^ 40 ≡ length (m ++ concat rs) + (2 ^ 40 - bytes_of format (length rs)) = omega arith in
+    let cut : take (2 ^ 40) (file format rs x) ≡ m ++ (concat rs ++ back) =
+    ap (λ l. take (2 ^ 40) l) (sym (append_assoc m (concat rs) x))
+    ∙ ap (λ n. take n ((m ++ concat rs) ++ x)) most
+    ∙ take-append-add (m ++ concat rs) x (2 ^ 40 - bytes_of format (length rs))
+    ∙ append_assoc m (concat rs) back in
+    ap (λ l. records w (drop 8 l)) cut ∙ ap (records w) (drop_at m (concat rs ++ back) 8 (length-magic format)) ∙ records-concat w rs back (size-positive format) h
+
+pub outcome-magic : (format : Format) (x : List ℕ) → outcome (magic format ++ x) ≡ fault_first (fault_in format (magic format ++ x)) (ending (record_size format) (length (magic format ++ x)))
+unfolding outcome
+outcome-magic Reports x = refl
+outcome-magic Cells x = refl
+
+pub kept-magic : (format : Format) (x : List ℕ) → kept (magic format ++ x) ≡ told_by format None (records_in_reach format (magic format ++ x))
+unfolding kept
+kept-magic Reports x = refl
+kept-magic Cells x = refl
+
+pub outcome-file : (format : Format) (rs : List (List ℕ)) (x : List ℕ) → AreRecords (record_size format) rs → bytes_of format (length rs) ≤ 2 ^ 40
+    → outcome (file format rs x) ≡ fault_first (first_fault format None 0 (rs ++ records (record_size format) (take (2 ^ 40 - bytes_of format (length rs)) x))) (ending (record_size format) (length (file format rs x)))
+outcome-file format rs x h fits = outcome-magic format (concat rs ++ x) ∙ ap (λ r. fault_first (first_fault format None 0 r) (ending (record_size format) (length (file format rs x)))) (records_in_reach-file format rs x h fits)
+
+pub kept-file : (format : Format) (rs : List (List ℕ)) (x : List ℕ) → AreRecords (record_size format) rs → bytes_of format (length rs) ≤ 2 ^ 40
+    → kept (file format rs x) ≡ told_by format None (rs ++ records (record_size format) (take (2 ^ 40 - bytes_of format (length rs)) x))
+kept-file format rs x h fits = kept-magic format (concat rs ++ x) ∙ ap (told_by format None) (records_in_reach-file format rs x h fits)
+
+-- good records and nothing else have no fault
+pub fault_in-file : (format : Format) (rs : List (List ℕ)) → AreRecords (record_size format) rs → bytes_of format (length rs) ≤ 2 ^ 40 → first_fault format None 0 rs ≡ None → fault_in format (file format rs []) ≡ None
+fault_in-file format rs h fits good =
+    let rest = 2 ^ 40 - bytes_of format (length rs) in
+    let none : records (record_size format) (take rest []) ≡ [] = ap (records (record_size format)) (take_all rest [] (omega arith)) ∙ records-short (record_size format) [] (size-positive format) in
+    ap (first_fault format None 0) (records_in_reach-file format rs [] h fits ∙ ap (λ l. rs ++ l) none ∙ append-nil rs) ∙ good
+
+-- what stands behind good records is less than a whole record
+pub outcome-part : (format : Format) (rs : List (List ℕ)) (x part : List ℕ) → AreRecords (record_size format) rs → bytes_of format (length rs) ≤ 2 ^ 40 → first_fault format None 0 rs ≡ None
+    → take (2 ^ 40 - bytes_of format (length rs)) x ≡ part → length part < record_size format → outcome (file format rs x) ≡ ending (record_size format) (length (file format rs x))
+outcome-part format rs x part h fits good cut short =
+    let w = record_size format in
+    let none : records w (take (2 ^ 40 - bytes_of format (length rs)) x) ≡ [] = ap (records w) cut ∙ records-short w part short in
+    outcome-file format rs x h fits
+    ∙ ap (λ l. fault_first (first_fault format None 0 (rs ++ l)) (ending w (length (file format rs x)))) none
+    ∙ ap (λ f. fault_first f (ending w (length (file format rs x)))) (ap (first_fault format None 0) (append-nil rs) ∙ good)
+
+pub kept-part : (format : Format) (rs : List (List ℕ)) (x part : List ℕ) → AreRecords (record_size format) rs → bytes_of format (length rs) ≤ 2 ^ 40
+    → take (2 ^ 40 - bytes_of format (length rs)) x ≡ part → length part < record_size format → kept (file format rs x) ≡ told_by format None rs
+kept-part format rs x part h fits cut short =
+    let w = record_size format in
+    let none : records w (take (2 ^ 40 - bytes_of format (length rs)) x) ≡ [] = ap (records w) cut ∙ records-short w part short in
+    kept-file format rs x h fits ∙ ap (λ l. told_by format None (rs ++ l)) none ∙ ap (told_by format None) (append-nil rs)
+
+-- a bad record decides, whatever follows it
+pub outcome-bad : (format : Format) (rs : List (List ℕ)) (x : List ℕ) (f : FileFault) → AreRecords (record_size format) rs → bytes_of format (length rs) ≤ 2 ^ 40 → first_fault format None 0 rs ≡ Some f → outcome (file format rs x) ≡ Err f
+outcome-bad format rs x f h fits bad =
+    let more = records (record_size format) (take (2 ^ 40 - bytes_of format (length rs)) x) in
+    outcome-file format rs x h fits ∙ ap (λ o. fault_first o (ending (record_size format) (length (file format rs x)))) (first_fault-bad format None 0 rs more f bad)
+
+pub kept-bad : (format : Format) (rs : List (List ℕ)) (x : List ℕ) (f : FileFault) → AreRecords (record_size format) rs → bytes_of format (length rs) ≤ 2 ^ 40 → first_fault format None 0 rs ≡ Some f → kept (file format rs x) ≡ told_by format None rs
+kept-bad format rs x f h fits bad = kept-file format rs x h fits ∙ told_by-bad format None 0 rs (records (record_size format) (take (2 ^ 40 - bytes_of format (length rs)) x)) f bad
+
+-- how good records end --------------------------------------------------------------
+
+pub ending-whole : (w n size : ℕ) → 0 < w → size ≡ 8 + w * n → size < 2 ^ 40 → ending w size ≡ Ok tt
+unfolding ending
+ending-whole w n size some e fits =
+    let short : nat_le (2 ^ 40) size ≡ false = grind (arith, nat_tests) in
+    let behind : size - 8 ≡ w * n + 0 = omega arith in
+    let none : (size - 8) % w ≡ 0 = ap (λ k. k % w) behind ∙ mul-add-mod_self_left w n 0 ∙ mod-eq_of_lt some in
+    let even : (size - 8) % w == 0 ≡ true = grind (arith, nat_tests) in
+    rw (short, even) refl
+
+pub ending-part : (w n p size : ℕ) → size ≡ 8 + w * n + p → 0 < p → p < w → size < 2 ^ 40 → ending w size ≡ Err (Truncated (8 + w * n))
+unfolding ending
+ending-part w n p size e some short fits =
+    let below : nat_le (2 ^ 40) size ≡ false = grind (arith, nat_tests) in
+    let behind : size - 8 ≡ w * n + p = omega arith in
+    let part : (size - 8) % w ≡ p = ap (λ k. k % w) behind ∙ mul-add-mod_self_left w n p ∙ mod-eq_of_lt short in
+    let odd : (size - 8) % w == 0 ≡ false = grind (arith, nat_tests) in
+    let positive : 0 < w = omega arith in
+    let none : p / w ≡ 0 = div-eq_of_lt short in
+    let count : (size - 8) / w ≡ n = ap (λ k. k / w) behind ∙ mul-add-div positive n p ∙ ap (λ k. n + k) none ∙ omega arith in
+    rw (below, odd, count) refl
+
+pub ending-long : (w size : ℕ) → 2 ^ 40 ≤ size → ending w size ≡ Err TooLong
+unfolding ending
+ending-long w size h = let long : nat_le (2 ^ 40) size ≡ true = grind (arith, nat_tests) in rw long refl

@@ -1,0 +1,10 @@
+pub mod Absorbing
+pub mod CellRecord
+pub mod Filling
+pub mod Laws
+pub mod Place
+pub mod Reading
+pub mod RecordFile
+pub mod ReportRecord
+pub mod StoreFile
+pub mod StoreLaws

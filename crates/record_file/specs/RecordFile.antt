@@ -1,0 +1,111 @@
+-- A file: its magic, and records of one size behind it; and what reading any bytes gives.
+use Rattle.std.specs.Prelude.{ℕ, zero, suc, ◌+◌, ◌-◌, ◌*◌, ◌/◌, ◌%◌, ◌^◌, ◌==◌, List, [], ◌∷◌, ◌++◌, Option, None, Some, Result, Ok, Err, length, take, drop, codes, nat_eq, nat_le, option_map, if◌then◌else◌}
+use Rattle.std.specs.List.{starts_with}
+use Rattle.fact_join.specs.declared.cell.Cell.{Cell}
+use Rattle.fact_store.specs.declared.key.Key.{Key}
+use Rattle.fact_store.specs.declared.value.Value.{Value}
+use Rattle.fact_store.specs.declared.report_fault.ReportFault.{ReportFault}
+use Rattle.fact_store.specs.Key.{is_above}
+use Rattle.record_file.specs.declared.file_fault.FileFault.{FileFault}
+use Rattle.record_file.specs.declared.file_fault.FileFault.TheVariants.{Magic, Truncated, BadReport, BadCell, CellOrder, TooLong}
+use Rattle.record_file.specs.declared.format.Format.{Format}
+use Rattle.record_file.specs.declared.format.Format.TheVariants.{Reports, Cells}
+use Rattle.record_file.specs.CellRecord.{cell_of}
+use Rattle.record_file.specs.ReportRecord.{report_judged}
+
+abbrev pub magic : Format → List ℕ
+magic Reports = codes "IBSMREP1"
+magic Cells = codes "IBSMSTO1"
+
+-- the format whose magic the bytes begin with
+abbrev pub format_of : List ℕ → Option Format
+format_of bytes = if starts_with nat_eq bytes (magic Reports) then Some Reports else (if starts_with nat_eq bytes (magic Cells) then Some Cells else None)
+
+abbrev pub record_size : Format → ℕ
+record_size Reports = 272
+record_size Cells = 32
+
+-- why a record is bad, but for its index; or what it tells
+abbrev pub Judgement : Type 0
+Judgement = Result (List (Key × Cell Value)) (ℕ → FileFault)
+
+-- a report tells what its sightings are
+abbrev pub of_report : Result (List (Key × Cell Value)) ReportFault → Judgement
+of_report (Ok told) = Ok told
+of_report (Err f) = Err (λ index. BadReport index f)
+
+-- a cell tells itself, if its key comes after the last one's
+abbrev pub of_cell : Option Key → Option (Key × Cell Value) → Judgement
+of_cell last None = Err BadCell
+of_cell last (Some e) = if is_above last e.0 then Ok (e ∷ []) else Err CellOrder
+
+-- what a record tells where that key was the last one's, or why it is bad
+abbrev pub judged : Format → Option Key → List ℕ → Judgement
+judged Reports last bytes = of_report (report_judged bytes)
+judged Cells last bytes = of_cell last (cell_of bytes)
+
+-- the key of a record, where records stand in the order of their keys
+abbrev pub key_in : Format → List ℕ → Option Key
+key_in Reports bytes = None
+key_in Cells bytes = option_map (λ e. e.0) (cell_of bytes)
+
+-- so many records of this size from the front of the bytes
+abbrev pub first_records : ℕ → ℕ → List ℕ → List (List ℕ)
+first_records size zero bytes = []
+first_records size (suc n) bytes = take size bytes ∷ first_records size n (drop size bytes)
+
+-- the whole records of the bytes
+unfoldable pub records : ℕ → List ℕ → List (List ℕ)
+records size bytes = first_records size (length bytes / size) bytes
+
+-- a bad record's fault, or what comes later
+abbrev pub fault_or : ℕ → Judgement → Option FileFault → Option FileFault
+fault_or index (Ok told) later = later
+fault_or index (Err f) later = Some (f index)
+
+-- the fault of the first bad record, where that key was the last one's and records count from this index
+abbrev pub first_fault : Format → Option Key → ℕ → List (List ℕ) → Option FileFault
+first_fault format last index [] = None
+first_fault format last index (r ∷ rs) = fault_or index (judged format last r) (first_fault format (key_in format r) (index + 1) rs)
+
+-- what a good record tells, and what comes later
+abbrev pub told_then : Judgement → List (Key × Cell Value) → List (Key × Cell Value)
+told_then (Ok told) later = told ++ later
+told_then (Err f) later = []
+
+-- what the good records before the first bad one tell
+abbrev pub told_by : Format → Option Key → List (List ℕ) → List (Key × Cell Value)
+told_by format last [] = []
+told_by format last (r ∷ rs) = told_then (judged format last r) (told_by format (key_in format r) rs)
+
+-- how a file of good records of this size ends that has so many bytes
+unfoldable pub ending : ℕ → ℕ → Result (Unit {0}) FileFault
+ending size bytes = if nat_le (2 ^ 40) bytes then Err TooLong else (if (bytes - 8) % size == 0 then Ok tt else Err (Truncated (8 + size * ((bytes - 8) / size))))
+
+abbrev pub fault_first : Option FileFault → Result (Unit {0}) FileFault → Result (Unit {0}) FileFault
+fault_first None otherwise = otherwise
+fault_first (Some f) otherwise = Err f
+
+-- the records that end within the first 2^40 bytes
+abbrev pub records_in_reach : Format → List ℕ → List (List ℕ)
+records_in_reach format bytes = records (record_size format) (drop 8 (take (2 ^ 40) bytes))
+
+-- the fault of the first bad record of a file of this format
+abbrev pub fault_in : Format → List ℕ → Option FileFault
+fault_in format bytes = first_fault format None 0 (records_in_reach format bytes)
+
+abbrev pub outcome_as : Option Format → List ℕ → Result (Unit {0}) FileFault
+outcome_as None bytes = Err Magic
+outcome_as (Some format) bytes = fault_first (fault_in format bytes) (ending (record_size format) (length bytes))
+
+-- what reading the bytes answers
+unfoldable pub outcome : List ℕ → Result (Unit {0}) FileFault
+outcome bytes = outcome_as (format_of bytes) bytes
+
+abbrev pub kept_as : Option Format → List ℕ → List (Key × Cell Value)
+kept_as None bytes = []
+kept_as (Some format) bytes = told_by format None (records_in_reach format bytes)
+
+-- what reading the bytes keeps: what the good records before the first fault tell
+unfoldable pub kept : List ℕ → List (Key × Cell Value)
+kept bytes = kept_as (format_of bytes) bytes

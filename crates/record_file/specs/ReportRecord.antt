@@ -1,0 +1,55 @@
+-- A report as 272 bytes: generation, context, port, two zero bytes, GUID and the reply's 256 bytes.
+use Rattle.std.specs.Prelude.{ℕ, List, ◌∷◌, ◌++◌, Option, None, Some, Result, Ok, Err, ◌==◌, ◌&&◌, take, drop, slice_index, option_map, if◌then◌else◌}
+use Rattle.std.specs.Int.{to_be_bytes, from_be_bytes, w32, w64}
+use Rattle.fact_join.specs.declared.cell.Cell.{Cell}
+use Rattle.fact_store.specs.declared.key.Key.{Key}
+use Rattle.fact_store.specs.declared.value.Value.{Value}
+use Rattle.fact_store.specs.declared.report.Context.{Context}
+use Rattle.fact_store.specs.declared.report.Context.TheVariants.{Start, Via, About}
+use Rattle.fact_store.specs.declared.report.Report.{Report}
+use Rattle.fact_store.specs.declared.report_fault.ReportFault.{ReportFault}
+use Rattle.fact_store.specs.declared.report_fault.ReportFault.TheVariants as fault
+use Rattle.fact_store.specs.Report.{report_fault, sightings_of}
+
+abbrev pub context_byte : Context → ℕ
+context_byte Start = 0
+context_byte (Via node port) = 1
+context_byte (About node) = 2
+
+-- the port that a path leads out of last, or 0
+abbrev pub context_port : Context → ℕ
+context_port Start = 0
+context_port (Via node port) = port
+context_port (About node) = 0
+
+-- the node that a context names, or 0
+abbrev pub context_guid : Context → ℕ
+context_guid Start = 0
+context_guid (Via node port) = node
+context_guid (About node) = node
+
+-- the spelling of a report
+abbrev pub report_bytes : Report → List ℕ
+report_bytes r = to_be_bytes w32 r.generation ++ context_byte r.context ∷ context_port r.context ∷ 0 ∷ 0 ∷ (to_be_bytes w64 (context_guid r.context) ++ r.bytes)
+
+-- the context with this byte, port and GUID
+abbrev pub context_of : ℕ → ℕ → ℕ → Option Context
+context_of byte port guid = if byte == 0 then (if (port == 0) && (guid == 0) then Some Start else None) else (if byte == 1 then Some (Via guid port) else (if (byte == 2) && (port == 0) then Some (About guid) else None))
+
+-- the report that 272 bytes spell, if they spell one
+unfoldable pub report_of : List ℕ → Option Report
+report_of bytes = if (slice_index bytes 6 == 0) && (slice_index bytes 7 == 0) then option_map (λ context. record { generation = from_be_bytes w32 (take 4 bytes); context = context; bytes = drop 16 bytes }) (context_of (slice_index bytes 4) (slice_index bytes 5) (from_be_bytes w64 (take 8 (drop 8 bytes)))) else None
+
+-- what is told, unless there is a fault
+abbrev pub unless_fault : Option ReportFault → List (Key × Cell Value) → Result (List (Key × Cell Value)) ReportFault
+unless_fault None told = Ok told
+unless_fault (Some f) told = Err f
+
+-- what a report tells, or why it tells nothing; bytes that spell no report have no context
+abbrev pub report_told : Option Report → Result (List (Key × Cell Value)) ReportFault
+report_told None = Err fault.Context
+report_told (Some r) = unless_fault (report_fault r) (sightings_of r)
+
+-- what a record tells, or why it is bad
+unfoldable pub report_judged : List ℕ → Result (List (Key × Cell Value)) ReportFault
+report_judged bytes = report_told (report_of bytes)

@@ -1,0 +1,39 @@
+//! Laws of reading files. There is nothing to call: the contracts are what counts.
+
+ghost use Rattle.record_file.specs.StoreLaws.{AbsorbingReadsBack, FactsAreReadBack, FactsHaveOneSpelling, RecordsAreSpellings, StoreFilesAreAccepted};
+ghost use Rattle.record_file.specs.Laws.{BadRecordStays, ReportFilesAreAccepted};
+
+/// Neither the fault of a bad record nor what is kept depends on what follows it.
+pub fn bad_record_stays()
+    ensures { BadRecordStays }
+{}
+
+/// A file of reports is accepted exactly where it is the magic with good reports behind it.
+pub fn report_files_are_accepted()
+    ensures { ReportFilesAreAccepted }
+{}
+
+/// A record of a store file spells exactly the sighting that is written so.
+pub fn records_are_spellings()
+    ensures { RecordsAreSpellings }
+{}
+
+/// A store file is accepted exactly where it is what is written of some facts in their ranges.
+pub fn store_files_are_accepted()
+    ensures { StoreFilesAreAccepted }
+{}
+
+/// What is written of facts is read back as these facts.
+pub fn facts_are_read_back()
+    ensures { FactsAreReadBack }
+{}
+
+/// Different facts are written differently.
+pub fn facts_have_one_spelling()
+    ensures { FactsHaveOneSpelling }
+{}
+
+/// A store that was empty holds these facts once their file was absorbed.
+pub fn absorbing_reads_back()
+    ensures { AbsorbingReadsBack }
+{}

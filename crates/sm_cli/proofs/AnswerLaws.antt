@@ -1,0 +1,41 @@
+-- The answer of a run depends on the sightings that its files keep, and on nothing else.
+use Rattle.std.proofs.Common.{◌≡◌, ℕ, List, [], ◌∷◌, ◌++◌, ap, subst, inl, inr, sym}
+use Rattle.std.proofs.lemmas.List.Elements.{Contains-append_left, Contains-append_right, Contains-append_cases}
+use Rattle.std.specs.Prelude.{Contains}
+use Rattle.std.specs.List.{flat_map}
+use Rattle.fact_join.specs.declared.cell.Cell.{Cell}
+use Rattle.fact_store.specs.declared.key.Key.{Key}
+use Rattle.fact_store.specs.declared.value.Value.{Value}
+use Rattle.fact_store.proofs.Members.{contains_here, contains_later, contains_cases, contains_none}
+use Rattle.fact_store.proofs.Views.{members_decide_view}
+use Rattle.record_file.specs.RecordFile.{kept}
+use Rattle.sm_cli.specs.Run.{answer_to}
+use Rattle.sm_cli.specs.RunLaws.{AreSameFiles, FilesDecideAnswer, SightingsDecideAnswer}
+
+pub sightings_decide_answer : SightingsDecideAnswer
+sightings_decide_answer command files others same = ap (answer_to command) (members_decide_view (flat_map kept files) (flat_map kept others) same)
+
+-- what a file keeps, all of them keep
+kept_by_all : (files : List (List ℕ)) (file : List ℕ) (x : Key × Cell Value) → Contains files file → Contains (kept file) x → Contains (flat_map kept files) x
+kept_by_all [] file x h k = absurd (contains_none file h)
+kept_by_all (f ∷ files) file x h k =
+    elim (contains_cases f file files h) [
+      | inl e ↦ Contains-append_left (kept f) (flat_map kept files) x (subst (λ (g : List ℕ). Contains (kept g) x) (sym e) k)
+      | inr later ↦ Contains-append_right (kept f) (flat_map kept files) x (kept_by_all files file x later k)
+    ]
+
+-- and what all keep, some file does
+kept_by_one : (files : List (List ℕ)) (x : Key × Cell Value) → Contains (flat_map kept files) x → (file : List ℕ) × Contains files file × Contains (kept file) x
+kept_by_one [] x h = absurd (contains_none x h)
+kept_by_one (f ∷ files) x h =
+    elim (Contains-append_cases (kept f) (flat_map kept files) x h) [
+      | inl k ↦ (f, contains_here f files, k)
+      | inr k ↦ let i = kept_by_one files x k in (i.0, contains_later f i.0 files i.1, i.2)
+    ]
+
+pub files_decide_answer : FilesDecideAnswer
+files_decide_answer command files others same =
+    sightings_decide_answer command files others (
+      λ x h. let i = kept_by_one files x h in kept_by_all others i.0 x (same.there i.0 i.1) i.2,
+      λ x h. let i = kept_by_one others x h in kept_by_all files i.0 x (same.here i.0 i.1) i.2,
+    )

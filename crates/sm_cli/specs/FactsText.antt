@@ -1,0 +1,49 @@
+-- Facts as text.
+use Rattle.std.specs.Prelude.{ℕ, List, ◌++◌, codes, decimal, if◌then◌else◌}
+use Rattle.std.specs.List.{flat_map}
+use Rattle.smp_bytes.specs.Text.{hex_text, type_word}
+use Rattle.fact_join.specs.declared.cell.Cell.{Cell}
+use Rattle.fact_join.specs.declared.cell.Cell.TheVariants.{Known, Disputed}
+use Rattle.fact_store.specs.declared.key.Key.{Key}
+use Rattle.fact_store.specs.declared.key.Key.TheVariants.{Node, PortGuid, Link, Port, Claim, Cap}
+use Rattle.fact_store.specs.declared.value.Value.{Value}
+use Rattle.fact_store.specs.declared.value.Value.TheVariants.{Kind, Guid, Peer, Up, Lid, Count}
+
+-- a node's GUID
+abbrev pub guid_text : ℕ → List ℕ
+guid_text guid = hex_text 16 guid
+
+-- a node's GUID and a port
+abbrev pub port_text : ℕ → ℕ → List ℕ
+port_text guid port = guid_text guid ++ codes "/" ++ decimal port
+
+-- what a fact is about
+abbrev pub key_text : Key → List ℕ
+key_text (Node guid) = codes "node " ++ guid_text guid
+key_text (PortGuid guid port) = codes "portguid " ++ port_text guid port
+key_text (Link guid port) = codes "link " ++ port_text guid port
+key_text (Port guid port) = codes "port " ++ port_text guid port
+key_text (Claim guid port) = codes "claim " ++ port_text guid port
+key_text (Cap guid) = codes "cap " ++ guid_text guid
+
+-- what a fact says
+abbrev pub value_text : Value → List ℕ
+value_text (Kind kind ports) = type_word kind ++ codes " " ++ decimal ports
+value_text (Guid guid) = guid_text guid
+value_text (Peer guid port) = port_text guid port
+value_text (Up up) = if up then codes "up" else codes "down"
+value_text (Lid lid) = decimal lid
+value_text (Count count) = decimal count
+
+-- the value, or that it is disputed, and the generation
+abbrev pub cell_text : Cell Value → List ℕ
+cell_text (Known generation value) = value_text value ++ codes " @" ++ decimal generation
+cell_text (Disputed generation) = codes "disputed @" ++ decimal generation
+
+-- the line of a cell
+abbrev pub line_text : Key × Cell Value → List ℕ
+line_text cell = key_text cell.0 ++ codes " " ++ cell_text cell.1 ++ codes "\n"
+
+-- a line for each cell
+abbrev pub facts_text : List (Key × Cell Value) → List ℕ
+facts_text cells = flat_map line_text cells

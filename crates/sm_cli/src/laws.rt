@@ -1,0 +1,22 @@
+//! What the answer of a run depends on.
+ghost use Rattle.sm_cli.specs.RunLaws.{FilesDecideAnswer, JoinedFileStands, SightingsDecideAnswer, SplitFileStands};
+
+/// Files that keep the same sightings, in whatever order and however often, give equal answers.
+pub fn sightings_decide_answer()
+    ensures { SightingsDecideAnswer }
+{}
+
+/// Files that are named in another order, or again, give equal answers.
+pub fn files_decide_answer()
+    ensures { FilesDecideAnswer }
+{}
+
+/// A store file that files were joined into is accepted and stands for them, alone or among other files.
+pub fn joined_file_stands()
+    ensures { JoinedFileStands }
+{}
+
+/// A report file that is split between its records gives the same answer, alone or among other files.
+pub fn split_file_stands()
+    ensures { SplitFileStands }
+{}

@@ -1,0 +1,6 @@
+-- What is written is what is read.
+use Rattle.smp_bytes.specs.BitLaws.{bits_in-with_bits}
+use Rattle.smp_bytes.proofs.laws.written_bits_are_read.Goals as goal
+
+pub returns : goal.returns
+returns c = λ bits number bytes there small. bits_in-with_bits bits number bytes there.place there.byte there.within small

@@ -1,0 +1,5 @@
+use Rattle.smp_bytes.proofs.Written.{part-with_number}
+use Rattle.smp_bytes.proofs.wire.put_u64.Goals as goal
+
+pub returns : goal.returns
+returns c = part-with_number c.args.at 8 c.args.number c.args.bytes.now c.write_u64.new.buf c.requires c.write_u64.ensures

@@ -1,0 +1,62 @@
+-- What a write into a field, or into some bits of a byte, does: what was written is read, and all else stays.
+use Rattle.std.specs.Prelude.{◌≡◌, ◌≢◌, ℕ, ◌+◌, ◌^◌, ◌<◌, ◌≤◌, ◌⊎◌, List, All, length, slice_index, true}
+use Rattle.smp_bytes.specs.Field.{Field, Bits, number_in, bits_in, with_number, with_bits, are_apart, are_bits_apart}
+
+-- whole bytes --------------------------------------------------------------------------
+
+-- the field lies within the bytes
+abbrev pub LiesIn : Field → List ℕ → Type 0
+LiesIn field bytes = field.at + field.len ≤ length bytes
+
+-- a number that is written into a field is read from it
+abbrev pub NumberIsRead : Type 0
+NumberIsRead = (field : Field) (number : ℕ) (bytes : List ℕ) → LiesIn field bytes → number < 256 ^ field.len → number_in field (with_number field number bytes) ≡ number
+
+-- a field apart from it keeps its number
+abbrev pub FieldApartStays : Type 0
+FieldApartStays = (other field : Field) (number : ℕ) (bytes : List ℕ) → LiesIn field bytes → are_apart other field ≡ true → number_in other (with_number field number bytes) ≡ number_in other bytes
+
+-- there are as many bytes as before, and each that is not of the field stays
+pub record KeepsBytesOutside (field : Field) (old new : List ℕ) : Type 0 where
+  pub count : length new ≡ length old
+  pub outside : (place : ℕ) → (place < field.at) ⊎ (field.at + field.len ≤ place) → slice_index new place ≡ slice_index old place
+
+-- so does a write into a field
+abbrev pub BytesOutsideStay : Type 0
+BytesOutsideStay = (field : Field) (number : ℕ) (bytes : List ℕ) → LiesIn field bytes → KeepsBytesOutside field bytes (with_number field number bytes)
+
+-- no other bytes hold the number and are for the rest as they were
+abbrev pub WriteIsUnique : Type 0
+WriteIsUnique =
+    (field : Field) (number : ℕ) (old new : List ℕ) → LiesIn field old → All (λ byte. byte < 256) new
+    → KeepsBytesOutside field old new → number_in field new ≡ number → new ≡ with_number field number old
+
+-- of two writes into a field the last one stands
+abbrev pub LastWriteStands : Type 0
+LastWriteStands = (field : Field) (number before : ℕ) (bytes : List ℕ) → LiesIn field bytes → with_number field number (with_number field before bytes) ≡ with_number field number bytes
+
+-- some bits of a byte ------------------------------------------------------------------
+
+-- the bits lie within a byte, which is one of these
+pub record AreBitsIn (bits : Bits) (bytes : List ℕ) : Type 0 where
+  pub place : bits.at < length bytes
+  pub byte : slice_index bytes bits.at < 256
+  pub within : bits.shift + bits.width ≤ 8
+
+-- a number that is written into some bits is read from them
+abbrev pub BitsAreRead : Type 0
+BitsAreRead = (bits : Bits) (number : ℕ) (bytes : List ℕ) → AreBitsIn bits bytes → number < 2 ^ bits.width → bits_in bits (with_bits bits number bytes) ≡ number
+
+-- bits apart from them keep their number
+abbrev pub BitsApartStay : Type 0
+BitsApartStay = (other bits : Bits) (number : ℕ) (bytes : List ℕ) → AreBitsIn bits bytes → number < 2 ^ bits.width → are_bits_apart other bits ≡ true → bits_in other (with_bits bits number bytes) ≡ bits_in other bytes
+
+-- there are as many bytes as before, the one with the bits is still a byte, and each other stays
+pub record KeepsOtherBytes (bits : Bits) (old new : List ℕ) : Type 0 where
+  pub count : length new ≡ length old
+  pub byte : slice_index new bits.at < 256
+  pub others : (place : ℕ) → place ≢ bits.at → slice_index new place ≡ slice_index old place
+
+-- so does a write into some bits
+abbrev pub OtherBytesStay : Type 0
+OtherBytesStay = (bits : Bits) (number : ℕ) (bytes : List ℕ) → AreBitsIn bits bytes → number < 2 ^ bits.width → KeepsOtherBytes bits bytes (with_bits bits number bytes)

@@ -1,0 +1,12 @@
+pub mod BitLaws
+pub mod CopyLaws
+pub mod Field
+pub mod FieldLaws
+pub mod Laws
+pub mod Making
+pub mod MakingLaws
+pub mod NodeType
+pub mod Packet
+pub mod PlaceLaws
+pub mod ReadBack
+pub mod Text

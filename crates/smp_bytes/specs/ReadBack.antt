@@ -1,0 +1,90 @@
+-- What stands in packets that are made: all that was given, and 0 wherever nothing was.
+-- InfiniBand Architecture Specification, Volume 1: SMP formats; management methods; directed route SMPs.
+use Rattle.std.specs.Prelude.{◌≡◌, ℕ, ◌+◌, ◌^◌, ◌<◌, ◌≤◌, ◌⊎◌, List, length, slice_index, None, true}
+use Rattle.smp_bytes.specs.Field.{Field, number_in, bytes_in}
+use Rattle.smp_bytes.specs.Packet.{base_version, mgmt_class, class_version, method, status_word, transaction_id, attribute_id, attribute_modifier, m_key, attribute_data, hop_pointer, hop_count, dr_slid, dr_dlid, initial_path, return_path, permissive_lid, is_directed, is_response, is_returning, status, fault_of}
+use Rattle.smp_bytes.specs.Making.{directed, lid_routed, answer_to}
+
+-- the reserved bytes behind the attribute ID
+abbrev pub reserved_after_attribute_id : Field
+reserved_after_attribute_id = record { at = 18; len = 2 }
+
+-- what both requests hold
+pub record HoldsRequest (packet : List ℕ) (method_number attribute modifier tid : ℕ) (payload : List ℕ) : Type 0 where
+  pub count : length packet ≡ 256
+  pub parses : fault_of packet ≡ None
+  pub base_version : number_in base_version packet ≡ 1
+  pub class_version : number_in class_version packet ≡ 1
+  pub method : number_in method packet ≡ method_number
+  pub status_word : number_in status_word packet ≡ 0
+  pub transaction_id : number_in transaction_id packet ≡ tid
+  pub attribute_id : number_in attribute_id packet ≡ attribute
+  pub reserved : number_in reserved_after_attribute_id packet ≡ 0
+  pub attribute_modifier : number_in attribute_modifier packet ≡ modifier
+  pub m_key : number_in m_key packet ≡ 0
+  pub attribute_data : bytes_in attribute_data packet ≡ payload
+
+-- what a directed request holds besides: no hop is made, and all ports of InitialPath but those of the path are 0
+pub record HoldsPath (packet path : List ℕ) : Type 0 where
+  pub class : number_in mgmt_class packet ≡ 0x81
+  pub hop_pointer : number_in hop_pointer packet ≡ 0
+  pub hop_count : number_in hop_count packet ≡ length path
+  pub dr_slid : number_in dr_slid packet ≡ permissive_lid
+  pub dr_dlid : number_in dr_dlid packet ≡ permissive_lid
+  pub reserved : number_in (record { at = 36; len = 28 }) packet ≡ 0
+  pub unused : number_in (initial_path 0) packet ≡ 0
+  pub ports : (i : ℕ) → i < length path → number_in (initial_path (i + 1)) packet ≡ slice_index path i
+  pub behind : (i : ℕ) → length path < i → i < 64 → number_in (initial_path i) packet ≡ 0
+  pub return_path : (i : ℕ) → i < 64 → number_in (return_path i) packet ≡ 0
+
+-- what a LID-routed request holds besides
+pub record HoldsNoPath (packet : List ℕ) : Type 0 where
+  pub class : number_in mgmt_class packet ≡ 0x01
+  pub no_hops : number_in (record { at = 6; len = 2 }) packet ≡ 0
+  pub reserved_before : number_in (record { at = 32; len = 32 }) packet ≡ 0
+  pub reserved_behind : number_in (record { at = 128; len = 128 }) packet ≡ 0
+
+-- each number that is given fits its field, and the attribute has 64 bytes
+pub record FitsRequest (method_number attribute modifier tid : ℕ) (payload : List ℕ) : Type 0 where
+  pub method : method_number < 2 ^ 8
+  pub attribute_id : attribute < 2 ^ 16
+  pub attribute_modifier : modifier < 2 ^ 32
+  pub transaction_id : tid < 2 ^ 64
+  pub attribute_data : length payload ≡ 64
+
+-- a directed request holds what was given
+abbrev pub DirectedReadsBack : Type 0
+DirectedReadsBack =
+    (method_number attribute modifier tid : ℕ) (path payload : List ℕ) → FitsRequest method_number attribute modifier tid payload → length path ≤ 63
+    → HoldsRequest (directed method_number attribute modifier tid path payload) method_number attribute modifier tid payload
+    × HoldsPath (directed method_number attribute modifier tid path payload) path
+
+-- a LID-routed request holds what was given
+abbrev pub LidRoutedReadsBack : Type 0
+LidRoutedReadsBack =
+    (method_number attribute modifier tid : ℕ) (payload : List ℕ) → FitsRequest method_number attribute modifier tid payload
+    → HoldsRequest (lid_routed method_number attribute modifier tid payload) method_number attribute modifier tid payload
+    × HoldsNoPath (lid_routed method_number attribute modifier tid payload)
+
+-- neither method nor status nor attribute
+abbrev pub IsKeptInAnswer : ℕ → Type 0
+IsKeptInAnswer place = (place < 3) ⊎ (((6 ≤ place) × (place < 64)) ⊎ (128 ≤ place))
+
+-- what an answer holds: all else is as it was in the request
+pub record HoldsAnswer (request answer : List ℕ) (given : ℕ) (payload : List ℕ) : Type 0 where
+  pub count : length answer ≡ 256
+  pub parses : fault_of answer ≡ None
+  pub class : is_directed answer ≡ is_directed request
+  pub method : number_in method answer ≡ 0x81
+  pub response : is_response answer ≡ true
+  pub returning : is_directed request ≡ true → is_returning answer ≡ true
+  pub status : status answer ≡ given
+  pub attribute_data : bytes_in attribute_data answer ≡ payload
+  pub kept : (place : ℕ) → IsKeptInAnswer place → slice_index answer place ≡ slice_index request place
+
+-- an answer holds what was given; in the directed class the status leaves its highest bit to the direction
+abbrev pub AnswerReadsBack : Type 0
+AnswerReadsBack =
+    (request : List ℕ) (given : ℕ) (payload : List ℕ) → length request ≡ 256 → fault_of request ≡ None → length payload ≡ 64
+    → given < 2 ^ 16 → (is_directed request ≡ true → given < 2 ^ 15)
+    → HoldsAnswer request (answer_to request given payload) given payload

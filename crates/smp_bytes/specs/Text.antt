@@ -1,0 +1,16 @@
+-- The texts of numbers and node types.
+use Rattle.std.specs.Prelude.{ℕ, zero, suc, ◌/◌, ◌%◌, List, [], ◌∷◌, ◌++◌, false, codes}
+use Rattle.std.specs.Fmt.{digit_glyph}
+use Rattle.smp_bytes.specs.declared.node_type.NodeType.{NodeType}
+use Rattle.smp_bytes.specs.declared.node_type.NodeType.TheVariants.{ChannelAdapter, Switch, Router}
+
+-- so many lower-case hex digits, with zeros in front
+unfoldable pub hex_text : ℕ → ℕ → List ℕ
+hex_text zero n = []
+hex_text (suc digits) n = hex_text digits (n / 16) ++ digit_glyph false (n % 16) ∷ []
+
+-- a node type as one word
+abbrev pub type_word : NodeType → List ℕ
+type_word ChannelAdapter = codes "ca"
+type_word Switch = codes "switch"
+type_word Router = codes "router"

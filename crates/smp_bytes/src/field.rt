@@ -1,0 +1,33 @@
+//! The table of fields: the place of each field's first byte in a packet (management datagram header; SMP formats).
+
+pub const BASE_VERSION: usize = 0;
+
+pub const MGMT_CLASS: usize = 1;
+
+pub const CLASS_VERSION: usize = 2;
+
+pub const METHOD: usize = 3;
+
+pub const STATUS: usize = 4;
+
+pub const HOP_POINTER: usize = 6;
+
+pub const HOP_COUNT: usize = 7;
+
+pub const TRANSACTION_ID: usize = 8;
+
+pub const ATTRIBUTE_ID: usize = 16;
+
+pub const ATTRIBUTE_MODIFIER: usize = 20;
+
+pub const M_KEY: usize = 24;
+
+pub const DR_SLID: usize = 32;
+
+pub const DR_DLID: usize = 34;
+
+pub const DATA: usize = 64;
+
+pub const INITIAL_PATH: usize = 128;
+
+pub const RETURN_PATH: usize = 192;

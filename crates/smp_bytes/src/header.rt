@@ -1,0 +1,39 @@
+/// How a packet finds its way: by a LID and the switches' tables, or by the ports of a path that it carries.
+#[derive(Clone, Copy, Debug, PartialEq, Eq)]
+pub enum SmpClass {
+    LidRouted,
+    DirectedRoute,
+}
+
+/// What a packet asks or is: its R bit and the seven bits of the method.
+#[derive(Clone, Copy, Debug, PartialEq, Eq)]
+pub struct Method(pub u8);
+
+impl Method {
+    pub const GET: Method = Method(0x01);
+
+    pub const SET: Method = Method(0x02);
+
+    /// The answer to both.
+    pub const GET_RESP: Method = Method(0x81);
+}
+
+/// How a request was met; in a directed packet at most 0x7FFF.
+#[derive(Clone, Copy, Debug, PartialEq, Eq)]
+pub struct Status(pub u16);
+
+impl Status {
+    pub const DONE: Status = Status(0x0000);
+}
+
+/// Which attribute a packet carries.
+#[derive(Clone, Copy, Debug, PartialEq, Eq)]
+pub struct AttributeId(pub u16);
+
+impl AttributeId {
+    pub const NODE_INFO: AttributeId = AttributeId(0x0011);
+
+    pub const SWITCH_INFO: AttributeId = AttributeId(0x0012);
+
+    pub const PORT_INFO: AttributeId = AttributeId(0x0015);
+}

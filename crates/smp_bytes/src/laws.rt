@@ -1,0 +1,61 @@
+//! The laws of packets: what a write into a field or into some bits does, and what stands in the packets that are made.
+ghost use Rattle.smp_bytes.specs.Laws.{NumberIsRead, FieldApartStays, BytesOutsideStay, WriteIsUnique, LastWriteStands, BitsAreRead, BitsApartStay, OtherBytesStay};
+ghost use Rattle.smp_bytes.specs.ReadBack.{DirectedReadsBack, LidRoutedReadsBack, AnswerReadsBack};
+
+/// A number that is written into a field is read from it.
+pub fn written_number_is_read()
+    ensures { NumberIsRead }
+{}
+
+/// A field that shares no byte with the one that is written keeps its number.
+pub fn field_apart_stays()
+    ensures { FieldApartStays }
+{}
+
+/// Whatever is written into a field, every byte outside it stays.
+pub fn bytes_outside_field_stay()
+    ensures { BytesOutsideStay }
+{}
+
+/// No other bytes hold the number in that field and are for the rest as they were.
+pub fn write_is_unique()
+    ensures { WriteIsUnique }
+{}
+
+/// Of two numbers that are written into a field, one after the other, the last one stands.
+pub fn last_write_stands()
+    ensures { LastWriteStands }
+{}
+
+/// A number that is written into some bits of a byte is read from them.
+pub fn written_bits_are_read()
+    ensures { BitsAreRead }
+{}
+
+/// Bits that share none with those that are written keep their number, in the same byte too.
+pub fn bits_apart_stay()
+    ensures { BitsApartStay }
+{}
+
+/// Whatever is written into some bits of a byte, every other byte stays.
+pub fn other_bytes_stay()
+    ensures { OtherBytesStay }
+{}
+
+/// A directed request holds the method, attribute, modifier, transaction ID, path and data that were given; HopPointer
+/// is 0, HopCount the path's length, both LIDs are the permissive one, and all else is 0.
+pub fn directed_request_reads_back()
+    ensures { DirectedReadsBack }
+{}
+
+/// A LID-routed request holds the method, attribute, modifier, transaction ID and data that were given, and all else
+/// but the versions is 0.
+pub fn lid_routed_request_reads_back()
+    ensures { LidRoutedReadsBack }
+{}
+
+/// An answer holds the status and the data that were given, and is on its way back if it is directed; all else but the
+/// method stands as in the request.
+pub fn answer_reads_back()
+    ensures { AnswerReadsBack }
+{}

@@ -1,0 +1,29 @@
+//! Subnet management packets and the numbers that they carry, each as a type of its own.
+#![tactic(auto)]
+
+mod field;
+mod generation;
+mod guid;
+mod header;
+pub mod laws;
+mod lid;
+mod making;
+mod node_type;
+mod path;
+mod port_num;
+mod smp;
+mod smp_fault;
+#[cfg(test)]
+mod tests;
+pub mod wire;
+mod writers;
+
+pub use generation::Generation;
+pub use guid::Guid;
+pub use header::{AttributeId, Method, SmpClass, Status};
+pub use lid::Lid;
+pub use node_type::NodeType;
+pub use path::Path;
+pub use port_num::PortNum;
+pub use smp::Smp;
+pub use smp_fault::SmpFault;

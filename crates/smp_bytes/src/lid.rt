@@ -1,0 +1,42 @@
+ghost use Rattle.std.specs.Prelude.{◌≡◌, Some, decimal};
+
+use std::fmt;
+use std::marker::Model;
+
+/// A local identifier, the address of an end port in a subnet.
+#[derive(Clone, Copy, Debug, PartialEq, Eq, PartialOrd, Ord)]
+pub struct Lid(u16);
+
+impl Model for Lid {
+    ghost use Rattle.std.specs.Prelude.{ℕ};
+
+    ghost Value = { ℕ };
+
+    ghost view = { λ a. a.0 };
+
+    ghost inverse = { λ n. record { 0 = n } };
+}
+
+impl Lid {
+    pub const fn new(number: u16) -> Self
+        ensures { result ≡ number }
+    {
+        Lid(number)
+    }
+
+    pub const fn number(self) -> u16
+        ensures { result ≡ self }
+    {
+        self.0
+    }
+}
+
+/// The number in decimal.
+impl fmt::Display for Lid {
+    ghost output = { λ number. Some (decimal number) };
+
+    fn fmt<W: fmt::Write>(&self, f: &mut fmt::Formatter<W>) -> fmt::Result {
+        let number = self.0;
+        write!(f, "{number}")
+    }
+}

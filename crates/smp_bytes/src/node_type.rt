@@ -1,0 +1,25 @@
+use std::fmt;
+
+/// What kind of node it is (subnet management chapter, NodeInfo). A router counts as an adapter here.
+#[derive(Clone, Copy, Debug, PartialEq, Eq, PartialOrd, Ord)]
+pub enum NodeType {
+    ChannelAdapter,
+    Switch,
+    Router,
+}
+
+/// `ca`, `switch` or `router`.
+impl fmt::Display for NodeType {
+    ghost use Rattle.std.specs.Prelude.{Some};
+    ghost use Rattle.smp_bytes.specs.Text.{type_word};
+
+    ghost output = { λ kind. Some (type_word kind) };
+
+    fn fmt<W: fmt::Write>(&self, f: &mut fmt::Formatter<W>) -> fmt::Result {
+        f.write_str(match self {
+            NodeType::ChannelAdapter => "ca",
+            NodeType::Switch => "switch",
+            NodeType::Router => "router",
+        })
+    }
+}

@@ -1,0 +1,72 @@
+ghost use Rattle.std.specs.Prelude.{◌≡◌, ◌<◌, ◌≤◌, ◌↔◌, [], ◌∷◌, ◌++◌, length, IsTrue, slice_get};
+
+use crate::port_num::PortNum;
+use arrayvec::ArrayVec;
+use std::marker::Model;
+
+/// The ports that a directed packet leaves by, one after the other: at most `MAX`. Contracts see the list.
+#[derive(Debug, Drop)]
+pub struct Path<const MAX: usize> {
+    ports: ArrayVec<u8, MAX>,
+}
+
+impl<const MAX: usize> Model for Path<MAX> {
+    ghost use Rattle.std.specs.Prelude.{ℕ, List};
+
+    ghost Value = { List ℕ };
+
+    ghost view = { λ a. a.ports.items };
+}
+
+impl<const MAX: usize> Path<MAX> {
+    /// The empty path.
+    pub fn new() -> Self
+        ensures { result ≡ [] }
+    {
+        Path {
+            ports: ArrayVec::new(),
+        }
+    }
+
+    /// Adds a port at the end.
+    pub fn push(&mut self, port: PortNum)
+        requires { length self.old < MAX }
+        ensures { self.new ≡ self.old ++ port ∷ [] }
+    {
+        self.ports.push(port.number());
+    }
+
+    pub fn len(&self) -> usize
+        ensures exact { result ≡ length self.now }
+        ensures within { result ≤ MAX }
+    {
+        self.ports.len()
+    }
+
+    pub fn is_empty(&self) -> bool
+        ensures { IsTrue result ↔ (self.now ≡ []) }
+    {
+        self.ports.is_empty()
+    }
+
+    /// Whether there is no room for another port.
+    pub fn is_full(&self) -> bool
+        ensures { IsTrue result ↔ (length self.now ≡ MAX) }
+    {
+        self.len() == MAX
+    }
+
+    /// The port at place `i`, from 0 on.
+    pub fn get(&self, i: usize) -> Option<PortNum>
+        ensures { result ≡ slice_get self.now i }
+    {
+        self.ports.as_slice().get(i).map(|port| PortNum::new(*port))
+    }
+
+    pub(crate) fn as_bytes(&self) -> &[u8]
+        ensures bytes { result.now ≡ self.now }
+        ensures within { length result.now ≤ MAX }
+    {
+        self.ports.as_slice()
+    }
+}

@@ -1,0 +1,42 @@
+ghost use Rattle.std.specs.Prelude.{◌≡◌, Some, decimal};
+
+use std::fmt;
+use std::marker::Model;
+
+/// The number of a port of a node; 0 is the management port of a switch.
+#[derive(Clone, Copy, Debug, PartialEq, Eq, PartialOrd, Ord)]
+pub struct PortNum(u8);
+
+impl Model for PortNum {
+    ghost use Rattle.std.specs.Prelude.{ℕ};
+
+    ghost Value = { ℕ };
+
+    ghost view = { λ a. a.0 };
+
+    ghost inverse = { λ n. record { 0 = n } };
+}
+
+impl PortNum {
+    pub const fn new(number: u8) -> Self
+        ensures { result ≡ number }
+    {
+        PortNum(number)
+    }
+
+    pub const fn number(self) -> u8
+        ensures { result ≡ self }
+    {
+        self.0
+    }
+}
+
+/// The number in decimal.
+impl fmt::Display for PortNum {
+    ghost output = { λ number. Some (decimal number) };
+
+    fn fmt<W: fmt::Write>(&self, f: &mut fmt::Formatter<W>) -> fmt::Result {
+        let number = self.0;
+        write!(f, "{number}")
+    }
+}

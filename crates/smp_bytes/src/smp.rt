@@ -1,0 +1,217 @@
+ghost use Rattle.std.specs.Prelude.{◌≡◌, ◌<◌, ◌↔◌, None, Some, IsOk, IfOk, IfErr, IsTrue, if◌then◌else◌, length};
+ghost use Rattle.smp_bytes.specs.Field.{number_in, bytes_in};
+ghost use Rattle.smp_bytes.specs.Packet.{base_version, class_version, method, transaction_id, attribute_id, attribute_modifier, m_key, attribute_data, hop_pointer, hop_count, dr_slid, dr_dlid, initial_path, return_path, is_directed, is_response, is_returning, status, fault_of};
+ghost use Rattle.smp_bytes.specs.declared.header.SmpClass.TheVariants.{LidRouted, DirectedRoute};
+
+use crate::field;
+use crate::header::{AttributeId, Method, SmpClass, Status};
+use crate::lid::Lid;
+use crate::port_num::PortNum;
+use crate::smp_fault::SmpFault;
+use crate::wire::{u8_at, u16_at, u32_at, u64_at};
+use std::marker::Model;
+
+/// A subnet management packet: 256 bytes that passed `parse`. Contracts see its bytes.
+#[derive(Clone, Copy, Debug)]
+pub struct Smp {
+    pub(crate) bytes: [u8; 256],
+}
+
+impl Model for Smp {
+    ghost use Rattle.std.specs.Prelude.{◌≡◌, ℕ, List, None};
+    ghost use Rattle.smp_bytes.specs.Packet.{fault_of};
+
+    ghost Value = { List ℕ };
+
+    ghost view = { λ p. p.bytes };
+
+    ghost invariant = { λ p. fault_of p.bytes ≡ None };
+
+    ghost inverse = { λ bytes. record { bytes = bytes } };
+}
+
+pub(crate) const LID_ROUTED: u8 = 0x01;
+
+pub(crate) const DIRECTED_ROUTE: u8 = 0x81;
+
+pub(crate) const PERMISSIVE_LID: u16 = 0xFFFF;
+
+const MAX_HOPS: u8 = 63;
+
+impl Smp {
+    /// Takes 256 bytes that are a packet of this version (base version and class version 1) and of one of the two
+    /// classes; the bytes stay as they are.
+    pub fn parse(bytes: &[u8; 256]) -> Result<Smp, SmpFault>
+        ensures kept { IfOk result (λ smp. smp ≡ bytes.now) }
+        ensures accepted { IsOk result ↔ (fault_of bytes.now ≡ None) }
+        ensures refused { IfErr result (λ fault. fault_of bytes.now ≡ Some fault) }
+    {
+        if u8_at(bytes, field::BASE_VERSION) != 1 {
+            return Err(SmpFault::BaseVersion);
+        }
+        let class = u8_at(bytes, field::MGMT_CLASS);
+        if class != LID_ROUTED && class != DIRECTED_ROUTE {
+            return Err(SmpFault::Class);
+        }
+        if u8_at(bytes, field::CLASS_VERSION) != 1 {
+            return Err(SmpFault::ClassVersion);
+        }
+        if class == DIRECTED_ROUTE {
+            let hop_count = u8_at(bytes, field::HOP_COUNT);
+            if hop_count > MAX_HOPS {
+                return Err(SmpFault::HopCount);
+            }
+            if u8_at(bytes, field::HOP_POINTER) > hop_count + 1 {
+                return Err(SmpFault::HopPointer);
+            }
+            if u16_at(bytes, field::DR_SLID) != PERMISSIVE_LID
+                || u16_at(bytes, field::DR_DLID) != PERMISSIVE_LID
+            {
+                return Err(SmpFault::DrLid);
+            }
+        }
+        Ok(Smp { bytes: *bytes })
+    }
+
+    /// The packet's bytes.
+    pub fn bytes(&self) -> &[u8; 256]
+        ensures bytes { result.now ≡ self.now }
+        ensures parses { fault_of self.now ≡ None }
+    {
+        &self.bytes
+    }
+
+    /// BaseVersion, which is 1.
+    pub fn base_version(&self) -> u8
+        ensures { result ≡ number_in base_version self.now }
+    {
+        u8_at(&self.bytes, field::BASE_VERSION)
+    }
+
+    /// MgmtClass.
+    pub fn class(&self) -> SmpClass
+        ensures { result ≡ (if is_directed self.now then DirectedRoute else LidRouted) }
+    {
+        if u8_at(&self.bytes, field::MGMT_CLASS) == DIRECTED_ROUTE {
+            SmpClass::DirectedRoute
+        } else {
+            SmpClass::LidRouted
+        }
+    }
+
+    /// ClassVersion, which is 1.
+    pub fn class_version(&self) -> u8
+        ensures { result ≡ number_in class_version self.now }
+    {
+        u8_at(&self.bytes, field::CLASS_VERSION)
+    }
+
+    /// The R bit and the method.
+    pub fn method(&self) -> Method
+        ensures { result.0 ≡ number_in method self.now }
+    {
+        Method(u8_at(&self.bytes, field::METHOD))
+    }
+
+    /// The R bit.
+    pub fn is_response(&self) -> bool
+        ensures { IsTrue result ↔ IsTrue (is_response self.now) }
+    {
+        self.bytes[field::METHOD] >> 7 == 1
+    }
+
+    /// The D bit of a directed packet: it is on its way back.
+    pub fn is_returning(&self) -> bool
+        ensures { IsTrue result ↔ IsTrue (is_returning self.now) }
+    {
+        self.bytes[field::STATUS] >> 7 == 1
+    }
+
+    /// The status, without the D bit in a directed packet.
+    pub fn status(&self) -> Status
+        ensures { result.0 ≡ status self.now }
+    {
+        let word = u16_at(&self.bytes, field::STATUS);
+        match self.class() {
+            SmpClass::DirectedRoute => Status(word % 0x8000),
+            SmpClass::LidRouted => Status(word),
+        }
+    }
+
+    /// HopPointer of a directed packet, at most HopCount + 1.
+    pub fn hop_pointer(&self) -> u8
+        ensures { result ≡ number_in hop_pointer self.now }
+    {
+        u8_at(&self.bytes, field::HOP_POINTER)
+    }
+
+    /// HopCount of a directed packet, at most 63.
+    pub fn hop_count(&self) -> u8
+        ensures { result ≡ number_in hop_count self.now }
+    {
+        u8_at(&self.bytes, field::HOP_COUNT)
+    }
+
+    pub fn transaction_id(&self) -> u64
+        ensures { result ≡ number_in transaction_id self.now }
+    {
+        u64_at(&self.bytes, field::TRANSACTION_ID)
+    }
+
+    pub fn attribute_id(&self) -> AttributeId
+        ensures { result.0 ≡ number_in attribute_id self.now }
+    {
+        AttributeId(u16_at(&self.bytes, field::ATTRIBUTE_ID))
+    }
+
+    pub fn attribute_modifier(&self) -> u32
+        ensures { result ≡ number_in attribute_modifier self.now }
+    {
+        u32_at(&self.bytes, field::ATTRIBUTE_MODIFIER)
+    }
+
+    pub fn m_key(&self) -> u64
+        ensures { result ≡ number_in m_key self.now }
+    {
+        u64_at(&self.bytes, field::M_KEY)
+    }
+
+    /// DrSLID of a directed packet, the permissive LID.
+    pub fn dr_slid(&self) -> Lid
+        ensures { result ≡ number_in dr_slid self.now }
+    {
+        Lid::new(u16_at(&self.bytes, field::DR_SLID))
+    }
+
+    /// DrDLID of a directed packet, the permissive LID.
+    pub fn dr_dlid(&self) -> Lid
+        ensures { result ≡ number_in dr_dlid self.now }
+    {
+        Lid::new(u16_at(&self.bytes, field::DR_DLID))
+    }
+
+    /// InitialPath of a directed packet: the port by which it leaves at step `i`. Index 0 is not used.
+    pub fn initial_path(&self, i: usize) -> PortNum
+        requires { i < 64 }
+        ensures { result ≡ number_in (initial_path i) self.now }
+    {
+        PortNum::new(u8_at(&self.bytes, field::INITIAL_PATH + i))
+    }
+
+    /// ReturnPath of a directed packet: the port by which the answer leaves at step `i`. Index 0 is not used.
+    pub fn return_path(&self, i: usize) -> PortNum
+        requires { i < 64 }
+        ensures { result ≡ number_in (return_path i) self.now }
+    {
+        PortNum::new(u8_at(&self.bytes, field::RETURN_PATH + i))
+    }
+
+    /// The 64 bytes of the attribute.
+    pub fn attribute_data(&self) -> [u8; 64]
+        ensures { result ≡ bytes_in attribute_data self.now }
+    {
+        let mut data = [0; 64];
+        data.copy_from_slice(&self.bytes[field::DATA..field::INITIAL_PATH]);
+        data
+    }
+}

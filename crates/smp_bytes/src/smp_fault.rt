@@ -1,0 +1,24 @@
+use thiserror::Error;
+
+/// Why 256 bytes are no subnet management packet, in the order in which it is judged.
+#[derive(Clone, Copy, Debug, PartialEq, Eq, Error)]
+pub enum SmpFault {
+    /// BaseVersion is not 1.
+    #[error("BaseVersion")]
+    BaseVersion,
+    /// MgmtClass is neither 0x01 (LID routed) nor 0x81 (directed route).
+    #[error("Class")]
+    Class,
+    /// ClassVersion is not 1.
+    #[error("ClassVersion")]
+    ClassVersion,
+    /// HopCount of a directed packet is over 63.
+    #[error("HopCount")]
+    HopCount,
+    /// HopPointer of a directed packet is over HopCount + 1.
+    #[error("HopPointer")]
+    HopPointer,
+    /// DrSLID or DrDLID of a directed packet is not the permissive LID, 0xFFFF.
+    #[error("DrLid")]
+    DrLid,
+}

@@ -1,0 +1,134 @@
+//! Numbers as they stand in packets and attributes: the most significant byte first.
+ghost use Rattle.std.specs.Prelude.{◌≡◌, ℕ, ◌+◌, ◌≤◌, ◌<◌, ◌^◌, length};
+ghost use Rattle.smp_bytes.specs.Field.{bits_in, number_in, replaced, with_bits, with_bytes, with_number};
+
+use byteorder::{BigEndian, ByteOrder};
+
+/// The byte at a place.
+pub fn u8_at(bytes: &[u8], at: usize) -> u8
+    requires { at < length bytes.now }
+    ensures { result ≡ number_in (record { at = at; len = 1 }) bytes.now }
+{
+    bytes[at]
+}
+
+/// The number in the two bytes from a place on.
+pub fn u16_at(bytes: &[u8], at: usize) -> u16
+    requires { at + 2 ≤ length bytes.now }
+    ensures { result ≡ number_in (record { at = at; len = 2 }) bytes.now }
+{
+    BigEndian::read_u16(&bytes[at..])
+}
+
+/// The number in the three bytes from a place on.
+pub fn u24_at(bytes: &[u8], at: usize) -> u32
+    requires { at + 3 ≤ length bytes.now }
+    ensures number { result ≡ number_in (record { at = at; len = 3 }) bytes.now }
+    ensures fits { result < 2 ^ 24 }
+{
+    BigEndian::read_u24(&bytes[at..])
+}
+
+/// The number in the four bytes from a place on.
+pub fn u32_at(bytes: &[u8], at: usize) -> u32
+    requires { at + 4 ≤ length bytes.now }
+    ensures { result ≡ number_in (record { at = at; len = 4 }) bytes.now }
+{
+    BigEndian::read_u32(&bytes[at..])
+}
+
+/// The number in the eight bytes from a place on.
+pub fn u64_at(bytes: &[u8], at: usize) -> u64
+    requires { at + 8 ≤ length bytes.now }
+    ensures { result ≡ number_in (record { at = at; len = 8 }) bytes.now }
+{
+    BigEndian::read_u64(&bytes[at..])
+}
+
+/// Writes the byte at a place; all others stay.
+pub fn put_u8(bytes: &mut [u8], at: usize, number: u8)
+    requires { at < length bytes.old }
+    ensures { bytes.new ≡ with_number (record { at = at; len = 1 }) number bytes.old }
+{
+    bytes[at] = number;
+}
+
+/// Writes the two bytes from a place on; all others stay.
+pub fn put_u16(bytes: &mut [u8], at: usize, number: u16)
+    requires { at + 2 ≤ length bytes.old }
+    ensures { bytes.new ≡ with_number (record { at = at; len = 2 }) number bytes.old }
+{
+    BigEndian::write_u16(&mut bytes[at..], number);
+}
+
+/// Writes the low 24 bits of a number into the three bytes from a place on; all others stay.
+pub fn put_u24(bytes: &mut [u8], at: usize, number: u32)
+    requires place { at + 3 ≤ length bytes.old }
+    requires fits { number < 2 ^ 24 }
+    ensures { bytes.new ≡ with_number (record { at = at; len = 3 }) number bytes.old }
+{
+    BigEndian::write_u24(&mut bytes[at..], number);
+}
+
+/// Writes the four bytes from a place on; all others stay.
+pub fn put_u32(bytes: &mut [u8], at: usize, number: u32)
+    requires { at + 4 ≤ length bytes.old }
+    ensures { bytes.new ≡ with_number (record { at = at; len = 4 }) number bytes.old }
+{
+    BigEndian::write_u32(&mut bytes[at..], number);
+}
+
+/// Writes the eight bytes from a place on; all others stay.
+pub fn put_u64(bytes: &mut [u8], at: usize, number: u64)
+    requires { at + 8 ≤ length bytes.old }
+    ensures { bytes.new ≡ with_number (record { at = at; len = 8 }) number bytes.old }
+{
+    BigEndian::write_u64(&mut bytes[at..], number);
+}
+
+/// Writes bytes over those from a place on; all others stay.
+pub fn put_bytes(bytes: &mut [u8], at: usize, written: &[u8])
+    requires { at + length written.now ≤ length bytes.old }
+    ensures { bytes.new ≡ with_bytes at written.now bytes.old }
+{
+    bytes[at..at + written.len()].copy_from_slice(written);
+}
+
+/// The number that `width` bits of the byte at a place stand for, of which the lowest is bit `shift`.
+pub fn bits_at(bytes: &[u8], at: usize, shift: u32, width: u32) -> u8
+    requires place { at < length bytes.now }
+    requires some { 1 ≤ width }
+    requires within { shift + width ≤ 8 }
+    ensures number { result ≡ bits_in (record { at = at; shift = shift; width = width }) bytes.now }
+    ensures fits { result < 2 ^ width }
+{
+    let above = u32::from(bytes[at]) >> shift;
+    let number = above % (1 << width);
+    number as u8
+}
+
+/// Writes a number into `width` bits of the byte at a place, of which the lowest is bit `shift`; all others stay.
+pub fn put_bits(bytes: &mut [u8], at: usize, shift: u32, width: u32, number: u8)
+    requires place { at < length bytes.old }
+    requires some { 1 ≤ width }
+    requires within { shift + width ≤ 8 }
+    requires fits { number < 2 ^ width }
+    ensures { bytes.new ≡ with_bits (record { at = at; shift = shift; width = width }) number bytes.old }
+{
+    let byte = u32::from(bytes[at]);
+    let replaced = replaced(byte, shift, width, u32::from(number));
+    put_u8(bytes, at, replaced);
+}
+
+/// A byte with some of its bits replaced.
+fn replaced(byte: u32, shift: u32, width: u32, number: u32) -> u8
+    requires byte { byte < 256 }
+    requires within { shift + width ≤ 8 }
+    requires fits { number < 2 ^ width }
+    ensures { result ≡ replaced (record { at = 0; shift = shift; width = width }) number byte }
+{
+    let above = byte >> (shift + width);
+    let below = byte % (1 << shift);
+    let replaced = (((above << width) + number) << shift) + below;
+    replaced as u8
+}
