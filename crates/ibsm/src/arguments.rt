@@ -17,7 +17,9 @@ pub fn command_line<'a>(alloc: Global) -> Result<Command<'a>, AllocError> {
         .about("Prints the facts that all the files tell together")
         .arg(files(alloc))?;
     let join = Command::new(alloc, JOIN)
-        .about("Writes the facts that all the files tell together to standard output, as a store file")
+        .about(
+            "Writes the facts that all the files tell together to standard output, as a store file",
+        )
         .arg(files(alloc))?;
     Command::new(alloc, "ibsm")
         .about("InfiniBand subnet managers")

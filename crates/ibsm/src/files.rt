@@ -34,12 +34,7 @@ where
         }
     }
     let writer = BufWriter::new(rt.alloc(), output).map_err(|_| AllocError)?;
-    match run_files(
-        rt.alloc(),
-        &mut sources,
-        command,
-        &mut ToWrite::new(writer),
-    ) {
+    match run_files(rt.alloc(), &mut sources, command, &mut ToWrite::new(writer)) {
         Ok(()) => Ok(Status::Done),
         Err(fault) => {
             let _ = write_fault(&fault, name_of(names, &fault), errors);
