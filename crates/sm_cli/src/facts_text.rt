@@ -2,14 +2,12 @@
 ghost use Rattle.std.specs.Prelude.{◌≡◌, ◌↔◌, IsErr, IsTrue, OnOk};
 ghost use Rattle.std.specs.FinMap.{entries};
 ghost use Rattle.std.specs.Io.KnownBytes.{Appends};
-ghost use Rattle.smp_bytes.specs.Text.{type_word};
 ghost use Rattle.sm_cli.specs.FactsText.{key_text, value_text, cell_text, line_text, facts_text};
 
 use crate::words::{write_guid, write_number, write_port};
 use fact_join::Cell;
 use fact_store::{Key, Sighting, Store, Value};
 use record_file::{Sink, WriteFailed};
-use smp_bytes::NodeType;
 
 #[cfg(test)]
 mod tests;
@@ -55,7 +53,7 @@ fn write_value<W: Sink>(value: &Value, sink: &mut W) -> Result<(), WriteFailed>
 {
     match *value {
         Value::Kind(kind, ports) => {
-            sink.write(type_word(kind))?;
+            sink.write(kind.word().as_bytes())?;
             sink.write(b" ")?;
             write_number(u64::from(ports.number()), sink)
         }
@@ -65,16 +63,6 @@ fn write_value<W: Sink>(value: &Value, sink: &mut W) -> Result<(), WriteFailed>
         Value::Up(false) => sink.write(b"down"),
         Value::Lid(lid) => write_number(u64::from(lid.number()), sink),
         Value::Count(count) => write_number(u64::from(count), sink),
-    }
-}
-
-fn type_word(kind: NodeType) -> &'static [u8]
-    ensures { result.now ≡ type_word kind }
-{
-    match kind {
-        NodeType::ChannelAdapter => b"ca",
-        NodeType::Switch => b"switch",
-        NodeType::Router => b"router",
     }
 }
 

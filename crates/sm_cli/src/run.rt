@@ -1,4 +1,4 @@
-ghost use Rattle.std.specs.Prelude.{◌≡◌, ◌≤◌, ◌+◌, ◌^◌, ◌↔◌, ℕ, List, Some, Ok, Err, OnOk, OnErr, IfOk, IfSome, IsErr, IsTrue, length};
+ghost use Rattle.std.specs.Prelude.{◌≡◌, ◌≤◌, ◌+◌, ◌^◌, ◌↔◌, ◌⊎◌, ℕ, List, Some, Ok, Err, OnOk, OnErr, IfOk, IfSome, IsErr, IsTrue, length};
 ghost use Rattle.std.specs.Io.KnownBytes.{Appends};
 ghost use Rattle.fact_store.specs.View.{view};
 ghost use Rattle.fact_store.specs.Merge.{merge};
@@ -35,7 +35,7 @@ pub fn run_files<S: Source, W: Sink>(
         AreAccepted files × Appends (W.written sink.old) (W.written sink.new) (answer_to command (facts_of files))) }
     ensures refused { (place : ℕ) (fault : FaultOfFile) → result ≡ Err (Fault.File place fault) →
         IsRefused S.left S.has_failed S.interruptions sources.old.items sources.new.items place fault }
-    ensures nothing_written { (place : ℕ) (fault : FaultOfFile) → result ≡ Err (Fault.File place fault) → sink.new ≡ sink.old }
+    ensures nothing_written { OnErr result ((result ≡ Err Fault.Write) ⊎ (sink.new ≡ sink.old)) }
     ensures write { result ≡ Err Fault.Write → IsTrue (W.has_failed sink.new)
         × ((files : List (List ℕ)) → files_of S.left sources.old.items ≡ Some files → AreAccepted files) }
 {

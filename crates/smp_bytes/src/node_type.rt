@@ -1,3 +1,6 @@
+ghost use Rattle.std.specs.Prelude.{◌≡◌};
+ghost use Rattle.smp_bytes.specs.Text.{type_word};
+
 use std::fmt;
 
 /// What kind of node it is (subnet management chapter, NodeInfo). A router counts as an adapter here.
@@ -8,18 +11,26 @@ pub enum NodeType {
     Router,
 }
 
-/// `ca`, `switch` or `router`.
+impl NodeType {
+    /// `ca`, `switch` or `router`.
+    pub fn word(self) -> &'static str
+        ensures { result.now ≡ type_word self }
+    {
+        match self {
+            NodeType::ChannelAdapter => "ca",
+            NodeType::Switch => "switch",
+            NodeType::Router => "router",
+        }
+    }
+}
+
+/// Its word.
 impl fmt::Display for NodeType {
     ghost use Rattle.std.specs.Prelude.{Some};
-    ghost use Rattle.smp_bytes.specs.Text.{type_word};
 
     ghost output = { λ kind. Some (type_word kind) };
 
     fn fmt<W: fmt::Write>(&self, f: &mut fmt::Formatter<W>) -> fmt::Result {
-        f.write_str(match self {
-            NodeType::ChannelAdapter => "ca",
-            NodeType::Switch => "switch",
-            NodeType::Router => "router",
-        })
+        f.write_str(self.word())
     }
 }

@@ -1,6 +1,6 @@
 use super::*;
 use record_file::ToRoom;
-use smp_bytes::{Generation, Guid, Lid, PortNum};
+use smp_bytes::{Generation, Guid, Lid, NodeType, PortNum};
 use std::alloc::Global;
 use std::test::Fail;
 
