@@ -3,16 +3,16 @@ use clap::{Arg, ArgAction, Command};
 use std::alloc::{AllocError, Global};
 
 /// The subcommand that prints facts.
-pub const FACTS: &str = "facts";
+pub(crate) const FACTS: &str = "facts";
 
 /// The subcommand that writes a store file.
-pub const JOIN: &str = "join";
+pub(crate) const JOIN: &str = "join";
 
 /// The files of a subcommand.
-pub const FILE: &str = "FILE";
+pub(crate) const FILE: &str = "FILE";
 
 /// The subcommands and their arguments.
-pub fn command_line<'a>(alloc: Global) -> Result<Command<'a>, AllocError> {
+pub(crate) fn command_line<'a>(alloc: Global) -> Result<Command<'a>, AllocError> {
     let facts = Command::new(alloc, FACTS)
         .about("Prints the facts that all the files tell together")
         .arg(files(alloc))?;

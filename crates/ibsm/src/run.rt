@@ -6,12 +6,12 @@ use clap::error::ErrorKind;
 use record_file::ToWrite;
 use sm_cli::{Command, Fault, Status, write_fault};
 use std::alloc::AllocError;
-use std::io::Write;
+use std::io::{BufWriter, Write};
 use std::rt::{Env, Files};
 use std::{env, io};
 
 /// Does what the command line asks for, and says on `errors` why it cannot.
-pub fn run<R, O, E>(rt: &R, output: O, errors: E) -> Status
+pub(crate) fn run<R, O, E>(rt: &R, output: O, errors: E) -> Status
 where
     R: Env + Files + Print + Eprint + AllocGlobal,
     O: Write + Drop,
@@ -53,7 +53,8 @@ where
             .subcommand_matches(name)
             .and_then(|words| words.get_strs(FILE))
         {
-            return answer(rt, command, names, output, errors);
+            let writer = BufWriter::new(rt.alloc(), output).map_err(|_| AllocError)?;
+            return answer(rt, command, names, &mut ToWrite::new(writer), errors);
         }
     }
     Ok(Status::Usage)
