@@ -1,5 +1,5 @@
 -- The answer of a run depends on the sightings that its files keep, and on nothing else.
-use Rattle.std.proofs.Common.{◌≡◌, ℕ, List, [], ◌∷◌, ◌++◌, ap, subst, inl, inr, sym}
+use Rattle.std.proofs.Common.{ℕ, List, [], ◌∷◌, ap, subst, inl, inr, sym}
 use Rattle.std.proofs.lemmas.List.Elements.{Contains-append_left, Contains-append_right, Contains-append_cases}
 use Rattle.std.specs.Prelude.{Contains}
 use Rattle.std.specs.List.{flat_map}
@@ -10,7 +10,7 @@ use Rattle.fact_store.proofs.Members.{contains_here, contains_later, contains_ca
 use Rattle.fact_store.proofs.Views.{members_decide_view}
 use Rattle.record_file.specs.RecordFile.{kept}
 use Rattle.sm_cli.specs.Run.{answer_to}
-use Rattle.sm_cli.specs.RunLaws.{AreSameFiles, FilesDecideAnswer, SightingsDecideAnswer}
+use Rattle.sm_cli.specs.RunLaws.{FilesDecideAnswer, SightingsDecideAnswer}
 
 pub sightings_decide_answer : SightingsDecideAnswer
 sightings_decide_answer command files others same = ap (answer_to command) (members_decide_view (flat_map kept files) (flat_map kept others) same)

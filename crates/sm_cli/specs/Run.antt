@@ -1,5 +1,5 @@
 -- What a run over files does: it reads all of them, and writes what they say together, or says which one it refuses.
-use Rattle.std.specs.Prelude.{◌≡◌, ◌↔◌, ℕ, ◌+◌, ◌<◌, ◌≤◌, ◌^◌, Bool, List, [], ◌∷◌, Option, None, Some, Result, Ok, Err, IsTrue, IfSome, length, map, option_map, option_and_then, slice_get}
+use Rattle.std.specs.Prelude.{◌≡◌, ◌↔◌, ℕ, ◌+◌, ◌<◌, ◌≤◌, ◌^◌, Bool, List, [], ◌∷◌, Option, Some, Ok, Err, IsTrue, IfSome, length, option_map, option_and_then, slice_get}
 use Rattle.std.specs.List.{flat_map}
 use Rattle.std.specs.FinMap.{entries}
 use Rattle.fact_store.specs.View.{Facts, view}

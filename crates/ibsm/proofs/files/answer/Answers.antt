@@ -1,4 +1,4 @@
-use Rattle.std.proofs.Common.{ap, inl, inr, refl, ◌∙◌}
+use Rattle.std.proofs.Common.{ap, inl, inr, refl}
 use Rattle.sm_cli.specs.FaultText.{fault_text, program_line}
 use Rattle.ibsm.proofs.Said.{said}
 use Rattle.ibsm.proofs.files.answer.Goals as goal

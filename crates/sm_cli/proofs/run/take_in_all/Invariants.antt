@@ -1,6 +1,5 @@
 use Rattle.std.proofs.Common.{◌≡◌, ℕ, ◌≤◌, List, Some, length, take}
 use Rattle.std.specs.Prelude.{slice_get}
-use Rattle.fact_store.specs.View.{view}
 use Rattle.sm_cli.specs.Run.{AreAcceptedBelow, facts_of, files_of}
 use Rattle.sm_cli.proofs.run.take_in_all.Given as goal
 
