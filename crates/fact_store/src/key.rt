@@ -111,10 +111,3 @@ pub(crate) fn is_between(low: &Option<Key>, key: &Key, high: &Option<Key>) -> bo
     };
     after_low && before_high
 }
-
-/// A port that has a LID: port 0 of a switch, or a port of an adapter.
-#[derive(Clone, Copy, Debug, PartialEq, Eq, PartialOrd, Ord)]
-pub struct EndPort {
-    pub node: Guid,
-    pub port: PortNum,
-}

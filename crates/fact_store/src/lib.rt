@@ -14,7 +14,7 @@ mod value;
 
 pub use fact_join::Cell;
 pub use ingest::IngestFault;
-pub use key::{EndPort, Key};
+pub use key::Key;
 pub use report::{Context, Report};
 pub use report_fault::ReportFault;
 pub use report_sightings::sightings;
