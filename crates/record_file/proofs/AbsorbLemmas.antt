@@ -20,6 +20,7 @@ use Rattle.record_file.specs.Reading.{file_fault_of}
 use Rattle.record_file.specs.RecordFile.{ending, fault_in, fault_or, first_fault, format_of, judged, kept, kept_as, key_in, magic, outcome, outcome_as, record_size, records_in_reach, told_by, told_then}
 use Rattle.record_file.proofs.Formats.{IsLast, format_found, front-magic, judged-bad}
 use Rattle.record_file.proofs.Bytes.{Consumes-trans}
+use Rattle.record_file.proofs.Places.{IsFresh, IsWithin}
 use Rattle.record_file.proofs.Records.{AreRecords, Sightings, bytes_of, fault_in-file, file, format_of-magic, last_key, last_key-more, length-file, length-magic, ending-whole, ending-part, ending-long, outcome-part, outcome-bad, kept-part, kept-bad, size-positive, size-short, first_fault-good, told_by-good}
 use Rattle.record_file.proofs.Stores.{merge-both, merge-nothing}
 
@@ -29,19 +30,19 @@ pub record Progress (format : Format) (p q : Place) (old new : Facts) (rs : List
   pub good : first_fault format None 0 rs ≡ None
   pub taken : Takes p q (file format rs part)
   pub held : new ≡ merge old (view (told_by format None rs))
-  pub fresh : p.bytes ≡ 0
-  pub in_range : q.bytes ≤ 2 ^ 40
+  pub fresh : IsFresh p
+  pub within : IsWithin q
 
 abbrev pub AbsorbsAt : Result (Unit {0}) FileFault → Facts → Facts → Place → Place → List ℕ → Type 0
 AbsorbsAt answer old new p q taken = Absorbs answer old new p.left q.left p.interruptions q.interruptions taken
 
 pub size-part : (format : Format) (p q : Place) (old new : Facts) (rs : List (List ℕ)) (part : List ℕ) → Progress format p q old new rs part → q.bytes ≡ bytes_of format (length rs) + length part
 size-part format p q old new rs part g =
-    let counted = g.taken.counted in let fresh = g.fresh in let size = length-file format rs part g.records in omega arith
+    let counted = g.taken.counted in let fresh = g.fresh.0 in let size = length-file format rs part g.records in omega arith
 
 -- a part of a record more
-pub Progress-more : (format : Format) (p q r : Place) (old new : Facts) (rs : List (List ℕ)) (part : List ℕ) → Progress format p q old new rs [] → Takes q r part → r.bytes ≤ 2 ^ 40 → Progress format p r old new rs part
-Progress-more format p q r old new rs part g more in_range =
+pub Progress-more : (format : Format) (p q r : Place) (old new : Facts) (rs : List (List ℕ)) (part : List ℕ) → Progress format p q old new rs [] → Takes q r part → IsWithin r → Progress format p r old new rs part
+Progress-more format p q r old new rs part g more within =
     let joined : file format rs [] ++ part ≡ file format rs part = append_assoc (magic format) (concat rs ++ []) part ∙ ap (λ l. magic format ++ l) (append_assoc (concat rs) [] part) in
     record {
       records = g.records;
@@ -49,25 +50,39 @@ Progress-more format p q r old new rs part g more in_range =
       taken = record {
         consumed = let P : List ℕ → Type 0 = Consumes p.left r.left in subst P joined (Consumes-trans p.left q.left r.left (file format rs []) part g.taken.consumed more.consumed);
         counted = let before = g.taken.counted in let later = more.counted in let first = length-file format rs [] g.records in let both = length-file format rs part g.records in omega arith;
+        asked = let before = g.taken.asked in let later = more.asked in omega arith;
       };
       held = g.held;
       fresh = g.fresh;
-      in_range = in_range;
+      within = within;
     }
 
 -- the bytes keep what the records tell, and end as they do
 pub kept-progress : (format : Format) (p q : Place) (old new : Facts) (rs : List (List ℕ)) (part : List ℕ) → Progress format p q old new rs part → length part < record_size format → kept (file format rs part) ≡ told_by format None rs
 kept-progress format p q old new rs part g short =
-    let size = size-part format p q old new rs part g in let in_range = g.in_range in
+    let size = size-part format p q old new rs part g in let in_range = g.within.0 in
     kept-part format rs part part g.records (omega arith) (take_all (2 ^ 40 - bytes_of format (length rs)) part (omega arith)) short
 
 pub outcome-progress : (format : Format) (p q : Place) (old new : Facts) (rs : List (List ℕ)) (part : List ℕ) → Progress format p q old new rs part → length part < record_size format → outcome (file format rs part) ≡ ending (record_size format) (length (file format rs part))
 outcome-progress format p q old new rs part g short =
-    let size = size-part format p q old new rs part g in let in_range = g.in_range in
+    let size = size-part format p q old new rs part g in let in_range = g.within.0 in
     outcome-part format rs part part g.records (omega arith) g.good (take_all (2 ^ 40 - bytes_of format (length rs)) part (omega arith)) short
 
 held-progress : (format : Format) (p q : Place) (old new : Facts) (rs : List (List ℕ)) (part : List ℕ) → Progress format p q old new rs part → length part < record_size format → new ≡ merge old (view (kept (file format rs part)))
 held-progress format p q old new rs part g short = g.held ∙ ap (λ s. merge old (view s)) (sym (kept-progress format p q old new rs part g short))
+
+-- a reading that keeps to its bounds takes at most so many bytes, and as many of its calls are interrupted
+record KeepsTo (p q : Place) (taken : List ℕ) : Type 0 where
+  bytes : length taken ≤ 2 ^ 40
+  interrupted : q.interruptions ≤ 2 ^ 40 + p.interruptions
+
+bounds : (p q : Place) (taken : List ℕ) → IsFresh p → IsWithin q → Takes p q taken → KeepsTo p q taken
+bounds p q taken fresh within takes =
+    let counted = takes.counted in let asked = takes.asked in let none = fresh.0 in let uncalled = fresh.1 in let most = within.0 in let calls = within.1 in
+    record { bytes = omega arith; interrupted = omega arith }
+
+bounds-progress : (format : Format) (p q : Place) (old new : Facts) (rs : List (List ℕ)) (part : List ℕ) → Progress format p q old new rs part → KeepsTo p q (file format rs part)
+bounds-progress format p q old new rs part g = bounds p q (file format rs part) g.fresh g.within g.taken
 
 -- the endings -----------------------------------------------------------------------
 
@@ -80,6 +95,8 @@ absorbs-all format p q old new rs g end below =
         held = held-progress format p q old new rs [] g some;
         answered = outcome-progress format p q old new rs [] g some ∙ ending-whole (record_size format) (length rs) (length (file format rs [])) some (omega arith) (omega arith);
         decided = end;
+        bytes = (bounds-progress format p q old new rs [] g).bytes;
+        interrupted = (bounds-progress format p q old new rs [] g).interrupted;
       },
     )
 
@@ -93,24 +110,28 @@ absorbs-part format p q old new rs part offset g place some short end below =
         held = held-progress format p q old new rs part g short;
         answered = outcome-progress format p q old new rs part g short ∙ ending-part (record_size format) (length rs) (length part) (length (file format rs part)) (omega arith) some short (omega arith) ∙ ap (λ n. Err (Truncated n)) (sym place);
         decided = end;
+        bytes = (bounds-progress format p q old new rs part g).bytes;
+        interrupted = (bounds-progress format p q old new rs part g).interrupted;
       },
     )
 
 pub absorbs-failed : (format : Format) (p q : Place) (old new : Facts) (rs : List (List ℕ)) (part : List ℕ) → Progress format p q old new rs part → length part < record_size format → (taken : List ℕ) × AbsorbsAt (Err Read) old new p q taken
 absorbs-failed format p q old new rs part g short =
-    (file format rs part, record { consumed = g.taken.consumed; held = held-progress format p q old new rs part g short; answered = tt; decided = tt })
+    (file format rs part, record { consumed = g.taken.consumed; held = held-progress format p q old new rs part g short; answered = tt; decided = tt; bytes = (bounds-progress format p q old new rs part g).bytes; interrupted = (bounds-progress format p q old new rs part g).interrupted })
 
 -- the budget was spent, by bytes or by interrupted calls
 pub absorbs-long : (format : Format) (p q : Place) (old new : Facts) (rs : List (List ℕ)) (part : List ℕ) → Progress format p q old new rs part → length part < record_size format
     → (q.bytes ≡ 2 ^ 40) ⊎ (q.calls ≡ 2 ^ 40) → EachCallTakes p q → p.calls ≡ 0 → (taken : List ℕ) × AbsorbsAt (Err TooLong) old new p q taken
 absorbs-long format p q old new rs part g short spent each none =
-    let size = size-part format p q old new rs part g in let whole = length-file format rs part g.records in let paid = each.paid in let fresh = g.fresh in (
+    let size = size-part format p q old new rs part g in let whole = length-file format rs part g.records in let paid = each.paid in let fresh = g.fresh.0 in (
       file format rs part,
       record {
         consumed = g.taken.consumed;
         held = held-progress format p q old new rs part g short;
         answered = elim spent [ inl long ↦ inl (outcome-progress format p q old new rs part g short ∙ ending-long (record_size format) (length (file format rs part)) (omega arith)) | inr calls ↦ inr (omega arith) ];
         decided = tt;
+        bytes = (bounds-progress format p q old new rs part g).bytes;
+        interrupted = (bounds-progress format p q old new rs part g).interrupted;
       },
     )
 
@@ -145,13 +166,13 @@ Progress-record format p q old mid new rs r told g long good merged =
       held = merged ∙ ap (λ x. merge x (view told)) g.held ∙ merge-both old (told_by format None rs) told
           ∙ ap (λ s. merge old (view s)) (sym (told_by-good format None 0 rs (r ∷ []) g.good ∙ ap (λ s. told_by format None rs ++ s) one));
       fresh = g.fresh;
-      in_range = g.in_range;
+      within = g.within;
     }
 
 pub absorbs-memory : (format : Format) (p q : Place) (old new : Facts) (rs : List (List ℕ)) (r : List ℕ) (told : Sightings) → Progress format p q old new rs r → length r ≡ record_size format
     → judged format (last_key format None rs) r ≡ Ok told → (taken : List ℕ) × AbsorbsAt (Err Memory) old new p q taken
 absorbs-memory format p q old new rs r told g long good =
-    let size = size-part format p q old new rs r g in let in_range = g.in_range in let more = bytes-more format rs r in
+    let size = size-part format p q old new rs r g in let in_range = g.within.0 in let more = bytes-more format rs r in
     let split : file format rs r ≡ file format rs [] ++ r = sym (append_assoc (magic format) (concat rs ++ []) r ∙ ap (λ l. magic format ++ l) (append_assoc (concat rs) [] r)) in
     let keeps : kept (file format rs []) ≡ told_by format None rs = kept-part format rs [] [] g.records (omega arith) (take_all (2 ^ 40 - bytes_of format (length rs)) [] (omega arith)) (size-positive format) in
     let faultless = ap (fault_in format) (sym (file-record format rs r)) ∙ fault_in-file format (rs ++ r ∷ []) (AreRecords-more (record_size format) rs r g.records long) (omega arith) (none-more format rs r told g.good good) in (
@@ -161,6 +182,8 @@ absorbs-memory format p q old new rs r told g long good =
         held = (format, file format rs [], r, record { magic = format_of-magic format (concat rs ++ r); split = split; size = long; good = faultless; held = g.held ∙ ap (λ s. merge old (view s)) (sym keeps) });
         answered = tt;
         decided = tt;
+        bytes = (bounds-progress format p q old new rs r g).bytes;
+        interrupted = (bounds-progress format p q old new rs r g).interrupted;
       },
     )
 
@@ -200,7 +223,7 @@ held-bad TooLong old new bytes bad h = absurd bad
 pub absorbs-bad : (format : Format) (p q : Place) (old new : Facts) (rs : List (List ℕ)) (r : List ℕ) (index : ℕ) (f : ℕ → FileFault) → Progress format p q old new rs r → length r ≡ record_size format
     → judged format (last_key format None rs) r ≡ Err f → length rs ≡ index → (taken : List ℕ) × AbsorbsAt (Err (f index)) old new p q taken
 absorbs-bad format p q old new rs r index f g long bad place =
-    let size = size-part format p q old new rs r g in let in_range = g.in_range in let more = bytes-more format rs r in
+    let size = size-part format p q old new rs r g in let in_range = g.within.0 in let more = bytes-more format rs r in
     let all = AreRecords-more (record_size format) rs r g.records long in
     let at : 0 + length rs ≡ index = omega arith in
     let found : first_fault format None 0 (rs ++ r ∷ []) ≡ Some (f index) =
@@ -216,6 +239,8 @@ absorbs-bad format p q old new rs r index f g long bad place =
         held = held-bad (f index) old new (file format rs r) is_bad (g.held ∙ ap (λ s. merge old (view s)) (sym keeps));
         answered = answers-bad (f index) (file format rs r) (2 ^ 40 + p.interruptions ≤ length (file format rs r) + q.interruptions) is_bad (ap outcome (sym (file-record format rs r)) ∙ outcome-bad format (rs ++ r ∷ []) [] (f index) all (omega arith) found);
         decided = decided-bad (f index) (file format rs r) (IsAtEnd q.left) is_bad;
+        bytes = (bounds-progress format p q old new rs r g).bytes;
+        interrupted = (bounds-progress format p q old new rs r g).interrupted;
       },
     )
 
@@ -235,25 +260,25 @@ EachCallTakes-trans p q r a b = let first = a.paid in let second = b.paid in rec
 
 -- the source failed, or the budget was spent
 pub absorbs-stopped : (format : Format) (p q r : Place) (old new : Facts) (rs : List (List ℕ)) (part : List ℕ) (e : FillFault) → Progress format p q old new rs [] → p.calls ≡ 0 → EachCallTakes p q
-    → length part < record_size format → Takes q r part → r.bytes ≤ 2 ^ 40
+    → length part < record_size format → Takes q r part → IsWithin r
     → (◌≡◌ {A = Result ℕ FillFault} (Err e) (Err fill.TooLong) → ((r.bytes ≡ 2 ^ 40) ⊎ (r.calls ≡ 2 ^ 40)) × EachCallTakes q r)
     → (taken : List ℕ) × AbsorbsAt (Err (file_fault_of e)) old new p r taken
-absorbs-stopped format p q r old new rs part fill.Read g none each short more in_range long =
-    absorbs-failed format p r old new rs part (Progress-more format p q r old new rs part g more in_range) short
-absorbs-stopped format p q r old new rs part fill.TooLong g none each short more in_range long =
+absorbs-stopped format p q r old new rs part fill.Read g none each short more within long =
+    absorbs-failed format p r old new rs part (Progress-more format p q r old new rs part g more within) short
+absorbs-stopped format p q r old new rs part fill.TooLong g none each short more within long =
     let spent = long refl in
-    absorbs-long format p r old new rs part (Progress-more format p q r old new rs part g more in_range) short spent.0 (EachCallTakes-trans p q r each spent.1) none
+    absorbs-long format p r old new rs part (Progress-more format p q r old new rs part g more within) short spent.0 (EachCallTakes-trans p q r each spent.1) none
 
 -- before the first record -----------------------------------------------------------------
 
-pub Progress-magic : (format : Format) (p q : Place) (store : Facts) (front : List ℕ) → p.bytes ≡ 0 → q.bytes ≤ 2 ^ 40 → Takes p q front → length front ≤ 8 → Some format ≡ format_of front → Progress format p q store store [] []
-Progress-magic format p q store front fresh in_range taken short found = record {
+pub Progress-magic : (format : Format) (p q : Place) (store : Facts) (front : List ℕ) → IsFresh p → IsWithin q → Takes p q front → length front ≤ 8 → Some format ≡ format_of front → Progress format p q store store [] []
+Progress-magic format p q store front fresh within taken short found = record {
   records = tt;
   good = refl;
   taken = let P : List ℕ → Type 0 = Takes p q in subst P (front-magic front format short (format_found front format found) ∙ sym (append-nil (magic format))) taken;
   held = sym (merge-nothing store);
   fresh = fresh;
-  in_range = in_range;
+  within = within;
 }
 
 kept-other : (taken : List ℕ) → format_of taken ≡ None → kept taken ≡ []
@@ -267,10 +292,10 @@ outcome-other taken h = ap (λ o. outcome_as o taken) h
 held-other : (store : Facts) (taken : List ℕ) → format_of taken ≡ None → store ≡ merge store (view (kept taken))
 held-other store taken other = sym (ap (λ s. merge store (view s)) (kept-other taken other) ∙ merge-nothing store)
 
-pub absorbs-other : (p q : Place) (store : Facts) (taken : List ℕ) → format_of taken ≡ None → Takes p q taken → (length taken < 8 → IsAtEnd q.left)
+pub absorbs-other : (p q : Place) (store : Facts) (taken : List ℕ) → format_of taken ≡ None → IsFresh p → IsWithin q → Takes p q taken → (length taken < 8 → IsAtEnd q.left)
     → (taken : List ℕ) × AbsorbsAt (Err Magic) store store p q taken
-absorbs-other p q store taken other takes end =
-    (taken, record { consumed = takes.consumed; held = held-other store taken other; answered = outcome-other taken other; decided = end })
+absorbs-other p q store taken other fresh within takes end =
+    let keeps = bounds p q taken fresh within takes in (taken, record { consumed = takes.consumed; held = held-other store taken other; answered = outcome-other taken other; decided = end; bytes = keeps.bytes; interrupted = keeps.interrupted })
 
 -- fewer bytes than a magic begin with none
 format-short : (part : List ℕ) → length part < 8 → format_of part ≡ None
@@ -282,12 +307,12 @@ format-short part short =
           absurd (omega arith)
     ] refl
 
-pub absorbs-unread : (p q : Place) (store : Facts) (part : List ℕ) (e : FillFault) → p.bytes ≡ 0 → p.calls ≡ 0 → length part < 8 → Takes p q part
+pub absorbs-unread : (p q : Place) (store : Facts) (part : List ℕ) (e : FillFault) → p.bytes ≡ 0 → p.calls ≡ 0 → IsWithin q → length part < 8 → Takes p q part
     → (◌≡◌ {A = Result ℕ FillFault} (Err e) (Err fill.TooLong) → ((q.bytes ≡ 2 ^ 40) ⊎ (q.calls ≡ 2 ^ 40)) × EachCallTakes p q)
     → (taken : List ℕ) × AbsorbsAt (Err (file_fault_of e)) store store p q taken
-absorbs-unread p q store part fill.Read fresh none short takes long =
-    (part, record { consumed = takes.consumed; held = held-other store part (format-short part short); answered = tt; decided = tt })
-absorbs-unread p q store part fill.TooLong fresh none short takes long =
+absorbs-unread p q store part fill.Read fresh none within short takes long =
+    let keeps = bounds p q part (fresh, none) within takes in (part, record { consumed = takes.consumed; held = held-other store part (format-short part short); answered = tt; decided = tt; bytes = keeps.bytes; interrupted = keeps.interrupted })
+absorbs-unread p q store part fill.TooLong fresh none within short takes long =
     let spent = long refl in let paid = spent.1.paid in let counted = takes.counted in (
       part,
       record {
@@ -295,6 +320,8 @@ absorbs-unread p q store part fill.TooLong fresh none short takes long =
         held = held-other store part (format-short part short);
         answered = inr (elim spent.0 [ inl bytes ↦ omega arith | inr calls ↦ omega arith ]);
         decided = tt;
+        bytes = (bounds p q part (fresh, none) within takes).bytes;
+        interrupted = (bounds p q part (fresh, none) within takes).interrupted;
       },
     )
 

@@ -42,3 +42,6 @@ pub record Absorbs (answer : Result (Unit {0}) FileFault) (old new : Facts) (lef
   pub held : HoldsKept answer old new taken
   pub answered : AnswersOutcome answer taken (2 ^ 40 + interruptions ≤ length taken + interruptions')
   pub decided : IsDecided answer taken (IsAtEnd left')
+  -- the bounds of one reading
+  pub bytes : length taken ≤ 2 ^ 40
+  pub interrupted : interruptions' ≤ 2 ^ 40 + interruptions

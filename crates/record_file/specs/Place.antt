@@ -17,10 +17,11 @@ pub record Place : Type 0 where
 abbrev pub place : Option (List ℕ) → ℕ → Budget → Place
 place left interruptions b = record { left = left; interruptions = interruptions; bytes = b.bytes; calls = b.calls }
 
--- these bytes were taken
+-- these bytes were taken, and no more calls were interrupted than made
 pub record Takes (old new : Place) (taken : List ℕ) : Type 0 where
   pub consumed : Consumes old.left new.left taken
   pub counted : new.bytes ≡ old.bytes + length taken
+  pub asked : new.interruptions + old.calls ≤ old.interruptions + new.calls
 
 -- each call took a byte or was interrupted
 pub record EachCallTakes (old new : Place) : Type 0 where

@@ -10,7 +10,7 @@ pub loop-filled-preserved-in-Ok : goal.loop-filled-preserved-in-Ok
 loop-filled-preserved-in-Ok g c = record {
   fits = omega (arith, c.in-Ok.ensures.within);
   room = omega arith;
-  taken = Takes-more _ _ _ _ _ _ c.loop-filled.invariant.taken c.in-Ok.ensures.bytes refl;
+  taken = Takes-more _ _ _ _ _ _ c.loop-filled.invariant.taken c.in-Ok.ensures.bytes refl (omega (arith, c.in-Ok.ensures.interrupted));
   each = EachCallTakes-more _ _ _ c.loop-filled.invariant.each refl (omega (arith, c.in-Ok.ensures.interrupted));
   failed = λ h. absurd (not_failed _ _ _ refl c.in-Ok.ensures.failed h);
   stays = λ h. c.read_behind.ensures.stays (c.loop-filled.invariant.stays h);
@@ -23,7 +23,7 @@ loop-filled-preserved g c =
     record {
       fits = omega arith;
       room = omega arith;
-      taken = Takes-kept _ _ _ _ _ c.loop-filled.invariant.taken c.in-Err-Interrupted.ensures.err c.in-Err-Interrupted.ensures.front refl;
+      taken = Takes-kept _ _ _ _ _ c.loop-filled.invariant.taken c.in-Err-Interrupted.ensures.err c.in-Err-Interrupted.ensures.front refl (omega (arith, interrupted));
       each = EachCallTakes-more _ _ _ c.loop-filled.invariant.each refl (omega (arith, interrupted));
       failed = λ h. absurd (not_failed_yet _ _ (ap Err c.in-Err-Interrupted.field-0-is) c.in-Err-Interrupted.ensures.failed h);
       stays = λ h. c.read_behind.ensures.stays (c.loop-filled.invariant.stays h);
