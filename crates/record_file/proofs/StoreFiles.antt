@@ -155,7 +155,7 @@ flat : (es : Sightings) → flat_map record_bytes es ≡ concat (map record_byte
 flat [] = refl
 flat (e ∷ es) = ap (λ l. record_bytes e ++ l) (flat es)
 
-in_range_sightings : (facts : Facts) → AreInRange facts → AllSightings (entries facts)
+pub in_range_sightings : (facts : Facts) → AreInRange facts → AllSightings (entries facts)
 in_range_sightings facts h = all_sightings (entries facts) (λ e there. h e.0 e.1 (contained_get facts e.0 e.1 there))
 
 facts_spelled : (facts : Facts) → AreInRange facts → Spelled None 0 (entries facts)
@@ -186,20 +186,25 @@ read_back bytes facts is =
     ∙ ap (told_by Cells None) rs ∙ (facts_spelled facts is.in_range).told in
     (ok.1, keeps, ap view keeps ∙ view_of_its_cells facts)
 
+-- the facts whose entries these are
+pub facts_with : (es : Sightings) → Rise None es → AllSightings es → (facts : Facts) × (entries facts ≡ es) × AreInRange facts
+facts_with es rise sightings =
+    let facts : Facts = from_sorted es in
+    let same : entries facts ≡ es = entries-from_sorted key_cmp es (rising_sorted es rise) in
+    let P : Sightings → Type 0 = AllSightings in
+    let all = subst P (sym same) sightings in
+    (facts, same, λ key c there. sighting_there (entries facts) all (key, c) (get_contained facts key c there))
+
 pub store_files_are_accepted : StoreFilesAreAccepted
 store_files_are_accepted bytes = (
   (λ ok.
       let is = (accepted_is_file Cells bytes ok.0 ok.1).1 in
       let found = good_spells None 0 (records 32 (drop 8 bytes)) is.good in
-      let es = found.0 in
-      let facts : Facts = from_sorted es in
-      let same : entries facts ≡ es = entries-from_sorted key_cmp es (rising_sorted es found.1.rise) in
-      let P : Sightings → Type 0 = AllSightings in
-      let all = subst P (sym same) found.1.sightings in (
-        facts,
+      let facts = facts_with found.0 found.1.rise found.1.sightings in (
+        facts.0,
         record {
-          whole = is.whole ∙ ap (λ rs. magic Cells ++ concat rs) (found.1.records ∙ ap (map record_bytes) (sym same)) ∙ sym (whole_file facts);
-          in_range = λ key c there. sighting_there (entries facts) all (key, c) (get_contained facts key c there);
+          whole = is.whole ∙ ap (λ rs. magic Cells ++ concat rs) (found.1.records ∙ ap (map record_bytes) (sym facts.1)) ∙ sym (whole_file facts.0);
+          in_range = facts.2;
           short = is.short;
         },
       )),

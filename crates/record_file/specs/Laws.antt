@@ -23,12 +23,22 @@ BadRecordStays = (bytes rest : List ℕ) (f : FileFault) → IsBadRecord f → o
 abbrev pub IsGoodReport : List ℕ → Type 0
 IsGoodReport r = (length r ≡ 272) × IsOk (report_judged r)
 
--- the magic and these good reports, in fewer than 2^40 bytes
+-- the file of these records
+abbrev pub report_file : List (List ℕ) → List ℕ
+report_file rs = magic Reports ++ concat rs
+
+-- the file of these good reports, in fewer than 2^40 bytes
 pub record IsReportFile (bytes : List ℕ) (rs : List (List ℕ)) : Type 0 where
-  pub whole : bytes ≡ magic Reports ++ concat rs
+  pub whole : bytes ≡ report_file rs
   pub each : AllByRecursion IsGoodReport rs
   pub short : length bytes < 2 ^ 40
 
 -- a file of reports is accepted exactly where it is that
 abbrev pub ReportFilesAreAccepted : Type 0
 ReportFilesAreAccepted = (bytes : List ℕ) → ((format_of bytes ≡ Some Reports) × (outcome bytes ≡ Ok tt)) ↔ ((rs : List (List ℕ)) × IsReportFile bytes rs)
+
+-- both of these are accepted, and keep together what the whole file keeps
+pub record AreParts (whole front back : List ℕ) : Type 0 where
+  pub front_accepted : outcome front ≡ Ok tt
+  pub back_accepted : outcome back ≡ Ok tt
+  pub together : kept whole ≡ kept front ++ kept back

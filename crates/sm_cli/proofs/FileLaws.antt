@@ -1,15 +1,17 @@
 -- A joined file stands for the files that it was made of, and the parts of a split one for the whole.
-use Rattle.std.proofs.Common.{◌++◌, ap, sym, ◌∙◌, append_assoc}
+use Rattle.std.proofs.Common.{ℕ, List, ◌++◌, ap, sym, ◌∙◌, append_assoc}
 use Rattle.std.proofs.lemmas.List.Concat.{flat_map-append}
 use Rattle.std.specs.List.{flat_map}
 use Rattle.fact_store.specs.View.{view}
 use Rattle.fact_store.specs.Merge.{merge}
 use Rattle.fact_store.proofs.Views.{view_of_both}
+use Rattle.record_file.specs.Laws.{AreParts}
 use Rattle.record_file.specs.RecordFile.{kept}
-use Rattle.record_file.proofs.SplitFiles.{kept-split}
+use Rattle.sm_cli.specs.declared.run.Command.{Command}
+use Rattle.record_file.proofs.SplitFiles.{split_reports, split_store}
 use Rattle.record_file.proofs.StoreFiles.{read_back}
 use Rattle.sm_cli.specs.Run.{answer_to, facts_of}
-use Rattle.sm_cli.specs.RunLaws.{JoinedFileStands, SplitFileStands}
+use Rattle.sm_cli.specs.RunLaws.{JoinedFileStands, SplitFileStands, SplitStoreStands, StandFor}
 
 pub joined_file_stands : JoinedFileStands
 joined_file_stands command files others joined is =
@@ -21,7 +23,15 @@ joined_file_stands command files others joined is =
           ∙ ap view (sym (flat_map-append kept files others))),
     )
 
+stand_for : (command : Command) (whole front back : List ℕ) (others : List (List ℕ)) → AreParts whole front back → StandFor command whole front back others
+stand_for command whole front back others parts = record {
+  front_accepted = parts.front_accepted;
+  back_accepted = parts.back_accepted;
+  same = ap (λ told. answer_to command (view (told ++ flat_map kept others))) parts.together ∙ ap (λ told. answer_to command (view told)) (append_assoc (kept front) (kept back) (flat_map kept others));
+}
+
 pub split_file_stands : SplitFileStands
-split_file_stands command whole front back first second others w f b =
-    ap (λ told. answer_to command (view (told ++ flat_map kept others))) (kept-split whole front back first second w f b)
-    ∙ ap (λ told. answer_to command (view told)) (append_assoc (kept front) (kept back) (flat_map kept others))
+split_file_stands command whole front back first second others w f b = stand_for command whole front back others (split_reports whole front back first second w f b)
+
+pub split_store_stands : SplitStoreStands
+split_store_stands command whole front back facts first second others w split f b = stand_for command whole front back others (split_store whole front back facts first second w split f b)

@@ -1,10 +1,10 @@
 -- What a run over files reads, file after file.
-use Rattle.std.proofs.Common.{◌≡◌, ℕ, zero, suc, ◌+◌, ◌<◌, ◌≤◌, List, [], ◌∷◌, ◌++◌, refl, sym, ap, ◌∙◌, arith, true, false, Option, None, Some, Ok, length, take, append-nil, append_assoc, add-one}
+use Rattle.std.proofs.Common.{◌≡◌, ℕ, zero, suc, ◌+◌, ◌<◌, ◌≤◌, List, [], ◌∷◌, ◌++◌, refl, sym, ap, ◌∙◌, arith, true, false, Bool, Option, None, Some, Result, Ok, Err, IsTrue, ◌↔◌, subst, length, take, append-nil, append_assoc, add-one}
 use Rattle.std.proofs.Math.ListN.{set, length-set}
 use Rattle.std.proofs.lemmas.Bool.{ltb-true, ltb-false}
 use Rattle.std.proofs.lemmas.List.{get_or-set_same, take_all}
 use Rattle.std.proofs.lemmas.Option.{slice_get-get_or}
-use Rattle.std.specs.Prelude.{nat_lt, IfSome, slice_get, option_map, option_and_then}
+use Rattle.std.specs.Prelude.{nat_lt, IfSome, IsErr, OnOk, slice_get, option_map, option_and_then}
 use Rattle.std.specs.List.{flat_map}
 use Rattle.std.specs.FinMap.{empty}
 use Rattle.fact_store.specs.View.{Facts, view}
@@ -13,7 +13,7 @@ use Rattle.fact_store.proofs.Merges.{merge_empty}
 use Rattle.fact_store.proofs.Views.{view_of_both}
 use Rattle.record_file.specs.Absorbing.{Absorbs}
 use Rattle.record_file.specs.RecordFile.{kept, outcome}
-use Rattle.sm_cli.specs.Run.{files_of, AreAccepted, AreAcceptedBelow, IsAcceptedAt, facts_of}
+use Rattle.sm_cli.specs.Run.{files_of, AreAccepted, AreAcceptedBelow, EachBelow, IsAcceptedAt, facts_of}
 
 -- one file, absorbed into an empty store that is then merged into another
 pub absorbed : (u : Unit {0}) (old new all sum : Facts) (left left' : Option (List ℕ)) (n m : ℕ) (taken : List ℕ) → old ≡ empty → Absorbs (Ok u) old new left left' n m taken → sum ≡ merge all new → IfSome left (λ file. (outcome file ≡ Ok tt) × (sum ≡ merge all (view (kept file))))
@@ -87,3 +87,51 @@ elsewhere [] place after k h = refl
 elsewhere (x ∷ sources) zero after (suc k) h = refl
 elsewhere (x ∷ sources) (suc place) after (suc k) h = elsewhere sources place after k (omega arith)
 elsewhere (x ∷ sources) place after zero h = absurd (omega arith)
+
+pub earlier : {S : Type 0} (sources : List S) (place : ℕ) (after : S) (k : ℕ) → k < place → slice_get (set sources place after) k ≡ slice_get sources k
+earlier [] place after k h = refl
+earlier (x ∷ sources) zero after k h = absurd (omega arith)
+earlier (x ∷ sources) (suc place) after zero h = refl
+earlier (x ∷ sources) (suc place) after (suc k) h = earlier sources place after k (omega arith)
+
+-- what holds of the sources before a place, and of what is left of the one there, holds of one source more
+pub one_more : {S : Type 0} (P : S → Type 0) (sources : List S) (place : ℕ) (after : S) → place < length sources → EachBelow place sources P → P after → EachBelow (place + 1) (set sources place after) P
+one_more {S} P sources place after within before here k s below there =
+    elim (nat_lt k place) as (λ t. nat_lt k place ≡ t → P s) [
+      | true ↦ λ p. let low = ltb-true _ _ p in before k s low (sym (earlier sources place after k low) ∙ there)
+      | false ↦ λ p.
+          let low = ltb-false _ _ p in
+          let same : k ≡ place = omega arith in
+          let found : Some after ≡ Some s = sym (there_after sources place after within) ∙ ap (slice_get (set sources place after)) (sym same) ∙ there in
+          let is : after ≡ s = cc in
+          subst P is here
+    ] refl
+
+-- the same where the sources stay
+pub one_more_there : {S : Type 0} (P : S → Type 0) (sources : List S) (place : ℕ) (x : S) → slice_get sources place ≡ Some x → EachBelow place sources P → P x → EachBelow (place + 1) sources P
+one_more_there {S} P sources place x is before here k s below there =
+    elim (nat_lt k place) as (λ t. nat_lt k place ≡ t → P s) [
+      | true ↦ λ p. before k s (ltb-true _ _ p) there
+      | false ↦ λ p.
+          let low = ltb-false _ _ p in
+          let same : k ≡ place = omega arith in
+          let found : Some x ≡ Some s = sym is ∙ ap (slice_get sources) (sym same) ∙ there in
+          let one : x ≡ s = cc in
+          subst P one here
+    ] refl
+
+-- a source that was read to its end has not failed
+pub working : {E : Type 0} (failed : Bool) (u : Unit {0}) (e : E) → (◌≡◌ {A = Result (Unit {0}) E} (Ok u) (Err e) ↔ IsTrue failed) → failed ≡ false
+working false u e h = refl
+working {E} true u e h = let p : ◌≡◌ {A = Result (Unit {0}) E} (Ok u) (Err e) = h.1 refl in absurd (cc)
+
+-- nor has a sink that took all
+pub fine : {E : Type 0} (r : Result (Unit {0}) E) (failed : Bool) → (IsErr r ↔ IsTrue failed) → OnOk r (failed ≡ false)
+fine (Ok u) false h = refl
+fine (Ok u) true h = let p = h.1 refl in absurd (cc)
+fine (Err e) failed h = tt
+
+-- a file that was taken in is accepted
+pub accepts : (o : Option (List ℕ)) (P : List ℕ → Type 0) → IfSome o (λ file. (outcome file ≡ Ok tt) × P file) → IfSome o (λ file. outcome file ≡ Ok tt)
+accepts None P h = tt
+accepts (Some file) P h = h.0

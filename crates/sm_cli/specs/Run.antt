@@ -1,5 +1,5 @@
 -- What a run over files does: it reads all of them, and writes what they say together, or says which one it refuses.
-use Rattle.std.specs.Prelude.{◌≡◌, ◌↔◌, ℕ, ◌+◌, ◌<◌, ◌≤◌, ◌^◌, Bool, List, [], ◌∷◌, Option, Some, Ok, Err, IsTrue, IfSome, length, option_map, option_and_then, slice_get}
+use Rattle.std.specs.Prelude.{◌≡◌, ◌↔◌, ℕ, ◌+◌, ◌<◌, ◌≤◌, ◌^◌, Bool, false, List, [], ◌∷◌, Option, Some, Ok, Err, IsTrue, IfSome, length, option_map, option_and_then, slice_get}
 use Rattle.std.specs.List.{flat_map}
 use Rattle.std.specs.FinMap.{entries}
 use Rattle.fact_store.specs.View.{Facts, view}
@@ -37,6 +37,10 @@ abbrev pub answer_to : Command → Facts → List ℕ
 answer_to command.Facts facts = facts_text (entries facts)
 answer_to command.Join facts = store_bytes (entries facts)
 
+-- each of the sources before a place
+abbrev pub EachBelow : {S : Type 0} → ℕ → List S → (S → Type 0) → Type 0
+EachBelow {S} n sources P = (k : ℕ) (s : S) → k < n → slice_get sources k ≡ Some s → P s
+
 -- the first file that is refused stands at this place, and that is its fault: the one that reading its bytes gives, unless
 -- the source failed, memory ran out, or too many calls were interrupted
 pub record IsRefused {S : Type 0} (left : S → Option (List ℕ)) (has_failed : S → Bool) (interruptions : S → ℕ) (old new : List S) (place : ℕ) (fault : FileFault) : Type 0 where
@@ -46,5 +50,7 @@ pub record IsRefused {S : Type 0} (left : S → Option (List ℕ)) (has_failed :
   pub there_after : slice_get new place ≡ Some after
   -- a read failed
   pub read : (fault ≡ Read) ↔ IsTrue (has_failed after)
-  pub earlier : (files : List (List ℕ)) → files_of left old ≡ Some files → AreAcceptedBelow files place
+  -- no read of an earlier one failed, and its bytes, where they are known, are accepted
+  pub working : EachBelow place new (λ s. has_failed s ≡ false)
+  pub earlier : EachBelow place old (λ s. IfSome (left s) (λ file. outcome file ≡ Ok tt))
   pub answered : IfSome (left source) (λ file. IfSome (left after) (λ rest. AnswersOutcome (Err fault) file (2 ^ 40 + interruptions source + length rest ≤ length file + interruptions after)))

@@ -1,9 +1,14 @@
 -- What the answer of a run depends on.
 use Rattle.std.specs.Prelude.{◌≡◌, ℕ, List, ◌∷◌, ◌++◌, Ok, Contains}
 use Rattle.std.specs.List.{flat_map}
-use Rattle.fact_store.specs.View.{HaveSameMembers}
-use Rattle.record_file.specs.Laws.{IsReportFile}
+use Rattle.std.specs.FinMap.{entries}
+use Rattle.fact_join.specs.declared.cell.Cell.{Cell}
+use Rattle.fact_store.specs.declared.key.Key.{Key}
+use Rattle.fact_store.specs.declared.value.Value.{Value}
+use Rattle.fact_store.specs.View.{Facts, HaveSameMembers}
+use Rattle.record_file.specs.Laws.{IsReportFile, report_file}
 use Rattle.record_file.specs.RecordFile.{kept, outcome}
+use Rattle.record_file.specs.StoreFile.{store_bytes}
 use Rattle.record_file.specs.StoreLaws.{IsStoreFile}
 use Rattle.sm_cli.specs.declared.run.Command.{Command}
 use Rattle.sm_cli.specs.Run.{answer_to, facts_of}
@@ -25,6 +30,16 @@ FilesDecideAnswer = (command : Command) (files others : List (List ℕ)) → Are
 abbrev pub JoinedFileStands : Type 0
 JoinedFileStands = (command : Command) (files others : List (List ℕ)) (joined : List ℕ) → IsStoreFile joined (facts_of files) → (outcome joined ≡ Ok tt) × (answer_to command (facts_of (joined ∷ others)) ≡ answer_to command (facts_of (files ++ others)))
 
--- a report file may be split between its records
+-- two files are accepted, and stand for a whole one, alone or among others
+pub record StandFor (command : Command) (whole front back : List ℕ) (others : List (List ℕ)) : Type 0 where
+  pub front_accepted : outcome front ≡ Ok tt
+  pub back_accepted : outcome back ≡ Ok tt
+  pub same : answer_to command (facts_of (whole ∷ others)) ≡ answer_to command (facts_of (front ∷ back ∷ others))
+
+-- so do the parts of a report file that is split between its records
 abbrev pub SplitFileStands : Type 0
-SplitFileStands = (command : Command) (whole front back : List ℕ) (first second : List (List ℕ)) (others : List (List ℕ)) → IsReportFile whole (first ++ second) → IsReportFile front first → IsReportFile back second → answer_to command (facts_of (whole ∷ others)) ≡ answer_to command (facts_of (front ∷ back ∷ others))
+SplitFileStands = (command : Command) (whole front back : List ℕ) (first second : List (List ℕ)) (others : List (List ℕ)) → IsReportFile whole (first ++ second) → front ≡ report_file first → back ≡ report_file second → StandFor command whole front back others
+
+-- and the parts of a store file
+abbrev pub SplitStoreStands : Type 0
+SplitStoreStands = (command : Command) (whole front back : List ℕ) (facts : Facts) (first second : List (Key × Cell Value)) (others : List (List ℕ)) → IsStoreFile whole facts → entries facts ≡ first ++ second → front ≡ store_bytes first → back ≡ store_bytes second → StandFor command whole front back others

@@ -2,6 +2,7 @@
 ghost use Rattle.std.specs.Prelude.{◌≡◌, ◌↔◌, IsErr, IsTrue, OnOk};
 ghost use Rattle.std.specs.FinMap.{entries};
 ghost use Rattle.std.specs.Io.KnownBytes.{Appends};
+ghost use Rattle.fact_store.specs.Sighting.{AreInRange};
 ghost use Rattle.sm_cli.specs.FactsText.{key_text, value_text, cell_text, line_text, facts_text};
 
 use crate::words::{write_guid, write_number, write_port};
@@ -96,6 +97,7 @@ pub fn write_cell<W: Sink>(cell: &Sighting, sink: &mut W) -> Result<(), WriteFai
 pub fn write_facts<W: Sink>(store: &Store, sink: &mut W) -> Result<(), WriteFailed>
     ensures ok { OnOk result
         (Appends (W.written sink.old) (W.written sink.new) (facts_text (entries store.now))) }
+    ensures in_range { OnOk result (AreInRange store.now) }
     ensures failed { IsErr result ↔ IsTrue (W.has_failed sink.new) }
 {
     for i in 0..store.count() {

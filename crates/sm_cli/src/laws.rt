@@ -1,5 +1,5 @@
 //! What the answer of a run depends on.
-ghost use Rattle.sm_cli.specs.RunLaws.{FilesDecideAnswer, JoinedFileStands, SightingsDecideAnswer, SplitFileStands};
+ghost use Rattle.sm_cli.specs.RunLaws.{FilesDecideAnswer, JoinedFileStands, SightingsDecideAnswer, SplitFileStands, SplitStoreStands};
 
 /// Files that keep the same sightings, in whatever order and however often, give equal answers.
 pub fn sightings_decide_answer()
@@ -16,7 +16,13 @@ pub fn joined_file_stands()
     ensures { JoinedFileStands }
 {}
 
-/// A report file that is split between its records gives the same answer, alone or among other files.
+/// A report file may be split between its records: the parts are accepted, and give the same answer, alone or among
+/// other files.
 pub fn split_file_stands()
     ensures { SplitFileStands }
+{}
+
+/// So may a store file.
+pub fn split_store_stands()
+    ensures { SplitStoreStands }
 {}

@@ -1,12 +1,13 @@
-ghost use Rattle.std.specs.Prelude.{◌≡◌, ◌≤◌, ◌+◌, ◌^◌, ◌↔◌, ◌⊎◌, ℕ, List, Some, Ok, Err, OnOk, OnErr, IfOk, IfSome, IsErr, IsTrue, length};
+ghost use Rattle.std.specs.Prelude.{◌≡◌, ◌≤◌, ◌+◌, ◌^◌, ◌↔◌, ◌⊎◌, ℕ, List, Some, Ok, Err, false, OnOk, OnErr, IfOk, IfSome, IsErr, IsTrue, length};
 ghost use Rattle.std.specs.Io.KnownBytes.{Appends};
+ghost use Rattle.fact_store.specs.Sighting.{AreInRange};
 ghost use Rattle.fact_store.specs.View.{view};
 ghost use Rattle.fact_store.specs.Merge.{merge};
 ghost use Rattle.record_file.specs.Absorbing.{AnswersOutcome};
 ghost use Rattle.record_file.specs.RecordFile.{kept, outcome};
 ghost use Rattle.record_file.specs.declared.file_fault.FileFault.{FileFault as FaultOfFile};
 ghost use Rattle.record_file.specs.declared.file_fault.FileFault.TheVariants.{Read};
-ghost use Rattle.sm_cli.specs.Run.{AreAccepted, IsRefused, answer_to, facts_of, files_of};
+ghost use Rattle.sm_cli.specs.Run.{AreAccepted, EachBelow, IsRefused, answer_to, facts_of, files_of};
 
 use crate::facts_text::write_facts;
 use crate::fault::Fault;
@@ -32,7 +33,9 @@ pub fn run_files<S: Source, W: Sink>(
     sink: &mut W,
 ) -> Result<(), Fault>
     ensures done { OnOk result ((files : List (List ℕ)) → files_of S.left sources.old.items ≡ Some files →
-        AreAccepted files × Appends (W.written sink.old) (W.written sink.new) (answer_to command (facts_of files))) }
+        AreAccepted files × AreInRange (facts_of files) × Appends (W.written sink.old) (W.written sink.new) (answer_to command (facts_of files))) }
+    ensures sources_work { OnOk result (EachBelow (length sources.new.items) sources.new.items (λ s. S.has_failed s ≡ false)) }
+    ensures sink_works { OnOk result (W.has_failed sink.new ≡ false) }
     ensures refused { (place : ℕ) (fault : FaultOfFile) → result ≡ Err (Fault.File place fault) →
         IsRefused S.left S.has_failed S.interruptions sources.old.items sources.new.items place fault }
     ensures nothing_written { OnErr result ((result ≡ Err Fault.Write) ⊎ (sink.new ≡ sink.old)) }
@@ -49,6 +52,7 @@ pub fn run_files<S: Source, W: Sink>(
 /// Writes what a command asks for of the facts that a store holds.
 fn write_answer<W: Sink>(command: Command, store: &Store, sink: &mut W) -> Result<(), WriteFailed>
     ensures ok { OnOk result (Appends (W.written sink.old) (W.written sink.new) (answer_to command store.now)) }
+    ensures in_range { OnOk result (AreInRange store.now) }
     ensures failed { IsErr result ↔ IsTrue (W.has_failed sink.new) }
 {
     match command {
@@ -61,6 +65,7 @@ fn write_answer<W: Sink>(command: Command, store: &Store, sink: &mut W) -> Resul
 fn take_in_all<S: Source>(alloc: Global, sources: &mut Vec<S>) -> Result<Store, Fault>
     ensures ok { IfOk result (λ store. (files : List (List ℕ)) → files_of S.left sources.old.items ≡ Some files →
         AreAccepted files × (store ≡ facts_of files)) }
+    ensures work { OnOk result (EachBelow (length sources.new.items) sources.new.items (λ s. S.has_failed s ≡ false)) }
     ensures refused { (place : ℕ) (fault : FaultOfFile) → result ≡ Err (Fault.File place fault) →
         IsRefused S.left S.has_failed S.interruptions sources.old.items sources.new.items place fault }
     ensures no_write { result ≡ Err Fault.Write → ⊥ }
@@ -80,6 +85,7 @@ fn take_in<S: Source>(
     all: &mut Store,
 ) -> Result<(), Fault>
     ensures ok { OnOk result (IfSome (S.left source.old) (λ file. (outcome file ≡ Ok tt) × (all.new ≡ merge all.old (view (kept file))))) }
+    ensures works { OnOk result (S.has_failed source.new ≡ false) }
     ensures read { (fault : FaultOfFile) (at : ℕ) → result ≡ Err (Fault.File at fault) → (at ≡ place)
         × ((fault ≡ Read) ↔ IsTrue (S.has_failed source.new)) }
     ensures answered { (fault : FaultOfFile) (at : ℕ) → result ≡ Err (Fault.File at fault) → IfSome (S.left source.old) (λ file. IfSome (S.left source.new)
