@@ -1,6 +1,6 @@
 -- A report as 272 bytes: generation, context, port, two zero bytes, GUID and the reply's 256 bytes.
-use Rattle.std.specs.Prelude.{ℕ, List, ◌∷◌, ◌++◌, Option, None, Some, Result, Ok, Err, ◌==◌, ◌&&◌, take, drop, slice_index, option_map, if◌then◌else◌}
-use Rattle.std.specs.Int.{to_be_bytes, from_be_bytes, w32, w64}
+use Rattle.std.specs.Prelude.{ℕ, List, Option, None, Some, Result, Ok, Err, ◌==◌, ◌&&◌, take, drop, slice_index, option_map, if◌then◌else◌}
+use Rattle.std.specs.Int.{from_be_bytes, w32, w64}
 use Rattle.fact_join.specs.declared.cell.Cell.{Cell}
 use Rattle.fact_store.specs.declared.key.Key.{Key}
 use Rattle.fact_store.specs.declared.value.Value.{Value}
@@ -10,27 +10,6 @@ use Rattle.fact_store.specs.declared.report.Report.{Report}
 use Rattle.fact_store.specs.declared.report_fault.ReportFault.{ReportFault}
 use Rattle.fact_store.specs.declared.report_fault.ReportFault.TheVariants as fault
 use Rattle.fact_store.specs.Report.{report_fault, sightings_of}
-
-abbrev pub context_byte : Context → ℕ
-context_byte Start = 0
-context_byte (Via node port) = 1
-context_byte (About node) = 2
-
--- the port that a path leads out of last, or 0
-abbrev pub context_port : Context → ℕ
-context_port Start = 0
-context_port (Via node port) = port
-context_port (About node) = 0
-
--- the node that a context names, or 0
-abbrev pub context_guid : Context → ℕ
-context_guid Start = 0
-context_guid (Via node port) = node
-context_guid (About node) = node
-
--- the spelling of a report
-abbrev pub report_bytes : Report → List ℕ
-report_bytes r = to_be_bytes w32 r.generation ++ context_byte r.context ∷ context_port r.context ∷ 0 ∷ 0 ∷ (to_be_bytes w64 (context_guid r.context) ++ r.bytes)
 
 -- the context with this byte, port and GUID
 abbrev pub context_of : ℕ → ℕ → ℕ → Option Context

@@ -2,15 +2,19 @@ ghost use Rattle.std.specs.Prelude.{◌≡◌};
 
 use crate::status::Status;
 use record_file::FileFault;
+use thiserror::Error;
 
 /// Why a run ended early.
-#[derive(Clone, Copy, Debug, PartialEq, Eq)]
+#[derive(Clone, Copy, Debug, PartialEq, Eq, Error)]
 pub enum Fault {
     /// What is wrong with the file at this place among those that were named, counted from 0.
+    #[error("{fault}")]
     File { place: usize, fault: FileFault },
     /// The output took no more.
+    #[error("write failed")]
     Write,
     /// A growth was refused.
+    #[error("out of memory")]
     Memory,
 }
 
