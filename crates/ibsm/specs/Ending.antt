@@ -25,11 +25,13 @@ pub record SaysFault (names : List (Bor (List ℕ))) (status : Status) (line : L
   pub ends : status ≡ status_of fault
   pub says : line ≡ program_line (fault_text (name_of names fault) fault)
 
--- the line that says that a file cannot be opened
-pub record SaysCannotOpen (status : Status) (line : List ℕ) : Type 0 where
-  pub name : List ℕ
+-- the line that says that one of the files with these names cannot be opened
+pub record SaysCannotOpen (names : List (Bor (List ℕ))) (status : Status) (line : List ℕ) : Type 0 where
+  pub place : ℕ
+  pub name : Bor (List ℕ)
+  pub named : slice_get names place ≡ Some name
   pub ends : status ≡ InputOutput
-  pub says : line ≡ program_line (named_text name (codes "cannot open"))
+  pub says : line ≡ program_line (named_text name.now (codes "cannot open"))
 
 abbrev pub SaysWhy : List (Bor (List ℕ)) → Status → List ℕ → Type 0
-SaysWhy names status line = SaysFault names status line ⊎ SaysCannotOpen status line
+SaysWhy names status line = SaysFault names status line ⊎ SaysCannotOpen names status line

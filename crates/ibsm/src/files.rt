@@ -23,7 +23,8 @@ where
     R: Files + AllocGlobal,
     O: Write,
     E: Write,
-    ensures nothing_written { IfOk result (λ status. (status ≡ Status.Done) ⊎ IsTrue (⟦<ToWrite<O> as Sink>⟧.has_failed output.new) ⊎ (output.new ≡ output.old)) }
+    ensures nothing_written { IfOk result (λ status. (status ≡ Status.Done)
+        ⊎ ((status ≡ Status.InputOutput) × IsTrue (⟦<ToWrite<O> as Sink>⟧.has_failed output.new)) ⊎ (output.new ≡ output.old)) }
     ensures silent { result ≡ Ok Status.Done → errors.new ≡ errors.old }
     ensures says_why { IfOk result (λ status. (status ≡ Status.Done) ⊎ IsTrue (⟦<ToWrite<E> as Sink>⟧.has_failed errors.new)
         ⊎ ((line : List ℕ) × SaysWhy names.now status line × Appends (⟦<ToWrite<E> as Sink>⟧.written errors.old) (⟦<ToWrite<E> as Sink>⟧.written errors.new) line)) }

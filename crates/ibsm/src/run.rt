@@ -1,8 +1,12 @@
 //! One run of the program.
+ghost use Rattle.std.specs.Prelude.{◌≡◌, Some, IfSome};
+ghost use Rattle.clap.specs.Words.{subcommand_name_of};
+ghost use Rattle.ibsm.specs.Asked.{word_of};
+
 use crate::arguments::{FACTS, FILE, JOIN, command_line};
 use crate::files::answer;
-use clap::Error;
 use clap::error::ErrorKind;
+use clap::{ArgMatches, Error};
 use record_file::ToWrite;
 use sm_cli::{Command, Fault, Status, write_fault};
 use std::alloc::AllocError;
@@ -48,20 +52,30 @@ where
         Ok(matches) => matches,
         Err(error) => return explain(rt, &error, errors),
     };
-    for (name, command) in [(FACTS, Command::Facts), (JOIN, Command::Join)] {
-        if let Some(names) = matches
-            .subcommand_matches(name)
-            .and_then(|words| words.get_strs(FILE))
-        {
+    match asked(&matches) {
+        Some((command, names)) => {
             let writer = BufWriter::new(rt.alloc(), output).map_err(|_| AllocError)?;
-            return answer(rt, command, names, &mut ToWrite::new(writer), errors);
+            answer(rt, command, names, &mut ToWrite::new(writer), errors)
         }
+        None => Ok(Status::Usage),
     }
-    Ok(Status::Usage)
+}
+
+/// The command that the words of the command line ask for, and the names of its files.
+pub(crate) fn asked<'m, 'a>(matches: &'m ArgMatches<'a>) -> Option<(Command, &'m [&'a str])>
+    ensures { IfSome result (λ asked. subcommand_name_of matches.now ≡ Some (word_of asked.0)) }
+{
+    let (name, words) = matches.subcommand()?;
+    let command = match name {
+        FACTS => Command::Facts,
+        JOIN => Command::Join,
+        _ => return None,
+    };
+    Some((command, words.get_strs(FILE)?))
 }
 
 /// Prints help on standard output, and what is wrong with the command line on standard error.
-fn explain<R: Print + Eprint, E: Write>(
+pub(crate) fn explain<R: Print + Eprint, E: Write>(
     rt: &R,
     error: &Error,
     errors: &mut ToWrite<E>,

@@ -1,4 +1,5 @@
-use Rattle.std.proofs.Common.{ap, inl, inr, refl}
+use Rattle.std.proofs.Common.{ap, get_or, rules, inl, inr, refl}
+use Rattle.std.proofs.lemmas.Option.{slice_get-get_or}
 use Rattle.sm_cli.specs.FaultText.{fault_text, program_line}
 use Rattle.ibsm.proofs.Said.{said}
 use Rattle.ibsm.proofs.files.answer.Goals as goal
@@ -6,7 +7,7 @@ use Rattle.ibsm.proofs.files.answer.Goals as goal
 pub returns-in-Err-2-clause-says_why : goal.returns-in-Err-2-clause-says_why
 returns-in-Err-2-clause-says_why g c =
     said _ _ _ _ _ _ c.write_cannot_open.result c.write_cannot_open.ensures.ok c.write_cannot_open.ensures.failed (ap (λ e. g.E.Write.contents e.writer) c.loop-name.invariant.1)
-    (inr (record { name = _; ends = refl; says = refl }))
+    (inr (record { place = c.loop-name.name-index; name = get_or c.args.names.now c.loop-name.name-index _; named = slice_get-get_or c.args.names.now c.loop-name.name-index _ (search rules); ends = refl; says = refl }))
 
 pub returns-clause-says_why : goal.returns-clause-says_why
 returns-clause-says_why g c =
