@@ -3,6 +3,7 @@ use super::*;
 use fact_store::{Context, Report};
 use record_file::{FileFault, FromBytes, ToRoom};
 use std::alloc::{AllocError, Global};
+use std::process::Abort;
 use std::test::Fail;
 
 mod devices;
@@ -70,6 +71,24 @@ fn run_command(
     let mut sink = ToRoom::new(alloc, 4096)?;
     let outcome = run_files(alloc, &mut sources, command, &mut sink);
     Ok((outcome, sink))
+}
+
+/// The line that is said of files that are refused, and the exit status: `facts` and `join` end alike over them, and write
+/// nothing. The first file is named FILE, any other OTHER.
+fn refusal(rt: &impl Abort, alloc: Global, files: &[&[u8]]) -> Result<(ToRoom, u8), Fail> {
+    let (outcome, facts) = run(alloc, files)?;
+    let (joined, store) = run_command(alloc, Command::Join, files)?;
+    assert_eq!(rt; joined, outcome);
+    assert_eq!(rt; facts.bytes(), b"".as_slice());
+    assert_eq!(rt; store.bytes(), b"".as_slice());
+    let fault = outcome.err().ok_or("accepted")?;
+    let name = match fault {
+        Fault::File { place: 0, .. } => "FILE",
+        _ => "OTHER",
+    };
+    let mut line = ToRoom::new(alloc, 64)?;
+    write_fault(&fault, name, &mut line)?;
+    Ok((line, fault.status().code()))
 }
 
 /// What is wrong with the file at a place.

@@ -86,9 +86,9 @@ fn neither_order_nor_repetition_counts(rt: HostRuntime) -> Result<(), Fail> {
         assert_eq!(rt; sink.bytes(), FABRIC_FACTS);
     }
     let cut = in_order.as_slice().get(..551).ok_or("shorter")?;
-    let (outcome, sink) = run(rt.alloc(), &[cut])?;
-    assert_eq!(rt; outcome, refused(0, FileFault::Truncated { offset: 280 }));
-    assert_eq!(rt; sink.bytes(), b"".as_slice());
+    let (line, code) = refusal(&rt, rt.alloc(), &[cut])?;
+    assert_eq!(rt; line.bytes(), b"ibsm: FILE: truncated at 280\n".as_slice());
+    assert_eq!(rt; code, 3);
     Ok(())
 }
 

@@ -1,7 +1,5 @@
 //! Files that are taken, and files that are refused.
 use super::*;
-use crate::fault_text::write_fault;
-use fact_store::ReportFault;
 
 /// The file with a second record, its first one again.
 fn doubled(alloc: Global) -> Result<Vec<u8>, AllocError> {
@@ -38,35 +36,22 @@ fn the_first_refused_file_is_named(rt: HostRuntime) -> Result<(), Fail> {
     if let Some(attribute) = bad.get_mut(280 + 16 + 17) {
         *attribute = 0x10;
     }
-    let attribute = FileFault::BadReport {
-        index: 1,
-        fault: ReportFault::Attribute,
-    };
-    let truncated = FileFault::Truncated { offset: 280 };
     let good = adapter_file();
-    for (files, outcome) in [
-        ([b"".as_slice(), &good], refused(0, FileFault::Magic)),
-        ([&good, b"".as_slice()], refused(1, FileFault::Magic)),
-        ([&cut, &good], refused(0, truncated)),
-        ([&good, &cut], refused(1, truncated)),
-        ([&bad, &cut], refused(0, attribute)),
-        ([&good, &bad], refused(1, attribute)),
+    for (files, wanted) in [
+        (
+            [b"".as_slice(), &good],
+            b"ibsm: FILE: bad magic\n".as_slice(),
+        ),
+        ([&good, b"".as_slice()], b"ibsm: OTHER: bad magic\n"),
+        ([&cut, &good], b"ibsm: FILE: truncated at 280\n"),
+        ([&good, &cut], b"ibsm: OTHER: truncated at 280\n"),
+        ([&bad, &cut], b"ibsm: FILE: bad report 1: Attribute\n"),
+        ([&good, &bad], b"ibsm: OTHER: bad report 1: Attribute\n"),
     ] {
-        let (ended, sink) = run(rt.alloc(), &files)?;
-        assert_eq!(rt; ended, outcome);
-        assert_eq!(rt; sink.bytes(), b"".as_slice());
+        let (line, code) = refusal(&rt, rt.alloc(), &files)?;
+        assert_eq!(rt; line.bytes(), wanted);
+        assert_eq!(rt; code, 3);
     }
-    Ok(())
-}
-
-#[test]
-fn an_empty_file_has_its_line(rt: HostRuntime) -> Result<(), Fail> {
-    let (outcome, _) = run(rt.alloc(), &[b""])?;
-    let fault = outcome.err().ok_or("accepted")?;
-    let mut line = ToRoom::new(rt.alloc(), 64)?;
-    write_fault(&fault, "FILE", &mut line)?;
-    assert_eq!(rt; line.bytes(), b"ibsm: FILE: bad magic\n".as_slice());
-    assert_eq!(rt; fault.status().code(), 3);
     Ok(())
 }
 
@@ -74,13 +59,18 @@ fn an_empty_file_has_its_line(rt: HostRuntime) -> Result<(), Fail> {
 fn a_file_is_taken_where_a_record_ends(rt: HostRuntime) -> Result<(), Fail> {
     let file = adapter_file();
     for length in 0..=280 {
-        let outcome = match length {
-            0..=7 => refused(0, FileFault::Magic),
-            8 | 280 => Ok(()),
-            _ => refused(0, FileFault::Truncated { offset: 8 }),
+        let cut = &file[..length];
+        let wanted = match length {
+            0..=7 => b"ibsm: FILE: bad magic\n".as_slice(),
+            8 | 280 => {
+                assert_eq!(rt; run(rt.alloc(), &[cut])?.0, Ok(()));
+                continue;
+            }
+            _ => b"ibsm: FILE: truncated at 8\n",
         };
-        let (ended, _) = run(rt.alloc(), &[&file[..length]])?;
-        assert_eq!(rt; ended, outcome, "cut to {length} bytes");
+        let (line, code) = refusal(&rt, rt.alloc(), &[cut])?;
+        assert_eq!(rt; line.bytes(), wanted, "cut to {length} bytes");
+        assert_eq!(rt; code, 3);
     }
     Ok(())
 }

@@ -31,9 +31,75 @@ fn an_answer_is_joined_and_read_again(rt: HostRuntime) -> Result<(), Fail> {
     let (outcome, sink) = run(alloc, &[&adapter_store()])?;
     assert_eq!(rt; outcome, Ok(()));
     assert_eq!(rt; sink.bytes(), ADAPTER_FACTS);
-    let (outcome, sink) = run_command(alloc, Command::Join, &[&adapter_file(), b"IBSMSTO1\x01"])?;
-    assert_eq!(rt; outcome, refused(1, FileFault::Truncated { offset: 8 }));
-    assert_eq!(rt; sink.bytes().len(), 0);
+    let (line, code) = refusal(&rt, rt.alloc(), &[&adapter_file(), b"IBSMSTO1\x01"])?;
+    assert_eq!(rt; line.bytes(), b"ibsm: OTHER: truncated at 8\n".as_slice());
+    assert_eq!(rt; code, 3);
+    Ok(())
+}
+
+#[test]
+fn a_store_is_taken_where_a_cell_ends(rt: HostRuntime) -> Result<(), Fail> {
+    let file = adapter_store();
+    for length in 0..=72 {
+        let cut = &file[..length];
+        let wanted = match length {
+            0..=7 => b"ibsm: FILE: bad magic\n".as_slice(),
+            8 | 40 | 72 => {
+                assert_eq!(rt; run(rt.alloc(), &[cut])?.0, Ok(()));
+                continue;
+            }
+            9..=39 => b"ibsm: FILE: truncated at 8\n",
+            _ => b"ibsm: FILE: truncated at 40\n",
+        };
+        let (line, code) = refusal(&rt, rt.alloc(), &[cut])?;
+        assert_eq!(rt; line.bytes(), wanted, "cut to {length} bytes");
+        assert_eq!(rt; code, 3);
+    }
+    Ok(())
+}
+
+#[test]
+fn a_cell_before_another_is_refused_behind_it(rt: HostRuntime) -> Result<(), Fail> {
+    let store = adapter_store();
+    let mut exchanged = store;
+    exchanged[8..40].copy_from_slice(&store[40..]);
+    exchanged[40..].copy_from_slice(&store[8..40]);
+    let (line, code) = refusal(&rt, rt.alloc(), &[&exchanged])?;
+    assert_eq!(rt;
+        line.bytes(),
+        b"ibsm: FILE: cell out of order 1\n".as_slice()
+    );
+    assert_eq!(rt; code, 3);
+    Ok(())
+}
+
+#[test]
+fn each_damage_of_a_cell_has_its_line(rt: HostRuntime) -> Result<(), Fail> {
+    // State 2 with the value kept, and then kind, state, generation, node type, ports, the key's port, the fourth byte and
+    // the last value byte.
+    for (place, byte) in [
+        (9, 2),
+        (8, 7),
+        (9, 3),
+        (15, 0),
+        (24, 4),
+        (25, 0),
+        (10, 1),
+        (11, 1),
+        (39, 1),
+    ] {
+        let mut store = adapter_store();
+        if let Some(damaged) = store.get_mut(place) {
+            *damaged = byte;
+        }
+        let (line, code) = refusal(&rt, rt.alloc(), &[&store])?;
+        assert_eq!(rt;
+            line.bytes(),
+            b"ibsm: FILE: bad cell 0\n".as_slice(),
+            "at {place}"
+        );
+        assert_eq!(rt; code, 3);
+    }
     Ok(())
 }
 
