@@ -59,11 +59,11 @@ fn a_store_is_taken_where_a_cell_ends(rt: HostRuntime) -> Result<(), Fail> {
 }
 
 #[test]
-fn a_cell_before_another_is_refused_behind_it(rt: HostRuntime) -> Result<(), Fail> {
+fn cells_in_another_order_are_refused(rt: HostRuntime) -> Result<(), Fail> {
     let store = adapter_store();
-    let mut exchanged = store;
-    exchanged[8..40].copy_from_slice(&store[40..]);
-    exchanged[40..].copy_from_slice(&store[8..40]);
+    let mut exchanged = Vec::from_slice(rt.alloc(), &store[..8])?;
+    exchanged.extend_from_slice(&store[40..])?;
+    exchanged.extend_from_slice(&store[8..40])?;
     let (line, code) = refusal(&rt, rt.alloc(), &[&exchanged])?;
     assert_eq!(rt;
         line.bytes(),
