@@ -1,22 +1,12 @@
 -- What is said of a fault.
 use Rattle.std.specs.Prelude.{ℕ, List, ◌++◌, codes, decimal}
-use Rattle.smp_bytes.specs.declared.smp_fault.SmpFault.{SmpFault}
-use Rattle.smp_bytes.specs.declared.smp_fault.SmpFault.TheVariants.{BaseVersion, Class as OtherClass, ClassVersion, HopCount, HopPointer, DrLid}
+use Rattle.smp_bytes.specs.SmpFault.{smp_fault_name}
 use Rattle.fact_store.specs.declared.report_fault.ReportFault.{ReportFault}
 use Rattle.fact_store.specs.declared.report_fault.ReportFault.TheVariants.{Generation, Smp, Class, Method, Direction, Status, Attribute, Context, Modifier, NodeType, Port}
 use Rattle.record_file.specs.declared.file_fault.FileFault.{FileFault}
 use Rattle.record_file.specs.declared.file_fault.FileFault.TheVariants.{Magic, Truncated, BadReport, BadCell, CellOrder, Read, Memory as NoMemoryForFile, TooLong}
 use Rattle.sm_cli.specs.declared.fault.Fault.{Fault}
 use Rattle.sm_cli.specs.declared.fault.Fault.TheVariants.{File, Write, Memory}
-
--- the name of what is wrong with a packet
-abbrev pub smp_fault_name : SmpFault → List ℕ
-smp_fault_name BaseVersion = codes "BaseVersion"
-smp_fault_name OtherClass = codes "Class"
-smp_fault_name ClassVersion = codes "ClassVersion"
-smp_fault_name HopCount = codes "HopCount"
-smp_fault_name HopPointer = codes "HopPointer"
-smp_fault_name DrLid = codes "DrLid"
 
 -- the name of what is wrong with a report, or with its packet
 abbrev pub report_fault_name : ReportFault → List ℕ

@@ -1,7 +1,8 @@
 //! What the program says of a fault, one line that begins with its own name.
 ghost use Rattle.std.specs.Prelude.{◌≡◌, ◌↔◌, IsErr, IsTrue, OnOk, codes};
 ghost use Rattle.std.specs.Io.KnownBytes.{Appends};
-ghost use Rattle.sm_cli.specs.FaultText.{smp_fault_name, report_fault_name, named_text, numbered_text, file_fault_text, fault_text, program_line};
+ghost use Rattle.smp_bytes.specs.SmpFault.{smp_fault_name};
+ghost use Rattle.sm_cli.specs.FaultText.{report_fault_name, named_text, numbered_text, file_fault_text, fault_text, program_line};
 
 use crate::fault::Fault;
 use crate::words::write_number;

@@ -2,6 +2,7 @@ pub mod BitLaws
 pub mod CopyLaws
 pub mod Field
 pub mod FieldLaws
+pub mod Judges
 pub mod Laws
 pub mod Making
 pub mod MakingLaws
@@ -9,4 +10,5 @@ pub mod NodeType
 pub mod Packet
 pub mod PlaceLaws
 pub mod ReadBack
+pub mod SmpFault
 pub mod Text

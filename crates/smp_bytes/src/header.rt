@@ -31,9 +31,15 @@ impl Status {
 pub struct AttributeId(pub u16);
 
 impl AttributeId {
+    pub const NODE_DESCRIPTION: AttributeId = AttributeId(0x0010);
+
     pub const NODE_INFO: AttributeId = AttributeId(0x0011);
 
     pub const SWITCH_INFO: AttributeId = AttributeId(0x0012);
 
     pub const PORT_INFO: AttributeId = AttributeId(0x0015);
+
+    pub const LINEAR_FORWARDING_TABLE: AttributeId = AttributeId(0x0019);
+
+    pub const SM_INFO: AttributeId = AttributeId(0x0020);
 }
