@@ -2,7 +2,7 @@ ghost use Rattle.std.specs.Prelude.{◌≡◌};
 
 /// What a run of the program ends with.
 #[derive(Clone, Copy, Debug, PartialEq, Eq)]
-pub enum Status {
+pub enum ExitStatus {
     Done = 0,
     Usage = 2,
     Refused = 3,
@@ -10,8 +10,8 @@ pub enum Status {
     Memory = 5,
 }
 
-impl Status {
-    ghost use Rattle.sm_cli.specs.Status.{code_of};
+impl ExitStatus {
+    ghost use Rattle.sm_cli.specs.ExitStatus.{code_of};
 
     /// The exit status of the process.
     pub fn code(self) -> u8
