@@ -1,6 +1,6 @@
 ghost use Rattle.std.specs.Prelude.{◌≡◌};
 
-use crate::fill::FillFault;
+use crate::stream::FillFault;
 use fact_store::ReportFault;
 use thiserror::Error;
 
