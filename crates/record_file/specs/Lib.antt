@@ -1,5 +1,6 @@
 pub mod Absorbing
 pub mod CellRecord
+pub mod FileFault
 pub mod Filling
 pub mod Laws
 pub mod Place

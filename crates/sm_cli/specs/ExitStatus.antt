@@ -3,7 +3,7 @@ use Rattle.std.specs.Prelude.{ℕ}
 use Rattle.record_file.specs.declared.file_fault.FileFault.{FileFault}
 use Rattle.record_file.specs.declared.file_fault.FileFault.TheVariants.{Magic, Truncated, BadReport, BadCell, CellOrder, Read, Memory as NoMemoryForFile, TooLong}
 use Rattle.sm_cli.specs.declared.fault.Fault.{Fault}
-use Rattle.sm_cli.specs.declared.fault.Fault.TheVariants.{File, Write, Memory as NoMemory}
+use Rattle.sm_cli.specs.declared.fault.Fault.TheVariants.{Open, File, Write, Memory as NoMemory}
 use Rattle.sm_cli.specs.declared.exit_status.ExitStatus.{ExitStatus}
 use Rattle.sm_cli.specs.declared.exit_status.ExitStatus.TheVariants.{Done, Usage, Refused, InputOutput, Memory}
 
@@ -28,6 +28,7 @@ file_status TooLong = Refused
 
 -- what a fault ends the program with
 abbrev pub status_of : Fault → ExitStatus
+status_of (Open place) = InputOutput
 status_of (File place fault) = file_status fault
 status_of Write = InputOutput
 status_of NoMemory = Memory

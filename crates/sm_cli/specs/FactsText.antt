@@ -53,9 +53,13 @@ abbrev pub cell_text : Cell Value → List ℕ
 cell_text (Known generation value) = value_text value ++ codes " @" ++ decimal generation
 cell_text (Disputed generation) = codes "disputed @" ++ decimal generation
 
+-- a key and what is said of it
+abbrev pub fact_text : Key × Cell Value → List ℕ
+fact_text cell = key_text cell.0 ++ codes " " ++ cell_text cell.1
+
 -- the line of a cell
 abbrev pub line_text : Key × Cell Value → List ℕ
-line_text cell = key_text cell.0 ++ codes " " ++ cell_text cell.1 ++ codes "\n"
+line_text cell = fact_text cell ++ codes "\n"
 
 -- a line for each cell
 abbrev pub facts_text : List (Key × Cell Value) → List ℕ

@@ -5,11 +5,15 @@ use Rattle.fact_store.specs.ReportFault.{report_fault_name}
 use Rattle.record_file.specs.declared.file_fault.FileFault.{FileFault}
 use Rattle.record_file.specs.FileFault.{fault_words, fault_number, fault_of_report, is_of_file}
 use Rattle.sm_cli.specs.declared.fault.Fault.{Fault}
-use Rattle.sm_cli.specs.declared.fault.Fault.TheVariants.{File, Write, Memory}
+use Rattle.sm_cli.specs.declared.fault.Fault.TheVariants.{Open, File, Write, Memory}
+
+-- the name of a file, before what is said of it
+abbrev pub name_text : List ℕ → List ℕ
+name_text name = name ++ codes ": "
 
 -- the name of a file, and what is said of it
 abbrev pub named_text : List ℕ → List ℕ → List ℕ
-named_text name words = name ++ codes ": " ++ words
+named_text name words = name_text name ++ words
 
 -- the number that the words end with, if there is one
 abbrev pub number_text : Option ℕ → List ℕ
@@ -29,8 +33,9 @@ words_of fault = fault_words fault ++ number_text (fault_number fault) ++ cause_
 abbrev pub file_fault_text : List ℕ → FileFault → List ℕ
 file_fault_text name fault = if is_of_file fault then named_text name (words_of fault) else words_of fault
 
--- what is said of a run that ends with the fault
+-- what is said of a run that ends with the fault, where that is the name of the file that it speaks of
 abbrev pub fault_text : List ℕ → Fault → List ℕ
+fault_text name (Open place) = named_text name (codes "cannot open")
 fault_text name (File place fault) = file_fault_text name fault
 fault_text name Write = codes "write failed"
 fault_text name Memory = codes "out of memory"

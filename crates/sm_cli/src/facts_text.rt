@@ -3,7 +3,7 @@ ghost use Rattle.std.specs.Prelude.{◌≡◌, IsTrue, OnOk};
 ghost use Rattle.std.specs.FinMap.{entries};
 ghost use Rattle.record_file.specs.Writes.{Writes};
 ghost use Rattle.fact_store.specs.Sighting.{AreInRange};
-ghost use Rattle.sm_cli.specs.FactsText.{kind_word, place_text, key_text, value_text, cell_text, line_text, facts_text};
+ghost use Rattle.sm_cli.specs.FactsText.{kind_word, place_text, key_text, value_text, cell_text, fact_text, line_text, facts_text};
 
 use crate::text::{write_guid, write_number, write_port};
 use fact_join::Cell;
@@ -77,13 +77,20 @@ fn write_state<W: Sink>(sink: &mut W, cell: &Cell<Value>) -> Result<(), WriteFau
     write_number(sink, u64::from(cell.generation().number()))
 }
 
+/// Writes a key and what is said of it.
+fn write_fact<W: Sink>(sink: &mut W, cell: &Sighting) -> Result<(), WriteFault>
+    ensures writes { Writes W.written W.has_failed result sink.old sink.new (fact_text cell.now) }
+{
+    write_key(sink, &cell.key())?;
+    sink.write(b" ")?;
+    write_state(sink, &cell.cell())
+}
+
 /// Writes the line of a cell: its key, its value or `disputed`, and `@` with its generation.
 pub fn write_cell<W: Sink>(sink: &mut W, cell: &Sighting) -> Result<(), WriteFault>
     ensures writes { Writes W.written W.has_failed result sink.old sink.new (line_text cell.now) }
 {
-    write_key(sink, &cell.key())?;
-    sink.write(b" ")?;
-    write_state(sink, &cell.cell())?;
+    write_fact(sink, cell)?;
     sink.write(b"\n")
 }
 

@@ -1,7 +1,6 @@
 //! What the program says of a fault, one line that begins with its own name.
-ghost use Rattle.std.specs.Prelude.{codes};
 ghost use Rattle.record_file.specs.Writes.{Writes};
-ghost use Rattle.sm_cli.specs.FaultText.{named_text, number_text, cause_text, words_of, file_fault_text, fault_text, program_line};
+ghost use Rattle.sm_cli.specs.FaultText.{name_text, number_text, cause_text, words_of, file_fault_text, fault_text, program_line};
 
 use crate::fault::Fault;
 use crate::text::write_number;
@@ -18,21 +17,15 @@ pub fn write_fault<W: Sink>(sink: &mut W, fault: &Fault, name: &str) -> Result<(
     sink.write(b"\n")
 }
 
-/// Writes the line of a file that cannot be opened.
-pub fn write_cannot_open<W: Sink>(sink: &mut W, name: &str) -> Result<(), WriteFault>
-    ensures writes { Writes W.written W.has_failed result sink.old sink.new
-        (program_line (named_text name.now (codes "cannot open"))) }
-{
-    sink.write(b"ibsm: ")?;
-    write_name(sink, name.as_bytes())?;
-    sink.write(b"cannot open\n")
-}
-
 fn write_fault_text<W: Sink>(sink: &mut W, fault: &Fault, name: &[u8]) -> Result<(), WriteFault>
     ensures writes { Writes W.written W.has_failed result sink.old sink.new
         (fault_text name.now fault.now) }
 {
     match fault {
+        Fault::Open { .. } => {
+            write_name(sink, name)?;
+            sink.write(b"cannot open")
+        }
         Fault::File { fault, .. } => write_file_fault(sink, fault, name),
         Fault::Write => sink.write(b"write failed"),
         Fault::Memory => sink.write(b"out of memory"),
@@ -83,7 +76,7 @@ fn write_cause<W: Sink>(sink: &mut W, fault: Option<ReportFault>) -> Result<(), 
 
 /// Writes the name of a file, and what stands between it and what is said of it.
 fn write_name<W: Sink>(sink: &mut W, name: &[u8]) -> Result<(), WriteFault>
-    ensures writes { Writes W.written W.has_failed result sink.old sink.new (named_text name.now []) }
+    ensures writes { Writes W.written W.has_failed result sink.old sink.new (name_text name.now) }
 {
     sink.write(name)?;
     sink.write(b": ")
