@@ -2,8 +2,8 @@
 use Rattle.std.proofs.Common.{◌≡◌, ℕ, ◌<◌, ◌^◌, ◌∙◌, List, refl, sym, subst, true, replicate, length, get_or, arith}
 use Rattle.std.specs.Prelude.{Some, slice_get}
 use Rattle.smp_bytes.specs.Field.{Field, Entry, are_apart, bits_in, number_in, replaced, with_bits}
-use Rattle.smp_bytes.specs.BitLaws.{bits_in-with_bits, bits_in-with_bits_apart, byte-number_in, get_or-with_bits, replaced_fits}
-use Rattle.smp_bytes.specs.FieldLaws.{are_all_apart, length-with_number, length-with_numbers, number_in-with_number_apart, number_in-with_numbers, number_in-with_numbers_apart}
+use Rattle.smp_bytes.proofs.BitLaws.{bits_in-with_bits, bits_in-with_bits_apart, byte-number_in, get_or-with_bits, replaced_fits}
+use Rattle.smp_bytes.proofs.FieldLaws.{are_all_apart, length-with_number, length-with_numbers, number_in-with_number_apart, number_in-with_numbers, number_in-with_numbers_apart}
 use Rattle.attr_codec.specs.Image.{image}
 use Rattle.attr_codec.specs.declared.node_info.NodeInfo.{NodeInfo}
 use Rattle.attr_codec.specs.declared.sm_info.SmInfo.{SmInfo}

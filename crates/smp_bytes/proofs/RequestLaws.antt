@@ -7,9 +7,9 @@ use Rattle.byteorder.specs.Endian.{big_bytes}
 use Rattle.smp_bytes.specs.declared.smp_fault.SmpFault.{SmpFault}
 use Rattle.smp_bytes.specs.declared.smp_fault.SmpFault.TheVariants.{BaseVersion, Class, ClassVersion, HopCount, HopPointer, DrLid}
 use Rattle.smp_bytes.specs.Field.{Field, are_apart, number_in, with_bytes, with_number, with_numbers}
-use Rattle.smp_bytes.specs.FieldLaws.{is_apart_from, number_in-with_bytes, number_in-with_number, number_in-with_number_apart, number_in-with_numbers, number_in-with_numbers_apart, length-with_bytes, length-with_number, length-with_numbers}
+use Rattle.smp_bytes.proofs.FieldLaws.{is_apart_from, number_in-with_bytes, number_in-with_number, number_in-with_number_apart, number_in-with_numbers, number_in-with_numbers_apart, length-with_bytes, length-with_number, length-with_numbers}
 use Rattle.smp_bytes.specs.Packet.{base_version, mgmt_class, class_version, hop_count, hop_pointer, dr_slid, dr_dlid, permissive_lid, method, status_word, is_directed, fault_of}
-use Rattle.smp_bytes.specs.Making.{request_entries, path_entries, request, lid_routed, directed}
+use Rattle.smp_bytes.specs.Requests.{request_entries, path_entries, request, lid_routed, directed}
 
 -- bytes whose fields are those of a packet have no fault
 fault_by : ℕ → ℕ → ℕ → ℕ → ℕ → ℕ → ℕ → Option SmpFault

@@ -1,6 +1,7 @@
 -- Packets that are made: requests by a path of ports or by a LID, and the answer to a request.
 -- InfiniBand Architecture Specification, Volume 1: SMP formats; management methods; directed route SMPs.
 use Rattle.std.specs.Prelude.{ℕ, ◌+◌, ◌*◌, ◌/◌, ◌^◌, Bool, true, false, List, [], ◌∷◌, length, replicate, if◌then◌else◌}
+use Rattle.smp_bytes.specs.Header.{lid_routed_class, directed_class, get_resp}
 use Rattle.smp_bytes.specs.Field.{Entry, number_in, with_bytes, with_number, with_numbers}
 use Rattle.smp_bytes.specs.Packet.{base_version, mgmt_class, class_version, method, status_word, hop_count, transaction_id, attribute_id, attribute_modifier, attribute_data, initial_path, dr_slid, dr_dlid, permissive_lid, is_directed}
 
@@ -24,20 +25,20 @@ request class method_number attribute modifier tid = with_numbers (request_entri
 
 -- a request that switches forward by the LIDs of its way
 abbrev pub lid_routed : ℕ → ℕ → ℕ → ℕ → List ℕ → List ℕ
-lid_routed method_number attribute modifier tid payload = with_bytes attribute_data.at payload (request 0x01 method_number attribute modifier tid)
+lid_routed method_number attribute modifier tid payload = with_bytes attribute_data.at payload (request lid_routed_class method_number attribute modifier tid)
 
 -- a request that leaves by the ports of a path, one after the other
 abbrev pub directed : ℕ → ℕ → ℕ → ℕ → List ℕ → List ℕ → List ℕ
 directed method_number attribute modifier tid path payload =
-    with_bytes (initial_path 1).at path (with_bytes attribute_data.at payload (with_numbers (path_entries (length path)) (request 0x81 method_number attribute modifier tid)))
+    with_bytes (initial_path 1).at path (with_bytes attribute_data.at payload (with_numbers (path_entries (length path)) (request directed_class method_number attribute modifier tid)))
 
 -- the status word of an answer: a directed one is on its way back
 abbrev pub answer_status : List ℕ → ℕ → ℕ
 answer_status packet status = if is_directed packet then 2 ^ 15 + status else status
 
 -- the answer to a request: another method, status and attribute, and all else as it was
-abbrev pub answer_to : List ℕ → ℕ → List ℕ → List ℕ
-answer_to packet status payload = with_bytes attribute_data.at payload (with_number status_word (answer_status packet status) (with_number method 0x81 packet))
+abbrev pub answer_packet : List ℕ → ℕ → List ℕ → List ℕ
+answer_packet packet status payload = with_bytes attribute_data.at payload (with_number status_word (answer_status packet status) (with_number method get_resp packet))
 
 -- the status word with another status; in the directed class its highest bit, the direction, stays
 abbrev pub word_with_status : List ℕ → ℕ → ℕ

@@ -1,10 +1,10 @@
 -- Single bytes, and rows of bytes, of what was written over others.
 use Rattle.std.proofs.Common.{◌≡◌, ℕ, ◌+◌, ◌<◌, ◌≤◌, List, [], ◌∷◌, ◌⊎◌, inl, inr, refl, sym, ap, ◌∙◌, arith, Bool, true, false, length, take, drop, get_or, ◌&&◌}
-use Rattle.std.proofs.lemmas.Bool.{leb-true}
+use Rattle.std.proofs.lemmas.Bool.{and_parts, leb-true}
 use Rattle.std.proofs.lemmas.List.{ext_get_or, get_or-drop, get_or-take, get_or_append_left, length-drop, length-take-le}
 use Rattle.std.proofs.Math.Seq.{take-append_seam}
 use Rattle.smp_bytes.specs.Field.{Field, Entry, ends_within, bytes_in, with_bytes, with_number, with_numbers}
-use Rattle.smp_bytes.specs.FieldLaws.{drop-with_bytes, get_or-with_bytes, length-with_bytes, length-with_number}
+use Rattle.smp_bytes.proofs.FieldLaws.{drop-with_bytes, get_or-with_bytes, length-with_bytes, length-with_number}
 use Rattle.byteorder.specs.Endian.{big_bytes}
 use Rattle.byteorder.specs.Numbers.{length-bytes_high_first}
 
@@ -49,19 +49,11 @@ abbrev pub all_end_within : ℕ → List Entry → Bool
 all_end_within end [] = true
 all_end_within end (e ∷ entries) = ends_within end e.field && all_end_within end entries
 
-and_first : (a b : Bool) → (a && b) ≡ true → a ≡ true
-and_first true b h = refl
-and_first false b h = cc
-
-and_second : (a b : Bool) → (a && b) ≡ true → b ≡ true
-and_second true b h = h
-and_second false b h = cc
-
 -- a byte behind all fields that are written stays
 pub get_or-with_numbers_behind : (end : ℕ) (entries : List Entry) (bytes : List ℕ) (place : ℕ) → end ≤ length bytes → all_end_within end entries ≡ true → end ≤ place → get_or (with_numbers entries bytes) place 0 ≡ get_or bytes place 0
 get_or-with_numbers_behind end [] bytes place long all behind = refl
 get_or-with_numbers_behind end (e ∷ entries) bytes place long all behind =
-    let within : e.field.at + e.field.len ≤ end = leb-true _ _ (and_first _ _ all) in
+    let within : e.field.at + e.field.len ≤ end = leb-true _ _ (and_parts _ _ all).0 in
     let same : length (with_number e.field e.number bytes) ≡ length bytes = length-with_number e.field e.number bytes (omega arith) in
-    get_or-with_numbers_behind end entries (with_number e.field e.number bytes) place (omega arith) (and_second (ends_within end e.field) _ all) behind
+    get_or-with_numbers_behind end entries (with_number e.field e.number bytes) place (omega arith) (and_parts (ends_within end e.field) _ all).1 behind
     ∙ get_or-with_number e.field e.number bytes place (omega arith) (inr (omega arith))

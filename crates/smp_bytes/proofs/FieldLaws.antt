@@ -1,7 +1,7 @@
 -- What is written into a field is read from it, and stays there whatever is written into fields apart from it.
 use Rattle.std.proofs.Common.{◌≡◌, ℕ, zero, suc, ◌+◌, ◌-◌, ◌*◌, ◌^◌, ◌<◌, ◌≤◌, List, [], ◌∷◌, ◌++◌, ◌⊎◌, inl, inr, refl, sym, ap, ◌∙◌, subst, arith, Bool, true, false, length, take, drop, get_or, ◌||◌, ◌&&◌, append_assoc}
 use Rattle.std.specs.Prelude.{nat_le, Some, slice_get}
-use Rattle.std.proofs.lemmas.Bool.{leb-true}
+use Rattle.std.proofs.lemmas.Bool.{and_parts, leb-true}
 use Rattle.std.proofs.lemmas.List.{get_or-drop, get_or-take, get_or_append_left, get_or-append_right, length-take-le, length-drop, length-append, drop_at}
 use Rattle.byteorder.specs.Endian.{big_from, big_number, big_bytes}
 use Rattle.byteorder.specs.Numbers.{big_number-reads_back, length-bytes_high_first}
@@ -94,37 +94,29 @@ abbrev pub are_all_apart : ℕ → List Entry → Bool
 are_all_apart count [] = true
 are_all_apart count (e ∷ entries) = ends_within count e.field && (is_apart_from count e.field entries && are_all_apart count entries)
 
-and_first : (a b : Bool) → (a && b) ≡ true → a ≡ true
-and_first true b h = refl
-and_first false b h = cc
-
-and_second : (a b : Bool) → (a && b) ≡ true → b ≡ true
-and_second true b h = h
-and_second false b h = cc
-
 pub length-with_numbers : (count : ℕ) (entries : List Entry) (bytes : List ℕ) → length bytes ≡ count → are_all_apart count entries ≡ true → length (with_numbers entries bytes) ≡ count
 length-with_numbers count [] bytes long h = long
 length-with_numbers count (e ∷ entries) bytes long h =
-    let within : e.field.at + e.field.len ≤ count = leb-true _ _ (and_first _ _ h) in
-    length-with_numbers count entries (with_number e.field e.number bytes) (length-with_number e.field e.number bytes (omega arith) ∙ long) (and_second (is_apart_from count e.field entries) _ (and_second _ _ h))
+    let within : e.field.at + e.field.len ≤ count = leb-true _ _ (and_parts _ _ h).0 in
+    length-with_numbers count entries (with_number e.field e.number bytes) (length-with_number e.field e.number bytes (omega arith) ∙ long) (and_parts (is_apart_from count e.field entries) _ (and_parts _ _ h).1).1
 
 -- a field apart from all that are written keeps its number
 pub number_in-with_numbers_apart : (count : ℕ) (f : Field) (entries : List Entry) (bytes : List ℕ) → length bytes ≡ count → is_apart_from count f entries ≡ true → number_in f (with_numbers entries bytes) ≡ number_in f bytes
 number_in-with_numbers_apart count f [] bytes long h = refl
 number_in-with_numbers_apart count f (e ∷ entries) bytes long h =
-    let within : e.field.at + e.field.len ≤ count = leb-true _ _ (and_first _ _ (and_second _ _ h)) in
-    number_in-with_numbers_apart count f entries (with_number e.field e.number bytes) (length-with_number e.field e.number bytes (omega arith) ∙ long) (and_second (ends_within count e.field) _ (and_second _ _ h))
-    ∙ number_in-with_number_apart f e.field e.number bytes (omega arith) (and_first _ _ h)
+    let within : e.field.at + e.field.len ≤ count = leb-true _ _ (and_parts _ _ (and_parts _ _ h).1).0 in
+    number_in-with_numbers_apart count f entries (with_number e.field e.number bytes) (length-with_number e.field e.number bytes (omega arith) ∙ long) (and_parts (ends_within count e.field) _ (and_parts _ _ h).1).1
+    ∙ number_in-with_number_apart f e.field e.number bytes (omega arith) (and_parts _ _ h).0
 
 -- the i-th field that is written holds its number
 pub number_in-with_numbers : (count : ℕ) (entries : List Entry) (bytes : List ℕ) (i : ℕ) (e : Entry) → length bytes ≡ count → are_all_apart count entries ≡ true → slice_get entries i ≡ Some e → e.number < 256 ^ e.field.len → number_in e.field (with_numbers entries bytes) ≡ e.number
 number_in-with_numbers count [] bytes i e long h there small = cc
 number_in-with_numbers count (x ∷ entries) bytes zero e long h there small =
     let same : x ≡ e = cc in
-    let within : x.field.at + x.field.len ≤ count = leb-true _ _ (and_first _ _ h) in
+    let within : x.field.at + x.field.len ≤ count = leb-true _ _ (and_parts _ _ h).0 in
     subst (λ (y : Entry). number_in y.field (with_numbers entries (with_number x.field x.number bytes)) ≡ y.number) same
-    (number_in-with_numbers_apart count x.field entries (with_number x.field x.number bytes) (length-with_number x.field x.number bytes (omega arith) ∙ long) (and_first _ _ (and_second _ _ h))
+    (number_in-with_numbers_apart count x.field entries (with_number x.field x.number bytes) (length-with_number x.field x.number bytes (omega arith) ∙ long) (and_parts _ _ (and_parts _ _ h).1).0
     ∙ number_in-with_number x.field x.number bytes (omega arith) (subst (λ (y : Entry). y.number < 256 ^ y.field.len) (sym same) small))
 number_in-with_numbers count (x ∷ entries) bytes (suc i) e long h there small =
-    let within : x.field.at + x.field.len ≤ count = leb-true _ _ (and_first _ _ h) in
-    number_in-with_numbers count entries (with_number x.field x.number bytes) i e (length-with_number x.field x.number bytes (omega arith) ∙ long) (and_second (is_apart_from count x.field entries) _ (and_second _ _ h)) there small
+    let within : x.field.at + x.field.len ≤ count = leb-true _ _ (and_parts _ _ h).0 in
+    number_in-with_numbers count entries (with_number x.field x.number bytes) i e (length-with_number x.field x.number bytes (omega arith) ∙ long) (and_parts (is_apart_from count x.field entries) _ (and_parts _ _ h).1).1 there small

@@ -1,7 +1,7 @@
 //! Writers of single fields: the field's bits become the value, and every other bit stays.
 ghost use Rattle.std.specs.Prelude.{◌≡◌, ◌+◌, ◌≤◌, ◌<◌, ◌^◌, true};
 ghost use Rattle.smp_bytes.specs.Field.{number_in, with_bits, with_number};
-ghost use Rattle.smp_bytes.specs.Making.{flag, word_with_status};
+ghost use Rattle.smp_bytes.specs.Requests.{flag, word_with_status};
 ghost use Rattle.smp_bytes.specs.Packet.{method, status_word, direction_bit, transaction_id, hop_pointer, hop_count, initial_path, return_path, is_directed};
 
 use crate::field;
@@ -36,7 +36,13 @@ impl Smp {
     pub fn set_returning(&mut self, returning: bool)
         ensures { self.new ≡ with_bits direction_bit (flag returning) self.old }
     {
-        put_bits(&mut self.bytes, field::STATUS, 7, 1, u8::from(returning));
+        put_bits(
+            &mut self.bytes,
+            field::STATUS,
+            field::DIRECTION_BIT,
+            1,
+            u8::from(returning),
+        );
     }
 
     /// Writes the transaction ID.

@@ -6,7 +6,7 @@ use Rattle.std.proofs.lemmas.List.{get_or-drop}
 use Rattle.std.proofs.lemmas.Nat.{div-mul-add, mod-mul-add, shr-shr, mod-pow-add, field_of, pow_pos, pow-add, div_below, mul-add-lt}
 use Rattle.std.proofs.Math.Nat.{mod-lt}
 use Rattle.smp_bytes.specs.Field.{Bits, number_in, bits_in, with_bits, replaced, are_bits_apart}
-use Rattle.smp_bytes.specs.FieldLaws.{number_in-with_number, get_or-with_bytes}
+use Rattle.smp_bytes.proofs.FieldLaws.{number_in-with_number, get_or-with_bytes}
 
 below : (n k : ℕ) → n % 2 ^ k < 2 ^ k
 below n k = mod-lt n (pow_pos k)

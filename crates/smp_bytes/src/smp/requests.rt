@@ -1,11 +1,11 @@
-ghost use Rattle.std.specs.Prelude.{◌≡◌, ◌<◌, ◌^◌, true};
-ghost use Rattle.smp_bytes.specs.Making.{directed, lid_routed, answer_to, request};
-ghost use Rattle.smp_bytes.specs.Packet.{is_directed};
+ghost use Rattle.std.specs.Prelude.{◌≡◌, ◌≤◌, ◌<◌, ◌^◌, true, length};
+ghost use Rattle.smp_bytes.specs.Requests.{directed, lid_routed, answer_packet, request};
+ghost use Rattle.smp_bytes.specs.Packet.{is_directed, max_hops};
 
 use crate::field;
 use crate::header::{AttributeId, Method, SmpClass, Status};
 use crate::path::Path;
-use crate::smp::{DIRECTED_ROUTE, LID_ROUTED, PERMISSIVE_LID, Smp};
+use crate::smp::{DIRECTED_ROUTE, LID_ROUTED, PERMISSIVE_LID, Smp, VERSION};
 use crate::wire::{put_bytes, put_u8, put_u16, put_u32, put_u64};
 
 impl Smp {
@@ -19,7 +19,8 @@ impl Smp {
         path: &Path<63>,
         payload: &[u8; 64],
     ) -> Smp
-        ensures { result ≡ directed method.0 attribute.0 modifier transaction_id path.now payload.now }
+        ensures bytes { result ≡ directed method.0 attribute.0 modifier transaction_id path.now payload.now }
+        ensures hops { length path.now ≤ max_hops }
     {
         let mut bytes = request(DIRECTED_ROUTE, method, attribute, modifier, transaction_id);
         put_u8(&mut bytes, field::HOP_COUNT, path.len() as u8);
@@ -45,11 +46,11 @@ impl Smp {
         Smp { bytes }
     }
 
-    /// The answer to this request: method 0x81, the status, the attribute, and D set if it is directed; all else is
+    /// The answer to this request: method GetResp, the status, the attribute, and D set if it is directed; all else is
     /// as it was.
     pub fn answer(&self, status: Status, payload: &[u8; 64]) -> Smp
         requires { is_directed self.now ≡ true → status.0 < 2 ^ 15 }
-        ensures { result ≡ answer_to self.now status.0 payload.now }
+        ensures { result ≡ answer_packet self.now status.0 payload.now }
     {
         let status = match self.class() {
             SmpClass::DirectedRoute => 0x8000 + status.0,
@@ -74,9 +75,9 @@ fn request(
     ensures { result ≡ request class method.0 attribute.0 modifier transaction_id }
 {
     let mut bytes = [0; 256];
-    put_u8(&mut bytes, field::BASE_VERSION, 1);
+    put_u8(&mut bytes, field::BASE_VERSION, VERSION);
     put_u8(&mut bytes, field::MGMT_CLASS, class);
-    put_u8(&mut bytes, field::CLASS_VERSION, 1);
+    put_u8(&mut bytes, field::CLASS_VERSION, VERSION);
     put_u8(&mut bytes, field::METHOD, method.0);
     put_u64(&mut bytes, field::TRANSACTION_ID, transaction_id);
     put_u16(&mut bytes, field::ATTRIBUTE_ID, attribute.0);
