@@ -1,8 +1,8 @@
 -- Lemmas on how a reading ends.
 use Rattle.std.proofs.Common.{◌≡◌, ◌⊎◌, inl, inr, ℕ, ◌+◌, ◌-◌, ◌*◌, ◌<◌, ◌≤◌, ◌^◌, List, [], ◌∷◌, ◌++◌, None, Some, Option, Result, Ok, Err, IsTrue, ◌↔◌, length, nat_eq, Bool, true, false, refl, sym, ap, ◌∙◌, subst, arith, append_assoc, append-nil, length-append}
 use Rattle.std.specs.List.{concat, starts_with}
-use Rattle.record_file.specs.declared.fill.FillFault.{FillFault}
-use Rattle.record_file.specs.declared.fill.FillFault.TheVariants as fill
+use Rattle.record_file.specs.declared.stream.reading.FillFault.{FillFault}
+use Rattle.record_file.specs.declared.stream.reading.FillFault.TheVariants as fill
 use Rattle.std.specs.Io.KnownBytes.{Consumes, IsAtEnd}
 use Rattle.std.proofs.lemmas.List.{drop_all, take_all}
 use Rattle.std.proofs.lemmas.List.Folds.{concat-append}

@@ -2,8 +2,8 @@
 use Rattle.std.proofs.Common.{◌≡◌, ℕ, ◌+◌, ◌^◌, ◌≤◌, Bool, List, ◌++◌, Option, Result, Ok, Err, IsTrue, ◌↔◌, length, arith, length-append}
 use Rattle.std.specs.Io.KnownBytes.{Consumes, Keeps}
 use Rattle.record_file.specs.Place.{EachCallTakes, Place, Takes}
-use Rattle.record_file.specs.declared.source.ReadError.{ReadError}
-use Rattle.record_file.specs.declared.source.ReadError.TheVariants.{Failed, Interrupted}
+use Rattle.record_file.specs.declared.stream.source.ReadError.{ReadError}
+use Rattle.record_file.specs.declared.stream.source.ReadError.TheVariants.{Failed, Interrupted}
 use Rattle.record_file.proofs.Bytes.{Consumes-trans, Consumes-kept}
 
 pub Takes-more : (p q r : Place) (front all : List ℕ) (n : ℕ) → Takes p q front

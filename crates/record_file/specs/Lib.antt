@@ -8,3 +8,4 @@ pub mod RecordFile
 pub mod ReportRecord
 pub mod StoreFile
 pub mod StoreLaws
+pub mod Writes

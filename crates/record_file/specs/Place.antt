@@ -1,7 +1,7 @@
 -- Where a reading stands: what its source has left, and what was taken from it.
 use Rattle.std.specs.Prelude.{◌≡◌, ◌⊎◌, ℕ, ◌+◌, ◌^◌, ◌≤◌, List, Option, length}
 use Rattle.std.specs.Io.KnownBytes.{Consumes}
-use Rattle.record_file.specs.declared.budget.Budget.{Budget}
+use Rattle.record_file.specs.declared.stream.budget.Budget.{Budget}
 
 -- 2^40 bytes were taken, or 2^40 calls made
 abbrev pub IsSpent : Budget → Type 0
