@@ -24,6 +24,13 @@ pub struct Status(pub u16);
 
 impl Status {
     pub const DONE: Status = Status(0x0000);
+
+    pub const METHOD_NOT_SUPPORTED: Status = Status(0x0008);
+
+    pub const METHOD_AND_ATTRIBUTE_NOT_SUPPORTED: Status = Status(0x000C);
+
+    /// A field of the attribute or of its modifier.
+    pub const INVALID_FIELD: Status = Status(0x001C);
 }
 
 /// Which attribute a packet carries.
