@@ -6,8 +6,8 @@ ghost use Rattle.fact_store.specs.declared.report_fault.ReportFault.{ReportFault
 
 use crate::report::Report;
 use crate::report_fault::ReportFault;
-use crate::report_sightings::sightings;
 use crate::store::Store;
+use crate::told::sightings;
 use thiserror::Error;
 
 /// Why a store did not take a report.

@@ -29,13 +29,10 @@ fn a_sweep_of_the_sample_fabric_tells_all_of_it(rt: HostRuntime) -> Result<(), F
     assert_eq!(rt; store.count(), 57);
     let generation = Generation::new(1).ok_or("0")?;
     for (key, value) in [
-        (
-            Key::Node(node(0x10)),
-            Value::Kind(NodeType::Switch, port(4)),
-        ),
+        (Key::Node(node(0x10)), Value::Kind(NodeType::Switch, 4)),
         (
             Key::Node(node(0x200)),
-            Value::Kind(NodeType::ChannelAdapter, port(1)),
+            Value::Kind(NodeType::ChannelAdapter, 1),
         ),
         (Key::PortGuid(node(0x20), port(0)), Value::Guid(node(0x20))),
         (
