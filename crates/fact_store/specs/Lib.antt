@@ -2,6 +2,7 @@ pub mod Coded
 pub mod Key
 pub mod Merge
 pub mod Report
+pub mod ReportFault
 pub mod Sighting
 pub mod Value
 pub mod Values

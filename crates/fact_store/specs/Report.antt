@@ -13,6 +13,7 @@ use Rattle.attr_codec.specs.PortInfo.{base_lid, port_state}
 use Rattle.attr_codec.specs.SwitchInfo.{linear_fdb_cap}
 use Rattle.fact_join.specs.declared.cell.Cell.{Cell}
 use Rattle.fact_join.specs.declared.cell.Cell.TheVariants.{Known}
+use Rattle.fact_store.specs.Sighting.{is_cabled_port}
 use Rattle.fact_store.specs.declared.key.Key.{Key}
 use Rattle.fact_store.specs.declared.key.Key.TheVariants.{Node, PortGuid, Link, Port, Claim, Cap}
 use Rattle.fact_store.specs.declared.report.Context.{Context}
@@ -39,10 +40,6 @@ abbrev pub fits_node_info : Context → ℕ → Bool
 fits_node_info Start hops = hops == 0
 fits_node_info (Via guid port) hops = nat_lt 0 hops
 fits_node_info (About guid) hops = false
-
--- a port that a cable can be in, or a number of ports
-abbrev pub is_cabled_port : ℕ → Bool
-is_cabled_port port = nat_le 1 port && nat_le port 254
 
 -- only a switch that a manager sits at is asked by its management port, 0
 abbrev pub may_be_asked_by : Context → NodeType → ℕ → Bool

@@ -2,8 +2,8 @@ ghost use Rattle.std.specs.Prelude.{◌≡◌, true, None, Some, IfOk, IfErr, On
 ghost use Rattle.smp_bytes.specs.Packet.{hop_count};
 ghost use Rattle.attr_codec.specs.NodeTypeNumber.{type_of_number};
 ghost use Rattle.fact_join.specs.declared.cell.Cell.TheVariants.{Known};
-ghost use Rattle.fact_store.specs.Report.{answer_fault, attribute_fault, node_info_fault, port_info_fault, switch_info_fault, told_by_node_info, told_by_packet, told_by_port_info, told_by_switch_info, node_info_of, are_ports_in_range, fits_node_info, is_cabled_port, told_of_kind, report_fault, sightings_of};
-ghost use Rattle.fact_store.specs.Sighting.{IsSighting};
+ghost use Rattle.fact_store.specs.Report.{answer_fault, attribute_fault, node_info_fault, port_info_fault, switch_info_fault, told_by_node_info, told_by_packet, told_by_port_info, told_by_switch_info, node_info_of, are_ports_in_range, fits_node_info, told_of_kind, report_fault, sightings_of};
+ghost use Rattle.fact_store.specs.Sighting.{IsSighting, is_cabled_port};
 
 use crate::key::Key;
 use crate::report::{Context, Report};

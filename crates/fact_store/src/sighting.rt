@@ -72,18 +72,18 @@ impl Default for Sighting {
     }
 }
 
-ghost use Rattle.fact_store.specs.Sighting.{IsCabledPort, IsKey, IsValueOf, IsCellOf, IsGeneration};
+ghost use Rattle.fact_store.specs.Sighting.{is_cabled_port, is_key, is_value_of, is_cell_of, is_generation};
 
 // Below, `let _ = x.number();` reads a number whose range is that of its type.
 
 fn is_cabled_port(port: PortNum) -> bool
-    ensures { IsTrue result ↔ IsCabledPort port }
+    ensures { result ≡ is_cabled_port port }
 {
     matches!(port.number(), 1..=254)
 }
 
 fn has_port_in_range(key: &Key) -> bool
-    ensures { IsTrue result ↔ IsKey key.now }
+    ensures { result ≡ is_key key.now }
 {
     match key {
         Key::Node(node) | Key::Cap(node) => {
@@ -102,7 +102,7 @@ fn has_port_in_range(key: &Key) -> bool
 }
 
 fn is_value_of(key: &Key, value: &Value) -> bool
-    ensures { IsTrue result ↔ IsValueOf key.now value.now }
+    ensures { result ≡ is_value_of key.now value.now }
 {
     match (key, value) {
         (Key::Node(_), Value::Kind(_, ports)) => is_cabled_port(*ports),
@@ -128,8 +128,8 @@ fn is_value_of(key: &Key, value: &Value) -> bool
 }
 
 fn is_cell_of(key: &Key, cell: &Cell<Value>) -> bool
-    ensures of_key { IsTrue result ↔ IsCellOf key.now cell.now }
-    ensures generation { IsGeneration (generation_of cell.now) }
+    ensures of_key { result ≡ is_cell_of key.now cell.now }
+    ensures generation { IsTrue (is_generation (generation_of cell.now)) }
 {
     let _ = cell.generation().number();
     match cell {

@@ -1,6 +1,7 @@
 pub mod Absorbs
 pub mod Budget
 pub mod CellRecord
+pub mod FileFault
 pub mod FillFault
 pub mod Filling
 pub mod Laws
