@@ -1,24 +1,16 @@
 //! Reading files into a store.
-ghost use Rattle.std.specs.Prelude.{◌≡◌, ◌↔◌, ◌⊎◌, ◌+◌, ◌≤◌, ◌^◌, List, ℕ, [], ◌∷◌, None, Some, Ok, Err, true, false, length, OnOk, OnErr, IfOk, IfErr, IfSome, IsTrue};
-ghost use Rattle.fact_join.specs.declared.cell.Cell.{Cell};
-ghost use Rattle.fact_store.specs.declared.key.Key.{Key};
-ghost use Rattle.fact_store.specs.declared.value.Value.{Value};
-ghost use Rattle.fact_store.specs.declared.report_fault.ReportFault.{ReportFault};
+ghost use Rattle.std.specs.Prelude.{◌≡◌, ◌↔◌, Err, length, IfOk, IsTrue};
 ghost use Rattle.fact_store.specs.Key.{is_above};
-ghost use Rattle.fact_store.specs.View.{view};
-ghost use Rattle.fact_store.specs.Merge.{merge};
-ghost use Rattle.record_file.specs.declared.file_fault.FileFault.{FileFault as Fault};
-ghost use Rattle.record_file.specs.ReportRecord.{report_judged};
-ghost use Rattle.record_file.specs.CellRecord.{cell_of as cell_in};
+ghost use Rattle.record_file.specs.Absorbs.{Absorbs, AbsorbsJudged, AnswersKnown};
 ghost use Rattle.record_file.specs.RecordFile.{judged, key_in, record_size};
-ghost use Rattle.record_file.specs.Absorbing.{Absorbs, AnswersOutcome};
+ghost use Rattle.record_file.specs.declared.format.Format.TheVariants.{Reports, Cells};
 
 use crate::file_fault::FileFault;
 use crate::format::{Format, MAGIC_LEN};
 use crate::report_record::{self, report_of};
 use crate::store_file::cell_of;
-use crate::stream::{Budget, Source, fill};
-use fact_store::{Key, ReportFault, Store, sightings};
+use crate::stream::{Reading, Source};
+use fact_store::{IngestFault, Key, ReportFault, Store};
 
 /// Takes one file, of reports or of a store's cells, into the store, record after record, in
 /// constant memory of its own.
@@ -26,23 +18,13 @@ use fact_store::{Key, ReportFault, Store, sightings};
 /// tell. Who wants all or nothing absorbs into a fresh store and merges.
 pub fn absorb<S: Source>(source: &mut S, store: &mut Store) -> Result<(), FileFault>
     ensures read { (result ≡ Err FileFault.Read) ↔ IsTrue (S.has_failed source.new) }
-    ensures taken { (taken : List ℕ) × Absorbs result store.old store.new (S.left source.old) (S.left source.new)
-        (S.interruptions source.old) (S.interruptions source.new) taken }
-    // Where the bytes are known, the answer is what reading all of them answers.
-    ensures known { IfSome (S.left source.old) (λ bytes. IfSome (S.left source.new) (λ rest. AnswersOutcome result bytes
-        (2 ^ 40 + S.interruptions source.old + length rest ≤ length bytes + S.interruptions source.new))) }
+    ensures absorbs { Absorbs S.left S.interruptions result
+        source.old source.new store.old store.new }
+    ensures known { AnswersKnown S.left S.interruptions result source.old source.new }
 {
-    read_file(source, store)
-}
-
-fn read_file<S: Source>(source: &mut S, store: &mut Store) -> Result<(), FileFault>
-    ensures read { (result ≡ Err FileFault.Read) ↔ IsTrue (S.has_failed source.new) }
-    ensures taken { (taken : List ℕ) × Absorbs result store.old store.new (S.left source.old) (S.left source.new)
-        (S.interruptions source.old) (S.interruptions source.new) taken }
-{
-    let mut budget = Budget::new();
+    let mut reading = Reading::new(source);
     let mut front = [0; MAGIC_LEN];
-    let length = fill(source, &mut budget, &mut front, MAGIC_LEN)?;
+    let length = reading.fill(&mut front, MAGIC_LEN)?;
     let Some(format) = Format::of(&front[..length]) else {
         return Err(FileFault::Magic);
     };
@@ -51,7 +33,7 @@ fn read_file<S: Source>(source: &mut S, store: &mut Store) -> Result<(), FileFau
     let mut index = 0;
     loop {
         let mut room = [0; report_record::RECORD_LEN];
-        let count = fill(source, &mut budget, &mut room, size)?;
+        let count = reading.fill(&mut room, size)?;
         if count == 0 {
             return Ok(());
         }
@@ -75,10 +57,8 @@ fn absorb_record(
 ) -> Result<Option<Key>, FileFault>
     requires { length bytes.now ≡ record_size format }
     ensures key { IfOk result (λ key. key ≡ key_in format bytes.now) }
-    ensures ok { IfOk result (λ key. (told : List (Key × Cell Value)) × (judged format last bytes.now ≡ Ok told) × (store.new ≡ merge store.old (view told))) }
-    ensures err { OnErr result (store.new ≡ store.old) }
-    ensures fault { IfErr result (λ f. ((f ≡ FileFault.Memory) × ((told : List (Key × Cell Value)) × (judged format last bytes.now ≡ Ok told)))
-        ⊎ ((g : ℕ → Fault) × (judged format last bytes.now ≡ Err g) × (f ≡ g index))) }
+    ensures judged { AbsorbsJudged (judged format last bytes.now) index result
+        store.old store.new }
 {
     match format {
         Format::Reports => {
@@ -95,10 +75,8 @@ fn absorb_record(
 /// Adds what the record of a report tells.
 fn absorb_report(bytes: &[u8], index: u64, store: &mut Store) -> Result<(), FileFault>
     requires { length bytes.now ≡ 272 }
-    ensures ok { OnOk result ((told : List (Key × Cell Value)) × (report_judged bytes.now ≡ Ok told) × (store.new ≡ merge store.old (view told))) }
-    ensures err { OnErr result (store.new ≡ store.old) }
-    ensures fault { IfErr result (λ f. ((f ≡ FileFault.Memory) × ((told : List (Key × Cell Value)) × (report_judged bytes.now ≡ Ok told)))
-        ⊎ ((g : ReportFault) × (report_judged bytes.now ≡ Err g) × (f ≡ FileFault.BadReport index g))) }
+    ensures judged { AbsorbsJudged (judged Reports None bytes.now) index result
+        store.old store.new }
 {
     let Some(report) = report_of(bytes) else {
         return Err(FileFault::BadReport {
@@ -106,12 +84,10 @@ fn absorb_report(bytes: &[u8], index: u64, store: &mut Store) -> Result<(), File
             fault: ReportFault::Context,
         });
     };
-    match sightings(&report) {
-        Ok(found) => match store.add_all(found.as_slice()) {
-            Ok(()) => Ok(()),
-            Err(_) => Err(FileFault::Memory),
-        },
-        Err(fault) => Err(FileFault::BadReport { index, fault }),
+    match store.ingest(&report) {
+        Ok(()) => Ok(()),
+        Err(IngestFault::Report(fault)) => Err(FileFault::BadReport { index, fault }),
+        Err(IngestFault::Memory) => Err(FileFault::Memory),
     }
 }
 
@@ -123,11 +99,9 @@ fn absorb_cell(
     store: &mut Store,
 ) -> Result<Key, FileFault>
     requires { length bytes.now ≡ 32 }
-    ensures ok { IfOk result (λ key. (e : Key × Cell Value) × (cell_in bytes.now ≡ Some e) × (key ≡ e.0) × (is_above last e.0 ≡ true) × (store.new ≡ merge store.old (view (e ∷ [])))) }
-    ensures err { OnErr result (store.new ≡ store.old) }
-    ensures memory { result ≡ Err FileFault.Memory → (e : Key × Cell Value) × (cell_in bytes.now ≡ Some e) × (is_above last e.0 ≡ true) }
-    ensures fault { IfErr result (λ f. (f ≡ FileFault.Memory) ⊎ ((cell_in bytes.now ≡ None) × (f ≡ FileFault.BadCell index))
-        ⊎ ((e : Key × Cell Value) × (cell_in bytes.now ≡ Some e) × (is_above last e.0 ≡ false) × (f ≡ FileFault.CellOrder index))) }
+    ensures key { IfOk result (λ key. Some key ≡ key_in Cells bytes.now) }
+    ensures judged { AbsorbsJudged (judged Cells last bytes.now) index result
+        store.old store.new }
 {
     let Some(sighting) = cell_of(bytes) else {
         return Err(FileFault::BadCell { index });
@@ -137,7 +111,7 @@ fn absorb_cell(
         return Err(FileFault::CellOrder { index });
     }
     match store.add(sighting) {
-        Ok(()) => Ok(sighting.key()),
+        Ok(()) => Ok(key),
         Err(_) => Err(FileFault::Memory),
     }
 }

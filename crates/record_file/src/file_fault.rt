@@ -30,7 +30,7 @@ pub enum FileFault {
 }
 
 impl From<FillFault> for FileFault {
-    ghost use Rattle.record_file.specs.Reading.{file_fault_of};
+    ghost use Rattle.record_file.specs.FillFault.{file_fault_of};
 
     ghost from_gives = { λ fault f. f ≡ file_fault_of fault };
 

@@ -17,5 +17,4 @@ pub use source::{ReadError, Source};
 pub use to_room::{RoomFault, ToRoom};
 pub use to_write::ToWrite;
 
-pub(crate) use budget::Budget;
-pub(crate) use reading::{FillFault, fill};
+pub(crate) use reading::{FillFault, Reading};

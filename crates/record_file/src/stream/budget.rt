@@ -13,8 +13,8 @@ pub(crate) struct Budget {
 }
 
 impl Budget {
-    ghost use Rattle.std.specs.Prelude.{◌≡◌, ◌↔◌, ◌≤◌, ◌-◌, ◌+◌, ◌^◌, ◌<◌, IsTrue, min};
-    ghost use Rattle.record_file.specs.Place.{IsSpent};
+    ghost use Rattle.std.specs.Prelude.{◌↔◌, ◌-◌, ◌+◌, ◌<◌, IsTrue, min};
+    ghost use Rattle.record_file.specs.Budget.{IsSpent};
 
     pub(crate) fn new() -> Self
         ensures bytes { result.bytes ≡ 0 }
@@ -25,7 +25,7 @@ impl Budget {
 
     /// No call may be made any more.
     pub(crate) fn is_spent(&self) -> bool
-        ensures { IsTrue result ↔ IsSpent self.now }
+        ensures { IsTrue result ↔ IsSpent self.now.bytes self.now.calls }
     {
         self.bytes == MOST || self.calls == MOST
     }

@@ -1,7 +1,6 @@
-ghost use Rattle.std.specs.Prelude.{◌≡◌, ◌<◌, ◌≤◌, ◌+◌, ◌^◌, ◌↔◌, ◌++◌, ℕ, List, length, take, false, IfOk, MatchResult, OnErr, IsTrue};
+ghost use Rattle.std.specs.Prelude.{◌≡◌, ◌<◌, ◌≤◌, ◌+◌, ◌++◌, ◌↔◌, ℕ, List, length, take, IfOk, OnErr, IsTrue};
 ghost use Rattle.std.specs.Io.KnownBytes.{Consumes, IsAtEnd, Keeps};
-ghost use Rattle.record_file.specs.Place.{EachCallTakes, IsSpent, Takes, place};
-ghost use Rattle.record_file.specs.Reading.{interruption};
+ghost use Rattle.record_file.specs.Source.{interruption};
 
 use super::budget::Budget;
 use super::source::{ReadError, Source};
@@ -13,51 +12,56 @@ pub(crate) enum FillFault {
     TooLong,
 }
 
-/// Reads until so many bytes stand at the front of the buffer or the source ends, and says how many
-/// stand there.
-pub(crate) fn fill<S: Source>(
-    source: &mut S,
-    budget: &mut Budget,
-    buffer: &mut [u8],
-    wanted: usize,
-) -> Result<usize, FillFault>
-    requires { wanted ≤ length buffer.old }
-    ensures within { IfOk result (λ n. n ≤ wanted) }
-    ensures taken { IfOk result (λ n. Takes (place (S.left source.old) (S.interruptions source.old) budget.old)
-        (place (S.left source.new) (S.interruptions source.new) budget.new) (take n buffer.new)) }
-    // Fewer than wanted is the end.
-    ensures end { IfOk result (λ n. n < wanted → IsAtEnd (S.left source.new) × (budget.new.bytes < 2 ^ 40)) }
-    ensures full { IfOk result (λ n. n ≡ wanted → EachCallTakes (place (S.left source.old) (S.interruptions source.old) budget.old)
-        (place (S.left source.new) (S.interruptions source.new) budget.new)) }
+/// A source that is read from, and what one reading may still take from it.
+#[derive(Drop)]
+pub(crate) struct Reading<'s, S> {
+    source: &'s mut S,
+    budget: Budget,
+}
 
-    ensures part { OnErr result ((part : List ℕ) × (length part < wanted)
-        × Takes (place (S.left source.old) (S.interruptions source.old) budget.old)
-        (place (S.left source.new) (S.interruptions source.new) budget.new) part) }
-    ensures too_long { result ≡ Err FillFault.TooLong → IsSpent budget.new
-        × EachCallTakes (place (S.left source.old) (S.interruptions source.old) budget.old)
-        (place (S.left source.new) (S.interruptions source.new) budget.new) }
-    ensures read { S.has_failed source.old ≡ false → ((result ≡ Err FillFault.Read) ↔ IsTrue (S.has_failed source.new)) }
-    ensures already { IsTrue (S.has_failed source.old) → 0 < wanted → budget.old.bytes < 2 ^ 40 → budget.old.calls < 2 ^ 40
-        → (result ≡ Err FillFault.Read) × IsTrue (S.has_failed source.new) }
-{
-    let mut filled = 0;
-    while filled < wanted {
-        if budget.is_spent() {
-            return Err(FillFault::TooLong);
-        }
-        let room = budget.share(wanted - filled);
-        budget.calls += 1;
-        match read_behind(source, buffer, filled, room) {
-            Ok(0) => return Ok(filled),
-            Ok(count) => {
-                filled += count;
-                budget.bytes += count as u64;
-            }
-            Err(ReadError::Interrupted) => {}
-            Err(ReadError::Failed) => return Err(FillFault::Read),
+impl<'s, S: Source> Reading<'s, S> {
+    ghost use Rattle.record_file.specs.Reading.{Fills};
+
+    pub(crate) fn new(source: &'s mut S) -> Self
+        ensures same_source { result.source.ghost_name ≡ source.entry.ghost_name }
+        ensures source { result.source.now ≡ source.old }
+        ensures bytes { result.budget.bytes ≡ 0 }
+        ensures calls { result.budget.calls ≡ 0 }
+    {
+        Reading {
+            source,
+            budget: Budget::new(),
         }
     }
-    Ok(filled)
+
+    /// Reads until so many bytes stand in the front of the buffer or the source ends, and says how
+    /// many stand there.
+    pub(crate) fn fill(&mut self, buffer: &mut [u8], wanted: usize) -> Result<usize, FillFault>
+        requires some { 0 < wanted }
+        requires room { wanted ≤ length buffer.old }
+        ensures same_source { self.new.source.ghost_name ≡ self.old.source.ghost_name }
+        ensures fills { Fills S.left S.has_failed S.interruptions result wanted
+            self.old self.new buffer.new }
+    {
+        let mut filled = 0;
+        while filled < wanted {
+            if self.budget.is_spent() {
+                return Err(FillFault::TooLong);
+            }
+            let room = self.budget.share(wanted - filled);
+            self.budget.calls += 1;
+            match read_behind(self.source, buffer, filled, room) {
+                Ok(0) => return Ok(filled),
+                Ok(count) => {
+                    filled += count;
+                    self.budget.bytes += count as u64;
+                }
+                Err(ReadError::Interrupted) => {}
+                Err(ReadError::Failed) => return Err(FillFault::Read),
+            }
+        }
+        Ok(filled)
+    }
 }
 
 /// One call, which reads at most `room` bytes behind the first `filled` ones of the buffer.
@@ -77,7 +81,8 @@ fn read_behind<S: Source>(
     ensures front { take filled buffer.new ≡ take filled buffer.old }
     ensures failed { (result ≡ Err ReadError.Failed) ↔ IsTrue (S.has_failed source.new) }
     ensures stays { IsTrue (S.has_failed source.old) → IsTrue (S.has_failed source.new) }
-    ensures interrupted { S.interruptions source.new ≡ S.interruptions source.old + interruption result }
+    ensures interrupted { S.interruptions source.new
+        ≡ S.interruptions source.old + interruption result }
 {
     source.read(&mut buffer[filled..filled + room])
 }

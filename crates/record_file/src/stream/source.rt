@@ -1,6 +1,6 @@
 ghost use Rattle.std.specs.Prelude.{◌≡◌, ◌≤◌, ◌+◌, ◌↔◌, ℕ, Bool, List, Option, length, IfOk, IsTrue};
 ghost use Rattle.std.specs.Io.KnownBytes.{ReadConsumes};
-ghost use Rattle.record_file.specs.Reading.{interruption};
+ghost use Rattle.record_file.specs.Source.{interruption};
 
 use thiserror::Error;
 

@@ -1,21 +1,17 @@
-use Rattle.std.proofs.Common.{inl, inr, refl, ap, ◌∙◌}
-use Rattle.fact_store.specs.View.{view}
-use Rattle.fact_store.specs.Merge.{merge}
-use Rattle.record_file.proofs.ReportRecords.{judged-fault, judged-none, judged-told}
+use Rattle.std.proofs.Common.{Err, None, ap, ◌∙◌}
+use Rattle.record_file.proofs.ReportRecords.{absorbs-fault, absorbs-memory, absorbs-none, absorbs-told}
 use Rattle.record_file.proofs.file.absorb_report.Goals as goal
 
-pub returns-in_default-clause-fault : goal.returns-in_default-clause-fault
-returns-in_default-clause-fault c = inr (_, judged-none c.args.bytes.now c.in_default.ensures, refl)
+pub returns-in_default : goal.returns-in_default
+returns-in_default c = record { judged = absorbs-none c.args.bytes.now None c.args.index c.args.store.now c.in_default.ensures }
 
-pub returns-in-Ok-add_all-clause-ok : goal.returns-in-Ok-add_all-clause-ok
-returns-in-Ok-add_all-clause-ok c = (
-  c.in-Ok.found.items,
-  judged-told c.args.bytes.now _ _ c.in-Some.ensures (c.in-Ok.ensures.accepted, c.in-Ok.ensures.told),
-  c.in-Ok-add_all.ensures.ok ∙ ap (λ s. merge c.args.store.now (view s)) c.as_slice.ensures.value,
-)
+pub returns-in-Ok : goal.returns-in-Ok
+returns-in-Ok c = record { judged = absorbs-told c.args.bytes.now None c.args.index c.in-Some.report _ _ c.in-Some.ensures c.in-Ok.ensures.accepted c.in-Ok.ensures.ok }
 
-pub returns-in-Err-add_all-clause-fault : goal.returns-in-Err-add_all-clause-fault
-returns-in-Err-add_all-clause-fault c = inl (refl, (c.in-Ok.found.items, judged-told c.args.bytes.now _ _ c.in-Some.ensures (c.in-Ok.ensures.accepted, c.in-Ok.ensures.told)))
+pub returns-in-Err-Report : goal.returns-in-Err-Report
+returns-in-Err-Report c = record {
+  judged = absorbs-fault c.args.bytes.now None c.args.index c.in-Some.report c.in-Err-Report.fault _ _ c.in-Some.ensures ((c.ingest.ensures.refused c.in-Err-Report.fault).0 (c.in-Err-Report.is ∙ ap Err c.in-Err-Report.field-0-is)) c.in-Err-Report.ensures.err;
+}
 
-pub returns-in-Err-clause-fault : goal.returns-in-Err-clause-fault
-returns-in-Err-clause-fault c = inr (c.in-Err.fault, judged-fault c.args.bytes.now _ _ c.in-Some.ensures c.in-Err.ensures.refused, refl)
+pub returns-in-Err-Memory : goal.returns-in-Err-Memory
+returns-in-Err-Memory c = record { judged = absorbs-memory c.args.bytes.now None c.args.index c.in-Some.report _ _ c.ingest.result c.in-Some.ensures (c.in-Err-Memory.is ∙ ap Err c.in-Err-Memory.field-0-is) c.ingest.ensures.refused c.in-Err-Memory.ensures.err }
