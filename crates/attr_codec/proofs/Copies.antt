@@ -1,11 +1,11 @@
 -- Fields that stand side by side, each written with the number read from some bytes, are a copy of these bytes.
 use Rattle.std.proofs.Common.{◌≡◌, ℕ, ◌+◌, ◌-◌, ◌≤◌, List, [], ◌∷◌, ◌++◌, refl, sym, ap, ◌∙◌, arith, Bool, true, false, length, take, drop, replicate, append_assoc, ◌&&◌, ◌==◌}
 use Rattle.std.specs.Prelude.{nat_le}
-use Rattle.std.proofs.lemmas.Bool.{eqb-true, leb-true}
+use Rattle.std.proofs.lemmas.Bool.{and_parts, eqb-true, leb-true}
 use Rattle.std.proofs.lemmas.List.{drop-replicate, length-drop, length-take-le, take-append-le, take_all}
 use Rattle.std.proofs.Math.Seq.{drop-append-add, take-add}
 use Rattle.smp_bytes.specs.Field.{Field, Entry, number_in, bytes_in, with_bytes, with_number, with_numbers}
-use Rattle.smp_bytes.specs.CopyLaws.{big_bytes-number_in}
+use Rattle.smp_bytes.proofs.CopyLaws.{big_bytes-number_in}
 use Rattle.attr_codec.specs.Spelling.{Are64Bytes}
 
 -- the first of the bytes, and 0 behind them
@@ -51,20 +51,12 @@ abbrev pub end_of : ℕ → List Field → ℕ
 end_of at [] = at
 end_of at (f ∷ fields) = end_of (at + f.len) fields
 
-and_first : (a b : Bool) → (a && b) ≡ true → a ≡ true
-and_first true b h = refl
-and_first false b h = cc
-
-and_second : (a b : Bool) → (a && b) ≡ true → b ≡ true
-and_second true b h = h
-and_second false b h = cc
-
 pub with_numbers-entries_in : (at : ℕ) (fields : List Field) (bytes : List ℕ) → Are64Bytes bytes → are_side_by_side at fields ≡ true → with_numbers (entries_in bytes fields) (front_of at bytes) ≡ front_of (end_of at fields) bytes
 with_numbers-entries_in at [] bytes are side = refl
 with_numbers-entries_in at (f ∷ fields) bytes are side =
-    let here : f.at ≡ at = eqb-true _ _ (and_first _ _ side) in
-    let fits : at + f.len ≤ 64 = leb-true _ _ (and_first _ _ (and_second (f.at == at) _ side)) in
+    let here : f.at ≡ at = eqb-true _ _ (and_parts _ _ side).0 in
+    let fits : at + f.len ≤ 64 = leb-true _ _ (and_parts _ _ (and_parts (f.at == at) _ side).1).0 in
     ap (λ n. with_numbers (entries_in bytes fields) (with_number f (number_in f bytes) (front_of n bytes))) (sym here)
     ∙ ap (with_numbers (entries_in bytes fields)) (with_number-front_of f bytes are (omega arith))
     ∙ ap (λ n. with_numbers (entries_in bytes fields) (front_of (n + f.len) bytes)) here
-    ∙ with_numbers-entries_in (at + f.len) fields bytes are (and_second (nat_le (at + f.len) 64) _ (and_second (f.at == at) _ side))
+    ∙ with_numbers-entries_in (at + f.len) fields bytes are (and_parts (nat_le (at + f.len) 64) _ (and_parts (f.at == at) _ side).1).1

@@ -2,10 +2,10 @@
 use Rattle.std.proofs.Common.{◌≡◌, ℕ, ◌+◌, ◌-◌, ◌/◌, ◌%◌, ◌^◌, ◌<◌, ◌≤◌, List, [], ◌∷◌, refl, sym, ap, ◌∙◌, arith, inr, true, length, drop, get_or, replicate}
 use Rattle.std.proofs.lemmas.List.{ext_get_or, get_or-drop, get_or-replicate, length-drop, length-replicate}
 use Rattle.smp_bytes.specs.Field.{Field, Entry, number_in, replaced, with_bits, with_number}
-use Rattle.smp_bytes.specs.FieldLaws.{length-with_number, length-with_numbers}
-use Rattle.smp_bytes.specs.BitLaws.{byte-number_in, get_or-with_bits}
-use Rattle.smp_bytes.specs.CopyLaws.{byte_at_place, with_number-twice}
-use Rattle.smp_bytes.specs.PlaceLaws.{all_end_within, get_or-with_number, get_or-with_numbers_behind}
+use Rattle.smp_bytes.proofs.FieldLaws.{length-with_number, length-with_numbers}
+use Rattle.smp_bytes.proofs.BitLaws.{byte-number_in, get_or-with_bits}
+use Rattle.smp_bytes.proofs.CopyLaws.{byte_at_place, with_number-twice}
+use Rattle.smp_bytes.proofs.PlaceLaws.{all_end_within, get_or-with_number, get_or-with_numbers_behind}
 use Rattle.attr_codec.specs.Image.{image}
 use Rattle.attr_codec.specs.NodeInfo.{base_version, class_version, node_type, num_ports, system_image_guid, node_guid, port_guid, partition_cap, device_id, revision, local_port_num, vendor_id, FitsNodeInfo, node_info_in, node_info_bytes, entries_of}
 use Rattle.attr_codec.specs.RoundTrip.{node_info_reads_back, sm_info_reads_back}

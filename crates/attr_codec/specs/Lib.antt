@@ -1,6 +1,7 @@
 pub mod Image
 pub mod NodeInfo
 pub mod NodeTypeNumber
+pub mod Numbering
 pub mod PortInfo
 pub mod RoundTrip
 pub mod SmInfo

@@ -1,9 +1,8 @@
 -- Node information: its fields, what 64 bytes say, and how it is spelled.
 -- InfiniBand Architecture Specification, Volume 1: subnet management, NodeInfo.
-use Rattle.std.specs.Prelude.{ℕ, ◌^◌, ◌<◌, List, [], ◌∷◌}
-use Rattle.smp_bytes.specs.Field.{Field, number_in}
-use Rattle.smp_bytes.specs.Field.{Entry}
-use Rattle.attr_codec.specs.Image.{image}
+use Rattle.std.specs.Prelude.{ℕ, List, [], ◌∷◌}
+use Rattle.smp_bytes.specs.Field.{Field, Entry, number_in}
+use Rattle.attr_codec.specs.Image.{AllFit, image}
 use Rattle.attr_codec.specs.declared.node_info.NodeInfo.{NodeInfo}
 
 abbrev pub base_version : Field
@@ -81,16 +80,5 @@ abbrev pub node_info_bytes : NodeInfo → List ℕ
 node_info_bytes info = image (entries_of info)
 
 -- each number fits its field
-pub record FitsNodeInfo (info : NodeInfo) : Type 0 where
-  pub base_version : info.base_version < 2 ^ 8
-  pub class_version : info.class_version < 2 ^ 8
-  pub node_type : info.node_type < 2 ^ 8
-  pub num_ports : info.num_ports < 2 ^ 8
-  pub system_image_guid : info.system_image_guid < 2 ^ 64
-  pub node_guid : info.node_guid < 2 ^ 64
-  pub port_guid : info.port_guid < 2 ^ 64
-  pub partition_cap : info.partition_cap < 2 ^ 16
-  pub device_id : info.device_id < 2 ^ 16
-  pub revision : info.revision < 2 ^ 32
-  pub local_port_num : info.local_port_num < 2 ^ 8
-  pub vendor_id : info.vendor_id < 2 ^ 24
+abbrev pub FitsNodeInfo : NodeInfo → Type 0
+FitsNodeInfo info = AllFit (entries_of info)

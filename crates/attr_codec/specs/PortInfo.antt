@@ -1,6 +1,6 @@
 -- Port information: the places of its fields.
 -- InfiniBand Architecture Specification, Volume 1: subnet management, PortInfo.
-use Rattle.std.specs.Prelude.{ℕ, Option, Some, None, ◌==◌, if◌then◌else◌}
+use Rattle.std.specs.Prelude.{ℕ, Option, [], ◌∷◌, find, ◌==◌}
 use Rattle.smp_bytes.specs.Field.{Field, Bits}
 use Rattle.attr_codec.specs.declared.port_state.PortState.{PortState}
 use Rattle.attr_codec.specs.declared.port_state.PortState.TheVariants.{NoChange, Down, Initialize, Armed, Active}
@@ -54,10 +54,4 @@ number_of_state Active = 4
 
 -- the state of that number; other numbers are reserved
 abbrev pub state_of_number : ℕ → Option PortState
-state_of_number number =
-    if number == 0 then Some NoChange
-    else if number == 1 then Some Down
-    else if number == 2 then Some Initialize
-    else if number == 3 then Some Armed
-    else if number == 4 then Some Active
-    else None
+state_of_number number = find (λ state. number == number_of_state state) (NoChange ∷ Down ∷ Initialize ∷ Armed ∷ Active ∷ [])

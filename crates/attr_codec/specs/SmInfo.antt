@@ -2,7 +2,7 @@
 -- InfiniBand Architecture Specification, Volume 1: subnet management, SMInfo.
 use Rattle.std.specs.Prelude.{ℕ, ◌^◌, ◌<◌, List, [], ◌∷◌}
 use Rattle.smp_bytes.specs.Field.{Field, Bits, Entry, number_in, bits_in, with_bits}
-use Rattle.attr_codec.specs.Image.{image}
+use Rattle.attr_codec.specs.Image.{AllFit, image}
 use Rattle.attr_codec.specs.declared.sm_info.SmInfo.{SmInfo}
 
 abbrev pub guid : Field
@@ -42,8 +42,6 @@ sm_info_bytes info = with_bits sm_state info.state (with_bits priority info.prio
 
 -- each number fits its field
 pub record FitsSmInfo (info : SmInfo) : Type 0 where
-  pub guid : info.guid < 2 ^ 64
-  pub sm_key : info.sm_key < 2 ^ 64
-  pub act_count : info.act_count < 2 ^ 32
+  pub fields : AllFit (sm_info_entries info)
   pub priority : info.priority < 2 ^ 4
   pub state : info.state < 2 ^ 4

@@ -1,5 +1,8 @@
 //! The laws of attributes: what is spelled is read again, and what was read is spelled again.
 ghost use Rattle.std.specs.Prelude.{◌≡◌};
+ghost use Rattle.attr_codec.specs.NodeTypeNumber.{number_of_type, type_of_number};
+ghost use Rattle.attr_codec.specs.Numbering.{AreInverse};
+ghost use Rattle.attr_codec.specs.PortInfo.{number_of_state, state_of_number};
 ghost use Rattle.attr_codec.specs.Spelling.{KeepsAllBytes, KeepsFirstBytes, SpellsEachValue};
 
 use crate::attribute::Attribute;
@@ -53,4 +56,14 @@ pub fn node_info_is_spelled_by_its_fields()
 /// A subnet manager's information is spelled with each field at its place, and 0 in the 43 bytes behind them.
 pub fn sm_info_is_spelled_by_its_fields()
     ensures { SpellsEachValue 21 ⟦<SmInfo as Attribute>⟧.value_in ⟦<SmInfo as Attribute>⟧.bytes_of ⟦<SmInfo as Attribute>⟧.is_value }
+{}
+
+/// Each type of a node has the number that is read as it, and no other number is.
+pub fn node_types_have_numbers()
+    ensures { AreInverse number_of_type type_of_number }
+{}
+
+/// Each state of a port has the number that is read as it, and no other number is.
+pub fn port_states_have_numbers()
+    ensures { AreInverse number_of_state state_of_number }
 {}

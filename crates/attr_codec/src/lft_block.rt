@@ -1,7 +1,7 @@
 ghost use Rattle.std.specs.Prelude.{◌≡◌, ◌<◌, slice_index, slice_set};
 
 use crate::attribute::Attribute;
-use smp_bytes::PortNum;
+use smp_bytes::{AttributeId, PortNum};
 use std::marker::Model;
 
 /// A block of a linear forwarding table (subnet management, LinearForwardingTable): a port for each of 64 LIDs, where
@@ -40,10 +40,11 @@ impl LftBlock {
 
 impl Attribute for LftBlock {
     ghost use Rattle.std.specs.Prelude.{refl};
+    ghost use Rattle.smp_bytes.specs.Header.{linear_forwarding_table};
 
-    const ID: u16 = 0x0019;
+    const ID: u16 = AttributeId::LINEAR_FORWARDING_TABLE.0;
 
-    ghost ID = { 0x0019 };
+    ghost ID = { linear_forwarding_table };
 
     ghost is_value = { λ _. Unit {0} };
 

@@ -1,4 +1,5 @@
 use crate::attribute::Attribute;
+use smp_bytes::AttributeId;
 use std::marker::Model;
 
 /// What an operator calls a node: 64 bytes of text, with zeros after it (subnet management, NodeDescription). All of
@@ -20,10 +21,11 @@ impl Model for NodeDescription {
 
 impl Attribute for NodeDescription {
     ghost use Rattle.std.specs.Prelude.{refl};
+    ghost use Rattle.smp_bytes.specs.Header.{node_description};
 
-    const ID: u16 = 0x0010;
+    const ID: u16 = AttributeId::NODE_DESCRIPTION.0;
 
-    ghost ID = { 0x0010 };
+    ghost ID = { node_description };
 
     ghost is_value = { λ _. Unit {0} };
 

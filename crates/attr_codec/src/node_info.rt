@@ -1,11 +1,11 @@
 ghost use Rattle.std.specs.Prelude.{◌≡◌};
 
 use crate::attribute::Attribute;
-use crate::field;
+use crate::field_type;
 use crate::macros::fields;
 use crate::node_type_number::NodeTypeNumber;
 use crate::vendor_id::VendorId;
-use smp_bytes::{Guid, PortNum};
+use smp_bytes::{AttributeId, Guid, PortNum};
 
 /// What a node is, and by which port the request came to it (subnet management, NodeInfo).
 #[derive(Clone, Copy, Debug, PartialEq, Eq)]
@@ -27,56 +27,33 @@ pub struct NodeInfo {
     pub vendor_id: VendorId,
 }
 
-const BASE_VERSION: usize = 0;
-
-const CLASS_VERSION: usize = 1;
-
-const NODE_TYPE: usize = 2;
-
-const NUM_PORTS: usize = 3;
-
-const SYSTEM_IMAGE_GUID: usize = 4;
-
-const NODE_GUID: usize = 12;
-
-const PORT_GUID: usize = 20;
-
-const PARTITION_CAP: usize = 28;
-
-const DEVICE_ID: usize = 30;
-
-const REVISION: usize = 32;
-
-const LOCAL_PORT_NUM: usize = 36;
-
-const VENDOR_ID: usize = 37;
-
 /// Each field, its type and its place.
 macro_rules! node_info {
     ($make:ident $source:ident) => {
         fields!($make $source, NodeInfo {
-            base_version: u8 at BASE_VERSION,
-            class_version: u8 at CLASS_VERSION,
-            node_type: NodeTypeNumber at NODE_TYPE,
-            num_ports: u8 at NUM_PORTS,
-            system_image_guid: Guid at SYSTEM_IMAGE_GUID,
-            node_guid: Guid at NODE_GUID,
-            port_guid: Guid at PORT_GUID,
-            partition_cap: u16 at PARTITION_CAP,
-            device_id: u16 at DEVICE_ID,
-            revision: u32 at REVISION,
-            local_port_num: PortNum at LOCAL_PORT_NUM,
-            vendor_id: VendorId at VENDOR_ID,
+            base_version: u8 at 0,
+            class_version: u8 at 1,
+            node_type: NodeTypeNumber at 2,
+            num_ports: u8 at 3,
+            system_image_guid: Guid at 4,
+            node_guid: Guid at 12,
+            port_guid: Guid at 20,
+            partition_cap: u16 at 28,
+            device_id: u16 at 30,
+            revision: u32 at 32,
+            local_port_num: PortNum at 36,
+            vendor_id: VendorId at 37,
         })
     };
 }
 
 impl Attribute for NodeInfo {
     ghost use Rattle.attr_codec.specs.NodeInfo.{FitsNodeInfo, node_info_in, node_info_bytes};
+    ghost use Rattle.smp_bytes.specs.Header.{node_info};
 
-    const ID: u16 = 0x0011;
+    const ID: u16 = AttributeId::NODE_INFO.0;
 
-    ghost ID = { 0x0011 };
+    ghost ID = { node_info };
 
     ghost is_value = { FitsNodeInfo };
 

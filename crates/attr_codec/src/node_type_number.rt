@@ -25,17 +25,6 @@ impl NodeTypeNumber {
         NodeTypeNumber(number)
     }
 
-    /// The number of a type that has one.
-    pub fn of(node_type: NodeType) -> Self
-        ensures { result ≡ number_of_type node_type }
-    {
-        NodeTypeNumber(match node_type {
-            NodeType::ChannelAdapter => 1,
-            NodeType::Switch => 2,
-            NodeType::Router => 3,
-        })
-    }
-
     pub fn number(self) -> u8
         ensures { result ≡ self }
     {
@@ -46,11 +35,23 @@ impl NodeTypeNumber {
     pub fn node_type(self) -> Option<NodeType>
         ensures { result ≡ type_of_number self }
     {
-        match self.0 {
-            1 => Some(NodeType::ChannelAdapter),
-            2 => Some(NodeType::Switch),
-            3 => Some(NodeType::Router),
-            _ => None,
-        }
+        NODE_TYPES
+            .into_iter()
+            .find(|kind| self == NodeTypeNumber::from(*kind))
+    }
+}
+
+/// All types, by rising number.
+const NODE_TYPES: [NodeType; 3] = [NodeType::ChannelAdapter, NodeType::Switch, NodeType::Router];
+
+impl From<NodeType> for NodeTypeNumber {
+    ghost from_gives = { λ kind number. number ≡ number_of_type kind };
+
+    fn from(kind: NodeType) -> Self {
+        NodeTypeNumber(match kind {
+            NodeType::ChannelAdapter => 1,
+            NodeType::Switch => 2,
+            NodeType::Router => 3,
+        })
     }
 }

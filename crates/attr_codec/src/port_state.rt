@@ -11,19 +11,24 @@ pub enum PortState {
     Active,
 }
 
+/// All states, by rising number.
+const STATES: [PortState; 5] = [
+    PortState::NoChange,
+    PortState::Down,
+    PortState::Initialize,
+    PortState::Armed,
+    PortState::Active,
+];
+
 impl PortState {
     /// The state of a number, or None for the reserved numbers, 5 and above.
-    pub fn of_number(number: u8) -> Option<Self>
+    pub fn from_number(number: u8) -> Option<Self>
         ensures { result ≡ state_of_number number }
     {
-        match number {
-            0 => Some(PortState::NoChange),
-            1 => Some(PortState::Down),
-            2 => Some(PortState::Initialize),
-            3 => Some(PortState::Armed),
-            4 => Some(PortState::Active),
-            _ => None,
-        }
+        STATES
+            .iter()
+            .copied()
+            .find(|state| number == state.number())
     }
 
     pub fn number(self) -> u8

@@ -1,9 +1,10 @@
 use crate::attribute::Attribute;
 use crate::bits::{bits, with_bits};
-use crate::field;
+use crate::field_type;
 use crate::macros::fields;
-use crate::nibble::Nibble;
-use smp_bytes::Guid;
+use crate::priority::Priority;
+use crate::sm_state_number::SmStateNumber;
+use smp_bytes::{AttributeId, Guid};
 
 /// What a subnet manager tells of itself (subnet management, SMInfo).
 #[derive(Clone, Copy, Debug, PartialEq, Eq)]
@@ -13,39 +14,31 @@ pub struct SmInfo {
     pub sm_key: u64,
     /// Counts up while the manager is active.
     pub act_count: u32,
-    pub priority: Nibble,
-    /// The number of the manager's state; numbers that no state has are carried.
-    pub state: Nibble,
+    pub priority: Priority,
+    pub state: SmStateNumber,
 }
-
-const GUID: usize = 0;
-
-const SM_KEY: usize = 8;
-
-const ACT_COUNT: usize = 16;
-
-const PRIORITY: usize = 20;
 
 /// Each field, its type and its place.
 macro_rules! sm_info {
     ($make:ident $source:ident) => {
         fields!($make $source, SmInfo {
-            guid: Guid at GUID,
-            sm_key: u64 at SM_KEY,
-            act_count: u32 at ACT_COUNT,
+            guid: Guid at 0,
+            sm_key: u64 at 8,
+            act_count: u32 at 16,
         } bits {
-            priority: PRIORITY, 4, 4,
-            state: PRIORITY, 0, 4,
+            priority: Priority at 20, 4, 4,
+            state: SmStateNumber at 20, 0, 4,
         })
     };
 }
 
 impl Attribute for SmInfo {
     ghost use Rattle.attr_codec.specs.SmInfo.{FitsSmInfo, sm_info_in, sm_info_bytes};
+    ghost use Rattle.smp_bytes.specs.Header.{sm_info};
 
-    const ID: u16 = 0x0020;
+    const ID: u16 = AttributeId::SM_INFO.0;
 
-    ghost ID = { 0x0020 };
+    ghost ID = { sm_info };
 
     ghost is_value = { FitsSmInfo };
 

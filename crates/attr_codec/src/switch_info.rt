@@ -1,12 +1,12 @@
 ghost use Rattle.std.specs.Prelude.{◌≡◌, ◌<◌, ◌^◌, ◌↔◌, IsTrue};
 ghost use Rattle.smp_bytes.specs.Field.{bits_in, number_in, with_bits, with_number};
-ghost use Rattle.smp_bytes.specs.Making.{flag};
+ghost use Rattle.smp_bytes.specs.Requests.{flag};
 ghost use Rattle.attr_codec.specs.SwitchInfo.{linear_fdb_cap, random_fdb_cap, multicast_fdb_cap, linear_fdb_top, default_port, default_multicast_primary_port, default_multicast_not_primary_port, lids_per_port, partition_enforcement_cap, life_time_value, port_state_change};
 
 use crate::attribute::Attribute;
 use crate::bits::{bits, with_bits};
-use crate::field;
-use smp_bytes::{Lid, PortNum};
+use crate::field_type;
+use smp_bytes::{AttributeId, Lid, PortNum};
 use std::marker::Model;
 
 /// What a switch is and does (subnet management, SwitchInfo): 64 bytes, of which those without a name are carried as
@@ -28,10 +28,11 @@ impl Model for SwitchInfo {
 
 impl Attribute for SwitchInfo {
     ghost use Rattle.std.specs.Prelude.{refl};
+    ghost use Rattle.smp_bytes.specs.Header.{switch_info};
 
-    const ID: u16 = 0x0012;
+    const ID: u16 = AttributeId::SWITCH_INFO.0;
 
-    ghost ID = { 0x0012 };
+    ghost ID = { switch_info };
 
     ghost is_value = { λ _. Unit {0} };
 
@@ -50,140 +51,137 @@ impl Attribute for SwitchInfo {
     ghost reads_back = { λ _ _. refl };
 }
 
-const LINEAR_FDB_CAP: usize = 0;
-
-const RANDOM_FDB_CAP: usize = 2;
-
-const MULTICAST_FDB_CAP: usize = 4;
-
-const LINEAR_FDB_TOP: usize = 6;
-
-const DEFAULT_PORT: usize = 8;
-
-const DEFAULT_MULTICAST_PRIMARY_PORT: usize = 9;
-
-const DEFAULT_MULTICAST_NOT_PRIMARY_PORT: usize = 10;
-
-const LIDS_PER_PORT: usize = 12;
-
-const PARTITION_ENFORCEMENT_CAP: usize = 14;
+/// Each named field: of whole bytes its type and first byte; of bits their byte, the lowest bit and how many they are.
+macro_rules! switch_info {
+    ($access:ident linear_fdb_cap $args:tt) => { field_type::$access::<u16, 0> $args };
+    ($access:ident random_fdb_cap $args:tt) => { field_type::$access::<u16, 2> $args };
+    ($access:ident multicast_fdb_cap $args:tt) => { field_type::$access::<u16, 4> $args };
+    ($access:ident linear_fdb_top $args:tt) => { field_type::$access::<Lid, 6> $args };
+    ($access:ident default_port $args:tt) => { field_type::$access::<PortNum, 8> $args };
+    ($access:ident default_multicast_primary_port $args:tt) => { field_type::$access::<PortNum, 9> $args };
+    ($access:ident default_multicast_not_primary_port $args:tt) => { field_type::$access::<PortNum, 10> $args };
+    ($access:ident lids_per_port $args:tt) => { field_type::$access::<u16, 12> $args };
+    ($access:ident partition_enforcement_cap $args:tt) => { field_type::$access::<u16, 14> $args };
+    ($access:ident life_time_value $args:tt) => { $access::<11, 3, 5> $args };
+    ($access:ident port_state_change $args:tt) => { $access::<11, 2, 1> $args };
+}
 
 impl SwitchInfo {
     /// LinearFDBCap: how many LIDs the forwarding table has room for.
     pub fn linear_fdb_cap(&self) -> u16
         ensures { result ≡ number_in linear_fdb_cap self.now }
     {
-        field::read::<u16, { LINEAR_FDB_CAP }>(&self.bytes)
+        switch_info!(read linear_fdb_cap (&self.bytes))
     }
 
     pub fn set_linear_fdb_cap(&mut self, to: u16)
         ensures { self.new ≡ with_number linear_fdb_cap to self.old }
     {
-        field::write::<u16, { LINEAR_FDB_CAP }>(to, &mut self.bytes);
+        switch_info!(write linear_fdb_cap (to, &mut self.bytes));
     }
 
     /// RandomFDBCap.
     pub fn random_fdb_cap(&self) -> u16
         ensures { result ≡ number_in random_fdb_cap self.now }
     {
-        field::read::<u16, { RANDOM_FDB_CAP }>(&self.bytes)
+        switch_info!(read random_fdb_cap (&self.bytes))
     }
 
     pub fn set_random_fdb_cap(&mut self, to: u16)
         ensures { self.new ≡ with_number random_fdb_cap to self.old }
     {
-        field::write::<u16, { RANDOM_FDB_CAP }>(to, &mut self.bytes);
+        switch_info!(write random_fdb_cap (to, &mut self.bytes));
     }
 
     /// MulticastFDBCap.
     pub fn multicast_fdb_cap(&self) -> u16
         ensures { result ≡ number_in multicast_fdb_cap self.now }
     {
-        field::read::<u16, { MULTICAST_FDB_CAP }>(&self.bytes)
+        switch_info!(read multicast_fdb_cap (&self.bytes))
     }
 
     pub fn set_multicast_fdb_cap(&mut self, to: u16)
         ensures { self.new ≡ with_number multicast_fdb_cap to self.old }
     {
-        field::write::<u16, { MULTICAST_FDB_CAP }>(to, &mut self.bytes);
+        switch_info!(write multicast_fdb_cap (to, &mut self.bytes));
     }
 
     /// LinearFDBTop: the greatest LID that the switch forwards.
     pub fn linear_fdb_top(&self) -> Lid
         ensures { result ≡ number_in linear_fdb_top self.now }
     {
-        field::read::<Lid, { LINEAR_FDB_TOP }>(&self.bytes)
+        switch_info!(read linear_fdb_top (&self.bytes))
     }
 
     pub fn set_linear_fdb_top(&mut self, to: Lid)
         ensures { self.new ≡ with_number linear_fdb_top to self.old }
     {
-        field::write::<Lid, { LINEAR_FDB_TOP }>(to, &mut self.bytes);
+        switch_info!(write linear_fdb_top (to, &mut self.bytes));
     }
 
     /// DefaultPort.
     pub fn default_port(&self) -> PortNum
         ensures { result ≡ number_in default_port self.now }
     {
-        field::read::<PortNum, { DEFAULT_PORT }>(&self.bytes)
+        switch_info!(read default_port (&self.bytes))
     }
 
     pub fn set_default_port(&mut self, to: PortNum)
         ensures { self.new ≡ with_number default_port to self.old }
     {
-        field::write::<PortNum, { DEFAULT_PORT }>(to, &mut self.bytes);
+        switch_info!(write default_port (to, &mut self.bytes));
     }
 
     /// DefaultMulticastPrimaryPort.
     pub fn default_multicast_primary_port(&self) -> PortNum
         ensures { result ≡ number_in default_multicast_primary_port self.now }
     {
-        field::read::<PortNum, { DEFAULT_MULTICAST_PRIMARY_PORT }>(&self.bytes)
+        switch_info!(read default_multicast_primary_port (&self.bytes))
     }
 
     pub fn set_default_multicast_primary_port(&mut self, to: PortNum)
         ensures { self.new ≡ with_number default_multicast_primary_port to self.old }
     {
-        field::write::<PortNum, { DEFAULT_MULTICAST_PRIMARY_PORT }>(to, &mut self.bytes);
+        switch_info!(write default_multicast_primary_port (to, &mut self.bytes));
     }
 
     /// DefaultMulticastNotPrimaryPort.
     pub fn default_multicast_not_primary_port(&self) -> PortNum
         ensures { result ≡ number_in default_multicast_not_primary_port self.now }
     {
-        field::read::<PortNum, { DEFAULT_MULTICAST_NOT_PRIMARY_PORT }>(&self.bytes)
+        switch_info!(read default_multicast_not_primary_port (&self.bytes))
     }
 
     pub fn set_default_multicast_not_primary_port(&mut self, to: PortNum)
         ensures { self.new ≡ with_number default_multicast_not_primary_port to self.old }
     {
-        field::write::<PortNum, { DEFAULT_MULTICAST_NOT_PRIMARY_PORT }>(to, &mut self.bytes);
+        switch_info!(write default_multicast_not_primary_port (to, &mut self.bytes));
     }
 
     /// LIDsPerPort.
     pub fn lids_per_port(&self) -> u16
         ensures { result ≡ number_in lids_per_port self.now }
     {
-        field::read::<u16, { LIDS_PER_PORT }>(&self.bytes)
+        switch_info!(read lids_per_port (&self.bytes))
     }
 
     pub fn set_lids_per_port(&mut self, to: u16)
         ensures { self.new ≡ with_number lids_per_port to self.old }
     {
-        field::write::<u16, { LIDS_PER_PORT }>(to, &mut self.bytes);
+        switch_info!(write lids_per_port (to, &mut self.bytes));
     }
 
     /// PartitionEnforcementCap.
     pub fn partition_enforcement_cap(&self) -> u16
         ensures { result ≡ number_in partition_enforcement_cap self.now }
     {
-        field::read::<u16, { PARTITION_ENFORCEMENT_CAP }>(&self.bytes)
+        switch_info!(read partition_enforcement_cap (&self.bytes))
     }
 
     pub fn set_partition_enforcement_cap(&mut self, to: u16)
         ensures { self.new ≡ with_number partition_enforcement_cap to self.old }
     {
-        field::write::<u16, { PARTITION_ENFORCEMENT_CAP }>(to, &mut self.bytes);
+        switch_info!(write partition_enforcement_cap (to, &mut self.bytes));
     }
 
     /// LifeTimeValue, 5 bits.
@@ -191,26 +189,26 @@ impl SwitchInfo {
         ensures number { result ≡ bits_in life_time_value self.now }
         ensures fits { result < 2 ^ 5 }
     {
-        bits::<11, 3, 5>(&self.bytes)
+        switch_info!(bits life_time_value (&self.bytes))
     }
 
     pub fn set_life_time_value(&mut self, to: u8)
         requires { to < 2 ^ 5 }
         ensures { self.new ≡ with_bits life_time_value to self.old }
     {
-        with_bits::<11, 3, 5>(&mut self.bytes, to);
+        switch_info!(with_bits life_time_value (&mut self.bytes, to));
     }
 
     /// PortStateChange: the state of a port has changed.
     pub fn port_state_change(&self) -> bool
         ensures { IsTrue result ↔ (bits_in port_state_change self.now ≡ 1) }
     {
-        bits::<11, 2, 1>(&self.bytes) == 1
+        switch_info!(bits port_state_change (&self.bytes)) == 1
     }
 
     pub fn set_port_state_change(&mut self, to: bool)
         ensures { self.new ≡ with_bits port_state_change (flag to) self.old }
     {
-        with_bits::<11, 2, 1>(&mut self.bytes, u8::from(to));
+        switch_info!(with_bits port_state_change (&mut self.bytes, u8::from(to)));
     }
 }

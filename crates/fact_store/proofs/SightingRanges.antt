@@ -1,8 +1,8 @@
 -- What a list of sightings tells of its view: its cells, its keys, its ranges and its newest generation.
-use Rattle.std.proofs.Common.{◌≡◌, ◌≤◌, ◌+◌, ℕ, suc, List, [], ◌∷◌, ◌++◌, inl, inr, refl, sym, ap, ◌∙◌, subst, arith, Bool, true, false, cond, ◌||◌, map, length}
+use Rattle.std.proofs.Common.{◌≡◌, ◌≤◌, ◌+◌, ℕ, suc, List, [], ◌∷◌, ◌++◌, inl, inr, refl, sym, ap, ◌∙◌, subst, arith, Bool, true, false, cond, ◌&&◌, ◌||◌, map, length}
 use Rattle.std.proofs.lemmas.List.{length-map}
 use Rattle.std.proofs.lemmas.List.Elements.{Contains-append_left, Contains-append_right, Contains-append_cases}
-use Rattle.std.proofs.lemmas.Bool.{eq-eqb}
+use Rattle.std.proofs.lemmas.Bool.{and_parts, eq-eqb}
 use Rattle.std.specs.Prelude.{Option, None, Some, MatchOption, Contains, find, max}
 use Rattle.std.specs.FinMap.{get, entries, entries_sorted, keys, len, len-entries, len-empty, len-insert, from_entries, contains_key}
 use Rattle.fact_join.specs.declared.cell.Cell.{Cell}
@@ -12,7 +12,7 @@ use Rattle.fact_join.specs.Joins.{below-le}
 use Rattle.fact_store.specs.declared.key.Key.{Key}
 use Rattle.fact_store.specs.declared.value.Value.{Value}
 use Rattle.fact_store.specs.Key.{key_cmp}
-use Rattle.fact_store.specs.Sighting.{IsSighting, AreInRange}
+use Rattle.fact_store.specs.Sighting.{IsSighting, AreInRange, is_cell_of, is_generation, is_key}
 use Rattle.fact_store.specs.View.{Facts, is_of, cell_at, view, WasSighted, IsNewest, IsCellIn, IsNewestGeneration}
 use Rattle.fact_store.proofs.Keys.{key_total}
 use Rattle.fact_store.proofs.Members.{contains_here, contains_cases, contains_none}
@@ -103,7 +103,8 @@ sighting_in s f q (Known g v) i =
 sighting_in s f q (Disputed g) i =
     let n = i.0.sighted in
     let h = f (q, n.0) n.1 in
-    record { key = h.key; generation = subst Rattle.fact_store.specs.Sighting.IsGeneration n.2 h.generation; cell = tt }
+    let parts = and_parts (is_key q && is_generation (generation_of n.0)) (is_cell_of q n.0) h in
+    ap (λ b. b && true) (ap (λ k. is_key q && is_generation k) (sym n.2) ∙ parts.0)
 
 -- a view of sightings in range is in range
 pub in_range : (s : List (Key × Cell Value)) → ((x : Key × Cell Value) → Contains s x → IsSighting x) → AreInRange (view s)

@@ -1,7 +1,9 @@
 pub mod Coded
+pub mod Ingest
 pub mod Key
 pub mod Merge
 pub mod Report
+pub mod ReportFault
 pub mod Sighting
 pub mod Value
 pub mod Values

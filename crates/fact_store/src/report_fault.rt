@@ -1,3 +1,5 @@
+ghost use Rattle.std.specs.Prelude.{◌≡◌};
+
 use smp_bytes::SmpFault;
 use thiserror::Error;
 
@@ -37,4 +39,27 @@ pub enum ReportFault {
     /// A port or a number of ports is out of range.
     #[error("Port")]
     Port,
+}
+
+impl ReportFault {
+    ghost use Rattle.fact_store.specs.ReportFault.{report_fault_name};
+
+    /// The name that `{}` writes; that of the packet's fault where there is one.
+    pub fn name(self) -> &'static str
+        ensures { result.now ≡ report_fault_name self }
+    {
+        match self {
+            ReportFault::Generation => "Generation",
+            ReportFault::Smp(fault) => fault.name(),
+            ReportFault::Class => "Class",
+            ReportFault::Method => "Method",
+            ReportFault::Direction => "Direction",
+            ReportFault::Status => "Status",
+            ReportFault::Attribute => "Attribute",
+            ReportFault::Context => "Context",
+            ReportFault::Modifier => "Modifier",
+            ReportFault::NodeType => "NodeType",
+            ReportFault::Port => "Port",
+        }
+    }
 }

@@ -121,7 +121,7 @@ fn node_info_report(node: &Node, context: Context, local_port: u8) -> Report {
     let info = NodeInfo {
         base_version: 1,
         class_version: 1,
-        node_type: NodeTypeNumber::of(node.kind),
+        node_type: NodeTypeNumber::from(node.kind),
         num_ports: node.num_ports,
         system_image_guid: Guid::new(node.guid),
         node_guid: Guid::new(node.guid),

@@ -11,7 +11,7 @@ use Rattle.fact_store.specs.declared.report_fault.ReportFault.{ReportFault}
 use Rattle.record_file.specs.declared.file_fault.FileFault.{FileFault}
 use Rattle.record_file.specs.declared.file_fault.FileFault.TheVariants.{Magic, Truncated, BadReport, BadCell, CellOrder, Memory, Read, TooLong}
 use Rattle.record_file.specs.declared.format.Format.{Format}
-use Rattle.record_file.specs.Absorbing.{Absorbs, AnswersOutcome, IsDecided}
+use Rattle.record_file.specs.Absorbs.{AbsorbsFrom, AnswersOutcome, IsDecided, WasInterruptedTooOften}
 use Rattle.record_file.specs.Laws.{IsBadRecord}
 use Rattle.record_file.specs.RecordFile.{Judgement, ending, fault_first, fault_in, fault_or, first_fault, first_records, format_of, judged, kept, kept_as, key_in, magic, outcome, outcome_as, record_size, records, records_in_reach, told_by}
 use Rattle.record_file.proofs.Formats.{format-more, judged-bad, whole_of}
@@ -207,16 +207,16 @@ answers-weaker (Err Read) bytes p q f h = h
 answers-weaker (Err Memory) bytes p q f h = h
 answers-weaker (Err TooLong) bytes p q f h = elim h [ inl long ↦ inl long | inr calls ↦ inr (f calls) ]
 
-pub answers-known : (answer : Result (Unit {0}) FileFault) (old new : Facts) (left left' : Option (List ℕ)) (n m : ℕ) (taken : List ℕ) → Absorbs answer old new left left' n m taken
-    → IfSome left (λ bytes. IfSome left' (λ rest. AnswersOutcome answer bytes (2 ^ 40 + n + length rest ≤ length bytes + m)))
-answers-known answer old new None left' n m taken h = tt
-answers-known answer old new (Some bytes) None n m taken h = tt
-answers-known answer old new (Some bytes) (Some rest) n m taken h =
-    let consumed = h.consumed in
-    let P : List ℕ → Type 0 = λ l. AnswersOutcome answer l (2 ^ 40 + n + length rest ≤ length l + m) in
-    subst P (sym consumed)
-    (answers-weaker answer (taken ++ rest) (2 ^ 40 + n ≤ length taken + m) (2 ^ 40 + n + length rest ≤ length (taken ++ rest) + m) (λ e. omega (arith, length-append taken rest))
-    (answers_all answer taken rest (2 ^ 40 + n ≤ length taken + m) h.answered h.decided))
+pub answers-known : (answer : Result (Unit {0}) FileFault) (old new : Facts) (left left' : Option (List ℕ)) (n m : ℕ) → AbsorbsFrom left left' n m answer old new
+    → IfSome left (λ bytes. IfSome left' (λ rest. AnswersOutcome answer bytes (WasInterruptedTooOften bytes rest n m)))
+answers-known answer old new None left' n m h = tt
+answers-known answer old new (Some bytes) None n m h = tt
+answers-known answer old new (Some bytes) (Some rest) n m h =
+    let taken = h.taken in
+    let P : List ℕ → Type 0 = λ l. AnswersOutcome answer l (WasInterruptedTooOften l rest n m) in
+    subst P (sym h.consumed)
+    (answers-weaker answer (taken ++ rest) (WasInterruptedTooOften taken [] n m) (WasInterruptedTooOften (taken ++ rest) rest n m) (λ e. omega (arith, length-append taken rest))
+    (answers_all answer taken rest (WasInterruptedTooOften taken [] n m) h.answered h.decided))
 
 pub kept-stays : (a rest : List ℕ) (f : FileFault) → IsBadRecord f → outcome a ≡ Err f → kept (a ++ rest) ≡ kept a
 kept-stays a rest f is_bad h =

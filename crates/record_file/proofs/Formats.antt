@@ -90,25 +90,13 @@ pub judged-bad : (format : Format) (last : Option Key) (r : List ℕ) (f : ℕ �
 judged-bad Reports last r f i h = bad_report (report_judged r) f i h
 judged-bad Cells last r f i h = bad_cell last (cell_of r) f i h
 
--- how the last record of a reading is judged ------------------------------------------
-
--- no memory for a good record of this format, or a bad record
-abbrev pub IsLast : Format → Option Key → List ℕ → ℕ → FileFault → Type 0
-IsLast format last r index f = ((f ≡ Memory) × ((told : List (Key × Cell Value)) × (judged format last r ≡ Ok told))) ⊎ ((g : ℕ → FileFault) × (judged format last r ≡ Err g) × (f ≡ g index))
-
-pub last_report : (format : Format) (last : Option Key) (r : List ℕ) (index : ℕ) (f : FileFault) → format ≡ Reports
-    → ((f ≡ Memory) × ((told : List (Key × Cell Value)) × (report_judged r ≡ Ok told))) ⊎ ((g : ReportFault) × (report_judged r ≡ Err g) × (f ≡ BadReport index g))
-    → IsLast format last r index f
-last_report format last r index f is (inl h) = inl (h.0, (h.1.0, ap (λ x. judged x last r) is ∙ ap of_report h.1.1))
-last_report format last r index f is (inr h) = inr ((λ i. BadReport i h.0), ap (λ x. judged x last r) is ∙ ap of_report h.1, h.2)
+-- how a record is judged ----------------------------------------------------------------
 
 pub good_cell : (last : Option Key) (r : List ℕ) (e : Key × Cell Value) → cell_of r ≡ Some e → is_above last e.0 ≡ true → judged Cells last r ≡ Ok (e ∷ [])
 good_cell last r e is above = ap (of_cell last) is ∙ ap (λ b. cond b (Ok (e ∷ [])) (Err CellOrder)) above
 
-pub last_cell : (format : Format) (last : Option Key) (r : List ℕ) (index : ℕ) (f : FileFault) → format ≡ Cells
-    → (f ≡ Memory → (e : Key × Cell Value) × (cell_of r ≡ Some e) × (is_above last e.0 ≡ true))
-    → (f ≡ Memory) ⊎ ((cell_of r ≡ None) × (f ≡ BadCell index)) ⊎ ((e : Key × Cell Value) × (cell_of r ≡ Some e) × (is_above last e.0 ≡ false) × (f ≡ CellOrder index))
-    → IsLast format last r index f
-last_cell format last r index f is good (inl h) = let e = good h in inl (h, (e.0 ∷ [], ap (λ x. judged x last r) is ∙ good_cell last r e.0 e.1 e.2))
-last_cell format last r index f is good (inr (inl h)) = inr (BadCell, ap (λ x. judged x last r) is ∙ ap (of_cell last) h.0, h.1)
-last_cell format last r index f is good (inr (inr h)) = inr (CellOrder, ap (λ x. judged x last r) is ∙ ap (of_cell last) h.1 ∙ ap (λ b. cond b (Ok (h.0 ∷ [])) (Err CellOrder)) h.2, h.3)
+pub cell_out_of_order : (last : Option Key) (r : List ℕ) (e : Key × Cell Value) → cell_of r ≡ Some e → is_above last e.0 ≡ false → judged Cells last r ≡ Err CellOrder
+cell_out_of_order last r e is above = ap (of_cell last) is ∙ ap (λ b. cond b (Ok (e ∷ [])) (Err CellOrder)) above
+
+pub no_cell : (last : Option Key) (r : List ℕ) → cell_of r ≡ None → judged Cells last r ≡ Err BadCell
+no_cell last r none = ap (of_cell last) none

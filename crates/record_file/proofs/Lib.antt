@@ -4,7 +4,7 @@ pub mod Beginnings
 pub mod Bytes
 pub mod Cells
 pub mod Formats
-pub mod Places
+pub mod Filling
 pub mod Records
 pub mod ReportRecords
 pub mod StoreFiles

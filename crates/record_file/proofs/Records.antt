@@ -159,12 +159,16 @@ pub kept-file : (format : Format) (rs : List (List ℕ)) (x : List ℕ) → AreR
     → kept (file format rs x) ≡ told_by format None (rs ++ records (record_size format) (take (2 ^ 40 - bytes_of format (length rs)) x))
 kept-file format rs x h fits = kept-magic format (concat rs ++ x) ∙ ap (told_by format None) (records_in_reach-file format rs x h fits)
 
--- good records and nothing else have no fault
+-- good records, and less than a whole one behind them, have no fault
+pub fault_in-part : (format : Format) (rs : List (List ℕ)) (x part : List ℕ) → AreRecords (record_size format) rs → bytes_of format (length rs) ≤ 2 ^ 40 → first_fault format None 0 rs ≡ None
+    → take (2 ^ 40 - bytes_of format (length rs)) x ≡ part → length part < record_size format → fault_in format (file format rs x) ≡ None
+fault_in-part format rs x part h fits good cut short =
+    let none = ap (records (record_size format)) cut ∙ records-short (record_size format) part short in
+    ap (first_fault format None 0) (records_in_reach-file format rs x h fits ∙ ap (λ l. rs ++ l) none ∙ append-nil rs) ∙ good
+
+-- good records and nothing else have none either
 pub fault_in-file : (format : Format) (rs : List (List ℕ)) → AreRecords (record_size format) rs → bytes_of format (length rs) ≤ 2 ^ 40 → first_fault format None 0 rs ≡ None → fault_in format (file format rs []) ≡ None
-fault_in-file format rs h fits good =
-    let rest = 2 ^ 40 - bytes_of format (length rs) in
-    let none : records (record_size format) (take rest []) ≡ [] = ap (records (record_size format)) (take_all rest [] (omega arith)) ∙ records-short (record_size format) [] (size-positive format) in
-    ap (first_fault format None 0) (records_in_reach-file format rs [] h fits ∙ ap (λ l. rs ++ l) none ∙ append-nil rs) ∙ good
+fault_in-file format rs h fits good = fault_in-part format rs [] [] h fits good (take_all (2 ^ 40 - bytes_of format (length rs)) [] (omega arith)) (size-positive format)
 
 -- what stands behind good records is less than a whole record
 pub outcome-part : (format : Format) (rs : List (List ℕ)) (x part : List ℕ) → AreRecords (record_size format) rs → bytes_of format (length rs) ≤ 2 ^ 40 → first_fault format None 0 rs ≡ None

@@ -1,11 +1,17 @@
 -- Lemmas on the spelling of a report.
-use Rattle.std.proofs.Common.{◌≡◌, ℕ, List, None, Some, Ok, Err, take, drop, slice_index, refl, sym, ap, ◌∙◌}
+use Rattle.std.proofs.Common.{◌≡◌, ◌↔◌, ℕ, List, Option, None, Some, Result, Ok, Err, take, drop, slice_index, refl, sym, ap, ◌∙◌}
 use Rattle.std.specs.Int.{from_be_bytes, w32, w64}
 use Rattle.fact_store.specs.declared.report.Context.{Context}
 use Rattle.fact_store.specs.declared.report.Report.{Report}
-use Rattle.fact_join.specs.declared.cell.Cell.{Cell}
+use Rattle.fact_store.specs.declared.ingest.IngestFault.{IngestFault}
+use Rattle.fact_store.specs.declared.ingest.IngestFault.TheVariants.{Report as Refused, Memory as Full}
 use Rattle.fact_store.specs.declared.key.Key.{Key}
-use Rattle.fact_store.specs.declared.value.Value.{Value}
+use Rattle.fact_store.specs.Merge.{merge}
+use Rattle.fact_store.specs.View.{Facts, view}
+use Rattle.record_file.specs.Absorbs.{AbsorbsJudged}
+use Rattle.record_file.specs.declared.file_fault.FileFault.TheVariants.{BadReport, Memory}
+use Rattle.record_file.specs.declared.format.Format.TheVariants.{Reports}
+use Rattle.record_file.specs.RecordFile.{judged}
 use Rattle.fact_store.specs.declared.report_fault.ReportFault.{ReportFault}
 use Rattle.fact_store.specs.declared.report_fault.ReportFault.TheVariants.{Context as NoContext}
 use Rattle.fact_store.specs.Report.{report_fault, sightings_of}
@@ -20,14 +26,37 @@ pub report_of-spelled : (bytes : List ℕ) (generation : ℕ) (context : Context
 unfolding report_of
 report_of-spelled bytes generation context reply sixth seventh first told rest = rw (sixth, seventh, told, first, rest) refl
 
-pub judged-none : (bytes : List ℕ) → None ≡ report_of bytes → report_judged bytes ≡ Err NoContext
+judged-none : (bytes : List ℕ) → None ≡ report_of bytes → report_judged bytes ≡ Err NoContext
 unfolding report_judged
 judged-none bytes h = ap report_told (sym h)
 
-pub judged-told : (bytes : List ℕ) (r : Report) (told : List (Key × Cell Value)) → Some r ≡ report_of bytes → (report_fault r ≡ None) × (told ≡ sightings_of r) → report_judged bytes ≡ Ok told
+judged-told : (bytes : List ℕ) (r : Report) → Some r ≡ report_of bytes → report_fault r ≡ None → report_judged bytes ≡ Ok (sightings_of r)
 unfolding report_judged
-judged-told bytes r told h (none, same) = ap report_told (sym h) ∙ ap (λ o. unless_fault o (sightings_of r)) none ∙ ap Ok (sym same)
+judged-told bytes r h none = ap report_told (sym h) ∙ ap (λ o. unless_fault o (sightings_of r)) none
 
-pub judged-fault : (bytes : List ℕ) (r : Report) (f : ReportFault) → Some r ≡ report_of bytes → report_fault r ≡ Some f → report_judged bytes ≡ Err f
+judged-fault : (bytes : List ℕ) (r : Report) (f : ReportFault) → Some r ≡ report_of bytes → report_fault r ≡ Some f → report_judged bytes ≡ Err f
 unfolding report_judged
 judged-fault bytes r f h some = ap report_told (sym h) ∙ ap (λ o. unless_fault o (sightings_of r)) some
+
+-- what becomes of a record that spells no report, of one that is refused, and of a good one
+pub absorbs-none : (bytes : List ℕ) (last : Option Key) (index : ℕ) (store : Facts) → None ≡ report_of bytes → AbsorbsJudged {K = Unit {0}} (judged Reports last bytes) index (Err (BadReport index NoContext)) store store
+absorbs-none bytes last index store h = rw (judged-none bytes h) (refl, refl)
+
+pub absorbs-fault : (bytes : List ℕ) (last : Option Key) (index : ℕ) (r : Report) (f : ReportFault) (old new : Facts) → Some r ≡ report_of bytes → report_fault r ≡ Some f → new ≡ old → AbsorbsJudged {K = Unit {0}} (judged Reports last bytes) index (Err (BadReport index f)) old new
+absorbs-fault bytes last index r f old new h some same = rw (judged-fault bytes r f h some) (refl, same)
+
+pub absorbs-told : (bytes : List ℕ) (last : Option Key) (index : ℕ) (r : Report) (old new : Facts) → Some r ≡ report_of bytes → report_fault r ≡ None → new ≡ merge old (view (sightings_of r)) → AbsorbsJudged {K = Unit {0}} (judged Reports last bytes) index (Ok tt) old new
+absorbs-told bytes last index r old new h none merged = rw (judged-told bytes r h none) merged
+
+-- a report for which there is no memory is good, so no fault of it is answered
+absorbs-full : (bytes : List ℕ) (last : Option Key) (index : ℕ) (r : Report) (old new : Facts) → Some r ≡ report_of bytes → report_fault r ≡ None → new ≡ old → AbsorbsJudged {K = Unit {0}} (judged Reports last bytes) index (Err Memory) old new
+absorbs-full bytes last index r old new h none same = rw (judged-told bytes r h none) (refl, same)
+
+-- the fault of a report is answered as such
+pub absorbs-memory : (bytes : List ℕ) (last : Option Key) (index : ℕ) (r : Report) (old new : Facts) (answer : Result (Unit {0}) IngestFault) → Some r ≡ report_of bytes → answer ≡ Err Full
+    → ((f : ReportFault) → (answer ≡ Err (Refused f)) ↔ (report_fault r ≡ Some f)) → new ≡ old → AbsorbsJudged {K = Unit {0}} (judged Reports last bytes) index (Err Memory) old new
+absorbs-memory bytes last index r old new answer h full refused same =
+    elim (report_fault r) as (λ o. report_fault r ≡ o → AbsorbsJudged {K = Unit {0}} (judged Reports last bytes) index (Err Memory) old new) [
+      | None ↦ λ none. absorbs-full bytes last index r old new h none same
+      | Some f ↦ λ some. let is : answer ≡ Err (Refused f) = (refused f).1 some in absurd (cc)
+    ] refl

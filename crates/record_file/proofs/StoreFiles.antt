@@ -5,7 +5,7 @@ use Rattle.std.specs.declared.cmp.Ordering.TheVariants.{Less, Equal, Greater}
 use Rattle.std.specs.declared.cmp.Ordering.{Ordering}
 use Rattle.std.specs.Ordering.{is_lt}
 use Rattle.std.specs.List.{concat, flat_map}
-use Rattle.std.specs.FinMap.{entries, entries_sorted, entries-from_sorted, from_sorted}
+use Rattle.std.specs.FinMap.{empty, entries, entries_sorted, entries-from_sorted, from_sorted}
 use Rattle.std.specs.FinMap.Entries.{below_all, is_sorted}
 use Rattle.fact_join.specs.declared.cell.Cell.{Cell}
 use Rattle.fact_store.specs.declared.key.Key.{Key}
@@ -22,6 +22,8 @@ use Rattle.record_file.specs.declared.file_fault.FileFault.{FileFault}
 use Rattle.record_file.specs.declared.file_fault.FileFault.TheVariants.{BadCell, CellOrder}
 use Rattle.record_file.specs.declared.format.Format.{Format}
 use Rattle.record_file.specs.declared.format.Format.TheVariants.{Cells}
+use Rattle.std.specs.Io.KnownBytes.{Consumes, IsAtEnd}
+use Rattle.record_file.specs.Absorbs.{AbsorbsFrom}
 use Rattle.record_file.specs.CellRecord.{cell_of, record_bytes}
 use Rattle.record_file.specs.RecordFile.{fault_or, first_fault, key_in, kept, magic, of_cell, outcome, records, records_in_reach, told_by, told_then}
 use Rattle.record_file.specs.StoreFile.{store_bytes}
@@ -217,7 +219,14 @@ one_spelling x y in_x in_y same =
     let es = sym (facts_spelled x in_x).told ∙ ap (told_by Cells None) rs ∙ (facts_spelled y in_y).told in
     sym (view_of_its_cells x) ∙ ap view es ∙ view_of_its_cells y
 
-pub absorbing_reads_back : AbsorbingReadsBack
-absorbing_reads_back bytes rest taken facts new n m is absorbed =
-    let whole : taken ≡ bytes = sym (absorbed.consumed ∙ ap (λ r. taken ++ r) absorbed.decided ∙ append-nil taken) in
-    absorbed.held ∙ merge_empty (view (kept taken)) ∙ ap (λ b. view (kept b)) whole ∙ (read_back bytes facts is).2
+-- what was taken of a known source that ended is all of it
+taken_whole : (left left' : Option (List ℕ)) (n m : ℕ) (bytes rest : List ℕ) (old new : Facts) → left ≡ Some bytes → left' ≡ Some rest → (h : AbsorbsFrom left left' n m (Ok tt) old new) → h.taken ≡ bytes
+taken_whole left left' n m bytes rest old new before after h =
+    let P : Option (List ℕ) → Option (List ℕ) → Type 0 = λ a b. Consumes a b h.taken × IsAtEnd b in
+    let ends : Consumes (Some bytes) (Some rest) h.taken × IsAtEnd (Some rest) = subst (λ (a : Option (List ℕ)). P a (Some rest)) before (subst (λ (b : Option (List ℕ)). P left b) after (h.consumed, h.decided)) in
+    sym (ends.0 ∙ ap (λ r. h.taken ++ r) ends.1 ∙ append-nil h.taken)
+
+pub absorbing_reads_back : {S : Type 0} (left : S → Option (List ℕ)) (interruptions : S → ℕ) → AbsorbingReadsBack left interruptions
+absorbing_reads_back left interruptions source source' bytes rest facts new before after is absorbed =
+    let whole = taken_whole (left source) (left source') (interruptions source) (interruptions source') bytes rest empty new before after absorbed in
+    absorbed.held ∙ merge_empty (view (kept absorbed.taken)) ∙ ap (λ b. view (kept b)) whole ∙ (read_back bytes facts is).2

@@ -1,6 +1,6 @@
 -- Writing one piece after another.
 use Rattle.std.proofs.Common.{◌≡◌, ℕ, ◌+◌, ◌<◌, ◌≤◌, List, [], ◌∷◌, ◌++◌, length, Option, Some, None, sym, ap, subst, ◌∙◌, inl, inr, take, OnOk, Result, Ok, Err, slice_get, append_assoc, arith}
-use Rattle.std.specs.Io.KnownBytes.{Appends, Keeps}
+use Rattle.std.specs.Io.KnownBytes.{Appends}
 use Rattle.std.specs.List.{flat_map}
 use Rattle.std.proofs.lemmas.List.{append-nil, flat_map_more, take_more, take_all}
 use Rattle.std.proofs.lemmas.Option.{slice_get_cases}
@@ -18,11 +18,8 @@ appends_then (Some xs) (Some ys) None x y p q = absurd q
 appends_then (Some xs) (Some ys) (Some zs) x y p q = q ∙ ap (λ t. t ++ y) p ∙ append_assoc xs x y
 
 -- a text, and then nothing more
-pub appends_kept : (a b c : Option (List ℕ)) (x : List ℕ) → Appends a b x → Keeps b c → Appends a c x
-appends_kept None b c x p q = tt
-appends_kept (Some xs) None c x p q = absurd p
-appends_kept (Some xs) (Some ys) None x p q = absurd q
-appends_kept (Some xs) (Some ys) (Some zs) x p q = q ∙ p
+pub appends_flushed : (a b c : Option (List ℕ)) (x : List ℕ) → Appends a b x → Appends b c [] → Appends a c x
+appends_flushed a b c x p q = let P : List ℕ → Type 0 = λ t. Appends a c t in subst P (append-nil x) (appends_then a b c x [] p q)
 
 -- one more element
 take-slice_get : {X : Type 0} (xs : List X) (i : ℕ) (x : X) → slice_get xs i ≡ Some x → take (i + 1) xs ≡ take i xs ++ x ∷ []
@@ -46,16 +43,15 @@ appends_more text xs i x a b c e p q =
     subst P next (appends_then a b c _ (text x) p q)
 
 -- the texts of all elements
-pub appends_all : {X : Type 0} (text : X → List ℕ) (xs : List X) (i : ℕ) (a b c : Option (List ℕ)) → length xs ≤ i → Appends a b (flat_map text (take i xs)) → Keeps b c → Appends a c (flat_map text xs)
-appends_all text xs i a b c done p q = appends_kept a b c (flat_map text xs) (let P : List _ → Type 0 = λ t. Appends a b (flat_map text t) in subst P (take_all i xs done) p) q
+pub appends_all : {X : Type 0} (text : X → List ℕ) (xs : List X) (i : ℕ) (a b : Option (List ℕ)) → length xs ≤ i → Appends a b (flat_map text (take i xs)) → Appends a b (flat_map text xs)
+appends_all text xs i a b done p = let P : List _ → Type 0 = λ t. Appends a b (flat_map text t) in subst P (take_all i xs done) p
 
--- the same, where the flush that comes last may fail
-pub appends_all_on_ok : {X E : Type 0} (text : X → List ℕ) (xs : List X) (i : ℕ) (a b c : Option (List ℕ)) (r : Result (Unit {0}) E) → length xs ≤ i → Appends a b (flat_map text (take i xs)) → OnOk r (Keeps b c) → OnOk r (Appends a c (flat_map text xs))
-appends_all_on_ok text xs i a b c (Ok x) done p q = appends_all text xs i a b c done p q
-appends_all_on_ok text xs i a b c (Err e) done p q = tt
+-- a text, another, and then the flush that comes last, which may fail
+pub appends_then_last : {E : Type 0} (first text : List ℕ) (a b c d : Option (List ℕ)) (r : Result (Unit {0}) E) → Appends a b first → Appends b c text → OnOk r (Appends c d []) → OnOk r (Appends a d (first ++ text))
+appends_then_last first text a b c d (Ok x) p q k = appends_flushed a c d (first ++ text) (appends_then a b c first text p q) k
+appends_then_last first text a b c d (Err e) p q k = tt
 
--- the same behind a piece that went out first
-pub appends_then_all : {X E : Type 0} (first : List ℕ) (text : X → List ℕ) (xs : List X) (i : ℕ) (a b c d : Option (List ℕ)) (r : Result (Unit {0}) E) → length xs ≤ i
-    → Appends a b first → Appends b c (flat_map text (take i xs)) → OnOk r (Keeps c d) → OnOk r (Appends a d (first ++ flat_map text xs))
-appends_then_all first text xs i a b c d (Ok x) done p q k = appends_then a b d first (flat_map text xs) p (appends_all text xs i b c d done q k)
-appends_then_all first text xs i a b c d (Err e) done p q k = tt
+-- the texts of all elements, and then the flush that comes last, which may fail
+pub appends_all_on_ok : {X E : Type 0} (text : X → List ℕ) (xs : List X) (i : ℕ) (a b c : Option (List ℕ)) (r : Result (Unit {0}) E) → length xs ≤ i → Appends a b (flat_map text (take i xs)) → OnOk r (Appends b c []) → OnOk r (Appends a c (flat_map text xs))
+appends_all_on_ok text xs i a b c (Ok x) done p k = appends_flushed a b c (flat_map text xs) (appends_all text xs i a b done p) k
+appends_all_on_ok text xs i a b c (Err e) done p k = tt

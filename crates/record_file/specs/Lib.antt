@@ -1,10 +1,14 @@
-pub mod Absorbing
+pub mod Absorbs
+pub mod Budget
 pub mod CellRecord
+pub mod FileFault
+pub mod FillFault
 pub mod Filling
 pub mod Laws
-pub mod Place
 pub mod Reading
 pub mod RecordFile
 pub mod ReportRecord
+pub mod Source
 pub mod StoreFile
 pub mod StoreLaws
+pub mod Writes

@@ -1,5 +1,5 @@
 -- Laws of store files.
-use Rattle.std.specs.Prelude.{◌≡◌, ◌↔◌, ℕ, ◌<◌, ◌^◌, List, Some, Ok, length}
+use Rattle.std.specs.Prelude.{◌≡◌, ◌↔◌, ℕ, ◌<◌, ◌^◌, List, Option, Some, Ok, length}
 use Rattle.std.specs.FinMap.{empty, entries}
 use Rattle.fact_join.specs.declared.cell.Cell.{Cell}
 use Rattle.fact_store.specs.declared.key.Key.{Key}
@@ -7,7 +7,7 @@ use Rattle.fact_store.specs.declared.value.Value.{Value}
 use Rattle.fact_store.specs.Sighting.{AreInRange, IsSighting}
 use Rattle.fact_store.specs.View.{Facts, view}
 use Rattle.record_file.specs.declared.format.Format.TheVariants.{Cells}
-use Rattle.record_file.specs.Absorbing.{Absorbs}
+use Rattle.record_file.specs.Absorbs.{Absorbs}
 use Rattle.record_file.specs.CellRecord.{cell_of, record_bytes}
 use Rattle.record_file.specs.RecordFile.{format_of, kept, outcome}
 use Rattle.record_file.specs.StoreFile.{store_bytes}
@@ -35,5 +35,6 @@ abbrev pub FactsHaveOneSpelling : Type 0
 FactsHaveOneSpelling = (x y : Facts) → AreInRange x → AreInRange y → store_bytes (entries x) ≡ store_bytes (entries y) → x ≡ y
 
 -- and whoever absorbs the whole file of some facts into an empty store holds these facts
-abbrev pub AbsorbingReadsBack : Type 0
-AbsorbingReadsBack = (bytes rest taken : List ℕ) (facts new : Facts) (n m : ℕ) → IsStoreFile bytes facts → Absorbs (Ok tt) empty new (Some bytes) (Some rest) n m taken → new ≡ facts
+abbrev pub AbsorbingReadsBack : {S : Type 0} → (S → Option (List ℕ)) → (S → ℕ) → Type 0
+AbsorbingReadsBack {S} left interruptions = (source source' : S) (bytes rest : List ℕ) (facts new : Facts) → left source ≡ Some bytes → left source' ≡ Some rest → IsStoreFile bytes facts
+    → Absorbs left interruptions (Ok tt) source source' empty new → new ≡ facts

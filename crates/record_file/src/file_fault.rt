@@ -1,6 +1,6 @@
-ghost use Rattle.std.specs.Prelude.{◌≡◌};
+ghost use Rattle.std.specs.Prelude.{◌≡◌, Some, None};
 
-use crate::fill::FillFault;
+use crate::stream::FillFault;
 use fact_store::ReportFault;
 use thiserror::Error;
 
@@ -30,7 +30,7 @@ pub enum FileFault {
 }
 
 impl From<FillFault> for FileFault {
-    ghost use Rattle.record_file.specs.Reading.{file_fault_of};
+    ghost use Rattle.record_file.specs.FillFault.{file_fault_of};
 
     ghost from_gives = { λ fault f. f ≡ file_fault_of fault };
 
@@ -39,5 +39,55 @@ impl From<FillFault> for FileFault {
             FillFault::Read => FileFault::Read,
             FillFault::TooLong => FileFault::TooLong,
         }
+    }
+}
+
+impl FileFault {
+    ghost use Rattle.record_file.specs.FileFault.{fault_words, fault_number, fault_of_report, is_of_file};
+
+    /// What is said of the file, up to the number.
+    pub fn words(&self) -> &'static str
+        ensures { result.now ≡ fault_words self.now }
+    {
+        match self {
+            FileFault::Magic => "bad magic",
+            FileFault::Truncated { .. } => "truncated at ",
+            FileFault::BadReport { .. } => "bad report ",
+            FileFault::BadCell { .. } => "bad cell ",
+            FileFault::CellOrder { .. } => "cell out of order ",
+            FileFault::Read => "read failed",
+            FileFault::Memory => "out of memory",
+            FileFault::TooLong => "too long",
+        }
+    }
+
+    /// The offset, or the index of the record, that the words end with.
+    pub fn number(&self) -> Option<u64>
+        ensures { result ≡ fault_number self.now }
+    {
+        match *self {
+            FileFault::Truncated { offset } => Some(offset),
+            FileFault::BadReport { index, .. }
+            | FileFault::BadCell { index }
+            | FileFault::CellOrder { index } => Some(index),
+            _ => None,
+        }
+    }
+
+    /// What is wrong with the report of a record.
+    pub fn report_fault(&self) -> Option<ReportFault>
+        ensures { result ≡ fault_of_report self.now }
+    {
+        match *self {
+            FileFault::BadReport { fault, .. } => Some(fault),
+            _ => None,
+        }
+    }
+
+    /// Whether the file has the fault; want of memory is not the file's.
+    pub fn is_of_file(&self) -> bool
+        ensures { result ≡ is_of_file self.now }
+    {
+        !matches!(self, FileFault::Memory)
     }
 }

@@ -1,5 +1,5 @@
 //! What files hold, told apart by their magic.
-use crate::{report_record, store_record};
+use crate::{report_record, store_file};
 
 /// The bytes of a file's magic.
 pub(crate) const MAGIC_LEN: usize = 8;
@@ -37,7 +37,7 @@ impl Format {
     {
         match self {
             Format::Reports => report_record::RECORD_LEN,
-            Format::Cells => store_record::RECORD_LEN,
+            Format::Cells => store_file::RECORD_LEN,
         }
     }
 }

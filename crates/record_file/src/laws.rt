@@ -3,6 +3,8 @@
 ghost use Rattle.record_file.specs.StoreLaws.{AbsorbingReadsBack, FactsAreReadBack, FactsHaveOneSpelling, RecordsAreSpellings, StoreFilesAreAccepted};
 ghost use Rattle.record_file.specs.Laws.{BadRecordStays, ReportFilesAreAccepted};
 
+use crate::stream::Source;
+
 /// Neither the fault of a bad record nor what is kept depends on what follows it.
 pub fn bad_record_stays()
     ensures { BadRecordStays }
@@ -34,6 +36,6 @@ pub fn facts_have_one_spelling()
 {}
 
 /// A store that was empty holds these facts once their file was absorbed.
-pub fn absorbing_reads_back()
-    ensures { AbsorbingReadsBack }
+pub fn absorbing_reads_back<S: Source>()
+    ensures { AbsorbingReadsBack S.left S.interruptions }
 {}

@@ -111,8 +111,8 @@ fn a_room_takes_what_fits(rt: HostRuntime) -> Result<(), Fail> {
     assert_eq!(rt; sink.write(b"abc"), Ok(()));
     assert_eq!(rt; sink.write(b"de"), Ok(()));
     assert_eq!(rt; sink.flush(), Ok(()));
-    assert_eq!(rt; sink.write(b"f"), Err(WriteFailed));
-    assert_eq!(rt; sink.write(b""), Err(WriteFailed));
+    assert_eq!(rt; sink.write(b"f"), Err(WriteFault::Write));
+    assert_eq!(rt; sink.write(b""), Err(WriteFault::Write));
     assert_eq!(rt; sink.bytes(), b"abcde".as_slice());
     Ok(())
 }
@@ -123,8 +123,8 @@ fn writers_are_asked_until_all_is_out(rt: HostRuntime) {
         (8, 0, ErrorKind::Other, Ok(()), b"abc".as_slice()),
         (1, 0, ErrorKind::Other, Ok(()), b"abc".as_slice()),
         (1, 2, ErrorKind::Interrupted, Ok(()), b"abc".as_slice()),
-        (1, 2, ErrorKind::Other, Err(WriteFailed), b"a".as_slice()),
-        (0, 0, ErrorKind::Other, Err(WriteFailed), b"".as_slice()),
+        (1, 2, ErrorKind::Other, Err(WriteFault::Write), b"a".as_slice()),
+        (0, 0, ErrorKind::Other, Err(WriteFault::Write), b"".as_slice()),
     ] {
         let mut sink = ToWrite::new(Sipping {
             held: Vec::new(rt.alloc()),
@@ -294,7 +294,7 @@ fn each_damage_of_a_cell_is_told(rt: HostRuntime) {
 #[test]
 fn a_failed_write_or_flush_of_a_store_is_told(rt: HostRuntime) {
     let store = Store::new(rt.alloc());
-    for (fails_at, wanted) in [(1, Err(WriteFailed)), (2, Err(WriteFailed)), (3, Ok(()))] {
+    for (fails_at, wanted) in [(1, Err(WriteFault::Write)), (2, Err(WriteFault::Write)), (3, Ok(()))] {
         let mut sink = ToWrite::new(Sipping {
             held: Vec::new(rt.alloc()),
             most: 8,

@@ -1,79 +1,16 @@
 -- What a run over files reads, file after file.
-use Rattle.std.proofs.Common.{◌≡◌, ℕ, zero, suc, ◌+◌, ◌<◌, ◌≤◌, List, [], ◌∷◌, ◌++◌, refl, sym, ap, ◌∙◌, arith, true, false, Bool, Option, None, Some, Result, Ok, Err, IsTrue, ◌↔◌, subst, length, take, append-nil, append_assoc, add-one}
+use Rattle.std.proofs.Common.{◌≡◌, ℕ, zero, suc, ◌+◌, ◌<◌, ◌≤◌, List, [], ◌∷◌, ◌++◌, refl, sym, ap, ◌∙◌, arith, true, false, Bool, Option, None, Some, Result, Ok, Err, IsTrue, ◌↔◌, subst, length}
 use Rattle.std.proofs.Math.ListN.{set, length-set}
 use Rattle.std.proofs.lemmas.Bool.{ltb-true, ltb-false}
-use Rattle.std.proofs.lemmas.List.{get_or-set_same, take_all}
+use Rattle.std.proofs.lemmas.List.{get_or-set_same, flat_map_more}
 use Rattle.std.proofs.lemmas.Option.{slice_get-get_or}
-use Rattle.std.specs.Prelude.{nat_lt, IfSome, IsErr, OnOk, slice_get, option_map, option_and_then}
+use Rattle.std.specs.Prelude.{nat_lt, IsErr, OnOk, slice_get}
 use Rattle.std.specs.List.{flat_map}
-use Rattle.std.specs.FinMap.{empty}
 use Rattle.fact_store.specs.View.{Facts, view}
 use Rattle.fact_store.specs.Merge.{merge}
-use Rattle.fact_store.proofs.Merges.{merge_empty}
 use Rattle.fact_store.proofs.Views.{view_of_both}
-use Rattle.record_file.specs.Absorbing.{Absorbs}
-use Rattle.record_file.specs.RecordFile.{kept, outcome}
-use Rattle.sm_cli.specs.Run.{files_of, AreAccepted, AreAcceptedBelow, EachBelow, IsAcceptedAt, facts_of}
-
--- one file, absorbed into an empty store that is then merged into another
-pub absorbed : (u : Unit {0}) (old new all sum : Facts) (left left' : Option (List ℕ)) (n m : ℕ) (taken : List ℕ) → old ≡ empty → Absorbs (Ok u) old new left left' n m taken → sum ≡ merge all new → IfSome left (λ file. (outcome file ≡ Ok tt) × (sum ≡ merge all (view (kept file))))
-absorbed u old new all sum None left' n m taken fresh h e = tt
-absorbed u old new all sum (Some file) None n m taken fresh h e = absurd h.consumed
-absorbed u old new all sum (Some file) (Some rest) n m taken fresh h e =
-    let whole : taken ≡ file = sym (h.consumed ∙ ap (λ r. taken ++ r) h.decided ∙ append-nil taken) in
-    let held : new ≡ view (kept file) = h.held ∙ ap (λ x. merge x (view (kept taken))) fresh ∙ merge_empty (view (kept taken)) ∙ ap (λ f. view (kept f)) whole in
-    (ap outcome (sym whole) ∙ h.answered, e ∙ ap (merge all) held)
-
-module _ {S : Type 0} (left : S → Option (List ℕ)) where
-  -- the first source's file, and those of the others
-  files_cons : (x : S) (sources : List S) (files : List (List ℕ)) → files_of left (x ∷ sources) ≡ Some files → (file : List ℕ) × (rest : List (List ℕ)) × (left x ≡ Some file) × (files_of left sources ≡ Some rest) × (files ≡ file ∷ rest)
-  files_cons x sources files h =
-      elim (left x) as (λ o. left x ≡ o → option_and_then (λ file. option_map (λ fs. file ∷ fs) (files_of left sources)) o ≡ Some files → (file : List ℕ) × (rest : List (List ℕ)) × (left x ≡ Some file) × (files_of left sources ≡ Some rest) × (files ≡ file ∷ rest)) [
-        | None ↦ λ e k. absurd (cc)
-        | Some file ↦ λ e k. (elim (files_of left sources) as (λ r. files_of left sources ≡ r → option_map (λ fs. file ∷ fs) r ≡ Some files → (one : List ℕ) × (rest : List (List ℕ)) × (left x ≡ Some one) × (files_of left sources ≡ Some rest) × (files ≡ one ∷ rest)) [
-          | None ↦ λ f l. absurd (cc)
-          | Some rest ↦ λ f l. (file, rest, e, f, cc)
-        ] refl k)
-      ] refl h
-
-  -- the file of the source at a place
-  pub file_at : (sources : List S) (files : List (List ℕ)) → files_of left sources ≡ Some files → (k : ℕ) (s : S) → slice_get sources k ≡ Some s → (file : List ℕ) × (left s ≡ Some file) × (slice_get files k ≡ Some file)
-  file_at [] files h k s there = absurd (cc)
-  file_at (x ∷ sources) files h zero s there =
-      let p = files_cons x sources files h in
-      let same : x ≡ s = cc in
-      (p.0, ap left (sym same) ∙ p.2, ap (λ fs. slice_get fs 0) p.4)
-  file_at (x ∷ sources) files h (suc k) s there =
-      let p = files_cons x sources files h in
-      let i = file_at sources p.1 p.3 k s there in
-      (i.0, i.1, ap (λ fs. slice_get fs (suc k)) p.4 ∙ i.2)
-
-  -- a source has one file
-  pub length-files : (sources : List S) (files : List (List ℕ)) → files_of left sources ≡ Some files → length files ≡ length sources
-  length-files [] files h = let e : files ≡ [] = cc in ap length e
-  length-files (x ∷ sources) files h =
-      let p = files_cons x sources files h in
-      ap length p.4 ∙ ap suc (length-files sources p.1 p.3)
-
--- one file more
-pub kept-more : (files : List (List ℕ)) (k : ℕ) (file : List ℕ) → slice_get files k ≡ Some file → flat_map kept (take (suc k) files) ≡ flat_map kept (take k files) ++ kept file
-kept-more [] k file h = absurd (cc)
-kept-more (x ∷ files) zero file h = let e : x ≡ file = cc in append-nil (kept x) ∙ ap kept e
-kept-more (x ∷ files) (suc k) file h = ap (λ t. kept x ++ t) (kept-more files k file h) ∙ sym (append_assoc (kept x) (flat_map kept (take k files)) (kept file))
-
--- one file more is accepted and taken in
-pub taken-more : (files : List (List ℕ)) (k : ℕ) (file : List ℕ) (all new : Facts) → slice_get files k ≡ Some file → (outcome file ≡ Ok tt) × (new ≡ merge all (view (kept file))) → AreAcceptedBelow files k × (all ≡ facts_of (take k files)) → AreAcceptedBelow files (k + 1) × (new ≡ facts_of (take (k + 1) files))
-taken-more files k file all new there h before = (
-  λ place within. (elim (nat_lt place k) as (λ t. nat_lt place k ≡ t → IsAcceptedAt files place) [
-    | true ↦ λ p. before.0 place (ltb-true _ _ p)
-    | false ↦ λ p. let low = ltb-false _ _ p in let same : place ≡ k = omega arith in (file, ap (slice_get files) same ∙ there, h.0)
-  ] refl),
-  h.1 ∙ ap (λ x. merge x (view (kept file))) before.1 ∙ sym (view_of_both (flat_map kept (take k files)) (kept file)) ∙ ap view (sym (kept-more files k file there)) ∙ ap (λ n. facts_of (take n files)) (sym (add-one k)),
-)
-
--- all of them
-pub taken-all : (files : List (List ℕ)) (k : ℕ) (all : Facts) → length files ≤ k → AreAcceptedBelow files k × (all ≡ facts_of (take k files)) → AreAccepted files × (all ≡ facts_of files)
-taken-all files k all long h = (λ place within. h.0 place (omega arith), h.1 ∙ ap facts_of (take_all k files long))
+use Rattle.record_file.specs.RecordFile.{kept}
+use Rattle.sm_cli.specs.Run.{AreReadAs, IsReadAs, IsReadAt, ReadsInto, facts_of}
 
 -- a source is replaced by what is left of it
 pub there_after : {S : Type 0} (sources : List S) (place : ℕ) (after : S) → place < length sources → slice_get (set sources place after) place ≡ Some after
@@ -88,50 +25,73 @@ elsewhere (x ∷ sources) zero after (suc k) h = refl
 elsewhere (x ∷ sources) (suc place) after (suc k) h = elsewhere sources place after k (omega arith)
 elsewhere (x ∷ sources) place after zero h = absurd (omega arith)
 
-pub earlier : {S : Type 0} (sources : List S) (place : ℕ) (after : S) (k : ℕ) → k < place → slice_get (set sources place after) k ≡ slice_get sources k
+earlier : {S : Type 0} (sources : List S) (place : ℕ) (after : S) (k : ℕ) → k < place → slice_get (set sources place after) k ≡ slice_get sources k
 earlier [] place after k h = refl
 earlier (x ∷ sources) zero after k h = absurd (omega arith)
 earlier (x ∷ sources) (suc place) after zero h = refl
 earlier (x ∷ sources) (suc place) after (suc k) h = earlier sources place after k (omega arith)
 
--- what holds of the sources before a place, and of what is left of the one there, holds of one source more
-pub one_more : {S : Type 0} (P : S → Type 0) (sources : List S) (place : ℕ) (after : S) → place < length sources → EachBelow place sources P → P after → EachBelow (place + 1) (set sources place after) P
-one_more {S} P sources place after within before here k s below there =
-    elim (nat_lt k place) as (λ t. nat_lt k place ≡ t → P s) [
-      | true ↦ λ p. let low = ltb-true _ _ p in before k s low (sym (earlier sources place after k low) ∙ there)
-      | false ↦ λ p.
-          let low = ltb-false _ _ p in
-          let same : k ≡ place = omega arith in
-          let found : Some after ≡ Some s = sym (there_after sources place after within) ∙ ap (slice_get (set sources place after)) (sym same) ∙ there in
-          let is : after ≡ s = cc in
-          subst P is here
-    ] refl
+-- an element of a list with one more at its end
+front_of_more : {X : Type 0} (xs : List X) (last : X) (k : ℕ) → k < length xs → slice_get (xs ++ last ∷ []) k ≡ slice_get xs k
+front_of_more [] last k h = absurd (omega arith)
+front_of_more (x ∷ xs) last zero h = refl
+front_of_more (x ∷ xs) last (suc k) h = front_of_more xs last k (omega arith)
 
--- the same where the sources stay
-pub one_more_there : {S : Type 0} (P : S → Type 0) (sources : List S) (place : ℕ) (x : S) → slice_get sources place ≡ Some x → EachBelow place sources P → P x → EachBelow (place + 1) sources P
-one_more_there {S} P sources place x is before here k s below there =
-    elim (nat_lt k place) as (λ t. nat_lt k place ≡ t → P s) [
-      | true ↦ λ p. before k s (ltb-true _ _ p) there
-      | false ↦ λ p.
-          let low = ltb-false _ _ p in
-          let same : k ≡ place = omega arith in
-          let found : Some x ≡ Some s = sym is ∙ ap (slice_get sources) (sym same) ∙ there in
-          let one : x ≡ s = cc in
-          subst P one here
-    ] refl
+last_of_more : {X : Type 0} (xs : List X) (last : X) (k : ℕ) → length xs ≤ k → (x : X) → slice_get (xs ++ last ∷ []) k ≡ Some x → (k ≡ length xs) × (last ≡ x)
+last_of_more [] last zero h x e = (refl, cc)
+last_of_more [] last (suc k) h x e = absurd (cc)
+last_of_more (y ∷ xs) last zero h x e = absurd (omega arith)
+last_of_more (y ∷ xs) last (suc k) h x e = let i = last_of_more xs last k (omega arith) x e in (ap suc i.0, i.1)
 
--- a source that was read to its end has not failed
-pub working : {E : Type 0} (failed : Bool) (u : Unit {0}) (e : E) → (◌≡◌ {A = Result (Unit {0}) E} (Ok u) (Err e) ↔ IsTrue failed) → failed ≡ false
-working false u e h = refl
-working {E} true u e h = let p : ◌≡◌ {A = Result (Unit {0}) E} (Ok u) (Err e) = h.1 refl in absurd (cc)
+module _ {S : Type 0} (left : S → Option (List ℕ)) (has_failed : S → Bool) where
+  -- what was read of the first sources stays when a later one is read
+  later_read : (olds news : List S) (place : ℕ) (after : S) (k : ℕ) (file : List ℕ) → k < place → IsReadAt left has_failed olds news k file → IsReadAt left has_failed olds (set news place after) k file
+  later_read olds news place after k file low r = record {
+    old = r.old;
+    new = r.new;
+    there = r.there;
+    there_after = earlier news place after k low ∙ r.there_after;
+    read = r.read;
+  }
 
--- nor has a sink that took all
-pub fine : {E : Type 0} (r : Result (Unit {0}) E) (failed : Bool) → (IsErr r ↔ IsTrue failed) → OnOk r (failed ≡ false)
-fine (Ok u) false h = refl
-fine (Ok u) true h = let p = h.1 refl in absurd (cc)
-fine (Err e) failed h = tt
+  -- one more source was read
+  pub read_more :
+      (olds news : List S) (files : List (List ℕ)) (old after : S) (file : List ℕ)
+      → AreReadAs left has_failed olds news files → slice_get olds (length files) ≡ Some old → length files < length news → IsReadAs left has_failed old after file
+      → AreReadAs left has_failed olds (set news (length files) after) (files ++ file ∷ [])
+  read_more olds news files old after file before there within read k f at =
+      elim (nat_lt k (length files)) as (λ t. nat_lt k (length files) ≡ t → IsReadAt left has_failed olds (set news (length files) after) k f) [
+        | true ↦ λ p.
+            let low = ltb-true _ _ p in
+            later_read olds news (length files) after k f low (before k f (sym (front_of_more files file k low) ∙ at))
+        | false ↦ λ p.
+            let same = last_of_more files file k (ltb-false _ _ p) f at in
+            record {
+              old = old;
+              new = after;
+              there = ap (slice_get olds) same.0 ∙ there;
+              there_after = ap (slice_get (set news (length files) after)) same.0 ∙ there_after news (length files) after within;
+              read = subst (IsReadAs left has_failed old after) same.1 read;
+            }
+      ] refl
 
--- a file that was taken in is accepted
-pub accepts : (o : Option (List ℕ)) (P : List ℕ → Type 0) → IfSome o (λ file. (outcome file ≡ Ok tt) × P file) → IfSome o (λ file. outcome file ≡ Ok tt)
-accepts None P h = tt
-accepts (Some file) P h = h.0
+-- what one more file says is merged into what all before say
+pub facts-more : (files : List (List ℕ)) (file : List ℕ) (facts facts' : Facts) → facts ≡ facts_of files → facts' ≡ merge facts (view (kept file)) → facts' ≡ facts_of (files ++ file ∷ [])
+facts-more files file facts facts' e more =
+    more ∙ ap (λ x. merge x (view (kept file))) e ∙ sym (view_of_both (flat_map kept files) (kept file))
+    ∙ ap view (flat_map_more kept [] files file)
+
+-- a sink that took all has not failed
+pub works : {E : Type 0} (r : Result (Unit {0}) E) (failed : Bool) → (IsErr r ↔ IsTrue failed) → OnOk r (failed ≡ false)
+works (Ok u) false h = refl
+works (Ok u) true h = let p = h.1 refl in absurd (cc)
+works (Err e) failed h = tt
+
+-- the first sources were read, the others are as they were, and the facts are what the files say
+pub record HasReadSome {S : Type 0} (left : S → Option (List ℕ)) (has_failed : S → Bool) (olds news : List S) (place : ℕ) (facts : Facts) : Type 0 where
+  pub as_many : length news ≡ length olds
+  pub untouched : (k : ℕ) → place ≤ k → slice_get news k ≡ slice_get olds k
+  pub files : List (List ℕ)
+  pub one_each : length files ≡ place
+  pub read : AreReadAs left has_failed olds news files
+  pub told : facts ≡ facts_of files

@@ -17,14 +17,27 @@ guid_text guid = hex_text 16 guid
 abbrev pub port_text : ℕ → ℕ → List ℕ
 port_text guid port = guid_text guid ++ codes "/" ++ decimal port
 
+-- the word of what a fact is about
+abbrev pub kind_word : Key → List ℕ
+kind_word (Node guid) = codes "node"
+kind_word (PortGuid guid port) = codes "portguid"
+kind_word (Link guid port) = codes "link"
+kind_word (Port guid port) = codes "port"
+kind_word (Claim guid port) = codes "claim"
+kind_word (Cap guid) = codes "cap"
+
+-- the node or the port that a fact is about
+abbrev pub place_text : Key → List ℕ
+place_text (Node guid) = guid_text guid
+place_text (PortGuid guid port) = port_text guid port
+place_text (Link guid port) = port_text guid port
+place_text (Port guid port) = port_text guid port
+place_text (Claim guid port) = port_text guid port
+place_text (Cap guid) = guid_text guid
+
 -- what a fact is about
 abbrev pub key_text : Key → List ℕ
-key_text (Node guid) = codes "node " ++ guid_text guid
-key_text (PortGuid guid port) = codes "portguid " ++ port_text guid port
-key_text (Link guid port) = codes "link " ++ port_text guid port
-key_text (Port guid port) = codes "port " ++ port_text guid port
-key_text (Claim guid port) = codes "claim " ++ port_text guid port
-key_text (Cap guid) = codes "cap " ++ guid_text guid
+key_text key = kind_word key ++ codes " " ++ place_text key
 
 -- what a fact says
 abbrev pub value_text : Value → List ℕ
@@ -40,9 +53,13 @@ abbrev pub cell_text : Cell Value → List ℕ
 cell_text (Known generation value) = value_text value ++ codes " @" ++ decimal generation
 cell_text (Disputed generation) = codes "disputed @" ++ decimal generation
 
+-- a key and what is said of it
+abbrev pub fact_text : Key × Cell Value → List ℕ
+fact_text cell = key_text cell.0 ++ codes " " ++ cell_text cell.1
+
 -- the line of a cell
 abbrev pub line_text : Key × Cell Value → List ℕ
-line_text cell = key_text cell.0 ++ codes " " ++ cell_text cell.1 ++ codes "\n"
+line_text cell = fact_text cell ++ codes "\n"
 
 -- a line for each cell
 abbrev pub facts_text : List (Key × Cell Value) → List ℕ

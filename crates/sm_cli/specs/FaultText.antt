@@ -1,58 +1,41 @@
 -- What is said of a fault.
-use Rattle.std.specs.Prelude.{ℕ, List, ◌++◌, codes, decimal}
-use Rattle.smp_bytes.specs.declared.smp_fault.SmpFault.{SmpFault}
-use Rattle.smp_bytes.specs.declared.smp_fault.SmpFault.TheVariants.{BaseVersion, Class as OtherClass, ClassVersion, HopCount, HopPointer, DrLid}
+use Rattle.std.specs.Prelude.{ℕ, List, [], ◌++◌, Option, None, Some, codes, decimal, if◌then◌else◌}
 use Rattle.fact_store.specs.declared.report_fault.ReportFault.{ReportFault}
-use Rattle.fact_store.specs.declared.report_fault.ReportFault.TheVariants.{Generation, Smp, Class, Method, Direction, Status, Attribute, Context, Modifier, NodeType, Port}
+use Rattle.fact_store.specs.ReportFault.{report_fault_name}
 use Rattle.record_file.specs.declared.file_fault.FileFault.{FileFault}
-use Rattle.record_file.specs.declared.file_fault.FileFault.TheVariants.{Magic, Truncated, BadReport, BadCell, CellOrder, Read, Memory as NoMemoryForFile, TooLong}
+use Rattle.record_file.specs.FileFault.{fault_words, fault_number, fault_of_report, is_of_file}
 use Rattle.sm_cli.specs.declared.fault.Fault.{Fault}
-use Rattle.sm_cli.specs.declared.fault.Fault.TheVariants.{File, Write, Memory}
+use Rattle.sm_cli.specs.declared.fault.Fault.TheVariants.{Open, File, Write, Memory}
 
--- the name of what is wrong with a packet
-abbrev pub smp_fault_name : SmpFault → List ℕ
-smp_fault_name BaseVersion = codes "BaseVersion"
-smp_fault_name OtherClass = codes "Class"
-smp_fault_name ClassVersion = codes "ClassVersion"
-smp_fault_name HopCount = codes "HopCount"
-smp_fault_name HopPointer = codes "HopPointer"
-smp_fault_name DrLid = codes "DrLid"
-
--- the name of what is wrong with a report, or with its packet
-abbrev pub report_fault_name : ReportFault → List ℕ
-report_fault_name Generation = codes "Generation"
-report_fault_name (Smp fault) = smp_fault_name fault
-report_fault_name Class = codes "Class"
-report_fault_name Method = codes "Method"
-report_fault_name Direction = codes "Direction"
-report_fault_name Status = codes "Status"
-report_fault_name Attribute = codes "Attribute"
-report_fault_name Context = codes "Context"
-report_fault_name Modifier = codes "Modifier"
-report_fault_name NodeType = codes "NodeType"
-report_fault_name Port = codes "Port"
+-- the name of a file, before what is said of it
+abbrev pub name_text : List ℕ → List ℕ
+name_text name = name ++ codes ": "
 
 -- the name of a file, and what is said of it
 abbrev pub named_text : List ℕ → List ℕ → List ℕ
-named_text name words = name ++ codes ": " ++ words
+named_text name words = name_text name ++ words
 
--- the same, and a number
-abbrev pub numbered_text : List ℕ → List ℕ → ℕ → List ℕ
-numbered_text name words number = named_text name words ++ decimal number
+-- the number that the words end with, if there is one
+abbrev pub number_text : Option ℕ → List ℕ
+number_text None = []
+number_text (Some number) = decimal number
+
+-- the name of what is wrong with a report, if that is what is wrong
+abbrev pub cause_text : Option ReportFault → List ℕ
+cause_text None = []
+cause_text (Some fault) = codes ": " ++ report_fault_name fault
+
+-- what is said of a fault, apart from whose it is
+abbrev pub words_of : FileFault → List ℕ
+words_of fault = fault_words fault ++ number_text (fault_number fault) ++ cause_text (fault_of_report fault)
 
 -- what is said of the file with this name; want of memory is not the file's
 abbrev pub file_fault_text : List ℕ → FileFault → List ℕ
-file_fault_text name Magic = named_text name (codes "bad magic")
-file_fault_text name (Truncated offset) = numbered_text name (codes "truncated at ") offset
-file_fault_text name (BadReport index fault) = numbered_text name (codes "bad report ") index ++ codes ": " ++ report_fault_name fault
-file_fault_text name (BadCell index) = numbered_text name (codes "bad cell ") index
-file_fault_text name (CellOrder index) = numbered_text name (codes "cell out of order ") index
-file_fault_text name Read = named_text name (codes "read failed")
-file_fault_text name NoMemoryForFile = codes "out of memory"
-file_fault_text name TooLong = named_text name (codes "too long")
+file_fault_text name fault = if is_of_file fault then named_text name (words_of fault) else words_of fault
 
--- what is said of a run that ends with the fault
+-- what is said of a run that ends with the fault, where that is the name of the file that it speaks of
 abbrev pub fault_text : List ℕ → Fault → List ℕ
+fault_text name (Open place) = named_text name (codes "cannot open")
 fault_text name (File place fault) = file_fault_text name fault
 fault_text name Write = codes "write failed"
 fault_text name Memory = codes "out of memory"

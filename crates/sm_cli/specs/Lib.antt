@@ -1,5 +1,5 @@
 pub mod FactsText
 pub mod FaultText
-pub mod Status
+pub mod ExitStatus
 pub mod Run
 pub mod RunLaws

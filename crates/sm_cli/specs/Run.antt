@@ -1,32 +1,21 @@
 -- What a run over files does: it reads all of them, and writes what they say together, or says which one it refuses.
-use Rattle.std.specs.Prelude.{◌≡◌, ◌↔◌, ℕ, ◌+◌, ◌<◌, ◌≤◌, ◌^◌, Bool, false, List, [], ◌∷◌, Option, Some, Ok, Err, IsTrue, IfSome, length, option_map, option_and_then, slice_get}
+use Rattle.std.specs.Prelude.{◌≡◌, ◌↔◌, ℕ, Bool, false, List, [], Option, Some, Ok, Err, IsTrue, length, slice_get}
 use Rattle.std.specs.List.{flat_map}
 use Rattle.std.specs.FinMap.{entries}
+use Rattle.std.specs.Io.KnownBytes.{Appends, Consumes, IsAtEnd}
+use Rattle.fact_store.specs.Sighting.{AreInRange}
+use Rattle.fact_store.specs.Merge.{merge}
 use Rattle.fact_store.specs.View.{Facts, view}
-use Rattle.record_file.specs.Absorbing.{AnswersOutcome}
+use Rattle.record_file.specs.Absorbs.{AnswersKnown, AnswersOutcome, HasNoFaultYet, IsDecided, WasInterruptedTooOften}
 use Rattle.record_file.specs.RecordFile.{kept, outcome}
 use Rattle.record_file.specs.StoreFile.{store_bytes}
 use Rattle.record_file.specs.declared.file_fault.FileFault.{FileFault}
-use Rattle.record_file.specs.declared.file_fault.FileFault.TheVariants.{Read}
+use Rattle.record_file.specs.declared.file_fault.FileFault.TheVariants.{Read, Memory as NoMemory}
+use Rattle.sm_cli.specs.declared.fault.Fault.{Fault}
+use Rattle.sm_cli.specs.declared.fault.Fault.TheVariants.{Open, File, Write, Memory}
 use Rattle.sm_cli.specs.declared.run.Command.{Command}
 use Rattle.sm_cli.specs.declared.run.Command.TheVariants as command
 use Rattle.sm_cli.specs.FactsText.{facts_text}
-
--- the bytes that each of the sources has left, where all of them are known
-abbrev pub files_of : {S : Type 0} → (S → Option (List ℕ)) → List S → Option (List (List ℕ))
-files_of left [] = Some []
-files_of left (s ∷ sources) = option_and_then (λ file. option_map (λ files. file ∷ files) (files_of left sources)) (left s)
-
--- the file at a place is read without a fault
-abbrev pub IsAcceptedAt : List (List ℕ) → ℕ → Type 0
-IsAcceptedAt files place = (file : List ℕ) × (slice_get files place ≡ Some file) × (outcome file ≡ Ok tt)
-
-abbrev pub AreAcceptedBelow : List (List ℕ) → ℕ → Type 0
-AreAcceptedBelow files n = (place : ℕ) → place < n → IsAcceptedAt files place
-
--- every file is
-abbrev pub AreAccepted : List (List ℕ) → Type 0
-AreAccepted files = AreAcceptedBelow files (length files)
 
 -- what all records of all files say together
 abbrev pub facts_of : List (List ℕ) → Facts
@@ -37,20 +26,77 @@ abbrev pub answer_to : Command → Facts → List ℕ
 answer_to command.Facts facts = facts_text (entries facts)
 answer_to command.Join facts = store_bytes (entries facts)
 
--- each of the sources before a place
-abbrev pub EachBelow : {S : Type 0} → ℕ → List S → (S → Type 0) → Type 0
-EachBelow {S} n sources P = (k : ℕ) (s : S) → k < n → slice_get sources k ≡ Some s → P s
+-- the source was read to its end: this was its file, which is accepted
+pub record IsReadAs {S : Type 0} (left : S → Option (List ℕ)) (has_failed : S → Bool) (old new : S) (file : List ℕ) : Type 0 where
+  pub consumed : Consumes (left old) (left new) file
+  pub at_end : IsAtEnd (left new)
+  pub accepted : outcome file ≡ Ok tt
+  pub works : has_failed new ≡ false
 
--- the first file that is refused stands at this place, and that is its fault: the one that reading its bytes gives, unless
--- the source failed, memory ran out, or too many calls were interrupted
-pub record IsRefused {S : Type 0} (left : S → Option (List ℕ)) (has_failed : S → Bool) (interruptions : S → ℕ) (old new : List S) (place : ℕ) (fault : FileFault) : Type 0 where
-  pub source : S
-  pub after : S
-  pub there : slice_get old place ≡ Some source
-  pub there_after : slice_get new place ≡ Some after
-  -- a read failed
-  pub read : (fault ≡ Read) ↔ IsTrue (has_failed after)
-  -- no read of an earlier one failed, and its bytes, where they are known, are accepted
-  pub working : EachBelow place new (λ s. has_failed s ≡ false)
-  pub earlier : EachBelow place old (λ s. IfSome (left s) (λ file. outcome file ≡ Ok tt))
-  pub answered : IfSome (left source) (λ file. IfSome (left after) (λ rest. AnswersOutcome (Err fault) file (2 ^ 40 + interruptions source + length rest ≤ length file + interruptions after)))
+-- a source was read to its end, and what its file says was merged into the facts
+pub record ReadsInto {S : Type 0} (left : S → Option (List ℕ)) (has_failed : S → Bool) (old new : S) (facts facts' : Facts) : Type 0 where
+  pub file : List ℕ
+  pub read : IsReadAs left has_failed old new file
+  pub merged : facts' ≡ merge facts (view (kept file))
+
+-- the one of the sources at a place was read
+pub record IsReadAt {S : Type 0} (left : S → Option (List ℕ)) (has_failed : S → Bool) (olds news : List S) (place : ℕ) (file : List ℕ) : Type 0 where
+  pub old : S
+  pub new : S
+  pub there : slice_get olds place ≡ Some old
+  pub there_after : slice_get news place ≡ Some new
+  pub read : IsReadAs left has_failed old new file
+
+-- so were the first of the sources, one for each of the files
+abbrev pub AreReadAs : {S : Type 0} → (S → Option (List ℕ)) → (S → Bool) → List S → List S → List (List ℕ) → Type 0
+AreReadAs left has_failed olds news files = (place : ℕ) (file : List ℕ) → slice_get files place ≡ Some file → IsReadAt left has_failed olds news place file
+
+-- all sources were read, and this is what their files say
+pub record HasRead {S : Type 0} (left : S → Option (List ℕ)) (has_failed : S → Bool) (olds news : List S) (facts : Facts) : Type 0 where
+  pub files : List (List ℕ)
+  pub one_each : length files ≡ length olds
+  pub read : AreReadAs left has_failed olds news files
+  pub told : facts ≡ facts_of files
+
+-- all sources were read, and what their files say was written
+pub record HasAnswered {S : Type 0} (left : S → Option (List ℕ)) (has_failed : S → Bool) (command : Command) (olds news : List S) (written written' : Option (List ℕ)) : Type 0 where
+  pub files : List (List ℕ)
+  pub one_each : length files ≡ length olds
+  pub read : AreReadAs left has_failed olds news files
+  pub in_range : AreInRange (facts_of files)
+  pub answered : Appends written written' (answer_to command (facts_of files))
+
+-- reading the source ended with this fault: it is that of the bytes that were taken, or a read or a growth failed before any
+pub record Refuses {S : Type 0} (left : S → Option (List ℕ)) (has_failed : S → Bool) (interruptions : S → ℕ) (old new : S) (fault : FileFault) : Type 0 where
+  pub taken : List ℕ
+  pub consumed : Consumes (left old) (left new) taken
+  pub answered : AnswersOutcome (Err fault) taken (WasInterruptedTooOften taken [] (interruptions old) (interruptions new))
+  pub decided : IsDecided (Err fault) taken (IsAtEnd (left new))
+  pub no_fault_before : fault ≡ NoMemory → HasNoFaultYet taken
+  pub read : (fault ≡ Read) ↔ IsTrue (has_failed new)
+  pub known : AnswersKnown left interruptions (Err fault) old new
+
+-- the sources before a place were read, and reading the one there ends with this fault
+pub record RefusesFile {S : Type 0} (left : S → Option (List ℕ)) (has_failed : S → Bool) (interruptions : S → ℕ) (olds news : List S) (place : ℕ) (fault : FileFault) : Type 0 where
+  pub files : List (List ℕ)
+  pub as_many : length files ≡ place
+  pub read : AreReadAs left has_failed olds news files
+  pub old : S
+  pub new : S
+  pub there : slice_get olds place ≡ Some old
+  pub there_after : slice_get news place ≡ Some new
+  pub refuses : Refuses left has_failed interruptions old new fault
+
+-- all sources were read, but the output took no more
+pub record FailsToWrite {S : Type 0} (left : S → Option (List ℕ)) (has_failed : S → Bool) (olds news : List S) (sink_failed : Bool) : Type 0 where
+  pub files : List (List ℕ)
+  pub one_each : length files ≡ length olds
+  pub read : AreReadAs left has_failed olds news files
+  pub failed : IsTrue sink_failed
+
+-- why a run over open files ends early
+abbrev pub IsFaultOf : {S : Type 0} → (S → Option (List ℕ)) → (S → Bool) → (S → ℕ) → List S → List S → Bool → Fault → Type 0
+IsFaultOf left has_failed interruptions olds news sink_failed (Open place) = ⊥
+IsFaultOf left has_failed interruptions olds news sink_failed (File place fault) = RefusesFile left has_failed interruptions olds news place fault
+IsFaultOf left has_failed interruptions olds news sink_failed Write = FailsToWrite left has_failed olds news sink_failed
+IsFaultOf left has_failed interruptions olds news sink_failed Memory = ⊥

@@ -1,108 +1,108 @@
 //! The facts of a store as text, a line for each cell.
-ghost use Rattle.std.specs.Prelude.{◌≡◌, ◌↔◌, IsErr, IsTrue, OnOk};
+ghost use Rattle.std.specs.Prelude.{◌≡◌, IsTrue, OnOk};
 ghost use Rattle.std.specs.FinMap.{entries};
-ghost use Rattle.std.specs.Io.KnownBytes.{Appends};
+ghost use Rattle.record_file.specs.Writes.{Writes};
 ghost use Rattle.fact_store.specs.Sighting.{AreInRange};
-ghost use Rattle.sm_cli.specs.FactsText.{key_text, value_text, cell_text, line_text, facts_text};
+ghost use Rattle.sm_cli.specs.FactsText.{kind_word, place_text, key_text, value_text, cell_text, fact_text, line_text, facts_text};
 
-use crate::words::{write_guid, write_number, write_port};
+use crate::text::{write_guid, write_number, write_port};
 use fact_join::Cell;
 use fact_store::{Key, Sighting, Store, Value};
-use record_file::{Sink, WriteFailed};
+use record_file::{Sink, WriteFault};
 
-#[cfg(test)]
-mod tests;
-
-/// Writes what a fact is about: `node`, `portguid`, `link`, `port`, `claim` or `cap`, and the node or port.
-fn write_key<W: Sink>(key: &Key, sink: &mut W) -> Result<(), WriteFailed>
-    ensures ok { OnOk result (Appends (W.written sink.old) (W.written sink.new) (key_text key.now)) }
-    ensures failed { IsErr result ↔ IsTrue (W.has_failed sink.new) }
+/// The word of what a fact is about.
+fn kind_word(key: &Key) -> &'static str
+    ensures { result.now ≡ kind_word key.now }
 {
-    match *key {
-        Key::Node(guid) => {
-            sink.write(b"node ")?;
-            write_guid(guid, sink)
-        }
-        Key::PortGuid(guid, port) => {
-            sink.write(b"portguid ")?;
-            write_port(guid, port, sink)
-        }
-        Key::Link(guid, port) => {
-            sink.write(b"link ")?;
-            write_port(guid, port, sink)
-        }
-        Key::Port(guid, port) => {
-            sink.write(b"port ")?;
-            write_port(guid, port, sink)
-        }
-        Key::Claim(guid, port) => {
-            sink.write(b"claim ")?;
-            write_port(guid, port, sink)
-        }
-        Key::Cap(guid) => {
-            sink.write(b"cap ")?;
-            write_guid(guid, sink)
-        }
+    match key {
+        Key::Node(_) => "node",
+        Key::PortGuid(..) => "portguid",
+        Key::Link(..) => "link",
+        Key::Port(..) => "port",
+        Key::Claim(..) => "claim",
+        Key::Cap(_) => "cap",
     }
 }
 
+/// Writes the node or the port that a fact is about.
+fn write_place<W: Sink>(sink: &mut W, key: &Key) -> Result<(), WriteFault>
+    ensures writes { Writes W.written W.has_failed result sink.old sink.new (place_text key.now) }
+{
+    match *key {
+        Key::Node(guid) | Key::Cap(guid) => write_guid(sink, guid),
+        Key::PortGuid(guid, port)
+        | Key::Link(guid, port)
+        | Key::Port(guid, port)
+        | Key::Claim(guid, port) => write_port(sink, guid, port),
+    }
+}
+
+/// Writes what a fact is about: `node`, `portguid`, `link`, `port`, `claim` or `cap`, and the node or port.
+fn write_key<W: Sink>(sink: &mut W, key: &Key) -> Result<(), WriteFault>
+    ensures writes { Writes W.written W.has_failed result sink.old sink.new (key_text key.now) }
+{
+    sink.write(kind_word(key).as_bytes())?;
+    sink.write(b" ")?;
+    write_place(sink, key)
+}
+
 /// Writes what a fact says.
-fn write_value<W: Sink>(value: &Value, sink: &mut W) -> Result<(), WriteFailed>
-    ensures ok { OnOk result
-        (Appends (W.written sink.old) (W.written sink.new) (value_text value.now)) }
-    ensures failed { IsErr result ↔ IsTrue (W.has_failed sink.new) }
+fn write_value<W: Sink>(sink: &mut W, value: &Value) -> Result<(), WriteFault>
+    ensures writes { Writes W.written W.has_failed result sink.old sink.new (value_text value.now) }
 {
     match *value {
         Value::Kind(kind, ports) => {
             sink.write(kind.word().as_bytes())?;
             sink.write(b" ")?;
-            write_number(u64::from(ports.number()), sink)
+            write_number(sink, u64::from(ports.number()))
         }
-        Value::Guid(guid) => write_guid(guid, sink),
-        Value::Peer(guid, port) => write_port(guid, port, sink),
+        Value::Guid(guid) => write_guid(sink, guid),
+        Value::Peer(guid, port) => write_port(sink, guid, port),
         Value::Up(true) => sink.write(b"up"),
         Value::Up(false) => sink.write(b"down"),
-        Value::Lid(lid) => write_number(u64::from(lid.number()), sink),
-        Value::Count(count) => write_number(u64::from(count), sink),
+        Value::Lid(lid) => write_number(sink, u64::from(lid.number())),
+        Value::Count(count) => write_number(sink, u64::from(count)),
     }
 }
 
 /// Writes the value of a cell, or `disputed`, and its generation.
-fn write_state<W: Sink>(cell: &Cell<Value>, sink: &mut W) -> Result<(), WriteFailed>
-    ensures ok { OnOk result
-        (Appends (W.written sink.old) (W.written sink.new) (cell_text cell.now)) }
-    ensures failed { IsErr result ↔ IsTrue (W.has_failed sink.new) }
+fn write_state<W: Sink>(sink: &mut W, cell: &Cell<Value>) -> Result<(), WriteFault>
+    ensures writes { Writes W.written W.has_failed result sink.old sink.new (cell_text cell.now) }
 {
     match cell {
-        Cell::Known(_, value) => write_value(value, sink)?,
+        Cell::Known(_, value) => write_value(sink, value)?,
         Cell::Disputed(_) => sink.write(b"disputed")?,
     }
     sink.write(b" @")?;
-    write_number(u64::from(cell.generation().number()), sink)
+    write_number(sink, u64::from(cell.generation().number()))
+}
+
+/// Writes a key and what is said of it.
+fn write_fact<W: Sink>(sink: &mut W, cell: &Sighting) -> Result<(), WriteFault>
+    ensures writes { Writes W.written W.has_failed result sink.old sink.new (fact_text cell.now) }
+{
+    write_key(sink, &cell.key())?;
+    sink.write(b" ")?;
+    write_state(sink, &cell.cell())
 }
 
 /// Writes the line of a cell: its key, its value or `disputed`, and `@` with its generation.
-pub fn write_cell<W: Sink>(cell: &Sighting, sink: &mut W) -> Result<(), WriteFailed>
-    ensures ok { OnOk result
-        (Appends (W.written sink.old) (W.written sink.new) (line_text cell.now)) }
-    ensures failed { IsErr result ↔ IsTrue (W.has_failed sink.new) }
+pub fn write_cell<W: Sink>(sink: &mut W, cell: &Sighting) -> Result<(), WriteFault>
+    ensures writes { Writes W.written W.has_failed result sink.old sink.new (line_text cell.now) }
 {
-    write_key(&cell.key(), sink)?;
-    sink.write(b" ")?;
-    write_state(&cell.cell(), sink)?;
+    write_fact(sink, cell)?;
     sink.write(b"\n")
 }
 
 /// Writes the line of each cell in the order of the keys, and flushes. It takes no memory.
-pub fn write_facts<W: Sink>(store: &Store, sink: &mut W) -> Result<(), WriteFailed>
-    ensures ok { OnOk result
-        (Appends (W.written sink.old) (W.written sink.new) (facts_text (entries store.now))) }
+pub fn write_facts<W: Sink>(sink: &mut W, store: &Store) -> Result<(), WriteFault>
+    ensures writes { Writes W.written W.has_failed result sink.old sink.new (facts_text (entries store.now)) }
+    ensures flushed { OnOk result (IsTrue (W.is_flushed sink.new)) }
     ensures in_range { OnOk result (AreInRange store.now) }
-    ensures failed { IsErr result ↔ IsTrue (W.has_failed sink.new) }
 {
     for i in 0..store.count() {
         if let Some(cell) = store.cell(i) {
-            write_cell(&cell, sink)?;
+            write_cell(sink, &cell)?;
         }
     }
     sink.flush()

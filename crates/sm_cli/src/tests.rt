@@ -1,15 +1,16 @@
-//! Runs over files in memory. What they print and answer is written out here by the formats.
+//! Runs over files in memory, and over readers and writers that fail. What they print and answer is written out here by
+//! the formats.
 use super::*;
-use fact_store::{Context, Report};
-use record_file::{FileFault, FromBytes, ToRoom};
+use record_file::{FileFault, FromBytes, FromRead, Sink, ToRoom, ToWrite};
 use std::alloc::{AllocError, Global};
 use std::process::Abort;
 use std::test::Fail;
 
 mod devices;
 mod fabric;
-mod files;
-mod stores;
+
+use crate::text::write_number;
+use devices::{Dripping, Sipping};
 
 /// The report file of one answer: NodeInfo of the adapter 0x100, asked by its own port 1.
 fn adapter_file() -> [u8; 280] {
@@ -36,62 +37,289 @@ node 0000000000000100 ca 1 @1
 portguid 0000000000000100/1 0000000000000101 @1
 ";
 
-/// The file of reports: the magic, and for each its generation, context, port, two zero bytes, GUID and reply.
-fn file_of(alloc: Global, reports: &[Report]) -> Result<Vec<u8>, AllocError> {
-    let mut file = Vec::from_slice(alloc, b"IBSMREP1")?;
-    for report in reports {
-        let (context, port, guid) = match report.context {
-            Context::Start => (0, 0, 0),
-            Context::Via(node, port) => (1, port.number(), node.number()),
-            Context::About(node) => (2, 0, node.number()),
-        };
-        file.extend_from_slice(&report.generation.to_be_bytes())?;
-        file.extend_from_slice(&[context, port, 0, 0])?;
-        file.extend_from_slice(&guid.to_be_bytes())?;
-        file.extend_from_slice(&report.bytes)?;
-    }
-    Ok(file)
+/// The store file of what it tells.
+fn adapter_store() -> [u8; 72] {
+    let mut file = [0; 72];
+    file[..8].copy_from_slice(b"IBSMSTO1");
+    file[8..24].copy_from_slice(&[1, 1, 0, 0, 0, 0, 0, 1, 0, 0, 0, 0, 0, 0, 1, 0]);
+    file[24..26].copy_from_slice(&[1, 1]);
+    file[40..56].copy_from_slice(&[2, 1, 1, 0, 0, 0, 0, 1, 0, 0, 0, 0, 0, 0, 1, 0]);
+    file[56..64].copy_from_slice(&[0, 0, 0, 0, 0, 0, 1, 1]);
+    file
 }
 
-/// How a run over files ends, and what it has printed of their facts.
-fn run(alloc: Global, files: &[&[u8]]) -> Result<(Result<(), Fault>, ToRoom), AllocError> {
-    run_command(alloc, Command::Facts, files)
+/// The adapter's file with its record again behind it.
+fn doubled_file() -> [u8; 552] {
+    let mut file = [0; 552];
+    file[..280].copy_from_slice(&adapter_file());
+    file[280..].copy_from_slice(&adapter_file()[8..]);
+    file
 }
 
-/// How a run over files ends, and what it has written.
-fn run_command(
-    alloc: Global,
-    command: Command,
-    files: &[&[u8]],
-) -> Result<(Result<(), Fault>, ToRoom), AllocError> {
+/// The same; the second record has an attribute that no facts are read from.
+fn half_bad_file() -> [u8; 552] {
+    let mut file = doubled_file();
+    // Byte 17 of the reply, which begins 16 bytes behind the record.
+    file[280 + 16 + 17] = 0x10;
+    file
+}
+
+/// The adapter's store with its cells exchanged.
+fn exchanged_store() -> [u8; 72] {
+    let mut file = adapter_store();
+    file[8..40].copy_from_slice(&adapter_store()[40..]);
+    file[40..].copy_from_slice(&adapter_store()[8..40]);
+    file
+}
+
+/// A store of one claim, each of its numbers the greatest that there is.
+fn greatest_store() -> [u8; 40] {
+    let mut file = [0; 40];
+    file[..12].copy_from_slice(b"IBSMSTO1\x05\x01\xFE\x00");
+    file[12..26].copy_from_slice(&[0xFF; 14]);
+    file
+}
+
+/// Says how a run has ended early: its exit status, and the line of its fault. The first file is called FILE, any other OTHER.
+fn tell<W: Sink>(sink: &mut W, fault: Fault) -> Result<(), Fail> {
+    let name = match fault {
+        Fault::File { place: 0, .. } | Fault::Open { place: 0 } => "FILE",
+        _ => "OTHER",
+    };
+    write_number(sink, u64::from(fault.status().code()))?;
+    sink.write(b" ")?;
+    write_fault(sink, &fault, name)?;
+    Ok(())
+}
+
+/// What a run over files writes and, where it ends early, how.
+fn ended(alloc: Global, command: Command, files: &[&[u8]]) -> Result<ToRoom, Fail> {
     let mut sources = Vec::new(alloc);
     for file in files {
         sources.push(FromBytes::new(file))?;
     }
     let mut sink = ToRoom::new(alloc, 4096)?;
-    let outcome = run_files(alloc, &mut sources, command, &mut sink);
-    Ok((outcome, sink))
+    if let Err(fault) = run_files(alloc, &mut sources, command, &mut sink) {
+        tell(&mut sink, fault)?;
+    }
+    Ok(sink)
 }
 
-/// The line that is said of files that are refused, and the exit status: `facts` and `join` end alike over them, and write
-/// nothing. The first file is named FILE, any other OTHER.
-fn refusal(rt: &impl Abort, alloc: Global, files: &[&[u8]]) -> Result<(ToRoom, u8), Fail> {
-    let (outcome, facts) = run(alloc, files)?;
-    let (joined, store) = run_command(alloc, Command::Join, files)?;
-    assert_eq!(rt; joined, outcome);
-    assert_eq!(rt; facts.bytes(), b"".as_slice());
-    assert_eq!(rt; store.bytes(), b"".as_slice());
-    let fault = outcome.err().ok_or("accepted")?;
-    let name = match fault {
-        Fault::File { place: 0, .. } => "FILE",
-        _ => "OTHER",
-    };
-    let mut line = ToRoom::new(alloc, 64)?;
-    write_fault(&fault, name, &mut line)?;
-    Ok((line, fault.status().code()))
+/// A run over files writes this and ends so.
+fn check(
+    rt: &impl Abort,
+    alloc: Global,
+    command: Command,
+    files: &[&[u8]],
+    wanted: &[u8],
+) -> Result<(), Fail> {
+    assert_eq!(rt; ended(alloc, command, files)?.bytes(), wanted);
+    Ok(())
 }
 
-/// What is wrong with the file at a place.
-fn refused(place: usize, fault: FileFault) -> Result<(), Fault> {
-    Err(Fault::File { place, fault })
+#[test]
+fn files_are_taken_or_refused(rt: HostRuntime) -> Result<(), Fail> {
+    let rows: [(&[u8], &[u8], &[u8]); 14] = [
+        (b"IBSMREP1", b"IBSMREP1", b""),
+        (&adapter_file(), b"IBSMREP1", ADAPTER_FACTS),
+        (b"IBSMSTO1", &doubled_file(), ADAPTER_FACTS),
+        (&adapter_store(), &doubled_file(), ADAPTER_FACTS),
+        (
+            b"IBSMREP1",
+            &greatest_store(),
+            b"claim ffffffffffffffff/254 65535 @4294967295\n",
+        ),
+        (b"", &adapter_file(), b"3 ibsm: FILE: bad magic\n"),
+        (&adapter_file(), b"IBSM", b"3 ibsm: OTHER: bad magic\n"),
+        (
+            &doubled_file()[..551],
+            &adapter_file(),
+            b"3 ibsm: FILE: truncated at 280\n",
+        ),
+        (
+            &adapter_file(),
+            &doubled_file()[..551],
+            b"3 ibsm: OTHER: truncated at 280\n",
+        ),
+        (
+            &half_bad_file(),
+            b"IBSMREP1\x00",
+            b"3 ibsm: FILE: bad report 1: Attribute\n",
+        ),
+        (
+            &adapter_file(),
+            &half_bad_file(),
+            b"3 ibsm: OTHER: bad report 1: Attribute\n",
+        ),
+        (
+            &exchanged_store(),
+            b"",
+            b"3 ibsm: FILE: cell out of order 1\n",
+        ),
+        (
+            &adapter_store(),
+            &exchanged_store(),
+            b"3 ibsm: OTHER: cell out of order 1\n",
+        ),
+        (
+            &adapter_file(),
+            b"IBSMSTO1\x01",
+            b"3 ibsm: OTHER: truncated at 8\n",
+        ),
+    ];
+    for (first, second, wanted) in rows {
+        check(&rt, rt.alloc(), Command::Facts, &[first, second], wanted)?;
+        if wanted.starts_with(b"3") {
+            check(&rt, rt.alloc(), Command::Join, &[first, second], wanted)?;
+        }
+    }
+    for store in [adapter_store().as_slice(), &greatest_store()] {
+        check(&rt, rt.alloc(), Command::Join, &[store, store], store)?;
+    }
+    check(
+        &rt,
+        rt.alloc(),
+        Command::Join,
+        &[&adapter_file()],
+        &adapter_store(),
+    )
+}
+
+#[test]
+fn each_cut_and_damage_is_told(rt: HostRuntime) -> Result<(), Fail> {
+    for (file, size, whole) in [
+        (adapter_file().as_slice(), 272, ADAPTER_FACTS),
+        (&adapter_store(), 32, ADAPTER_FACTS),
+    ] {
+        for length in 0..=file.len() {
+            let cut = &file[..length];
+            let wanted: &[u8] = match length {
+                0..=7 => b"3 ibsm: FILE: bad magic\n",
+                8 => b"",
+                40 if size == 32 => b"node 0000000000000100 ca 1 @1\n",
+                72 | 280 if length == file.len() => whole,
+                41..=71 if size == 32 => b"3 ibsm: FILE: truncated at 40\n",
+                _ => b"3 ibsm: FILE: truncated at 8\n",
+            };
+            check(&rt, rt.alloc(), Command::Facts, &[cut], wanted)?;
+        }
+    }
+    // State 2 with the value kept, and then kind, state, generation, node type, ports, the key's port, the fourth byte and
+    // the last value byte.
+    for (place, byte) in [
+        (9, 2),
+        (8, 7),
+        (9, 3),
+        (15, 0),
+        (24, 4),
+        (25, 0),
+        (10, 1),
+        (11, 1),
+        (39, 1),
+    ] {
+        let mut store = adapter_store();
+        if let Some(damaged) = store.get_mut(place) {
+            *damaged = byte;
+        }
+        check(
+            &rt,
+            rt.alloc(),
+            Command::Facts,
+            &[&store],
+            b"3 ibsm: FILE: bad cell 0\n",
+        )?;
+    }
+    Ok(())
+}
+
+/// The lines of faults of a file, or of none, with the exit status.
+fn fault_lines() -> [(Fault, &'static [u8]); 11] {
+    let file = |fault| Fault::File { place: 0, fault };
+    [
+        (Fault::Open { place: 0 }, b"4 ibsm: FILE: cannot open\n"),
+        (Fault::Open { place: 1 }, b"4 ibsm: OTHER: cannot open\n"),
+        (file(FileFault::Magic), b"3 ibsm: FILE: bad magic\n"),
+        (
+            file(FileFault::Truncated { offset: 280 }),
+            b"3 ibsm: FILE: truncated at 280\n",
+        ),
+        (
+            file(FileFault::BadCell { index: 0 }),
+            b"3 ibsm: FILE: bad cell 0\n",
+        ),
+        (
+            file(FileFault::CellOrder { index: 12 }),
+            b"3 ibsm: FILE: cell out of order 12\n",
+        ),
+        (file(FileFault::TooLong), b"3 ibsm: FILE: too long\n"),
+        (file(FileFault::Read), b"4 ibsm: FILE: read failed\n"),
+        (file(FileFault::Memory), b"5 ibsm: out of memory\n"),
+        (Fault::Memory, b"5 ibsm: out of memory\n"),
+        (Fault::Write, b"4 ibsm: write failed\n"),
+    ]
+}
+
+#[test]
+fn each_fault_has_its_line_and_status(rt: HostRuntime) -> Result<(), Fail> {
+    for (fault, wanted) in fault_lines() {
+        let mut sink = ToRoom::new(rt.alloc(), 64)?;
+        tell(&mut sink, fault)?;
+        assert!(rt; sink.bytes() == wanted, "{fault:?}");
+    }
+    for (status, code) in [(ExitStatus::Done, 0), (ExitStatus::Usage, 2)] {
+        assert!(rt; status.code() == code, "{status:?}");
+    }
+    Ok(())
+}
+
+/// How a run over the adapter's file ends whose reader fails at a call.
+fn read_failing(alloc: Global, fails_at: u64) -> Result<ToRoom, Fail> {
+    let file = adapter_file();
+    let mut sources = Vec::new(alloc);
+    sources.push(FromRead::new(Dripping {
+        rest: &file,
+        calls: 0,
+        fails_at,
+    }))?;
+    let mut sink = ToRoom::new(alloc, 128)?;
+    if let Err(fault) = run_files(alloc, &mut sources, Command::Facts, &mut sink) {
+        tell(&mut sink, fault)?;
+    }
+    Ok(sink)
+}
+
+/// How a run over the adapter's file ends whose writer fails at a call, and what it has taken.
+fn write_failing(alloc: Global, fails_at: u64) -> Result<(Result<(), Fault>, Vec<u8>), AllocError> {
+    let file = adapter_file();
+    let mut sources = Vec::new(alloc);
+    sources.push(FromBytes::new(&file))?;
+    let mut sink = ToWrite::new(Sipping {
+        held: Vec::new(alloc),
+        out: Vec::new(alloc),
+        calls: 0,
+        fails_at,
+    });
+    let outcome = run_files(alloc, &mut sources, Command::Facts, &mut sink);
+    Ok((outcome, sink.into_inner().out))
+}
+
+#[test]
+fn a_reader_or_writer_may_fail_at_any_call(rt: HostRuntime) -> Result<(), Fail> {
+    // A reader is asked for each of 280 bytes, and once at the end.
+    for fails_at in 1..=282 {
+        let wanted = if fails_at < 282 {
+            b"4 ibsm: FILE: read failed\n".as_slice()
+        } else {
+            ADAPTER_FACTS
+        };
+        assert!(rt; read_failing(rt.alloc(), fails_at)?.bytes() == wanted, "at call {fails_at}");
+    }
+    // A writer is asked for each of 78 bytes, and to flush, which is when they go out.
+    for fails_at in 1..=80 {
+        let (outcome, out) = write_failing(rt.alloc(), fails_at)?;
+        let is_done = fails_at == 80;
+        assert!(rt; outcome.is_ok() == is_done, "at call {fails_at}");
+        assert!(rt; (out.as_slice() == ADAPTER_FACTS) == is_done, "at call {fails_at}");
+    }
+    Ok(())
 }

@@ -4,14 +4,14 @@ use Rattle.std.specs.Prelude.{◌==◌}
 use Rattle.std.proofs.lemmas.Bool.{eq-eqb}
 use Rattle.byteorder.specs.Endian.{big_bytes}
 use Rattle.smp_bytes.specs.Field.{number_in, bytes_in, with_number}
-use Rattle.smp_bytes.specs.FieldLaws.{get_or-with_bytes, length-with_bytes, length-with_number, number_in-with_bytes, number_in-with_number, number_in-with_number_apart}
-use Rattle.smp_bytes.specs.BitLaws.{byte-number_in}
+use Rattle.smp_bytes.proofs.FieldLaws.{get_or-with_bytes, length-with_bytes, length-with_number, number_in-with_bytes, number_in-with_number, number_in-with_number_apart}
+use Rattle.smp_bytes.proofs.BitLaws.{byte-number_in}
 use Rattle.smp_bytes.specs.Packet.{mgmt_class, method, status_word, attribute_data, is_directed, is_returning, is_response, status}
-use Rattle.smp_bytes.specs.Making.{answer_status, answer_to}
-use Rattle.smp_bytes.specs.MakingLaws.{answer_parses}
+use Rattle.smp_bytes.specs.Requests.{answer_status, answer_packet}
+use Rattle.smp_bytes.proofs.RequestLaws.{answer_parses}
 use Rattle.smp_bytes.specs.ReadBack.{IsKeptInAnswer, AnswerReadsBack}
-use Rattle.smp_bytes.specs.PlaceLaws.{get_or-with_number}
-use Rattle.smp_bytes.specs.PlaceLaws.{get_or-with_bytes_inside, bytes_in-with_bytes}
+use Rattle.smp_bytes.proofs.PlaceLaws.{get_or-with_number}
+use Rattle.smp_bytes.proofs.PlaceLaws.{get_or-with_bytes_inside, bytes_in-with_bytes}
 
 -- the status word without the direction is the status that was given
 status_given : (directed : Bool) (given : ℕ) → (directed ≡ true → given < 2 ^ 15) → cond directed (cond directed (2 ^ 15 + given) given % 2 ^ 15) (cond directed (2 ^ 15 + given) given) ≡ given
@@ -39,7 +39,7 @@ module _ (request : List ℕ) (given : ℕ) (payload : List ℕ) (long : length 
   unfolding judged
   length-judged = let l = length-renamed in length-with_number status_word (answer_status request given) renamed (omega arith) ∙ length-renamed
 
-  class_stays : number_in mgmt_class (answer_to request given payload) ≡ number_in mgmt_class request
+  class_stays : number_in mgmt_class (answer_packet request given payload) ≡ number_in mgmt_class request
   unfolding renamed judged
   class_stays =
       let l = length-renamed in
@@ -48,10 +48,10 @@ module _ (request : List ℕ) (given : ℕ) (payload : List ℕ) (long : length 
       ∙ number_in-with_number_apart mgmt_class status_word (answer_status request given) renamed (omega arith) refl
       ∙ number_in-with_number_apart mgmt_class method 0x81 request (omega arith) refl
 
-  direction_stays : is_directed (answer_to request given payload) ≡ is_directed request
+  direction_stays : is_directed (answer_packet request given payload) ≡ is_directed request
   direction_stays = ap (λ n. n == 0x81) class_stays
 
-  method_is : number_in method (answer_to request given payload) ≡ 0x81
+  method_is : number_in method (answer_packet request given payload) ≡ 0x81
   unfolding renamed judged
   method_is =
       let l = length-renamed in
@@ -60,10 +60,10 @@ module _ (request : List ℕ) (given : ℕ) (payload : List ℕ) (long : length 
       ∙ number_in-with_number_apart method status_word (answer_status request given) renamed (omega arith) refl
       ∙ number_in-with_number method 0x81 request (omega arith) (omega arith)
 
-  response_is : is_response (answer_to request given payload) ≡ true
-  response_is = ap (λ n. n / 2 ^ 7 % 2 ^ 1 == 1) (sym (byte-number_in 3 (answer_to request given payload)) ∙ method_is)
+  response_is : is_response (answer_packet request given payload) ≡ true
+  response_is = ap (λ n. n / 2 ^ 7 % 2 ^ 1 == 1) (sym (byte-number_in 3 (answer_packet request given payload)) ∙ method_is)
 
-  word_is : answer_status request given < 2 ^ 16 → number_in status_word (answer_to request given payload) ≡ answer_status request given
+  word_is : answer_status request given < 2 ^ 16 → number_in status_word (answer_packet request given payload) ≡ answer_status request given
   unfolding renamed judged
   word_is fits =
       let l = length-renamed in
@@ -71,14 +71,14 @@ module _ (request : List ℕ) (given : ℕ) (payload : List ℕ) (long : length 
       number_in-with_bytes status_word 64 payload judged (omega arith) (inl (omega arith))
       ∙ number_in-with_number status_word (answer_status request given) renamed (omega arith) fits
 
-  status_is : given < 2 ^ 16 → (is_directed request ≡ true → given < 2 ^ 15) → status (answer_to request given payload) ≡ given
+  status_is : given < 2 ^ 16 → (is_directed request ≡ true → given < 2 ^ 15) → status (answer_packet request given payload) ≡ given
   status_is fits small =
-      ap (λ (b : Bool). cond b (number_in status_word (answer_to request given payload) % 2 ^ 15) (number_in status_word (answer_to request given payload))) direction_stays
+      ap (λ (b : Bool). cond b (number_in status_word (answer_packet request given payload) % 2 ^ 15) (number_in status_word (answer_packet request given payload))) direction_stays
       ∙ ap (λ n. cond (is_directed request) (n % 2 ^ 15) n) (word_is (word_fits (is_directed request) given fits small))
       ∙ status_given (is_directed request) given small
 
   -- the byte with the direction
-  high_byte : get_or (answer_to request given payload) 4 0 ≡ answer_status request given / 256 % 256
+  high_byte : get_or (answer_packet request given payload) 4 0 ≡ answer_status request given / 256 % 256
   unfolding renamed judged
   high_byte =
       let l = length-renamed in
@@ -86,21 +86,21 @@ module _ (request : List ℕ) (given : ℕ) (payload : List ℕ) (long : length 
       get_or-with_bytes 64 payload judged 4 (omega arith) (inl (omega arith))
       ∙ get_or-with_bytes_inside 4 (big_bytes 2 (answer_status request given)) renamed 0 (omega arith) (omega arith)
 
-  returning_is : (is_directed request ≡ true → given < 2 ^ 15) → is_directed request ≡ true → is_returning (answer_to request given payload) ≡ true
+  returning_is : (is_directed request ≡ true → given < 2 ^ 15) → is_directed request ≡ true → is_returning (answer_packet request given payload) ≡ true
   returning_is small directed =
       let below : given < 2 ^ 15 = small directed in
       let word : answer_status request given ≡ 2 ^ 15 + given = ap (λ (b : Bool). cond b (2 ^ 15 + given) given) directed in
       let bit : (2 ^ 15 + given) / 256 % 256 / 2 ^ 7 % 2 ^ 1 ≡ 1 = omega arith in
       ap (λ n. n / 2 ^ 7 % 2 ^ 1 == 1) (high_byte ∙ ap (λ n. n / 256 % 256) word) ∙ eq-eqb ((2 ^ 15 + given) / 256 % 256 / 2 ^ 7 % 2 ^ 1) 1 bit
 
-  data_is : bytes_in attribute_data (answer_to request given payload) ≡ payload
+  data_is : bytes_in attribute_data (answer_packet request given payload) ≡ payload
   unfolding renamed judged
   data_is =
       let m = length-judged in
-      ap (λ n. bytes_in (record { at = 64; len = n }) (answer_to request given payload)) (sym whole) ∙ bytes_in-with_bytes 64 payload judged (omega arith)
+      ap (λ n. bytes_in (record { at = 64; len = n }) (answer_packet request given payload)) (sym whole) ∙ bytes_in-with_bytes 64 payload judged (omega arith)
 
   -- a byte outside method, status and attribute
-  stays : (place : ℕ) → (place < 64) ⊎ (128 ≤ place) → (place < 4) ⊎ (6 ≤ place) → (place < 3) ⊎ (4 ≤ place) → get_or (answer_to request given payload) place 0 ≡ get_or request place 0
+  stays : (place : ℕ) → (place < 64) ⊎ (128 ≤ place) → (place < 4) ⊎ (6 ≤ place) → (place < 3) ⊎ (4 ≤ place) → get_or (answer_packet request given payload) place 0 ≡ get_or request place 0
   unfolding renamed judged
   stays place no_data no_status no_method =
       let l = length-renamed in
@@ -113,12 +113,12 @@ module _ (request : List ℕ) (given : ℕ) (payload : List ℕ) (long : length 
       behind (inl h) = inl h
       behind (inr h) = inr (omega arith)
 
-  kept_is : (place : ℕ) → IsKeptInAnswer place → get_or (answer_to request given payload) place 0 ≡ get_or request place 0
+  kept_is : (place : ℕ) → IsKeptInAnswer place → get_or (answer_packet request given payload) place 0 ≡ get_or request place 0
   kept_is place (inl first) = stays place (inl (omega arith)) (inl (omega arith)) (inl (omega arith))
   kept_is place (inr (inl between)) = stays place (inl between.1) (inr between.0) (inr (omega arith))
   kept_is place (inr (inr last)) = stays place (inr last) (inr (omega arith)) (inr (omega arith))
 
-  length-answer : length (answer_to request given payload) ≡ 256
+  length-answer : length (answer_packet request given payload) ≡ 256
   unfolding renamed judged
   length-answer = let m = length-judged in length-with_bytes 64 payload judged (omega arith) ∙ length-judged
 

@@ -4,11 +4,11 @@ use Rattle.std.proofs.lemmas.Bool.{cases_lt}
 use Rattle.std.proofs.lemmas.List.{ext_get_or, get_or-drop, get_or-take}
 use Rattle.byteorder.specs.Endian.{big_bytes}
 use Rattle.byteorder.specs.Numbers.{length-bytes_high_first}
-use Rattle.smp_bytes.specs.CopyLaws.{big_bytes-number_in}
+use Rattle.smp_bytes.proofs.CopyLaws.{big_bytes-number_in}
 use Rattle.smp_bytes.specs.Field.{bytes_in, replaced, with_number}
-use Rattle.smp_bytes.specs.FieldLaws.{length-with_number}
-use Rattle.smp_bytes.specs.PlaceLaws.{get_or-with_bytes_inside, get_or-with_number}
-use Rattle.smp_bytes.specs.BitLaws.{get_or-with_bits, replaced_fits}
+use Rattle.smp_bytes.proofs.FieldLaws.{length-with_number}
+use Rattle.smp_bytes.proofs.PlaceLaws.{get_or-with_bytes_inside, get_or-with_number}
+use Rattle.smp_bytes.proofs.BitLaws.{get_or-with_bits, replaced_fits}
 use Rattle.smp_bytes.specs.Laws.{BytesOutsideStay, OtherBytesStay, WriteIsUnique}
 
 -- a write into a field keeps the bytes outside it

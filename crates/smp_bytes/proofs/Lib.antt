@@ -1,6 +1,12 @@
 pub mod Answered
+pub mod BitLaws
+pub mod CopyLaws
+pub mod FieldLaws
 pub mod HexText
 pub mod Kept
 pub mod Made
+pub mod PlaceLaws
+pub mod RequestLaws
 pub mod Shifts
+pub mod StatusLaws
 pub mod Written

@@ -3,13 +3,13 @@ use Rattle.std.proofs.Common.{◌≡◌, ℕ, ◌+◌, ◌^◌, ◌<◌, ◌≤�
 use Rattle.std.specs.Prelude.{None, Some, slice_get}
 use Rattle.std.proofs.lemmas.List.{get_or-replicate}
 use Rattle.smp_bytes.specs.Field.{Field, Entry, number_in, bytes_in, with_bytes, with_numbers}
-use Rattle.smp_bytes.specs.FieldLaws.{is_apart_from, get_or-with_bytes, length-with_bytes, length-with_numbers, number_in-with_bytes, number_in-with_numbers, number_in-with_numbers_apart}
-use Rattle.smp_bytes.specs.BitLaws.{byte-number_in}
+use Rattle.smp_bytes.proofs.FieldLaws.{is_apart_from, get_or-with_bytes, length-with_bytes, length-with_numbers, number_in-with_bytes, number_in-with_numbers, number_in-with_numbers_apart}
+use Rattle.smp_bytes.proofs.BitLaws.{byte-number_in}
 use Rattle.smp_bytes.specs.Packet.{base_version, mgmt_class, class_version, method, status_word, transaction_id, attribute_id, attribute_modifier, m_key, attribute_data, hop_pointer, initial_path, fault_of}
-use Rattle.smp_bytes.specs.Making.{request_entries, path_entries, request, lid_routed, directed}
-use Rattle.smp_bytes.specs.MakingLaws.{length-request, length-directed, lid_routed_field, lid_routed_parses, directed_field, directed_header, directed_parses}
+use Rattle.smp_bytes.specs.Requests.{request_entries, path_entries, request, lid_routed, directed}
+use Rattle.smp_bytes.proofs.RequestLaws.{length-request, length-directed, lid_routed_field, lid_routed_parses, directed_field, directed_header, directed_parses}
 use Rattle.smp_bytes.specs.ReadBack.{reserved_after_attribute_id, HoldsRequest, HoldsPath, FitsRequest, DirectedReadsBack, LidRoutedReadsBack}
-use Rattle.smp_bytes.specs.PlaceLaws.{get_or-with_bytes_inside, bytes_in-with_bytes, bytes_in-with_bytes_before, get_or-with_numbers_behind}
+use Rattle.smp_bytes.proofs.PlaceLaws.{get_or-with_bytes_inside, bytes_in-with_bytes, bytes_in-with_bytes_before, get_or-with_numbers_behind}
 
 module _ (method_number attribute modifier tid : ℕ) where
   -- the i-th field of a request holds its number

@@ -3,7 +3,7 @@ use Rattle.std.proofs.Common.{◌≡◌, ℕ, ◌+◌, ◌*◌, ◌/◌, ◌%◌
 use Rattle.std.proofs.lemmas.Nat.{one_shl, pow_pos}
 use Rattle.std.proofs.Math.Nat.{mod-eq_of_lt, mul-le-mul_left}
 use Rattle.smp_bytes.specs.Field.{replaced}
-use Rattle.smp_bytes.specs.BitLaws.{replaced_fits}
+use Rattle.smp_bytes.proofs.BitLaws.{replaced_fits}
 
 pub shifted : (shift width number byte : ℕ) → byte < 256 → shift + width ≤ 8 → number < 2 ^ width →
     (byte / 2 ^ (shift + width) * 2 ^ width % 4294967296 + number) * 2 ^ shift % 4294967296 + byte % (1 * 2 ^ shift % 4294967296)

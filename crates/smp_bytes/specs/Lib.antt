@@ -1,12 +1,10 @@
-pub mod BitLaws
-pub mod CopyLaws
 pub mod Field
-pub mod FieldLaws
+pub mod Header
+pub mod Judges
 pub mod Laws
-pub mod Making
-pub mod MakingLaws
 pub mod NodeType
 pub mod Packet
-pub mod PlaceLaws
 pub mod ReadBack
+pub mod Requests
+pub mod SmpFault
 pub mod Text

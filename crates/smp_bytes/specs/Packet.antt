@@ -2,6 +2,7 @@
 -- InfiniBand Architecture Specification, Volume 1: management datagram header, and SMP formats, LID routed and directed route.
 use Rattle.std.specs.Prelude.{ℕ, ◌+◌, ◌%◌, ◌^◌, Bool, ◌&&◌, ◌||◌, not, List, nat_lt, ◌==◌, if◌then◌else◌, Option, Some, None}
 use Rattle.smp_bytes.specs.Field.{Field, Bits, number_in, bits_in}
+use Rattle.smp_bytes.specs.Header.{lid_routed_class, directed_class}
 use Rattle.smp_bytes.specs.declared.smp_fault.SmpFault.{SmpFault}
 use Rattle.smp_bytes.specs.declared.smp_fault.SmpFault.TheVariants.{BaseVersion, Class, ClassVersion, HopCount, HopPointer, DrLid}
 
@@ -73,10 +74,10 @@ return_path i = record { at = 192 + i; len = 1 }
 -- what the fields say -----------------------------------------------------------------
 
 abbrev pub is_lid_routed : List ℕ → Bool
-is_lid_routed packet = number_in mgmt_class packet == 0x01
+is_lid_routed packet = number_in mgmt_class packet == lid_routed_class
 
 abbrev pub is_directed : List ℕ → Bool
-is_directed packet = number_in mgmt_class packet == 0x81
+is_directed packet = number_in mgmt_class packet == directed_class
 
 -- an answer, or another packet that asks for no answer
 abbrev pub is_response : List ℕ → Bool
@@ -94,10 +95,14 @@ status packet = if is_directed packet then number_in status_word packet % 2 ^ 15
 abbrev pub permissive_lid : ℕ
 permissive_lid = 0xFFFF
 
+-- the greatest number of hops of a path
+abbrev pub max_hops : ℕ
+max_hops = 63
+
 -- the first fault of the fields that the directed class has
 abbrev pub directed_fault_of : List ℕ → Option SmpFault
 directed_fault_of packet =
-    if nat_lt 63 (number_in hop_count packet) then Some HopCount
+    if nat_lt max_hops (number_in hop_count packet) then Some HopCount
     else if nat_lt (number_in hop_count packet + 1) (number_in hop_pointer packet) then Some HopPointer
     else if not (number_in dr_slid packet == permissive_lid && number_in dr_dlid packet == permissive_lid) then Some DrLid
     else None

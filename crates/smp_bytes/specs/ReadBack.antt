@@ -1,9 +1,10 @@
 -- What stands in packets that are made: all that was given, and 0 wherever nothing was.
 -- InfiniBand Architecture Specification, Volume 1: SMP formats; management methods; directed route SMPs.
-use Rattle.std.specs.Prelude.{◌≡◌, ℕ, ◌+◌, ◌^◌, ◌<◌, ◌≤◌, ◌⊎◌, List, length, slice_index, None, true}
-use Rattle.smp_bytes.specs.Field.{Field, number_in, bytes_in}
-use Rattle.smp_bytes.specs.Packet.{base_version, mgmt_class, class_version, method, status_word, transaction_id, attribute_id, attribute_modifier, m_key, attribute_data, hop_pointer, hop_count, dr_slid, dr_dlid, initial_path, return_path, permissive_lid, is_directed, is_response, is_returning, status, fault_of}
-use Rattle.smp_bytes.specs.Making.{directed, lid_routed, answer_to}
+use Rattle.std.specs.Prelude.{◌≡◌, ℕ, ◌+◌, ◌^◌, ◌<◌, ◌≤◌, ◌⊎◌, List, All, length, slice_index, None, true}
+use Rattle.smp_bytes.specs.Field.{Field, number_in, bytes_in, with_number}
+use Rattle.smp_bytes.specs.Packet.{base_version, mgmt_class, class_version, method, status_word, transaction_id, attribute_id, attribute_modifier, m_key, attribute_data, hop_pointer, hop_count, dr_slid, dr_dlid, initial_path, return_path, permissive_lid, max_hops, is_directed, is_response, is_returning, status, fault_of}
+use Rattle.smp_bytes.specs.Header.{lid_routed_class, directed_class, get_resp}
+use Rattle.smp_bytes.specs.Requests.{directed, lid_routed, answer_packet, word_with_status}
 
 -- the reserved bytes behind the attribute ID
 abbrev pub reserved_after_attribute_id : Field
@@ -26,7 +27,7 @@ pub record HoldsRequest (packet : List ℕ) (method_number attribute modifier ti
 
 -- what a directed request holds besides: no hop is made, and all ports of InitialPath but those of the path are 0
 pub record HoldsPath (packet path : List ℕ) : Type 0 where
-  pub class : number_in mgmt_class packet ≡ 0x81
+  pub class : number_in mgmt_class packet ≡ directed_class
   pub hop_pointer : number_in hop_pointer packet ≡ 0
   pub hop_count : number_in hop_count packet ≡ length path
   pub dr_slid : number_in dr_slid packet ≡ permissive_lid
@@ -39,7 +40,7 @@ pub record HoldsPath (packet path : List ℕ) : Type 0 where
 
 -- what a LID-routed request holds besides
 pub record HoldsNoPath (packet : List ℕ) : Type 0 where
-  pub class : number_in mgmt_class packet ≡ 0x01
+  pub class : number_in mgmt_class packet ≡ lid_routed_class
   pub no_hops : number_in (record { at = 6; len = 2 }) packet ≡ 0
   pub reserved_before : number_in (record { at = 32; len = 32 }) packet ≡ 0
   pub reserved_behind : number_in (record { at = 128; len = 128 }) packet ≡ 0
@@ -55,7 +56,7 @@ pub record FitsRequest (method_number attribute modifier tid : ℕ) (payload : L
 -- a directed request holds what was given
 abbrev pub DirectedReadsBack : Type 0
 DirectedReadsBack =
-    (method_number attribute modifier tid : ℕ) (path payload : List ℕ) → FitsRequest method_number attribute modifier tid payload → length path ≤ 63
+    (method_number attribute modifier tid : ℕ) (path payload : List ℕ) → FitsRequest method_number attribute modifier tid payload → length path ≤ max_hops
     → HoldsRequest (directed method_number attribute modifier tid path payload) method_number attribute modifier tid payload
     × HoldsPath (directed method_number attribute modifier tid path payload) path
 
@@ -75,7 +76,7 @@ pub record HoldsAnswer (request answer : List ℕ) (given : ℕ) (payload : List
   pub count : length answer ≡ 256
   pub parses : fault_of answer ≡ None
   pub class : is_directed answer ≡ is_directed request
-  pub method : number_in method answer ≡ 0x81
+  pub method : number_in method answer ≡ get_resp
   pub response : is_response answer ≡ true
   pub returning : is_directed request ≡ true → is_returning answer ≡ true
   pub status : status answer ≡ given
@@ -87,4 +88,17 @@ abbrev pub AnswerReadsBack : Type 0
 AnswerReadsBack =
     (request : List ℕ) (given : ℕ) (payload : List ℕ) → length request ≡ 256 → fault_of request ≡ None → length payload ≡ 64
     → given < 2 ^ 16 → (is_directed request ≡ true → given < 2 ^ 15)
-    → HoldsAnswer request (answer_to request given payload) given payload
+    → HoldsAnswer request (answer_packet request given payload) given payload
+
+-- what a packet holds once its status is written: the class is as it was, and so is the direction of a directed packet
+pub record HoldsStatus (old new : List ℕ) (given : ℕ) : Type 0 where
+  pub class : is_directed new ≡ is_directed old
+  pub status : status new ≡ given
+  pub returning : is_directed old ≡ true → is_returning new ≡ is_returning old
+
+-- a status that is written is read
+abbrev pub StatusReadsBack : Type 0
+StatusReadsBack =
+    (packet : List ℕ) (given : ℕ) → length packet ≡ 256 → All (λ byte. byte < 256) packet
+    → given < 2 ^ 16 → (is_directed packet ≡ true → given < 2 ^ 15)
+    → HoldsStatus packet (with_number status_word (word_with_status packet given) packet) given

@@ -10,6 +10,12 @@ pub const METHOD: usize = 3;
 
 pub const STATUS: usize = 4;
 
+/// The bit of the method's byte that is the R bit.
+pub const RESPONSE_BIT: u32 = 7;
+
+/// The bit of the status's first byte that is the D bit of a directed packet.
+pub const DIRECTION_BIT: u32 = 7;
+
 pub const HOP_POINTER: usize = 6;
 
 pub const HOP_COUNT: usize = 7;

@@ -24,6 +24,13 @@ pub struct Status(pub u16);
 
 impl Status {
     pub const DONE: Status = Status(0x0000);
+
+    pub const METHOD_NOT_SUPPORTED: Status = Status(0x0008);
+
+    pub const METHOD_AND_ATTRIBUTE_NOT_SUPPORTED: Status = Status(0x000C);
+
+    /// A field of the attribute or of its modifier.
+    pub const INVALID_FIELD: Status = Status(0x001C);
 }
 
 /// Which attribute a packet carries.
@@ -31,9 +38,15 @@ impl Status {
 pub struct AttributeId(pub u16);
 
 impl AttributeId {
+    pub const NODE_DESCRIPTION: AttributeId = AttributeId(0x0010);
+
     pub const NODE_INFO: AttributeId = AttributeId(0x0011);
 
     pub const SWITCH_INFO: AttributeId = AttributeId(0x0012);
 
     pub const PORT_INFO: AttributeId = AttributeId(0x0015);
+
+    pub const LINEAR_FORWARDING_TABLE: AttributeId = AttributeId(0x0019);
+
+    pub const SM_INFO: AttributeId = AttributeId(0x0020);
 }

@@ -1,6 +1,10 @@
 //! The laws of packets: what a write into a field or into some bits does, and what stands in the packets that are made.
+ghost use Rattle.std.specs.Prelude.{◌≡◌};
+ghost use Rattle.smp_bytes.specs.Header.{get, set, get_resp, done, method_not_supported, method_and_attribute_not_supported, invalid_field, node_description, node_info, switch_info, port_info, linear_forwarding_table, sm_info};
 ghost use Rattle.smp_bytes.specs.Laws.{NumberIsRead, FieldApartStays, BytesOutsideStay, WriteIsUnique, LastWriteStands, BitsAreRead, BitsApartStay, OtherBytesStay};
-ghost use Rattle.smp_bytes.specs.ReadBack.{DirectedReadsBack, LidRoutedReadsBack, AnswerReadsBack};
+ghost use Rattle.smp_bytes.specs.ReadBack.{DirectedReadsBack, LidRoutedReadsBack, AnswerReadsBack, StatusReadsBack};
+
+use crate::header::{AttributeId, Method, Status};
 
 /// A number that is written into a field is read from it.
 pub fn written_number_is_read()
@@ -58,4 +62,34 @@ pub fn lid_routed_request_reads_back()
 /// method stands as in the request.
 pub fn answer_reads_back()
     ensures { AnswerReadsBack }
+{}
+
+/// A status that is written is read; the class stays, and so does the direction of a directed packet.
+pub fn status_reads_back()
+    ensures { StatusReadsBack }
+{}
+
+/// The numbers of the methods.
+pub fn method_numbers()
+    ensures get { Method.GET.0 ≡ get }
+    ensures set { Method.SET.0 ≡ set }
+    ensures get_resp { Method.GET_RESP.0 ≡ get_resp }
+{}
+
+/// The numbers of the statuses.
+pub fn status_numbers()
+    ensures done { Status.DONE.0 ≡ done }
+    ensures method { Status.METHOD_NOT_SUPPORTED.0 ≡ method_not_supported }
+    ensures pair { Status.METHOD_AND_ATTRIBUTE_NOT_SUPPORTED.0 ≡ method_and_attribute_not_supported }
+    ensures field { Status.INVALID_FIELD.0 ≡ invalid_field }
+{}
+
+/// The numbers of the attributes.
+pub fn attribute_numbers()
+    ensures node_description { AttributeId.NODE_DESCRIPTION.0 ≡ node_description }
+    ensures node_info { AttributeId.NODE_INFO.0 ≡ node_info }
+    ensures switch_info { AttributeId.SWITCH_INFO.0 ≡ switch_info }
+    ensures port_info { AttributeId.PORT_INFO.0 ≡ port_info }
+    ensures linear_forwarding_table { AttributeId.LINEAR_FORWARDING_TABLE.0 ≡ linear_forwarding_table }
+    ensures sm_info { AttributeId.SM_INFO.0 ≡ sm_info }
 {}

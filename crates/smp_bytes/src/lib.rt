@@ -7,7 +7,6 @@ mod guid;
 mod header;
 pub mod laws;
 mod lid;
-mod making;
 mod node_type;
 mod path;
 mod port_num;
@@ -16,7 +15,6 @@ mod smp_fault;
 #[cfg(test)]
 mod tests;
 pub mod wire;
-mod writers;
 
 pub use generation::Generation;
 pub use guid::Guid;

@@ -1,6 +1,7 @@
-ghost use Rattle.std.specs.Prelude.{◌≡◌, ◌<◌, ◌↔◌, None, Some, IsOk, IfOk, IfErr, IsTrue, if◌then◌else◌, length};
+ghost use Rattle.std.specs.Prelude.{◌≡◌, ◌<◌, ◌↔◌, None, IfOk, IsTrue, if◌then◌else◌};
 ghost use Rattle.smp_bytes.specs.Field.{number_in, bytes_in};
-ghost use Rattle.smp_bytes.specs.Packet.{base_version, class_version, method, transaction_id, attribute_id, attribute_modifier, m_key, attribute_data, hop_pointer, hop_count, dr_slid, dr_dlid, initial_path, return_path, is_directed, is_response, is_returning, status, fault_of};
+ghost use Rattle.smp_bytes.specs.Packet.{base_version, class_version, method, transaction_id, attribute_id, attribute_modifier, m_key, attribute_data, hop_pointer, hop_count, dr_slid, dr_dlid, initial_path, return_path, is_directed, is_response, is_returning, status, fault_of, directed_fault_of};
+ghost use Rattle.smp_bytes.specs.Judges.{Judges};
 ghost use Rattle.smp_bytes.specs.declared.header.SmpClass.TheVariants.{LidRouted, DirectedRoute};
 
 use crate::field;
@@ -8,8 +9,11 @@ use crate::header::{AttributeId, Method, SmpClass, Status};
 use crate::lid::Lid;
 use crate::port_num::PortNum;
 use crate::smp_fault::SmpFault;
-use crate::wire::{u8_at, u16_at, u32_at, u64_at};
+use crate::wire::{bits_at, u8_at, u16_at, u32_at, u64_at};
 use std::marker::Model;
+
+mod requests;
+mod writers;
 
 /// A subnet management packet: 256 bytes that passed `parse`. Contracts see its bytes.
 #[derive(Clone, Copy, Debug)]
@@ -30,11 +34,14 @@ impl Model for Smp {
     ghost inverse = { λ bytes. record { bytes = bytes } };
 }
 
-pub(crate) const LID_ROUTED: u8 = 0x01;
+/// The base version and the class version.
+const VERSION: u8 = 1;
 
-pub(crate) const DIRECTED_ROUTE: u8 = 0x81;
+const LID_ROUTED: u8 = 0x01;
 
-pub(crate) const PERMISSIVE_LID: u16 = 0xFFFF;
+const DIRECTED_ROUTE: u8 = 0x81;
+
+const PERMISSIVE_LID: u16 = 0xFFFF;
 
 const MAX_HOPS: u8 = 63;
 
@@ -42,35 +49,13 @@ impl Smp {
     /// Takes 256 bytes that are a packet of this version (base version and class version 1) and of one of the two
     /// classes; the bytes stay as they are.
     pub fn parse(bytes: &[u8; 256]) -> Result<Smp, SmpFault>
+        ensures judged { Judges result (fault_of bytes.now) }
         ensures kept { IfOk result (λ smp. smp ≡ bytes.now) }
-        ensures accepted { IsOk result ↔ (fault_of bytes.now ≡ None) }
-        ensures refused { IfErr result (λ fault. fault_of bytes.now ≡ Some fault) }
     {
-        if u8_at(bytes, field::BASE_VERSION) != 1 {
-            return Err(SmpFault::BaseVersion);
+        match fault_of(bytes) {
+            None => Ok(Smp { bytes: *bytes }),
+            Some(fault) => Err(fault),
         }
-        let class = u8_at(bytes, field::MGMT_CLASS);
-        if class != LID_ROUTED && class != DIRECTED_ROUTE {
-            return Err(SmpFault::Class);
-        }
-        if u8_at(bytes, field::CLASS_VERSION) != 1 {
-            return Err(SmpFault::ClassVersion);
-        }
-        if class == DIRECTED_ROUTE {
-            let hop_count = u8_at(bytes, field::HOP_COUNT);
-            if hop_count > MAX_HOPS {
-                return Err(SmpFault::HopCount);
-            }
-            if u8_at(bytes, field::HOP_POINTER) > hop_count + 1 {
-                return Err(SmpFault::HopPointer);
-            }
-            if u16_at(bytes, field::DR_SLID) != PERMISSIVE_LID
-                || u16_at(bytes, field::DR_DLID) != PERMISSIVE_LID
-            {
-                return Err(SmpFault::DrLid);
-            }
-        }
-        Ok(Smp { bytes: *bytes })
     }
 
     /// The packet's bytes.
@@ -117,14 +102,14 @@ impl Smp {
     pub fn is_response(&self) -> bool
         ensures { IsTrue result ↔ IsTrue (is_response self.now) }
     {
-        self.bytes[field::METHOD] >> 7 == 1
+        bits_at(&self.bytes, field::METHOD, field::RESPONSE_BIT, 1) == 1
     }
 
     /// The D bit of a directed packet: it is on its way back.
     pub fn is_returning(&self) -> bool
         ensures { IsTrue result ↔ IsTrue (is_returning self.now) }
     {
-        self.bytes[field::STATUS] >> 7 == 1
+        bits_at(&self.bytes, field::STATUS, field::DIRECTION_BIT, 1) == 1
     }
 
     /// The status, without the D bit in a directed packet.
@@ -213,5 +198,41 @@ impl Smp {
         let mut data = [0; 64];
         data.copy_from_slice(&self.bytes[field::DATA..field::INITIAL_PATH]);
         data
+    }
+}
+
+/// The first fault of 256 bytes, if they are no packet.
+fn fault_of(bytes: &[u8; 256]) -> Option<SmpFault>
+    ensures { result ≡ fault_of bytes.now }
+{
+    let class = u8_at(bytes, field::MGMT_CLASS);
+    if u8_at(bytes, field::BASE_VERSION) != VERSION {
+        Some(SmpFault::BaseVersion)
+    } else if class != LID_ROUTED && class != DIRECTED_ROUTE {
+        Some(SmpFault::Class)
+    } else if u8_at(bytes, field::CLASS_VERSION) != VERSION {
+        Some(SmpFault::ClassVersion)
+    } else if class == DIRECTED_ROUTE {
+        directed_fault_of(bytes)
+    } else {
+        None
+    }
+}
+
+/// The first fault of the fields that the directed class has.
+fn directed_fault_of(bytes: &[u8; 256]) -> Option<SmpFault>
+    ensures { result ≡ directed_fault_of bytes.now }
+{
+    let hop_count = u8_at(bytes, field::HOP_COUNT);
+    let dr_slid = u16_at(bytes, field::DR_SLID);
+    let dr_dlid = u16_at(bytes, field::DR_DLID);
+    if hop_count > MAX_HOPS {
+        Some(SmpFault::HopCount)
+    } else if u8_at(bytes, field::HOP_POINTER) > hop_count + 1 {
+        Some(SmpFault::HopPointer)
+    } else if dr_slid != PERMISSIVE_LID || dr_dlid != PERMISSIVE_LID {
+        Some(SmpFault::DrLid)
+    } else {
+        None
     }
 }

@@ -1,3 +1,5 @@
+ghost use Rattle.std.specs.Prelude.{◌≡◌};
+
 use thiserror::Error;
 
 /// Why 256 bytes are no subnet management packet, in the order in which it is judged.
@@ -21,4 +23,22 @@ pub enum SmpFault {
     /// DrSLID or DrDLID of a directed packet is not the permissive LID, 0xFFFF.
     #[error("DrLid")]
     DrLid,
+}
+
+impl SmpFault {
+    ghost use Rattle.smp_bytes.specs.SmpFault.{smp_fault_name};
+
+    /// The name that `{}` writes.
+    pub fn name(self) -> &'static str
+        ensures { result.now ≡ smp_fault_name self }
+    {
+        match self {
+            SmpFault::BaseVersion => "BaseVersion",
+            SmpFault::Class => "Class",
+            SmpFault::ClassVersion => "ClassVersion",
+            SmpFault::HopCount => "HopCount",
+            SmpFault::HopPointer => "HopPointer",
+            SmpFault::DrLid => "DrLid",
+        }
+    }
 }

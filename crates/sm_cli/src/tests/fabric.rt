@@ -1,6 +1,7 @@
 //! The answers of a sweep of the sample fabric, and what files say together.
 use super::*;
 use fact_store::sample_fabric::reports;
+use fact_store::{Context, Report};
 
 const FABRIC_FACTS: &[u8] = b"\
 node 0000000000000010 switch 4 @1
@@ -62,34 +63,77 @@ cap 0000000000000020 1024 @1
 cap 0000000000000030 1024 @1
 ";
 
-#[test]
-fn the_first_answer_is_the_adapters(rt: HostRuntime) -> Result<(), Fail> {
-    let reports = reports(rt.alloc())?;
-    let first = reports.as_slice().get(..1).ok_or("no reports")?;
-    let file = file_of(rt.alloc(), first)?;
-    assert_eq!(rt; file.as_slice(), adapter_file().as_slice());
-    Ok(())
+/// The file of reports: the magic, and for each its generation, context, port, two zero bytes, GUID and reply.
+fn file_of(alloc: Global, reports: &[Report]) -> Result<Vec<u8>, AllocError> {
+    let mut file = Vec::from_slice(alloc, b"IBSMREP1")?;
+    for report in reports {
+        let (context, port, guid) = match report.context {
+            Context::Start => (0, 0, 0),
+            Context::Via(node, port) => (1, port.number(), node.number()),
+            Context::About(node) => (2, 0, node.number()),
+        };
+        file.extend_from_slice(&report.generation.to_be_bytes())?;
+        file.extend_from_slice(&[context, port, 0, 0])?;
+        file.extend_from_slice(&guid.to_be_bytes())?;
+        file.extend_from_slice(&report.bytes)?;
+    }
+    Ok(file)
+}
+
+/// The file of the fabric's 27 reports, and that of the same in the other order.
+fn fabric_files(alloc: Global) -> Result<(Vec<u8>, Vec<u8>), AllocError> {
+    let mut reports = reports(alloc)?;
+    let in_order = file_of(alloc, &reports)?;
+    reports.reverse();
+    Ok((in_order, file_of(alloc, &reports)?))
 }
 
 #[test]
 fn neither_order_nor_repetition_counts(rt: HostRuntime) -> Result<(), Fail> {
-    let mut reports = reports(rt.alloc())?;
-    let in_order = file_of(rt.alloc(), &reports)?;
-    assert_eq!(rt; in_order.len(), 7352);
-    let mut twice = in_order.clone()?;
-    twice.extend_from_slice(in_order.as_slice().get(8..).ok_or("no records")?)?;
-    reports.reverse();
-    let reversed = file_of(rt.alloc(), &reports)?;
-    for file in [&in_order, &reversed, &twice] {
-        let (outcome, sink) = run(rt.alloc(), &[file])?;
-        assert_eq!(rt; outcome, Ok(()));
-        assert_eq!(rt; sink.bytes(), FABRIC_FACTS);
+    let (in_order, reversed) = fabric_files(rt.alloc())?;
+    assert!(rt; in_order.len() == 7352);
+    assert!(rt; in_order.as_slice().starts_with(&adapter_file()));
+    for files in [
+        [in_order.as_slice(), in_order.as_slice()],
+        [&reversed, b"IBSMREP1"],
+        [&in_order, &reversed],
+    ] {
+        check(&rt, rt.alloc(), Command::Facts, &files, FABRIC_FACTS)?;
     }
-    let cut = in_order.as_slice().get(..551).ok_or("shorter")?;
-    let (line, code) = refusal(&rt, rt.alloc(), &[cut])?;
-    assert_eq!(rt; line.bytes(), b"ibsm: FILE: truncated at 280\n".as_slice());
-    assert_eq!(rt; code, 3);
     Ok(())
+}
+
+/// The store file that files are joined into.
+fn joined(alloc: Global, files: &[&[u8]]) -> Result<Vec<u8>, Fail> {
+    Ok(Vec::from_slice(alloc, ended(alloc, Command::Join, files)?.bytes())?)
+}
+
+/// The third parts of the fabric's file.
+fn parts(alloc: Global) -> Result<[Vec<u8>; 3], AllocError> {
+    let reports = reports(alloc)?;
+    Ok([
+        file_of(alloc, reports.as_slice().get(..9).unwrap_or(&[]))?,
+        file_of(alloc, reports.as_slice().get(9..18).unwrap_or(&[]))?,
+        file_of(alloc, reports.as_slice().get(18..).unwrap_or(&[]))?,
+    ])
+}
+
+#[test]
+fn files_are_joined_in_any_grouping(rt: HostRuntime) -> Result<(), Fail> {
+    let (in_order, _reversed) = fabric_files(rt.alloc())?;
+    let whole = joined(rt.alloc(), &[&in_order])?;
+    assert!(rt; whole.len() == 1832);
+    let [first, second, third] = parts(rt.alloc())?;
+    let front = joined(rt.alloc(), &[&first, &second])?;
+    let back = joined(rt.alloc(), &[&second, &third])?;
+    for files in [
+        [front.as_slice(), third.as_slice()],
+        [&first, &back],
+        [&back, &front],
+    ] {
+        check(&rt, rt.alloc(), Command::Join, &files, &whole)?;
+    }
+    check(&rt, rt.alloc(), Command::Facts, &[&whole], FABRIC_FACTS)
 }
 
 /// The file of one answer: SwitchInfo of the switch 0x10, told at a generation, with room for so many LIDs.
@@ -106,26 +150,19 @@ fn a_newer_generation_settles_a_dispute(rt: HostRuntime) -> Result<(), Fail> {
     let first = room_file(rt.alloc(), 1, 1024)?;
     let other = room_file(rt.alloc(), 1, 2048)?;
     let newer = room_file(rt.alloc(), 2, 4096)?;
+    let disputed: &[u8] = b"cap 0000000000000010 disputed @1\n";
+    let settled: &[u8] = b"cap 0000000000000010 4096 @2\n";
     for (files, text) in [
         (
-            [&first, &first, &first],
+            [first.as_slice(), &first, &first],
             b"cap 0000000000000010 1024 @1\n".as_slice(),
         ),
-        (
-            [&first, &other, &first],
-            b"cap 0000000000000010 disputed @1\n",
-        ),
-        (
-            [&other, &first, &other],
-            b"cap 0000000000000010 disputed @1\n",
-        ),
-        ([&first, &other, &newer], b"cap 0000000000000010 4096 @2\n"),
-        ([&newer, &other, &first], b"cap 0000000000000010 4096 @2\n"),
+        ([&first, &other, &first], disputed),
+        ([&other, &first, &other], disputed),
+        ([&first, &other, &newer], settled),
+        ([&newer, &other, &first], settled),
     ] {
-        let [a, b, c] = files;
-        let (outcome, sink) = run(rt.alloc(), &[a, b, c])?;
-        assert_eq!(rt; outcome, Ok(()));
-        assert_eq!(rt; sink.bytes(), text);
+        check(&rt, rt.alloc(), Command::Facts, &files, text)?;
     }
     Ok(())
 }

@@ -12,10 +12,13 @@ pub loop-i-preserved : goal.loop-i-preserved
 loop-i-preserved g c = elim c.match-cell.branch [
   | in-Some+in_ok-write_cell w ↦
       let here : slice_get (entries c.args.store.now) c.loop-i.i ≡ Some w.in-Some.cell = cc in
-      let kept = appends_more line_text (entries c.args.store.now) c.loop-i.i w.in-Some.cell (g.W.Sink.written c.args.sink.now) (g.W.Sink.written c.loop-i.sink) (g.W.Sink.written w.write_cell.new.sink) here c.loop-i.invariant w.in_ok-write_cell.ensures.ok in
+      let kept = appends_more line_text (entries c.args.store.now) c.loop-i.i w.in-Some.cell (g.W.Sink.written c.args.sink.now) (g.W.Sink.written c.loop-i.sink) (g.W.Sink.written w.write_cell.new.sink) here c.loop-i.invariant w.in_ok-write_cell.ensures.writes.ok in
       rw w.sink-is kept
   | in_default w ↦ absurd (slice_get-inside (entries c.args.store.now) c.loop-i.i (omega (arith, c.count-i-end.ensures, len-entries c.args.store.now)) (cc))
 ]
 
-pub returns-clause-ok : goal.returns-clause-ok
-returns-clause-ok g c = appends_all_on_ok line_text (entries c.args.store.now) c.loop-i.i (g.W.Sink.written c.args.sink.now) (g.W.Sink.written c.loop-i.sink) (g.W.Sink.written c.flush.new.self) c.flush.result (omega (arith, c.count-i-end.ensures, len-entries c.args.store.now)) c.loop-i.invariant c.flush.ensures.bytes
+pub returns-clause-writes : goal.returns-clause-writes
+returns-clause-writes g c = record {
+  ok = appends_all_on_ok line_text (entries c.args.store.now) c.loop-i.i (g.W.Sink.written c.args.sink.now) (g.W.Sink.written c.loop-i.sink) (g.W.Sink.written c.flush.new.self) c.flush.result (omega (arith, c.count-i-end.ensures, len-entries c.args.store.now)) c.loop-i.invariant c.flush.ensures.writes.ok;
+  failed = c.flush.ensures.writes.failed;
+}

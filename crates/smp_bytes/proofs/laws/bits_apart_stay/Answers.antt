@@ -1,5 +1,5 @@
 -- No bit of the others is written.
-use Rattle.smp_bytes.specs.BitLaws.{bits_in-with_bits_apart}
+use Rattle.smp_bytes.proofs.BitLaws.{bits_in-with_bits_apart}
 use Rattle.smp_bytes.proofs.laws.bits_apart_stay.Goals as goal
 
 pub returns : goal.returns

@@ -1,5 +1,5 @@
 -- Both writes are of the same bytes.
-use Rattle.smp_bytes.specs.CopyLaws.{with_number-twice}
+use Rattle.smp_bytes.proofs.CopyLaws.{with_number-twice}
 use Rattle.smp_bytes.proofs.laws.last_write_stands.Goals as goal
 
 pub returns : goal.returns

@@ -1,5 +1,5 @@
 -- What is written is what is read.
-use Rattle.smp_bytes.specs.BitLaws.{bits_in-with_bits}
+use Rattle.smp_bytes.proofs.BitLaws.{bits_in-with_bits}
 use Rattle.smp_bytes.proofs.laws.written_bits_are_read.Goals as goal
 
 pub returns : goal.returns

@@ -1,5 +1,5 @@
 use Rattle.std.proofs.Common.{arith}
-use Rattle.smp_bytes.specs.BitLaws.{replaced_fits}
+use Rattle.smp_bytes.proofs.BitLaws.{replaced_fits}
 use Rattle.smp_bytes.proofs.Shifts.{shifted}
 use Rattle.smp_bytes.proofs.wire.replaced.Goals as goal
 

@@ -1,7 +1,7 @@
 use Rattle.std.proofs.Common.{rules, ◌≡◌, ◌∙◌, ap, length}
 use Rattle.smp_bytes.specs.Field.{with_bytes, with_number}
 use Rattle.smp_bytes.specs.Packet.{fault_of, method, status_word}
-use Rattle.smp_bytes.specs.MakingLaws.{answer_parses}
+use Rattle.smp_bytes.proofs.RequestLaws.{answer_parses}
 use Rattle.smp_bytes.proofs.smp.Smp.answer.Goals as goal
 
 pub invariant_of-result : goal.invariant_of-result

@@ -1,7 +1,7 @@
 use Rattle.std.proofs.Common.{rules, ◌≡◌, ◌∙◌, ap, arith}
 use Rattle.smp_bytes.specs.Packet.{fault_of}
-use Rattle.smp_bytes.specs.Making.{directed}
-use Rattle.smp_bytes.specs.MakingLaws.{directed_parses}
+use Rattle.smp_bytes.specs.Requests.{directed}
+use Rattle.smp_bytes.proofs.RequestLaws.{directed_parses}
 use Rattle.smp_bytes.proofs.smp.Smp.directed.Goals as goal
 
 pub invariant_of-result : goal.invariant_of-result

@@ -1,8 +1,8 @@
 use Rattle.std.proofs.Common.{◌≡◌, ◌∙◌, ap}
 use Rattle.smp_bytes.specs.Field.{with_bytes}
 use Rattle.smp_bytes.specs.Packet.{fault_of}
-use Rattle.smp_bytes.specs.Making.{lid_routed}
-use Rattle.smp_bytes.specs.MakingLaws.{lid_routed_parses}
+use Rattle.smp_bytes.specs.Requests.{lid_routed}
+use Rattle.smp_bytes.proofs.RequestLaws.{lid_routed_parses}
 use Rattle.smp_bytes.proofs.smp.Smp.lid_routed.Goals as goal
 
 pub invariant_of-result : goal.invariant_of-result

@@ -1,7 +1,7 @@
 use Rattle.std.proofs.Common.{◌≡◌, ◌+◌, ◌≤◌, true, ◌∙◌, ap, arith, length, rules}
 use Rattle.smp_bytes.specs.Field.{number_in}
 use Rattle.smp_bytes.specs.Packet.{fault_of, hop_count, is_directed}
-use Rattle.smp_bytes.specs.MakingLaws.{hop_pointer_parses}
+use Rattle.smp_bytes.proofs.RequestLaws.{hop_pointer_parses}
 use Rattle.smp_bytes.proofs.smp.Smp.set_hop_pointer.Goals as goal
 
 pub invariant_of-self : goal.invariant_of-self

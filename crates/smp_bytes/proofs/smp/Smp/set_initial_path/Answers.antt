@@ -1,6 +1,6 @@
 use Rattle.std.proofs.Common.{◌≡◌, ◌+◌, ◌∙◌, ap, arith, length, rules}
 use Rattle.smp_bytes.specs.Packet.{fault_of}
-use Rattle.smp_bytes.specs.MakingLaws.{path_parses}
+use Rattle.smp_bytes.proofs.RequestLaws.{path_parses}
 use Rattle.smp_bytes.proofs.smp.Smp.set_initial_path.Goals as goal
 
 pub invariant_of-self : goal.invariant_of-self

@@ -1,6 +1,6 @@
 use Rattle.std.proofs.Common.{◌≡◌, ◌∙◌, ap, arith, length, refl, rules}
 use Rattle.smp_bytes.specs.Packet.{fault_of, status_word}
-use Rattle.smp_bytes.specs.MakingLaws.{field_parses}
+use Rattle.smp_bytes.proofs.RequestLaws.{field_parses}
 use Rattle.smp_bytes.proofs.smp.Smp.set_status.Goals as goal
 
 pub invariant_of-self : goal.invariant_of-self

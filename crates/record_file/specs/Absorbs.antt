@@ -1,0 +1,79 @@
+-- What absorbing a source leaves of it and of the store, and what it answers.
+use Rattle.std.specs.Prelude.{◌≡◌, ◌⊎◌, ℕ, ◌+◌, ◌<◌, ◌≤◌, ◌^◌, List, [], ◌++◌, Option, None, Some, Result, Ok, Err, IfSome, length}
+use Rattle.std.specs.Io.KnownBytes.{Consumes, IsAtEnd}
+use Rattle.fact_join.specs.declared.cell.Cell.{Cell}
+use Rattle.fact_store.specs.declared.key.Key.{Key}
+use Rattle.fact_store.specs.declared.value.Value.{Value}
+use Rattle.fact_store.specs.View.{Facts, view}
+use Rattle.fact_store.specs.Merge.{merge}
+use Rattle.record_file.specs.declared.file_fault.FileFault.{FileFault}
+use Rattle.record_file.specs.declared.file_fault.FileFault.TheVariants.{Magic, Truncated, Read, Memory, TooLong}
+use Rattle.record_file.specs.declared.format.Format.{Format}
+use Rattle.record_file.specs.RecordFile.{Judgement, fault_in, format_of, kept, outcome, record_size}
+
+-- what a record is judged to tell is in the store, unless there was no memory for it; or it is bad, and that is the answer
+abbrev pub AbsorbsJudged : {K : Type 0} → Judgement → ℕ → Result K FileFault → Facts → Facts → Type 0
+AbsorbsJudged (Ok told) index (Ok key) old new = new ≡ merge old (view told)
+AbsorbsJudged (Ok told) index (Err f) old new = (f ≡ Memory) × (new ≡ old)
+AbsorbsJudged (Err fault) index result old new = (result ≡ Err (fault index)) × (new ≡ old)
+
+-- good records of this format were taken, and the store holds what all but the last tell
+pub record HoldsAllButLast (format : Format) (old new : Facts) (taken front last : List ℕ) : Type 0 where
+  pub magic : format_of taken ≡ Some format
+  pub split : taken ≡ front ++ last
+  pub size : length last ≡ record_size format
+  pub good : fault_in format taken ≡ None
+  pub held : new ≡ merge old (view (kept front))
+
+-- what the taken bytes keep was merged into the store; for want of memory without the last record, which is good
+abbrev pub HoldsKept : Result (Unit {0}) FileFault → Facts → Facts → List ℕ → Type 0
+HoldsKept (Err Memory) old new taken = (format : Format) × (front : List ℕ) × (last : List ℕ) × HoldsAllButLast format old new taken front last
+HoldsKept _ old new taken = new ≡ merge old (view (kept taken))
+
+-- the answer is what reading these bytes answers, unless a read or a growth failed, or too many calls were interrupted
+abbrev pub AnswersOutcome : Result (Unit {0}) FileFault → List ℕ → Type 0 → Type 0
+AnswersOutcome (Ok u) bytes interrupted = outcome bytes ≡ Ok u
+AnswersOutcome (Err Read) bytes interrupted = Unit {0}
+AnswersOutcome (Err Memory) bytes interrupted = Unit {0}
+AnswersOutcome (Err TooLong) bytes interrupted = (outcome bytes ≡ Err TooLong) ⊎ interrupted
+AnswersOutcome (Err f) bytes interrupted = outcome bytes ≡ Err f
+
+-- a magic is still to come, or there is one with nothing but good records behind it so far
+abbrev pub HasNoFaultYet : List ℕ → Type 0
+HasNoFaultYet taken = (length taken < 8) ⊎ ((format : Format) × (format_of taken ≡ Some format) × (fault_in format taken ≡ None))
+
+-- where the answer depends on what else the source has, it has nothing else; where reading stopped early, no fault came first
+abbrev pub IsDecided : Result (Unit {0}) FileFault → List ℕ → Type 0 → Type 0
+IsDecided (Ok u) taken at_end = at_end
+IsDecided (Err Magic) taken at_end = length taken < 8 → at_end
+IsDecided (Err (Truncated offset)) taken at_end = at_end
+IsDecided (Err Read) taken at_end = HasNoFaultYet taken
+IsDecided (Err TooLong) taken at_end = HasNoFaultYet taken
+IsDecided _ taken at_end = Unit {0}
+
+-- the bytes taken and the calls interrupted meanwhile are 2^40 together
+abbrev pub WasInterruptedTooOften : List ℕ → List ℕ → ℕ → ℕ → Type 0
+WasInterruptedTooOften bytes rest interruptions interruptions' = (2 ^ 40 + interruptions) + length rest ≤ length bytes + interruptions'
+
+-- fewer than 2^40 bytes were taken and fewer calls interrupted; where that is too long, at most as many
+abbrev pub IsBounded : Result (Unit {0}) FileFault → ℕ → ℕ → ℕ → Type 0
+IsBounded (Err TooLong) bytes interruptions interruptions' = (bytes ≤ 2 ^ 40) × (interruptions' ≤ 2 ^ 40 + interruptions)
+IsBounded _ bytes interruptions interruptions' = (bytes < 2 ^ 40) × (interruptions' < 2 ^ 40 + interruptions)
+
+-- bytes were taken, the store holds what they keep, and the answer is theirs
+pub record AbsorbsFrom (left left' : Option (List ℕ)) (interruptions interruptions' : ℕ) (answer : Result (Unit {0}) FileFault) (old new : Facts) : Type 0 where
+  pub taken : List ℕ
+  pub consumed : Consumes left left' taken
+  pub held : HoldsKept answer old new taken
+  pub answered : AnswersOutcome answer taken (WasInterruptedTooOften taken [] interruptions interruptions')
+  pub decided : IsDecided answer taken (IsAtEnd left')
+  pub bounded : IsBounded answer (length taken) interruptions interruptions'
+
+-- what absorbing this source with this answer does to it and to the store
+abbrev pub Absorbs : {S : Type 0} → (S → Option (List ℕ)) → (S → ℕ) → Result (Unit {0}) FileFault → S → S → Facts → Facts → Type 0
+Absorbs left interruptions answer source source' old new = AbsorbsFrom (left source) (left source') (interruptions source) (interruptions source') answer old new
+
+-- where the bytes of a source are known, the answer is what reading all of them answers
+abbrev pub AnswersKnown : {S : Type 0} → (S → Option (List ℕ)) → (S → ℕ) → Result (Unit {0}) FileFault → S → S → Type 0
+AnswersKnown left interruptions answer source source' =
+    IfSome (left source) (λ bytes. IfSome (left source') (λ rest. AnswersOutcome answer bytes (WasInterruptedTooOften bytes rest (interruptions source) (interruptions source'))))

@@ -1,0 +1,32 @@
+-- What is said of a file that wasn't taken in whole: words, a number behind them, and the fault of a report.
+use Rattle.std.specs.Prelude.{ℕ, Bool, true, false, List, Option, None, Some, codes}
+use Rattle.fact_store.specs.declared.report_fault.ReportFault.{ReportFault}
+use Rattle.record_file.specs.declared.file_fault.FileFault.{FileFault}
+use Rattle.record_file.specs.declared.file_fault.FileFault.TheVariants.{Magic, Truncated, BadReport, BadCell, CellOrder, Read, Memory, TooLong}
+
+abbrev pub fault_words : FileFault → List ℕ
+fault_words Magic = codes "bad magic"
+fault_words (Truncated offset) = codes "truncated at "
+fault_words (BadReport index fault) = codes "bad report "
+fault_words (BadCell index) = codes "bad cell "
+fault_words (CellOrder index) = codes "cell out of order "
+fault_words Read = codes "read failed"
+fault_words Memory = codes "out of memory"
+fault_words TooLong = codes "too long"
+
+-- the offset, or the index of the record
+abbrev pub fault_number : FileFault → Option ℕ
+fault_number (Truncated offset) = Some offset
+fault_number (BadReport index fault) = Some index
+fault_number (BadCell index) = Some index
+fault_number (CellOrder index) = Some index
+fault_number _ = None
+
+abbrev pub fault_of_report : FileFault → Option ReportFault
+fault_of_report (BadReport index fault) = Some fault
+fault_of_report _ = None
+
+-- want of memory is not the file's
+abbrev pub is_of_file : FileFault → Bool
+is_of_file Memory = false
+is_of_file _ = true

@@ -1,0 +1,209 @@
+//! Store files: a record of 32 bytes for each cell in the order of the keys, behind their magic.
+ghost use Rattle.std.specs.Prelude.{◌≡◌, length, IsTrue, OnOk, option_and_then};
+ghost use Rattle.std.specs.FinMap.{entries};
+ghost use Rattle.fact_store.specs.Sighting.{AreInRange};
+ghost use Rattle.record_file.specs.CellRecord.{candidate, cell_of as cell_in, cell_value_bytes, filled_up, if_sighting, key_guid, key_of as key_with, key_port, kind_byte, record_bytes, state_byte, type_byte, type_of as type_with, value_bytes, value_of as value_in};
+ghost use Rattle.record_file.specs.StoreFile.{store_bytes};
+ghost use Rattle.record_file.specs.Writes.{Writes};
+
+use crate::numbers::{u16_of, u32_of, u64_of};
+use crate::stream::{Sink, WriteFault};
+use fact_store::{Cell, Key, Sighting, Store, Value};
+use smp_bytes::{Generation, Guid, Lid, NodeType, PortNum};
+
+/// The bytes of a record: kind, state, port, zero, generation, GUID and 16 value bytes.
+pub(crate) const RECORD_LEN: usize = 32;
+
+/// The bytes of a record that hold the value; behind a value, and of a disputed cell all, are 0.
+const VALUE_LEN: usize = 16;
+
+/// Writes a store file of all that the store holds, a record for each cell in the order of the
+/// keys, and flushes. It takes no memory of its own. How much went out before a failure isn't said.
+pub fn write_store<W: Sink>(sink: &mut W, store: &Store) -> Result<(), WriteFault>
+    ensures writes { Writes W.written W.has_failed result sink.old sink.new
+        (store_bytes (entries store.now)) }
+    ensures in_range { OnOk result (AreInRange store.now) }
+    ensures flushed { OnOk result (IsTrue (W.is_flushed sink.new)) }
+{
+    sink.write(b"IBSMSTO1")?;
+    for i in 0..store.count() {
+        if let Some(cell) = store.cell(i) {
+            sink.write(&record_of(&cell))?;
+        }
+    }
+    sink.flush()
+}
+
+/// The record that spells a cell.
+pub(crate) fn record_of(sighting: &Sighting) -> [u8; RECORD_LEN]
+    ensures { result ≡ record_bytes sighting.now }
+{
+    let key = sighting.key();
+    let cell = sighting.cell();
+    let mut bytes = [0; RECORD_LEN];
+    bytes[0] = kind_byte(&key);
+    bytes[1] = state_byte(&cell);
+    bytes[2] = port_of(&key).number();
+    bytes[4..8].copy_from_slice(&cell.generation().number().to_be_bytes());
+    bytes[8..16].copy_from_slice(&guid_of(&key).number().to_be_bytes());
+    bytes[16..].copy_from_slice(&cell_value_bytes(&cell));
+    bytes
+}
+
+fn kind_byte(key: &Key) -> u8
+    ensures { result ≡ kind_byte key.now }
+{
+    match *key {
+        Key::Node(_) => 1,
+        Key::PortGuid(..) => 2,
+        Key::Link(..) => 3,
+        Key::Port(..) => 4,
+        Key::Claim(..) => 5,
+        Key::Cap(_) => 6,
+    }
+}
+
+/// 1 for a known value, 2 for a dispute.
+fn state_byte(cell: &Cell<Value>) -> u8
+    ensures { result ≡ state_byte cell.now }
+{
+    match cell {
+        Cell::Known(..) => 1,
+        Cell::Disputed(_) => 2,
+    }
+}
+
+/// The port of a key, or 0 where it has none.
+fn port_of(key: &Key) -> PortNum
+    ensures { result ≡ key_port key.now }
+{
+    match *key {
+        Key::Node(_) | Key::Cap(_) => PortNum::new(0),
+        Key::PortGuid(_, port) | Key::Link(_, port) | Key::Port(_, port) | Key::Claim(_, port) =>
+            port,
+    }
+}
+
+fn guid_of(key: &Key) -> Guid
+    ensures { result ≡ key_guid key.now }
+{
+    match *key {
+        Key::Node(guid)
+        | Key::PortGuid(guid, _)
+        | Key::Link(guid, _)
+        | Key::Port(guid, _)
+        | Key::Claim(guid, _)
+        | Key::Cap(guid) => guid,
+    }
+}
+
+fn cell_value_bytes(cell: &Cell<Value>) -> [u8; VALUE_LEN]
+    ensures { result ≡ filled_up 16 (cell_value_bytes cell.now) }
+{
+    match cell {
+        Cell::Known(_, value) => value_bytes(*value),
+        Cell::Disputed(_) => [0; VALUE_LEN],
+    }
+}
+
+fn value_bytes(value: Value) -> [u8; VALUE_LEN]
+    ensures { result ≡ filled_up 16 (value_bytes value) }
+{
+    let mut bytes = [0; VALUE_LEN];
+    match value {
+        Value::Kind(kind, ports) => {
+            bytes[0] = type_byte(kind);
+            bytes[1] = ports.number();
+        }
+        Value::Guid(guid) => bytes[..8].copy_from_slice(&guid.number().to_be_bytes()),
+        Value::Peer(guid, port) => {
+            bytes[..8].copy_from_slice(&guid.number().to_be_bytes());
+            bytes[8] = port.number();
+        }
+        Value::Up(up) => bytes[0] = u8::from(up),
+        Value::Lid(lid) => bytes[..2].copy_from_slice(&lid.number().to_be_bytes()),
+        Value::Count(count) => bytes[..2].copy_from_slice(&count.to_be_bytes()),
+    }
+    bytes
+}
+
+fn type_byte(kind: NodeType) -> u8
+    ensures { result ≡ type_byte kind }
+{
+    match kind {
+        NodeType::ChannelAdapter => 1,
+        NodeType::Switch => 2,
+        NodeType::Router => 3,
+    }
+}
+
+/// The cell that a record spells, if it spells one.
+#[tactic(auto, unfolding(crate::specs::CellRecord::cell_of))]
+pub(crate) fn cell_of(bytes: &[u8]) -> Option<Sighting>
+    requires { length bytes.now ≡ 32 }
+    ensures { result ≡ cell_in bytes.now }
+{
+    let sighting = sighting_in(bytes)?;
+    if record_of(&sighting).as_slice() == bytes {
+        Some(sighting)
+    } else {
+        None
+    }
+}
+
+/// The cell that a record spells if it has no byte that is to be zero.
+fn sighting_in(bytes: &[u8]) -> Option<Sighting>
+    requires { length bytes.now ≡ 32 }
+    ensures { result ≡ option_and_then if_sighting (candidate bytes.now) }
+{
+    let key = key_of(bytes[0], u64_of(&bytes[8..16]), bytes[2])?;
+    let generation = Generation::new(u32_of(&bytes[4..8]))?;
+    let cell = if bytes[1] == 1 {
+        Cell::Known(generation, value_of(&key, &bytes[16..])?)
+    } else {
+        Cell::Disputed(generation)
+    };
+    Sighting::new(key, cell)
+}
+
+fn key_of(kind: u8, guid: u64, port: u8) -> Option<Key>
+    ensures { result ≡ key_with kind guid port }
+{
+    let node = Guid::new(guid);
+    let port = PortNum::new(port);
+    match kind {
+        1 => Some(Key::Node(node)),
+        2 => Some(Key::PortGuid(node, port)),
+        3 => Some(Key::Link(node, port)),
+        4 => Some(Key::Port(node, port)),
+        5 => Some(Key::Claim(node, port)),
+        6 => Some(Key::Cap(node)),
+        _ => None,
+    }
+}
+
+/// The value of the key's kind.
+fn value_of(key: &Key, bytes: &[u8]) -> Option<Value>
+    requires { length bytes.now ≡ 16 }
+    ensures { result ≡ value_in key.now bytes.now }
+{
+    Some(match *key {
+        Key::Node(_) => Value::Kind(type_of(bytes[0])?, PortNum::new(bytes[1])),
+        Key::PortGuid(..) => Value::Guid(Guid::new(u64_of(&bytes[..8]))),
+        Key::Link(..) => Value::Peer(Guid::new(u64_of(&bytes[..8])), PortNum::new(bytes[8])),
+        Key::Port(..) => Value::Up(bytes[0] == 1),
+        Key::Claim(..) => Value::Lid(Lid::new(u16_of(&bytes[..2]))),
+        Key::Cap(_) => Value::Count(u16_of(&bytes[..2])),
+    })
+}
+
+fn type_of(byte: u8) -> Option<NodeType>
+    ensures { result ≡ type_with byte }
+{
+    match byte {
+        1 => Some(NodeType::ChannelAdapter),
+        2 => Some(NodeType::Switch),
+        3 => Some(NodeType::Router),
+        _ => None,
+    }
+}

@@ -1,0 +1,20 @@
+//! What bytes are read from and written to.
+
+mod budget;
+mod from_bytes;
+mod from_read;
+mod interruption;
+mod reading;
+mod sink;
+mod source;
+mod to_room;
+mod to_write;
+
+pub use from_bytes::FromBytes;
+pub use from_read::FromRead;
+pub use sink::{Sink, WriteFault};
+pub use source::{ReadError, Source};
+pub use to_room::{RoomFault, ToRoom};
+pub use to_write::ToWrite;
+
+pub(crate) use reading::{FillFault, Reading};

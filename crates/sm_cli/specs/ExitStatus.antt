@@ -1,0 +1,34 @@
+-- The exit status of a run.
+use Rattle.std.specs.Prelude.{ℕ}
+use Rattle.record_file.specs.declared.file_fault.FileFault.{FileFault}
+use Rattle.record_file.specs.declared.file_fault.FileFault.TheVariants.{Magic, Truncated, BadReport, BadCell, CellOrder, Read, Memory as NoMemoryForFile, TooLong}
+use Rattle.sm_cli.specs.declared.fault.Fault.{Fault}
+use Rattle.sm_cli.specs.declared.fault.Fault.TheVariants.{Open, File, Write, Memory as NoMemory}
+use Rattle.sm_cli.specs.declared.exit_status.ExitStatus.{ExitStatus}
+use Rattle.sm_cli.specs.declared.exit_status.ExitStatus.TheVariants.{Done, Usage, Refused, InputOutput, Memory}
+
+-- the number that the program ends with
+abbrev pub code_of : ExitStatus → ℕ
+code_of Done = 0
+code_of Usage = 2
+code_of Refused = 3
+code_of InputOutput = 4
+code_of Memory = 5
+
+-- a file that is not as it must be is refused
+abbrev pub file_status : FileFault → ExitStatus
+file_status Magic = Refused
+file_status (Truncated offset) = Refused
+file_status (BadReport index fault) = Refused
+file_status (BadCell index) = Refused
+file_status (CellOrder index) = Refused
+file_status Read = InputOutput
+file_status NoMemoryForFile = Memory
+file_status TooLong = Refused
+
+-- what a fault ends the program with
+abbrev pub status_of : Fault → ExitStatus
+status_of (Open place) = InputOutput
+status_of (File place fault) = file_status fault
+status_of Write = InputOutput
+status_of NoMemory = Memory
