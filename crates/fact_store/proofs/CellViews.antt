@@ -1,13 +1,12 @@
 -- What cells say together, with one put in, one changed, and two lists of them walked in step.
-use Rattle.std.proofs.Common.{◌≡◌, ℕ, zero, suc, ◌≤◌, List, [], ◌∷◌, ◌++◌, length, set, take, drop, refl, sym, ap, ◌∙◌, subst, arith, true, false, cond}
-use Rattle.std.proofs.lemmas.List.{append_assoc, append-nil, take-append-drop, set_split}
+use Rattle.std.proofs.Common.{◌≡◌, ℕ, zero, suc, List, [], ◌∷◌, ◌++◌, set, take, drop, refl, sym, ap, ◌∙◌, true, false, cond}
+use Rattle.std.proofs.lemmas.List.{append_assoc, take-append-drop, set_split}
 use Rattle.std.proofs.lemmas.Option.{slice_get_within}
-use Rattle.std.specs.Prelude.{Option, None, Some, slice_get, insert}
+use Rattle.std.specs.Prelude.{None, Some, slice_get, insert}
 use Rattle.std.specs.FinMap.{get, same_map}
 use Rattle.fact_join.specs.declared.cell.Cell.{Cell}
 use Rattle.fact_store.specs.declared.key.Key.{Key}
 use Rattle.fact_store.specs.declared.value.Value.{Value}
-use Rattle.fact_store.specs.Key.{key_cmp}
 use Rattle.fact_store.specs.Merge.{join, merge}
 use Rattle.fact_store.specs.View.{Facts, is_of, view}
 use Rattle.fact_store.proofs.Keys.{key_total, key_exact}

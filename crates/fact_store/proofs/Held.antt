@@ -1,9 +1,9 @@
 -- The facts that cells in order stand for.
-use Rattle.std.proofs.Common.{◌≡◌, ℕ, ◌+◌, ◌<◌, ◌≤◌, List, [], ◌∷◌, ◌++◌, length, take, sym, ap, ◌∙◌, subst, arith, inl, inr}
+use Rattle.std.proofs.Common.{◌≡◌, ℕ, ◌+◌, ◌<◌, List, [], ◌∷◌, ◌++◌, length, take, sym, ap, ◌∙◌, subst, arith, inl, inr}
 use Rattle.std.proofs.lemmas.Bool.{cases_lt}
 use Rattle.std.proofs.lemmas.List.{nil_from_length, append-nil, take_all}
 use Rattle.std.proofs.lemmas.List.Elements.{All-contains}
-use Rattle.std.specs.Prelude.{All, Contains, Option, None, Some, IsNone, IfSome, ◌↔◌, get_or, max, unwrap_or, slice_get}
+use Rattle.std.specs.Prelude.{Contains, Option, None, Some, IsNone, IfSome, ◌↔◌, get_or, max, unwrap_or, slice_get}
 use Rattle.std.specs.FinMap.{empty, get, entries, len, len-entries}
 use Rattle.fact_join.specs.declared.cell.Cell.{Cell}
 use Rattle.fact_join.specs.Cell.{generation_of}

@@ -1,7 +1,7 @@
 -- A cell that is put among others, or joined to the one of its key.
-use Rattle.std.proofs.Common.{◌≡◌, ℕ, ◌≤◌, List, [], ◌∷◌, ◌++◌, set, take, drop, refl, sym, ap, ◌∙◌, subst, inl, inr, true, cond}
+use Rattle.std.proofs.Common.{◌≡◌, ℕ, List, [], ◌∷◌, set, take, drop, sym, ap, ◌∙◌, subst, inl, inr, true, cond}
 use Rattle.std.proofs.lemmas.List.Elements.{All-append, All-take, All-drop, All-cons, All-set}
-use Rattle.std.specs.Prelude.{All, Option, None, Some, Contains, slice_get, insert}
+use Rattle.std.specs.Prelude.{All, None, Some, Contains, slice_get, insert}
 use Rattle.std.specs.FinMap.Entries.{is_sorted}
 use Rattle.std.specs.FinMap.{get}
 use Rattle.fact_join.specs.declared.cell.Cell.{Cell}

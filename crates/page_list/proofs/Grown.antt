@@ -7,7 +7,7 @@ use Rattle.std.specs.Prelude.{Vec, Some, All, insert}
 use Rattle.std.specs.Vec.{vec_capacity}
 use Rattle.std.specs.declared.alloc.Global.{Global}
 use Rattle.page_list.specs.Pages.{items_of, starts_from, IsPage, IsEmptyPage, IsPlace, ArePages}
-use Rattle.page_list.proofs.Paged.{items_of-split, items_of-set, length-starts_from}
+use Rattle.page_list.proofs.Paged.{items_of-split, items_of-set}
 
 -- the places from the page after this one on, one more each
 abbrev pub shifted : ℕ → List ℕ → List ℕ

@@ -1,9 +1,9 @@
 -- The items of pages, around one of them.
-use Rattle.std.proofs.Common.{◌≡◌, ℕ, zero, suc, ◌+◌, ◌-◌, ◌<◌, ◌≤◌, List, [], ◌∷◌, ◌++◌, length, get_or, set, take, drop, map, refl, sym, ap, ◌∙◌, subst, arith, ◌⊎◌, inl, inr, zero-add, add-one}
+use Rattle.std.proofs.Common.{◌≡◌, ℕ, zero, suc, ◌+◌, ◌-◌, ◌<◌, ◌≤◌, List, [], ◌∷◌, ◌++◌, length, get_or, set, take, drop, refl, sym, ap, ◌∙◌, subst, arith, ◌⊎◌, inl, inr, zero-add, add-one}
 use Rattle.std.proofs.lemmas.Bool.{cases_lt}
 use Rattle.std.proofs.lemmas.Option.{slice_get-get_or}
 use Rattle.std.proofs.lemmas.List.{append_assoc, append-nil, length-append, drop_all, drop-drop, drop_at, drop-append-le, take_rest}
-use Rattle.std.specs.Prelude.{Vec, Option, Some, slice_get, insert, All}
+use Rattle.std.specs.Prelude.{Vec, Some, slice_get}
 use Rattle.std.specs.declared.alloc.Global.{Global}
 use Rattle.page_list.specs.Pages.{items_of, starts_from, IsPlace}
 

@@ -1,10 +1,9 @@
 -- Each step leaves half of the places at most.
-use Rattle.std.proofs.Common.{◌≡◌, ℕ, ◌+◌, ◌-◌, ◌*◌, ◌/◌, ◌<◌, ◌≤◌, ◌^◌, length, refl, sym, ap, ◌∙◌, subst, arith}
+use Rattle.std.proofs.Common.{◌≡◌, ℕ, ◌+◌, ◌-◌, ◌/◌, length, refl, sym, ap, ◌∙◌, subst, arith}
 use Rattle.std.specs.Prelude.{Some, slice_get}
-use Rattle.std.specs.declared.cmp.Ordering.TheVariants.{Less, Equal, Greater}
+use Rattle.std.specs.declared.cmp.Ordering.TheVariants.{Less, Greater}
 use Rattle.fact_store.specs.declared.key.Key.{Key}
 use Rattle.fact_store.specs.Key.{key_cmp}
-use Rattle.fact_store.specs.Cells.{HasDigits}
 use Rattle.fact_store.proofs.CellOrder.{held, ends_at}
 use Rattle.fact_store.proofs.Keys.{key_exact}
 use Rattle.fact_store.proofs.Walks.{IsNarrowed, few_digits, narrowed_up, narrowed_down}

@@ -1,5 +1,5 @@
 -- In the half that has the place.
-use Rattle.std.proofs.Common.{◌≡◌, ap, ◌∙◌, ◌-◌, arith}
+use Rattle.std.proofs.Common.{ap, ◌∙◌, ◌-◌, arith}
 use Rattle.std.specs.Prelude.{insert}
 use Rattle.page_list.proofs.Halves.{second_half, first_grew, second_grew}
 use Rattle.page_list.proofs.page.insert_halved.Goals as goal

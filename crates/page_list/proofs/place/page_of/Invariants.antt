@@ -1,5 +1,5 @@
 -- The page lies from `low` on and before `high`.
-use Rattle.std.proofs.Common.{◌-◌, ◌+◌, ◌<◌, ◌≤◌, length}
+use Rattle.std.proofs.Common.{◌-◌, ◌<◌, ◌≤◌, length}
 use Rattle.std.specs.Prelude.{slice_index}
 use Rattle.page_list.proofs.place.page_of.Given as goal
 

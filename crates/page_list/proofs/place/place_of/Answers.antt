@@ -1,6 +1,4 @@
 -- By the page that begins last before the place, or at it.
-use Rattle.std.proofs.Common.{◌≡◌, ◌<◌, arith, ap, subst, length}
-use Rattle.page_list.specs.Pages.{IsPlace}
 use Rattle.page_list.proofs.Paged.{first_start, is_place}
 use Rattle.page_list.proofs.place.place_of.Goals as goal
 

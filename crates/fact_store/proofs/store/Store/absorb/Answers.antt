@@ -1,5 +1,5 @@
 -- What is merged into nothing is all there is.
-use Rattle.std.proofs.Common.{◌≡◌, sym, ap, ◌∙◌, length, arith}
+use Rattle.std.proofs.Common.{◌∙◌, arith}
 use Rattle.fact_store.proofs.Held.{none_held, merged_into_none}
 use Rattle.fact_store.proofs.store.Store.absorb.Goals as goal
 

@@ -1,5 +1,5 @@
 -- Each is merged into what is held.
-use Rattle.std.proofs.Common.{◌≡◌, ◌≤◌, ◌+◌, sym, ap, ◌∙◌, subst, arith}
+use Rattle.std.proofs.Common.{sym, ap, ◌∙◌, subst, arith}
 use Rattle.fact_store.specs.Cells.{AreCells}
 use Rattle.fact_store.specs.View.{view}
 use Rattle.fact_store.proofs.Held.{one_more_merged, none_merged}

@@ -1,9 +1,7 @@
 -- What a search finds is what the facts have.
-use Rattle.std.proofs.Common.{◌≡◌, ℕ, sym, ap, ◌∙◌, subst}
-use Rattle.std.specs.Prelude.{None, Some, Result, slice_get}
+use Rattle.std.proofs.Common.{ℕ, sym, ap, ◌∙◌, subst}
+use Rattle.std.specs.Prelude.{Some, Result}
 use Rattle.std.specs.FinMap.{get}
-use Rattle.fact_join.specs.declared.cell.Cell.{Cell}
-use Rattle.fact_store.specs.declared.value.Value.{Value}
 use Rattle.fact_store.specs.Cells.{HasDigits, IsSearched}
 use Rattle.fact_store.specs.View.{Facts}
 use Rattle.fact_store.proofs.Held.{len_is, are_in_range, found_at}

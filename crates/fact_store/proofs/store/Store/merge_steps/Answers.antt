@@ -1,5 +1,5 @@
 -- The walk gives the merge, in as many steps as there are cells at most.
-use Rattle.std.proofs.Common.{◌≡◌, ◌+◌, ◌*◌, ◌≤◌, ap, ◌∙◌, arith}
+use Rattle.std.proofs.Common.{ap, ◌∙◌, arith}
 use Rattle.fact_store.specs.Merge.{merge}
 use Rattle.fact_store.specs.View.{Facts, view}
 use Rattle.fact_store.proofs.Held.{len_is, is_merge}

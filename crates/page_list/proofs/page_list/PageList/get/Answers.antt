@@ -1,7 +1,5 @@
 -- The page that has the place has the item.
-use Rattle.std.proofs.Common.{◌<◌, arith, ap, length}
-use Rattle.page_list.specs.Listing.{Listing}
-use Rattle.page_list.specs.Pages.{items_of}
+use Rattle.std.proofs.Common.{arith}
 use Rattle.page_list.proofs.Paged.{item_read}
 use Rattle.page_list.proofs.page_list.PageList.get.Goals as goal
 

@@ -1,11 +1,11 @@
 -- The page that has the place takes the item, or is halved for it.
-use Rattle.std.proofs.Common.{◌≡◌, ◌+◌, ◌-◌, ◌<◌, ◌≤◌, ◌++◌, List, arith, ap, length, take, drop, map, refl, subst, sym, ◌∙◌}
+use Rattle.std.proofs.Common.{◌≡◌, ◌+◌, ◌-◌, ◌≤◌, ◌++◌, List, arith, ap, length, take, drop, map, refl, subst, sym, ◌∙◌}
 use Rattle.std.proofs.lemmas.List.{with_items_is, get_or_default}
 use Rattle.std.proofs.lemmas.List.Elements.{All-pop, All-same}
 use Rattle.std.specs.Prelude.{Vec, Some, insert}
 use Rattle.std.specs.Vec.{with_items, with_item}
 use Rattle.std.specs.declared.alloc.Global.{Global}
-use Rattle.page_list.specs.Pages.{items_of, IsPlace, IsEmptyPage}
+use Rattle.page_list.specs.Pages.{IsPlace, IsEmptyPage}
 use Rattle.page_list.proofs.Paged.{length-starts_from}
 use Rattle.page_list.proofs.Grown.{grown_pages, grown_items, halved_pages, halved_items, starts_below, head_end}
 use Rattle.page_list.proofs.page_list.PageList.insert.Goals as goal

@@ -1,5 +1,5 @@
 -- A spare page with the item.
-use Rattle.std.proofs.Common.{◌≡◌, ◌<◌, arith, ap, length, ◌∙◌, ◌++◌, ◌∷◌, [], sym}
+use Rattle.std.proofs.Common.{◌≡◌, arith, ap, length, ◌∙◌, ◌++◌, ◌∷◌, [], sym}
 use Rattle.page_list.proofs.Paged.{length-starts_from}
 use Rattle.page_list.proofs.Opened.{opened_pages, opened_items}
 use Rattle.page_list.proofs.page_list.PageList.open.Goals as goal

@@ -1,5 +1,5 @@
 -- More room, and pages to spare.
-use Rattle.std.proofs.Common.{◌≡◌, ◌<◌, ◌≤◌, ◌^◌, ◌+◌, length, ap, arith}
+use Rattle.std.proofs.Common.{length, ap, arith}
 use Rattle.page_list.proofs.Paged.{length-starts_from}
 use Rattle.page_list.proofs.Opened.{with_room}
 use Rattle.page_list.proofs.page_list.PageList.reserve.Goals as goal

@@ -1,5 +1,5 @@
 -- The page that has the place has the other item.
-use Rattle.std.proofs.Common.{◌≡◌, ◌<◌, ◌≤◌, List, arith, ap, length, set, refl, subst, ◌∙◌}
+use Rattle.std.proofs.Common.{◌≡◌, List, arith, ap, length, set, refl, subst, ◌∙◌}
 use Rattle.std.specs.Prelude.{Vec}
 use Rattle.std.specs.Vec.{with_item}
 use Rattle.std.specs.declared.alloc.Global.{Global}
