@@ -58,7 +58,8 @@ exact_equiv : {V : Type 0} (same : V → V → Bool) → ((x y : V) → same x y
 exact_equiv same exact itself =
     record {
       refl = itself;
-      symm = λ x y. both_ways (same x y) (same y x) (λ e. ap (λ z. same z x) (sym (exact x y e)) ∙ itself x) (λ e. ap (λ z. same z y) (sym (exact y x e)) ∙ itself y);
+      symm = λ x y. both_ways (same x y) (same y x) (λ e. ap (λ z. same z x) (sym (exact x y e)) ∙ itself x) (λ e. ap (λ z. same z y) (sym (exact y x e))
+          ∙ itself y);
       congr = λ x y z e. ap (λ w. same w z) (exact x y e);
     }
 
