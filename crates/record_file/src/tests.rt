@@ -123,8 +123,20 @@ fn writers_are_asked_until_all_is_out(rt: HostRuntime) {
         (8, 0, ErrorKind::Other, Ok(()), b"abc".as_slice()),
         (1, 0, ErrorKind::Other, Ok(()), b"abc".as_slice()),
         (1, 2, ErrorKind::Interrupted, Ok(()), b"abc".as_slice()),
-        (1, 2, ErrorKind::Other, Err(WriteFault::Write), b"a".as_slice()),
-        (0, 0, ErrorKind::Other, Err(WriteFault::Write), b"".as_slice()),
+        (
+            1,
+            2,
+            ErrorKind::Other,
+            Err(WriteFault::Write),
+            b"a".as_slice(),
+        ),
+        (
+            0,
+            0,
+            ErrorKind::Other,
+            Err(WriteFault::Write),
+            b"".as_slice(),
+        ),
     ] {
         let mut sink = ToWrite::new(Sipping {
             held: Vec::new(rt.alloc()),
@@ -294,7 +306,11 @@ fn each_damage_of_a_cell_is_told(rt: HostRuntime) {
 #[test]
 fn a_failed_write_or_flush_of_a_store_is_told(rt: HostRuntime) {
     let store = Store::new(rt.alloc());
-    for (fails_at, wanted) in [(1, Err(WriteFault::Write)), (2, Err(WriteFault::Write)), (3, Ok(()))] {
+    for (fails_at, wanted) in [
+        (1, Err(WriteFault::Write)),
+        (2, Err(WriteFault::Write)),
+        (3, Ok(())),
+    ] {
         let mut sink = ToWrite::new(Sipping {
             held: Vec::new(rt.alloc()),
             most: 8,
