@@ -18,12 +18,13 @@ pub trait Attribute: Sized {
 
     /// Reads the value; each 64 bytes spell one.
     fn decode(bytes: &[u8; 64]) -> Self
-        ensures { result ≡ value_in bytes.now };
+        ensures value { result ≡ value_in bytes.now }
+        ensures fits { is_value result };
 
     /// Spells the value.
     fn encode(&self) -> [u8; 64]
         ensures bytes { result ≡ bytes_of self.now }
-        ensures value { is_value self.now };
+        ensures fits { is_value self.now };
 
     /// What is spelled is read again.
     ghost reads_back: { (value : Self) → is_value value → value_in (bytes_of value) ≡ value };

@@ -19,7 +19,8 @@ pub trait FieldType: Copy {
 
     fn read_at(bytes: &[u8; 64], at: usize) -> Self
         requires { at + len ≤ 64 }
-        ensures { number result ≡ number_in (record { at = at; len = len }) bytes.now };
+        ensures read { number result ≡ number_in (record { at = at; len = len }) bytes.now }
+        ensures fits { number result < 256 ^ len };
 
     fn write_at(self, bytes: &mut [u8; 64], at: usize)
         requires { at + len ≤ 64 }
@@ -30,7 +31,8 @@ pub trait FieldType: Copy {
 /// Reads the field whose first byte is at `AT`.
 pub fn read<T: FieldType, const AT: usize>(bytes: &[u8; 64]) -> T
     requires { AT + T.len ≤ 64 }
-    ensures { T.number result ≡ number_in (record { at = AT; len = T.len }) bytes.now }
+    ensures read { T.number result ≡ number_in (record { at = AT; len = T.len }) bytes.now }
+    ensures fits { T.number result < 256 ^ T.len }
 {
     T::read_at(bytes, AT)
 }

@@ -98,7 +98,8 @@ impl PortInfo {
 
     /// BaseLID.
     pub fn base_lid(&self) -> Lid
-        ensures { result ≡ number_in base_lid self.now }
+        ensures number { result ≡ number_in base_lid self.now }
+        ensures fits { result < 2 ^ 16 }
     {
         port_info!(read base_lid (&self.bytes))
     }

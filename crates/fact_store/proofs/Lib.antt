@@ -8,4 +8,3 @@ pub mod Steps
 pub mod ViewLaws
 pub mod Views
 pub mod Groupings
-pub mod Judged

@@ -1,4 +1,5 @@
 pub mod Coded
+pub mod Ingest
 pub mod Key
 pub mod Merge
 pub mod Report

@@ -1,9 +1,10 @@
 -- What a report of a reply says: the first fault that it has, or the facts that it tells of the node that answered.
 -- InfiniBand Architecture Specification, Volume 1: subnet management, NodeInfo, PortInfo and SwitchInfo; directed route SMPs.
-use Rattle.std.specs.Prelude.{ℕ, Bool, true, false, ◌&&◌, ◌||◌, not, List, [], ◌∷◌, nat_lt, nat_le, ◌==◌, if◌then◌else◌, Option, Some, None, option_map}
+use Rattle.std.specs.Prelude.{ℕ, Bool, true, false, ◌&&◌, ◌||◌, not, List, [], ◌∷◌, nat_lt, nat_le, ◌==◌, if◌then◌else◌, Option, Some, None, is_some, option_map}
 use Rattle.smp_bytes.specs.declared.smp_fault.SmpFault.{SmpFault}
 use Rattle.smp_bytes.specs.declared.node_type.NodeType.{NodeType}
 use Rattle.smp_bytes.specs.NodeType.{is_switch}
+use Rattle.smp_bytes.specs.Header.{get_resp, done, node_info, switch_info, port_info}
 use Rattle.smp_bytes.specs.Field.{number_in, bits_in, bytes_in}
 use Rattle.smp_bytes.specs.Packet.{fault_of, is_directed, is_returning, status, method, hop_pointer, hop_count, attribute_id, attribute_modifier, attribute_data}
 use Rattle.attr_codec.specs.declared.node_info.NodeInfo.{NodeInfo}
@@ -26,13 +27,18 @@ use Rattle.fact_store.specs.declared.value.Value.TheVariants.{Kind, Guid, Peer, 
 
 -- faults ------------------------------------------------------------------------------
 
+-- the first of two faults
+abbrev pub or_else : Option ReportFault → Option ReportFault → Option ReportFault
+or_else None next = next
+or_else (Some first) next = Some first
+
 -- the fault of a packet that is no answer, over a directed route, of an agent that did what was asked
 abbrev pub answer_fault : List ℕ → Option ReportFault
 answer_fault packet =
     if not (is_directed packet) then Some fault.Class
-    else if not (number_in method packet == 0x81) then Some fault.Method
+    else if not (number_in method packet == get_resp) then Some fault.Method
     else if not (is_returning packet && number_in hop_pointer packet == 0) then Some fault.Direction
-    else if not (status packet == 0) then Some fault.Status
+    else if not (status packet == done) then Some fault.Status
     else None
 
 -- the context of an answer of NodeInfo: the sender's own node over no hop, and another node by the port before it
@@ -63,40 +69,43 @@ node_info_fault context packet =
     if not (fits_node_info context (number_in hop_count packet)) then Some fault.Context
     else kind_fault context (node_info_of packet) (type_of_number (node_info_of packet).node_type)
 
+-- the node and its port that the request's path leads out of last
+abbrev pub via_of : Context → Option (ℕ × ℕ)
+via_of Start = None
+via_of (Via guid port) = Some (guid, port)
+via_of (About guid) = None
+
+-- the node that the reply speaks of
+abbrev pub about_of : Context → Option ℕ
+about_of Start = None
+about_of (Via guid port) = None
+about_of (About guid) = Some guid
+
 -- PortInfo and SwitchInfo speak of a node that is known already
-abbrev pub fits_about : Context → Bool
-fits_about Start = false
-fits_about (Via guid port) = false
-fits_about (About guid) = true
+abbrev pub about_fault : Context → Option ReportFault
+about_fault context = if is_some (about_of context) then None else Some fault.Context
 
 -- the modifier of PortInfo is the port
 abbrev pub port_info_fault : Context → List ℕ → Option ReportFault
-port_info_fault context packet =
-    if not (fits_about context) then Some fault.Context
-    else if nat_lt 254 (number_in attribute_modifier packet) then Some fault.Modifier
-    else None
-
-abbrev pub switch_info_fault : Context → Option ReportFault
-switch_info_fault context = if fits_about context then None else Some fault.Context
+port_info_fault context packet = or_else (about_fault context) (if nat_lt 254 (number_in attribute_modifier packet) then Some fault.Modifier else None)
 
 -- by the attribute that the packet carries
 abbrev pub attribute_fault : Context → List ℕ → Option ReportFault
 attribute_fault context packet =
-    if number_in attribute_id packet == 0x0011 then node_info_fault context packet
-    else if number_in attribute_id packet == 0x0015 then port_info_fault context packet
-    else if number_in attribute_id packet == 0x0012 then switch_info_fault context
+    if number_in attribute_id packet == node_info then node_info_fault context packet
+    else if number_in attribute_id packet == port_info then port_info_fault context packet
+    else if number_in attribute_id packet == switch_info then about_fault context
     else Some fault.Attribute
 
--- the first of two faults
-abbrev pub or_else : Option ReportFault → Option ReportFault → Option ReportFault
-or_else None next = next
-or_else (Some first) next = Some first
+-- the first fault of the packet of an answer
+abbrev pub packet_fault : List ℕ → Option ReportFault
+packet_fault packet = or_else (option_map fault.Smp (fault_of packet)) (answer_fault packet)
 
 -- the first fault of a report
 abbrev pub report_fault : Report → Option ReportFault
 report_fault report =
     if report.generation == 0 then Some fault.Generation
-    else or_else (option_map fault.Smp (fault_of report.bytes)) (or_else (answer_fault report.bytes) (attribute_fault report.context report.bytes))
+    else or_else (packet_fault report.bytes) (attribute_fault report.context report.bytes)
 
 -- facts -------------------------------------------------------------------------------
 
@@ -149,8 +158,8 @@ told_by_switch_info generation (Via guid port) packet = []
 
 abbrev pub told_by_packet : ℕ → Context → List ℕ → Told
 told_by_packet generation context packet =
-    if number_in attribute_id packet == 0x0011 then told_by_node_info generation context packet
-    else if number_in attribute_id packet == 0x0015 then told_by_port_info generation context packet
+    if number_in attribute_id packet == node_info then told_by_node_info generation context packet
+    else if number_in attribute_id packet == port_info then told_by_port_info generation context packet
     else told_by_switch_info generation context packet
 
 -- the sightings of a report that has no fault

@@ -4,7 +4,7 @@ use Rattle.smp_bytes.specs.SmpFault.{smp_fault_name}
 use Rattle.fact_store.specs.declared.report_fault.ReportFault.{ReportFault}
 use Rattle.fact_store.specs.declared.report_fault.ReportFault.TheVariants.{Generation, Smp, Class, Method, Direction, Status, Attribute, Context, Modifier, NodeType, Port}
 
--- the name of what is wrong with a report, or with its packet
+-- what is wrong with its packet has the packet fault's name
 abbrev pub report_fault_name : ReportFault → List ℕ
 report_fault_name Generation = codes "Generation"
 report_fault_name (Smp fault) = smp_fault_name fault

@@ -1,13 +1,12 @@
-ghost use Rattle.std.specs.Prelude.{◌≡◌, ◌↔◌, None, Some, Err, OnOk, OnErr};
+ghost use Rattle.std.specs.Prelude.{◌≡◌, OnOk, OnErr};
 ghost use Rattle.fact_store.specs.Merge.{merge};
 ghost use Rattle.fact_store.specs.Report.{report_fault, sightings_of};
 ghost use Rattle.fact_store.specs.View.{view};
-ghost use Rattle.fact_store.specs.declared.report_fault.ReportFault.{ReportFault as Fault};
 
 use crate::report::Report;
 use crate::report_fault::ReportFault;
-use crate::report_sightings::sightings;
 use crate::store::Store;
+use crate::told::sightings;
 use thiserror::Error;
 
 /// Why a store did not take a report.
@@ -21,11 +20,12 @@ pub enum IngestFault {
 }
 
 impl Store {
+    ghost use Rattle.fact_store.specs.Ingest.{JudgesReport};
+
     /// Takes in what a report tells. Want of memory is the last check.
     pub fn ingest(&mut self, report: &Report) -> Result<(), IngestFault>
+        ensures judged { JudgesReport result (report_fault report.now) }
         ensures ok { OnOk result (self.new ≡ merge self.old (view (sightings_of report.now))) }
-        ensures accepted { OnOk result (report_fault report.now ≡ None) }
-        ensures refused { (fault : Fault) → (result ≡ Err (IngestFault.Report fault)) ↔ (report_fault report.now ≡ Some fault) }
         ensures err { OnErr result (self.new ≡ self.old) }
     {
         let told = match sightings(report) {

@@ -6,10 +6,10 @@ mod key;
 pub mod laws;
 mod report;
 mod report_fault;
-mod report_sightings;
 pub mod sample_fabric;
 mod sighting;
 mod store;
+mod told;
 mod value;
 
 pub use fact_join::Cell;
@@ -17,9 +17,9 @@ pub use ingest::IngestFault;
 pub use key::Key;
 pub use report::{Context, Report};
 pub use report_fault::ReportFault;
-pub use report_sightings::sightings;
 pub use sighting::Sighting;
 pub use store::Store;
+pub use told::sightings;
 pub use value::Value;
 
 #[cfg(test)]

@@ -44,7 +44,7 @@ pub enum ReportFault {
 impl ReportFault {
     ghost use Rattle.fact_store.specs.ReportFault.{report_fault_name};
 
-    /// The name that `{}` writes; of bytes that are no packet that of the packet's fault.
+    /// The name that `{}` writes; that of the packet's fault where there is one.
     pub fn name(self) -> &'static str
         ensures { result.now ≡ report_fault_name self }
     {

@@ -1,5 +1,5 @@
 ghost use Rattle.std.specs.Prelude.{◌≡◌, ◌↔◌, IsTrue, IsSome, IfSome};
-ghost use Rattle.fact_join.specs.Cell.{generation_of};
+ghost use Rattle.fact_join.specs.declared.cell.Cell.TheVariants.{Known, Disputed};
 
 use crate::key::Key;
 use crate::value::Value;
@@ -38,10 +38,21 @@ impl Sighting {
         ensures exact { IsSome result ↔ IsSighting (key, cell) }
         ensures value { IfSome result (λ s. s ≡ (key, cell)) }
     {
-        if has_port_in_range(&key) && is_cell_of(&key, &cell) {
+        if is_sighting(&key, &cell) {
             Some(Sighting { key, cell })
         } else {
             None
+        }
+    }
+
+    /// A value that was told at a generation.
+    pub(crate) fn known(generation: Generation, key: Key, value: Value) -> Self
+        requires { IsSighting (key, Known generation value) }
+        ensures { result ≡ (key, Known generation value) }
+    {
+        Sighting {
+            key,
+            cell: Cell::Known(generation, value),
         }
     }
 
@@ -64,6 +75,10 @@ impl Sighting {
 
 /// A disputed node of GUID 0 at generation 1.
 impl Default for Sighting {
+    ghost use Rattle.fact_store.specs.declared.key.Key.TheVariants.{Node};
+
+    ghost is_default = { λ s. s ≡ (Node 0, Disputed 1) };
+
     fn default() -> Self {
         Sighting {
             key: Key::Node(Guid::new(0)),
@@ -72,68 +87,69 @@ impl Default for Sighting {
     }
 }
 
-ghost use Rattle.fact_store.specs.Sighting.{is_cabled_port, is_key, is_value_of, is_cell_of, is_generation};
+ghost use Rattle.fact_store.specs.Sighting.{is_sighting, is_key, is_cell_of, is_value_of, is_generation, is_guid, is_any_port, is_cabled_port};
 
-// Below, `let _ = x.number();` reads a number whose range is that of its type.
-
-fn is_cabled_port(port: PortNum) -> bool
-    ensures { result ≡ is_cabled_port port }
+fn is_sighting(key: &Key, cell: &Cell<Value>) -> bool
+    ensures { result ≡ is_sighting (key.now, cell.now) }
 {
-    matches!(port.number(), 1..=254)
+    is_key(key) && is_generation(cell.generation()) && is_cell_of(key, cell)
 }
 
-fn has_port_in_range(key: &Key) -> bool
+fn is_key(key: &Key) -> bool
     ensures { result ≡ is_key key.now }
 {
-    match key {
-        Key::Node(node) | Key::Cap(node) => {
-            let _ = node.number();
-            true
-        }
-        Key::Link(node, port) => {
-            let _ = node.number();
-            is_cabled_port(*port)
-        }
+    match *key {
+        Key::Node(node) | Key::Cap(node) => is_guid(node),
+        Key::Link(node, port) => is_guid(node) && is_cabled_port(port),
         Key::PortGuid(node, port) | Key::Port(node, port) | Key::Claim(node, port) => {
-            let _ = node.number();
-            port.number() <= 254
+            is_guid(node) && is_any_port(port)
         }
+    }
+}
+
+fn is_cell_of(key: &Key, cell: &Cell<Value>) -> bool
+    ensures { result ≡ is_cell_of key.now cell.now }
+{
+    match cell {
+        Cell::Known(_, value) => is_value_of(key, value),
+        Cell::Disputed(_) => true,
     }
 }
 
 fn is_value_of(key: &Key, value: &Value) -> bool
     ensures { result ≡ is_value_of key.now value.now }
 {
-    match (key, value) {
-        (Key::Node(_), Value::Kind(_, ports)) => is_cabled_port(*ports),
-        (Key::PortGuid(..), Value::Guid(guid)) => {
-            let _ = guid.number();
-            true
-        }
-        (Key::Link(..), Value::Peer(node, port)) => {
-            let _ = node.number();
-            is_cabled_port(*port)
-        }
+    match (key, *value) {
+        (Key::Node(_), Value::Kind(_, ports)) => is_cabled_port(PortNum::new(ports)),
+        (Key::PortGuid(..), Value::Guid(guid)) => is_guid(guid),
+        (Key::Link(..), Value::Peer(node, port)) => is_guid(node) && is_cabled_port(port),
         (Key::Port(..), Value::Up(_)) => true,
-        (Key::Claim(..), Value::Lid(lid)) => {
-            let _ = lid.number();
-            true
-        }
-        (Key::Cap(_), Value::Count(count)) => {
-            let _count = *count;
-            true
-        }
+        (Key::Claim(..), Value::Lid(lid)) => matches!(lid.number(), 0..=u16::MAX),
+        (Key::Cap(_), Value::Count(count)) => matches!(count, 0..=u16::MAX),
         _ => false,
     }
 }
 
-fn is_cell_of(key: &Key, cell: &Cell<Value>) -> bool
-    ensures of_key { result ≡ is_cell_of key.now cell.now }
-    ensures generation { IsTrue (is_generation (generation_of cell.now)) }
+fn is_generation(generation: Generation) -> bool
+    ensures { result ≡ is_generation generation }
 {
-    let _ = cell.generation().number();
-    match cell {
-        Cell::Known(_, value) => is_value_of(key, value),
-        Cell::Disputed(_) => true,
-    }
+    matches!(generation.number(), 1..=u32::MAX)
+}
+
+fn is_guid(guid: Guid) -> bool
+    ensures { result ≡ is_guid guid }
+{
+    matches!(guid.number(), 0..=u64::MAX)
+}
+
+fn is_any_port(port: PortNum) -> bool
+    ensures { result ≡ is_any_port port }
+{
+    matches!(port.number(), 0..=254)
+}
+
+fn is_cabled_port(port: PortNum) -> bool
+    ensures { result ≡ is_cabled_port port }
+{
+    matches!(port.number(), 1..=254)
 }

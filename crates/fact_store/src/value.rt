@@ -5,7 +5,7 @@ use smp_bytes::{Guid, Lid, NodeType, PortNum};
 #[derive(Clone, Copy, Debug)]
 pub enum Value {
     /// Of a node: its type and the number of its ports.
-    Kind(NodeType, PortNum),
+    Kind(NodeType, u8),
     /// Of a port: its GUID.
     Guid(Guid),
     /// Of a link: the node and the port at its other end.

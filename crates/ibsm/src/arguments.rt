@@ -11,21 +11,35 @@ pub(crate) const JOIN: &str = "join";
 /// The files of a subcommand.
 pub(crate) const FILE: &str = "FILE";
 
+const VERSION: &str = "0.1.0";
+
 /// The subcommands and their arguments.
 pub(crate) fn command_line<'a>(alloc: Global) -> Result<Command<'a>, AllocError> {
-    let facts = Command::new(alloc, FACTS)
+    program(alloc)
+        .subcommand(facts(alloc)?)?
+        .subcommand(join(alloc)?)
+}
+
+/// The program, which does nothing without a subcommand.
+fn program<'a>(alloc: Global) -> Command<'a> {
+    Command::new(alloc, "ibsm")
+        .about("InfiniBand subnet managers")
+        .version(VERSION)
+        .subcommand_required(true)
+}
+
+fn facts<'a>(alloc: Global) -> Result<Command<'a>, AllocError> {
+    Command::new(alloc, FACTS)
         .about("Prints the facts that all the files tell together")
-        .arg(files(alloc))?;
-    let join = Command::new(alloc, JOIN)
+        .arg(files(alloc))
+}
+
+fn join<'a>(alloc: Global) -> Result<Command<'a>, AllocError> {
+    Command::new(alloc, JOIN)
         .about(
             "Writes the facts that all the files tell together to standard output, as a store file",
         )
-        .arg(files(alloc))?;
-    Command::new(alloc, "ibsm")
-        .about("InfiniBand subnet managers")
-        .subcommand_required(true)
-        .subcommand(facts)?
-        .subcommand(join)
+        .arg(files(alloc))
 }
 
 /// At least one file.

@@ -1,55 +1,101 @@
 //! The subcommands that read files.
-ghost use Rattle.std.specs.Prelude.{◌≡◌, ◌⊎◌, ℕ, List, Ok, IsErr, IfOk, IsTrue};
-ghost use Rattle.std.specs.Io.KnownBytes.{Appends};
-ghost use Rattle.ibsm.specs.Ending.{name_of, SaysWhy};
+ghost use Rattle.std.specs.Prelude.{◌≡◌, ◌⊎◌, Err, length, IfOk, IfErr, OnOk, OnErr, IsTrue};
+ghost use Rattle.sm_cli.specs.ExitStatus.{status_of};
+ghost use Rattle.ibsm.specs.Ending.{AnswersFiles, IsFaultAmong, IsSaid, SaysWhy, fault_line, name_of};
 
 use record_file::{FromRead, Sink, ToWrite};
-use sm_cli::{Command, Fault, Status, run_files, write_cannot_open, write_fault};
-use std::alloc::AllocError;
+use sm_cli::{Command, ExitStatus, Fault, run_files, write_fault};
 use std::io::{BufReader, Write};
 use std::rt::Files;
 use std::{fs, io};
 
-/// Writes to `output` what the command asks for of all that the files with these names say, or to `errors` what is wrong.
-/// An `Err` is want of memory, of which nothing has been said yet.
-pub(crate) fn answer<R, O, E>(
+/// Does what the command asks for with the files of these names, and says on `errors` why it cannot.
+pub(crate) fn answer_or_explain<R, O, E>(
     rt: &R,
     command: Command,
     names: &[&str],
     output: &mut ToWrite<O>,
     errors: &mut ToWrite<E>,
-) -> Result<Status, AllocError>
+) -> ExitStatus
 where
     R: Files + AllocGlobal,
     O: Write,
     E: Write,
-    ensures nothing_written { IfOk result (λ status. (status ≡ Status.Done)
-        ⊎ ((status ≡ Status.InputOutput) × IsTrue (⟦<ToWrite<O> as Sink>⟧.has_failed output.new)) ⊎ (output.new ≡ output.old)) }
-    ensures silent { result ≡ Ok Status.Done → errors.new ≡ errors.old }
-    ensures says_why { IfOk result (λ status. (status ≡ Status.Done) ⊎ IsTrue (⟦<ToWrite<E> as Sink>⟧.has_failed errors.new)
-        ⊎ ((line : List ℕ) × SaysWhy names.now status line × Appends (⟦<ToWrite<E> as Sink>⟧.written errors.old) (⟦<ToWrite<E> as Sink>⟧.written errors.new) line)) }
-    ensures untouched { IsErr result → (output.new ≡ output.old) × (errors.new ≡ errors.old) }
+    ensures done { result ≡ ExitStatus.Done → AnswersFiles command (length names.now)
+        (⟦<ToWrite<O> as Sink>⟧.written output.old) (⟦<ToWrite<O> as Sink>⟧.written output.new) }
+    ensures flushed { result ≡ ExitStatus.Done → IsTrue (⟦<ToWrite<O> as Sink>⟧.is_flushed output.new) }
+    ensures silent { result ≡ ExitStatus.Done → errors.new ≡ errors.old }
+    ensures says_why { (result ≡ ExitStatus.Done) ⊎ SaysWhy names.now result (⟦<ToWrite<O> as Sink>⟧.has_failed output.new)
+        (⟦<ToWrite<E> as Sink>⟧.written errors.old) (⟦<ToWrite<E> as Sink>⟧.written errors.new) (⟦<ToWrite<E> as Sink>⟧.has_failed errors.new) }
+    ensures nothing_written { (result ≡ ExitStatus.Done)
+        ⊎ IsTrue (⟦<ToWrite<O> as Sink>⟧.has_failed output.new) ⊎ (output.new ≡ output.old) }
+{
+    match answer(rt, command, names, output) {
+        Ok(()) => ExitStatus::Done,
+        Err(fault) => say(errors, names, &fault),
+    }
+}
+
+/// Says the fault of a run over the files with these names, and what the program ends with.
+pub(crate) fn say<E: Write>(errors: &mut ToWrite<E>, names: &[&str], fault: &Fault) -> ExitStatus
+    ensures status { result ≡ status_of fault.now }
+    ensures said { IsSaid (⟦<ToWrite<E> as Sink>⟧.written errors.old) (⟦<ToWrite<E> as Sink>⟧.written errors.new)
+        (⟦<ToWrite<E> as Sink>⟧.has_failed errors.new) (fault_line names.now fault.now) }
+{
+    let _ = write_fault(errors, fault, name_of(names, fault));
+    fault.status()
+}
+
+/// Writes what the command asks for of all that the files with these names say.
+fn answer<R, O>(
+    rt: &R,
+    command: Command,
+    names: &[&str],
+    output: &mut ToWrite<O>,
+) -> Result<(), Fault>
+where
+    R: Files + AllocGlobal,
+    O: Write,
+    ensures done { OnOk result (AnswersFiles command (length names.now)
+        (⟦<ToWrite<O> as Sink>⟧.written output.old) (⟦<ToWrite<O> as Sink>⟧.written output.new)) }
+    ensures flushed { OnOk result (IsTrue (⟦<ToWrite<O> as Sink>⟧.is_flushed output.new)) }
+    ensures refused { IfErr result (IsFaultAmong (length names.now) (⟦<ToWrite<O> as Sink>⟧.has_failed output.new)) }
+    ensures nothing_written { OnErr result ((result ≡ Err Fault.Write) ⊎ (output.new ≡ output.old)) }
+{
+    let mut sources = open_all(rt, names)?;
+    run_files(rt.alloc(), &mut sources, command, output)
+}
+
+/// Opens the files with these names, in their order.
+fn open_all<R>(rt: &R, names: &[&str]) -> Result<Vec<FromRead<BufReader<R::File>>>, Fault>
+where
+    R: Files + AllocGlobal,
+    ensures one_each { IfOk result (λ sources. length sources.items ≡ length names.now) }
+    ensures refused { (failed : _) → IfErr result (IsFaultAmong (length names.now) failed) }
 {
     let mut sources = Vec::new(rt.alloc());
-    for name in names {
-        match fs::open(rt, *name) {
-            Ok(file) => {
-                let reader = BufReader::new(rt.alloc(), file).map_err(|_| AllocError)?;
-                sources.push(FromRead::new(reader))?;
-            }
-            Err(error) if error.kind() == io::ErrorKind::OutOfMemory => return Err(AllocError),
-            Err(_) => {
-                let _ = write_cannot_open(name, errors);
-                return Ok(Status::InputOutput);
-            }
+    for (place, name) in names.iter().enumerate() {
+        let source = open(rt, place, name)?;
+        if sources.push(source).is_err() {
+            return Err(Fault::Memory);
         }
     }
-    match run_files(rt.alloc(), &mut sources, command, output) {
-        Ok(()) => Ok(Status::Done),
-        Err(fault) => {
-            let _ = write_fault(&fault, name_of(names, &fault), errors);
-            Ok(fault.status())
-        }
+    Ok(sources)
+}
+
+/// Opens the file with this name, which stands at this place among those that were named.
+fn open<R>(rt: &R, place: usize, name: &str) -> Result<FromRead<BufReader<R::File>>, Fault>
+where
+    R: Files + AllocGlobal,
+    ensures { IfErr result (λ fault. (fault ≡ Fault.Open place) ⊎ (fault ≡ Fault.Memory)) }
+{
+    match fs::open(rt, name) {
+        Ok(file) => match BufReader::new(rt.alloc(), file) {
+            Ok(reader) => Ok(FromRead::new(reader)),
+            Err(_) => Err(Fault::Memory),
+        },
+        Err(error) if error.kind() == io::ErrorKind::OutOfMemory => Err(Fault::Memory),
+        Err(_) => Err(Fault::Open { place }),
     }
 }
 
@@ -58,7 +104,8 @@ fn name_of<'a>(names: &[&'a str], fault: &Fault) -> &'a str
     ensures { result.now ≡ name_of names.now fault.now }
 {
     match fault {
-        Fault::File { place, .. } => names.get(*place).copied().unwrap_or(""),
+        Fault::Open { place } | Fault::File { place, .. } =>
+            names.get(*place).copied().unwrap_or(""),
         Fault::Write | Fault::Memory => "",
     }
 }

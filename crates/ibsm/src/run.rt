@@ -4,18 +4,18 @@ ghost use Rattle.clap.specs.Words.{subcommand_name_of};
 ghost use Rattle.ibsm.specs.Asked.{word_of};
 
 use crate::arguments::{FACTS, FILE, JOIN, command_line};
-use crate::files::answer;
+use crate::files::{answer_or_explain, say};
 use clap::error::ErrorKind;
 use clap::{ArgMatches, Error};
 use record_file::ToWrite;
-use sm_cli::{Command, Fault, Status, write_fault};
+use sm_cli::{Command, ExitStatus, Fault};
 use std::alloc::AllocError;
 use std::io::{BufWriter, Write};
 use std::rt::{Env, Files};
 use std::{env, io};
 
 /// Does what the command line asks for, and says on `errors` why it cannot.
-pub(crate) fn run<R, O, E>(rt: &R, output: O, errors: E) -> Status
+pub(crate) fn run<R, O, E>(rt: &R, output: O, errors: E) -> ExitStatus
 where
     R: Env + Files + Print + Eprint + AllocGlobal,
     O: Write + Drop,
@@ -24,40 +24,63 @@ where
     let mut errors = ToWrite::new(errors);
     match try_run(rt, output, &mut errors) {
         Ok(status) => status,
-        Err(AllocError) => {
-            let fault = Fault::Memory;
-            let _ = write_fault(&fault, "", &mut errors);
-            fault.status()
-        }
+        Err(AllocError) => say(&mut errors, &[], &Fault::Memory),
     }
 }
 
 /// The same; an `Err` is want of memory, of which nothing has been said yet.
-fn try_run<R, O, E>(rt: &R, output: O, errors: &mut ToWrite<E>) -> Result<Status, AllocError>
+fn try_run<R, O, E>(
+    rt: &R,
+    output: O,
+    errors: &mut ToWrite<E>,
+) -> Result<ExitStatus, AllocError>
 where
     R: Env + Files + Print + Eprint + AllocGlobal,
     O: Write + Drop,
     E: Write + Drop,
 {
-    let words: Vec<String> = match env::args(rt) {
-        Ok(words) => words.collect(rt.alloc())?,
-        Err(error) if error.kind() == io::ErrorKind::OutOfMemory => return Err(AllocError),
+    let Some(words) = words(rt)? else {
+        return Ok(ExitStatus::Usage);
+    };
+    match command_line(rt.alloc())?.try_get_matches_from(words.as_slice()) {
+        Ok(matches) => obey(rt, &matches, output, errors),
+        Err(error) => explain(rt, &error, errors),
+    }
+}
+
+/// The words of the command line; of what is not UTF-8 it says so.
+fn words<R: Env + Eprint + AllocGlobal>(rt: &R) -> Result<Option<Vec<String>>, AllocError> {
+    match env::args(rt) {
+        Ok(words) => Ok(Some(words.collect(rt.alloc())?)),
+        Err(error) if error.kind() == io::ErrorKind::OutOfMemory => Err(AllocError),
         Err(_) => {
             let _ = rt.eprintln("error: an argument is not UTF-8");
-            return Ok(Status::Usage);
+            Ok(None)
         }
+    }
+}
+
+/// Does what the words ask for.
+fn obey<R, O, E>(
+    rt: &R,
+    matches: &ArgMatches<'_>,
+    output: O,
+    errors: &mut ToWrite<E>,
+) -> Result<ExitStatus, AllocError>
+where
+    R: Files + AllocGlobal,
+    O: Write + Drop,
+    E: Write,
+{
+    let Some((command, names)) = asked(matches) else {
+        return Ok(ExitStatus::Usage);
     };
-    let command = command_line(rt.alloc())?;
-    let matches = match command.try_get_matches_from(words.as_slice()) {
-        Ok(matches) => matches,
-        Err(error) => return explain(rt, &error, errors),
-    };
-    match asked(&matches) {
-        Some((command, names)) => {
-            let writer = BufWriter::new(rt.alloc(), output).map_err(|_| AllocError)?;
-            answer(rt, command, names, &mut ToWrite::new(writer), errors)
+    match BufWriter::new(rt.alloc(), output) {
+        Ok(writer) => {
+            let mut output = ToWrite::new(writer);
+            Ok(answer_or_explain(rt, command, names, &mut output, errors))
         }
-        None => Ok(Status::Usage),
+        Err(_) => Err(AllocError),
     }
 }
 
@@ -79,18 +102,16 @@ pub(crate) fn explain<R: Print + Eprint, E: Write>(
     rt: &R,
     error: &Error,
     errors: &mut ToWrite<E>,
-) -> Result<Status, AllocError> {
+) -> Result<ExitStatus, AllocError> {
     if error.kind() == ErrorKind::OutOfMemory {
         return Err(AllocError);
     }
     let printed = error.print(rt);
     if error.use_stderr() {
-        return Ok(Status::Usage);
+        return Ok(ExitStatus::Usage);
     }
     if printed.is_err() {
-        let fault = Fault::Write;
-        let _ = write_fault(&fault, "", errors);
-        return Ok(fault.status());
+        return Ok(say(errors, &[], &Fault::Write));
     }
-    Ok(Status::Done)
+    Ok(ExitStatus::Done)
 }

@@ -1,76 +1,91 @@
 use crate::arguments::command_line;
-use crate::files::answer;
+use crate::files::answer_or_explain;
 use crate::run::{asked, explain};
 use clap::Error;
 use clap::error::ErrorKind;
 use record_file::ToWrite;
-use sm_cli::{Command, Status};
+use sm_cli::{Command, ExitStatus};
 use std::alloc::AllocError;
+use std::io::BufWriter;
+use std::process::Abort;
 use std::test::Fail;
+use std::{env, fs};
 
 /// What is said of these words where they are refused or ask for help.
-fn refusal(rt: &HostRuntime, words: &[&str]) -> Result<Option<Error>, AllocError> {
+fn refusal(rt: &HostRuntime, words: &[&str]) -> Result<Error, Fail> {
     let command = command_line(rt.alloc())?;
-    Ok(command.try_get_matches_from(words).err())
+    Ok(command.try_get_matches_from(words).err().ok_or("taken")?)
 }
 
 /// How a run ends that says this, and what it writes on standard error besides.
-fn ending(rt: &HostRuntime, error: &Error) -> Result<(Status, Vec<u8>), AllocError> {
+fn ending(rt: &HostRuntime, error: &Error) -> Result<(ExitStatus, Vec<u8>), AllocError> {
     let mut errors = ToWrite::new(Vec::new(rt.alloc()));
     let status = explain(rt, error, &mut errors)?;
     Ok((status, errors.into_inner()))
 }
 
-/// How a run over the files of these names ends, and what it writes as its output and as its errors.
-fn answered(rt: &HostRuntime, names: &[&str]) -> Result<(Status, Vec<u8>, Vec<u8>), AllocError> {
-    let mut output = ToWrite::new(Vec::new(rt.alloc()));
-    let mut errors = ToWrite::new(Vec::new(rt.alloc()));
-    let status = answer(rt, Command::Facts, names, &mut output, &mut errors)?;
-    Ok((status, output.into_inner(), errors.into_inner()))
+/// Words that are no command end so, with a text that has these words in it.
+fn check_words(
+    abort: &impl Abort,
+    rt: &HostRuntime,
+    words: &[&str],
+    kind: ErrorKind,
+    ends: ExitStatus,
+    says: &str,
+) -> Result<(), Fail> {
+    let error = refusal(rt, words)?;
+    let text = error.to_string(rt.alloc())?;
+    let (status, errors) = ending(rt, &error)?;
+    let ended = (error.kind(), status, text.contains(says), errors.len());
+    assert_eq!(abort; ended, (kind, ends, true, 0), "{words:?}: {text}");
+    Ok(())
 }
 
 #[test]
-fn refuses_other_words(rt: HostRuntime) -> Result<(), Fail> {
-    let cases: [(&[&str], ErrorKind); 5] = [
-        (&["ibsm"], ErrorKind::MissingSubcommand),
+fn other_words_are_explained(rt: HostRuntime) -> Result<(), Fail> {
+    for (words, kind) in [
+        (["ibsm", "", ""], ErrorKind::InvalidSubcommand),
+        (["ibsm", "fact", "a"], ErrorKind::InvalidSubcommand),
+        (["ibsm", "facts", "--all"], ErrorKind::UnknownArgument),
+    ] {
+        check_words(&rt, &rt, &words, kind, ExitStatus::Usage, "Usage: ")?;
+    }
+    for (words, kind) in [
+        (["ibsm"].as_slice(), ErrorKind::MissingSubcommand),
         (&["ibsm", "facts"], ErrorKind::MissingRequiredArgument),
         (&["ibsm", "join"], ErrorKind::MissingRequiredArgument),
-        (&["ibsm", "fact", "a"], ErrorKind::InvalidSubcommand),
-        (&["ibsm", "facts", "--all", "a"], ErrorKind::UnknownArgument),
-    ];
-    for (words, kind) in cases {
-        let error = refusal(&rt, words)?.expect(&rt, "refused");
-        assert_eq!(rt; error.kind(), kind, "{words:?}");
-        assert!(rt; error.use_stderr(), "{words:?}");
-        let (status, errors) = ending(&rt, &error)?;
-        assert_eq!(rt; status, Status::Usage, "{words:?}");
-        assert_eq!(rt; errors.as_slice(), b"".as_slice(), "{words:?}");
+    ] {
+        check_words(&rt, &rt, words, kind, ExitStatus::Usage, "Usage: ")?;
+    }
+    for (words, kind, says) in [
+        (
+            ["ibsm", "--help"].as_slice(),
+            ErrorKind::DisplayHelp,
+            "Usage: ibsm <COMMAND>",
+        ),
+        (
+            &["ibsm", "facts", "--help"],
+            ErrorKind::DisplayHelp,
+            "Usage: ibsm facts <FILE>...",
+        ),
+        (
+            &["ibsm", "join", "--help"],
+            ErrorKind::DisplayHelp,
+            "Usage: ibsm join <FILE>...",
+        ),
+        (
+            &["ibsm", "--version"],
+            ErrorKind::DisplayVersion,
+            "ibsm 0.1.0\n",
+        ),
+    ] {
+        check_words(&rt, &rt, words, kind, ExitStatus::Done, says)?;
     }
     Ok(())
 }
 
 #[test]
-fn helps(rt: HostRuntime) -> Result<(), Fail> {
-    let cases: [(&[&str], &str); 3] = [
-        (&["ibsm", "--help"], "Usage: ibsm <COMMAND>"),
-        (&["ibsm", "facts", "--help"], "Usage: ibsm facts <FILE>..."),
-        (&["ibsm", "join", "--help"], "Usage: ibsm join <FILE>..."),
-    ];
-    for (words, usage) in cases {
-        let error = refusal(&rt, words)?.expect(&rt, "help");
-        assert_eq!(rt; error.kind(), ErrorKind::DisplayHelp, "{words:?}");
-        assert!(rt; !error.use_stderr(), "{words:?}");
-        let text = error.to_string(rt.alloc())?;
-        assert!(rt; text.contains(usage), "{text}");
-        let (status, errors) = ending(&rt, &error)?;
-        assert_eq!(rt; status, Status::Done, "{words:?}");
-        assert_eq!(rt; errors.as_slice(), b"".as_slice(), "{words:?}");
-    }
-    Ok(())
-}
-
-#[test]
-fn takes_files(rt: HostRuntime) -> Result<(), Fail> {
+fn commands_and_files_are_taken(rt: HostRuntime) -> Result<(), Fail> {
     let cases: [(&[&str], Command, &[&str]); 4] = [
         (&["ibsm", "facts", "a"], Command::Facts, &["a"]),
         (&["ibsm", "facts", "a", "b"], Command::Facts, &["a", "b"]),
@@ -83,21 +98,99 @@ fn takes_files(rt: HostRuntime) -> Result<(), Fail> {
     ];
     for (words, command, names) in cases {
         let matches = command_line(rt.alloc())?.try_get_matches_from(words)?;
-        assert_eq!(rt; asked(&matches), Some((command, names)), "{words:?}");
+        assert!(rt; asked(&matches) == Some((command, names)), "{words:?}");
+    }
+    Ok(())
+}
+
+/// A file with these bytes, among those for a short time; its name.
+fn file(rt: &HostRuntime, name: &str, bytes: &[u8]) -> Result<String, Fail> {
+    let folder = env::temp_dir(rt)?;
+    let number = std::process::id(rt.process());
+    let path = format!(in rt.alloc(); "{}/ibsm-{number}-{name}", folder.display())?;
+    fs::write(rt, path.as_str(), bytes)?;
+    Ok(path)
+}
+
+/// The store file of a node.
+const NODE: &[u8] =
+    b"IBSMSTO1\x01\x01\x00\x00\x00\x00\x00\x01\x00\x00\x00\x00\x00\x00\x01\x00\x01\x01\0\0\0\0\0\0\0\0\0\0\0\0\0\0";
+
+/// The store file of the GUID of its port.
+const PORT_GUID: &[u8] =
+    b"IBSMSTO1\x02\x01\x01\x00\x00\x00\x00\x01\x00\x00\x00\x00\x00\x00\x01\x00\x00\x00\0\0\0\0\x01\x01\0\0\0\0\0\0\0\0";
+
+/// Both of them in one.
+const BOTH: &[u8] =
+    b"IBSMSTO1\x01\x01\x00\x00\x00\x00\x00\x01\x00\x00\x00\x00\x00\x00\x01\x00\x01\x01\0\0\0\0\0\0\0\0\0\0\0\0\0\0\
+    \x02\x01\x01\x00\x00\x00\x00\x01\x00\x00\x00\x00\x00\x00\x01\x00\x00\x00\0\0\0\0\x01\x01\0\0\0\0\0\0\0\0";
+
+/// How a run over the files of these names ends, and what it writes as its output and as its errors.
+fn answered(
+    rt: &HostRuntime,
+    command: Command,
+    names: &[&str],
+) -> Result<(ExitStatus, Vec<u8>, Vec<u8>), AllocError> {
+    let mut output = ToWrite::new(Vec::new(rt.alloc()));
+    let mut errors = ToWrite::new(Vec::new(rt.alloc()));
+    let status = answer_or_explain(rt, command, names, &mut output, &mut errors);
+    Ok((status, output.into_inner(), errors.into_inner()))
+}
+
+/// A run over three files ends so.
+fn check_run(
+    abort: &impl Abort,
+    rt: &HostRuntime,
+    command: Command,
+    names: [&str; 3],
+    ends: ExitStatus,
+    writes: &[u8],
+    says: &str,
+) -> Result<(), Fail> {
+    let (status, output, errors) = answered(rt, command, &names)?;
+    assert!(abort; status == ends && output.as_slice() == writes, "{names:?}: {status:?}");
+    assert!(abort; errors.as_slice().ends_with(says.as_bytes()), "{names:?}: {says}");
+    assert!(abort; errors.is_empty() == says.is_empty(), "{names:?}");
+    Ok(())
+}
+
+#[test]
+fn all_files_are_read_and_the_first_fault_counts(rt: HostRuntime) -> Result<(), Fail> {
+    let (node, port_guid) = (file(&rt, "node", NODE)?, file(&rt, "portguid", PORT_GUID)?);
+    let (none, bad) = (file(&rt, "none", b"IBSMREP1")?, file(&rt, "bad", b"IBSM")?);
+    let cut = file(&rt, "cut", b"IBSMSTO1\x01")?;
+    let (node, port_guid) = (node.as_str(), port_guid.as_str());
+    let (none, bad, cut) = (none.as_str(), bad.as_str(), cut.as_str());
+    let facts: &[u8] = b"node 0000000000000100 ca 1 @1\nportguid 0000000000000100/1 0000000000000101 @1\n";
+    for names in [[node, port_guid, none], [none, port_guid, node], [port_guid, node, node]] {
+        check_run(&rt, &rt, Command::Join, names, ExitStatus::Done, BOTH, "")?;
+        check_run(&rt, &rt, Command::Facts, names, ExitStatus::Done, facts, "")?;
+    }
+    for (names, ends, says) in [
+        ([node, bad, cut], ExitStatus::Refused, "-bad: bad magic\n"),
+        ([cut, bad, node], ExitStatus::Refused, "-cut: truncated at 8\n"),
+        ([node, none, cut], ExitStatus::Refused, "-cut: truncated at 8\n"),
+        ([node, ".", cut], ExitStatus::InputOutput, "ibsm: .: read failed\n"),
+        ([bad, ".", "missing"], ExitStatus::InputOutput, "ibsm: missing: cannot open\n"),
+    ] {
+        check_run(&rt, &rt, Command::Join, names, ends, b"", says)?;
+    }
+    for name in [node, port_guid, none, bad, cut] {
+        fs::remove_file(&rt, name)?;
     }
     Ok(())
 }
 
 #[test]
-fn says_which_file_is_wrong(rt: HostRuntime) -> Result<(), Fail> {
-    for (name, line) in [
-        ("missing", b"ibsm: missing: cannot open\n".as_slice()),
-        (".", b"ibsm: .: read failed\n"),
-    ] {
-        let (status, output, errors) = answered(&rt, &[name])?;
-        assert_eq!(rt; status, Status::InputOutput, "{name}");
-        assert_eq!(rt; output.as_slice(), b"".as_slice(), "{name}");
-        assert_eq!(rt; errors.as_slice(), line, "{name}");
-    }
+fn a_full_device_takes_nothing(rt: HostRuntime) -> Result<(), Fail> {
+    let node = file(&rt, "full", NODE)?;
+    let device = fs::File::create(&rt, "/dev/full")?;
+    let mut output = ToWrite::new(BufWriter::new(rt.alloc(), device)?);
+    let mut errors = ToWrite::new(Vec::new(rt.alloc()));
+    let names = [node.as_str()];
+    let status = answer_or_explain(&rt, Command::Facts, &names, &mut output, &mut errors);
+    assert!(rt; status == ExitStatus::InputOutput);
+    assert!(rt; errors.into_inner().as_slice() == b"ibsm: write failed\n".as_slice());
+    fs::remove_file(&rt, node.as_str())?;
     Ok(())
 }

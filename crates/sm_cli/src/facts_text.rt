@@ -54,7 +54,7 @@ fn write_value<W: Sink>(sink: &mut W, value: &Value) -> Result<(), WriteFault>
         Value::Kind(kind, ports) => {
             sink.write(kind.word().as_bytes())?;
             sink.write(b" ")?;
-            write_number(sink, u64::from(ports.number()))
+            write_number(sink, u64::from(ports))
         }
         Value::Guid(guid) => write_guid(sink, guid),
         Value::Peer(guid, port) => write_port(sink, guid, port),
