@@ -114,7 +114,7 @@ fn value_bytes(value: Value) -> [u8; VALUE_LEN]
     match value {
         Value::Kind(kind, ports) => {
             bytes[0] = NodeTypeNumber::from(kind).number();
-            bytes[1] = ports.number();
+            bytes[1] = ports;
         }
         Value::Guid(guid) => bytes[..8].copy_from_slice(&guid.number().to_be_bytes()),
         Value::Peer(guid, port) => {
@@ -180,12 +180,7 @@ fn value_of(key: &Key, bytes: &[u8]) -> Option<Value>
     ensures { result ≡ value_in key.now bytes.now }
 {
     Some(match *key {
-        Key::Node(_) => {
-            Value::Kind(
-                NodeTypeNumber::new(bytes[0]).node_type()?,
-                PortNum::new(bytes[1]),
-            )
-        }
+        Key::Node(_) => Value::Kind(NodeTypeNumber::new(bytes[0]).node_type()?, bytes[1]),
         Key::PortGuid(..) => Value::Guid(Guid::new(u64_of(&bytes[..8]))),
         Key::Link(..) => Value::Peer(Guid::new(u64_of(&bytes[..8])), PortNum::new(bytes[8])),
         Key::Port(..) => Value::Up(bytes[0] == 1),
