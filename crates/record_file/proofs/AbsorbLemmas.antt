@@ -1,5 +1,5 @@
 -- Lemmas on how a reading ends.
-use Rattle.std.proofs.Common.{◌≡◌, ◌⊎◌, inl, inr, ℕ, ◌+◌, ◌-◌, ◌*◌, ◌<◌, ◌≤◌, ◌^◌, List, [], ◌∷◌, ◌++◌, None, Some, Option, Result, Ok, Err, length, take, false, refl, sym, ap, ◌∙◌, subst, arith, append_assoc, append-nil, length-append}
+use Rattle.std.proofs.Common.{◌≡◌, inl, inr, ℕ, ◌+◌, ◌-◌, ◌*◌, ◌<◌, ◌≤◌, ◌^◌, List, [], ◌∷◌, ◌++◌, None, Some, Option, Result, Ok, Err, length, take, refl, sym, ap, ◌∙◌, subst, arith, append_assoc, append-nil, length-append}
 use Rattle.std.specs.List.{concat}
 use Rattle.std.specs.Io.KnownBytes.{Consumes, IsAtEnd}
 use Rattle.std.proofs.lemmas.List.{length-take-le, take_all}
@@ -18,10 +18,10 @@ use Rattle.record_file.specs.Budget.{IsSpent}
 use Rattle.record_file.specs.FillFault.{file_fault_of}
 use Rattle.record_file.specs.Laws.{IsBadRecord}
 use Rattle.record_file.specs.Reading.{EachCallTakes, FillsAt, FillsWith, IsAnswered, ReadingState, Takes}
-use Rattle.record_file.specs.RecordFile.{Judgement, ending, fault_in, fault_or, first_fault, format_of, judged, kept, kept_as, magic, outcome, outcome_as, record_size, told_by, told_then}
+use Rattle.record_file.specs.RecordFile.{Judgement, ending, fault_in, fault_or, first_fault, format_of, judged, kept, kept_as, last_key, magic, outcome, outcome_as, record_size, told_by, told_then}
 use Rattle.record_file.proofs.Formats.{format_found, front-magic, judged-bad, length-format}
 use Rattle.record_file.proofs.Bytes.{Consumes-trans}
-use Rattle.record_file.proofs.Records.{AreRecords, Sightings, bytes_of, fault_in-file, fault_in-part, file, format_of-magic, last_key, length-file, length-magic, ending-whole, ending-part, ending-long, outcome-part, outcome-bad, kept-part, kept-bad, size-positive, size-short, first_fault-good, told_by-good}
+use Rattle.record_file.proofs.Records.{AreRecords, Sightings, bytes_of, fault_in-file, fault_in-part, file, format_of-magic, length-file, length-magic, ending-whole, ending-part, ending-long, outcome-part, outcome-bad, kept-part, kept-bad, size-positive, first_fault-good, told_by-good}
 use Rattle.record_file.proofs.Stores.{merge-both, merge-nothing}
 
 -- nothing was taken yet, and no call made
@@ -159,7 +159,7 @@ absorbs-long format p q old new rs part g short spent each =
 file-record : (format : Format) (rs : List (List ℕ)) (r : List ℕ) → file format (rs ++ r ∷ []) [] ≡ file format rs r
 file-record format rs r = ap (λ l. magic format ++ l) (append-nil (concat (rs ++ r ∷ [])) ∙ concat-append rs (r ∷ []) ∙ ap (λ l. concat rs ++ l) (append-nil r))
 
-AreRecords-more : (size : ℕ) (rs : List (List ℕ)) (r : List ℕ) → AreRecords size rs → length r ≡ size → AreRecords size (rs ++ r ∷ [])
+pub AreRecords-more : (size : ℕ) (rs : List (List ℕ)) (r : List ℕ) → AreRecords size rs → length r ≡ size → AreRecords size (rs ++ r ∷ [])
 AreRecords-more size [] r h long = (long, tt)
 AreRecords-more size (s ∷ rs) r h long = (h.0, AreRecords-more size rs r h.1 long)
 
@@ -167,7 +167,7 @@ pub length-more : (rs : List (List ℕ)) (r : List ℕ) → length (rs ++ r ∷ 
 length-more rs r = length-append rs (r ∷ [])
 
 -- the size of one record more
-bytes-more : (format : Format) (rs : List (List ℕ)) (r : List ℕ) → bytes_of format (length (rs ++ r ∷ [])) ≡ bytes_of format (length rs) + record_size format
+pub bytes-more : (format : Format) (rs : List (List ℕ)) (r : List ℕ) → bytes_of format (length (rs ++ r ∷ [])) ≡ bytes_of format (length rs) + record_size format
 bytes-more format rs r = ap (bytes_of format) (length-more rs r) ∙ omega arith
 
 -- a good record more has no fault

@@ -1,5 +1,5 @@
 -- Exactly the magic with good records behind it is accepted.
-use Rattle.std.proofs.Common.{◌≡◌, ℕ, zero, suc, ◌+◌, ◌-◌, ◌*◌, ◌/◌, ◌%◌, ◌<◌, ◌≤◌, ◌^◌, List, [], ◌∷◌, ◌++◌, Option, None, Some, Result, Ok, Err, IsOk, ◌↔◌, length, take, drop, refl, sym, ap, ◌∙◌, subst, arith, append-nil, length-append, length-drop}
+use Rattle.std.proofs.Common.{◌≡◌, ℕ, zero, suc, ◌+◌, ◌-◌, ◌*◌, ◌/◌, ◌%◌, ◌<◌, ◌≤◌, ◌^◌, List, [], ◌∷◌, ◌++◌, Option, None, Some, Result, Ok, Err, IsOk, length, drop, refl, sym, ap, ◌∙◌, arith, append-nil, length-append, length-drop}
 use Rattle.std.specs.List.{AllByRecursion, concat}
 use Rattle.std.proofs.lemmas.List.{take_all}
 use Rattle.std.proofs.Math.Nat.{div-add-mod}
@@ -8,7 +8,7 @@ use Rattle.fact_store.specs.declared.report_fault.ReportFault.{ReportFault}
 use Rattle.record_file.specs.declared.file_fault.FileFault.{FileFault}
 use Rattle.record_file.specs.declared.format.Format.{Format}
 use Rattle.record_file.specs.declared.format.Format.TheVariants.{Reports}
-use Rattle.record_file.specs.Laws.{IsGoodReport, IsReportFile, ReportFilesAreAccepted}
+use Rattle.record_file.specs.Laws.{IsGoodReport, ReportFilesAreAccepted}
 use Rattle.record_file.specs.ReportRecord.{report_judged}
 use Rattle.record_file.specs.RecordFile.{fault_in, fault_or, first_fault, first_records, format_of, magic, of_report, outcome, record_size, records, records_in_reach}
 use Rattle.record_file.proofs.Beginnings.{first_records-whole, found, well_found}

@@ -1,5 +1,5 @@
 -- Lemmas on the formats of files, and on how their records are judged.
-use Rattle.std.proofs.Common.{◌≡◌, ℕ, ◌+◌, ◌≤◌, Bool, true, false, ◌⊎◌, inl, inr, List, [], ◌∷◌, ◌++◌, Option, None, Some, Result, Ok, Err, length, take, drop, nat_eq, cond, refl, sym, ap, ◌∙◌, subst, arith, length-append}
+use Rattle.std.proofs.Common.{◌≡◌, ℕ, ◌≤◌, Bool, true, false, ◌⊎◌, inl, inr, List, [], ◌∷◌, ◌++◌, Option, None, Some, Result, Ok, Err, length, drop, nat_eq, cond, refl, sym, ap, ◌∙◌, subst}
 use Rattle.std.specs.List.{starts_with}
 use Rattle.std.proofs.lemmas.List.{append-nil, drop_all, take-append-le}
 use Rattle.std.proofs.lemmas.Slice.Eq.{starts_is}
@@ -10,7 +10,7 @@ use Rattle.fact_store.specs.declared.value.Value.{Value}
 use Rattle.fact_store.specs.declared.report_fault.ReportFault.{ReportFault}
 use Rattle.fact_store.specs.Key.{is_above}
 use Rattle.record_file.specs.declared.file_fault.FileFault.{FileFault}
-use Rattle.record_file.specs.declared.file_fault.FileFault.TheVariants.{BadReport, BadCell, CellOrder, Memory}
+use Rattle.record_file.specs.declared.file_fault.FileFault.TheVariants.{BadCell, CellOrder}
 use Rattle.record_file.specs.declared.format.Format.{Format}
 use Rattle.record_file.specs.declared.format.Format.TheVariants.{Reports, Cells}
 use Rattle.record_file.specs.CellRecord.{cell_of}

@@ -1,5 +1,5 @@
 -- Lemmas on the records of a file, and on what reading it answers.
-use Rattle.std.proofs.Common.{◌≡◌, ℕ, suc, ◌+◌, ◌-◌, ◌*◌, ◌/◌, ◌<◌, ◌≤◌, ◌^◌, ◌%◌, ◌==◌, nat_le, true, false, List, [], ◌∷◌, ◌++◌, Option, None, Some, Result, Ok, Err, length, take, drop, refl, sym, ap, ◌∙◌, arith, append_assoc, append-nil, length-append}
+use Rattle.std.proofs.Common.{◌≡◌, ℕ, suc, ◌+◌, ◌-◌, ◌*◌, ◌/◌, ◌<◌, ◌≤◌, ◌^◌, ◌%◌, ◌==◌, nat_le, true, false, List, [], ◌∷◌, ◌++◌, Option, None, Some, Ok, Err, length, take, drop, refl, sym, ap, ◌∙◌, arith, append_assoc, append-nil, length-append}
 use Rattle.std.specs.List.{AllByRecursion, concat}
 use Rattle.std.proofs.lemmas.List.{take_all, take_at, drop_at}
 use Rattle.std.proofs.Math.Seq.{take-append-add}
@@ -12,7 +12,7 @@ use Rattle.record_file.specs.declared.file_fault.FileFault.{FileFault}
 use Rattle.record_file.specs.declared.file_fault.FileFault.TheVariants.{Truncated, TooLong}
 use Rattle.record_file.specs.declared.format.Format.{Format}
 use Rattle.record_file.specs.declared.format.Format.TheVariants.{Reports, Cells}
-use Rattle.record_file.specs.RecordFile.{Judgement, ending, fault_first, fault_in, fault_or, first_fault, first_records, format_of, judged, kept, key_in, magic, outcome, record_size, records, records_in_reach, told_by, told_then}
+use Rattle.record_file.specs.RecordFile.{Judgement, ending, fault_first, fault_in, fault_or, first_fault, first_records, format_of, judged, kept, key_in, last_key, magic, outcome, record_size, records, records_in_reach, told_by, told_then}
 
 abbrev pub Sightings : Type 0
 Sightings = List (Key × Cell Value)
@@ -61,11 +61,6 @@ unfolding records
 records-short size x h = let none : length x / size ≡ 0 = div-eq_of_lt h in rw none refl
 
 -- faults and sightings of records that stand one behind the other ---------------------
-
--- the key of the last of the records, or the one before them
-abbrev pub last_key : Format → Option Key → List (List ℕ) → Option Key
-last_key format last [] = last
-last_key format last (r ∷ rs) = last_key format (key_in format r) rs
 
 pub last_key-more : (format : Format) (last : Option Key) (rs : List (List ℕ)) (r : List ℕ) → last_key format last (rs ++ r ∷ []) ≡ key_in format r
 last_key-more format last [] r = refl

@@ -48,15 +48,6 @@ absorbs-fault bytes last index r f old new h some same = rw (judged-fault bytes 
 pub absorbs-told : (bytes : List ℕ) (last : Option Key) (index : ℕ) (r : Report) (old new : Facts) → Some r ≡ report_of bytes → report_fault r ≡ None → new ≡ merge old (view (sightings_of r)) → AbsorbsJudged {K = Unit {0}} (judged Reports last bytes) index (Ok tt) old new
 absorbs-told bytes last index r old new h none merged = rw (judged-told bytes r h none) merged
 
--- a report for which there is no memory is good, so no fault of it is answered
-absorbs-full : (bytes : List ℕ) (last : Option Key) (index : ℕ) (r : Report) (old new : Facts) → Some r ≡ report_of bytes → report_fault r ≡ None → new ≡ old → AbsorbsJudged {K = Unit {0}} (judged Reports last bytes) index (Err Memory) old new
-absorbs-full bytes last index r old new h none same = rw (judged-told bytes r h none) (refl, same)
-
--- the fault of a report is answered as such
-pub absorbs-memory : (bytes : List ℕ) (last : Option Key) (index : ℕ) (r : Report) (old new : Facts) (answer : Result (Unit {0}) IngestFault) → Some r ≡ report_of bytes → answer ≡ Err Full
-    → ((f : ReportFault) → (answer ≡ Err (Refused f)) ↔ (report_fault r ≡ Some f)) → new ≡ old → AbsorbsJudged {K = Unit {0}} (judged Reports last bytes) index (Err Memory) old new
-absorbs-memory bytes last index r old new answer h full refused same =
-    elim (report_fault r) as (λ o. report_fault r ≡ o → AbsorbsJudged {K = Unit {0}} (judged Reports last bytes) index (Err Memory) old new) [
-      | None ↦ λ none. absorbs-full bytes last index r old new h none same
-      | Some f ↦ λ some. let is : answer ≡ Err (Refused f) = (refused f).1 some in absurd (cc)
-    ] refl
+-- and of a good one for which there is no memory
+pub absorbs-memory : (bytes : List ℕ) (last : Option Key) (index : ℕ) (r : Report) (old new : Facts) → Some r ≡ report_of bytes → report_fault r ≡ None → new ≡ old → AbsorbsJudged {K = Unit {0}} (judged Reports last bytes) index (Err Memory) old new
+absorbs-memory bytes last index r old new h none same = rw (judged-told bytes r h none) (refl, same)

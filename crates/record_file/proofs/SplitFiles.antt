@@ -1,5 +1,5 @@
 -- Files that are split between their records.
-use Rattle.std.proofs.Common.{◌≡◌, ℕ, ◌+◌, ◌-◌, ◌*◌, ◌^◌, ◌<◌, ◌≤◌, List, [], ◌∷◌, ◌++◌, None, Some, Ok, refl, sym, ap, ◌∙◌, subst, arith, length, length-append, take, append-nil}
+use Rattle.std.proofs.Common.{◌≡◌, ℕ, ◌-◌, ◌^◌, ◌<◌, List, [], ◌∷◌, ◌++◌, None, Some, Ok, refl, sym, ap, ◌∙◌, subst, arith, length, length-append, take, append-nil}
 use Rattle.std.specs.Prelude.{Option}
 use Rattle.std.specs.List.{AllByRecursion, concat, flat_map}
 use Rattle.std.specs.FinMap.{entries, entries_sorted}
@@ -10,13 +10,13 @@ use Rattle.fact_store.specs.declared.key.Key.{Key}
 use Rattle.fact_store.specs.View.{Facts}
 use Rattle.record_file.specs.declared.format.Format.TheVariants.{Cells, Reports}
 use Rattle.record_file.specs.Laws.{AreParts, IsGoodReport, IsReportFile, report_file}
-use Rattle.record_file.specs.RecordFile.{first_fault, kept, magic, outcome, record_size, records, told_by}
+use Rattle.record_file.specs.RecordFile.{kept, last_key, magic, outcome, records, told_by}
 use Rattle.record_file.specs.CellRecord.{record_bytes}
 use Rattle.record_file.specs.StoreFile.{store_bytes}
 use Rattle.record_file.specs.StoreLaws.{IsStoreFile}
 use Rattle.record_file.proofs.Accepted.{accepted, faultless}
 use Rattle.record_file.proofs.StoreFiles.{AllSightings, Rise, facts_with, in_range_sightings, read_back, sorted_rise}
-use Rattle.record_file.proofs.Records.{Sightings, bytes_of, file, kept-file, last_key, length-file, records-short, size-positive, told_by-good}
+use Rattle.record_file.proofs.Records.{Sightings, bytes_of, file, kept-file, length-file, records-short, told_by-good}
 
 kept-whole : (bytes : List ℕ) (rs : List (List ℕ)) → IsReportFile bytes rs → kept bytes ≡ told_by Reports None rs
 kept-whole bytes rs is =

@@ -1,8 +1,7 @@
 -- Exactly the store files of facts in range are accepted, and they are read back.
-use Rattle.std.proofs.Common.{inl, inr, ◌≡◌, ℕ, ◌+◌, ◌<◌, ◌≤◌, ◌^◌, Bool, true, false, ◌&&◌, List, [], ◌∷◌, ◌++◌, Option, None, Some, Ok, Err, ◌↔◌, length, map, drop, cond, refl, sym, ap, ◌∙◌, subst, arith, append-nil}
+use Rattle.std.proofs.Common.{inl, inr, ◌≡◌, ℕ, ◌+◌, Bool, true, false, ◌&&◌, List, [], ◌∷◌, ◌++◌, Option, None, Some, Ok, Err, map, drop, cond, refl, sym, ap, ◌∙◌, subst, arith, append-nil}
 use Rattle.std.specs.Prelude.{T, Contains, option_map}
-use Rattle.std.specs.declared.cmp.Ordering.TheVariants.{Less, Equal, Greater}
-use Rattle.std.specs.declared.cmp.Ordering.{Ordering}
+use Rattle.std.specs.declared.cmp.Ordering.TheVariants.{Less}
 use Rattle.std.specs.Ordering.{is_lt}
 use Rattle.std.specs.List.{concat, flat_map}
 use Rattle.std.specs.FinMap.{empty, entries, entries_sorted, entries-from_sorted, from_sorted}
@@ -19,13 +18,12 @@ use Rattle.fact_store.proofs.Members.{contains_cases, contains_here, contains_la
 use Rattle.fact_store.proofs.Orders.{contained_get, get_contained, less_from_test}
 use Rattle.fact_store.proofs.ViewLaws.{view_of_its_cells}
 use Rattle.record_file.specs.declared.file_fault.FileFault.{FileFault}
-use Rattle.record_file.specs.declared.file_fault.FileFault.TheVariants.{BadCell, CellOrder}
-use Rattle.record_file.specs.declared.format.Format.{Format}
+use Rattle.record_file.specs.declared.file_fault.FileFault.TheVariants.{CellOrder}
 use Rattle.record_file.specs.declared.format.Format.TheVariants.{Cells}
 use Rattle.std.specs.Io.KnownBytes.{Consumes, IsAtEnd}
 use Rattle.record_file.specs.Absorbs.{AbsorbsFrom}
 use Rattle.record_file.specs.CellRecord.{cell_of, record_bytes}
-use Rattle.record_file.specs.RecordFile.{fault_or, first_fault, key_in, kept, magic, of_cell, outcome, records, records_in_reach, told_by, told_then}
+use Rattle.record_file.specs.RecordFile.{fault_or, first_fault, key_in, kept, magic, of_cell, records, records_in_reach, told_by, told_then}
 use Rattle.record_file.specs.StoreFile.{store_bytes}
 use Rattle.record_file.specs.StoreLaws.{AbsorbingReadsBack, FactsAreReadBack, FactsHaveOneSpelling, IsStoreFile, StoreFilesAreAccepted}
 use Rattle.record_file.proofs.Accepted.{IsFile, accepted_is_file, file_is_accepted}

@@ -49,6 +49,11 @@ abbrev pub key_in : Format → List ℕ → Option Key
 key_in Reports bytes = None
 key_in Cells bytes = option_map (λ e. e.0) (cell_of bytes)
 
+-- the key of the last of the records, or the one before them
+abbrev pub last_key : Format → Option Key → List (List ℕ) → Option Key
+last_key format last [] = last
+last_key format last (r ∷ rs) = last_key format (key_in format r) rs
+
 -- so many records of this size from the front of the bytes
 abbrev pub first_records : ℕ → ℕ → List ℕ → List (List ℕ)
 first_records size zero bytes = []

@@ -1,4 +1,4 @@
-use Rattle.std.proofs.Common.{◌≡◌, ◌<◌, ℕ, ◌+◌, ◌*◌, List, [], ◌∷◌, None, Option, Ok, Err, false, subst, length, take, refl, ap, sym, arith, ◌∙◌, ◌++◌}
+use Rattle.std.proofs.Common.{◌≡◌, ◌<◌, ℕ, ◌+◌, ◌*◌, [], None, Option, Ok, Err, subst, length, take, refl, ap, sym, arith, ◌∙◌}
 use Rattle.std.proofs.lemmas.List.{length-take-le}
 use Rattle.std.proofs.lemmas.Result.{err_from_is_err_and}
 use Rattle.record_file.specs.Absorbs.{Absorbs}
@@ -6,7 +6,7 @@ use Rattle.record_file.specs.FillFault.{file_fault_of}
 use Rattle.record_file.specs.Reading.{FillsAt, FillsWith, ReadingState, state_of}
 use Rattle.record_file.specs.RecordFile.{judged, record_size}
 use Rattle.record_file.specs.declared.file_fault.FileFault.TheVariants.{Magic, Truncated}
-use Rattle.record_file.proofs.AbsorbLemmas.{EachCallTakes-trans, Progress, Progress-filled, Progress-magic, Progress-record, absorbs-all, absorbs-last, absorbs-next, absorbs-other, absorbs-part, absorbs-stopped, absorbs-unread, at_place, eight, length-more}
+use Rattle.record_file.proofs.AbsorbLemmas.{EachCallTakes-trans, Progress-filled, Progress-magic, Progress-record, absorbs-all, absorbs-last, absorbs-next, absorbs-other, absorbs-part, absorbs-stopped, absorbs-unread, at_place, eight, length-more}
 use Rattle.record_file.proofs.Beginnings.{answers-known}
 use Rattle.record_file.proofs.Filling.{fresh, state_of-fresh}
 use Rattle.record_file.proofs.Records.{last_key-more, size-positive, size-short}
@@ -138,8 +138,13 @@ loop-count-preserved g c =
     let more = length-more so_far.0 bytes in
     record {
       same_source = c.fill-in-loop-count.ensures.same_source ∙ c.loop-count.invariant.same_source;
-      progress = (_, omega arith, c.in_ok-last.ensures.key ∙ sym (last_key-more c.in-Some.format None so_far.0 bytes), Progress-record c.in-Some.format old now _ _ _ so_far.0 bytes told.0
-          (Progress-filled c.in-Some.format old mid now _ _ so_far.0 c.record_len-size.result _ c.fill-in-loop-count.new.buffer so_far.3 fills (c.fill-in-loop-count.new.self.budget.bytes_in_range, c.fill-in-loop-count.new.self.budget.calls_in_range)) long good told.2);
+      progress = (
+        _,
+        omega arith,
+        c.in_ok-last.ensures.key ∙ sym (last_key-more c.in-Some.format None so_far.0 bytes),
+        Progress-record c.in-Some.format old now _ _ _ so_far.0 bytes told.0
+            (Progress-filled c.in-Some.format old mid now _ _ so_far.0 c.record_len-size.result _ c.fill-in-loop-count.new.buffer so_far.3 fills (c.fill-in-loop-count.new.self.budget.bytes_in_range, c.fill-in-loop-count.new.self.budget.calls_in_range)) long good told.2,
+      );
       each = EachCallTakes-trans old mid now c.loop-count.invariant.each (fills.full refl);
       works = fills.works;
       size = let counted = fills.taken.counted in omega (arith, long, c.loop-count.invariant.size);

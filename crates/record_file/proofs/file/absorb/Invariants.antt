@@ -2,7 +2,8 @@ use Rattle.std.proofs.Common.{◌≡◌, ℕ, ◌-◌, ◌^◌, List, [], None, 
 use Rattle.record_file.specs.Reading.{EachCallTakes, state_of}
 use Rattle.record_file.proofs.AbsorbLemmas.{Progress}
 use Rattle.record_file.proofs.Filling.{fresh}
-use Rattle.record_file.proofs.Records.{bytes_of, last_key}
+use Rattle.record_file.specs.RecordFile.{last_key}
+use Rattle.record_file.proofs.Records.{bytes_of}
 use Rattle.record_file.proofs.file.absorb.Given as goal
 
 -- good records were taken and absorbed

@@ -1,6 +1,5 @@
 use Rattle.std.proofs.Common.{◌≡◌, ◌-◌, Some, option_and_then, ap, sym, ◌∙◌, slice_index, length, drop, arith}
 use Rattle.std.proofs.lemmas.List.{length-drop, take_all}
-use Rattle.fact_join.specs.declared.cell.Cell.TheVariants.{Known, Disputed}
 use Rattle.record_file.specs.CellRecord.{candidate, if_sighting, key_of, value_of}
 use Rattle.record_file.proofs.Cells.{candidate-known, candidate-disputed, made-sighting}
 use Rattle.record_file.proofs.store_file.sighting_in.Goals as goal
