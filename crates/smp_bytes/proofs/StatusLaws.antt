@@ -1,11 +1,10 @@
 -- A status that is written is read, and the direction stays.
-use Rattle.std.proofs.Common.{◌≡◌, ℕ, ◌+◌, ◌*◌, ◌/◌, ◌%◌, ◌^◌, ◌<◌, List, refl, sym, ap, ◌∙◌, arith, Bool, true, false, cond, length, get_or}
+use Rattle.std.proofs.Common.{◌≡◌, ℕ, ◌+◌, ◌*◌, ◌/◌, ◌%◌, ◌^◌, ◌<◌, List, refl, ap, ◌∙◌, arith, Bool, true, false, cond, length, get_or}
 use Rattle.std.specs.Prelude.{All, ◌==◌}
 use Rattle.std.proofs.lemmas.List.{get_or-drop}
 use Rattle.byteorder.specs.Endian.{big_bytes}
 use Rattle.smp_bytes.specs.Field.{number_in, with_number}
 use Rattle.smp_bytes.specs.Packet.{mgmt_class, status_word, is_directed, is_returning, status}
-use Rattle.smp_bytes.specs.Requests.{word_with_status}
 use Rattle.smp_bytes.specs.ReadBack.{StatusReadsBack}
 use Rattle.smp_bytes.proofs.CopyLaws.{byte_at_place}
 use Rattle.smp_bytes.proofs.FieldLaws.{number_in-with_number, number_in-with_number_apart}
