@@ -290,8 +290,8 @@ fn each_damage_is_told(rt: HostRuntime) -> Result<(), Fail> {
     let swapped = swapped_store();
     let bad_cell = FileFault::BadCell { index: 0 };
     let bad = |index, fault| FileFault::BadReport { index, fault };
-    // Of the cells: the state of a dispute with the value kept, and then kind, state, generation, node
-    // type, ports, the key's port, the fourth byte and the last value byte; and the second cell's kind.
+    // Of the first cell: the state of a dispute with the value kept, and then kind, state, generation,
+    // node type, ports, the key's port, the fourth byte and the last value byte.
     for (file, place, byte, wanted, count) in [
         (cells, 9, 2, bad_cell, 0),
         (cells, 8, 7, bad_cell, 0),
