@@ -1,5 +1,6 @@
 -- Lemmas on the spelling of a cell.
-use Rattle.std.proofs.Common.{◌≡◌, ℕ, ◌<◌, ◌^◌, ◌==◌, Bool, true, false, ◌&&◌, List, Option, None, Some, IsSome, IfSome, ◌↔◌, length, take, drop, cond, refl, sym, ap, ◌∙◌, subst, arith}
+use Rattle.std.proofs.Common.{◌≡◌, ℕ, ◌<◌, ◌^◌, ◌==◌, Bool, true, false, ◌&&◌, List, Option, None, Some, IsSome, IfSome, ◌↔◌, length, take, drop}
+use Rattle.std.proofs.Common.{cond, refl, sym, ap, ◌∙◌, subst, arith}
 use Rattle.std.specs.Prelude.{nat_le, nat_lt, slice_index, option_map, option_and_then}
 use Rattle.std.specs.Int.{to_be_bytes, from_be_bytes, w32, w64}
 use Rattle.std.specs.Str.{bytes_eq}
@@ -17,7 +18,8 @@ use Rattle.fact_store.specs.declared.value.Value.{Value}
 use Rattle.fact_store.specs.declared.value.Value.TheVariants.{Kind, Guid, Peer, Up, Lid, Count}
 use Rattle.attr_codec.specs.NodeTypeNumber.{number_of_type, type_of_number}
 use Rattle.fact_store.specs.Sighting.{IsSighting, is_any_port, is_cabled_port, is_cell_of, is_generation, is_guid, is_key, is_sighting, is_value_of}
-use Rattle.record_file.specs.CellRecord.{candidate, cell_of, filled_up, flag_byte, if_sighting, if_spelled, key_guid, key_of, key_port, kind_byte, record_bytes, value_bytes, value_of}
+use Rattle.record_file.specs.CellRecord.{candidate, cell_of, filled_up, flag_byte, if_sighting, if_spelled, key_guid, key_of, key_port, kind_byte}
+use Rattle.record_file.specs.CellRecord.{record_bytes, value_bytes, value_of}
 
 -- the tests of ranges ---------------------------------------------------------------
 
@@ -113,7 +115,8 @@ value_again (PortGuid g p) (Lid lid) h = absurd (cc)
 value_again (PortGuid g p) (Count count) h = absurd (cc)
 value_again (Link g p) (Kind kind ports) h = absurd (cc)
 value_again (Link g p) (Guid guid) h = absurd (cc)
-value_again (Link g p) (Peer guid port) h = ap (λ n. Some (Peer n port)) (guid_again guid (lt_tested guid (2 ^ 64) (both (is_guid guid) (is_cabled_port port) h).0))
+value_again (Link g p) (Peer guid port) h =
+    ap (λ n. Some (Peer n port)) (guid_again guid (lt_tested guid (2 ^ 64) (both (is_guid guid) (is_cabled_port port) h).0))
 value_again (Link g p) (Up up) h = absurd (cc)
 value_again (Link g p) (Lid lid) h = absurd (cc)
 value_again (Link g p) (Count count) h = absurd (cc)
@@ -152,11 +155,13 @@ length-record (key, Disputed generation) = refl
 pub candidate-record : (e : Key × Cell Value) → IsSighting e → candidate (record_bytes e) ≡ Some e
 candidate-record (key, Known generation value) h =
     let p = parts (key, Known generation value) h in
-    candidate-known (record_bytes (key, Known generation value)) key generation value (key_again key (from_be_bytes w64 (to_be_bytes w64 (key_guid key))) (guid_again (key_guid key) (guid_in key p.key))) refl
+    candidate-known (record_bytes (key, Known generation value)) key generation value
+    (key_again key (from_be_bytes w64 (to_be_bytes w64 (key_guid key))) (guid_again (key_guid key) (guid_in key p.key))) refl
     (from_be_bytes-to_be_bytes_4 generation p.generation) (value_again key value p.cell)
 candidate-record (key, Disputed generation) h =
     let p = parts (key, Disputed generation) h in
-    candidate-disputed (record_bytes (key, Disputed generation)) key generation (key_again key (from_be_bytes w64 (to_be_bytes w64 (key_guid key))) (guid_again (key_guid key) (guid_in key p.key))) (λ e. omega arith)
+    candidate-disputed (record_bytes (key, Disputed generation)) key generation
+    (key_again key (from_be_bytes w64 (to_be_bytes w64 (key_guid key))) (guid_again (key_guid key) (guid_in key p.key))) (λ e. omega arith)
     (from_be_bytes-to_be_bytes_4 generation p.generation)
 
 -- a record spells its cell

@@ -1,5 +1,6 @@
 -- What is told of a file that ends within a record, and of one with a bad record.
-use Rattle.std.proofs.Common.{◌≡◌, ℕ, ◌+◌, ◌-◌, ◌^◌, List, [], ◌∷◌, ◌++◌, Option, None, Some, Ok, Err, IsOk, length, refl, sym, ap, ◌∙◌, arith, append_assoc, append-nil}
+use Rattle.std.proofs.Common.{◌≡◌, ℕ, ◌+◌, ◌-◌, ◌^◌, List, [], ◌∷◌, ◌++◌, Option, None, Some, Ok, Err, IsOk, length, refl, sym, ap, ◌∙◌, arith}
+use Rattle.std.proofs.Common.{append_assoc, append-nil}
 use Rattle.std.specs.List.{concat}
 use Rattle.std.proofs.lemmas.List.{take_all}
 use Rattle.std.proofs.lemmas.List.Folds.{concat-append}
@@ -15,7 +16,8 @@ no_fault_or : (v : Judgement) (i : ℕ) (later : Option FileFault) → IsOk v �
 no_fault_or (Ok told) i later h none = none
 no_fault_or (Err f) i later h none = absurd (cc)
 
-good : (format : Format) (last : Option Key) (i : ℕ) (rs : List (List ℕ)) → AreGoodRecords format last rs → AreRecords (record_size format) rs × (first_fault format last i rs ≡ None)
+good : (format : Format) (last : Option Key) (i : ℕ) (rs : List (List ℕ)) → AreGoodRecords format last rs
+    → AreRecords (record_size format) rs × (first_fault format last i rs ≡ None)
 good format last i [] h = (tt, refl)
 good format last i (r ∷ rs) h =
     let later = good format (key_in format r) (i + 1) rs h.2 in
@@ -33,7 +35,8 @@ first_bad_record_is_told format rs r rest f are_good whole bad fits =
     let g = good format None 0 rs are_good in
     let size = length-file format rs r g.0 in
     let more = bytes-more format rs r in
-    let found : first_fault format None 0 (rs ++ r ∷ []) ≡ Some (f (length rs)) = first_fault-good format None 0 rs (r ∷ []) g.1 ∙ ap (λ v. fault_or (0 + length rs) v None) bad ∙ ap (λ n. Some (f n)) (omega arith) in
+    let found : first_fault format None 0 (rs ++ r ∷ []) ≡ Some (f (length rs)) = first_fault-good format None 0 rs (r ∷ []) g.1
+    ∙ ap (λ v. fault_or (0 + length rs) v None) bad ∙ ap (λ n. Some (f n)) (omega arith) in
     let joined : concat (rs ++ r ∷ []) ++ rest ≡ concat rs ++ (r ++ rest) =
     ap (λ l. l ++ rest) (concat-append rs (r ∷ []) ∙ ap (λ l. concat rs ++ l) (append-nil r)) ∙ append_assoc (concat rs) r rest in
     ap (λ l. outcome (magic format ++ l)) (sym joined)

@@ -1,5 +1,6 @@
 -- Writing one piece after another.
-use Rattle.std.proofs.Common.{◌≡◌, ℕ, ◌+◌, ◌<◌, ◌≤◌, List, [], ◌∷◌, ◌++◌, length, Option, Some, None, sym, ap, subst, ◌∙◌, inl, inr, take, OnOk, Result, Ok, Err, slice_get, append_assoc, arith}
+use Rattle.std.proofs.Common.{◌≡◌, ℕ, ◌+◌, ◌<◌, ◌≤◌, List, [], ◌∷◌, ◌++◌, length, Option, Some, None, sym, ap, subst, ◌∙◌, inl, inr, take, OnOk}
+use Rattle.std.proofs.Common.{Result, Ok, Err, slice_get, append_assoc, arith}
 use Rattle.std.specs.Io.KnownBytes.{Appends}
 use Rattle.std.specs.List.{flat_map}
 use Rattle.std.proofs.lemmas.List.{append-nil, flat_map_more, take_more, take_all}
@@ -36,22 +37,27 @@ slice_get-inside xs i inside e = elim (slice_get_cases xs i).1 [
 ]
 
 -- the texts of so many elements, and the next one's
-pub appends_more : {X : Type 0} (text : X → List ℕ) (xs : List X) (i : ℕ) (x : X) (a b c : Option (List ℕ)) → slice_get xs i ≡ Some x → Appends a b (flat_map text (take i xs)) → Appends b c (text x) → Appends a c (flat_map text (take (i + 1) xs))
+pub appends_more : {X : Type 0} (text : X → List ℕ) (xs : List X) (i : ℕ) (x : X) (a b c : Option (List ℕ)) → slice_get xs i ≡ Some x
+    → Appends a b (flat_map text (take i xs)) → Appends b c (text x) → Appends a c (flat_map text (take (i + 1) xs))
 appends_more text xs i x a b c e p q =
     let P : List ℕ → Type 0 = λ t. Appends a c t in
-    let next : flat_map text (take i xs) ++ text x ≡ flat_map text (take (i + 1) xs) = flat_map_more text [] (take i xs) x ∙ ap (flat_map text) (sym (take-slice_get xs i x e)) in
+    let next : flat_map text (take i xs) ++ text x ≡ flat_map text (take (i + 1) xs) = flat_map_more text [] (take i xs) x
+    ∙ ap (flat_map text) (sym (take-slice_get xs i x e)) in
     subst P next (appends_then a b c _ (text x) p q)
 
 -- the texts of all elements
-pub appends_all : {X : Type 0} (text : X → List ℕ) (xs : List X) (i : ℕ) (a b : Option (List ℕ)) → length xs ≤ i → Appends a b (flat_map text (take i xs)) → Appends a b (flat_map text xs)
+pub appends_all : {X : Type 0} (text : X → List ℕ) (xs : List X) (i : ℕ) (a b : Option (List ℕ)) → length xs ≤ i → Appends a b (flat_map text (take i xs))
+    → Appends a b (flat_map text xs)
 appends_all text xs i a b done p = let P : List _ → Type 0 = λ t. Appends a b (flat_map text t) in subst P (take_all i xs done) p
 
 -- a text, another, and then the flush that comes last, which may fail
-pub appends_then_last : {E : Type 0} (first text : List ℕ) (a b c d : Option (List ℕ)) (r : Result (Unit {0}) E) → Appends a b first → Appends b c text → OnOk r (Appends c d []) → OnOk r (Appends a d (first ++ text))
+pub appends_then_last : {E : Type 0} (first text : List ℕ) (a b c d : Option (List ℕ)) (r : Result (Unit {0}) E) → Appends a b first → Appends b c text
+    → OnOk r (Appends c d []) → OnOk r (Appends a d (first ++ text))
 appends_then_last first text a b c d (Ok x) p q k = appends_flushed a c d (first ++ text) (appends_then a b c first text p q) k
 appends_then_last first text a b c d (Err e) p q k = tt
 
 -- the texts of all elements, and then the flush that comes last, which may fail
-pub appends_all_on_ok : {X E : Type 0} (text : X → List ℕ) (xs : List X) (i : ℕ) (a b c : Option (List ℕ)) (r : Result (Unit {0}) E) → length xs ≤ i → Appends a b (flat_map text (take i xs)) → OnOk r (Appends b c []) → OnOk r (Appends a c (flat_map text xs))
+pub appends_all_on_ok : {X E : Type 0} (text : X → List ℕ) (xs : List X) (i : ℕ) (a b c : Option (List ℕ)) (r : Result (Unit {0}) E) → length xs ≤ i
+    → Appends a b (flat_map text (take i xs)) → OnOk r (Appends b c []) → OnOk r (Appends a c (flat_map text xs))
 appends_all_on_ok text xs i a b c (Ok x) done p k = appends_flushed a b c (flat_map text xs) (appends_all text xs i a b done p) k
 appends_all_on_ok text xs i a b c (Err e) done p k = tt

@@ -68,9 +68,11 @@ pub record AbsorbsFrom (left left' : Option (List ℕ)) (interruptions interrupt
 
 -- what absorbing this source with this answer does to it and to the store
 abbrev pub Absorbs : {S : Type 0} → (S → Option (List ℕ)) → (S → ℕ) → Result (Unit {0}) FileFault → S → S → Facts → Facts → Type 0
-Absorbs left interruptions answer source source' old new = AbsorbsFrom (left source) (left source') (interruptions source) (interruptions source') answer old new
+Absorbs left interruptions answer source source' old new =
+    AbsorbsFrom (left source) (left source') (interruptions source) (interruptions source') answer old new
 
 -- where the bytes of a source are known, the answer is what reading all of them answers
 abbrev pub AnswersKnown : {S : Type 0} → (S → Option (List ℕ)) → (S → ℕ) → Result (Unit {0}) FileFault → S → S → Type 0
 AnswersKnown left interruptions answer source source' =
-    IfSome (left source) (λ bytes. IfSome (left source') (λ rest. AnswersOutcome answer bytes (WasInterruptedTooOften bytes rest (interruptions source) (interruptions source'))))
+    IfSome (left source) (λ bytes. IfSome (left source')
+    (λ rest. AnswersOutcome answer bytes (WasInterruptedTooOften bytes rest (interruptions source) (interruptions source'))))

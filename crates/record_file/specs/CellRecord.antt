@@ -1,5 +1,6 @@
 -- A cell as 32 bytes: kind, state, port, a zero byte, generation, GUID and 16 value bytes.
-use Rattle.std.specs.Prelude.{ℕ, Bool, true, false, List, [], ◌∷◌, ◌++◌, ◌-◌, ◌==◌, Option, None, Some, length, replicate, take, drop, find, slice_index, option_map, option_and_then, if◌then◌else◌}
+use Rattle.std.specs.Prelude.{ℕ, Bool, true, false, List, [], ◌∷◌, ◌++◌, ◌-◌, ◌==◌, Option, None, Some, length, replicate, take, drop, find}
+use Rattle.std.specs.Prelude.{slice_index, option_map, option_and_then, if◌then◌else◌}
 use Rattle.std.specs.Int.{to_be_bytes, from_be_bytes, w16, w32, w64}
 use Rattle.std.specs.Str.{bytes_eq}
 use Rattle.attr_codec.specs.NodeTypeNumber.{number_of_type, type_of_number}
@@ -65,7 +66,8 @@ filled_up n bytes = bytes ++ replicate (n - length bytes) 0
 -- the spelling of a cell
 abbrev pub record_bytes : Key × Cell Value → List ℕ
 record_bytes e =
-    kind_byte e.0 ∷ state_byte e.1 ∷ key_port e.0 ∷ 0 ∷ (to_be_bytes w32 (generation_of e.1) ++ to_be_bytes w64 (key_guid e.0) ++ filled_up 16 (cell_value_bytes e.1))
+    kind_byte e.0 ∷ state_byte e.1 ∷ key_port e.0 ∷ 0 ∷
+    (to_be_bytes w32 (generation_of e.1) ++ to_be_bytes w64 (key_guid e.0) ++ filled_up 16 (cell_value_bytes e.1))
 
 -- the keys of this GUID and port; a node and a table's room have no port
 abbrev pub keys_of : ℕ → ℕ → List Key

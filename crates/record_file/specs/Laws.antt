@@ -19,7 +19,8 @@ IsBadRecord _ = ⊥
 
 -- neither the fault of a bad record nor what is kept depends on what follows it
 abbrev pub BadRecordStays : Type 0
-BadRecordStays = (bytes rest : List ℕ) (f : FileFault) → IsBadRecord f → outcome bytes ≡ Err f → (outcome (bytes ++ rest) ≡ Err f) × (kept (bytes ++ rest) ≡ kept bytes)
+BadRecordStays =
+    (bytes rest : List ℕ) (f : FileFault) → IsBadRecord f → outcome bytes ≡ Err f → (outcome (bytes ++ rest) ≡ Err f) × (kept (bytes ++ rest) ≡ kept bytes)
 
 -- a record that spells a report without a fault
 abbrev pub IsGoodReport : List ℕ → Type 0
@@ -37,7 +38,8 @@ pub record IsWritable (r : Report) : Type 0 where
 
 -- 272 bytes spell exactly the report whose record they are
 abbrev pub ReportsHaveOneSpelling : Type 0
-ReportsHaveOneSpelling = (bytes : List ℕ) (r : Report) → length bytes ≡ 272 → AreBytes bytes → IsWritable r → (report_of bytes ≡ Some r) ↔ (bytes ≡ report_bytes r)
+ReportsHaveOneSpelling =
+    (bytes : List ℕ) (r : Report) → length bytes ≡ 272 → AreBytes bytes → IsWritable r → (report_of bytes ≡ Some r) ↔ (bytes ≡ report_bytes r)
 
 -- whole records, each of them good behind the ones before it
 abbrev pub AreGoodRecords : Format → Option Key → List (List ℕ) → Type 0
@@ -46,12 +48,16 @@ AreGoodRecords format last (r ∷ rs) = (length r ≡ record_size format) × IsO
 
 -- good records and a part of one end within the record that begins behind them
 abbrev pub TruncationIsTold : Type 0
-TruncationIsTold = (format : Format) (rs : List (List ℕ)) (part : List ℕ) → AreGoodRecords format None rs → 0 < length part → length part < record_size format → length (magic format ++ (concat rs ++ part)) < 2 ^ 40
+TruncationIsTold =
+    (format : Format) (rs : List (List ℕ)) (part : List ℕ) → AreGoodRecords format None rs → 0 < length part → length part < record_size format
+    → length (magic format ++ (concat rs ++ part)) < 2 ^ 40
     → outcome (magic format ++ (concat rs ++ part)) ≡ Err (Truncated (8 + record_size format * length rs))
 
 -- of good records and a bad one the bad one's fault is told, with its index, whatever follows it
 abbrev pub FirstBadRecordIsTold : Type 0
-FirstBadRecordIsTold = (format : Format) (rs : List (List ℕ)) (r rest : List ℕ) (f : ℕ → FileFault) → AreGoodRecords format None rs → length r ≡ record_size format → judged format (last_key format None rs) r ≡ Err f
+FirstBadRecordIsTold =
+    (format : Format) (rs : List (List ℕ)) (r rest : List ℕ) (f : ℕ → FileFault) → AreGoodRecords format None rs → length r ≡ record_size format
+    → judged format (last_key format None rs) r ≡ Err f
     → length (magic format ++ (concat rs ++ r)) ≤ 2 ^ 40 → outcome (magic format ++ (concat rs ++ (r ++ rest))) ≡ Err (f (length rs))
 
 -- the file of these records

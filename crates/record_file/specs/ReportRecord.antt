@@ -38,7 +38,8 @@ context_guid (About guid) = guid
 
 -- the record of a report
 abbrev pub report_bytes : Report → List ℕ
-report_bytes r = to_be_bytes w32 r.generation ++ (context_byte r.context ∷ context_port r.context ∷ 0 ∷ 0 ∷ (to_be_bytes w64 (context_guid r.context) ++ r.bytes))
+report_bytes r =
+    to_be_bytes w32 r.generation ++ (context_byte r.context ∷ context_port r.context ∷ 0 ∷ 0 ∷ (to_be_bytes w64 (context_guid r.context) ++ r.bytes))
 
 -- the report that 272 bytes spell, if they spell one
 unfoldable pub report_of : List ℕ → Option Report

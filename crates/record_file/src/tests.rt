@@ -72,14 +72,18 @@ impl Write for Holding<'_> {
 }
 
 /// What absorbing an empty file of reports answers, and what one more read does.
-fn reading_of(fails: &[u8], kind: ErrorKind) -> (Result<(), FileFault>, Result<usize, ReadError>) {
+fn reading_of(
+    alloc: Global,
+    fails: &[u8],
+    kind: ErrorKind,
+) -> (Result<(), FileFault>, Result<usize, ReadError>) {
     let mut source = FromRead::new(Dripping {
         rest: b"IBSMREP1",
         calls: 0,
         fails,
         kind,
     });
-    let mut store = Store::new(Global);
+    let mut store = Store::new(alloc);
     let answer = absorb(&mut source, &mut store);
     (answer, source.read(&mut [0; 1]))
 }
@@ -90,7 +94,11 @@ fn interrupted_reads_are_asked_again_and_failures_stay(rt: HostRuntime) {
     let failed = (Err(FileFault::Read), Err(ReadError::Failed));
     for (kind, fails, wanted) in [
         (ErrorKind::Interrupted, [2, 3, 4].as_slice(), read),
-        (ErrorKind::Interrupted, [1, 2, 3, 4, 5, 6, 7, 9, 11].as_slice(), read),
+        (
+            ErrorKind::Interrupted,
+            [1, 2, 3, 4, 5, 6, 7, 9, 11].as_slice(),
+            read,
+        ),
         (ErrorKind::Interrupted, [9, 10].as_slice(), read),
         (ErrorKind::Other, [3].as_slice(), failed),
         (ErrorKind::WouldBlock, [1].as_slice(), failed),
@@ -98,25 +106,29 @@ fn interrupted_reads_are_asked_again_and_failures_stay(rt: HostRuntime) {
         (ErrorKind::UnexpectedEof, [9].as_slice(), failed),
         (ErrorKind::NotFound, [2].as_slice(), failed),
     ] {
-        assert!(rt; reading_of(fails, kind) == wanted, "{kind:?} at {fails:?}");
+        assert!(rt;
+            reading_of(rt.alloc(), fails, kind) == wanted,
+            "{kind:?} at {fails:?}"
+        );
     }
 }
 
 /// What writing the store file of an empty store answers, and one more flush, and what went out.
 fn writing_of(
+    alloc: Global,
     most: usize,
     fails: &[u8],
     kind: ErrorKind,
 ) -> (Result<(), WriteFault>, Result<(), WriteFault>, Vec<u8>) {
     let mut sink = ToWrite::new(Holding {
-        held: Vec::new(Global),
-        out: Vec::new(Global),
+        held: Vec::new(alloc),
+        out: Vec::new(alloc),
         most,
         calls: 0,
         fails,
         kind,
     });
-    let answer = write_store(&mut sink, &Store::new(Global));
+    let answer = write_store(&mut sink, &Store::new(alloc));
     let again = sink.flush();
     (answer, again, sink.into_inner().out)
 }
@@ -129,15 +141,27 @@ fn interrupted_writes_are_asked_again_and_failures_stay(rt: HostRuntime) {
     for (kind, most, fails, wanted, out) in [
         (ErrorKind::Other, 8, none, Ok(()), whole),
         (ErrorKind::Other, 3, none, Ok(()), whole),
-        (ErrorKind::Interrupted, 3, [1, 2, 3, 5].as_slice(), Ok(()), whole),
-        (ErrorKind::Interrupted, 8, [2, 3, 4].as_slice(), Ok(()), whole),
+        (
+            ErrorKind::Interrupted,
+            3,
+            [1, 2, 3, 5].as_slice(),
+            Ok(()),
+            whole,
+        ),
+        (
+            ErrorKind::Interrupted,
+            8,
+            [2, 3, 4].as_slice(),
+            Ok(()),
+            whole,
+        ),
         (ErrorKind::Other, 0, none, failed, none),
         (ErrorKind::Other, 3, [2].as_slice(), failed, none),
         (ErrorKind::WouldBlock, 3, [1].as_slice(), failed, none),
         (ErrorKind::Other, 8, [2].as_slice(), failed, none),
         (ErrorKind::TimedOut, 8, [2].as_slice(), failed, none),
     ] {
-        let (answer, again, went) = writing_of(most, fails, kind);
+        let (answer, again, went) = writing_of(rt.alloc(), most, fails, kind);
         let is_right = answer == wanted && again == wanted && went.as_slice() == out;
         assert!(rt; is_right, "{kind:?} at {fails:?}, {most} a call");
     }
@@ -185,9 +209,17 @@ const FIRST_STORE: [u8; 72] = [
     2, 1, 1, 0, 0, 0, 0, 1, 0, 0, 0, 0, 0, 0, 1, 0, 0, 0, 0, 0, 0, 0, 1, 1, 0, 0, 0, 0, 0, 0, 0, 0,
 ];
 
+/// The same cells in the other order.
+fn swapped_store() -> [u8; 72] {
+    let mut bytes = FIRST_STORE;
+    bytes[8..40].copy_from_slice(&FIRST_STORE[40..]);
+    bytes[40..].copy_from_slice(&FIRST_STORE[8..40]);
+    bytes
+}
+
 /// What absorbing the file answers, and how many cells the store then has.
-fn absorbed(file: &[u8]) -> (Result<(), FileFault>, usize) {
-    let mut store = Store::new(Global);
+fn absorbed(alloc: Global, file: &[u8]) -> (Result<(), FileFault>, usize) {
+    let mut store = Store::new(alloc);
     let answer = absorb(&mut FromBytes::new(file), &mut store);
     (answer, store.count())
 }
@@ -211,16 +243,20 @@ fn a_report_becomes_its_store_file_which_is_read_back(rt: HostRuntime) -> Result
     Ok(())
 }
 
-/// What a file of two records of this size answers where it is cut to this length.
-fn cut_answer(length: usize, size: usize) -> Result<(), FileFault> {
+/// What a file of one or two records of this size answers where it is cut to this length.
+fn cut_answer(length: usize, size: u16) -> Result<(), FileFault> {
+    let second = 8 + usize::from(size);
+    let end = second + usize::from(size);
     if length < 8 {
         Err(FileFault::Magic)
-    } else if length == 8 || length == 8 + size || length == 8 + 2 * size {
+    } else if length == 8 || length == second || length == end {
         Ok(())
-    } else if length < 8 + size {
+    } else if length < second {
         Err(FileFault::Truncated { offset: 8 })
     } else {
-        Err(FileFault::Truncated { offset: 8 + size as u64 })
+        Err(FileFault::Truncated {
+            offset: second as u64,
+        })
     }
 }
 
@@ -230,7 +266,7 @@ fn every_cut_of_both_files_is_told(rt: HostRuntime) -> Result<(), Fail> {
     for (bytes, size) in [(file.as_slice(), 272), (FIRST_STORE.as_slice(), 32)] {
         for length in 0..=bytes.len() {
             let cut = bytes.get(..length).ok_or("shorter")?;
-            let (answer, _count) = absorbed(cut);
+            let (answer, _count) = absorbed(rt.alloc(), cut);
             assert!(rt; answer == cut_answer(length, size), "at {length}");
         }
     }
@@ -251,11 +287,11 @@ fn each_damage_is_told(rt: HostRuntime) -> Result<(), Fail> {
     let mut reports = first_report(rt.alloc())?;
     reports.extend_from_slice(&[0; 272])?;
     let cells = FIRST_STORE.as_slice();
+    let swapped = swapped_store();
     let bad_cell = FileFault::BadCell { index: 0 };
     let bad = |index, fault| FileFault::BadReport { index, fault };
-    // Of the cells: the state of a dispute with the value kept, and then kind, state, generation, node
-    // type, ports, the key's port, the fourth byte and the last value byte; the second cell's kind and
-    // the first one's GUID, which puts it behind the second.
+    // Of the first cell: the state of a dispute with the value kept, and then kind, state, generation,
+    // node type, ports, the key's port, the fourth byte and the last value byte.
     for (file, place, byte, wanted, count) in [
         (cells, 9, 2, bad_cell, 0),
         (cells, 8, 7, bad_cell, 0),
@@ -267,15 +303,27 @@ fn each_damage_is_told(rt: HostRuntime) -> Result<(), Fail> {
         (cells, 11, 1, bad_cell, 0),
         (cells, 39, 1, bad_cell, 0),
         (cells, 40, 7, FileFault::BadCell { index: 1 }, 1),
-        (cells, 16, 1, FileFault::CellOrder { index: 1 }, 1),
+        (
+            swapped.as_slice(),
+            8,
+            2,
+            FileFault::CellOrder { index: 1 },
+            1,
+        ),
         (cells, 7, 0x32, FileFault::Magic, 0),
-        (reports.as_slice(), 11, 0, bad(0, ReportFault::Generation), 0),
+        (
+            reports.as_slice(),
+            11,
+            0,
+            bad(0, ReportFault::Generation),
+            0,
+        ),
         (reports.as_slice(), 14, 1, bad(0, ReportFault::Context), 0),
         (reports.as_slice(), 12, 3, bad(0, ReportFault::Context), 0),
         (reports.as_slice(), 8, 0, bad(1, ReportFault::Generation), 2),
     ] {
         let bytes = damaged(rt.alloc(), file, place, byte)?;
-        let answer = absorbed(bytes.as_slice());
+        let answer = absorbed(rt.alloc(), bytes.as_slice());
         assert!(rt; answer == (Err(wanted), count), "at {place}");
     }
     Ok(())

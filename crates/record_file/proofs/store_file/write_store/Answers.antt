@@ -18,7 +18,8 @@ loop-i-preserved g c = elim c.match-cell.branch [
       let here : slice_get (entries c.args.store.now) c.loop-i.i ≡ Some w.in-Some.cell = cc in
       let P : List ℕ → Type 0 = λ bytes. Appends (g.W.Sink.written c.loop-i.sink) (g.W.Sink.written w.write-in-Some.new.self) bytes in
       let next = subst P w.record_of.ensures w.in_ok-write-2.ensures.writes.ok in
-      let more = appends_more record_bytes (entries c.args.store.now) c.loop-i.i w.in-Some.cell (g.W.Sink.written c.write.new.self) (g.W.Sink.written c.loop-i.sink) (g.W.Sink.written w.write-in-Some.new.self) here c.loop-i.invariant next in
+      let more = appends_more record_bytes (entries c.args.store.now) c.loop-i.i w.in-Some.cell (g.W.Sink.written c.write.new.self)
+      (g.W.Sink.written c.loop-i.sink) (g.W.Sink.written w.write-in-Some.new.self) here c.loop-i.invariant next in
       rw w.sink-is more
   | in_default w ↦ absurd (slice_get-inside (entries c.args.store.now) c.loop-i.i (omega (arith, c.count-i-end.ensures, len-entries c.args.store.now)) (cc))
 ]
@@ -26,6 +27,7 @@ loop-i-preserved g c = elim c.match-cell.branch [
 pub returns-clause-writes : goal.returns-clause-writes
 returns-clause-writes g c = record {
   ok = appends_then_last (magic Cells) (flat_map record_bytes (entries c.args.store.now)) _ _ _ _ c.flush.result c.in_ok-write.ensures.writes.ok
-      (appends_all record_bytes (entries c.args.store.now) c.loop-i.i _ _ (omega (arith, c.count-i-end.ensures, len-entries c.args.store.now)) c.loop-i.invariant) c.flush.ensures.writes.ok;
+      (appends_all record_bytes (entries c.args.store.now) c.loop-i.i _ _
+      (omega (arith, c.count-i-end.ensures, len-entries c.args.store.now)) c.loop-i.invariant) c.flush.ensures.writes.ok;
   failed = c.flush.ensures.writes.failed;
 }
