@@ -5,12 +5,12 @@ ghost use Rattle.smp_bytes.specs.Field.{bits_in};
 ghost use Rattle.attr_codec.specs.NodeInfo.{FitsNodeInfo};
 ghost use Rattle.attr_codec.specs.PortInfo.{port_state};
 ghost use Rattle.fact_store.specs.Report.{about_fault, answer_fault, packet_fault, attribute_fault, node_info_fault, port_info_fault, told_by_node_info, told_by_packet, told_by_port_info, told_by_switch_info, are_ports_in_range, fits_node_info, told_of_kind, is_up_state, report_fault, sightings_of};
-ghost use Rattle.fact_store.specs.Sighting.{is_cabled_port, is_generation};
+ghost use Rattle.fact_store.specs.Sighting.{is_generation};
 
 use crate::key::Key;
 use crate::report::{Context, Report};
 use crate::report_fault::ReportFault;
-use crate::sighting::Sighting;
+use crate::sighting::{Sighting, is_cabled_port};
 use crate::value::Value;
 use arrayvec::ArrayVec;
 use attr_codec::{Attribute, NodeInfo, PortInfo, PortState, SwitchInfo};
@@ -144,12 +144,6 @@ fn fits_node_info(context: &Context, hops: u8) -> bool
         Context::Via(..) => hops > 0,
         Context::About(_) => false,
     }
-}
-
-fn is_cabled_port(port: u8) -> bool
-    ensures { result ≡ is_cabled_port port }
-{
-    (1..=254).contains(&port)
 }
 
 fn are_ports_in_range(context: &Context, kind: NodeType, info: &NodeInfo) -> bool
