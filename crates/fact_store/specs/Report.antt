@@ -1,7 +1,6 @@
 -- What a report of a reply says: the first fault that it has, or the facts that it tells of the node that answered.
 -- InfiniBand Architecture Specification, Volume 1: subnet management, NodeInfo, PortInfo and SwitchInfo; directed route SMPs.
-use Rattle.std.specs.Prelude.{ℕ, Bool, true, false, ◌&&◌, ◌||◌, not, List, [], ◌∷◌, nat_lt, nat_le, ◌==◌, if◌then◌else◌, Option, Some, None, is_some, option_map}
-use Rattle.smp_bytes.specs.declared.smp_fault.SmpFault.{SmpFault}
+use Rattle.std.specs.Prelude.{ℕ, Bool, false, ◌&&◌, ◌||◌, not, List, [], ◌∷◌, nat_lt, nat_le, ◌==◌, if◌then◌else◌, Option, Some, None, is_some, option_map}
 use Rattle.smp_bytes.specs.declared.node_type.NodeType.{NodeType}
 use Rattle.smp_bytes.specs.NodeType.{is_switch}
 use Rattle.smp_bytes.specs.Header.{get_resp, done, node_info, switch_info, port_info}
@@ -54,7 +53,8 @@ may_be_asked_by (Via guid via) kind port = nat_lt 0 port && is_cabled_port via
 may_be_asked_by (About guid) kind port = nat_lt 0 port
 
 abbrev pub are_ports_in_range : Context → NodeType → NodeInfo → Bool
-are_ports_in_range context kind info = is_cabled_port info.num_ports && nat_le info.local_port_num info.num_ports && may_be_asked_by context kind info.local_port_num
+are_ports_in_range context kind info =
+    is_cabled_port info.num_ports && nat_le info.local_port_num info.num_ports && may_be_asked_by context kind info.local_port_num
 
 -- the fault of what a node says of itself
 abbrev pub kind_fault : Context → NodeInfo → Option NodeType → Option ReportFault
@@ -119,7 +119,8 @@ guid_port kind local_port = if is_switch kind then 0 else local_port
 -- the link between the port that was asked and the port before it, from both ends
 abbrev pub told_of_link : ℕ → Context → NodeInfo → Told
 told_of_link generation (Via peer port) info =
-    (Link info.node_guid info.local_port_num, Known generation (Peer peer port)) ∷ (Link peer port, Known generation (Peer info.node_guid info.local_port_num)) ∷ []
+    (Link info.node_guid info.local_port_num, Known generation (Peer peer port)) ∷
+    (Link peer port, Known generation (Peer info.node_guid info.local_port_num)) ∷ []
 told_of_link generation Start info = []
 told_of_link generation (About guid) info = []
 

@@ -69,7 +69,8 @@ fn told_by_packet(
 ) -> Result<ArrayVec<Sighting, 4>, ReportFault>
     requires { IsTrue (is_generation generation) }
     ensures judged { Judges result (attribute_fault context.now smp.now) }
-    ensures told { IfOk result (λ told. told.items ≡ told_by_packet generation context.now smp.now) }
+    ensures told { IfOk result
+        (λ told. told.items ≡ told_by_packet generation context.now smp.now) }
 {
     match smp.attribute_id() {
         AttributeId::NODE_INFO => told_by_node_info(generation, context, smp),
@@ -87,7 +88,8 @@ fn told_by_node_info(
 ) -> Result<ArrayVec<Sighting, 4>, ReportFault>
     requires { IsTrue (is_generation generation) }
     ensures judged { Judges result (node_info_fault context.now smp.now) }
-    ensures told { IfOk result (λ told. told.items ≡ told_by_node_info generation context.now smp.now) }
+    ensures told { IfOk result
+        (λ told. told.items ≡ told_by_node_info generation context.now smp.now) }
 {
     if !fits_node_info(context, smp.hop_count()) {
         return Err(ReportFault::Context);
@@ -170,7 +172,8 @@ fn told_by_port_info(
 ) -> Result<ArrayVec<Sighting, 4>, ReportFault>
     requires { IsTrue (is_generation generation) }
     ensures judged { Judges result (port_info_fault context.now smp.now) }
-    ensures told { IfOk result (λ told. told.items ≡ told_by_port_info generation context.now smp.now) }
+    ensures told { IfOk result
+        (λ told. told.items ≡ told_by_port_info generation context.now smp.now) }
 {
     let Some(node) = context.about() else {
         return Err(ReportFault::Context);
@@ -207,7 +210,8 @@ fn told_by_switch_info(
 ) -> Result<ArrayVec<Sighting, 4>, ReportFault>
     requires { IsTrue (is_generation generation) }
     ensures judged { Judges result (about_fault context.now) }
-    ensures told { IfOk result (λ told. told.items ≡ told_by_switch_info generation context.now smp.now) }
+    ensures told { IfOk result
+        (λ told. told.items ≡ told_by_switch_info generation context.now smp.now) }
 {
     let Some(node) = context.about() else {
         return Err(ReportFault::Context);

@@ -66,7 +66,7 @@ nothing_known (Some bytes) None = tt
 nothing_known (Some bytes) (Some rest) = tt
 
 -- an element that is there stands below the length
-inside : {X : Type 0} (xs : List X) (k : ℕ) (x : X) → slice_get xs k ≡ Some x → k < length xs
+pub inside : {X : Type 0} (xs : List X) (k : ℕ) (x : X) → slice_get xs k ≡ Some x → k < length xs
 inside [] k x e = absurd (cc)
 inside (y ∷ xs) zero x e = omega arith
 inside (y ∷ xs) (suc k) x e = let i = inside xs k x e in omega arith

@@ -1,0 +1,44 @@
+-- How a list lies in pages, each with the place of its first item, and empty pages to spare.
+use Rattle.std.specs.Prelude.{◌≡◌, ℕ, ◌+◌, ◌<◌, ◌≤◌, ◌^◌, List, [], ◌∷◌, length, take, slice_index, slice_index_or, All}
+use Rattle.std.specs.List.{flat_map}
+use Rattle.std.specs.Prelude.{Vec}
+use Rattle.std.specs.Vec.{vec_capacity}
+use Rattle.std.specs.declared.alloc.Global.{Global}
+
+-- the items of the pages, one page after another
+abbrev pub items_of : {T : Type 0} → List (Vec T Global) → List T
+items_of pages = flat_map (λ p. p.items) pages
+
+-- the place of each page's first item, where the first page begins at this place
+abbrev pub starts_from : {T : Type 0} → ℕ → List (Vec T Global) → List ℕ
+starts_from at [] = []
+starts_from at (p ∷ pages) = at ∷ starts_from (at + length p.items) pages
+
+-- a page has room for 256 items, and at most as many
+pub record IsPage {T : Type 0} (page : Vec T Global) : Type 0 where
+  pub bounded : length page.items ≤ 256
+  pub roomy : 256 ≤ vec_capacity page
+
+-- an empty page has room for 256 items
+pub record IsEmptyPage {T : Type 0} (page : Vec T Global) : Type 0 where
+  pub empty : page.items ≡ []
+  pub roomy : 256 ≤ vec_capacity page
+
+-- the places are right, and each empty page can be put among the others with no further memory
+pub record ArePages {T : Type 0} (pages : Vec (Vec T Global) Global) (starts : Vec ℕ Global) (spare : Vec (Vec T Global) Global) (len room : ℕ) : Type 0 where
+  pub starts_are : starts.items ≡ starts_from 0 pages.items
+  pub len_is : len ≡ length (items_of pages.items)
+  pub countable : len + room < 2 ^ 64
+  pub spared : room ≤ length spare.items
+  pub pages_are : All IsPage pages.items
+  pub spare_are : All IsEmptyPage spare.items
+  pub pages_roomy : length pages.items + length spare.items ≤ vec_capacity pages
+  pub starts_roomy : length pages.items + length spare.items ≤ vec_capacity starts
+
+-- the item at place i is the one at this offset in this page, or would stand there
+pub record IsPlace {T : Type 0} (pages : List (Vec T Global)) (i page offset : ℕ) : Type 0 where
+  pub there : page < length pages
+  pub counted : length (items_of (take page pages)) + offset ≡ i
+  pub begins : slice_index (starts_from 0 pages) page + offset ≡ i
+  pub upto : (p : Vec T Global) → p ≡ slice_index_or pages page p → offset ≤ length p.items
+  pub within : (p : Vec T Global) → p ≡ slice_index_or pages page p → i < length (items_of pages) → offset < length p.items

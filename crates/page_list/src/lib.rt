@@ -1,0 +1,10 @@
+//! A list in pages: an item goes in anywhere, and no more than a page and the directory is moved.
+#![tactic(auto)]
+
+mod iter;
+mod page;
+mod page_list;
+mod place;
+
+pub use iter::Iter;
+pub use page_list::PageList;

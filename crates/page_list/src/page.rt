@@ -1,0 +1,63 @@
+ghost use Rattle.std.specs.Prelude.{◌≡◌, ◌+◌, ◌<◌, ◌≤◌, [], ◌++◌, length, insert, max, All, OnOk};
+ghost use Rattle.std.specs.Vec.{vec_len, vec_capacity};
+ghost use Rattle.page_list.specs.Pages.{IsEmptyPage};
+
+use std::alloc::{AllocError, Global};
+
+/// How many items a page has room for.
+pub(crate) const PAGE: usize = 256;
+
+/// Puts an item into a list that has room for it.
+pub(crate) fn insert_within<T>(page: &mut Vec<T>, place: usize, item: T)
+    requires place { place ≤ vec_len page.old }
+    requires room { vec_len page.old < vec_capacity page.old }
+    ensures items { page.new.items ≡ insert page.old.items place item }
+    ensures capacity { vec_capacity page.old ≤ vec_capacity page.new }
+{
+    match page.insert(place, item) {
+        Ok(()) => {}
+        Err(_) => unreachable!(),
+    }
+}
+
+/// Puts an item into a full page, half of which goes to an empty one; the number of items that stay.
+pub(crate) fn insert_halved<T: Copy>(page: &mut Vec<T>, tail: &mut Vec<T>, place: usize, item: T) -> usize
+    requires full { length page.old.items ≡ PAGE }
+    requires place { place ≤ PAGE }
+    requires empty { tail.old.items ≡ [] }
+    requires roomy { PAGE ≤ vec_capacity page.old }
+    requires tail_roomy { PAGE ≤ vec_capacity tail.old }
+    ensures items { page.new.items ++ tail.new.items ≡ insert page.old.items place item }
+    ensures length { result ≡ length page.new.items }
+    ensures bounded { length page.new.items ≤ PAGE }
+    ensures tail_bounded { length tail.new.items ≤ PAGE }
+    ensures capacity { PAGE ≤ vec_capacity page.new }
+    ensures tail_capacity { PAGE ≤ vec_capacity tail.new }
+{
+    match tail.extend_from_slice(&page[PAGE / 2..]) {
+        Ok(()) => {}
+        Err(_) => unreachable!(),
+    }
+    page.truncate(PAGE / 2);
+    if place <= PAGE / 2 {
+        insert_within(page, place, item);
+    } else {
+        insert_within(tail, place - PAGE / 2, item);
+    }
+    page.len()
+}
+
+/// Gets empty pages until there are so many.
+pub(crate) fn fill<T: Copy>(spare: &mut Vec<Vec<T>>, alloc: Global, n: usize) -> Result<(), AllocError>
+    requires { All IsEmptyPage spare.old.items }
+    ensures all { All IsEmptyPage spare.new.items }
+    ensures ok { OnOk result (n ≤ length spare.new.items) }
+    ensures least { length spare.old.items ≤ length spare.new.items }
+    ensures most { length spare.new.items ≤ max n (length spare.old.items) }
+{
+    while spare.len() < n {
+        let page = Vec::with_capacity(alloc, PAGE)?;
+        spare.push(page)?;
+    }
+    Ok(())
+}

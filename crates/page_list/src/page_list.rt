@@ -1,0 +1,187 @@
+ghost use Rattle.std.specs.Prelude.{◌≡◌, ◌+◌, ◌<◌, ◌≤◌, [], ◌∷◌, ◌++◌, OnOk, OnErr, IfOk, length, slice_get, slice_set, drop, insert};
+ghost use Rattle.page_list.specs.Rest.{rest_of};
+ghost use Rattle.page_list.specs.Listing.{Listing};
+
+use crate::iter::Iter;
+use crate::page::{PAGE, fill, insert_halved, insert_within};
+use crate::place::{place_of, shift};
+use std::alloc::{AllocError, Global};
+use std::marker::Model;
+
+/// A list in pages, each of which has a bound on its items.
+#[derive(Drop)]
+pub struct PageList<T> {
+    /// The items, in pages of at most `PAGE`.
+    pages: Vec<Vec<T>>,
+    /// The place of each page's first item.
+    starts: Vec<usize>,
+    /// Pages with no items.
+    spare: Vec<Vec<T>>,
+    /// The number of items.
+    len: usize,
+    /// How many more go in with no further memory.
+    room: usize,
+}
+
+impl<T> Model for PageList<T> {
+    ghost use Rattle.std.specs.Prelude.{length};
+    ghost use Rattle.page_list.specs.Listing.{Listing};
+    ghost use Rattle.page_list.specs.Pages.{ArePages, items_of};
+
+    ghost Value = { Listing T };
+
+    ghost view = { λ a. record { items = items_of a.pages.items; room = a.room } };
+
+    ghost invariant = { λ a. ArePages a.pages a.starts a.spare a.len a.room };
+}
+
+impl<T: Copy> PageList<T> {
+    /// An empty list, which takes its memory from `alloc` later.
+    pub fn new(alloc: Global) -> Self
+        ensures { result ≡ record { items = []; room = 0 } }
+    {
+        PageList {
+            pages: Vec::new(alloc),
+            starts: Vec::new(alloc),
+            spare: Vec::new(alloc),
+            len: 0,
+            room: 0,
+        }
+    }
+
+    /// The allocator that it was made with.
+    pub fn allocator(&self) -> Global {
+        *self.pages.allocator()
+    }
+
+    /// The number of items.
+    pub fn len(&self) -> usize
+        ensures { result ≡ length self.now.items }
+    {
+        self.len
+    }
+
+    /// The item at a place. Takes as many steps as the number of pages has binary digits.
+    pub fn get(&self, i: usize) -> Option<T>
+        ensures { result ≡ slice_get self.now.items i }
+    {
+        if i >= self.len {
+            return None;
+        }
+        let at = place_of(&self.pages, &self.starts, i);
+        Some(self.pages[at.page][at.offset])
+    }
+
+    /// The items in order.
+    pub fn iter(&self) -> Iter<'_, T>
+        ensures { rest_of result ≡ self.now.items }
+    {
+        Iter {
+            page: &[],
+            later: &self.pages,
+        }
+    }
+
+    /// The items from a place on.
+    pub fn iter_from(&self, i: usize) -> Iter<'_, T>
+        requires { i ≤ length self.now.items }
+        ensures { rest_of result ≡ drop i self.now.items }
+    {
+        if self.pages.is_empty() {
+            return self.iter();
+        }
+        let at = place_of(&self.pages, &self.starts, i);
+        Iter {
+            page: &self.pages[at.page][at.offset..],
+            later: &self.pages[at.page + 1..],
+        }
+    }
+
+    /// Puts another item in the place of one.
+    pub fn set(&mut self, i: usize, item: T)
+        requires { i < length self.old.items }
+        ensures items { self.new.items ≡ slice_set self.old.items i item }
+        ensures room { self.new.room ≡ self.old.room }
+    {
+        let at = place_of(&self.pages, &self.starts, i);
+        self.pages[at.page][at.offset] = item;
+    }
+
+    /// Puts an item at a place, before the one that is there.
+    pub fn insert(&mut self, i: usize, item: T)
+        requires place { i ≤ length self.old.items }
+        requires room { 0 < self.old.room }
+        ensures items { self.new.items ≡ insert self.old.items i item }
+        ensures room { self.old.room ≡ self.new.room + 1 }
+    {
+        if self.pages.is_empty() {
+            self.open(item);
+            return;
+        }
+        let at = place_of(&self.pages, &self.starts, i);
+        shift(&mut self.starts, at.page + 1);
+        self.len += 1;
+        self.room -= 1;
+        if self.pages[at.page].len() < PAGE {
+            insert_within(&mut self.pages[at.page], at.offset, item);
+            return;
+        }
+        let mut tail = self.spare.take_last();
+        let head = insert_halved(&mut self.pages[at.page], &mut tail, at.offset, item);
+        insert_within(&mut self.starts, at.page + 1, i - at.offset + head);
+        insert_within(&mut self.pages, at.page + 1, tail);
+    }
+
+    /// Room for so many more, or what room there was. Each may need a page of its own.
+    pub fn reserve(&mut self, n: usize) -> Result<(), AllocError>
+        ensures ok { OnOk result (n ≤ self.new.room) }
+        ensures room { self.old.room ≤ self.new.room }
+        ensures items { self.new.items ≡ self.old.items }
+    {
+        if n <= self.room {
+            return Ok(());
+        }
+        if n > usize::MAX - self.len {
+            return Err(AllocError);
+        }
+        let wanted = n.max(self.spare.len());
+        self.pages.reserve(wanted)?;
+        self.starts.reserve(wanted)?;
+        fill(&mut self.spare, *self.pages.allocator(), n)?;
+        self.room = n;
+        Ok(())
+    }
+
+    /// Puts an item at the end. Pages that only this fills are three quarters full.
+    pub fn push(&mut self, item: T) -> Result<(), AllocError>
+        ensures ok { OnOk result (self.new.items ≡ self.old.items ++ item ∷ []) }
+        ensures err { OnErr result (self.new.items ≡ self.old.items) }
+    {
+        self.reserve(1)?;
+        let has_room = match self.pages.last() {
+            Some(page) => page.len() < PAGE / 4 * 3,
+            None => false,
+        };
+        if has_room {
+            let end = self.len;
+            self.insert(end, item);
+        } else {
+            self.open(item);
+        }
+        Ok(())
+    }
+
+    /// Opens a page at the end for an item.
+    fn open(&mut self, item: T)
+        requires room { 0 < self.old.room }
+        ensures items { self.new.items ≡ self.old.items ++ item ∷ [] }
+        ensures room { self.old.room ≡ self.new.room + 1 }
+    {
+        let mut page = self.spare.take_last();
+        page.push_reserved(item);
+        self.pages.push_reserved(page);
+        self.starts.push_reserved(self.len);
+        self.len += 1;
+        self.room -= 1;
+    }
+}
