@@ -8,3 +8,8 @@ pub mod Steps
 pub mod ViewLaws
 pub mod Views
 pub mod Groupings
+pub mod CellOrder
+pub mod CellViews
+pub mod Walks
+pub mod Puts
+pub mod Held

@@ -21,17 +21,17 @@ use Rattle.fact_store.proofs.Views.{pair_is, is_of_itself}
 -- keys in order ------------------------------------------------------------------------
 
 -- both hold, so the first does
-first_true : (a b : Bool) → T (a && b) → T a
+pub first_true : (a b : Bool) → T (a && b) → T a
 first_true true b h = tt
 first_true false b h = absurd h
 
 -- both hold, so the second does
-second_true : (a b : Bool) → T (a && b) → T b
+pub second_true : (a b : Bool) → T (a && b) → T b
 second_true true b h = h
 second_true false b h = absurd h
 
 -- an answer that tests as less is less
-is_less : (o : Ordering) → T (is_lt o) → o ≡ Less
+pub is_less : (o : Ordering) → T (is_lt o) → o ≡ Less
 is_less Less h = refl
 is_less Equal h = absurd h
 is_less Greater h = absurd h
@@ -49,7 +49,7 @@ not_less Equal f = refl
 not_less Greater f = refl
 
 -- a key that comes first is above all that follow
-below_at : (x : Key) (es : List (Key × Cell Value)) → T (sorted.below_all key_cmp x es) → (e : Key × Cell Value) → Contains es e → key_cmp x e.0 ≡ Less
+pub below_at : (x : Key) (es : List (Key × Cell Value)) → T (sorted.below_all key_cmp x es) → (e : Key × Cell Value) → Contains es e → key_cmp x e.0 ≡ Less
 below_at x [] h e k = absurd (contains_none e k)
 below_at x (f ∷ es) h e k =
     elim (contains_cases f e es k) [
@@ -58,7 +58,7 @@ below_at x (f ∷ es) h e k =
     ]
 
 -- what is below is above the other way round
-greater_back : (a b : Key) → key_cmp a b ≡ Less → key_cmp b a ≡ Greater
+pub greater_back : (a b : Key) → key_cmp a b ≡ Less → key_cmp b a ≡ Greater
 greater_back a b e = key_total.antisymm b a ∙ ap ordering_reverse e
 
 -- what is found at a key -----------------------------------------------------------------

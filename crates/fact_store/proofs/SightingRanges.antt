@@ -30,7 +30,7 @@ one_cell c =
     ap (λ t. Rattle.fact_store.specs.View.agreement (max (generation_of c) 0) (cond t (c ∷ []) [])) (eq-eqb _ _ (sym g))
 
 -- one sighting alone gives its key its cell
-get-view_of_one : (x : Key × Cell Value) (q : Key) → get (view (x ∷ [])) q ≡ cond (is_of q x) (Some x.1) None
+pub get-view_of_one : (x : Key × Cell Value) (q : Key) → get (view (x ∷ [])) q ≡ cond (is_of q x) (Some x.1) None
 get-view_of_one x q =
     get-view (x ∷ []) q
     ∙ elim (is_of q x) as (λ t. is_of q x ≡ t → cond (t || false) (Some (cell_at q (x ∷ []))) None ≡ cond t (Some x.1) None) [

@@ -1,6 +1,8 @@
+pub mod Cells
 pub mod Coded
 pub mod Ingest
 pub mod Key
+pub mod Known
 pub mod Merge
 pub mod Report
 pub mod ReportFault
@@ -8,3 +10,4 @@ pub mod Sighting
 pub mod Value
 pub mod Values
 pub mod View
+pub mod Walk

@@ -1,4 +1,4 @@
-ghost use Rattle.std.specs.Prelude.{◌≡◌, ◌&&◌};
+ghost use Rattle.std.specs.Prelude.{◌≡◌};
 
 use smp_bytes::{Guid, PortNum};
 use std::cmp::Ordering;
@@ -93,21 +93,4 @@ impl Ord for Key {
     fn cmp(&self, other: &Self) -> Ordering {
         self.sort_key().cmp(&other.sort_key())
     }
-}
-
-ghost use Rattle.fact_store.specs.Key.{is_above, is_below};
-
-/// Whether the key comes after `low` and before `high`, where they are given.
-pub(crate) fn is_between(low: &Option<Key>, key: &Key, high: &Option<Key>) -> bool
-    ensures { result ≡ (is_above low.now key.now && is_below high.now key.now) }
-{
-    let after_low = match low {
-        None => true,
-        Some(low) => low < key,
-    };
-    let before_high = match high {
-        None => true,
-        Some(high) => key < high,
-    };
-    after_low && before_high
 }

@@ -1,33 +1,57 @@
-ghost use Rattle.std.specs.Prelude.{◌≡◌, ◌<◌, ◌^◌, [], ◌∷◌, ◌↔◌, OnOk, OnErr, IfOk, IsNone, IfSome, slice_get, find};
-ghost use Rattle.std.specs.FinMap.{empty, get, len, entries, keys};
-ghost use Rattle.fact_store.specs.Key.{is_above};
+ghost use Rattle.std.specs.Prelude.{◌≡◌, ◌+◌, ◌*◌, ◌≤◌, [], ◌∷◌, ◌↔◌, OnOk, OnErr, IfOk, IsNone, IfSome, max, slice_get, unwrap_or};
+ghost use Rattle.std.specs.FinMap.{empty, get, len, entries};
+ghost use Rattle.fact_store.specs.Cells.{HasDigits};
 ghost use Rattle.fact_store.specs.View.{view, IsNewestGeneration};
-ghost use Rattle.fact_store.specs.Merge.{merge};
+ghost use Rattle.fact_store.specs.Merge.{merge, IsMerge};
 ghost use Rattle.fact_store.specs.Sighting.{AreInRange};
+ghost use Rattle.fact_store.specs.Walk.{cells_left};
 
-use crate::key::{Key, is_between};
+use crate::cell_list::{merge_cells, put};
+use crate::find::find;
+use crate::key::Key;
 use crate::sighting::Sighting;
 use crate::value::Value;
-use fact_join::{Cell, Join};
+use crate::walk::Cells;
+use fact_join::Cell;
+use page_list::PageList;
 use smp_bytes::Generation;
 use std::alloc::{AllocError, Global};
 use std::marker::Model;
+use thiserror::Error;
+
+/// Why a store did not grow.
+#[derive(Clone, Copy, Debug, PartialEq, Eq, Error)]
+pub enum Refused {
+    /// The memory that the growth needs was refused.
+    #[error("out of memory")]
+    Memory,
+}
+
+impl From<AllocError> for Refused {
+    fn from(_: AllocError) -> Self {
+        Refused::Memory
+    }
+}
 
 /// What is held of a subnet: the view of all that was put in, a cell for each key.
 #[derive(Drop)]
 pub struct Store {
-    sightings: Vec<Sighting>,
+    /// One cell for each key, in the order of keys.
+    cells: PageList<Sighting>,
 }
 
 impl Model for Store {
     ghost use Rattle.fact_store.specs.View.{Facts, view as view_of};
     ghost use Rattle.fact_store.specs.Coded.{facts_code};
+    ghost use Rattle.fact_store.specs.Cells.{AreCells};
 
     ghost Value = { Facts };
 
     ghost coded = { facts_code };
 
-    ghost view = { λ a. view_of a.sightings.items };
+    ghost view = { λ a. view_of a.cells.items };
+
+    ghost invariant = { λ a. AreCells a.cells.items };
 }
 
 impl Store {
@@ -36,118 +60,156 @@ impl Store {
         ensures { result ≡ empty }
     {
         Store {
-            sightings: Vec::new(alloc),
+            cells: PageList::new(alloc),
         }
     }
 
-    /// Adds what the sighting says to what is held.
-    pub fn add(&mut self, sighting: Sighting) -> Result<(), AllocError>
-        ensures ok { OnOk result (self.new ≡ merge self.old (view (sighting ∷ []))) }
-        ensures err { OnErr result (self.new ≡ self.old) }
+    /// Gets memory for so many more keys, each of which may need a page of its own. Until they are there, adding needs none.
+    pub fn reserve(&mut self, n: usize) -> Result<(), Refused>
+        ensures { self.new ≡ self.old }
     {
-        self.sightings.push(sighting)?;
+        self.cells.reserve(n)?;
         Ok(())
     }
 
-    /// Adds all of them or, where memory runs out, none.
-    pub fn add_all(&mut self, sightings: &[Sighting]) -> Result<(), AllocError>
+    /// Adds what the sighting says to what is held. Takes a search, and moves no more than a page.
+    pub fn add(&mut self, sighting: Sighting) -> Result<(), Refused>
+        ensures ok { OnOk result (self.new ≡ merge self.old (view (sighting ∷ []))) }
+        ensures err { OnErr result (self.new ≡ self.old) }
+    {
+        self.cells.reserve(1)?;
+        put(&mut self.cells, sighting);
+        Ok(())
+    }
+
+    /// Adds all of them or, where memory runs out, none. Reserves as `reserve` does.
+    pub fn add_all(&mut self, sightings: &[Sighting]) -> Result<(), Refused>
         ensures ok { OnOk result (self.new ≡ merge self.old (view sightings.now)) }
         ensures err { OnErr result (self.new ≡ self.old) }
     {
-        self.sightings.extend_from_slice(sightings)
+        self.cells.reserve(sightings.len())?;
+        for sighting in sightings {
+            put(&mut self.cells, *sighting);
+        }
+        Ok(())
     }
 
-    /// Adds all that the other store holds.
-    pub fn merge(&mut self, other: &Store) -> Result<(), AllocError>
+    /// Adds all that the other store holds. Walks both.
+    pub fn merge(&mut self, other: &Store) -> Result<(), Refused>
         ensures ok { OnOk result (self.new ≡ merge self.old other.now) }
+        ensures least { OnOk result (IsMerge self.old other.now self.new) }
         ensures err { OnErr result (self.new ≡ self.old) }
     {
-        self.add_all(&other.sightings)
+        self.merge_steps(other)?;
+        Ok(())
+    }
+
+    /// Does what `merge` does, and says how many times two keys were compared.
+    pub fn merge_steps(&mut self, other: &Store) -> Result<u128, Refused>
+        ensures ok { OnOk result (self.new ≡ merge self.old other.now) }
+        ensures least { OnOk result (IsMerge self.old other.now self.new) }
+        ensures steps { IfOk result (λ steps. steps ≤ 2 * (len self.old + len other.now)) }
+        ensures err { OnErr result (self.new ≡ self.old) }
+    {
+        let mut steps = 0;
+        self.cells = merge_cells(&self.cells, &other.cells, &mut steps)?;
+        Ok(steps)
+    }
+
+    /// Adds all that the other store holds. An empty store takes the other one over as it is.
+    pub fn absorb(&mut self, other: Store) -> Result<(), Refused>
+        ensures ok { OnOk result (self.new ≡ merge self.old other) }
+        ensures err { OnErr result (self.new ≡ self.old) }
+    {
+        if self.cells.len() == 0 {
+            self.cells = other.cells;
+            return Ok(());
+        }
+        self.merge(&other)
     }
 
     /// A store of its own that holds the same, with the same allocator.
-    pub fn try_clone(&self) -> Result<Store, AllocError>
+    pub fn try_clone(&self) -> Result<Store, Refused>
         ensures ok { IfOk result (λ store. store ≡ self.now) }
     {
-        let mut store = Store::new(*self.sightings.allocator());
+        let mut store = Store::new(self.cells.allocator());
         store.merge(self)?;
         Ok(store)
     }
 
-    /// The cell of a key, if there is one.
+    /// The cell of a key, if there is one. Halves the cells at each step.
     pub fn get(&self, key: Key) -> Option<Cell<Value>>
-        ensures { result ≡ get self.now key }
+        ensures found { result ≡ get self.now key }
+        ensures in_range { AreInRange self.now }
     {
-        let mut found: Option<Cell<Value>> = None;
-        for sighting in &self.sightings {
-            if key == sighting.key() {
-                found = Some(match found {
-                    None => sighting.cell(),
-                    Some(cell) => cell.join(&sighting.cell()),
-                });
-            }
-        }
-        found
+        self.get_steps(key).0
     }
 
-    /// The number of keys that have a cell.
+    /// The cell of a key, if there is one, and how many times two keys were compared.
+    pub fn get_steps(&self, key: Key) -> (Option<Cell<Value>>, u32)
+        ensures found { result.0 ≡ get self.now key }
+        ensures steps { HasDigits (len self.now) result.1 }
+        ensures in_range { AreInRange self.now }
+    {
+        let found = find(&self.cells, &key);
+        let cell = match found.place {
+            Ok(place) => Some(self.cells.get(place).unwrap().cell()),
+            Err(_) => None,
+        };
+        (cell, found.steps)
+    }
+
+    /// The number of keys that have a cell. It is held.
     pub fn count(&self) -> usize
         ensures exact { result ≡ len self.now }
         ensures in_range { AreInRange self.now }
     {
-        let mut count = 0;
-        let mut last = None;
-        while let Some(key) = self.key_above(last) {
-            last = Some(key);
-            count += 1;
-        }
-        count
+        self.cells.len()
     }
 
-    /// The key at place `i` in the order of the keys, from 0 on, with its cell.
+    /// The key at place `i` in the order of the keys, from 0 on, with its cell. Halves the pages at each step.
     pub fn cell(&self, i: usize) -> Option<Sighting>
         ensures exact { result ≡ slice_get (entries self.now) i }
         ensures in_range { AreInRange self.now }
     {
-        let mut key = self.key_above(None)?;
-        for _ in 0..i {
-            key = self.key_above(Some(key))?;
-        }
-        Sighting::new(key, self.get(key)?)
+        self.cells.get(i)
     }
 
-    /// The greatest generation of a cell.
+    /// The cells with their keys, in the order of keys. Each is had in one step.
+    pub fn cells(&self) -> Cells<'_>
+        ensures cells { cells_left result ≡ entries self.now }
+        ensures in_range { AreInRange self.now }
+    {
+        Cells {
+            cells: self.cells.iter(),
+        }
+    }
+
+    /// The greatest generation of a cell. Walks the cells.
     pub fn newest(&self) -> Option<Generation>
         ensures none { IsNone result ↔ (self.now ≡ empty) }
         ensures newest { IfSome result (IsNewestGeneration self.now) }
     {
         let mut newest: Option<Generation> = None;
-        for sighting in &self.sightings {
-            let generation = sighting.cell().generation();
-            let is_newer = match newest {
-                None => true,
-                Some(held) => held < generation,
-            };
-            if is_newer {
-                newest = Some(generation);
-            }
+        for sighting in self.cells.iter() {
+            newest = Some(newer(newest, sighting.cell().generation()));
         }
         newest
     }
+}
 
-    /// The least key that has a cell and comes after `last`.
-    fn key_above(&self, last: Option<Key>) -> Option<Key>
-        ensures next { result ≡ find (is_above last) (keys self.now) }
-        ensures in_range { AreInRange self.now }
-        ensures countable { len self.now < 2 ^ 64 }
-    {
-        let mut least: Option<Key> = None;
-        for sighting in &self.sightings {
-            let key = sighting.key();
-            if is_between(&last, &key, &least) {
-                least = Some(key);
+/// The newer of two generations, where there may be none yet.
+fn newer(held: Option<Generation>, told: Generation) -> Generation
+    ensures { result ≡ max (unwrap_or held 0) told }
+{
+    match held {
+        None => told,
+        Some(held) => {
+            if held < told {
+                told
+            } else {
+                held
             }
         }
-        least
     }
 }

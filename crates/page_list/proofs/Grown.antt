@@ -72,8 +72,16 @@ module _ {T : Type 0} where
     -- the first half ends by the end of all
     pub head_end : (head tail : List T) → head ++ tail ≡ insert p.items j x → i - j + length head ≤ length (items_of ps) + 1
     head_end head tail e =
-        omega (arith, at.counted, ap length e, length-append head tail, length-insert p.items j x (at.upto p is), ap length (items_of-split ps k p at.there is), length-append (items_of (take k ps) ++ p.items) (items_of (drop (suc k) ps)),
-            length-append (items_of (take k ps)) p.items)
+        omega (
+          arith,
+          at.counted,
+          ap length e,
+          length-append head tail,
+          length-insert p.items j x (at.upto p is),
+          ap length (items_of-split ps k p at.there is),
+          length-append (items_of (take k ps) ++ p.items) (items_of (drop (suc k) ps)),
+          length-append (items_of (take k ps)) p.items,
+        )
 
   -- a page had room
   pub record IsGrown (pages pages' : Vec (Vec T Global) Global) (starts starts' : Vec ℕ Global) (spare : Vec (Vec T Global) Global) (len room i k j : ℕ) (p p' : Vec T Global) (x : T) : Type 0 where

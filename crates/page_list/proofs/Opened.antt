@@ -55,8 +55,8 @@ module _ {T : Type 0} where
   -- pages with more room
   pub with_room :
       (pages pages' : Vec (Vec T Global) Global) (starts starts' : Vec ℕ Global) (spare spare' : Vec (Vec T Global) Global) (len room room' : ℕ) →
-        ArePages pages starts spare len room → pages'.items ≡ pages.items → starts'.items ≡ starts.items → All IsEmptyPage spare'.items → len + room' < 2 ^ 64 → room' ≤ length spare'.items →
-        length pages.items + length spare'.items ≤ vec_capacity pages' → length pages.items + length spare'.items ≤ vec_capacity starts' → ArePages pages' starts' spare' len room'
+      ArePages pages starts spare len room → pages'.items ≡ pages.items → starts'.items ≡ starts.items → All IsEmptyPage spare'.items → len + room' < 2 ^ 64 → room' ≤ length spare'.items →
+      length pages.items + length spare'.items ≤ vec_capacity pages' → length pages.items + length spare'.items ≤ vec_capacity starts' → ArePages pages' starts' spare' len room'
   with_room pages pages' starts starts' spare spare' len room room' were same as_before empty fits enough pages_roomy starts_roomy =
       record {
         starts_are = as_before ∙ were.starts_are ∙ ap (starts_from 0) (sym same);

@@ -67,9 +67,15 @@ module _ {T : Type 0} where
       elim (cases_lt (suc k) (length ps)) [
         | inl more ↦ inl (more, next_start 0 ps k p more e)
         | inr none ↦ inr (
-          omega (arith, ap length (items_of-split ps k p h e), length-append (items_of (take k ps) ++ p.items) (items_of (drop (suc k) ps)), length-append (items_of (take k ps)) p.items,
-              ap (λ (s : List (Vec T Global)). length (items_of s)) (drop_all (suc k) ps none), get_or-starts_from 0 ps k h)
-        )
+            omega (
+              arith,
+              ap length (items_of-split ps k p h e),
+              length-append (items_of (take k ps) ++ p.items) (items_of (drop (suc k) ps)),
+              length-append (items_of (take k ps)) p.items,
+              ap (λ (s : List (Vec T Global)). length (items_of s)) (drop_all (suc k) ps none),
+              get_or-starts_from 0 ps k h,
+            )
+            )
       ]
 
 -- the page that was found for a place

@@ -21,7 +21,12 @@ pub(crate) fn insert_within<T>(page: &mut Vec<T>, place: usize, item: T)
 }
 
 /// Puts an item into a full page, half of which goes to an empty one; the number of items that stay.
-pub(crate) fn insert_halved<T: Copy>(page: &mut Vec<T>, tail: &mut Vec<T>, place: usize, item: T) -> usize
+pub(crate) fn insert_halved<T: Copy>(
+    page: &mut Vec<T>,
+    tail: &mut Vec<T>,
+    place: usize,
+    item: T,
+) -> usize
     requires full { length page.old.items ≡ PAGE }
     requires place { place ≤ PAGE }
     requires empty { tail.old.items ≡ [] }
@@ -48,7 +53,11 @@ pub(crate) fn insert_halved<T: Copy>(page: &mut Vec<T>, tail: &mut Vec<T>, place
 }
 
 /// Gets empty pages until there are so many.
-pub(crate) fn fill<T: Copy>(spare: &mut Vec<Vec<T>>, alloc: Global, n: usize) -> Result<(), AllocError>
+pub(crate) fn fill<T: Copy>(
+    spare: &mut Vec<Vec<T>>,
+    alloc: Global,
+    n: usize,
+) -> Result<(), AllocError>
     requires { All IsEmptyPage spare.old.items }
     ensures all { All IsEmptyPage spare.new.items }
     ensures ok { OnOk result (n ≤ length spare.new.items) }

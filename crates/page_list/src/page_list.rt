@@ -1,4 +1,4 @@
-ghost use Rattle.std.specs.Prelude.{◌≡◌, ◌+◌, ◌<◌, ◌≤◌, [], ◌∷◌, ◌++◌, OnOk, OnErr, IfOk, length, slice_get, slice_set, drop, insert};
+ghost use Rattle.std.specs.Prelude.{◌≡◌, ◌+◌, ◌^◌, ◌<◌, ◌≤◌, [], ◌∷◌, ◌++◌, OnOk, OnErr, IfOk, length, slice_get, slice_set, drop, insert};
 ghost use Rattle.page_list.specs.Rest.{rest_of};
 ghost use Rattle.page_list.specs.Listing.{Listing};
 
@@ -74,7 +74,8 @@ impl<T: Copy> PageList<T> {
 
     /// The items in order.
     pub fn iter(&self) -> Iter<'_, T>
-        ensures { rest_of result ≡ self.now.items }
+        ensures items { rest_of result ≡ self.now.items }
+        ensures countable { length self.now.items < 2 ^ 64 }
     {
         Iter {
             page: &[],

@@ -1,7 +1,8 @@
--- So far the newest generation is that of the sightings up to here.
-use Rattle.std.proofs.Common.{take}
+-- So far the newest generation is that of the cells given.
+use Rattle.std.proofs.Common.{◌≡◌, ◌++◌}
+use Rattle.page_list.specs.Rest.{rest_of}
 use Rattle.fact_store.proofs.SightingRanges.{IsNewestAmong}
 use Rattle.fact_store.proofs.store.Store.newest.Given as goal
 
 abbrev pub invariant-loop-sighting : goal.invariant-loop-sighting
-invariant-loop-sighting l = IsNewestAmong (take l.sighting-index l.sighting-items) l.newest
+invariant-loop-sighting l = IsNewestAmong l.yielded l.newest × (l.yielded ++ rest_of l.sighting-iterator ≡ rest_of l.initial.sighting-iterator)

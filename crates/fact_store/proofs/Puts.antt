@@ -1,0 +1,61 @@
+-- A cell that is put among others, or joined to the one of its key.
+use Rattle.std.proofs.Common.{◌≡◌, ℕ, ◌≤◌, List, [], ◌∷◌, ◌++◌, set, take, drop, refl, sym, ap, ◌∙◌, subst, inl, inr, true, cond}
+use Rattle.std.proofs.lemmas.List.Elements.{All-append, All-take, All-drop, All-cons, All-set}
+use Rattle.std.specs.Prelude.{All, Option, None, Some, Contains, slice_get, insert}
+use Rattle.std.specs.FinMap.Entries.{is_sorted}
+use Rattle.std.specs.FinMap.{get}
+use Rattle.fact_join.specs.declared.cell.Cell.{Cell}
+use Rattle.fact_store.specs.declared.key.Key.{Key}
+use Rattle.fact_store.specs.declared.value.Value.{Value}
+use Rattle.fact_store.specs.Cells.{AreCells, IsPlaceFor}
+use Rattle.fact_store.specs.Key.{key_cmp}
+use Rattle.fact_store.specs.Merge.{join, merge}
+use Rattle.fact_store.specs.Sighting.{IsSighting}
+use Rattle.fact_store.specs.View.{Facts, view}
+use Rattle.fact_store.proofs.CellOrder.{held, shown, rising-set}
+use Rattle.fact_store.proofs.CellViews.{view-insert, view-set, view_of_two}
+use Rattle.fact_store.proofs.Members.{contains_cases, contains_none}
+use Rattle.fact_store.proofs.SightingRanges.{get-view_of_one, in_range}
+use Rattle.fact_store.proofs.Views.{is_of_itself, view_of_both}
+
+-- two cells in range say together what is in range
+pub join_in_range : (k : Key) (c d : Cell Value) → IsSighting (k, c) → IsSighting (k, d) → IsSighting (k, join c d)
+join_in_range k c d g h =
+    in_range ((k, c) ∷ (k, d) ∷ []) each k (join c d)
+    (ap (λ (f : Facts). get f k) (view_of_both ((k, c) ∷ []) ((k, d) ∷ []) ∙ sym (view_of_two k c d)) ∙ get-view_of_one (k, join c d) k ∙ ap (λ t. cond t (Some (join c d)) None) (is_of_itself k (join c d)))
+  where
+    each : (x : Key × Cell Value) → Contains ((k, c) ∷ (k, d) ∷ []) x → IsSighting x
+    each x n =
+        elim (contains_cases (k, c) x ((k, d) ∷ []) n) [
+          | inl e ↦ subst IsSighting e g
+          | inr m ↦ (elim (contains_cases (k, d) x [] m) [ inl e ↦ subst IsSighting e h | inr z ↦ absurd (contains_none x z) ])
+        ]
+
+module _ (cells : List (Key × Cell Value)) (are : AreCells cells) (i : ℕ) (told : Key × Cell Value) (new : List (Key × Cell Value)) where
+  module _ (place : IsPlaceFor told.0 cells i) (in_range' : IsSighting told) (is : new ≡ insert cells i told) where
+    -- they stay in order and in range
+    pub put_cells : AreCells new
+    put_cells =
+        record {
+          rising = subst (λ (s : List (Key × Cell Value)). is_sorted key_cmp s ≡ true) (sym is) (place.rising told.1);
+          in_range = subst (All IsSighting) (sym is)
+              (All-append IsSighting (take i cells) (told ∷ drop i cells) (All-take IsSighting i cells are.in_range) (All-cons IsSighting told (drop i cells) in_range' (All-drop IsSighting i cells are.in_range)));
+        }
+
+    -- and say what they said, and this
+    pub put_view : view new ≡ merge (view cells) (view (told ∷ []))
+    put_view = ap view is ∙ view-insert cells i told
+
+  module _ (was : Key × Cell Value) (at : slice_get cells i ≡ Some was) (same : was.0 ≡ told.0) (joined : Key × Cell Value) (joined_is : joined ≡ (was.0, join was.1 told.1)) (in_range' : IsSighting joined) (is : new ≡ set cells i joined) where
+    -- the same, where the key has a cell
+    pub joined_cells : AreCells new
+    joined_cells =
+        record {
+          rising = subst (λ (s : List (Key × Cell Value)). is_sorted key_cmp s ≡ true) (sym (is ∙ ap (set cells i) joined_is)) (shown _ (rising-set was.0 was.1 (join was.1 told.1) cells i at (held _ are.rising)));
+          in_range = subst (All IsSighting) (sym is) (All-set IsSighting cells i joined in_range' are.in_range);
+        }
+
+    pub joined_view : view new ≡ merge (view cells) (view (told ∷ []))
+    joined_view =
+        ap view (is ∙ ap (set cells i) joined_is) ∙ view-set cells i was.0 was.1 told.1 at
+        ∙ ap (λ (k : Key). merge (view cells) (view ((k, told.1) ∷ []))) same

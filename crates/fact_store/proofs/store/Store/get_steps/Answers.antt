@@ -1,0 +1,27 @@
+-- What a search finds is what the facts have.
+use Rattle.std.proofs.Common.{◌≡◌, ℕ, sym, ap, ◌∙◌, subst}
+use Rattle.std.specs.Prelude.{None, Some, Result, slice_get}
+use Rattle.std.specs.FinMap.{get}
+use Rattle.fact_join.specs.declared.cell.Cell.{Cell}
+use Rattle.fact_store.specs.declared.value.Value.{Value}
+use Rattle.fact_store.specs.Cells.{HasDigits, IsSearched}
+use Rattle.fact_store.specs.View.{Facts}
+use Rattle.fact_store.proofs.Held.{len_is, are_in_range, found_at}
+use Rattle.fact_store.proofs.store.Store.get_steps.Goals as goal
+use Rattle.fact_store.proofs.store.Store.get_steps.Goals.{in-Ok, in-Err}
+
+pub returns-clause-found : goal.returns-clause-found
+returns-clause-found c =
+    elim c.match-found.branch [
+      | in-Ok w ↦
+          w.cell-is ∙ ap Some w.cell.ensures.value
+          ∙ found_at c.self.inside.cells.items c.self.invariant c.args.self.now c.self.view_is w.in-Ok.place c.args.key w.unwrap.result (sym w.get.ensures ∙ w.unwrap.ensures) (subst (λ (r : Result ℕ ℕ). IsSearched c.args.key c.self.inside.cells.items r) w.in-Ok.is c.find-found.ensures.place)
+      | in-Err w ↦
+          w.cell-is ∙ sym (ap (λ (f : Facts). get f c.args.key) (sym c.self.view_is) ∙ (subst (λ (r : Result ℕ ℕ). IsSearched c.args.key c.self.inside.cells.items r) w.in-Err.is c.find-found.ensures.place).absent)
+    ]
+
+pub returns-clause-steps : goal.returns-clause-steps
+returns-clause-steps c = subst (λ (n : ℕ). HasDigits n c.find-found.result.steps) (len_is c.self.inside.cells.items c.self.invariant c.args.self.now c.self.view_is) c.find-found.ensures.steps
+
+pub returns-clause-in_range : goal.returns-clause-in_range
+returns-clause-in_range c = are_in_range c.self.inside.cells.items c.self.invariant c.args.self.now c.self.view_is

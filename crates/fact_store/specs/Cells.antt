@@ -1,0 +1,31 @@
+-- The cells of a store, one for each key, in the order of keys.
+use Rattle.std.specs.Prelude.{◌≡◌, ℕ, zero, suc, ◌^◌, ◌≤◌, List, length, insert, slice_get, All, IsTrue, Result, Ok, Err, None, Some}
+use Rattle.std.specs.FinMap.{get}
+use Rattle.std.specs.FinMap.Entries.{is_sorted}
+use Rattle.fact_join.specs.declared.cell.Cell.{Cell}
+use Rattle.fact_store.specs.declared.key.Key.{Key}
+use Rattle.fact_store.specs.declared.value.Value.{Value}
+use Rattle.fact_store.specs.Key.{key_cmp}
+use Rattle.fact_store.specs.Sighting.{IsSighting}
+use Rattle.fact_store.specs.View.{view}
+
+-- the keys strictly rise, and each cell is in range
+pub record AreCells (cells : List (Key × Cell Value)) : Type 0 where
+  pub rising : IsTrue (is_sorted key_cmp cells)
+  pub in_range : All IsSighting cells
+
+-- a key that has no cell would have it here
+pub record IsPlaceFor (key : Key) (cells : List (Key × Cell Value)) (place : ℕ) : Type 0 where
+  pub within : place ≤ length cells
+  pub absent : get (view cells) key ≡ None
+  pub rising : (c : Cell Value) → IsTrue (is_sorted key_cmp (insert cells place (key, c)))
+
+-- where a key has its cell, or would
+abbrev pub IsSearched : Key → List (Key × Cell Value) → Result ℕ ℕ → Type 0
+IsSearched key cells (Ok place) = (c : Cell Value) × (slice_get cells place ≡ Some (key, c))
+IsSearched key cells (Err place) = IsPlaceFor key cells place
+
+-- a number has at least so many binary digits; 0 has none
+abbrev pub HasDigits : ℕ → ℕ → Type 0
+HasDigits n zero = Unit {0}
+HasDigits n (suc digits) = 2 ^ digits ≤ n

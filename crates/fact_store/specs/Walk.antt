@@ -1,0 +1,11 @@
+-- What a walk of a store has yet to give.
+use Rattle.std.specs.Prelude.{List}
+use Rattle.page_list.specs.Rest.{rest_of}
+use Rattle.fact_join.specs.declared.cell.Cell.{Cell}
+use Rattle.fact_store.specs.declared.key.Key.{Key}
+use Rattle.fact_store.specs.declared.value.Value.{Value}
+use Rattle.fact_store.specs.declared.walk.Cells.{Cells}
+
+-- the cells that are left, with their keys
+abbrev pub cells_left : Cells → List (Key × Cell Value)
+cells_left it = rest_of it.cells

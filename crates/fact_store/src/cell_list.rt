@@ -1,0 +1,97 @@
+ghost use Rattle.std.specs.Prelude.{◌≡◌, ◌+◌, ◌*◌, ◌<◌, ◌≤◌, ◌^◌, [], ◌∷◌, ◌++◌, IfOk, OnOk, length};
+ghost use Rattle.std.specs.Option.{option_to_list};
+ghost use Rattle.page_list.specs.Rest.{rest_of};
+ghost use Rattle.fact_store.specs.Cells.{AreCells};
+ghost use Rattle.fact_store.specs.Merge.{join, merge};
+ghost use Rattle.fact_store.specs.Sighting.{IsSighting};
+ghost use Rattle.fact_store.specs.View.{view};
+
+use crate::find::{compare, find};
+use crate::sighting::Sighting;
+use fact_join::Join;
+use page_list::{Iter, PageList};
+use std::alloc::AllocError;
+use std::cmp::Ordering;
+
+/// What two cells of a key say together.
+fn join_cells(first: &Sighting, second: &Sighting) -> Sighting
+    requires { first.now.0 ≡ second.now.0 }
+    ensures value { result ≡ (first.now.0, join first.now.1 second.now.1) }
+    ensures in_range { IsSighting result }
+{
+    Sighting::new(first.key(), first.cell().join(&second.cell())).unwrap()
+}
+
+/// Puts in a cell where its key has none, and else joins the two.
+pub(crate) fn put(cells: &mut PageList<Sighting>, sighting: Sighting)
+    requires cells { AreCells cells.old.items }
+    requires room { 0 < cells.old.room }
+    ensures cells { AreCells cells.new.items }
+    ensures put { view cells.new.items ≡ merge (view cells.old.items) (view (sighting ∷ [])) }
+    ensures room { cells.old.room ≤ cells.new.room + 1 }
+{
+    match find(cells, &sighting.key()).place {
+        Ok(place) => {
+            let held = cells.get(place).unwrap();
+            cells.set(place, join_cells(&held, &sighting));
+        }
+        Err(place) => cells.insert(place, sighting),
+    }
+}
+
+/// The cells of two lists, walked in step: at each step a key of one or of both is done.
+pub(crate) fn merge_cells(
+    first: &PageList<Sighting>,
+    second: &PageList<Sighting>,
+    steps: &mut u128,
+) -> Result<PageList<Sighting>, AllocError>
+    requires first { AreCells first.now.items }
+    requires second { AreCells second.now.items }
+    requires steps { steps.old ≡ 0 }
+    ensures cells { IfOk result (λ cells. AreCells cells.items) }
+    ensures merged { IfOk result (λ cells. view cells.items ≡ merge (view first.now.items) (view second.now.items)) }
+    ensures steps { steps.new ≤ length first.now.items + length second.now.items }
+{
+    let mut cells = PageList::new(first.allocator());
+    let mut left = first.iter();
+    let mut right = second.iter();
+    let mut a = left.next();
+    let mut b = right.next();
+    while let (Some(x), Some(y)) = (a, b) {
+        match compare(&x.key(), &y.key(), steps) {
+            Ordering::Less => {
+                cells.push(x)?;
+                a = left.next();
+            }
+            Ordering::Greater => {
+                cells.push(y)?;
+                b = right.next();
+            }
+            Ordering::Equal => {
+                cells.push(join_cells(&x, &y))?;
+                a = left.next();
+                b = right.next();
+            }
+        }
+    }
+    append(&mut cells, a, left)?;
+    append(&mut cells, b, right)?;
+    Ok(cells)
+}
+
+/// Puts one cell, if there is one, and then the others at the end.
+fn append(
+    cells: &mut PageList<Sighting>,
+    first: Option<Sighting>,
+    others: Iter<'_, Sighting>,
+) -> Result<(), AllocError>
+    ensures { OnOk result (cells.new.items ≡ cells.old.items ++ option_to_list first ++ rest_of others.entry) }
+{
+    if let Some(x) = first {
+        cells.push(x)?;
+    }
+    for x in others {
+        cells.push(x)?;
+    }
+    Ok(())
+}

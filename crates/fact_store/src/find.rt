@@ -1,0 +1,55 @@
+ghost use Rattle.std.specs.Prelude.{◌≡◌, ◌+◌, ◌<◌, ◌^◌, length};
+ghost use Rattle.fact_store.specs.Cells.{AreCells, IsSearched, HasDigits};
+ghost use Rattle.fact_store.specs.Key.{key_cmp};
+
+use crate::key::Key;
+use crate::sighting::Sighting;
+use page_list::PageList;
+use std::cmp::Ordering;
+
+/// How one key stands to another, which is one step. A store compares keys by this alone.
+pub(crate) fn compare(key: &Key, other: &Key, steps: &mut u128) -> Ordering
+    requires { steps.old < 2 ^ 127 }
+    ensures order { result ≡ key_cmp key.now other.now }
+    ensures counted { steps.new ≡ steps.old + 1 }
+{
+    *steps += 1;
+    key.cmp(other)
+}
+
+/// What a search finds.
+#[derive(Clone, Copy)]
+pub(crate) struct Found {
+    /// The place of the key's cell, or where it would go.
+    pub place: Result<usize, usize>,
+    pub steps: u32,
+}
+
+/// Where a key has its cell, or would. Halves the places that are left at each step.
+pub(crate) fn find(cells: &PageList<Sighting>, key: &Key) -> Found
+    requires { AreCells cells.now.items }
+    ensures place { IsSearched key.now cells.now.items result.place }
+    ensures steps { HasDigits (length cells.now.items) result.steps }
+{
+    let mut steps = 0;
+    let mut low = 0;
+    let mut high = cells.len();
+    while low < high {
+        let middle = low + (high - low) / 2;
+        let sighting = cells.get(middle).unwrap();
+        match compare(&sighting.key(), key, &mut steps) {
+            Ordering::Less => low = middle + 1,
+            Ordering::Greater => high = middle,
+            Ordering::Equal => {
+                return Found {
+                    place: Ok(middle),
+                    steps: steps as u32,
+                };
+            }
+        }
+    }
+    Found {
+        place: Err(low),
+        steps: steps as u32,
+    }
+}
