@@ -27,10 +27,8 @@ pub fn write_store<W: Sink>(sink: &mut W, store: &Store) -> Result<(), WriteFaul
     ensures flushed { OnOk result (IsTrue (W.is_flushed sink.new)) }
 {
     sink.write(b"IBSMSTO1")?;
-    for i in 0..store.count() {
-        if let Some(cell) = store.cell(i) {
-            sink.write(&record_of(&cell))?;
-        }
+    for cell in store.cells() {
+        sink.write(&record_of(&cell))?;
     }
     sink.flush()
 }

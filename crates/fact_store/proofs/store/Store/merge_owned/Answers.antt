@@ -1,7 +1,7 @@
 -- What is merged into nothing is all there is.
 use Rattle.std.proofs.Common.{◌≡◌, sym, ap, ◌∙◌, length, arith}
 use Rattle.fact_store.proofs.Held.{none_held, merged_into_none}
-use Rattle.fact_store.proofs.store.Store.absorb.Goals as goal
+use Rattle.fact_store.proofs.store.Store.merge_owned.Goals as goal
 
 pub returns-then-len-eq0-clause-ok : goal.returns-then-len-eq0-clause-ok
 returns-then-len-eq0-clause-ok c =
