@@ -10,7 +10,6 @@ pub mod laws;
 mod report;
 mod report_fault;
 pub mod sample_fabric;
-
 mod sighting;
 mod store;
 mod told;

@@ -204,12 +204,6 @@ fn newer(held: Option<Generation>, told: Generation) -> Generation
 {
     match held {
         None => told,
-        Some(held) => {
-            if held < told {
-                told
-            } else {
-                held
-            }
-        }
+        Some(held) => { if held < told { told } else { held } }
     }
 }

@@ -1,6 +1,7 @@
 //! What replies tell and why they are refused, by the numbers of the formats.
 use super::*;
 use crate::sample_fabric::reports;
+use fact_join::Join;
 use smp_bytes::{Generation, Guid, Lid, NodeType, PortNum, SmpFault};
 use std::alloc::Global;
 use std::test::Fail;
@@ -194,6 +195,77 @@ fn stores_take_what_is_added(rt: HostRuntime) -> Result<(), Fail> {
             store.cell(1).map(|cell| cell.key()),
             Some(Key::Cap(node(0x20)))
         );
+    }
+    Ok(())
+}
+
+/// The store of the sample fabric.
+fn swept(alloc: Global) -> Result<Store, Fail> {
+    let mut store = Store::new(alloc);
+    for report in &reports(alloc)? {
+        store.ingest(report)?;
+    }
+    Ok(store)
+}
+
+/// How many places of two stores differ.
+fn differing(first: &Store, second: &Store) -> usize {
+    let pairs = first.cells().zip(second.cells());
+    let differ = pairs.filter(|(a, b)| a.key() != b.key() || a.cell() != b.cell());
+    differ.count().max(first.count().abs_diff(second.count()))
+}
+
+#[test]
+fn searches_halve_and_merges_walk(rt: HostRuntime) -> Result<(), Fail> {
+    let mut store = swept(rt.alloc())?;
+    let (cell, steps) = store.get_steps(Key::Cap(node(0x30)));
+    let held = cell == store.get(Key::Cap(node(0x30)));
+    assert!(rt; held && store.cap(node(0x30)) == Some(1024) && steps <= 6);
+    let copy = store.try_clone()?;
+    let steps = store.merge_steps(&copy)?;
+    assert!(rt; steps <= 228 && differing(&store, &copy) == 0);
+    Ok(())
+}
+
+/// What a list of sightings says of a key, by a look at each of them.
+fn told_of(sightings: &[Sighting], key: Key) -> Option<Cell<Value>> {
+    let mut found: Option<Cell<Value>> = None;
+    for sighting in sightings {
+        if key == sighting.key() {
+            found = Some(match found {
+                None => sighting.cell(),
+                Some(cell) => cell.join(&sighting.cell()),
+            });
+        }
+    }
+    found
+}
+
+/// How many of 400 keys have another cell in a store of 600 sightings, added in steps of `stride`, than a look at each says.
+fn wrong_cells(alloc: Global, stride: u64) -> Result<u64, Fail> {
+    let mut store = Store::new(alloc);
+    let mut plain = Vec::new(alloc);
+    for i in 0..600u64 {
+        let place = i.wrapping_mul(stride) % 600;
+        let sighting = cap(place % 400 * 7, if place % 5 == 0 { 1 } else { 2 })?;
+        store.add(sighting)?;
+        plain.push(sighting)?;
+    }
+    let mut wrong = 0;
+    for key in 0..400u64 {
+        let key = Key::Cap(node(key * 7));
+        if store.get(key) != told_of(&plain, key) {
+            wrong += 1;
+        }
+    }
+    Ok(wrong)
+}
+
+#[test]
+fn pages_hold_what_a_plain_list_says(rt: HostRuntime) -> Result<(), Fail> {
+    // up, down, and by a stride that leaps over pages
+    for stride in [1, 599, 77] {
+        assert!(rt; wrong_cells(rt.alloc(), stride)? == 0, "{stride}");
     }
     Ok(())
 }

@@ -8,3 +8,6 @@ mod place;
 
 pub use iter::Iter;
 pub use page_list::PageList;
+
+#[cfg(test)]
+mod tests;

@@ -25,13 +25,12 @@ compare-requires c = omega (arith, c.loop-a.invariant.0.counted, c.iter-left.ens
 pub loop-a-preserved-in_ok-push-in-Less : goal.loop-a-preserved-in_ok-push-in-Less
 loop-a-preserved-in_ok-push-in-Less c =
     let w : IsWalked c.args.first.now.items c.args.second.now.items c.loop-a.cells.items (c.in-Some-Some.x ∷ rest_of c.loop-a.left) (c.in-Some-Some.y ∷ rest_of c.loop-a.right) c.loop-a.steps =
-        subst (λ (o : Option (Key × Cell Value)). IsWalked c.args.first.now.items c.args.second.now.items c.loop-a.cells.items (c.in-Some-Some.x ∷ rest_of c.loop-a.left) (option_to_list o ++ rest_of c.loop-a.right) c.loop-a.steps) c.in-Some-Some.is-1
-        (subst (λ (o : Option (Key × Cell Value)). IsWalked c.args.first.now.items c.args.second.now.items c.loop-a.cells.items (option_to_list o ++ rest_of c.loop-a.left) (option_to_list c.loop-a.b ++ rest_of c.loop-a.right) c.loop-a.steps) c.in-Some-Some.is-0 c.loop-a.invariant.0) in
-    let order : key_cmp c.in-Some-Some.x.0 c.in-Some-Some.y.0 ≡ Less = sym (c.in-Less.ensures.order ∙ ap (λ (k : Key). key_cmp k c.key-in-Some-Some.result) c.key.ensures.value ∙ ap (key_cmp c.in-Some-Some.x.0) c.key-in-Some-Some.ensures.value) in
-    (
+    subst (λ (o : Option (Key × Cell Value)). IsWalked c.args.first.now.items c.args.second.now.items c.loop-a.cells.items (c.in-Some-Some.x ∷ rest_of c.loop-a.left) (option_to_list o ++ rest_of c.loop-a.right) c.loop-a.steps) c.in-Some-Some.is-1
+    (subst (λ (o : Option (Key × Cell Value)). IsWalked c.args.first.now.items c.args.second.now.items c.loop-a.cells.items (option_to_list o ++ rest_of c.loop-a.left) (option_to_list c.loop-a.b ++ rest_of c.loop-a.right) c.loop-a.steps) c.in-Some-Some.is-0 c.loop-a.invariant.0) in
+    let order : key_cmp c.in-Some-Some.x.0 c.in-Some-Some.y.0 ≡ Less = sym (c.in-Less.ensures.order ∙ ap (λ (k : Key). key_cmp k c.key-in-Some-Some.result) c.key.ensures.value ∙ ap (key_cmp c.in-Some-Some.x.0) c.key-in-Some-Some.ensures.value) in (
       walked_to c.args.first.now.items c.args.second.now.items (c.loop-a.cells.items ++ c.in-Some-Some.x ∷ []) _ (rest_of c.loop-a.left) _ (c.in-Some-Some.y ∷ rest_of c.loop-a.right) _ (c.loop-a.steps + 1) _
-      (walked_first c.args.first.now.items c.args.second.now.items c.loop-a.cells.items (rest_of c.loop-a.left) (rest_of c.loop-a.right) c.in-Some-Some.x c.in-Some-Some.y c.loop-a.steps w order)
-      c.in_ok-push-in-Less.ensures.ok (next_left _ _ _ c.next-a-in-Less.ensures.steps) (ap (λ o. option_to_list o ++ rest_of c.loop-a.right) c.in-Some-Some.is-1) c.compare.ensures.counted,
+          (walked_first c.args.first.now.items c.args.second.now.items c.loop-a.cells.items (rest_of c.loop-a.left) (rest_of c.loop-a.right) c.in-Some-Some.x c.in-Some-Some.y c.loop-a.steps w order)
+          c.in_ok-push-in-Less.ensures.ok (next_left _ _ _ c.next-a-in-Less.ensures.steps) (ap (λ o. option_to_list o ++ rest_of c.loop-a.right) c.in-Some-Some.is-1) c.compare.ensures.counted,
       nothing_left _ _ _ c.next-a-in-Less.ensures.steps,
       c.loop-a.invariant.2,
     )
@@ -39,13 +38,12 @@ loop-a-preserved-in_ok-push-in-Less c =
 pub loop-a-preserved-in_ok-push-in-Greater : goal.loop-a-preserved-in_ok-push-in-Greater
 loop-a-preserved-in_ok-push-in-Greater c =
     let w : IsWalked c.args.first.now.items c.args.second.now.items c.loop-a.cells.items (c.in-Some-Some.x ∷ rest_of c.loop-a.left) (c.in-Some-Some.y ∷ rest_of c.loop-a.right) c.loop-a.steps =
-        subst (λ (o : Option (Key × Cell Value)). IsWalked c.args.first.now.items c.args.second.now.items c.loop-a.cells.items (c.in-Some-Some.x ∷ rest_of c.loop-a.left) (option_to_list o ++ rest_of c.loop-a.right) c.loop-a.steps) c.in-Some-Some.is-1
-        (subst (λ (o : Option (Key × Cell Value)). IsWalked c.args.first.now.items c.args.second.now.items c.loop-a.cells.items (option_to_list o ++ rest_of c.loop-a.left) (option_to_list c.loop-a.b ++ rest_of c.loop-a.right) c.loop-a.steps) c.in-Some-Some.is-0 c.loop-a.invariant.0) in
-    let order : key_cmp c.in-Some-Some.x.0 c.in-Some-Some.y.0 ≡ Greater = sym (c.in-Greater.ensures.order ∙ ap (λ (k : Key). key_cmp k c.key-in-Some-Some.result) c.key.ensures.value ∙ ap (key_cmp c.in-Some-Some.x.0) c.key-in-Some-Some.ensures.value) in
-    (
+    subst (λ (o : Option (Key × Cell Value)). IsWalked c.args.first.now.items c.args.second.now.items c.loop-a.cells.items (c.in-Some-Some.x ∷ rest_of c.loop-a.left) (option_to_list o ++ rest_of c.loop-a.right) c.loop-a.steps) c.in-Some-Some.is-1
+    (subst (λ (o : Option (Key × Cell Value)). IsWalked c.args.first.now.items c.args.second.now.items c.loop-a.cells.items (option_to_list o ++ rest_of c.loop-a.left) (option_to_list c.loop-a.b ++ rest_of c.loop-a.right) c.loop-a.steps) c.in-Some-Some.is-0 c.loop-a.invariant.0) in
+    let order : key_cmp c.in-Some-Some.x.0 c.in-Some-Some.y.0 ≡ Greater = sym (c.in-Greater.ensures.order ∙ ap (λ (k : Key). key_cmp k c.key-in-Some-Some.result) c.key.ensures.value ∙ ap (key_cmp c.in-Some-Some.x.0) c.key-in-Some-Some.ensures.value) in (
       walked_to c.args.first.now.items c.args.second.now.items (c.loop-a.cells.items ++ c.in-Some-Some.y ∷ []) _ (c.in-Some-Some.x ∷ rest_of c.loop-a.left) _ (rest_of c.loop-a.right) _ (c.loop-a.steps + 1) _
-      (walked_second c.args.first.now.items c.args.second.now.items c.loop-a.cells.items (rest_of c.loop-a.left) (rest_of c.loop-a.right) c.in-Some-Some.x c.in-Some-Some.y c.loop-a.steps w order)
-      c.in_ok-push-in-Greater.ensures.ok (ap (λ o. option_to_list o ++ rest_of c.loop-a.left) c.in-Some-Some.is-0) (next_left _ _ _ c.next-b-in-Greater.ensures.steps) c.compare.ensures.counted,
+          (walked_second c.args.first.now.items c.args.second.now.items c.loop-a.cells.items (rest_of c.loop-a.left) (rest_of c.loop-a.right) c.in-Some-Some.x c.in-Some-Some.y c.loop-a.steps w order)
+          c.in_ok-push-in-Greater.ensures.ok (ap (λ o. option_to_list o ++ rest_of c.loop-a.left) c.in-Some-Some.is-0) (next_left _ _ _ c.next-b-in-Greater.ensures.steps) c.compare.ensures.counted,
       c.loop-a.invariant.1,
       nothing_left _ _ _ c.next-b-in-Greater.ensures.steps,
     )
@@ -53,14 +51,13 @@ loop-a-preserved-in_ok-push-in-Greater c =
 pub loop-a-preserved : goal.loop-a-preserved
 loop-a-preserved c =
     let w : IsWalked c.args.first.now.items c.args.second.now.items c.loop-a.cells.items (c.in-Some-Some.x ∷ rest_of c.loop-a.left) (c.in-Some-Some.y ∷ rest_of c.loop-a.right) c.loop-a.steps =
-        subst (λ (o : Option (Key × Cell Value)). IsWalked c.args.first.now.items c.args.second.now.items c.loop-a.cells.items (c.in-Some-Some.x ∷ rest_of c.loop-a.left) (option_to_list o ++ rest_of c.loop-a.right) c.loop-a.steps) c.in-Some-Some.is-1
-        (subst (λ (o : Option (Key × Cell Value)). IsWalked c.args.first.now.items c.args.second.now.items c.loop-a.cells.items (option_to_list o ++ rest_of c.loop-a.left) (option_to_list c.loop-a.b ++ rest_of c.loop-a.right) c.loop-a.steps) c.in-Some-Some.is-0 c.loop-a.invariant.0) in
+    subst (λ (o : Option (Key × Cell Value)). IsWalked c.args.first.now.items c.args.second.now.items c.loop-a.cells.items (c.in-Some-Some.x ∷ rest_of c.loop-a.left) (option_to_list o ++ rest_of c.loop-a.right) c.loop-a.steps) c.in-Some-Some.is-1
+    (subst (λ (o : Option (Key × Cell Value)). IsWalked c.args.first.now.items c.args.second.now.items c.loop-a.cells.items (option_to_list o ++ rest_of c.loop-a.left) (option_to_list c.loop-a.b ++ rest_of c.loop-a.right) c.loop-a.steps) c.in-Some-Some.is-0 c.loop-a.invariant.0) in
     let order : key_cmp c.in-Some-Some.x.0 c.in-Some-Some.y.0 ≡ Equal = sym (c.in-Equal.ensures.order ∙ ap (λ (k : Key). key_cmp k c.key-in-Some-Some.result) c.key.ensures.value ∙ ap (key_cmp c.in-Some-Some.x.0) c.key-in-Some-Some.ensures.value) in
-    let same : c.in-Some-Some.x.0 ≡ c.in-Some-Some.y.0 = key_exact c.in-Some-Some.x.0 c.in-Some-Some.y.0 order in
-    (
+    let same : c.in-Some-Some.x.0 ≡ c.in-Some-Some.y.0 = key_exact c.in-Some-Some.x.0 c.in-Some-Some.y.0 order in (
       walked_to c.args.first.now.items c.args.second.now.items (c.loop-a.cells.items ++ (c.in-Some-Some.x.0, join c.in-Some-Some.x.1 c.in-Some-Some.y.1) ∷ []) _ (rest_of c.loop-a.left) _ (rest_of c.loop-a.right) _ (c.loop-a.steps + 1) _
-      (walked_both c.args.first.now.items c.args.second.now.items c.loop-a.cells.items (rest_of c.loop-a.left) (rest_of c.loop-a.right) c.in-Some-Some.x c.in-Some-Some.y c.loop-a.steps w same (subst IsSighting c.join_cells.ensures.value c.join_cells.ensures.in_range))
-      (c.in_ok-push-in-Equal.ensures.ok ∙ ap (λ z. c.loop-a.cells.items ++ z ∷ []) c.join_cells.ensures.value) (next_left _ _ _ c.next-a-in-Equal.ensures.steps) (next_left _ _ _ c.next-b-in-Equal.ensures.steps) c.compare.ensures.counted,
+          (walked_both c.args.first.now.items c.args.second.now.items c.loop-a.cells.items (rest_of c.loop-a.left) (rest_of c.loop-a.right) c.in-Some-Some.x c.in-Some-Some.y c.loop-a.steps w same (subst IsSighting c.join_cells.ensures.value c.join_cells.ensures.in_range))
+          (c.in_ok-push-in-Equal.ensures.ok ∙ ap (λ z. c.loop-a.cells.items ++ z ∷ []) c.join_cells.ensures.value) (next_left _ _ _ c.next-a-in-Equal.ensures.steps) (next_left _ _ _ c.next-b-in-Equal.ensures.steps) c.compare.ensures.counted,
       nothing_left _ _ _ c.next-a-in-Equal.ensures.steps,
       nothing_left _ _ _ c.next-b-in-Equal.ensures.steps,
     )

@@ -11,7 +11,7 @@ use Rattle.fact_store.proofs.store.Store.newest.Goals as goal
 pub loop-sighting-preserved : goal.loop-sighting-preserved
 loop-sighting-preserved c = (
   subst (λ n. IsNewestAmong (c.loop-sighting.yielded ++ c.in-Some.sighting ∷ []) (Some n)) (sym c.newer.ensures)
-  (newest_more c.loop-sighting.yielded c.in-Some.sighting c.loop-sighting.newest c.generation.result (sym (c.generation.ensures ∙ ap generation_of c.cell.ensures.value)) c.loop-sighting.invariant.0),
+      (newest_more c.loop-sighting.yielded c.in-Some.sighting c.loop-sighting.newest c.generation.result (sym (c.generation.ensures ∙ ap generation_of c.cell.ensures.value)) c.loop-sighting.invariant.0),
   append_assoc c.loop-sighting.yielded (c.in-Some.sighting ∷ []) (rest_of c.next.new.self) ∙ ap (λ s. c.loop-sighting.yielded ++ s) (sym c.in-Some.ensures.steps) ∙ c.loop-sighting.invariant.1,
 )
 
