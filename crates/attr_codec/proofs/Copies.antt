@@ -1,5 +1,5 @@
 -- Fields that stand side by side, each written with the number read from some bytes, are a copy of these bytes.
-use Rattle.std.proofs.Common.{◌≡◌, ℕ, ◌+◌, ◌-◌, ◌≤◌, List, [], ◌∷◌, ◌++◌, refl, sym, ap, ◌∙◌, arith, Bool, true, false, length, take, drop, replicate, append_assoc, ◌&&◌, ◌==◌}
+use Rattle.std.proofs.Common.{◌≡◌, ℕ, ◌+◌, ◌-◌, ◌≤◌, List, [], ◌∷◌, ◌++◌, refl, sym, ap, ◌∙◌, arith, Bool, true, length, take, drop, replicate, append_assoc, ◌&&◌, ◌==◌}
 use Rattle.std.specs.Prelude.{nat_le}
 use Rattle.std.proofs.lemmas.Bool.{and_parts, eqb-true, leb-true}
 use Rattle.std.proofs.lemmas.List.{drop-replicate, length-drop, length-take-le, take-append-le, take_all}
@@ -13,14 +13,16 @@ abbrev pub front_of : ℕ → List ℕ → List ℕ
 front_of count bytes = take count bytes ++ replicate (64 - count) 0
 
 -- 64 bytes that begin with the first of others, and these written on
-pub with_bytes-front_of : (f : Field) (bytes : List ℕ) → length bytes ≡ 64 → f.at + f.len ≤ 64 → with_bytes f.at (bytes_in f bytes) (front_of f.at bytes) ≡ front_of (f.at + f.len) bytes
+pub with_bytes-front_of : (f : Field) (bytes : List ℕ) → length bytes ≡ 64 → f.at + f.len ≤ 64
+    → with_bytes f.at (bytes_in f bytes) (front_of f.at bytes) ≡ front_of (f.at + f.len) bytes
 unfolding with_bytes
 with_bytes-front_of f bytes long lies =
     let written = bytes_in f bytes in
     let zeros = replicate (64 - f.at) 0 in
     let first : length (take f.at bytes) ≡ f.at = length-take-le f.at bytes (omega arith) in
     let count : length written ≡ f.len = length-take-le f.len (drop f.at bytes) (omega (arith, length-drop f.at bytes)) in
-    let head : take f.at (take f.at bytes ++ zeros) ≡ take f.at bytes = take-append-le f.at (take f.at bytes) zeros (omega arith) ∙ take_all f.at (take f.at bytes) (omega arith) in
+    let head : take f.at (take f.at bytes ++ zeros) ≡ take f.at bytes = take-append-le f.at (take f.at bytes) zeros (omega arith)
+    ∙ take_all f.at (take f.at bytes) (omega arith) in
     let tail : drop (f.at + length written) (take f.at bytes ++ zeros) ≡ replicate (64 - (f.at + f.len)) 0 =
     ap (λ n. drop (n + length written) (take f.at bytes ++ zeros)) (sym first)
     ∙ drop-append-add (take f.at bytes) zeros (length written)
@@ -31,7 +33,8 @@ with_bytes-front_of f bytes long lies =
     ∙ sym (append_assoc (take f.at bytes) written (replicate (64 - (f.at + f.len)) 0))
     ∙ ap (λ p. p ++ replicate (64 - (f.at + f.len)) 0) (sym (take-add f.at f.len bytes))
 
-pub with_number-front_of : (f : Field) (bytes : List ℕ) → Are64Bytes bytes → f.at + f.len ≤ 64 → with_number f (number_in f bytes) (front_of f.at bytes) ≡ front_of (f.at + f.len) bytes
+pub with_number-front_of : (f : Field) (bytes : List ℕ) → Are64Bytes bytes → f.at + f.len ≤ 64
+    → with_number f (number_in f bytes) (front_of f.at bytes) ≡ front_of (f.at + f.len) bytes
 with_number-front_of f bytes are lies =
     let long = are.count in
     ap (λ w. with_bytes f.at w (front_of f.at bytes)) (big_bytes-number_in f bytes (omega arith) are.bytes_fit) ∙ with_bytes-front_of f bytes long lies
@@ -51,7 +54,8 @@ abbrev pub end_of : ℕ → List Field → ℕ
 end_of at [] = at
 end_of at (f ∷ fields) = end_of (at + f.len) fields
 
-pub with_numbers-entries_in : (at : ℕ) (fields : List Field) (bytes : List ℕ) → Are64Bytes bytes → are_side_by_side at fields ≡ true → with_numbers (entries_in bytes fields) (front_of at bytes) ≡ front_of (end_of at fields) bytes
+pub with_numbers-entries_in : (at : ℕ) (fields : List Field) (bytes : List ℕ) → Are64Bytes bytes → are_side_by_side at fields ≡ true
+    → with_numbers (entries_in bytes fields) (front_of at bytes) ≡ front_of (end_of at fields) bytes
 with_numbers-entries_in at [] bytes are side = refl
 with_numbers-entries_in at (f ∷ fields) bytes are side =
     let here : f.at ≡ at = eqb-true _ _ (and_parts _ _ side).0 in

@@ -45,7 +45,8 @@ sm_info_keeps bytes are =
     let first = with_bits priority of_priority whole in
     let begun : image entries ≡ whole = with_numbers-entries_in 0 (guid ∷ sm_key ∷ act_count ∷ []) bytes are refl in
     let long : length whole ≡ 64 = ap length (sym begun) ∙ length-with_numbers 64 entries (replicate 64 0) refl refl in
-    let empty : get_or whole 20 0 ≡ 0 = ap (λ w. get_or w 20 0) (sym begun) ∙ get_or-with_numbers_behind 20 entries (replicate 64 0) 20 (omega arith) refl (omega arith) in
+    let empty : get_or whole 20 0 ≡ 0 = ap (λ w. get_or w 20 0) (sym begun)
+    ∙ get_or-with_numbers_behind 20 entries (replicate 64 0) 20 (omega arith) refl (omega arith) in
     let fits : replaced priority of_priority (get_or whole 20 0) < 256 = omega arith in
     let same : replaced sm_state of_state (get_or first 20 0) ≡ number_in one_byte bytes =
     ap (replaced sm_state of_state) (get_or-with_bits priority of_priority whole (omega arith) fits ∙ ap (replaced priority of_priority) empty)
@@ -56,14 +57,16 @@ sm_info_keeps bytes are =
     ∙ with_number-front_of one_byte bytes are (omega arith)
 
 -- 64 bytes with zeros from a place on
-zeros_from : (end : ℕ) (bytes : List ℕ) → end ≤ 64 → length bytes ≡ 64 → ((place : ℕ) → end ≤ place → place < 64 → get_or bytes place 0 ≡ 0) → drop end bytes ≡ replicate (64 - end) 0
+zeros_from : (end : ℕ) (bytes : List ℕ) → end ≤ 64 → length bytes ≡ 64 → ((place : ℕ) → end ≤ place → place < 64 → get_or bytes place 0 ≡ 0)
+    → drop end bytes ≡ replicate (64 - end) 0
 zeros_from end bytes within long zero_at =
     let few : length (drop end bytes) ≡ 64 - end = length-drop end bytes ∙ ap (λ n. n - end) long in
     ext_get_or 0 (drop end bytes) (replicate (64 - end) 0) (few ∙ sym (length-replicate (64 - end) 0))
     (λ k inside. get_or-drop end bytes k 0 ∙ zero_at (end + k) (omega arith) (omega arith) ∙ sym (get_or-replicate (64 - end) k 0 0 (omega arith)))
 
 -- so has an image behind its last field
-zero_behind : (end : ℕ) (entries : List Entry) → end ≤ 64 → all_end_within end entries ≡ true → (place : ℕ) → end ≤ place → place < 64 → get_or (image entries) place 0 ≡ 0
+zero_behind : (end : ℕ) (entries : List Entry) → end ≤ 64 → all_end_within end entries ≡ true → (place : ℕ) → end ≤ place → place < 64
+    → get_or (image entries) place 0 ≡ 0
 zero_behind end entries within ends place behind inside =
     get_or-with_numbers_behind end entries (replicate 64 0) place (omega arith) ends behind ∙ get_or-replicate 64 place 0 0 inside
 

@@ -24,7 +24,8 @@ pub fn with_bits<const AT: usize, const SHIFT: u32, const WIDTH: u32>(
     requires some { 1 ≤ WIDTH }
     requires within { SHIFT + WIDTH ≤ 8 }
     requires fits { number < 2 ^ WIDTH }
-    ensures { bytes.new ≡ with_bits (record { at = AT; shift = SHIFT; width = WIDTH }) number bytes.old }
+    ensures { bytes.new
+        ≡ with_bits (record { at = AT; shift = SHIFT; width = WIDTH }) number bytes.old }
 {
     put_bits(bytes, AT, SHIFT, WIDTH, number);
 }

@@ -24,7 +24,8 @@ pub trait FieldType: Copy {
 
     fn write_at(self, bytes: &mut [u8; 64], at: usize)
         requires { at + len ≤ 64 }
-        ensures written { bytes.new ≡ with_number (record { at = at; len = len }) (number self) bytes.old }
+        ensures written { bytes.new
+            ≡ with_number (record { at = at; len = len }) (number self) bytes.old }
         ensures fits { number self < 256 ^ len };
 }
 
@@ -40,7 +41,8 @@ pub fn read<T: FieldType, const AT: usize>(bytes: &[u8; 64]) -> T
 /// Writes the field whose first byte is at `AT`; all other bytes stay.
 pub fn write<T: FieldType, const AT: usize>(value: T, bytes: &mut [u8; 64])
     requires { AT + T.len ≤ 64 }
-    ensures written { bytes.new ≡ with_number (record { at = AT; len = T.len }) (T.number value) bytes.old }
+    ensures written { bytes.new
+        ≡ with_number (record { at = AT; len = T.len }) (T.number value) bytes.old }
     ensures fits { T.number value < 256 ^ T.len }
 {
     value.write_at(bytes, AT);

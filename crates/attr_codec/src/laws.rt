@@ -20,42 +20,60 @@ pub fn decode_undoes_encode<A: Attribute>()
 
 /// Node information keeps its 40 bytes of fields; the 24 reserved bytes behind them become 0.
 pub fn node_info_keeps_its_fields()
-    ensures { KeepsFirstBytes 40 ⟦<NodeInfo as Attribute>⟧.value_in ⟦<NodeInfo as Attribute>⟧.bytes_of }
+    ensures { KeepsFirstBytes 40
+        ⟦<NodeInfo as Attribute>⟧.value_in
+        ⟦<NodeInfo as Attribute>⟧.bytes_of }
 {}
 
 /// A subnet manager's information keeps its 21 bytes of fields; the 43 reserved bytes behind them become 0.
 pub fn sm_info_keeps_its_fields()
-    ensures { KeepsFirstBytes 21 ⟦<SmInfo as Attribute>⟧.value_in ⟦<SmInfo as Attribute>⟧.bytes_of }
+    ensures { KeepsFirstBytes 21
+        ⟦<SmInfo as Attribute>⟧.value_in
+        ⟦<SmInfo as Attribute>⟧.bytes_of }
 {}
 
 /// Port information keeps all 64 bytes, named or not.
 pub fn port_info_keeps_all_bytes()
-    ensures { KeepsAllBytes ⟦<PortInfo as Attribute>⟧.value_in ⟦<PortInfo as Attribute>⟧.bytes_of }
+    ensures { KeepsAllBytes
+        ⟦<PortInfo as Attribute>⟧.value_in
+        ⟦<PortInfo as Attribute>⟧.bytes_of }
 {}
 
 /// Switch information keeps all 64 bytes, named or not.
 pub fn switch_info_keeps_all_bytes()
-    ensures { KeepsAllBytes ⟦<SwitchInfo as Attribute>⟧.value_in ⟦<SwitchInfo as Attribute>⟧.bytes_of }
+    ensures { KeepsAllBytes
+        ⟦<SwitchInfo as Attribute>⟧.value_in
+        ⟦<SwitchInfo as Attribute>⟧.bytes_of }
 {}
 
 /// A block of a forwarding table keeps all 64 bytes.
 pub fn lft_block_keeps_all_bytes()
-    ensures { KeepsAllBytes ⟦<LftBlock as Attribute>⟧.value_in ⟦<LftBlock as Attribute>⟧.bytes_of }
+    ensures { KeepsAllBytes
+        ⟦<LftBlock as Attribute>⟧.value_in
+        ⟦<LftBlock as Attribute>⟧.bytes_of }
 {}
 
 /// A description keeps all 64 bytes.
 pub fn node_description_keeps_all_bytes()
-    ensures { KeepsAllBytes ⟦<NodeDescription as Attribute>⟧.value_in ⟦<NodeDescription as Attribute>⟧.bytes_of }
+    ensures { KeepsAllBytes
+        ⟦<NodeDescription as Attribute>⟧.value_in
+        ⟦<NodeDescription as Attribute>⟧.bytes_of }
 {}
 
 /// Node information is spelled with each field at its place, and 0 in the 24 bytes behind them.
 pub fn node_info_is_spelled_by_its_fields()
-    ensures { SpellsEachValue 40 ⟦<NodeInfo as Attribute>⟧.value_in ⟦<NodeInfo as Attribute>⟧.bytes_of ⟦<NodeInfo as Attribute>⟧.is_value }
+    ensures { SpellsEachValue 40
+        ⟦<NodeInfo as Attribute>⟧.value_in
+        ⟦<NodeInfo as Attribute>⟧.bytes_of
+        ⟦<NodeInfo as Attribute>⟧.is_value }
 {}
 
 /// A subnet manager's information is spelled with each field at its place, and 0 in the 43 bytes behind them.
 pub fn sm_info_is_spelled_by_its_fields()
-    ensures { SpellsEachValue 21 ⟦<SmInfo as Attribute>⟧.value_in ⟦<SmInfo as Attribute>⟧.bytes_of ⟦<SmInfo as Attribute>⟧.is_value }
+    ensures { SpellsEachValue 21
+        ⟦<SmInfo as Attribute>⟧.value_in
+        ⟦<SmInfo as Attribute>⟧.bytes_of
+        ⟦<SmInfo as Attribute>⟧.is_value }
 {}
 
 /// Each type of a node has the number that is read as it, and no other number is.

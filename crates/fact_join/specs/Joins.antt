@@ -58,8 +58,10 @@ join_case same a b =
     elim (nat_lt (generation_of b) (generation_of a)) as (λ t. nat_lt (generation_of b) (generation_of a) ≡ t → JoinCase same a b) [
       | true ↦ λ p. first_newer (ltb-true _ _ p) (ap (λ t. cond t a (cond (nat_lt (generation_of a) (generation_of b)) b (joined_alike same a b))) p)
       | false ↦ λ p. (elim (nat_lt (generation_of a) (generation_of b)) as (λ t. nat_lt (generation_of a) (generation_of b) ≡ t → JoinCase same a b) [
-        | true ↦ λ q. second_newer (ltb-true _ _ q) (ap (λ t. cond t a (cond (nat_lt (generation_of a) (generation_of b)) b (joined_alike same a b))) p ∙ ap (λ t. cond t b (joined_alike same a b)) q)
-        | false ↦ λ q. alike (omega (arith, ltb-false _ _ p, ltb-false _ _ q)) (ap (λ t. cond t a (cond (nat_lt (generation_of a) (generation_of b)) b (joined_alike same a b))) p ∙ ap (λ t. cond t b (joined_alike same a b)) q)
+        | true ↦ λ q. second_newer (ltb-true _ _ q) (ap (λ t. cond t a (cond (nat_lt (generation_of a) (generation_of b)) b (joined_alike same a b))) p
+            ∙ ap (λ t. cond t b (joined_alike same a b)) q)
+        | false ↦ λ q. alike (omega (arith, ltb-false _ _ p, ltb-false _ _ q))
+            (ap (λ t. cond t a (cond (nat_lt (generation_of a) (generation_of b)) b (joined_alike same a b))) p ∙ ap (λ t. cond t b (joined_alike same a b)) q)
       ] refl)
     ] refl
 

@@ -53,7 +53,8 @@ may_be_asked_by (Via guid via) kind port = nat_lt 0 port && is_cabled_port via
 may_be_asked_by (About guid) kind port = nat_lt 0 port
 
 abbrev pub are_ports_in_range : Context → NodeType → NodeInfo → Bool
-are_ports_in_range context kind info = is_cabled_port info.num_ports && nat_le info.local_port_num info.num_ports && may_be_asked_by context kind info.local_port_num
+are_ports_in_range context kind info =
+    is_cabled_port info.num_ports && nat_le info.local_port_num info.num_ports && may_be_asked_by context kind info.local_port_num
 
 -- the fault of what a node says of itself
 abbrev pub kind_fault : Context → NodeInfo → Option NodeType → Option ReportFault
@@ -118,7 +119,8 @@ guid_port kind local_port = if is_switch kind then 0 else local_port
 -- the link between the port that was asked and the port before it, from both ends
 abbrev pub told_of_link : ℕ → Context → NodeInfo → Told
 told_of_link generation (Via peer port) info =
-    (Link info.node_guid info.local_port_num, Known generation (Peer peer port)) ∷ (Link peer port, Known generation (Peer info.node_guid info.local_port_num)) ∷ []
+    (Link info.node_guid info.local_port_num, Known generation (Peer peer port)) ∷
+    (Link peer port, Known generation (Peer info.node_guid info.local_port_num)) ∷ []
 told_of_link generation Start info = []
 told_of_link generation (About guid) info = []
 

@@ -1,6 +1,6 @@
 -- The tests of values and of cells are exact.
-use Rattle.std.proofs.Common.{◌≡◌, ℕ, refl, sym, ap, ◌∙◌, Bool, true, false, ◌==◌, ◌&&◌}
-use Rattle.std.proofs.lemmas.Bool.{eqb-true, eq-eqb}
+use Rattle.std.proofs.Common.{◌≡◌, ℕ, refl, sym, ap, ◌∙◌, Bool, true, false, ◌==◌}
+use Rattle.std.proofs.lemmas.Bool.{and_parts, eqb-true, eq-eqb}
 use Rattle.std.specs.Cmp.{IsEquivalence, both_ways}
 use Rattle.smp_bytes.specs.declared.node_type.NodeType.{NodeType}
 use Rattle.smp_bytes.specs.declared.node_type.NodeType.TheVariants.{ChannelAdapter, Switch, Router}
@@ -10,68 +10,28 @@ use Rattle.fact_store.specs.declared.value.Value.{Value}
 use Rattle.fact_store.specs.declared.value.Value.TheVariants.{Kind, Guid, Peer, Up, Lid, Count}
 use Rattle.fact_store.specs.Value.{is_same_type, is_same_flag, is_same_value, is_same_cell}
 
--- both tests are true
-both_true : (a b : Bool) → (a && b) ≡ true → (a ≡ true) × (b ≡ true)
-both_true true b e = (refl, e)
-both_true false b e = absurd (cc)
-
 -- types that the test does not tell apart are one
 same_type_exact : (a b : NodeType) → is_same_type a b ≡ true → a ≡ b
 same_type_exact ChannelAdapter ChannelAdapter e = refl
-same_type_exact ChannelAdapter Switch e = absurd (cc)
-same_type_exact ChannelAdapter Router e = absurd (cc)
-same_type_exact Switch ChannelAdapter e = absurd (cc)
 same_type_exact Switch Switch e = refl
-same_type_exact Switch Router e = absurd (cc)
-same_type_exact Router ChannelAdapter e = absurd (cc)
-same_type_exact Router Switch e = absurd (cc)
 same_type_exact Router Router e = refl
+same_type_exact _ _ e = absurd (cc)
 
 -- flags that the test does not tell apart are one
 same_flag_exact : (a b : Bool) → is_same_flag a b ≡ true → a ≡ b
 same_flag_exact true true e = refl
-same_flag_exact true false e = absurd (cc)
-same_flag_exact false true e = absurd (cc)
 same_flag_exact false false e = refl
+same_flag_exact _ _ e = absurd (cc)
 
 -- values that the test does not tell apart are one
 pub same_value_exact : (a b : Value) → is_same_value a b ≡ true → a ≡ b
-same_value_exact (Kind a m) (Kind b n) e = let p = both_true (is_same_type a b) (m == n) e in cc (same_type_exact a b p.0, eqb-true m n p.1)
-same_value_exact (Kind a m) (Guid b) e = absurd (cc)
-same_value_exact (Kind a m) (Peer b n) e = absurd (cc)
-same_value_exact (Kind a m) (Up b) e = absurd (cc)
-same_value_exact (Kind a m) (Lid b) e = absurd (cc)
-same_value_exact (Kind a m) (Count b) e = absurd (cc)
-same_value_exact (Guid a) (Kind b n) e = absurd (cc)
+same_value_exact (Kind a m) (Kind b n) e = let p = and_parts (is_same_type a b) (m == n) e in cc (same_type_exact a b p.0, eqb-true m n p.1)
 same_value_exact (Guid a) (Guid b) e = ap Guid (eqb-true a b e)
-same_value_exact (Guid a) (Peer b n) e = absurd (cc)
-same_value_exact (Guid a) (Up b) e = absurd (cc)
-same_value_exact (Guid a) (Lid b) e = absurd (cc)
-same_value_exact (Guid a) (Count b) e = absurd (cc)
-same_value_exact (Peer a m) (Kind b n) e = absurd (cc)
-same_value_exact (Peer a m) (Guid b) e = absurd (cc)
-same_value_exact (Peer a m) (Peer b n) e = let p = both_true (a == b) (m == n) e in cc (eqb-true a b p.0, eqb-true m n p.1)
-same_value_exact (Peer a m) (Up b) e = absurd (cc)
-same_value_exact (Peer a m) (Lid b) e = absurd (cc)
-same_value_exact (Peer a m) (Count b) e = absurd (cc)
-same_value_exact (Up a) (Kind b n) e = absurd (cc)
-same_value_exact (Up a) (Guid b) e = absurd (cc)
-same_value_exact (Up a) (Peer b n) e = absurd (cc)
+same_value_exact (Peer a m) (Peer b n) e = let p = and_parts (a == b) (m == n) e in cc (eqb-true a b p.0, eqb-true m n p.1)
 same_value_exact (Up a) (Up b) e = ap Up (same_flag_exact a b e)
-same_value_exact (Up a) (Lid b) e = absurd (cc)
-same_value_exact (Up a) (Count b) e = absurd (cc)
-same_value_exact (Lid a) (Kind b n) e = absurd (cc)
-same_value_exact (Lid a) (Guid b) e = absurd (cc)
-same_value_exact (Lid a) (Peer b n) e = absurd (cc)
-same_value_exact (Lid a) (Up b) e = absurd (cc)
 same_value_exact (Lid a) (Lid b) e = ap Lid (eqb-true a b e)
-same_value_exact (Lid a) (Count b) e = absurd (cc)
-same_value_exact (Count a) (Kind b n) e = absurd (cc)
-same_value_exact (Count a) (Guid b) e = absurd (cc)
-same_value_exact (Count a) (Peer b n) e = absurd (cc)
-same_value_exact (Count a) (Up b) e = absurd (cc)
-same_value_exact (Count a) (Lid b) e = absurd (cc)
 same_value_exact (Count a) (Count b) e = ap Count (eqb-true a b e)
+same_value_exact _ _ e = absurd (cc)
 
 -- a number equals itself
 same_number : (g : ℕ) → (g == g) ≡ true
@@ -98,7 +58,8 @@ exact_equiv : {V : Type 0} (same : V → V → Bool) → ((x y : V) → same x y
 exact_equiv same exact itself =
     record {
       refl = itself;
-      symm = λ x y. both_ways (same x y) (same y x) (λ e. ap (λ z. same z x) (sym (exact x y e)) ∙ itself x) (λ e. ap (λ z. same z y) (sym (exact y x e)) ∙ itself y);
+      symm = λ x y. both_ways (same x y) (same y x) (λ e. ap (λ z. same z x) (sym (exact x y e)) ∙ itself x) (λ e. ap (λ z. same z y) (sym (exact y x e))
+          ∙ itself y);
       congr = λ x y z e. ap (λ w. same w z) (exact x y e);
     }
 
@@ -108,10 +69,9 @@ same_value_equiv = exact_equiv is_same_value same_value_exact same_value_itself
 
 -- cells that the test does not tell apart are one
 pub same_cell_exact : (a b : Cell Value) → is_same_cell a b ≡ true → a ≡ b
-same_cell_exact (Known g x) (Known h y) e = let p = both_true (g == h) (is_same_value x y) e in cc (eqb-true g h p.0, same_value_exact x y p.1)
-same_cell_exact (Known g x) (Disputed h) e = absurd (cc)
-same_cell_exact (Disputed g) (Known h y) e = absurd (cc)
+same_cell_exact (Known g x) (Known h y) e = let p = and_parts (g == h) (is_same_value x y) e in cc (eqb-true g h p.0, same_value_exact x y p.1)
 same_cell_exact (Disputed g) (Disputed h) e = ap Disputed (eqb-true g h e)
+same_cell_exact _ _ e = absurd (cc)
 
 -- a cell is the same as itself
 pub same_cell_itself : (a : Cell Value) → is_same_cell a a ≡ true

@@ -100,7 +100,7 @@ fn is_key(key: &Key) -> bool
 {
     match *key {
         Key::Node(node) | Key::Cap(node) => is_guid(node),
-        Key::Link(node, port) => is_guid(node) && is_cabled_port(port),
+        Key::Link(node, port) => is_guid(node) && is_cabled_port(port.number()),
         Key::PortGuid(node, port) | Key::Port(node, port) | Key::Claim(node, port) => {
             is_guid(node) && is_any_port(port)
         }
@@ -120,9 +120,9 @@ fn is_value_of(key: &Key, value: &Value) -> bool
     ensures { result ≡ is_value_of key.now value.now }
 {
     match (key, *value) {
-        (Key::Node(_), Value::Kind(_, ports)) => is_cabled_port(PortNum::new(ports)),
+        (Key::Node(_), Value::Kind(_, ports)) => is_cabled_port(ports),
         (Key::PortGuid(..), Value::Guid(guid)) => is_guid(guid),
-        (Key::Link(..), Value::Peer(node, port)) => is_guid(node) && is_cabled_port(port),
+        (Key::Link(..), Value::Peer(node, port)) => is_guid(node) && is_cabled_port(port.number()),
         (Key::Port(..), Value::Up(_)) => true,
         (Key::Claim(..), Value::Lid(lid)) => matches!(lid.number(), 0..=u16::MAX),
         (Key::Cap(_), Value::Count(count)) => matches!(count, 0..=u16::MAX),
@@ -148,8 +148,9 @@ fn is_any_port(port: PortNum) -> bool
     matches!(port.number(), 0..=254)
 }
 
-fn is_cabled_port(port: PortNum) -> bool
+/// Whether a cable can be in the port; also whether a node can have so many ports.
+pub(crate) fn is_cabled_port(port: u8) -> bool
     ensures { result ≡ is_cabled_port port }
 {
-    matches!(port.number(), 1..=254)
+    matches!(port, 1..=254)
 }

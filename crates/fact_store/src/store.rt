@@ -117,7 +117,7 @@ impl Store {
     }
 
     /// Adds all that the other store holds. An empty store takes the other one over as it is.
-    pub fn absorb(&mut self, other: Store) -> Result<(), Refused>
+    pub fn merge_owned(&mut self, other: Store) -> Result<(), Refused>
         ensures ok { OnOk result (self.new ≡ merge self.old other) }
         ensures err { OnErr result (self.new ≡ self.old) }
     {

@@ -5,12 +5,12 @@ ghost use Rattle.smp_bytes.specs.Field.{bits_in};
 ghost use Rattle.attr_codec.specs.NodeInfo.{FitsNodeInfo};
 ghost use Rattle.attr_codec.specs.PortInfo.{port_state};
 ghost use Rattle.fact_store.specs.Report.{about_fault, answer_fault, packet_fault, attribute_fault, node_info_fault, port_info_fault, told_by_node_info, told_by_packet, told_by_port_info, told_by_switch_info, are_ports_in_range, fits_node_info, told_of_kind, is_up_state, report_fault, sightings_of};
-ghost use Rattle.fact_store.specs.Sighting.{is_cabled_port, is_generation};
+ghost use Rattle.fact_store.specs.Sighting.{is_generation};
 
 use crate::key::Key;
 use crate::report::{Context, Report};
 use crate::report_fault::ReportFault;
-use crate::sighting::Sighting;
+use crate::sighting::{Sighting, is_cabled_port};
 use crate::value::Value;
 use arrayvec::ArrayVec;
 use attr_codec::{Attribute, NodeInfo, PortInfo, PortState, SwitchInfo};
@@ -69,7 +69,8 @@ fn told_by_packet(
 ) -> Result<ArrayVec<Sighting, 4>, ReportFault>
     requires { IsTrue (is_generation generation) }
     ensures judged { Judges result (attribute_fault context.now smp.now) }
-    ensures told { IfOk result (λ told. told.items ≡ told_by_packet generation context.now smp.now) }
+    ensures told { IfOk result
+        (λ told. told.items ≡ told_by_packet generation context.now smp.now) }
 {
     match smp.attribute_id() {
         AttributeId::NODE_INFO => told_by_node_info(generation, context, smp),
@@ -87,7 +88,8 @@ fn told_by_node_info(
 ) -> Result<ArrayVec<Sighting, 4>, ReportFault>
     requires { IsTrue (is_generation generation) }
     ensures judged { Judges result (node_info_fault context.now smp.now) }
-    ensures told { IfOk result (λ told. told.items ≡ told_by_node_info generation context.now smp.now) }
+    ensures told { IfOk result
+        (λ told. told.items ≡ told_by_node_info generation context.now smp.now) }
 {
     if !fits_node_info(context, smp.hop_count()) {
         return Err(ReportFault::Context);
@@ -144,12 +146,6 @@ fn fits_node_info(context: &Context, hops: u8) -> bool
     }
 }
 
-fn is_cabled_port(port: u8) -> bool
-    ensures { result ≡ is_cabled_port port }
-{
-    (1..=254).contains(&port)
-}
-
 fn are_ports_in_range(context: &Context, kind: NodeType, info: &NodeInfo) -> bool
     ensures { result ≡ are_ports_in_range context.now kind info.now }
 {
@@ -170,7 +166,8 @@ fn told_by_port_info(
 ) -> Result<ArrayVec<Sighting, 4>, ReportFault>
     requires { IsTrue (is_generation generation) }
     ensures judged { Judges result (port_info_fault context.now smp.now) }
-    ensures told { IfOk result (λ told. told.items ≡ told_by_port_info generation context.now smp.now) }
+    ensures told { IfOk result
+        (λ told. told.items ≡ told_by_port_info generation context.now smp.now) }
 {
     let Some(node) = context.about() else {
         return Err(ReportFault::Context);
@@ -207,7 +204,8 @@ fn told_by_switch_info(
 ) -> Result<ArrayVec<Sighting, 4>, ReportFault>
     requires { IsTrue (is_generation generation) }
     ensures judged { Judges result (about_fault context.now) }
-    ensures told { IfOk result (λ told. told.items ≡ told_by_switch_info generation context.now smp.now) }
+    ensures told { IfOk result
+        (λ told. told.items ≡ told_by_switch_info generation context.now smp.now) }
 {
     let Some(node) = context.about() else {
         return Err(ReportFault::Context);

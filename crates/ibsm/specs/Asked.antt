@@ -1,9 +1,31 @@
 -- What the command line asks for.
-use Rattle.std.specs.Prelude.{List, ℕ, codes}
+use Rattle.std.specs.Prelude.{◌≡◌, List, ℕ, Option, Some, codes, find, length, option_map, option_and_then}
+use Rattle.std.specs.Str.{bytes_eq}
+use Rattle.clap.specs.Matches.{subcommand_name_of}
+use Rattle.clap.specs.Simple.{subcommand_rows_of}
+use Rattle.clap.specs.Walk.{Row}
+use Rattle.clap.specs.declared.parser.matches.ArgMatches.{ArgMatches}
 use Rattle.sm_cli.specs.declared.run.Command.{Command}
 use Rattle.sm_cli.specs.declared.run.Command.TheVariants.{Facts, Join}
+use Rattle.ibsm.specs.Ending.{AnswersFiles}
 
 -- the subcommand that asks for a command
 abbrev pub word_of : Command → List ℕ
 word_of Facts = codes "facts"
 word_of Join = codes "join"
+
+-- the values of the argument with this name
+abbrev pub values_in : List ℕ → List Row → Option (List (List ℕ))
+values_in name rows = option_map (λ r. r.values) (find (λ r. bytes_eq r.id name) rows)
+
+-- the names of files behind the subcommand
+abbrev pub files_named : ArgMatches → Option (List (List ℕ))
+files_named matches = option_and_then (λ s. values_in (codes "FILE") s.1) (subcommand_rows_of matches)
+
+-- the words ask for a command, and for as many files as were read and answered
+pub record AnswersWords (matches : ArgMatches) (written written' : Option (List ℕ)) : Type 0 where
+  pub command : Command
+  pub asked : subcommand_name_of matches ≡ Some (word_of command)
+  pub names : List (List ℕ)
+  pub named : files_named matches ≡ Some names
+  pub answered : AnswersFiles command (length names) written written'

@@ -62,8 +62,10 @@ where
     ensures refused { IfErr result (IsFaultAmong (length names.now) (⟦<ToWrite<O> as Sink>⟧.has_failed output.new)) }
     ensures nothing_written { OnErr result ((result ≡ Err Fault.Write) ⊎ (output.new ≡ output.old)) }
 {
-    let mut sources = open_all(rt, names)?;
-    run_files(rt.alloc(), &mut sources, command, output)
+    match open_all(rt, names) {
+        Ok(mut sources) => run_files(rt.alloc(), &mut sources, command, output),
+        Err(fault) => Err(fault),
+    }
 }
 
 /// Opens the files with these names, in their order.

@@ -1,13 +1,13 @@
 //! One run of the program.
-ghost use Rattle.std.specs.Prelude.{◌≡◌, Some, IfSome};
-ghost use Rattle.clap.specs.Words.{subcommand_name_of};
-ghost use Rattle.ibsm.specs.Asked.{word_of};
+ghost use Rattle.std.specs.Prelude.{◌≡◌, Some, IfSome, map};
+ghost use Rattle.clap.specs.Matches.{subcommand_name_of};
+ghost use Rattle.ibsm.specs.Asked.{AnswersWords, files_named, word_of};
 
 use crate::arguments::{FACTS, FILE, JOIN, command_line};
 use crate::files::{answer_or_explain, say};
 use clap::error::ErrorKind;
 use clap::{ArgMatches, Error};
-use record_file::ToWrite;
+use record_file::{Sink, ToWrite};
 use sm_cli::{Command, ExitStatus, Fault};
 use std::alloc::AllocError;
 use std::io::{BufWriter, Write};
@@ -42,8 +42,9 @@ where
     let Some(words) = words(rt)? else {
         return Ok(ExitStatus::Usage);
     };
+    let writer = BufWriter::new(rt.alloc(), output).map_err(|_| AllocError)?;
     match command_line(rt.alloc())?.try_get_matches_from(words.as_slice()) {
-        Ok(matches) => obey(rt, &matches, output, errors),
+        Ok(matches) => Ok(obey(rt, &matches, &mut ToWrite::new(writer), errors)),
         Err(error) => explain(rt, &error, errors),
     }
 }
@@ -60,33 +61,30 @@ fn words<R: Env + Eprint + AllocGlobal>(rt: &R) -> Result<Option<Vec<String>>, A
     }
 }
 
-/// Does what the words ask for.
+/// Does what the words ask for, and says on `errors` why it cannot.
 fn obey<R, O, E>(
     rt: &R,
     matches: &ArgMatches<'_>,
-    output: O,
+    output: &mut ToWrite<O>,
     errors: &mut ToWrite<E>,
-) -> Result<ExitStatus, AllocError>
+) -> ExitStatus
 where
     R: Files + AllocGlobal,
-    O: Write + Drop,
+    O: Write,
     E: Write,
+    ensures done { result ≡ ExitStatus.Done → AnswersWords matches.now
+        (⟦<ToWrite<O> as Sink>⟧.written output.old) (⟦<ToWrite<O> as Sink>⟧.written output.new) }
 {
-    let Some((command, names)) = asked(matches) else {
-        return Ok(ExitStatus::Usage);
-    };
-    match BufWriter::new(rt.alloc(), output) {
-        Ok(writer) => {
-            let mut output = ToWrite::new(writer);
-            Ok(answer_or_explain(rt, command, names, &mut output, errors))
-        }
-        Err(_) => Err(AllocError),
+    match asked(matches) {
+        Some((command, names)) => answer_or_explain(rt, command, names, output, errors),
+        None => ExitStatus::Usage,
     }
 }
 
 /// The command that the words of the command line ask for, and the names of its files.
 pub(crate) fn asked<'m, 'a>(matches: &'m ArgMatches<'a>) -> Option<(Command, &'m [&'a str])>
-    ensures { IfSome result (λ asked. subcommand_name_of matches.now ≡ Some (word_of asked.0)) }
+    ensures command { IfSome result (λ asked. subcommand_name_of matches.now ≡ Some (word_of asked.0)) }
+    ensures files { IfSome result (λ asked. files_named matches.now ≡ Some (map (λ n. n.now) asked.1.now)) }
 {
     let (name, words) = matches.subcommand()?;
     let command = match name {

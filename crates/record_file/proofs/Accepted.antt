@@ -1,5 +1,6 @@
 -- Exactly the magic with good records behind it is accepted.
-use Rattle.std.proofs.Common.{◌≡◌, ℕ, zero, suc, ◌+◌, ◌-◌, ◌*◌, ◌/◌, ◌%◌, ◌<◌, ◌≤◌, ◌^◌, List, [], ◌∷◌, ◌++◌, Option, None, Some, Result, Ok, Err, IsOk, ◌↔◌, length, take, drop, refl, sym, ap, ◌∙◌, subst, arith, append-nil, length-append, length-drop}
+use Rattle.std.proofs.Common.{◌≡◌, ℕ, zero, suc, ◌+◌, ◌-◌, ◌*◌, ◌/◌, ◌%◌, ◌<◌, ◌≤◌, ◌^◌, List, [], ◌∷◌, ◌++◌, Option, None, Some, Result, Ok, Err}
+use Rattle.std.proofs.Common.{IsOk, length, drop, refl, sym, ap, ◌∙◌, arith, append-nil, length-append, length-drop}
 use Rattle.std.specs.List.{AllByRecursion, concat}
 use Rattle.std.proofs.lemmas.List.{take_all}
 use Rattle.std.proofs.Math.Nat.{div-add-mod}
@@ -8,12 +9,14 @@ use Rattle.fact_store.specs.declared.report_fault.ReportFault.{ReportFault}
 use Rattle.record_file.specs.declared.file_fault.FileFault.{FileFault}
 use Rattle.record_file.specs.declared.format.Format.{Format}
 use Rattle.record_file.specs.declared.format.Format.TheVariants.{Reports}
-use Rattle.record_file.specs.Laws.{IsGoodReport, IsReportFile, ReportFilesAreAccepted}
+use Rattle.record_file.specs.Laws.{IsGoodReport, ReportFilesAreAccepted}
 use Rattle.record_file.specs.ReportRecord.{report_judged}
-use Rattle.record_file.specs.RecordFile.{fault_in, fault_or, first_fault, first_records, format_of, magic, of_report, outcome, record_size, records, records_in_reach}
+use Rattle.record_file.specs.RecordFile.{fault_in, fault_or, first_fault, first_records, format_of, magic, of_report, outcome, record_size, records}
+use Rattle.record_file.specs.RecordFile.{records_in_reach}
 use Rattle.record_file.proofs.Beginnings.{first_records-whole, found, well_found}
 use Rattle.record_file.proofs.Formats.{whole_of}
-use Rattle.record_file.proofs.Records.{AreRecords, Sightings, bytes_of, ending-whole, file, format_of-magic, length-concat, length-file, outcome-part, size-positive}
+use Rattle.record_file.proofs.Records.{AreRecords, Sightings, bytes_of, ending-whole, file, format_of-magic, length-concat, length-file, outcome-part}
+use Rattle.record_file.proofs.Records.{size-positive}
 
 length-first_records : (size n : ℕ) (x : List ℕ) → length (first_records size n x) ≡ n
 length-first_records size zero x = refl
@@ -32,7 +35,8 @@ records-all size x h =
     let fits : size * (length x / size) ≤ length x = omega arith in
     let whole = first_records-whole size n x fits in
     let long : length x ≡ size * n + length whole.1.0 =
-    ap length whole.1.1 ∙ length-append (concat (first_records size n x)) whole.1.0 ∙ ap (λ k. k + length whole.1.0) (length-concat size (first_records size n x) whole.0 ∙ ap (λ k. size * k) (length-first_records size n x)) in
+    ap length whole.1.1 ∙ length-append (concat (first_records size n x)) whole.1.0
+    ∙ ap (λ k. k + length whole.1.0) (length-concat size (first_records size n x) whole.0 ∙ ap (λ k. size * k) (length-first_records size n x)) in
     let none : whole.1.0 ≡ [] = nothing whole.1.0 (omega arith) in
     (whole.0, whole.1.1 ∙ ap (λ l. concat (first_records size n x) ++ l) none ∙ append-nil (concat (first_records size n x)))
 
@@ -44,7 +48,8 @@ pub record IsFile (format : Format) (bytes : List ℕ) (rs : List (List ℕ)) : 
   pub short : length bytes < 2 ^ 40
 
 -- what is accepted is a file of good records
-pub accepted_is_file : (format : Format) (bytes : List ℕ) → format_of bytes ≡ Some format → outcome bytes ≡ Ok tt → (records_in_reach format bytes ≡ records (record_size format) (drop 8 bytes)) × IsFile format bytes (records (record_size format) (drop 8 bytes))
+pub accepted_is_file : (format : Format) (bytes : List ℕ) → format_of bytes ≡ Some format → outcome bytes ≡ Ok tt
+    → (records_in_reach format bytes ≡ records (record_size format) (drop 8 bytes)) × IsFile format bytes (records (record_size format) (drop 8 bytes))
 accepted_is_file format bytes known ok =
     let was = well_found bytes (outcome bytes) (found bytes) ok in
     let w = record_size format in
@@ -65,7 +70,8 @@ accepted_is_file format bytes known ok =
     )
 
 -- and a file of good records is accepted
-pub file_is_accepted : (format : Format) (bytes : List ℕ) (rs : List (List ℕ)) → IsFile format bytes rs → (format_of bytes ≡ Some format) × (outcome bytes ≡ Ok tt)
+pub file_is_accepted : (format : Format) (bytes : List ℕ) (rs : List (List ℕ)) → IsFile format bytes rs
+    → (format_of bytes ≡ Some format) × (outcome bytes ≡ Ok tt)
 file_is_accepted format bytes rs is =
     let same : bytes ≡ file format rs [] = is.whole ∙ ap (λ l. magic format ++ l) (sym (append-nil (concat rs))) in
     let size = length-file format rs [] is.records in
@@ -95,7 +101,8 @@ ok_then (Err f) i later h none = absurd (cc)
 
 pub faultless : (last : Option Key) (i : ℕ) (rs : List (List ℕ)) → AllByRecursion IsGoodReport rs → AreRecords 272 rs × (first_fault Reports last i rs ≡ None)
 faultless last i [] h = (tt, refl)
-faultless last i (r ∷ rs) h = let later = faultless None (i + 1) rs h.1 in ((h.0.0, later.0), ok_then (report_judged r) i (first_fault Reports None (i + 1) rs) h.0.1 later.1)
+faultless last i (r ∷ rs) h =
+    let later = faultless None (i + 1) rs h.1 in ((h.0.0, later.0), ok_then (report_judged r) i (first_fault Reports None (i + 1) rs) h.0.1 later.1)
 
 pub accepted : ReportFilesAreAccepted
 accepted bytes = (

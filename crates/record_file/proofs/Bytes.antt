@@ -1,5 +1,6 @@
 -- Lemmas on what several reads or writes do to known bytes.
-use Rattle.std.proofs.Common.{◌≡◌, ℕ, ◌-◌, ◌≤◌, ◌+◌, List, ◌++◌, Option, None, Some, Result, Ok, Err, IfOk, length, take, drop, sym, ap, ◌∙◌, append_assoc, take-append-drop}
+use Rattle.std.proofs.Common.{◌≡◌, ℕ, ◌-◌, ◌≤◌, ◌+◌, List, ◌++◌, Option, None, Some, Result, Ok, Err, IfOk, length, take, drop, sym, ap, ◌∙◌}
+use Rattle.std.proofs.Common.{append_assoc, take-append-drop}
 use Rattle.std.proofs.lemmas.List.{take_rest, take-append-le, length-take-le}
 use Rattle.std.proofs.Math.Seq.{take-append-add}
 use Rattle.std.specs.Io.KnownBytes.{Appends, Consumes, Keeps, ReadConsumes}
@@ -44,7 +45,8 @@ take_part buffer room back filled n front_fits fits =
 
 pub read_part : {E : Type 0} (r : Result ℕ E) (old new : Option (List ℕ)) (buffer room back : List ℕ) (filled : ℕ) → filled ≤ length buffer
     → IfOk r (λ n. n ≤ length room) → ReadConsumes old new r room
-    → IfOk r (λ n. (piece : List ℕ) × (length piece ≡ n) × Consumes old new piece × (take (filled + n) (take filled buffer ++ (room ++ back)) ≡ take filled buffer ++ piece))
+    → IfOk r (λ n. (piece : List ℕ) × (length piece ≡ n) × Consumes old new piece ×
+    (take (filled + n) (take filled buffer ++ (room ++ back)) ≡ take filled buffer ++ piece))
 read_part (Ok n) old new buffer room back filled fits within read =
     (take n room, length-take-le n room within, read.0, take_part buffer room back filled n fits within)
 read_part (Err e) old new buffer room back filled fits within read = tt

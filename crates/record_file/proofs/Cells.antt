@@ -1,7 +1,8 @@
 -- Lemmas on the spelling of a cell.
-use Rattle.std.proofs.Common.{◌≡◌, ℕ, ◌+◌, ◌<◌, ◌≤◌, ◌^◌, ◌==◌, Bool, true, false, ◌&&◌, List, [], ◌∷◌, ◌++◌, Option, None, Some, IsSome, IfSome, ◌↔◌, length, take, drop, cond, refl, sym, ap, ◌∙◌, subst, arith}
+use Rattle.std.proofs.Common.{◌≡◌, ℕ, ◌<◌, ◌^◌, ◌==◌, Bool, true, false, ◌&&◌, List, Option, None, Some, IsSome, IfSome, ◌↔◌, length, take, drop}
+use Rattle.std.proofs.Common.{cond, refl, sym, ap, ◌∙◌, subst, arith}
 use Rattle.std.specs.Prelude.{nat_le, nat_lt, slice_index, option_map, option_and_then}
-use Rattle.std.specs.Int.{to_be_bytes, from_be_bytes, w16, w32, w64}
+use Rattle.std.specs.Int.{to_be_bytes, from_be_bytes, w32, w64}
 use Rattle.std.specs.Str.{bytes_eq}
 use Rattle.std.proofs.lemmas.Slice.Eq.{bytes_eq-Decides}
 use Rattle.std.proofs.lemmas.Bool.Decides.{nat_tests}
@@ -15,8 +16,10 @@ use Rattle.fact_store.specs.declared.key.Key.{Key}
 use Rattle.fact_store.specs.declared.key.Key.TheVariants.{Node, PortGuid, Link, Port, Claim, Cap}
 use Rattle.fact_store.specs.declared.value.Value.{Value}
 use Rattle.fact_store.specs.declared.value.Value.TheVariants.{Kind, Guid, Peer, Up, Lid, Count}
-use Rattle.fact_store.specs.Sighting.{IsCabledPort, IsCellOf, IsGeneration, IsKey, IsSighting, IsValueOf}
-use Rattle.record_file.specs.CellRecord.{candidate, cell_of, filled_up, flag_byte, if_sighting, if_spelled, is_cabled_port, is_cell_of, is_key, is_sighting, is_value_of, key_guid, key_of, key_port, kind_byte, record_bytes, state_byte, state_of, type_byte, type_of, value_bytes, value_of}
+use Rattle.attr_codec.specs.NodeTypeNumber.{number_of_type, type_of_number}
+use Rattle.fact_store.specs.Sighting.{IsSighting, is_any_port, is_cabled_port, is_cell_of, is_generation, is_guid, is_key, is_sighting, is_value_of}
+use Rattle.record_file.specs.CellRecord.{candidate, cell_of, filled_up, flag_byte, if_sighting, if_spelled, key_guid, key_of, key_port, kind_byte}
+use Rattle.record_file.specs.CellRecord.{record_bytes, value_bytes, value_of}
 
 -- the tests of ranges ---------------------------------------------------------------
 
@@ -24,151 +27,29 @@ both : (a b : Bool) → (a && b) ≡ true → (a ≡ true) × (b ≡ true)
 both true b h = (refl, h)
 both false b h = absurd (cc)
 
-and_also : (a b : Bool) → a ≡ true → b ≡ true → (a && b) ≡ true
-and_also true b h k = k
-and_also false b h k = absurd (cc)
-
-le_tested : (a b : ℕ) → nat_le a b ≡ true → a ≤ b
-le_tested a b h = grind (arith, nat_tests)
-
-tested_le : (a b : ℕ) → a ≤ b → nat_le a b ≡ true
-tested_le a b h = grind (arith, nat_tests)
-
 lt_tested : (a b : ℕ) → nat_lt a b ≡ true → a < b
 lt_tested a b h = grind (arith, nat_tests)
 
-tested_lt : (a b : ℕ) → a < b → nat_lt a b ≡ true
-tested_lt a b h = grind (arith, nat_tests)
+-- the key, the generation and the cell of a sighting are in their ranges
+record Parts (e : Key × Cell Value) : Type 0 where
+  key : is_key e.0 ≡ true
+  generation : generation_of e.1 < 2 ^ 32
+  cell : is_cell_of e.0 e.1 ≡ true
 
-port_tested : (p : ℕ) → is_cabled_port p ≡ true → IsCabledPort p
-port_tested p h = let t = both (nat_le 1 p) (nat_le p 254) h in (le_tested 1 p t.0, le_tested p 254 t.1)
-
-tested_port : (p : ℕ) → IsCabledPort p → is_cabled_port p ≡ true
-tested_port p h = and_also (nat_le 1 p) (nat_le p 254) (tested_le 1 p h.0) (tested_le p 254 h.1)
-
-key_tested : (key : Key) → is_key key ≡ true → IsKey key
-key_tested (Node g) h = lt_tested g (2 ^ 64) h
-key_tested (PortGuid g p) h = let t = both (nat_lt g (2 ^ 64)) (nat_le p 254) h in (lt_tested g (2 ^ 64) t.0, le_tested p 254 t.1)
-key_tested (Link g p) h = let t = both (nat_lt g (2 ^ 64)) (is_cabled_port p) h in (lt_tested g (2 ^ 64) t.0, port_tested p t.1)
-key_tested (Port g p) h = let t = both (nat_lt g (2 ^ 64)) (nat_le p 254) h in (lt_tested g (2 ^ 64) t.0, le_tested p 254 t.1)
-key_tested (Claim g p) h = let t = both (nat_lt g (2 ^ 64)) (nat_le p 254) h in (lt_tested g (2 ^ 64) t.0, le_tested p 254 t.1)
-key_tested (Cap g) h = lt_tested g (2 ^ 64) h
-
-tested_key : (key : Key) → IsKey key → is_key key ≡ true
-tested_key (Node g) h = tested_lt g (2 ^ 64) h
-tested_key (PortGuid g p) h = and_also (nat_lt g (2 ^ 64)) (nat_le p 254) (tested_lt g (2 ^ 64) h.0) (tested_le p 254 h.1)
-tested_key (Link g p) h = and_also (nat_lt g (2 ^ 64)) (is_cabled_port p) (tested_lt g (2 ^ 64) h.0) (tested_port p h.1)
-tested_key (Port g p) h = and_also (nat_lt g (2 ^ 64)) (nat_le p 254) (tested_lt g (2 ^ 64) h.0) (tested_le p 254 h.1)
-tested_key (Claim g p) h = and_also (nat_lt g (2 ^ 64)) (nat_le p 254) (tested_lt g (2 ^ 64) h.0) (tested_le p 254 h.1)
-tested_key (Cap g) h = tested_lt g (2 ^ 64) h
-
-value_tested : (key : Key) (value : Value) → is_value_of key value ≡ true → IsValueOf key value
-value_tested (Node g) (Kind kind ports) h = port_tested ports h
-value_tested (Node g) (Guid guid) h = absurd (cc)
-value_tested (Node g) (Peer guid port) h = absurd (cc)
-value_tested (Node g) (Up up) h = absurd (cc)
-value_tested (Node g) (Lid lid) h = absurd (cc)
-value_tested (Node g) (Count count) h = absurd (cc)
-value_tested (PortGuid g p) (Kind kind ports) h = absurd (cc)
-value_tested (PortGuid g p) (Guid guid) h = lt_tested guid (2 ^ 64) h
-value_tested (PortGuid g p) (Peer guid port) h = absurd (cc)
-value_tested (PortGuid g p) (Up up) h = absurd (cc)
-value_tested (PortGuid g p) (Lid lid) h = absurd (cc)
-value_tested (PortGuid g p) (Count count) h = absurd (cc)
-value_tested (Link g p) (Kind kind ports) h = absurd (cc)
-value_tested (Link g p) (Guid guid) h = absurd (cc)
-value_tested (Link g p) (Peer guid port) h = let t = both (nat_lt guid (2 ^ 64)) (is_cabled_port port) h in (lt_tested guid (2 ^ 64) t.0, port_tested port t.1)
-value_tested (Link g p) (Up up) h = absurd (cc)
-value_tested (Link g p) (Lid lid) h = absurd (cc)
-value_tested (Link g p) (Count count) h = absurd (cc)
-value_tested (Port g p) (Kind kind ports) h = absurd (cc)
-value_tested (Port g p) (Guid guid) h = absurd (cc)
-value_tested (Port g p) (Peer guid port) h = absurd (cc)
-value_tested (Port g p) (Up up) h = tt
-value_tested (Port g p) (Lid lid) h = absurd (cc)
-value_tested (Port g p) (Count count) h = absurd (cc)
-value_tested (Claim g p) (Kind kind ports) h = absurd (cc)
-value_tested (Claim g p) (Guid guid) h = absurd (cc)
-value_tested (Claim g p) (Peer guid port) h = absurd (cc)
-value_tested (Claim g p) (Up up) h = absurd (cc)
-value_tested (Claim g p) (Lid lid) h = lt_tested lid (2 ^ 16) h
-value_tested (Claim g p) (Count count) h = absurd (cc)
-value_tested (Cap g) (Kind kind ports) h = absurd (cc)
-value_tested (Cap g) (Guid guid) h = absurd (cc)
-value_tested (Cap g) (Peer guid port) h = absurd (cc)
-value_tested (Cap g) (Up up) h = absurd (cc)
-value_tested (Cap g) (Lid lid) h = absurd (cc)
-value_tested (Cap g) (Count count) h = lt_tested count (2 ^ 16) h
-
-tested_value : (key : Key) (value : Value) → IsValueOf key value → is_value_of key value ≡ true
-tested_value (Node g) (Kind kind ports) h = tested_port ports h
-tested_value (Node g) (Guid guid) h = absurd h
-tested_value (Node g) (Peer guid port) h = absurd h
-tested_value (Node g) (Up up) h = absurd h
-tested_value (Node g) (Lid lid) h = absurd h
-tested_value (Node g) (Count count) h = absurd h
-tested_value (PortGuid g p) (Kind kind ports) h = absurd h
-tested_value (PortGuid g p) (Guid guid) h = tested_lt guid (2 ^ 64) h
-tested_value (PortGuid g p) (Peer guid port) h = absurd h
-tested_value (PortGuid g p) (Up up) h = absurd h
-tested_value (PortGuid g p) (Lid lid) h = absurd h
-tested_value (PortGuid g p) (Count count) h = absurd h
-tested_value (Link g p) (Kind kind ports) h = absurd h
-tested_value (Link g p) (Guid guid) h = absurd h
-tested_value (Link g p) (Peer guid port) h = and_also (nat_lt guid (2 ^ 64)) (is_cabled_port port) (tested_lt guid (2 ^ 64) h.0) (tested_port port h.1)
-tested_value (Link g p) (Up up) h = absurd h
-tested_value (Link g p) (Lid lid) h = absurd h
-tested_value (Link g p) (Count count) h = absurd h
-tested_value (Port g p) (Kind kind ports) h = absurd h
-tested_value (Port g p) (Guid guid) h = absurd h
-tested_value (Port g p) (Peer guid port) h = absurd h
-tested_value (Port g p) (Up up) h = refl
-tested_value (Port g p) (Lid lid) h = absurd h
-tested_value (Port g p) (Count count) h = absurd h
-tested_value (Claim g p) (Kind kind ports) h = absurd h
-tested_value (Claim g p) (Guid guid) h = absurd h
-tested_value (Claim g p) (Peer guid port) h = absurd h
-tested_value (Claim g p) (Up up) h = absurd h
-tested_value (Claim g p) (Lid lid) h = tested_lt lid (2 ^ 16) h
-tested_value (Claim g p) (Count count) h = absurd h
-tested_value (Cap g) (Kind kind ports) h = absurd h
-tested_value (Cap g) (Guid guid) h = absurd h
-tested_value (Cap g) (Peer guid port) h = absurd h
-tested_value (Cap g) (Up up) h = absurd h
-tested_value (Cap g) (Lid lid) h = absurd h
-tested_value (Cap g) (Count count) h = tested_lt count (2 ^ 16) h
-
-cell_tested : (key : Key) (cell : Cell Value) → is_cell_of key cell ≡ true → IsCellOf key cell
-cell_tested key (Known generation value) h = value_tested key value h
-cell_tested key (Disputed generation) h = tt
-
-tested_cell : (key : Key) (cell : Cell Value) → IsCellOf key cell → is_cell_of key cell ≡ true
-tested_cell key (Known generation value) h = tested_value key value h
-tested_cell key (Disputed generation) h = refl
-
--- the test of a sighting is true exactly where it is one
-pub sighting_tested : (e : Key × Cell Value) → is_sighting e ≡ true → IsSighting e
-sighting_tested e h =
+parts : (e : Key × Cell Value) → IsSighting e → Parts e
+parts e h =
     let g = generation_of e.1 in
-    let t = both (is_key e.0 && (nat_le 1 g && nat_lt g (2 ^ 32))) (is_cell_of e.0 e.1) h in
-    let u = both (is_key e.0) (nat_le 1 g && nat_lt g (2 ^ 32)) t.0 in
-    let v = both (nat_le 1 g) (nat_lt g (2 ^ 32)) u.1 in
-    record { key = key_tested e.0 u.0; generation = (le_tested 1 g v.0, lt_tested g (2 ^ 32) v.1); cell = cell_tested e.0 e.1 t.1 }
-
-pub tested_sighting : (e : Key × Cell Value) → IsSighting e → is_sighting e ≡ true
-tested_sighting e h =
-    let g = generation_of e.1 in
-    and_also (is_key e.0 && (nat_le 1 g && nat_lt g (2 ^ 32))) (is_cell_of e.0 e.1)
-    (and_also (is_key e.0) (nat_le 1 g && nat_lt g (2 ^ 32)) (tested_key e.0 h.key) (and_also (nat_le 1 g) (nat_lt g (2 ^ 32)) (tested_le 1 g h.generation.0) (tested_lt g (2 ^ 32) h.generation.1)))
-    (tested_cell e.0 e.1 h.cell)
+    let t = both (is_key e.0 && is_generation g) (is_cell_of e.0 e.1) h in
+    let u = both (is_key e.0) (is_generation g) t.0 in
+    record { key = u.0; generation = lt_tested g (2 ^ 32) (both (nat_le 1 g) (nat_lt g (2 ^ 32)) u.1).1; cell = t.1 }
 
 if_sighting-true : (e : Key × Cell Value) → IsSighting e → if_sighting e ≡ Some e
-if_sighting-true e h = ap (λ b. cond b (Some e) None) (tested_sighting e h)
+if_sighting-true e h = ap (λ b. cond b (Some e) None) h
 
 if_sighting-false : (e : Key × Cell Value) → (IsSighting e → ⊥) → if_sighting e ≡ None
 if_sighting-false e not_one =
     elim (is_sighting e) as (λ b. is_sighting e ≡ b → cond b (Some e) None ≡ None) [
-      | true ↦ λ h. absurd (not_one (sighting_tested e h))
+      | true ↦ λ h. absurd (not_one h)
       | false ↦ λ h. refl
     ] refl
 
@@ -198,7 +79,7 @@ key_again (Port g p) guid e = ap (λ n. Some (Port n p)) e
 key_again (Claim g p) guid e = ap (λ n. Some (Claim n p)) e
 key_again (Cap g) guid e = ap (λ n. Some (Cap n)) e
 
-type_again : (kind : NodeType) → type_of (type_byte kind) ≡ Some kind
+type_again : (kind : NodeType) → type_of_number (number_of_type kind) ≡ Some kind
 type_again ChannelAdapter = refl
 type_again Switch = refl
 type_again Router = refl
@@ -210,52 +91,53 @@ flag_again : (up : Bool) → flag_byte up == 1 ≡ up
 flag_again true = refl
 flag_again false = refl
 
-guid_in : (key : Key) → IsKey key → key_guid key < 2 ^ 64
-guid_in (Node g) h = h
-guid_in (PortGuid g p) h = h.0
-guid_in (Link g p) h = h.0
-guid_in (Port g p) h = h.0
-guid_in (Claim g p) h = h.0
-guid_in (Cap g) h = h
+guid_in : (key : Key) → is_key key ≡ true → key_guid key < 2 ^ 64
+guid_in (Node g) h = lt_tested g (2 ^ 64) h
+guid_in (PortGuid g p) h = lt_tested g (2 ^ 64) (both (is_guid g) (is_any_port p) h).0
+guid_in (Link g p) h = lt_tested g (2 ^ 64) (both (is_guid g) (is_cabled_port p) h).0
+guid_in (Port g p) h = lt_tested g (2 ^ 64) (both (is_guid g) (is_any_port p) h).0
+guid_in (Claim g p) h = lt_tested g (2 ^ 64) (both (is_guid g) (is_any_port p) h).0
+guid_in (Cap g) h = lt_tested g (2 ^ 64) h
 
 -- what the value bytes of a known cell say
-value_again : (key : Key) (value : Value) → IsValueOf key value → value_of key (filled_up 16 (value_bytes value)) ≡ Some value
+value_again : (key : Key) (value : Value) → is_value_of key value ≡ true → value_of key (filled_up 16 (value_bytes value)) ≡ Some value
 value_again (Node g) (Kind kind ports) h = ap (option_map (λ k. Kind k ports)) (type_again kind)
-value_again (PortGuid g p) (Guid guid) h = ap (λ n. Some (Guid n)) (guid_again guid h)
-value_again (Link g p) (Peer guid port) h = ap (λ n. Some (Peer n port)) (guid_again guid h.0)
+value_again (Node g) (Guid guid) h = absurd (cc)
+value_again (Node g) (Peer guid port) h = absurd (cc)
+value_again (Node g) (Up up) h = absurd (cc)
+value_again (Node g) (Lid lid) h = absurd (cc)
+value_again (Node g) (Count count) h = absurd (cc)
+value_again (PortGuid g p) (Kind kind ports) h = absurd (cc)
+value_again (PortGuid g p) (Guid guid) h = ap (λ n. Some (Guid n)) (guid_again guid (lt_tested guid (2 ^ 64) h))
+value_again (PortGuid g p) (Peer guid port) h = absurd (cc)
+value_again (PortGuid g p) (Up up) h = absurd (cc)
+value_again (PortGuid g p) (Lid lid) h = absurd (cc)
+value_again (PortGuid g p) (Count count) h = absurd (cc)
+value_again (Link g p) (Kind kind ports) h = absurd (cc)
+value_again (Link g p) (Guid guid) h = absurd (cc)
+value_again (Link g p) (Peer guid port) h =
+    ap (λ n. Some (Peer n port)) (guid_again guid (lt_tested guid (2 ^ 64) (both (is_guid guid) (is_cabled_port port) h).0))
+value_again (Link g p) (Up up) h = absurd (cc)
+value_again (Link g p) (Lid lid) h = absurd (cc)
+value_again (Link g p) (Count count) h = absurd (cc)
+value_again (Port g p) (Kind kind ports) h = absurd (cc)
+value_again (Port g p) (Guid guid) h = absurd (cc)
+value_again (Port g p) (Peer guid port) h = absurd (cc)
 value_again (Port g p) (Up up) h = ap (λ b. Some (Up b)) (flag_again up)
-value_again (Claim g p) (Lid lid) h = ap (λ n. Some (Lid n)) (from_be_bytes-to_be_bytes_2 lid h)
-value_again (Cap g) (Count count) h = ap (λ n. Some (Count n)) (from_be_bytes-to_be_bytes_2 count h)
-value_again (Node g) (Guid guid) h = absurd h
-value_again (Node g) (Peer guid port) h = absurd h
-value_again (Node g) (Up up) h = absurd h
-value_again (Node g) (Lid lid) h = absurd h
-value_again (Node g) (Count count) h = absurd h
-value_again (PortGuid g p) (Kind kind ports) h = absurd h
-value_again (PortGuid g p) (Peer guid port) h = absurd h
-value_again (PortGuid g p) (Up up) h = absurd h
-value_again (PortGuid g p) (Lid lid) h = absurd h
-value_again (PortGuid g p) (Count count) h = absurd h
-value_again (Link g p) (Kind kind ports) h = absurd h
-value_again (Link g p) (Guid guid) h = absurd h
-value_again (Link g p) (Up up) h = absurd h
-value_again (Link g p) (Lid lid) h = absurd h
-value_again (Link g p) (Count count) h = absurd h
-value_again (Port g p) (Kind kind ports) h = absurd h
-value_again (Port g p) (Guid guid) h = absurd h
-value_again (Port g p) (Peer guid port) h = absurd h
-value_again (Port g p) (Lid lid) h = absurd h
-value_again (Port g p) (Count count) h = absurd h
-value_again (Claim g p) (Kind kind ports) h = absurd h
-value_again (Claim g p) (Guid guid) h = absurd h
-value_again (Claim g p) (Peer guid port) h = absurd h
-value_again (Claim g p) (Up up) h = absurd h
-value_again (Claim g p) (Count count) h = absurd h
-value_again (Cap g) (Kind kind ports) h = absurd h
-value_again (Cap g) (Guid guid) h = absurd h
-value_again (Cap g) (Peer guid port) h = absurd h
-value_again (Cap g) (Up up) h = absurd h
-value_again (Cap g) (Lid lid) h = absurd h
+value_again (Port g p) (Lid lid) h = absurd (cc)
+value_again (Port g p) (Count count) h = absurd (cc)
+value_again (Claim g p) (Kind kind ports) h = absurd (cc)
+value_again (Claim g p) (Guid guid) h = absurd (cc)
+value_again (Claim g p) (Peer guid port) h = absurd (cc)
+value_again (Claim g p) (Up up) h = absurd (cc)
+value_again (Claim g p) (Lid lid) h = ap (λ n. Some (Lid n)) (from_be_bytes-to_be_bytes_2 lid (lt_tested lid (2 ^ 16) h))
+value_again (Claim g p) (Count count) h = absurd (cc)
+value_again (Cap g) (Kind kind ports) h = absurd (cc)
+value_again (Cap g) (Guid guid) h = absurd (cc)
+value_again (Cap g) (Peer guid port) h = absurd (cc)
+value_again (Cap g) (Up up) h = absurd (cc)
+value_again (Cap g) (Lid lid) h = absurd (cc)
+value_again (Cap g) (Count count) h = ap (λ n. Some (Count n)) (from_be_bytes-to_be_bytes_2 count (lt_tested count (2 ^ 16) h))
 
 length-filled : (value : Value) → length (filled_up 16 (value_bytes value)) ≡ 16
 length-filled (Kind kind ports) = refl
@@ -272,11 +154,15 @@ length-record (key, Disputed generation) = refl
 -- the fields of a record are those of its cell
 pub candidate-record : (e : Key × Cell Value) → IsSighting e → candidate (record_bytes e) ≡ Some e
 candidate-record (key, Known generation value) h =
-    candidate-known (record_bytes (key, Known generation value)) key generation value (key_again key (from_be_bytes w64 (to_be_bytes w64 (key_guid key))) (guid_again (key_guid key) (guid_in key h.key))) refl
-    (from_be_bytes-to_be_bytes_4 generation h.generation.1) (value_again key value h.cell)
+    let p = parts (key, Known generation value) h in
+    candidate-known (record_bytes (key, Known generation value)) key generation value
+    (key_again key (from_be_bytes w64 (to_be_bytes w64 (key_guid key))) (guid_again (key_guid key) (guid_in key p.key))) refl
+    (from_be_bytes-to_be_bytes_4 generation p.generation) (value_again key value p.cell)
 candidate-record (key, Disputed generation) h =
-    candidate-disputed (record_bytes (key, Disputed generation)) key generation (key_again key (from_be_bytes w64 (to_be_bytes w64 (key_guid key))) (guid_again (key_guid key) (guid_in key h.key))) (λ e. omega arith)
-    (from_be_bytes-to_be_bytes_4 generation h.generation.1)
+    let p = parts (key, Disputed generation) h in
+    candidate-disputed (record_bytes (key, Disputed generation)) key generation
+    (key_again key (from_be_bytes w64 (to_be_bytes w64 (key_guid key))) (guid_again (key_guid key) (guid_in key p.key))) (λ e. omega arith)
+    (from_be_bytes-to_be_bytes_4 generation p.generation)
 
 -- a record spells its cell
 pub cell_of-record : (e : Key × Cell Value) → IsSighting e → cell_of (record_bytes e) ≡ Some e
@@ -289,7 +175,7 @@ cell_of-record e h =
 if_sighting-is : (e f : Key × Cell Value) → if_sighting e ≡ Some f → (e ≡ f) × IsSighting e
 if_sighting-is e f h =
     elim (is_sighting e) as (λ b. is_sighting e ≡ b → cond b (Some e) None ≡ Some f → (e ≡ f) × IsSighting e) [
-      | true ↦ λ t k. (cc, sighting_tested e t)
+      | true ↦ λ t k. (cc, t)
       | false ↦ λ t k. absurd (cc)
     ] refl h
 

@@ -15,8 +15,10 @@ pub record IsUntouched (filled : ℕ) (old new : ReadingState) : Type 0 where
 
 -- the start of a reading
 abbrev pub fresh : {S : Type 0} → (S → Option (List ℕ)) → (S → Bool) → (S → ℕ) → S → ReadingState
-fresh left has_failed interruptions source = record { left = left source; has_failed = has_failed source; interruptions = interruptions source; bytes = 0; calls = 0 }
+fresh left has_failed interruptions source =
+    record { left = left source; has_failed = has_failed source; interruptions = interruptions source; bytes = 0; calls = 0 }
 
-pub state_of-fresh : {S : Type 0} (left : S → Option (List ℕ)) (has_failed : S → Bool) (interruptions : S → ℕ) (r : Reading S) (source : S) → r.source.now ≡ source → r.budget.bytes ≡ 0 → r.budget.calls ≡ 0
+pub state_of-fresh : {S : Type 0} (left : S → Option (List ℕ)) (has_failed : S → Bool) (interruptions : S → ℕ) (r : Reading S) (source : S)
+    → r.source.now ≡ source → r.budget.bytes ≡ 0 → r.budget.calls ≡ 0
     → state_of left has_failed interruptions r ≡ fresh left has_failed interruptions source
 state_of-fresh left has_failed interruptions r source same bytes calls = rw (same, bytes, calls) refl

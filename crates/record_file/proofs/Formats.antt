@@ -1,5 +1,6 @@
 -- Lemmas on the formats of files, and on how their records are judged.
-use Rattle.std.proofs.Common.{◌≡◌, ℕ, ◌+◌, ◌≤◌, Bool, true, false, ◌⊎◌, inl, inr, List, [], ◌∷◌, ◌++◌, Option, None, Some, Result, Ok, Err, length, take, drop, nat_eq, cond, refl, sym, ap, ◌∙◌, subst, arith, length-append}
+use Rattle.std.proofs.Common.{◌≡◌, ℕ, ◌≤◌, Bool, true, false, ◌⊎◌, inl, inr, List, [], ◌∷◌, ◌++◌, Option, None, Some, Result, Ok, Err, length, drop}
+use Rattle.std.proofs.Common.{nat_eq, cond, refl, sym, ap, ◌∙◌, subst}
 use Rattle.std.specs.List.{starts_with}
 use Rattle.std.proofs.lemmas.List.{append-nil, drop_all, take-append-le}
 use Rattle.std.proofs.lemmas.Slice.Eq.{starts_is}
@@ -10,7 +11,7 @@ use Rattle.fact_store.specs.declared.value.Value.{Value}
 use Rattle.fact_store.specs.declared.report_fault.ReportFault.{ReportFault}
 use Rattle.fact_store.specs.Key.{is_above}
 use Rattle.record_file.specs.declared.file_fault.FileFault.{FileFault}
-use Rattle.record_file.specs.declared.file_fault.FileFault.TheVariants.{BadReport, BadCell, CellOrder, Memory}
+use Rattle.record_file.specs.declared.file_fault.FileFault.TheVariants.{BadCell, CellOrder}
 use Rattle.record_file.specs.declared.format.Format.{Format}
 use Rattle.record_file.specs.declared.format.Format.TheVariants.{Reports, Cells}
 use Rattle.record_file.specs.CellRecord.{cell_of}
@@ -19,7 +20,8 @@ use Rattle.record_file.specs.RecordFile.{Judgement, format_of, judged, magic, of
 use Rattle.record_file.specs.ReportRecord.{report_judged}
 
 -- the first of two tests that is true decides
-format_by : (b c : Bool) (format : Format) → Some format ≡ cond b (Some Reports) (cond c (Some Cells) None) → ((format ≡ Reports) × (b ≡ true)) ⊎ ((format ≡ Cells) × (c ≡ true))
+format_by : (b c : Bool) (format : Format) → Some format ≡ cond b (Some Reports) (cond c (Some Cells) None)
+    → ((format ≡ Reports) × (b ≡ true)) ⊎ ((format ≡ Cells) × (c ≡ true))
 format_by true c format h = inl (cc, refl)
 format_by false true format h = inr (cc, refl)
 format_by false false format h = absurd (cc)
@@ -95,7 +97,8 @@ judged-bad Cells last r f i h = bad_cell last (cell_of r) f i h
 pub good_cell : (last : Option Key) (r : List ℕ) (e : Key × Cell Value) → cell_of r ≡ Some e → is_above last e.0 ≡ true → judged Cells last r ≡ Ok (e ∷ [])
 good_cell last r e is above = ap (of_cell last) is ∙ ap (λ b. cond b (Ok (e ∷ [])) (Err CellOrder)) above
 
-pub cell_out_of_order : (last : Option Key) (r : List ℕ) (e : Key × Cell Value) → cell_of r ≡ Some e → is_above last e.0 ≡ false → judged Cells last r ≡ Err CellOrder
+pub cell_out_of_order : (last : Option Key) (r : List ℕ) (e : Key × Cell Value) → cell_of r ≡ Some e → is_above last e.0 ≡ false
+    → judged Cells last r ≡ Err CellOrder
 cell_out_of_order last r e is above = ap (of_cell last) is ∙ ap (λ b. cond b (Ok (e ∷ [])) (Err CellOrder)) above
 
 pub no_cell : (last : Option Key) (r : List ℕ) → cell_of r ≡ None → judged Cells last r ≡ Err BadCell

@@ -1,5 +1,6 @@
 -- Lemmas on the records of a file, and on what reading it answers.
-use Rattle.std.proofs.Common.{◌≡◌, ℕ, suc, ◌+◌, ◌-◌, ◌*◌, ◌/◌, ◌<◌, ◌≤◌, ◌^◌, ◌%◌, ◌==◌, nat_le, true, false, List, [], ◌∷◌, ◌++◌, Option, None, Some, Result, Ok, Err, length, take, drop, refl, sym, ap, ◌∙◌, arith, append_assoc, append-nil, length-append}
+use Rattle.std.proofs.Common.{◌≡◌, ℕ, suc, ◌+◌, ◌-◌, ◌*◌, ◌/◌, ◌<◌, ◌≤◌, ◌^◌, ◌%◌, ◌==◌, nat_le, true, false, List, [], ◌∷◌, ◌++◌, Option, None, Some}
+use Rattle.std.proofs.Common.{Ok, Err, length, take, drop, refl, sym, ap, ◌∙◌, arith, append_assoc, append-nil, length-append}
 use Rattle.std.specs.List.{AllByRecursion, concat}
 use Rattle.std.proofs.lemmas.List.{take_all, take_at, drop_at}
 use Rattle.std.proofs.Math.Seq.{take-append-add}
@@ -12,7 +13,8 @@ use Rattle.record_file.specs.declared.file_fault.FileFault.{FileFault}
 use Rattle.record_file.specs.declared.file_fault.FileFault.TheVariants.{Truncated, TooLong}
 use Rattle.record_file.specs.declared.format.Format.{Format}
 use Rattle.record_file.specs.declared.format.Format.TheVariants.{Reports, Cells}
-use Rattle.record_file.specs.RecordFile.{Judgement, ending, fault_first, fault_in, fault_or, first_fault, first_records, format_of, judged, kept, key_in, magic, outcome, record_size, records, records_in_reach, told_by, told_then}
+use Rattle.record_file.specs.RecordFile.{Judgement, ending, fault_first, fault_in, fault_or, first_fault, first_records, format_of, judged, kept}
+use Rattle.record_file.specs.RecordFile.{key_in, last_key, magic, outcome, record_size, records, records_in_reach, told_by, told_then}
 
 abbrev pub Sightings : Type 0
 Sightings = List (Key × Cell Value)
@@ -42,7 +44,8 @@ length-concat size [] h = omega arith
 length-concat size (r ∷ rs) h = let first = h.0 in let later = length-concat size rs h.1 in omega (arith, length-append r (concat rs))
 
 -- the records of records that stand one behind the other, and of what follows
-pub first_records-concat : (size : ℕ) (rs : List (List ℕ)) (n m : ℕ) (x : List ℕ) → AreRecords size rs → m ≡ length rs + n → first_records size m (concat rs ++ x) ≡ rs ++ first_records size n x
+pub first_records-concat : (size : ℕ) (rs : List (List ℕ)) (n m : ℕ) (x : List ℕ) → AreRecords size rs → m ≡ length rs + n
+    → first_records size m (concat rs ++ x) ≡ rs ++ first_records size n x
 first_records-concat size [] n m x h e = let same : m ≡ n = omega arith in rw same refl
 first_records-concat size (r ∷ rs) n m x h e =
     let more : m ≡ suc (length rs + n) = omega arith in
@@ -62,11 +65,6 @@ records-short size x h = let none : length x / size ≡ 0 = div-eq_of_lt h in rw
 
 -- faults and sightings of records that stand one behind the other ---------------------
 
--- the key of the last of the records, or the one before them
-abbrev pub last_key : Format → Option Key → List (List ℕ) → Option Key
-last_key format last [] = last
-last_key format last (r ∷ rs) = last_key format (key_in format r) rs
-
 pub last_key-more : (format : Format) (last : Option Key) (rs : List (List ℕ)) (r : List ℕ) → last_key format last (rs ++ r ∷ []) ≡ key_in format r
 last_key-more format last [] r = refl
 last_key-more format last (s ∷ rs) r = last_key-more format (key_in format s) rs r
@@ -79,39 +77,49 @@ fault_or-some : (v : Judgement) (i : ℕ) (a b : Option FileFault) (f : FileFaul
 fault_or-some (Ok told) i a b f h k = k h
 fault_or-some (Err g) i a b f h k = h
 
-told_then-none : (v : Judgement) (i : ℕ) (a : Option FileFault) (x y z : Sightings) → fault_or i v a ≡ None → (a ≡ None → x ≡ y ++ z) → told_then v x ≡ told_then v y ++ z
+told_then-none : (v : Judgement) (i : ℕ) (a : Option FileFault) (x y z : Sightings) → fault_or i v a ≡ None → (a ≡ None → x ≡ y ++ z)
+    → told_then v x ≡ told_then v y ++ z
 told_then-none (Ok told) i a x y z h k = ap (λ l. told ++ l) (k h) ∙ sym (append_assoc told y z)
 told_then-none (Err f) i a x y z h k = absurd (cc)
 
-told_then-some : (v : Judgement) (i : ℕ) (a : Option FileFault) (f : FileFault) (x y : Sightings) → fault_or i v a ≡ Some f → (a ≡ Some f → x ≡ y) → told_then v x ≡ told_then v y
+told_then-some : (v : Judgement) (i : ℕ) (a : Option FileFault) (f : FileFault) (x y : Sightings) → fault_or i v a ≡ Some f → (a ≡ Some f → x ≡ y)
+    → told_then v x ≡ told_then v y
 told_then-some (Ok told) i a f x y h k = ap (λ l. told ++ l) (k h)
 told_then-some (Err g) i a f x y h k = refl
 
-pub first_fault-good : (format : Format) (last : Option Key) (i : ℕ) (rs more : List (List ℕ)) → first_fault format last i rs ≡ None → first_fault format last i (rs ++ more) ≡ first_fault format (last_key format last rs) (i + length rs) more
+pub first_fault-good : (format : Format) (last : Option Key) (i : ℕ) (rs more : List (List ℕ)) → first_fault format last i rs ≡ None
+    → first_fault format last i (rs ++ more) ≡ first_fault format (last_key format last rs) (i + length rs) more
 first_fault-good format last i [] more h = let same : i ≡ i + 0 = omega arith in ap (λ k. first_fault format last k more) same
 first_fault-good format last i (r ∷ rs) more h =
     let place : (i + 1) + length rs ≡ i + suc (length rs) = omega arith in
     let next = key_in format r in
-    fault_or-none (judged format last r) i (first_fault format next (i + 1) rs) (first_fault format next (i + 1) (rs ++ more)) (first_fault format (last_key format next rs) (i + suc (length rs)) more) h
+    fault_or-none (judged format last r) i (first_fault format next (i + 1) rs) (first_fault format next (i + 1) (rs ++ more))
+    (first_fault format (last_key format next rs) (i + suc (length rs)) more) h
     (λ none. first_fault-good format next (i + 1) rs more none ∙ ap (λ k. first_fault format (last_key format next rs) k more) place)
 
-pub first_fault-bad : (format : Format) (last : Option Key) (i : ℕ) (rs more : List (List ℕ)) (f : FileFault) → first_fault format last i rs ≡ Some f → first_fault format last i (rs ++ more) ≡ Some f
+pub first_fault-bad : (format : Format) (last : Option Key) (i : ℕ) (rs more : List (List ℕ)) (f : FileFault) → first_fault format last i rs ≡ Some f
+    → first_fault format last i (rs ++ more) ≡ Some f
 first_fault-bad format last i [] more f h = absurd (cc)
 first_fault-bad format last i (r ∷ rs) more f h =
     let next = key_in format r in
-    fault_or-some (judged format last r) i (first_fault format next (i + 1) rs) (first_fault format next (i + 1) (rs ++ more)) f h (λ some. first_fault-bad format next (i + 1) rs more f some)
+    fault_or-some (judged format last r) i (first_fault format next (i + 1) rs) (first_fault format next (i + 1) (rs ++ more)) f h
+    (λ some. first_fault-bad format next (i + 1) rs more f some)
 
-pub told_by-good : (format : Format) (last : Option Key) (i : ℕ) (rs more : List (List ℕ)) → first_fault format last i rs ≡ None → told_by format last (rs ++ more) ≡ told_by format last rs ++ told_by format (last_key format last rs) more
+pub told_by-good : (format : Format) (last : Option Key) (i : ℕ) (rs more : List (List ℕ)) → first_fault format last i rs ≡ None
+    → told_by format last (rs ++ more) ≡ told_by format last rs ++ told_by format (last_key format last rs) more
 told_by-good format last i [] more h = refl
 told_by-good format last i (r ∷ rs) more h =
     let next = key_in format r in
-    told_then-none (judged format last r) i (first_fault format next (i + 1) rs) (told_by format next (rs ++ more)) (told_by format next rs) (told_by format (last_key format next rs) more) h (λ none. told_by-good format next (i + 1) rs more none)
+    told_then-none (judged format last r) i (first_fault format next (i + 1) rs) (told_by format next (rs ++ more)) (told_by format next rs)
+    (told_by format (last_key format next rs) more) h (λ none. told_by-good format next (i + 1) rs more none)
 
-pub told_by-bad : (format : Format) (last : Option Key) (i : ℕ) (rs more : List (List ℕ)) (f : FileFault) → first_fault format last i rs ≡ Some f → told_by format last (rs ++ more) ≡ told_by format last rs
+pub told_by-bad : (format : Format) (last : Option Key) (i : ℕ) (rs more : List (List ℕ)) (f : FileFault) → first_fault format last i rs ≡ Some f
+    → told_by format last (rs ++ more) ≡ told_by format last rs
 told_by-bad format last i [] more f h = absurd (cc)
 told_by-bad format last i (r ∷ rs) more f h =
     let next = key_in format r in
-    told_then-some (judged format last r) i (first_fault format next (i + 1) rs) f (told_by format next (rs ++ more)) (told_by format next rs) h (λ some. told_by-bad format next (i + 1) rs more f some)
+    told_then-some (judged format last r) i (first_fault format next (i + 1) rs) f (told_by format next (rs ++ more)) (told_by format next rs) h
+    (λ some. told_by-bad format next (i + 1) rs more f some)
 
 -- whole files ---------------------------------------------------------------------
 
@@ -123,8 +131,10 @@ file format rs x = magic format ++ (concat rs ++ x)
 abbrev pub bytes_of : Format → ℕ → ℕ
 bytes_of format n = 8 + record_size format * n
 
-pub length-file : (format : Format) (rs : List (List ℕ)) (x : List ℕ) → AreRecords (record_size format) rs → length (file format rs x) ≡ bytes_of format (length rs) + length x
-length-file format rs x h = omega (arith, length-append (magic format) (concat rs ++ x), length-append (concat rs) x, length-concat (record_size format) rs h, length-magic format)
+pub length-file : (format : Format) (rs : List (List ℕ)) (x : List ℕ) → AreRecords (record_size format) rs
+    → length (file format rs x) ≡ bytes_of format (length rs) + length x
+length-file format rs x h =
+    omega (arith, length-append (magic format) (concat rs ++ x), length-append (concat rs) x, length-concat (record_size format) rs h, length-magic format)
 
 pub records_in_reach-file : (format : Format) (rs : List (List ℕ)) (x : List ℕ) → AreRecords (record_size format) rs → bytes_of format (length rs) ≤ 2 ^ 40
     → records_in_reach format (file format rs x) ≡ rs ++ records (record_size format) (take (2 ^ 40 - bytes_of format (length rs)) x)
@@ -139,9 +149,11 @@ records_in_reach-file format rs x h fits =
     ∙ ap (λ n. take n ((m ++ concat rs) ++ x)) most
     ∙ take-append-add (m ++ concat rs) x (2 ^ 40 - bytes_of format (length rs))
     ∙ append_assoc m (concat rs) back in
-    ap (λ l. records w (drop 8 l)) cut ∙ ap (records w) (drop_at m (concat rs ++ back) 8 (length-magic format)) ∙ records-concat w rs back (size-positive format) h
+    ap (λ l. records w (drop 8 l)) cut ∙ ap (records w) (drop_at m (concat rs ++ back) 8 (length-magic format))
+    ∙ records-concat w rs back (size-positive format) h
 
-pub outcome-magic : (format : Format) (x : List ℕ) → outcome (magic format ++ x) ≡ fault_first (fault_in format (magic format ++ x)) (ending (record_size format) (length (magic format ++ x)))
+pub outcome-magic : (format : Format) (x : List ℕ)
+    → outcome (magic format ++ x) ≡ fault_first (fault_in format (magic format ++ x)) (ending (record_size format) (length (magic format ++ x)))
 unfolding outcome
 outcome-magic Reports x = refl
 outcome-magic Cells x = refl
@@ -152,27 +164,36 @@ kept-magic Reports x = refl
 kept-magic Cells x = refl
 
 pub outcome-file : (format : Format) (rs : List (List ℕ)) (x : List ℕ) → AreRecords (record_size format) rs → bytes_of format (length rs) ≤ 2 ^ 40
-    → outcome (file format rs x) ≡ fault_first (first_fault format None 0 (rs ++ records (record_size format) (take (2 ^ 40 - bytes_of format (length rs)) x))) (ending (record_size format) (length (file format rs x)))
-outcome-file format rs x h fits = outcome-magic format (concat rs ++ x) ∙ ap (λ r. fault_first (first_fault format None 0 r) (ending (record_size format) (length (file format rs x)))) (records_in_reach-file format rs x h fits)
+    → outcome (file format rs x) ≡ fault_first (first_fault format None 0 (rs ++ records (record_size format) (take (2 ^ 40 - bytes_of format (length rs)) x)))
+    (ending (record_size format) (length (file format rs x)))
+outcome-file format rs x h fits =
+    outcome-magic format (concat rs ++ x)
+    ∙ ap (λ r. fault_first (first_fault format None 0 r) (ending (record_size format) (length (file format rs x))))
+    (records_in_reach-file format rs x h fits)
 
 pub kept-file : (format : Format) (rs : List (List ℕ)) (x : List ℕ) → AreRecords (record_size format) rs → bytes_of format (length rs) ≤ 2 ^ 40
     → kept (file format rs x) ≡ told_by format None (rs ++ records (record_size format) (take (2 ^ 40 - bytes_of format (length rs)) x))
 kept-file format rs x h fits = kept-magic format (concat rs ++ x) ∙ ap (told_by format None) (records_in_reach-file format rs x h fits)
 
 -- good records, and less than a whole one behind them, have no fault
-pub fault_in-part : (format : Format) (rs : List (List ℕ)) (x part : List ℕ) → AreRecords (record_size format) rs → bytes_of format (length rs) ≤ 2 ^ 40 → first_fault format None 0 rs ≡ None
+pub fault_in-part : (format : Format) (rs : List (List ℕ)) (x part : List ℕ) → AreRecords (record_size format) rs → bytes_of format (length rs) ≤ 2 ^ 40
+    → first_fault format None 0 rs ≡ None
     → take (2 ^ 40 - bytes_of format (length rs)) x ≡ part → length part < record_size format → fault_in format (file format rs x) ≡ None
 fault_in-part format rs x part h fits good cut short =
     let none = ap (records (record_size format)) cut ∙ records-short (record_size format) part short in
     ap (first_fault format None 0) (records_in_reach-file format rs x h fits ∙ ap (λ l. rs ++ l) none ∙ append-nil rs) ∙ good
 
 -- good records and nothing else have none either
-pub fault_in-file : (format : Format) (rs : List (List ℕ)) → AreRecords (record_size format) rs → bytes_of format (length rs) ≤ 2 ^ 40 → first_fault format None 0 rs ≡ None → fault_in format (file format rs []) ≡ None
-fault_in-file format rs h fits good = fault_in-part format rs [] [] h fits good (take_all (2 ^ 40 - bytes_of format (length rs)) [] (omega arith)) (size-positive format)
+pub fault_in-file : (format : Format) (rs : List (List ℕ)) → AreRecords (record_size format) rs → bytes_of format (length rs) ≤ 2 ^ 40
+    → first_fault format None 0 rs ≡ None → fault_in format (file format rs []) ≡ None
+fault_in-file format rs h fits good =
+    fault_in-part format rs [] [] h fits good (take_all (2 ^ 40 - bytes_of format (length rs)) [] (omega arith)) (size-positive format)
 
 -- what stands behind good records is less than a whole record
-pub outcome-part : (format : Format) (rs : List (List ℕ)) (x part : List ℕ) → AreRecords (record_size format) rs → bytes_of format (length rs) ≤ 2 ^ 40 → first_fault format None 0 rs ≡ None
-    → take (2 ^ 40 - bytes_of format (length rs)) x ≡ part → length part < record_size format → outcome (file format rs x) ≡ ending (record_size format) (length (file format rs x))
+pub outcome-part : (format : Format) (rs : List (List ℕ)) (x part : List ℕ) → AreRecords (record_size format) rs → bytes_of format (length rs) ≤ 2 ^ 40
+    → first_fault format None 0 rs ≡ None
+    → take (2 ^ 40 - bytes_of format (length rs)) x ≡ part → length part < record_size format
+    → outcome (file format rs x) ≡ ending (record_size format) (length (file format rs x))
 outcome-part format rs x part h fits good cut short =
     let w = record_size format in
     let none : records w (take (2 ^ 40 - bytes_of format (length rs)) x) ≡ [] = ap (records w) cut ∙ records-short w part short in
@@ -188,13 +209,17 @@ kept-part format rs x part h fits cut short =
     kept-file format rs x h fits ∙ ap (λ l. told_by format None (rs ++ l)) none ∙ ap (told_by format None) (append-nil rs)
 
 -- a bad record decides, whatever follows it
-pub outcome-bad : (format : Format) (rs : List (List ℕ)) (x : List ℕ) (f : FileFault) → AreRecords (record_size format) rs → bytes_of format (length rs) ≤ 2 ^ 40 → first_fault format None 0 rs ≡ Some f → outcome (file format rs x) ≡ Err f
+pub outcome-bad : (format : Format) (rs : List (List ℕ)) (x : List ℕ) (f : FileFault) → AreRecords (record_size format) rs
+    → bytes_of format (length rs) ≤ 2 ^ 40 → first_fault format None 0 rs ≡ Some f → outcome (file format rs x) ≡ Err f
 outcome-bad format rs x f h fits bad =
     let more = records (record_size format) (take (2 ^ 40 - bytes_of format (length rs)) x) in
-    outcome-file format rs x h fits ∙ ap (λ o. fault_first o (ending (record_size format) (length (file format rs x)))) (first_fault-bad format None 0 rs more f bad)
+    outcome-file format rs x h fits
+    ∙ ap (λ o. fault_first o (ending (record_size format) (length (file format rs x)))) (first_fault-bad format None 0 rs more f bad)
 
-pub kept-bad : (format : Format) (rs : List (List ℕ)) (x : List ℕ) (f : FileFault) → AreRecords (record_size format) rs → bytes_of format (length rs) ≤ 2 ^ 40 → first_fault format None 0 rs ≡ Some f → kept (file format rs x) ≡ told_by format None rs
-kept-bad format rs x f h fits bad = kept-file format rs x h fits ∙ told_by-bad format None 0 rs (records (record_size format) (take (2 ^ 40 - bytes_of format (length rs)) x)) f bad
+pub kept-bad : (format : Format) (rs : List (List ℕ)) (x : List ℕ) (f : FileFault) → AreRecords (record_size format) rs → bytes_of format (length rs) ≤ 2 ^ 40
+    → first_fault format None 0 rs ≡ Some f → kept (file format rs x) ≡ told_by format None rs
+kept-bad format rs x f h fits bad =
+    kept-file format rs x h fits ∙ told_by-bad format None 0 rs (records (record_size format) (take (2 ^ 40 - bytes_of format (length rs)) x)) f bad
 
 -- how good records end --------------------------------------------------------------
 

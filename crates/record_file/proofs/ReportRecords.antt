@@ -39,24 +39,19 @@ unfolding report_judged
 judged-fault bytes r f h some = ap report_told (sym h) ∙ ap (λ o. unless_fault o (sightings_of r)) some
 
 -- what becomes of a record that spells no report, of one that is refused, and of a good one
-pub absorbs-none : (bytes : List ℕ) (last : Option Key) (index : ℕ) (store : Facts) → None ≡ report_of bytes → AbsorbsJudged {K = Unit {0}} (judged Reports last bytes) index (Err (BadReport index NoContext)) store store
+pub absorbs-none : (bytes : List ℕ) (last : Option Key) (index : ℕ) (store : Facts) → None ≡ report_of bytes
+    → AbsorbsJudged {K = Unit {0}} (judged Reports last bytes) index (Err (BadReport index NoContext)) store store
 absorbs-none bytes last index store h = rw (judged-none bytes h) (refl, refl)
 
-pub absorbs-fault : (bytes : List ℕ) (last : Option Key) (index : ℕ) (r : Report) (f : ReportFault) (old new : Facts) → Some r ≡ report_of bytes → report_fault r ≡ Some f → new ≡ old → AbsorbsJudged {K = Unit {0}} (judged Reports last bytes) index (Err (BadReport index f)) old new
+pub absorbs-fault : (bytes : List ℕ) (last : Option Key) (index : ℕ) (r : Report) (f : ReportFault) (old new : Facts) → Some r ≡ report_of bytes
+    → report_fault r ≡ Some f → new ≡ old → AbsorbsJudged {K = Unit {0}} (judged Reports last bytes) index (Err (BadReport index f)) old new
 absorbs-fault bytes last index r f old new h some same = rw (judged-fault bytes r f h some) (refl, same)
 
-pub absorbs-told : (bytes : List ℕ) (last : Option Key) (index : ℕ) (r : Report) (old new : Facts) → Some r ≡ report_of bytes → report_fault r ≡ None → new ≡ merge old (view (sightings_of r)) → AbsorbsJudged {K = Unit {0}} (judged Reports last bytes) index (Ok tt) old new
+pub absorbs-told : (bytes : List ℕ) (last : Option Key) (index : ℕ) (r : Report) (old new : Facts) → Some r ≡ report_of bytes → report_fault r ≡ None
+    → new ≡ merge old (view (sightings_of r)) → AbsorbsJudged {K = Unit {0}} (judged Reports last bytes) index (Ok tt) old new
 absorbs-told bytes last index r old new h none merged = rw (judged-told bytes r h none) merged
 
--- a report for which there is no memory is good, so no fault of it is answered
-absorbs-full : (bytes : List ℕ) (last : Option Key) (index : ℕ) (r : Report) (old new : Facts) → Some r ≡ report_of bytes → report_fault r ≡ None → new ≡ old → AbsorbsJudged {K = Unit {0}} (judged Reports last bytes) index (Err Memory) old new
-absorbs-full bytes last index r old new h none same = rw (judged-told bytes r h none) (refl, same)
-
--- the fault of a report is answered as such
-pub absorbs-memory : (bytes : List ℕ) (last : Option Key) (index : ℕ) (r : Report) (old new : Facts) (answer : Result (Unit {0}) IngestFault) → Some r ≡ report_of bytes → answer ≡ Err Full
-    → ((f : ReportFault) → (answer ≡ Err (Refused f)) ↔ (report_fault r ≡ Some f)) → new ≡ old → AbsorbsJudged {K = Unit {0}} (judged Reports last bytes) index (Err Memory) old new
-absorbs-memory bytes last index r old new answer h full refused same =
-    elim (report_fault r) as (λ o. report_fault r ≡ o → AbsorbsJudged {K = Unit {0}} (judged Reports last bytes) index (Err Memory) old new) [
-      | None ↦ λ none. absorbs-full bytes last index r old new h none same
-      | Some f ↦ λ some. let is : answer ≡ Err (Refused f) = (refused f).1 some in absurd (cc)
-    ] refl
+-- and of a good one for which there is no memory
+pub absorbs-memory : (bytes : List ℕ) (last : Option Key) (index : ℕ) (r : Report) (old new : Facts) → Some r ≡ report_of bytes → report_fault r ≡ None
+    → new ≡ old → AbsorbsJudged {K = Unit {0}} (judged Reports last bytes) index (Err Memory) old new
+absorbs-memory bytes last index r old new h none same = rw (judged-told bytes r h none) (refl, same)

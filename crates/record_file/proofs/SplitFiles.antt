@@ -1,5 +1,6 @@
 -- Files that are split between their records.
-use Rattle.std.proofs.Common.{◌≡◌, ℕ, ◌+◌, ◌-◌, ◌*◌, ◌^◌, ◌<◌, ◌≤◌, List, [], ◌∷◌, ◌++◌, None, Some, Ok, refl, sym, ap, ◌∙◌, subst, arith, length, length-append, take, append-nil}
+use Rattle.std.proofs.Common.{◌≡◌, ℕ, ◌-◌, ◌^◌, ◌<◌, List, [], ◌∷◌, ◌++◌, None, Some, Ok, refl, sym, ap, ◌∙◌, subst, arith, length, length-append}
+use Rattle.std.proofs.Common.{take, append-nil}
 use Rattle.std.specs.Prelude.{Option}
 use Rattle.std.specs.List.{AllByRecursion, concat, flat_map}
 use Rattle.std.specs.FinMap.{entries, entries_sorted}
@@ -10,13 +11,13 @@ use Rattle.fact_store.specs.declared.key.Key.{Key}
 use Rattle.fact_store.specs.View.{Facts}
 use Rattle.record_file.specs.declared.format.Format.TheVariants.{Cells, Reports}
 use Rattle.record_file.specs.Laws.{AreParts, IsGoodReport, IsReportFile, report_file}
-use Rattle.record_file.specs.RecordFile.{first_fault, kept, magic, outcome, record_size, records, told_by}
+use Rattle.record_file.specs.RecordFile.{kept, last_key, magic, outcome, records, told_by}
 use Rattle.record_file.specs.CellRecord.{record_bytes}
 use Rattle.record_file.specs.StoreFile.{store_bytes}
 use Rattle.record_file.specs.StoreLaws.{IsStoreFile}
 use Rattle.record_file.proofs.Accepted.{accepted, faultless}
 use Rattle.record_file.proofs.StoreFiles.{AllSightings, Rise, facts_with, in_range_sightings, read_back, sorted_rise}
-use Rattle.record_file.proofs.Records.{Sightings, bytes_of, file, kept-file, last_key, length-file, records-short, size-positive, told_by-good}
+use Rattle.record_file.proofs.Records.{Sightings, bytes_of, file, kept-file, length-file, records-short, told_by-good}
 
 kept-whole : (bytes : List ℕ) (rs : List (List ℕ)) → IsReportFile bytes rs → kept bytes ≡ told_by Reports None rs
 kept-whole bytes rs is =
@@ -34,7 +35,8 @@ no_key : (rs : List (List ℕ)) → last_key Reports None rs ≡ None
 no_key [] = refl
 no_key (r ∷ rs) = no_key rs
 
-kept-split : (whole front back : List ℕ) (first second : List (List ℕ)) → IsReportFile whole (first ++ second) → IsReportFile front first → IsReportFile back second → kept whole ≡ kept front ++ kept back
+kept-split : (whole front back : List ℕ) (first second : List (List ℕ)) → IsReportFile whole (first ++ second) → IsReportFile front first
+    → IsReportFile back second → kept whole ≡ kept front ++ kept back
 kept-split whole front back first second w f b =
     kept-whole whole (first ++ second) w
     ∙ told_by-good Reports None 0 first second (faultless None 0 first f.each).1
@@ -57,7 +59,8 @@ shorter begin front back h =
     (omega (arith, length-append begin front), omega (arith, length-append begin back))
 
 -- a report file that is split between its records: the parts are accepted, and keep the same
-pub split_reports : (whole front back : List ℕ) (first second : List (List ℕ)) → IsReportFile whole (first ++ second) → front ≡ report_file first → back ≡ report_file second → AreParts whole front back
+pub split_reports : (whole front back : List ℕ) (first second : List (List ℕ)) → IsReportFile whole (first ++ second) → front ≡ report_file first
+    → back ≡ report_file second → AreParts whole front back
 split_reports whole front back first second w f b =
     let joined : whole ≡ magic Reports ++ (concat first ++ concat second) = w.whole ∙ ap (λ l. magic Reports ++ l) (concat-append first second) in
     let sized = ap length joined in let long = w.short in
@@ -65,7 +68,12 @@ split_reports whole front back first second w f b =
     let front_sized = ap length f in let back_sized = ap length b in
     let is_front : IsReportFile front first = record { whole = f; each = all_front IsGoodReport first second w.each; short = let s = short.0 in omega arith } in
     let is_back : IsReportFile back second = record { whole = b; each = all_back IsGoodReport first second w.each; short = let s = short.1 in omega arith } in
-    record { front_accepted = ((accepted front).1 (first, is_front)).1; back_accepted = ((accepted back).1 (second, is_back)).1; together = kept-split whole front back first second w is_front is_back }
+    record {
+      front_accepted = ((accepted front).1 (first, is_front)).1;
+      back_accepted =
+          ((accepted back).1 (second, is_back)).1;
+      together = kept-split whole front back first second w is_front is_back;
+    }
 
 -- the same of a store file -----------------------------------------------------------------
 
@@ -86,20 +94,28 @@ sightings_back : (first second : Sightings) → AllSightings (first ++ second) �
 sightings_back [] second h = h
 sightings_back (e ∷ first) second h = sightings_back first second h.1
 
-part_of_store : (part : List ℕ) (es : Sightings) → Rise None es → AllSightings es → part ≡ store_bytes es → length part < 2 ^ 40 → (outcome part ≡ Ok tt) × (kept part ≡ es)
+part_of_store : (part : List ℕ) (es : Sightings) → Rise None es → AllSightings es → part ≡ store_bytes es → length part < 2 ^ 40
+    → (outcome part ≡ Ok tt) × (kept part ≡ es)
 part_of_store part es rise all is short =
     let facts = facts_with es rise all in
     let read = read_back part facts.0 (record { whole = is ∙ ap store_bytes (sym facts.1); in_range = facts.2; short = short }) in
     (read.0, read.1 ∙ facts.1)
 
-pub split_store : (whole front back : List ℕ) (facts : Facts) (first second : Sightings) → IsStoreFile whole facts → entries facts ≡ first ++ second → front ≡ store_bytes first → back ≡ store_bytes second → AreParts whole front back
+pub split_store : (whole front back : List ℕ) (facts : Facts) (first second : Sightings) → IsStoreFile whole facts → entries facts ≡ first ++ second
+    → front ≡ store_bytes first → back ≡ store_bytes second → AreParts whole front back
 split_store whole front back facts first second w split f b =
     let rise : Rise None (first ++ second) = subst (λ (es : Sightings). Rise None es) split (sorted_rise (entries facts) (entries_sorted facts)) in
     let all : AllSightings (first ++ second) = subst (λ (es : Sightings). AllSightings es) split (in_range_sightings facts w.in_range) in
-    let joined : whole ≡ magic Cells ++ (flat_map record_bytes first ++ flat_map record_bytes second) = w.whole ∙ ap store_bytes split ∙ ap (λ l. magic Cells ++ l) (flat_map-append record_bytes first second) in
+    let joined : whole ≡ magic Cells ++ (flat_map record_bytes first ++ flat_map record_bytes second) = w.whole ∙ ap store_bytes split
+    ∙ ap (λ l. magic Cells ++ l) (flat_map-append record_bytes first second) in
     let sized = ap length joined in let long = w.short in
     let short = shorter (magic Cells) (flat_map record_bytes first) (flat_map record_bytes second) (omega arith) in
     let front_sized = ap length f in let back_sized = ap length b in
     let is_front = part_of_store front first (rise_front None first second rise) (sightings_front first second all) f (let s = short.0 in omega arith) in
     let is_back = part_of_store back second (rise_back None first second rise) (sightings_back first second all) b (let s = short.1 in omega arith) in
-    record { front_accepted = is_front.0; back_accepted = is_back.0; together = (read_back whole facts w).1 ∙ split ∙ ap (λ x. x ++ second) (sym is_front.1) ∙ ap (λ x. kept front ++ x) (sym is_back.1) }
+    record {
+      front_accepted = is_front.0;
+      back_accepted = is_back.0;
+      together = (read_back whole facts w).1 ∙ split ∙ ap (λ x. x ++ second)
+          (sym is_front.1) ∙ ap (λ x. kept front ++ x) (sym is_back.1);
+    }

@@ -1,8 +1,8 @@
 -- Exactly the store files of facts in range are accepted, and they are read back.
-use Rattle.std.proofs.Common.{inl, inr, ◌≡◌, ℕ, ◌+◌, ◌<◌, ◌≤◌, ◌^◌, Bool, true, false, ◌&&◌, List, [], ◌∷◌, ◌++◌, Option, None, Some, Ok, Err, ◌↔◌, length, map, drop, cond, refl, sym, ap, ◌∙◌, subst, arith, append-nil}
+use Rattle.std.proofs.Common.{inl, inr, ◌≡◌, ℕ, ◌+◌, Bool, true, false, ◌&&◌, List, [], ◌∷◌, ◌++◌, Option, None, Some, Ok, Err, map, drop, cond, refl}
+use Rattle.std.proofs.Common.{sym, ap, ◌∙◌, subst, arith, append-nil}
 use Rattle.std.specs.Prelude.{T, Contains, option_map}
-use Rattle.std.specs.declared.cmp.Ordering.TheVariants.{Less, Equal, Greater}
-use Rattle.std.specs.declared.cmp.Ordering.{Ordering}
+use Rattle.std.specs.declared.cmp.Ordering.TheVariants.{Less}
 use Rattle.std.specs.Ordering.{is_lt}
 use Rattle.std.specs.List.{concat, flat_map}
 use Rattle.std.specs.FinMap.{empty, entries, entries_sorted, entries-from_sorted, from_sorted}
@@ -19,13 +19,12 @@ use Rattle.fact_store.proofs.Members.{contains_cases, contains_here, contains_la
 use Rattle.fact_store.proofs.Orders.{contained_get, get_contained, less_from_test}
 use Rattle.fact_store.proofs.ViewLaws.{view_of_its_cells}
 use Rattle.record_file.specs.declared.file_fault.FileFault.{FileFault}
-use Rattle.record_file.specs.declared.file_fault.FileFault.TheVariants.{BadCell, CellOrder}
-use Rattle.record_file.specs.declared.format.Format.{Format}
+use Rattle.record_file.specs.declared.file_fault.FileFault.TheVariants.{CellOrder}
 use Rattle.record_file.specs.declared.format.Format.TheVariants.{Cells}
 use Rattle.std.specs.Io.KnownBytes.{Consumes, IsAtEnd}
 use Rattle.record_file.specs.Absorbs.{AbsorbsFrom}
 use Rattle.record_file.specs.CellRecord.{cell_of, record_bytes}
-use Rattle.record_file.specs.RecordFile.{fault_or, first_fault, key_in, kept, magic, of_cell, outcome, records, records_in_reach, told_by, told_then}
+use Rattle.record_file.specs.RecordFile.{fault_or, first_fault, key_in, kept, magic, of_cell, records, records_in_reach, told_by, told_then}
 use Rattle.record_file.specs.StoreFile.{store_bytes}
 use Rattle.record_file.specs.StoreLaws.{AbsorbingReadsBack, FactsAreReadBack, FactsHaveOneSpelling, IsStoreFile, StoreFilesAreAccepted}
 use Rattle.record_file.proofs.Accepted.{IsFile, accepted_is_file, file_is_accepted}
@@ -68,8 +67,11 @@ rise_behind x (e ∷ es) below sorted = (
 
 pub sorted_rise : (es : Sightings) → T (is_sorted key_cmp es) → Rise None es
 sorted_rise [] sorted = tt
-sorted_rise (e ∷ es) sorted =
-    (refl, rise_behind e.0 es (first_of (below_all key_cmp e.0 es) (is_sorted key_cmp es) sorted) (second_of (below_all key_cmp e.0 es) (is_sorted key_cmp es) sorted))
+sorted_rise (e ∷ es) sorted = (
+  refl,
+  rise_behind e.0 es (first_of (below_all key_cmp e.0 es) (is_sorted key_cmp es) sorted)
+      (second_of (below_all key_cmp e.0 es) (is_sorted key_cmp es) sorted),
+)
 
 -- what is below a key is below all that comes after it
 below_later : (x y : Key) (es : Sightings) → key_cmp x y ≡ Less → T (below_all key_cmp y es) → T (below_all key_cmp x es)
@@ -84,7 +86,8 @@ rise_sorted : (x : Key) (es : Sightings) → Rise (Some x) es → T (below_all k
 rise_sorted x [] h = (tt, tt)
 rise_sorted x (e ∷ es) h =
     let later = rise_sorted e.0 es h.1 in (
-      both_of (is_lt (key_cmp x e.0)) (below_all key_cmp x es) (is_true (is_lt (key_cmp x e.0)) h.0) (below_later x e.0 es (less_from_test (key_cmp x e.0) h.0) later.0),
+      both_of (is_lt (key_cmp x e.0)) (below_all key_cmp x es) (is_true (is_lt (key_cmp x e.0)) h.0)
+          (below_later x e.0 es (less_from_test (key_cmp x e.0) h.0) later.0),
       both_of (below_all key_cmp e.0 es) (is_sorted key_cmp es) later.0 later.1,
     )
 
@@ -123,8 +126,10 @@ spelled last i (e ∷ es) rise all =
     let key : key_in Cells (record_bytes e) ≡ Some e.0 = ap (option_map (λ e. e.0)) is in
     record {
       records = (length-record e, later.records);
-      good = ap (λ v. fault_or i v (first_fault Cells (key_in Cells (record_bytes e)) (i + 1) (map record_bytes es))) judgement ∙ ap (λ k. first_fault Cells k (i + 1) (map record_bytes es)) key ∙ later.good;
-      told = ap (λ v. told_then v (told_by Cells (key_in Cells (record_bytes e)) (map record_bytes es))) judgement ∙ ap (λ k. e ∷ told_by Cells k (map record_bytes es)) key ∙ ap (λ l. e ∷ l) later.told;
+      good = ap (λ v. fault_or i v (first_fault Cells (key_in Cells (record_bytes e)) (i + 1) (map record_bytes es))) judgement
+          ∙ ap (λ k. first_fault Cells k (i + 1) (map record_bytes es)) key ∙ later.good;
+      told = ap (λ v. told_then v (told_by Cells (key_in Cells (record_bytes e)) (map record_bytes es))) judgement
+          ∙ ap (λ k. e ∷ told_by Cells k (map record_bytes es)) key ∙ ap (λ l. e ∷ l) later.told;
     }
 
 -- sightings of which records are the spellings
@@ -133,10 +138,12 @@ pub record Spells (last : Option Key) (rs : List (List ℕ)) (es : Sightings) : 
   pub rise : Rise last es
   pub sightings : AllSightings es
 
-good_cell_is : (last : Option Key) (i : ℕ) (o : Option (Key × Cell Value)) (later : Option FileFault) → fault_or i (of_cell last o) later ≡ None → (e : Key × Cell Value) × (o ≡ Some e) × (is_above last e.0 ≡ true) × (later ≡ None)
+good_cell_is : (last : Option Key) (i : ℕ) (o : Option (Key × Cell Value)) (later : Option FileFault) → fault_or i (of_cell last o) later ≡ None
+    → (e : Key × Cell Value) × (o ≡ Some e) × (is_above last e.0 ≡ true) × (later ≡ None)
 good_cell_is last i None later h = absurd (cc)
 good_cell_is last i (Some e) later h =
-    elim (is_above last e.0) as (λ b. is_above last e.0 ≡ b → fault_or i (cond b (Ok (e ∷ [])) (Err CellOrder)) later ≡ None → (f : Key × Cell Value) × (Some e ≡ Some f) × (is_above last f.0 ≡ true) × (later ≡ None)) [
+    elim (is_above last e.0) as (λ b. is_above last e.0 ≡ b → fault_or i (cond b (Ok (e ∷ [])) (Err CellOrder)) later ≡ None → (f : Key × Cell Value) ×
+    (Some e ≡ Some f) × (is_above last f.0 ≡ true) × (later ≡ None)) [
       | true ↦ λ t k. (e, refl, t, k)
       | false ↦ λ t k. absurd (cc)
     ] refl h
@@ -148,8 +155,15 @@ good_spells last i (r ∷ rs) h =
     let e = first.0 in
     let is = cell_of-is r e first.1 in
     let key : key_in Cells r ≡ Some e.0 = ap (option_map (λ e. e.0)) first.1 in
-    let later = good_spells (Some e.0) (i + 1) rs (ap (λ k. first_fault Cells k (i + 1) rs) (sym key) ∙ first.3) in
-    (e ∷ later.0, record { records = ap (λ x. x ∷ rs) is.1 ∙ ap (λ l. record_bytes e ∷ l) later.1.records; rise = (first.2, later.1.rise); sightings = (is.0, later.1.sightings) })
+    let later = good_spells (Some e.0) (i + 1) rs (ap (λ k. first_fault Cells k (i + 1) rs) (sym key) ∙ first.3) in (
+      e ∷ later.0,
+      record {
+        records = ap (λ x. x ∷ rs) is.1 ∙ ap (λ l. record_bytes e ∷ l) later.1.records;
+        rise = (first.2, later.1.rise);
+        sightings =
+            (is.0, later.1.sightings);
+      },
+    )
 
 -- whole files ---------------------------------------------------------------------------
 
@@ -175,7 +189,8 @@ store_is_file bytes facts is =
 records-file : (facts : Facts) → AreInRange facts → records 32 (drop 8 (store_bytes (entries facts))) ≡ map record_bytes (entries facts)
 records-file facts h =
     let rs = map record_bytes (entries facts) in
-    ap (λ l. records 32 (drop 8 l)) (whole_file facts) ∙ ap (records 32) (sym (append-nil (concat rs))) ∙ records-concat 32 rs [] (omega arith) (facts_spelled facts h).records
+    ap (λ l. records 32 (drop 8 l)) (whole_file facts) ∙ ap (records 32) (sym (append-nil (concat rs)))
+    ∙ records-concat 32 rs [] (omega arith) (facts_spelled facts h).records
     ∙ ap (λ l. rs ++ l) (records-short 32 [] (omega arith)) ∙ append-nil rs
 
 pub read_back : FactsAreReadBack
@@ -184,7 +199,8 @@ read_back bytes facts is =
     let reach = (accepted_is_file Cells bytes ok.0 ok.1).0 in
     let rs = reach ∙ ap (λ l. records 32 (drop 8 l)) is.whole ∙ records-file facts is.in_range in
     let keeps : kept bytes ≡ entries facts =
-    ap kept (is.whole ∙ whole_file facts) ∙ kept-magic Cells (concat (map record_bytes (entries facts))) ∙ ap (λ b. told_by Cells None (records_in_reach Cells b)) (sym (is.whole ∙ whole_file facts))
+    ap kept (is.whole ∙ whole_file facts) ∙ kept-magic Cells (concat (map record_bytes (entries facts)))
+    ∙ ap (λ b. told_by Cells None (records_in_reach Cells b)) (sym (is.whole ∙ whole_file facts))
     ∙ ap (told_by Cells None) rs ∙ (facts_spelled facts is.in_range).told in
     (ok.1, keeps, ap view keeps ∙ view_of_its_cells facts)
 
@@ -220,10 +236,12 @@ one_spelling x y in_x in_y same =
     sym (view_of_its_cells x) ∙ ap view es ∙ view_of_its_cells y
 
 -- what was taken of a known source that ended is all of it
-taken_whole : (left left' : Option (List ℕ)) (n m : ℕ) (bytes rest : List ℕ) (old new : Facts) → left ≡ Some bytes → left' ≡ Some rest → (h : AbsorbsFrom left left' n m (Ok tt) old new) → h.taken ≡ bytes
+taken_whole : (left left' : Option (List ℕ)) (n m : ℕ) (bytes rest : List ℕ) (old new : Facts) → left ≡ Some bytes → left' ≡ Some rest
+    → (h : AbsorbsFrom left left' n m (Ok tt) old new) → h.taken ≡ bytes
 taken_whole left left' n m bytes rest old new before after h =
     let P : Option (List ℕ) → Option (List ℕ) → Type 0 = λ a b. Consumes a b h.taken × IsAtEnd b in
-    let ends : Consumes (Some bytes) (Some rest) h.taken × IsAtEnd (Some rest) = subst (λ (a : Option (List ℕ)). P a (Some rest)) before (subst (λ (b : Option (List ℕ)). P left b) after (h.consumed, h.decided)) in
+    let ends : Consumes (Some bytes) (Some rest) h.taken × IsAtEnd (Some rest) = subst (λ (a : Option (List ℕ)). P a (Some rest)) before
+    (subst (λ (b : Option (List ℕ)). P left b) after (h.consumed, h.decided)) in
     sym (ends.0 ∙ ap (λ r. h.taken ++ r) ends.1 ∙ append-nil h.taken)
 
 pub absorbing_reads_back : {S : Type 0} (left : S → Option (List ℕ)) (interruptions : S → ℕ) → AbsorbingReadsBack left interruptions

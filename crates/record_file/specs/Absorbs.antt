@@ -1,9 +1,6 @@
 -- What absorbing a source leaves of it and of the store, and what it answers.
 use Rattle.std.specs.Prelude.{◌≡◌, ◌⊎◌, ℕ, ◌+◌, ◌<◌, ◌≤◌, ◌^◌, List, [], ◌++◌, Option, None, Some, Result, Ok, Err, IfSome, length}
 use Rattle.std.specs.Io.KnownBytes.{Consumes, IsAtEnd}
-use Rattle.fact_join.specs.declared.cell.Cell.{Cell}
-use Rattle.fact_store.specs.declared.key.Key.{Key}
-use Rattle.fact_store.specs.declared.value.Value.{Value}
 use Rattle.fact_store.specs.View.{Facts, view}
 use Rattle.fact_store.specs.Merge.{merge}
 use Rattle.record_file.specs.declared.file_fault.FileFault.{FileFault}
@@ -71,9 +68,11 @@ pub record AbsorbsFrom (left left' : Option (List ℕ)) (interruptions interrupt
 
 -- what absorbing this source with this answer does to it and to the store
 abbrev pub Absorbs : {S : Type 0} → (S → Option (List ℕ)) → (S → ℕ) → Result (Unit {0}) FileFault → S → S → Facts → Facts → Type 0
-Absorbs left interruptions answer source source' old new = AbsorbsFrom (left source) (left source') (interruptions source) (interruptions source') answer old new
+Absorbs left interruptions answer source source' old new =
+    AbsorbsFrom (left source) (left source') (interruptions source) (interruptions source') answer old new
 
 -- where the bytes of a source are known, the answer is what reading all of them answers
 abbrev pub AnswersKnown : {S : Type 0} → (S → Option (List ℕ)) → (S → ℕ) → Result (Unit {0}) FileFault → S → S → Type 0
 AnswersKnown left interruptions answer source source' =
-    IfSome (left source) (λ bytes. IfSome (left source') (λ rest. AnswersOutcome answer bytes (WasInterruptedTooOften bytes rest (interruptions source) (interruptions source'))))
+    IfSome (left source) (λ bytes. IfSome (left source')
+    (λ rest. AnswersOutcome answer bytes (WasInterruptedTooOften bytes rest (interruptions source) (interruptions source'))))

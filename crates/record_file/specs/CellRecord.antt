@@ -1,17 +1,19 @@
 -- A cell as 32 bytes: kind, state, port, a zero byte, generation, GUID and 16 value bytes.
-use Rattle.std.specs.Prelude.{ℕ, ◌^◌, Bool, true, false, List, [], ◌∷◌, ◌++◌, ◌-◌, ◌==◌, ◌&&◌, nat_le, nat_lt, Option, None, Some, length, replicate, take, drop, slice_index, option_map, option_and_then, if◌then◌else◌}
+use Rattle.std.specs.Prelude.{ℕ, Bool, true, false, List, [], ◌∷◌, ◌++◌, ◌-◌, ◌==◌, Option, None, Some, length, replicate, take, drop, find}
+use Rattle.std.specs.Prelude.{slice_index, option_map, option_and_then, if◌then◌else◌}
 use Rattle.std.specs.Int.{to_be_bytes, from_be_bytes, w16, w32, w64}
 use Rattle.std.specs.Str.{bytes_eq}
+use Rattle.attr_codec.specs.NodeTypeNumber.{number_of_type, type_of_number}
 use Rattle.fact_join.specs.declared.cell.Cell.{Cell}
 use Rattle.fact_join.specs.declared.cell.Cell.TheVariants.{Known, Disputed}
 use Rattle.fact_join.specs.Cell.{generation_of}
+use Rattle.fact_store.specs.Sighting.{is_sighting}
 use Rattle.fact_store.specs.declared.key.Key.{Key}
 use Rattle.fact_store.specs.declared.key.Key.TheVariants.{Node, PortGuid, Link, Port, Claim, Cap}
 use Rattle.fact_store.specs.declared.value.Value.{Value}
 use Rattle.fact_store.specs.declared.value.Value.TheVariants.{Kind, Guid, Peer, Up, Lid, Count}
-use Rattle.smp_bytes.specs.declared.node_type.NodeType.{NodeType}
-use Rattle.smp_bytes.specs.declared.node_type.NodeType.TheVariants.{ChannelAdapter, Switch, Router}
 
+-- 1 to 6
 abbrev pub kind_byte : Key → ℕ
 kind_byte (Node g) = 1
 kind_byte (PortGuid g p) = 2
@@ -36,17 +38,12 @@ key_port (Port g p) = p
 key_port (Claim g p) = p
 key_port (Cap g) = 0
 
-abbrev pub type_byte : NodeType → ℕ
-type_byte ChannelAdapter = 1
-type_byte Switch = 2
-type_byte Router = 3
-
 abbrev pub flag_byte : Bool → ℕ
 flag_byte true = 1
 flag_byte false = 0
 
 abbrev pub value_bytes : Value → List ℕ
-value_bytes (Kind kind ports) = type_byte kind ∷ ports ∷ []
+value_bytes (Kind kind ports) = number_of_type kind ∷ ports ∷ []
 value_bytes (Guid guid) = to_be_bytes w64 guid
 value_bytes (Peer guid port) = to_be_bytes w64 guid ++ port ∷ []
 value_bytes (Up up) = flag_byte up ∷ []
@@ -68,19 +65,21 @@ filled_up n bytes = bytes ++ replicate (n - length bytes) 0
 
 -- the spelling of a cell
 abbrev pub record_bytes : Key × Cell Value → List ℕ
-record_bytes e = kind_byte e.0 ∷ state_byte e.1 ∷ key_port e.0 ∷ 0 ∷ (to_be_bytes w32 (generation_of e.1) ++ to_be_bytes w64 (key_guid e.0) ++ filled_up 16 (cell_value_bytes e.1))
+record_bytes e =
+    kind_byte e.0 ∷ state_byte e.1 ∷ key_port e.0 ∷ 0 ∷
+    (to_be_bytes w32 (generation_of e.1) ++ to_be_bytes w64 (key_guid e.0) ++ filled_up 16 (cell_value_bytes e.1))
 
--- the type of a node with this byte
-abbrev pub type_of : ℕ → Option NodeType
-type_of byte = if byte == 1 then Some ChannelAdapter else (if byte == 2 then Some Switch else (if byte == 3 then Some Router else None))
+-- the keys of this GUID and port; a node and a table's room have no port
+abbrev pub keys_of : ℕ → ℕ → List Key
+keys_of guid port = Node guid ∷ PortGuid guid port ∷ Link guid port ∷ Port guid port ∷ Claim guid port ∷ Cap guid ∷ []
 
--- the key with this kind byte, GUID and port; a node and a table's room have no port
+-- the one of them with this kind byte
 abbrev pub key_of : ℕ → ℕ → ℕ → Option Key
-key_of kind guid port = if kind == 1 then Some (Node guid) else (if kind == 2 then Some (PortGuid guid port) else (if kind == 3 then Some (Link guid port) else (if kind == 4 then Some (Port guid port) else (if kind == 5 then Some (Claim guid port) else (if kind == 6 then Some (Cap guid) else None)))))
+key_of kind guid port = find (λ key. kind == kind_byte key) (keys_of guid port)
 
 -- the value of the key's kind in these bytes
 abbrev pub value_of : Key → List ℕ → Option Value
-value_of (Node g) bytes = option_map (λ kind. Kind kind (slice_index bytes 1)) (type_of (slice_index bytes 0))
+value_of (Node g) bytes = option_map (λ kind. Kind kind (slice_index bytes 1)) (type_of_number (slice_index bytes 0))
 value_of (PortGuid g p) bytes = Some (Guid (from_be_bytes w64 (take 8 bytes)))
 value_of (Link g p) bytes = Some (Peer (from_be_bytes w64 (take 8 bytes)) (slice_index bytes 8))
 value_of (Port g p) bytes = Some (Up (slice_index bytes 0 == 1))
@@ -89,45 +88,14 @@ value_of (Cap g) bytes = Some (Count (from_be_bytes w16 (take 2 bytes)))
 
 -- a cell of this key: known with the value in these bytes, or disputed
 abbrev pub state_of : Key → ℕ → ℕ → List ℕ → Option (Cell Value)
-state_of key state generation bytes = if state == 1 then option_map (Known generation) (value_of key bytes) else Some (Disputed generation)
+state_of key state generation bytes =
+    if state == 1 then option_map (Known generation) (value_of key bytes) else Some (Disputed generation)
 
 -- the cell that these bytes may be the spelling of
 abbrev pub candidate : List ℕ → Option (Key × Cell Value)
-candidate bytes = option_and_then (λ key. option_map (λ cell. (key, cell)) (state_of key (slice_index bytes 1) (from_be_bytes w32 (take 4 (drop 4 bytes))) (drop 16 bytes))) (key_of (slice_index bytes 0) (from_be_bytes w64 (take 8 (drop 8 bytes))) (slice_index bytes 2))
-
-abbrev pub is_cabled_port : ℕ → Bool
-is_cabled_port port = nat_le 1 port && nat_le port 254
-
-abbrev pub is_guid : ℕ → Bool
-is_guid guid = nat_lt guid (2 ^ 64)
-
--- whether a key is in its ranges
-abbrev pub is_key : Key → Bool
-is_key (Node g) = is_guid g
-is_key (PortGuid g p) = is_guid g && nat_le p 254
-is_key (Link g p) = is_guid g && is_cabled_port p
-is_key (Port g p) = is_guid g && nat_le p 254
-is_key (Claim g p) = is_guid g && nat_le p 254
-is_key (Cap g) = is_guid g
-
--- whether a value is one that the key can have
-abbrev pub is_value_of : Key → Value → Bool
-is_value_of (Node g) (Kind kind ports) = is_cabled_port ports
-is_value_of (PortGuid g p) (Guid guid) = is_guid guid
-is_value_of (Link g p) (Peer guid port) = is_guid guid && is_cabled_port port
-is_value_of (Port g p) (Up up) = true
-is_value_of (Claim g p) (Lid lid) = nat_lt lid (2 ^ 16)
-is_value_of (Cap g) (Count count) = nat_lt count (2 ^ 16)
-is_value_of _ _ = false
-
--- whether a cell is one that the key can have
-abbrev pub is_cell_of : Key → Cell Value → Bool
-is_cell_of key (Known generation value) = is_value_of key value
-is_cell_of key (Disputed generation) = true
-
--- whether a key and its cell are a sighting
-abbrev pub is_sighting : Key × Cell Value → Bool
-is_sighting e = is_key e.0 && (nat_le 1 (generation_of e.1) && nat_lt (generation_of e.1) (2 ^ 32)) && is_cell_of e.0 e.1
+candidate bytes =
+    option_and_then (λ key. option_map (λ cell. (key, cell)) (state_of key (slice_index bytes 1) (from_be_bytes w32 (take 4 (drop 4 bytes))) (drop 16 bytes)))
+    (key_of (slice_index bytes 0) (from_be_bytes w64 (take 8 (drop 8 bytes))) (slice_index bytes 2))
 
 abbrev pub if_sighting : Key × Cell Value → Option (Key × Cell Value)
 if_sighting e = if is_sighting e then Some e else None

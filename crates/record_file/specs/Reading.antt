@@ -73,4 +73,5 @@ FillsAt (Err TooLong) wanted old new buffer = StopsWithin wanted old new
 
 -- how filling a buffer with so many bytes ends, and what becomes of the reading
 abbrev pub Fills : {S : Type 0} → (S → Option (List ℕ)) → (S → Bool) → (S → ℕ) → Result ℕ FillFault → ℕ → Reading S → Reading S → List ℕ → Type 0
-Fills left has_failed interruptions result wanted old new buffer = FillsAt result wanted (state_of left has_failed interruptions old) (state_of left has_failed interruptions new) buffer
+Fills left has_failed interruptions result wanted old new buffer =
+    FillsAt result wanted (state_of left has_failed interruptions old) (state_of left has_failed interruptions new) buffer

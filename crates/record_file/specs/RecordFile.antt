@@ -1,5 +1,6 @@
 -- A file: its magic, and records of one size behind it; and what reading any bytes gives.
-use Rattle.std.specs.Prelude.{ℕ, zero, suc, ◌+◌, ◌-◌, ◌*◌, ◌/◌, ◌%◌, ◌^◌, ◌==◌, List, [], ◌∷◌, ◌++◌, Option, None, Some, Result, Ok, Err, length, take, drop, codes, nat_eq, nat_le, option_map, if◌then◌else◌}
+use Rattle.std.specs.Prelude.{ℕ, zero, suc, ◌+◌, ◌-◌, ◌*◌, ◌/◌, ◌%◌, ◌^◌, ◌==◌, List, [], ◌∷◌, ◌++◌, Option, None, Some, Result, Ok, Err, length}
+use Rattle.std.specs.Prelude.{take, drop, codes, nat_eq, nat_le, option_map, if◌then◌else◌}
 use Rattle.std.specs.List.{starts_with}
 use Rattle.fact_join.specs.declared.cell.Cell.{Cell}
 use Rattle.fact_store.specs.declared.key.Key.{Key}
@@ -49,6 +50,11 @@ abbrev pub key_in : Format → List ℕ → Option Key
 key_in Reports bytes = None
 key_in Cells bytes = option_map (λ e. e.0) (cell_of bytes)
 
+-- the key of the last of the records, or the one before them
+abbrev pub last_key : Format → Option Key → List (List ℕ) → Option Key
+last_key format last [] = last
+last_key format last (r ∷ rs) = last_key format (key_in format r) rs
+
 -- so many records of this size from the front of the bytes
 abbrev pub first_records : ℕ → ℕ → List ℕ → List (List ℕ)
 first_records size zero bytes = []
@@ -80,7 +86,8 @@ told_by format last (r ∷ rs) = told_then (judged format last r) (told_by forma
 
 -- how a file of good records of this size ends that has so many bytes
 unfoldable pub ending : ℕ → ℕ → Result (Unit {0}) FileFault
-ending size bytes = if nat_le (2 ^ 40) bytes then Err TooLong else (if (bytes - 8) % size == 0 then Ok tt else Err (Truncated (8 + size * ((bytes - 8) / size))))
+ending size bytes =
+    if nat_le (2 ^ 40) bytes then Err TooLong else (if (bytes - 8) % size == 0 then Ok tt else Err (Truncated (8 + size * ((bytes - 8) / size))))
 
 abbrev pub fault_first : Option FileFault → Result (Unit {0}) FileFault → Result (Unit {0}) FileFault
 fault_first None otherwise = otherwise

@@ -1,6 +1,6 @@
 -- A report as 272 bytes: generation, context, port, two zero bytes, GUID and the reply's 256 bytes.
-use Rattle.std.specs.Prelude.{ℕ, List, Option, None, Some, Result, Ok, Err, ◌==◌, ◌&&◌, take, drop, slice_index, option_map, if◌then◌else◌}
-use Rattle.std.specs.Int.{from_be_bytes, w32, w64}
+use Rattle.std.specs.Prelude.{ℕ, List, Option, None, Some, Result, Ok, Err, ◌==◌, ◌&&◌, ◌∷◌, ◌++◌, take, drop, slice_index, option_map, if◌then◌else◌}
+use Rattle.std.specs.Int.{from_be_bytes, to_be_bytes, w32, w64}
 use Rattle.fact_join.specs.declared.cell.Cell.{Cell}
 use Rattle.fact_store.specs.declared.key.Key.{Key}
 use Rattle.fact_store.specs.declared.value.Value.{Value}
@@ -13,11 +13,41 @@ use Rattle.fact_store.specs.Report.{report_fault, sightings_of}
 
 -- the context with this byte, port and GUID
 abbrev pub context_of : ℕ → ℕ → ℕ → Option Context
-context_of byte port guid = if byte == 0 then (if (port == 0) && (guid == 0) then Some Start else None) else (if byte == 1 then Some (Via guid port) else (if (byte == 2) && (port == 0) then Some (About guid) else None))
+context_of byte port guid =
+    if byte == 0 then (if (port == 0) && (guid == 0) then Some Start else None)
+    else if byte == 1 then Some (Via guid port)
+    else if (byte == 2) && (port == 0) then Some (About guid)
+    else None
+
+abbrev pub context_byte : Context → ℕ
+context_byte Start = 0
+context_byte (Via guid port) = 1
+context_byte (About guid) = 2
+
+-- the port of a context, or 0 where it has none
+abbrev pub context_port : Context → ℕ
+context_port Start = 0
+context_port (Via guid port) = port
+context_port (About guid) = 0
+
+-- the GUID of a context, or 0 where it has none
+abbrev pub context_guid : Context → ℕ
+context_guid Start = 0
+context_guid (Via guid port) = guid
+context_guid (About guid) = guid
+
+-- the record of a report
+abbrev pub report_bytes : Report → List ℕ
+report_bytes r =
+    to_be_bytes w32 r.generation ++ (context_byte r.context ∷ context_port r.context ∷ 0 ∷ 0 ∷ (to_be_bytes w64 (context_guid r.context) ++ r.bytes))
 
 -- the report that 272 bytes spell, if they spell one
 unfoldable pub report_of : List ℕ → Option Report
-report_of bytes = if (slice_index bytes 6 == 0) && (slice_index bytes 7 == 0) then option_map (λ context. record { generation = from_be_bytes w32 (take 4 bytes); context = context; bytes = drop 16 bytes }) (context_of (slice_index bytes 4) (slice_index bytes 5) (from_be_bytes w64 (take 8 (drop 8 bytes)))) else None
+report_of bytes =
+    if (slice_index bytes 6 == 0) && (slice_index bytes 7 == 0) then
+    option_map (λ context. record { generation = from_be_bytes w32 (take 4 bytes); context = context; bytes = drop 16 bytes })
+    (context_of (slice_index bytes 4) (slice_index bytes 5) (from_be_bytes w64 (take 8 (drop 8 bytes))))
+    else None
 
 -- what is told, unless there is a fault
 abbrev pub unless_fault : Option ReportFault → List (Key × Cell Value) → Result (List (Key × Cell Value)) ReportFault

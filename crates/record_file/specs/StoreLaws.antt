@@ -28,7 +28,8 @@ StoreFilesAreAccepted = (bytes : List ℕ) → ((format_of bytes ≡ Some Cells)
 
 -- and what is kept of them is the cells of these facts, so it says what they say
 abbrev pub FactsAreReadBack : Type 0
-FactsAreReadBack = (bytes : List ℕ) (facts : Facts) → IsStoreFile bytes facts → (outcome bytes ≡ Ok tt) × (kept bytes ≡ entries facts) × (view (kept bytes) ≡ facts)
+FactsAreReadBack =
+    (bytes : List ℕ) (facts : Facts) → IsStoreFile bytes facts → (outcome bytes ≡ Ok tt) × (kept bytes ≡ entries facts) × (view (kept bytes) ≡ facts)
 
 -- different facts have different store files
 abbrev pub FactsHaveOneSpelling : Type 0
@@ -36,5 +37,6 @@ FactsHaveOneSpelling = (x y : Facts) → AreInRange x → AreInRange y → store
 
 -- and whoever absorbs the whole file of some facts into an empty store holds these facts
 abbrev pub AbsorbingReadsBack : {S : Type 0} → (S → Option (List ℕ)) → (S → ℕ) → Type 0
-AbsorbingReadsBack {S} left interruptions = (source source' : S) (bytes rest : List ℕ) (facts new : Facts) → left source ≡ Some bytes → left source' ≡ Some rest → IsStoreFile bytes facts
+AbsorbingReadsBack {S} left interruptions =
+    (source source' : S) (bytes rest : List ℕ) (facts new : Facts) → left source ≡ Some bytes → left source' ≡ Some rest → IsStoreFile bytes facts
     → Absorbs left interruptions (Ok tt) source source' empty new → new ≡ facts

@@ -24,7 +24,7 @@ pub enum FileFault {
     Read,
     #[error("out of memory")]
     Memory,
-    /// 2^40 bytes were read, or 2^40 calls of the source made, without an end.
+    /// 2^40 bytes were read without an end, or 2^40 calls made that gave bytes or were interrupted.
     #[error("too long")]
     TooLong,
 }

@@ -1,13 +1,28 @@
 //! Laws of reading files. There is nothing to call: the contracts are what counts.
 
 ghost use Rattle.record_file.specs.StoreLaws.{AbsorbingReadsBack, FactsAreReadBack, FactsHaveOneSpelling, RecordsAreSpellings, StoreFilesAreAccepted};
-ghost use Rattle.record_file.specs.Laws.{BadRecordStays, ReportFilesAreAccepted};
+ghost use Rattle.record_file.specs.Laws.{BadRecordStays, FirstBadRecordIsTold, ReportFilesAreAccepted, ReportsHaveOneSpelling, TruncationIsTold};
 
 use crate::stream::Source;
 
 /// Neither the fault of a bad record nor what is kept depends on what follows it.
 pub fn bad_record_stays()
     ensures { BadRecordStays }
+{}
+
+/// A file that ends within a record is refused with that record's offset.
+pub fn truncation_is_told()
+    ensures { TruncationIsTold }
+{}
+
+/// A file is refused for its first bad record, with that record's index.
+pub fn first_bad_record_is_told()
+    ensures { FirstBadRecordIsTold }
+{}
+
+/// A record of a report file spells exactly the report that is written so.
+pub fn reports_have_one_spelling()
+    ensures { ReportsHaveOneSpelling }
 {}
 
 /// A file of reports is accepted exactly where it is the magic with good reports behind it.

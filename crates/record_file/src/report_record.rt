@@ -5,7 +5,7 @@ use crate::numbers::{u32_of, u64_of};
 use fact_store::{Context, Report};
 use smp_bytes::{Guid, PortNum};
 
-/// The bytes of a record: generation, context, port, two zero bytes, GUID and the reply's 256 bytes.
+/// The bytes of a record: generation, context, port, two zero bytes, GUID and the 256 of the reply.
 pub(crate) const RECORD_LEN: usize = 272;
 
 /// The report that a record spells, if it spells one.

@@ -2,14 +2,15 @@
 ghost use Rattle.std.specs.Prelude.{◌≡◌, length, IsTrue, OnOk, option_and_then};
 ghost use Rattle.std.specs.FinMap.{entries};
 ghost use Rattle.fact_store.specs.Sighting.{AreInRange};
-ghost use Rattle.record_file.specs.CellRecord.{candidate, cell_of as cell_in, cell_value_bytes, filled_up, if_sighting, key_guid, key_of as key_with, key_port, kind_byte, record_bytes, state_byte, type_byte, type_of as type_with, value_bytes, value_of as value_in};
+ghost use Rattle.record_file.specs.CellRecord.{candidate, cell_of as cell_in, cell_value_bytes, filled_up, if_sighting, key_guid, key_of as key_with, key_port, kind_byte, record_bytes, state_byte, value_bytes, value_of as value_in};
 ghost use Rattle.record_file.specs.StoreFile.{store_bytes};
 ghost use Rattle.record_file.specs.Writes.{Writes};
 
 use crate::numbers::{u16_of, u32_of, u64_of};
 use crate::stream::{Sink, WriteFault};
+use attr_codec::NodeTypeNumber;
 use fact_store::{Cell, Key, Sighting, Store, Value};
-use smp_bytes::{Generation, Guid, Lid, NodeType, PortNum};
+use smp_bytes::{Generation, Guid, Lid, PortNum};
 
 /// The bytes of a record: kind, state, port, zero, generation, GUID and 16 value bytes.
 pub(crate) const RECORD_LEN: usize = 32;
@@ -26,10 +27,8 @@ pub fn write_store<W: Sink>(sink: &mut W, store: &Store) -> Result<(), WriteFaul
     ensures flushed { OnOk result (IsTrue (W.is_flushed sink.new)) }
 {
     sink.write(b"IBSMSTO1")?;
-    for i in 0..store.count() {
-        if let Some(cell) = store.cell(i) {
-            sink.write(&record_of(&cell))?;
-        }
+    for cell in store.cells() {
+        sink.write(&record_of(&cell))?;
     }
     sink.flush()
 }
@@ -112,8 +111,8 @@ fn value_bytes(value: Value) -> [u8; VALUE_LEN]
     let mut bytes = [0; VALUE_LEN];
     match value {
         Value::Kind(kind, ports) => {
-            bytes[0] = type_byte(kind);
-            bytes[1] = ports.number();
+            bytes[0] = NodeTypeNumber::from(kind).number();
+            bytes[1] = ports;
         }
         Value::Guid(guid) => bytes[..8].copy_from_slice(&guid.number().to_be_bytes()),
         Value::Peer(guid, port) => {
@@ -125,16 +124,6 @@ fn value_bytes(value: Value) -> [u8; VALUE_LEN]
         Value::Count(count) => bytes[..2].copy_from_slice(&count.to_be_bytes()),
     }
     bytes
-}
-
-fn type_byte(kind: NodeType) -> u8
-    ensures { result ≡ type_byte kind }
-{
-    match kind {
-        NodeType::ChannelAdapter => 1,
-        NodeType::Switch => 2,
-        NodeType::Router => 3,
-    }
 }
 
 /// The cell that a record spells, if it spells one.
@@ -166,6 +155,7 @@ fn sighting_in(bytes: &[u8]) -> Option<Sighting>
     Sighting::new(key, cell)
 }
 
+/// The key of this GUID and port that has this kind byte.
 fn key_of(kind: u8, guid: u64, port: u8) -> Option<Key>
     ensures { result ≡ key_with kind guid port }
 {
@@ -188,22 +178,11 @@ fn value_of(key: &Key, bytes: &[u8]) -> Option<Value>
     ensures { result ≡ value_in key.now bytes.now }
 {
     Some(match *key {
-        Key::Node(_) => Value::Kind(type_of(bytes[0])?, PortNum::new(bytes[1])),
+        Key::Node(_) => Value::Kind(NodeTypeNumber::new(bytes[0]).node_type()?, bytes[1]),
         Key::PortGuid(..) => Value::Guid(Guid::new(u64_of(&bytes[..8]))),
         Key::Link(..) => Value::Peer(Guid::new(u64_of(&bytes[..8])), PortNum::new(bytes[8])),
         Key::Port(..) => Value::Up(bytes[0] == 1),
         Key::Claim(..) => Value::Lid(Lid::new(u16_of(&bytes[..2]))),
         Key::Cap(_) => Value::Count(u16_of(&bytes[..2])),
     })
-}
-
-fn type_of(byte: u8) -> Option<NodeType>
-    ensures { result ≡ type_with byte }
-{
-    match byte {
-        1 => Some(NodeType::ChannelAdapter),
-        2 => Some(NodeType::Switch),
-        3 => Some(NodeType::Router),
-        _ => None,
-    }
 }

@@ -12,9 +12,8 @@ mod to_write;
 
 pub use from_bytes::FromBytes;
 pub use from_read::FromRead;
+pub(crate) use reading::{FillFault, Reading};
 pub use sink::{Sink, WriteFault};
 pub use source::{ReadError, Source};
 pub use to_room::{RoomFault, ToRoom};
 pub use to_write::ToWrite;
-
-pub(crate) use reading::{FillFault, Reading};

@@ -1,25 +1,25 @@
-//! Readers and writers that behave in their own ways.
+//! Readers and writers that behave in their own ways, and files with each of their faults.
 
 use super::*;
-use fact_store::Store;
+use fact_store::{ReportFault, Store};
 use std::alloc::{AllocError, Global};
 use std::io;
 use std::io::{ErrorKind, Read, Write};
 use std::test::Fail;
 
-/// Gives one byte of `rest` a call; at the call `fails_at` it fails with `kind`, once.
+/// Gives one byte of `rest` a call, but fails with `kind` at the calls that `fails` names.
 #[derive(Drop)]
 struct Dripping<'a> {
     rest: &'a [u8],
-    calls: u64,
-    fails_at: u64,
+    calls: u8,
+    fails: &'a [u8],
     kind: ErrorKind,
 }
 
 impl Read for Dripping<'_> {
     fn read(&mut self, buf: &mut [u8]) -> io::Result<usize> {
         self.calls = self.calls.saturating_add(1);
-        if self.calls == self.fails_at {
+        if self.fails.contains(&self.calls) {
             return Err(io::Error::from(self.kind));
         }
         match (self.rest.split_first(), buf.first_mut()) {
@@ -33,157 +33,155 @@ impl Read for Dripping<'_> {
     }
 }
 
-/// Takes at most `most` bytes a call; at the call `fails_at` it fails with `kind`, once.
+/// Takes at most `most` bytes a call and holds them back until its flush; fails with `kind` at the
+/// calls that `fails` names.
 #[derive(Drop)]
-struct Sipping {
+struct Holding<'a> {
     held: Vec<u8>,
+    out: Vec<u8>,
     most: usize,
-    calls: u64,
-    fails_at: u64,
+    calls: u8,
+    fails: &'a [u8],
     kind: ErrorKind,
 }
 
-impl Write for Sipping {
-    fn write(&mut self, buf: &[u8]) -> io::Result<usize> {
+impl Holding<'_> {
+    fn called(&mut self) -> io::Result<()> {
         self.calls = self.calls.saturating_add(1);
-        if self.calls == self.fails_at {
-            return Err(io::Error::from(self.kind));
-        }
-        let count = buf.len().min(self.most);
-        self.held.extend_from_slice(&buf[..count])?;
-        Ok(count)
-    }
-
-    fn flush(&mut self) -> io::Result<()> {
-        self.calls = self.calls.saturating_add(1);
-        if self.calls == self.fails_at {
+        if self.fails.contains(&self.calls) {
             return Err(io::Error::from(self.kind));
         }
         Ok(())
     }
 }
 
-#[test]
-fn bytes_come_as_the_room_allows(rt: HostRuntime) {
-    let mut source = FromBytes::new(b"abc");
-    let mut room = [0; 2];
-    assert_eq!(rt; source.read(&mut room), Ok(2));
-    assert_eq!(rt; room.as_slice(), b"ab".as_slice());
-    assert_eq!(rt; source.read(&mut room), Ok(1));
-    assert_eq!(rt; room[0], b'c');
-    assert_eq!(rt; source.read(&mut room), Ok(0));
+impl Write for Holding<'_> {
+    fn write(&mut self, buf: &[u8]) -> io::Result<usize> {
+        self.called()?;
+        let count = buf.len().min(self.most);
+        self.held.extend_from_slice(&buf[..count])?;
+        Ok(count)
+    }
+
+    fn flush(&mut self) -> io::Result<()> {
+        self.called()?;
+        self.out.extend_from_slice(self.held.as_slice())?;
+        self.held.clear();
+        Ok(())
+    }
+}
+
+/// What absorbing an empty file of reports answers, and what one more read does.
+fn reading_of(
+    alloc: Global,
+    fails: &[u8],
+    kind: ErrorKind,
+) -> (Result<(), FileFault>, Result<usize, ReadError>) {
+    let mut source = FromRead::new(Dripping {
+        rest: b"IBSMREP1",
+        calls: 0,
+        fails,
+        kind,
+    });
+    let mut store = Store::new(alloc);
+    let answer = absorb(&mut source, &mut store);
+    (answer, source.read(&mut [0; 1]))
 }
 
 #[test]
-fn a_failed_read_is_remembered(rt: HostRuntime) {
-    let mut source = FromRead::new(Dripping {
-        rest: b"abc",
+fn interrupted_reads_are_asked_again_and_failures_stay(rt: HostRuntime) {
+    let read = (Ok(()), Ok(0));
+    let failed = (Err(FileFault::Read), Err(ReadError::Failed));
+    for (kind, fails, wanted) in [
+        (ErrorKind::Interrupted, [2, 3, 4].as_slice(), read),
+        (
+            ErrorKind::Interrupted,
+            [1, 2, 3, 4, 5, 6, 7, 9, 11].as_slice(),
+            read,
+        ),
+        (ErrorKind::Interrupted, [9, 10].as_slice(), read),
+        (ErrorKind::Other, [3].as_slice(), failed),
+        (ErrorKind::WouldBlock, [1].as_slice(), failed),
+        (ErrorKind::TimedOut, [8].as_slice(), failed),
+        (ErrorKind::UnexpectedEof, [9].as_slice(), failed),
+        (ErrorKind::NotFound, [2].as_slice(), failed),
+    ] {
+        assert!(rt;
+            reading_of(rt.alloc(), fails, kind) == wanted,
+            "{kind:?} at {fails:?}"
+        );
+    }
+}
+
+/// What writing the store file of an empty store answers, and one more flush, and what went out.
+fn writing_of(
+    alloc: Global,
+    most: usize,
+    fails: &[u8],
+    kind: ErrorKind,
+) -> (Result<(), WriteFault>, Result<(), WriteFault>, Vec<u8>) {
+    let mut sink = ToWrite::new(Holding {
+        held: Vec::new(alloc),
+        out: Vec::new(alloc),
+        most,
         calls: 0,
-        fails_at: 2,
-        kind: ErrorKind::NotFound,
+        fails,
+        kind,
     });
-    let mut room = [0; 8];
-    assert_eq!(rt; source.read(&mut room), Ok(1));
-    assert_eq!(rt; room[0], b'a');
-    assert_eq!(rt; source.read(&mut room), Err(ReadError::Failed));
-    assert_eq!(rt; source.read(&mut room), Err(ReadError::Failed));
-    assert_eq!(rt; source.into_inner().rest, b"bc".as_slice());
+    let answer = write_store(&mut sink, &Store::new(alloc));
+    let again = sink.flush();
+    (answer, again, sink.into_inner().out)
 }
 
 #[test]
-fn an_interrupted_read_can_be_asked_again(rt: HostRuntime) {
-    let mut source = FromRead::new(Dripping {
-        rest: b"abc",
-        calls: 0,
-        fails_at: 2,
-        kind: ErrorKind::Interrupted,
-    });
-    let mut room = [0; 8];
-    assert_eq!(rt; source.read(&mut room), Ok(1));
-    assert_eq!(rt; source.read(&mut room), Err(ReadError::Interrupted));
-    assert_eq!(rt; source.read(&mut room), Ok(1));
-    assert_eq!(rt; room[0], b'b');
+fn interrupted_writes_are_asked_again_and_failures_stay(rt: HostRuntime) {
+    let whole = b"IBSMSTO1".as_slice();
+    let none = b"".as_slice();
+    let failed = Err(WriteFault::Write);
+    for (kind, most, fails, wanted, out) in [
+        (ErrorKind::Other, 8, none, Ok(()), whole),
+        (ErrorKind::Other, 3, none, Ok(()), whole),
+        (
+            ErrorKind::Interrupted,
+            3,
+            [1, 2, 3, 5].as_slice(),
+            Ok(()),
+            whole,
+        ),
+        (
+            ErrorKind::Interrupted,
+            8,
+            [2, 3, 4].as_slice(),
+            Ok(()),
+            whole,
+        ),
+        (ErrorKind::Other, 0, none, failed, none),
+        (ErrorKind::Other, 3, [2].as_slice(), failed, none),
+        (ErrorKind::WouldBlock, 3, [1].as_slice(), failed, none),
+        (ErrorKind::Other, 8, [2].as_slice(), failed, none),
+        (ErrorKind::TimedOut, 8, [2].as_slice(), failed, none),
+    ] {
+        let (answer, again, went) = writing_of(rt.alloc(), most, fails, kind);
+        let is_right = answer == wanted && again == wanted && went.as_slice() == out;
+        assert!(rt; is_right, "{kind:?} at {fails:?}, {most} a call");
+    }
 }
 
 #[test]
 fn a_room_takes_what_fits(rt: HostRuntime) -> Result<(), Fail> {
     let mut sink = ToRoom::new(rt.alloc(), 5)?;
-    assert_eq!(rt; sink.write(b"abc"), Ok(()));
-    assert_eq!(rt; sink.write(b"de"), Ok(()));
-    assert_eq!(rt; sink.flush(), Ok(()));
-    assert_eq!(rt; sink.write(b"f"), Err(WriteFault::Write));
-    assert_eq!(rt; sink.write(b""), Err(WriteFault::Write));
-    assert_eq!(rt; sink.bytes(), b"abcde".as_slice());
-    Ok(())
-}
-
-#[test]
-fn writers_are_asked_until_all_is_out(rt: HostRuntime) {
-    for (most, fails_at, kind, written, wanted) in [
-        (8, 0, ErrorKind::Other, Ok(()), b"abc".as_slice()),
-        (1, 0, ErrorKind::Other, Ok(()), b"abc".as_slice()),
-        (1, 2, ErrorKind::Interrupted, Ok(()), b"abc".as_slice()),
-        (1, 2, ErrorKind::Other, Err(WriteFault::Write), b"a".as_slice()),
-        (0, 0, ErrorKind::Other, Err(WriteFault::Write), b"".as_slice()),
+    for (bytes, wanted, held) in [
+        (b"abc".as_slice(), Ok(()), b"abc".as_slice()),
+        (b"de".as_slice(), Ok(()), b"abcde".as_slice()),
+        (b"".as_slice(), Ok(()), b"abcde".as_slice()),
+        (b"f".as_slice(), Err(WriteFault::Write), b"abcde".as_slice()),
+        (b"".as_slice(), Err(WriteFault::Write), b"abcde".as_slice()),
     ] {
-        let mut sink = ToWrite::new(Sipping {
-            held: Vec::new(rt.alloc()),
-            most,
-            calls: 0,
-            fails_at,
-            kind,
-        });
-        assert_eq!(rt; sink.write(b"abc"), written);
-        assert_eq!(rt; sink.flush(), written);
-        assert_eq!(rt; sink.into_inner().held.as_slice(), wanted);
-    }
-}
-
-#[test]
-fn files_are_absorbed_up_to_their_first_fault(rt: HostRuntime) -> Result<(), Fail> {
-    let mut file = first_report(rt.alloc())?;
-    file.extend_from_slice(&[0; 272])?;
-    let bad = FileFault::BadReport {
-        index: 1,
-        fault: fact_store::ReportFault::Generation,
-    };
-    for (length, wanted) in [
-        (0, Err(FileFault::Magic)),
-        (7, Err(FileFault::Magic)),
-        (8, Ok(())),
-        (9, Err(FileFault::Truncated { offset: 8 })),
-        (279, Err(FileFault::Truncated { offset: 8 })),
-        (280, Ok(())),
-        (281, Err(FileFault::Truncated { offset: 280 })),
-        (552, Err(bad)),
-    ] {
-        let mut store = Store::new(rt.alloc());
-        let whole = file.as_slice();
-        let cut = whole.get(..length).ok_or("shorter")?;
-        assert_eq!(rt;
-            absorb(&mut FromBytes::new(cut), &mut store),
-            wanted,
-            "at {length}"
-        );
+        let answer = sink.write(bytes);
+        let is_right = answer == wanted && sink.flush() == wanted && sink.bytes() == held;
+        assert!(rt; is_right, "{bytes:?}");
     }
     Ok(())
-}
-
-#[test]
-fn a_read_that_fails_ends_a_file(rt: HostRuntime) {
-    for (kind, wanted) in [
-        (ErrorKind::Interrupted, Ok(())),
-        (ErrorKind::Other, Err(FileFault::Read)),
-    ] {
-        let mut store = Store::new(rt.alloc());
-        let mut source = FromRead::new(Dripping {
-            rest: b"IBSMREP1",
-            calls: 0,
-            fails_at: 3,
-            kind,
-        });
-        assert_eq!(rt; absorb(&mut source, &mut store), wanted);
-    }
 }
 
 /// A report of a channel adapter's first port, as the sweep's first reply gives it.
@@ -211,24 +209,55 @@ const FIRST_STORE: [u8; 72] = [
     2, 1, 1, 0, 0, 0, 0, 1, 0, 0, 0, 0, 0, 0, 1, 0, 0, 0, 0, 0, 0, 0, 1, 1, 0, 0, 0, 0, 0, 0, 0, 0,
 ];
 
-fn absorbed(alloc: Global, file: &[u8]) -> (Result<(), FileFault>, Store) {
+/// The same cells in the other order.
+fn swapped_store() -> [u8; 72] {
+    let mut bytes = FIRST_STORE;
+    bytes[8..40].copy_from_slice(&FIRST_STORE[40..]);
+    bytes[40..].copy_from_slice(&FIRST_STORE[8..40]);
+    bytes
+}
+
+/// What absorbing the file answers, and how many cells the store then has.
+fn absorbed(alloc: Global, file: &[u8]) -> (Result<(), FileFault>, usize) {
     let mut store = Store::new(alloc);
     let answer = absorb(&mut FromBytes::new(file), &mut store);
-    (answer, store)
+    (answer, store.count())
+}
+
+/// The store file of what the file tells.
+fn joined(alloc: Global, file: &[u8]) -> Result<ToRoom, Fail> {
+    let mut store = Store::new(alloc);
+    absorb(&mut FromBytes::new(file), &mut store)?;
+    let mut sink = ToRoom::new(alloc, 72)?;
+    write_store(&mut sink, &store)?;
+    Ok(sink)
 }
 
 #[test]
 fn a_report_becomes_its_store_file_which_is_read_back(rt: HostRuntime) -> Result<(), Fail> {
     let file = first_report(rt.alloc())?;
-    assert_eq!(rt; file.len(), 280);
     for bytes in [file.as_slice(), FIRST_STORE.as_slice()] {
-        let (answer, store) = absorbed(rt.alloc(), bytes);
-        assert_eq!(rt; answer, Ok(()));
-        let mut sink = ToRoom::new(rt.alloc(), 72)?;
-        assert_eq!(rt; write_store(&mut sink, &store), Ok(()));
-        assert_eq!(rt; sink.bytes(), FIRST_STORE.as_slice());
+        let sink = joined(rt.alloc(), bytes)?;
+        assert!(rt; sink.bytes() == FIRST_STORE.as_slice());
     }
     Ok(())
+}
+
+/// What a file of one or two records of this size answers where it is cut to this length.
+fn cut_answer(length: usize, size: u16) -> Result<(), FileFault> {
+    let second = 8 + usize::from(size);
+    let end = second + usize::from(size);
+    if length < 8 {
+        Err(FileFault::Magic)
+    } else if length == 8 || length == second || length == end {
+        Ok(())
+    } else if length < second {
+        Err(FileFault::Truncated { offset: 8 })
+    } else {
+        Err(FileFault::Truncated {
+            offset: second as u64,
+        })
+    }
 }
 
 #[test]
@@ -237,71 +266,65 @@ fn every_cut_of_both_files_is_told(rt: HostRuntime) -> Result<(), Fail> {
     for (bytes, size) in [(file.as_slice(), 272), (FIRST_STORE.as_slice(), 32)] {
         for length in 0..=bytes.len() {
             let cut = bytes.get(..length).ok_or("shorter")?;
-            let (answer, _store) = absorbed(rt.alloc(), cut);
-            let wanted = if length < 8 {
-                Err(FileFault::Magic)
-            } else if length == 8 || length == 8 + size || length == 8 + 2 * size {
-                Ok(())
-            } else if length < 8 + size {
-                Err(FileFault::Truncated { offset: 8 })
-            } else {
-                Err(FileFault::Truncated {
-                    offset: 8 + size as u64,
-                })
-            };
-            assert_eq!(rt; answer, wanted, "at {length}");
+            let (answer, _count) = absorbed(rt.alloc(), cut);
+            assert!(rt; answer == cut_answer(length, size), "at {length}");
         }
     }
     Ok(())
 }
 
-#[test]
-fn cells_in_another_order_are_refused(rt: HostRuntime) {
-    let mut bytes = FIRST_STORE;
-    bytes[8..40].copy_from_slice(&FIRST_STORE[40..]);
-    bytes[40..].copy_from_slice(&FIRST_STORE[8..40]);
-    let (answer, store) = absorbed(rt.alloc(), &bytes);
-    assert_eq!(rt; answer, Err(FileFault::CellOrder { index: 1 }));
-    assert_eq!(rt; store.count(), 1);
+/// The file with another byte at this place.
+fn damaged(alloc: Global, file: &[u8], place: usize, byte: u8) -> Result<Vec<u8>, AllocError> {
+    let mut bytes = Vec::from_slice(alloc, file)?;
+    if let Some(at) = bytes.get_mut(place) {
+        *at = byte;
+    }
+    Ok(bytes)
 }
 
 #[test]
-fn each_damage_of_a_cell_is_told(rt: HostRuntime) {
-    // State 2 with the value kept, and then kind, state, generation, node type, ports, the key's port, the
-    // fourth byte and the last value byte.
-    for (place, byte) in [
-        (9, 2),
-        (8, 7),
-        (9, 3),
-        (15, 0),
-        (24, 4),
-        (25, 0),
-        (10, 1),
-        (11, 1),
-        (39, 1),
+fn each_damage_is_told(rt: HostRuntime) -> Result<(), Fail> {
+    let mut reports = first_report(rt.alloc())?;
+    reports.extend_from_slice(&[0; 272])?;
+    let cells = FIRST_STORE.as_slice();
+    let swapped = swapped_store();
+    let bad_cell = FileFault::BadCell { index: 0 };
+    let bad = |index, fault| FileFault::BadReport { index, fault };
+    // Of the first cell: the state of a dispute with the value kept, and then kind, state, generation,
+    // node type, ports, the key's port, the fourth byte and the last value byte.
+    for (file, place, byte, wanted, count) in [
+        (cells, 9, 2, bad_cell, 0),
+        (cells, 8, 7, bad_cell, 0),
+        (cells, 9, 3, bad_cell, 0),
+        (cells, 15, 0, bad_cell, 0),
+        (cells, 24, 4, bad_cell, 0),
+        (cells, 25, 0, bad_cell, 0),
+        (cells, 10, 1, bad_cell, 0),
+        (cells, 11, 1, bad_cell, 0),
+        (cells, 39, 1, bad_cell, 0),
+        (cells, 40, 7, FileFault::BadCell { index: 1 }, 1),
+        (
+            swapped.as_slice(),
+            8,
+            2,
+            FileFault::CellOrder { index: 1 },
+            1,
+        ),
+        (cells, 7, 0x32, FileFault::Magic, 0),
+        (
+            reports.as_slice(),
+            11,
+            0,
+            bad(0, ReportFault::Generation),
+            0,
+        ),
+        (reports.as_slice(), 14, 1, bad(0, ReportFault::Context), 0),
+        (reports.as_slice(), 12, 3, bad(0, ReportFault::Context), 0),
+        (reports.as_slice(), 8, 0, bad(1, ReportFault::Generation), 2),
     ] {
-        let mut bytes = FIRST_STORE;
-        let damaged: &mut [u8] = &mut bytes;
-        if let Some(at) = damaged.get_mut(place) {
-            *at = byte;
-        }
-        let (answer, store) = absorbed(rt.alloc(), &bytes);
-        assert_eq!(rt; answer, Err(FileFault::BadCell { index: 0 }), "at {place}");
-        assert_eq!(rt; store.count(), 0);
+        let bytes = damaged(rt.alloc(), file, place, byte)?;
+        let answer = absorbed(rt.alloc(), bytes.as_slice());
+        assert!(rt; answer == (Err(wanted), count), "at {place}");
     }
-}
-
-#[test]
-fn a_failed_write_or_flush_of_a_store_is_told(rt: HostRuntime) {
-    let store = Store::new(rt.alloc());
-    for (fails_at, wanted) in [(1, Err(WriteFault::Write)), (2, Err(WriteFault::Write)), (3, Ok(()))] {
-        let mut sink = ToWrite::new(Sipping {
-            held: Vec::new(rt.alloc()),
-            most: 8,
-            calls: 0,
-            fails_at,
-            kind: ErrorKind::Other,
-        });
-        assert_eq!(rt; write_store(&mut sink, &store), wanted);
-    }
+    Ok(())
 }

@@ -1,16 +1,20 @@
 -- What a run over files reads, file after file.
-use Rattle.std.proofs.Common.{◌≡◌, ℕ, zero, suc, ◌+◌, ◌<◌, ◌≤◌, List, [], ◌∷◌, ◌++◌, refl, sym, ap, ◌∙◌, arith, true, false, Bool, Option, None, Some, Result, Ok, Err, IsTrue, ◌↔◌, subst, length}
+use Rattle.std.proofs.Common.{◌≡◌, ℕ, zero, suc, ◌+◌, ◌<◌, ◌≤◌, List, [], ◌∷◌, ◌++◌, refl, sym, ap, ◌∙◌, arith, true, false, Bool, Option, None, Some, Result, Ok, Err, IsTrue, ◌↔◌, subst, length, inl, inr}
 use Rattle.std.proofs.Math.ListN.{set, length-set}
 use Rattle.std.proofs.lemmas.Bool.{ltb-true, ltb-false}
 use Rattle.std.proofs.lemmas.List.{get_or-set_same, flat_map_more}
 use Rattle.std.proofs.lemmas.Option.{slice_get-get_or}
-use Rattle.std.specs.Prelude.{nat_lt, IsErr, OnOk, slice_get}
+use Rattle.std.specs.Prelude.{nat_lt, IfSome, IsErr, OnOk, slice_get}
 use Rattle.std.specs.List.{flat_map}
+use Rattle.std.specs.FinMap.{empty}
 use Rattle.fact_store.specs.View.{Facts, view}
 use Rattle.fact_store.specs.Merge.{merge}
+use Rattle.fact_store.proofs.Merges.{merge_empty}
 use Rattle.fact_store.proofs.Views.{view_of_both}
-use Rattle.record_file.specs.RecordFile.{kept}
-use Rattle.sm_cli.specs.Run.{AreReadAs, IsReadAs, IsReadAt, ReadsInto, facts_of}
+use Rattle.record_file.specs.Absorbs.{Absorbs, HasNoFaultYet}
+use Rattle.record_file.specs.RecordFile.{ending, fault_first, fault_in, format_of, kept, outcome, outcome_as, record_size}
+use Rattle.record_file.specs.declared.file_fault.FileFault.TheVariants.{Memory}
+use Rattle.sm_cli.specs.Run.{AreReadAs, IsReadAs, IsReadAt, ReadsInto, Refuses, facts_of}
 
 -- a source is replaced by what is left of it
 pub there_after : {S : Type 0} (sources : List S) (place : ℕ) (after : S) → place < length sources → slice_get (set sources place after) place ≡ Some after
@@ -43,49 +47,95 @@ last_of_more [] last (suc k) h x e = absurd (cc)
 last_of_more (y ∷ xs) last zero h x e = absurd (omega arith)
 last_of_more (y ∷ xs) last (suc k) h x e = let i = last_of_more xs last k (omega arith) x e in (ap suc i.0, i.1)
 
+-- an accepted file has no bad record
+accepted_has_no_fault : (bytes : List ℕ) → outcome bytes ≡ Ok tt → HasNoFaultYet bytes
+unfolding outcome
+accepted_has_no_fault bytes h =
+    elim (format_of bytes) as (λ o. format_of bytes ≡ o → outcome_as o bytes ≡ Ok tt → HasNoFaultYet bytes) [
+      | None ↦ λ e k. absurd (cc)
+      | Some format ↦ λ e k. (elim (fault_in format bytes) as (λ f. fault_in format bytes ≡ f → fault_first f (ending (record_size format) (length bytes)) ≡ Ok tt → HasNoFaultYet bytes) [
+        | None ↦ λ d l. inr (format, e, d)
+        | Some f ↦ λ d l. absurd (cc)
+      ] refl k)
+    ] refl h
+
+-- nothing is said of known bytes
+nothing_known : (o p : Option (List ℕ)) → IfSome o (λ bytes. IfSome p (λ rest. Unit {0}))
+nothing_known None p = tt
+nothing_known (Some bytes) None = tt
+nothing_known (Some bytes) (Some rest) = tt
+
+-- an element that is there stands below the length
+pub inside : {X : Type 0} (xs : List X) (k : ℕ) (x : X) → slice_get xs k ≡ Some x → k < length xs
+inside [] k x e = absurd (cc)
+inside (y ∷ xs) zero x e = omega arith
+inside (y ∷ xs) (suc k) x e = let i = inside xs k x e in omega arith
+
 module _ {S : Type 0} (left : S → Option (List ℕ)) (has_failed : S → Bool) where
-  -- what was read of the first sources stays when a later one is read
-  later_read : (olds news : List S) (place : ℕ) (after : S) (k : ℕ) (file : List ℕ) → k < place → IsReadAt left has_failed olds news k file → IsReadAt left has_failed olds (set news place after) k file
-  later_read olds news place after k file low r = record {
-    old = r.old;
-    new = r.new;
-    there = r.there;
-    there_after = earlier news place after k low ∙ r.there_after;
-    read = r.read;
-  }
+  -- what was read of the sources before a place stays when the one there is read
+  pub reads_stay : (olds news : List S) (files : List (List ℕ)) (place : ℕ) (after : S) → length files ≡ place → AreReadAs left has_failed olds news files → AreReadAs left has_failed olds (set news place after) files
+  reads_stay olds news files place after as_many before k file at =
+      let r = before k file at in
+      let low : k < place = let i = inside files k file at in omega arith in
+      record {
+        old = r.old;
+        new = r.new;
+        there = r.there;
+        there_after = earlier news place after k low ∙ r.there_after;
+        read = r.read;
+      }
 
   -- one more source was read
   pub read_more :
-      (olds news : List S) (files : List (List ℕ)) (old after : S) (file : List ℕ)
-      → AreReadAs left has_failed olds news files → slice_get olds (length files) ≡ Some old → length files < length news → IsReadAs left has_failed old after file
-      → AreReadAs left has_failed olds (set news (length files) after) (files ++ file ∷ [])
-  read_more olds news files old after file before there within read k f at =
-      elim (nat_lt k (length files)) as (λ t. nat_lt k (length files) ≡ t → IsReadAt left has_failed olds (set news (length files) after) k f) [
-        | true ↦ λ p.
-            let low = ltb-true _ _ p in
-            later_read olds news (length files) after k f low (before k f (sym (front_of_more files file k low) ∙ at))
+      (olds news : List S) (files : List (List ℕ)) (place : ℕ) (old after : S) (file : List ℕ)
+      → length files ≡ place → AreReadAs left has_failed olds news files → slice_get olds place ≡ Some old → place < length news → IsReadAs left has_failed old after file
+      → AreReadAs left has_failed olds (set news place after) (files ++ file ∷ [])
+  read_more olds news files place old after file as_many before there within read k f at =
+      elim (nat_lt k (length files)) as (λ t. nat_lt k (length files) ≡ t → IsReadAt left has_failed olds (set news place after) k f) [
+        | true ↦ λ p. reads_stay olds news files place after as_many before k f (sym (front_of_more files file k (ltb-true _ _ p)) ∙ at)
         | false ↦ λ p.
             let same = last_of_more files file k (ltb-false _ _ p) f at in
+            let here : k ≡ place = same.0 ∙ as_many in
             record {
               old = old;
               new = after;
-              there = ap (slice_get olds) same.0 ∙ there;
-              there_after = ap (slice_get (set news (length files) after)) same.0 ∙ there_after news (length files) after within;
+              there = ap (slice_get olds) here ∙ there;
+              there_after = ap (slice_get (set news place after)) here ∙ there_after news place after within;
               read = subst (IsReadAs left has_failed old after) same.1 read;
             }
       ] refl
+
+  -- a source was absorbed into an empty store, which was then merged into another
+  pub reads_into :
+      (interruptions : S → ℕ) (u : Unit {0}) (old new : S) (fresh store all sum : Facts)
+      → fresh ≡ empty → Absorbs left interruptions (Ok u) old new fresh store → has_failed new ≡ false → sum ≡ merge all store
+      → ReadsInto left has_failed old new all sum
+  reads_into interruptions u old new fresh store all sum is_fresh a works e = record {
+    file = a.taken;
+    read = record { consumed = a.consumed; at_end = a.decided; accepted = a.answered; works = works };
+    merged = e ∙ ap (merge all) (a.held ∙ ap (λ x. merge x (view (kept a.taken))) is_fresh ∙ merge_empty (view (kept a.taken)));
+  }
+
+  -- or there was no memory for that
+  pub refuses_merge :
+      (interruptions : S → ℕ) (u : Unit {0}) (old new : S) (fresh store : Facts)
+      → Absorbs left interruptions (Ok u) old new fresh store → has_failed new ≡ false
+      → Refuses left has_failed interruptions old new Memory
+  refuses_merge interruptions u old new fresh store a works = record {
+    taken = a.taken;
+    consumed = a.consumed;
+    answered = tt;
+    decided = tt;
+    no_fault_before = λ e. accepted_has_no_fault a.taken a.answered;
+    read = (λ e. absurd (cc), λ failed. let f : IsTrue false = subst IsTrue works failed in absurd (cc));
+    known = nothing_known (left old) (left new);
+  }
 
 -- what one more file says is merged into what all before say
 pub facts-more : (files : List (List ℕ)) (file : List ℕ) (facts facts' : Facts) → facts ≡ facts_of files → facts' ≡ merge facts (view (kept file)) → facts' ≡ facts_of (files ++ file ∷ [])
 facts-more files file facts facts' e more =
     more ∙ ap (λ x. merge x (view (kept file))) e ∙ sym (view_of_both (flat_map kept files) (kept file))
     ∙ ap view (flat_map_more kept [] files file)
-
--- a sink that took all has not failed
-pub works : {E : Type 0} (r : Result (Unit {0}) E) (failed : Bool) → (IsErr r ↔ IsTrue failed) → OnOk r (failed ≡ false)
-works (Ok u) false h = refl
-works (Ok u) true h = let p = h.1 refl in absurd (cc)
-works (Err e) failed h = tt
 
 -- the first sources were read, the others are as they were, and the facts are what the files say
 pub record HasReadSome {S : Type 0} (left : S → Option (List ℕ)) (has_failed : S → Bool) (olds news : List S) (place : ℕ) (facts : Facts) : Type 0 where
@@ -95,3 +145,8 @@ pub record HasReadSome {S : Type 0} (left : S → Option (List ℕ)) (has_failed
   pub one_each : length files ≡ place
   pub read : AreReadAs left has_failed olds news files
   pub told : facts ≡ facts_of files
+
+-- a source that was read to its end has not failed
+pub working : {E : Type 0} (failed : Bool) (u : Unit {0}) (e : E) → (◌≡◌ {A = Result (Unit {0}) E} (Ok u) (Err e) ↔ IsTrue failed) → failed ≡ false
+working false u e h = refl
+working {E} true u e h = let p : ◌≡◌ {A = Result (Unit {0}) E} (Ok u) (Err e) = h.1 refl in absurd (cc)

@@ -54,7 +54,7 @@ fn write_value<W: Sink>(sink: &mut W, value: &Value) -> Result<(), WriteFault>
         Value::Kind(kind, ports) => {
             sink.write(kind.word().as_bytes())?;
             sink.write(b" ")?;
-            write_number(sink, u64::from(ports.number()))
+            write_number(sink, u64::from(ports))
         }
         Value::Guid(guid) => write_guid(sink, guid),
         Value::Peer(guid, port) => write_port(sink, guid, port),
@@ -100,10 +100,8 @@ pub fn write_facts<W: Sink>(sink: &mut W, store: &Store) -> Result<(), WriteFaul
     ensures flushed { OnOk result (IsTrue (W.is_flushed sink.new)) }
     ensures in_range { OnOk result (AreInRange store.now) }
 {
-    for i in 0..store.count() {
-        if let Some(cell) = store.cell(i) {
-            write_cell(sink, &cell)?;
-        }
+    for cell in store.cells() {
+        write_cell(sink, &cell)?;
     }
     sink.flush()
 }

@@ -92,7 +92,7 @@ fn read_into<S: Source>(all: &mut Store, alloc: Global, source: &mut S) -> Resul
 {
     let mut store = Store::new(alloc);
     absorb(source, &mut store)?;
-    match all.merge(&store) {
+    match all.merge_owned(store) {
         Ok(()) => Ok(()),
         Err(_) => Err(FileFault::Memory),
     }

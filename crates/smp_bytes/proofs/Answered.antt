@@ -14,7 +14,8 @@ use Rattle.smp_bytes.proofs.PlaceLaws.{get_or-with_number}
 use Rattle.smp_bytes.proofs.PlaceLaws.{get_or-with_bytes_inside, bytes_in-with_bytes}
 
 -- the status word without the direction is the status that was given
-status_given : (directed : Bool) (given : ℕ) → (directed ≡ true → given < 2 ^ 15) → cond directed (cond directed (2 ^ 15 + given) given % 2 ^ 15) (cond directed (2 ^ 15 + given) given) ≡ given
+status_given : (directed : Bool) (given : ℕ) → (directed ≡ true → given < 2 ^ 15)
+    → cond directed (cond directed (2 ^ 15 + given) given % 2 ^ 15) (cond directed (2 ^ 15 + given) given) ≡ given
 status_given true given small = let below : given < 2 ^ 15 = small refl in omega arith
 status_given false given small = refl
 
@@ -73,7 +74,8 @@ module _ (request : List ℕ) (given : ℕ) (payload : List ℕ) (long : length 
 
   status_is : given < 2 ^ 16 → (is_directed request ≡ true → given < 2 ^ 15) → status (answer_packet request given payload) ≡ given
   status_is fits small =
-      ap (λ (b : Bool). cond b (number_in status_word (answer_packet request given payload) % 2 ^ 15) (number_in status_word (answer_packet request given payload))) direction_stays
+      ap (λ (b : Bool). cond b (number_in status_word (answer_packet request given payload) % 2 ^ 15)
+      (number_in status_word (answer_packet request given payload))) direction_stays
       ∙ ap (λ n. cond (is_directed request) (n % 2 ^ 15) n) (word_is (word_fits (is_directed request) given fits small))
       ∙ status_given (is_directed request) given small
 
@@ -100,7 +102,8 @@ module _ (request : List ℕ) (given : ℕ) (payload : List ℕ) (long : length 
       ap (λ n. bytes_in (record { at = 64; len = n }) (answer_packet request given payload)) (sym whole) ∙ bytes_in-with_bytes 64 payload judged (omega arith)
 
   -- a byte outside method, status and attribute
-  stays : (place : ℕ) → (place < 64) ⊎ (128 ≤ place) → (place < 4) ⊎ (6 ≤ place) → (place < 3) ⊎ (4 ≤ place) → get_or (answer_packet request given payload) place 0 ≡ get_or request place 0
+  stays : (place : ℕ) → (place < 64) ⊎ (128 ≤ place) → (place < 4) ⊎ (6 ≤ place) → (place < 3) ⊎ (4 ≤ place)
+      → get_or (answer_packet request given payload) place 0 ≡ get_or request place 0
   unfolding renamed judged
   stays place no_data no_status no_method =
       let l = length-renamed in

@@ -36,11 +36,15 @@ module _ (b : Bits) (number byte : ℕ) where
       let rest = 8 - (b.shift + b.width) in
       let sum : rest + (b.shift + b.width) ≡ 8 = omega arith in
       let whole : 256 ≡ 2 ^ rest * 2 ^ (b.shift + b.width) = ap (λ n. 2 ^ n) (sym sum) ∙ pow-add 2 rest (b.shift + b.width) in
-      let top : byte / 2 ^ (b.shift + b.width) < 2 ^ rest = div_below byte (2 ^ (b.shift + b.width)) (2 ^ rest) (pow_pos (b.shift + b.width)) (subst (λ (n : ℕ). byte < n) whole fits) in
-      let middle : byte / 2 ^ (b.shift + b.width) * 2 ^ b.width + number < 2 ^ b.width * 2 ^ rest = mul-add-lt (byte / 2 ^ (b.shift + b.width)) (2 ^ b.width) number (2 ^ rest) top small in
-      let all : replaced b number byte < 2 ^ b.shift * (2 ^ b.width * 2 ^ rest) = mul-add-lt (byte / 2 ^ (b.shift + b.width) * 2 ^ b.width + number) (2 ^ b.shift) (byte % 2 ^ b.shift) (2 ^ b.width * 2 ^ rest) middle (below byte b.shift) in
+      let top : byte / 2 ^ (b.shift + b.width) < 2 ^ rest =
+      div_below byte (2 ^ (b.shift + b.width)) (2 ^ rest) (pow_pos (b.shift + b.width)) (subst (λ (n : ℕ). byte < n) whole fits) in
+      let middle : byte / 2 ^ (b.shift + b.width) * 2 ^ b.width + number < 2 ^ b.width * 2 ^ rest =
+      mul-add-lt (byte / 2 ^ (b.shift + b.width)) (2 ^ b.width) number (2 ^ rest) top small in
+      let all : replaced b number byte < 2 ^ b.shift * (2 ^ b.width * 2 ^ rest) = mul-add-lt (byte / 2 ^ (b.shift + b.width) * 2 ^ b.width + number)
+      (2 ^ b.shift) (byte % 2 ^ b.shift) (2 ^ b.width * 2 ^ rest) middle (below byte b.shift) in
       let ends : b.shift + (b.width + rest) ≡ 8 = omega arith in
-      let eight : 2 ^ b.shift * (2 ^ b.width * 2 ^ rest) ≡ 256 = ap (λ n. 2 ^ b.shift * n) (sym (pow-add 2 b.width rest)) ∙ sym (pow-add 2 b.shift (b.width + rest)) ∙ ap (λ n. 2 ^ n) ends in
+      let eight : 2 ^ b.shift * (2 ^ b.width * 2 ^ rest) ≡ 256 = ap (λ n. 2 ^ b.shift * n) (sym (pow-add 2 b.width rest))
+      ∙ sym (pow-add 2 b.shift (b.width + rest)) ∙ ap (λ n. 2 ^ n) ends in
       subst (λ (n : ℕ). replaced b number byte < n) eight all
 
 -- bits by what is above and what is below them
@@ -52,7 +56,8 @@ bits_below : (m n shift width above : ℕ) → width + shift ≤ above → m % 2
 bits_below m n shift width above h same =
     let d = above - (width + shift) in
     let sum : above ≡ d + (width + shift) = omega arith in
-    let at : (x : ℕ) → x % 2 ^ (width + shift) ≡ x % 2 ^ above % 2 ^ (width + shift) = λ x. sym (mod-mod_more x d (width + shift)) ∙ ap (λ k. x % 2 ^ k % 2 ^ (width + shift)) (sym sum) in
+    let at : (x : ℕ) → x % 2 ^ (width + shift) ≡ x % 2 ^ above % 2 ^ (width + shift) = λ x. sym (mod-mod_more x d (width + shift))
+    ∙ ap (λ k. x % 2 ^ k % 2 ^ (width + shift)) (sym sum) in
     bits-by_mod m shift width ∙ ap (λ x. x / 2 ^ shift) (at m ∙ ap (λ x. x % 2 ^ (width + shift)) same ∙ sym (at n)) ∙ sym (bits-by_mod n shift width)
 
 -- bits above others depend on what is above these alone
@@ -71,40 +76,50 @@ byte-number_in at bytes =
     omega (arith, here, there)
 
 -- the byte that is written
-pub get_or-with_bits : (b : Bits) (number : ℕ) (bytes : List ℕ) → b.at < length bytes → replaced b number (get_or bytes b.at 0) < 256 → get_or (with_bits b number bytes) b.at 0 ≡ replaced b number (get_or bytes b.at 0)
+pub get_or-with_bits : (b : Bits) (number : ℕ) (bytes : List ℕ) → b.at < length bytes → replaced b number (get_or bytes b.at 0) < 256
+    → get_or (with_bits b number bytes) b.at 0 ≡ replaced b number (get_or bytes b.at 0)
 get_or-with_bits b number bytes within fits =
-    sym (byte-number_in b.at (with_bits b number bytes)) ∙ number_in-with_number (record { at = b.at; len = 1 }) (replaced b number (get_or bytes b.at 0)) bytes (omega arith) fits
+    sym (byte-number_in b.at (with_bits b number bytes))
+    ∙ number_in-with_number (record { at = b.at; len = 1 }) (replaced b number (get_or bytes b.at 0)) bytes (omega arith) fits
 
 -- the number that was written
-pub bits_in-with_bits : (b : Bits) (number : ℕ) (bytes : List ℕ) → b.at < length bytes → get_or bytes b.at 0 < 256 → b.shift + b.width ≤ 8 → number < 2 ^ b.width → bits_in b (with_bits b number bytes) ≡ number
+pub bits_in-with_bits : (b : Bits) (number : ℕ) (bytes : List ℕ) → b.at < length bytes → get_or bytes b.at 0 < 256 → b.shift + b.width ≤ 8
+    → number < 2 ^ b.width → bits_in b (with_bits b number bytes) ≡ number
 bits_in-with_bits b number bytes within byte room small =
     let fits = replaced_fits b number (get_or bytes b.at 0) byte small room in
     ap (λ n. n / 2 ^ b.shift % 2 ^ b.width) (get_or-with_bits b number bytes within fits) ∙ the_bits b number (get_or bytes b.at 0) small
 
 bits_cases : (a b : Bits) → are_bits_apart a b ≡ true → ((a.at == b.at) ≡ false) ⊎ ((a.shift + a.width ≤ b.shift) ⊎ (b.shift + b.width ≤ a.shift))
 bits_cases a b h =
-    elim (a.at == b.at) as (λ t. (not t || (nat_le (a.shift + a.width) b.shift || nat_le (b.shift + b.width) a.shift)) ≡ true → (t ≡ false) ⊎ ((a.shift + a.width ≤ b.shift) ⊎ (b.shift + b.width ≤ a.shift))) [
+    elim (a.at == b.at) as (λ t. (not t || (nat_le (a.shift + a.width) b.shift || nat_le (b.shift + b.width) a.shift)) ≡ true
+    → (t ≡ false) ⊎ ((a.shift + a.width ≤ b.shift) ⊎ (b.shift + b.width ≤ a.shift))) [
       | false ↦ λ _. inl refl
-      | true ↦ λ p. inr ((elim (nat_le (a.shift + a.width) b.shift) as (λ u. nat_le (a.shift + a.width) b.shift ≡ u → (u || nat_le (b.shift + b.width) a.shift) ≡ true → (a.shift + a.width ≤ b.shift) ⊎ (b.shift + b.width ≤ a.shift)) [
-        | true ↦ λ q _. inl (leb-true _ _ q)
-        | false ↦ λ q r. inr (leb-true _ _ r)
-      ]) refl p)
+      | true ↦ λ p. inr ((elim (nat_le (a.shift + a.width) b.shift) as
+          (λ u. nat_le (a.shift + a.width) b.shift ≡ u → (u || nat_le (b.shift + b.width) a.shift) ≡ true
+          → (a.shift + a.width ≤ b.shift) ⊎ (b.shift + b.width ≤ a.shift)) [
+            | true ↦ λ q _. inl (leb-true _ _ q)
+            | false ↦ λ q r. inr (leb-true _ _ r)
+          ]) refl p)
     ] h
 
-other_byte : (a b : Bits) (number : ℕ) (bytes : List ℕ) → b.at < length bytes → (a.at == b.at) ≡ false → get_or (with_bits b number bytes) a.at 0 ≡ get_or bytes a.at 0
+other_byte : (a b : Bits) (number : ℕ) (bytes : List ℕ) → b.at < length bytes → (a.at == b.at) ≡ false
+    → get_or (with_bits b number bytes) a.at 0 ≡ get_or bytes a.at 0
 other_byte a b number bytes within differ =
     elim (nat_le (b.at + 1) a.at) as (λ t. nat_le (b.at + 1) a.at ≡ t → get_or (with_bits b number bytes) a.at 0 ≡ get_or bytes a.at 0) [
       | true ↦ λ p. get_or-with_bytes b.at _ bytes a.at (omega arith) (inr (leb-true _ _ p))
-      | false ↦ λ p. let low = leb-false _ _ p in let other : a.at ≢ b.at = λ e. absurd (cc (eq-eqb a.at b.at e)) in get_or-with_bytes b.at _ bytes a.at (omega arith) (inl (omega arith))
+      | false ↦ λ p. let low = leb-false _ _ p in let other : a.at ≢ b.at = λ e. absurd (cc (eq-eqb a.at b.at e)) in get_or-with_bytes b.at _ bytes a.at
+          (omega arith) (inl (omega arith))
     ] refl
 
 -- in one byte
-apart_in_byte : (a b : Bits) (number byte : ℕ) → number < 2 ^ b.width → (a.shift + a.width ≤ b.shift) ⊎ (b.shift + b.width ≤ a.shift) → replaced b number byte / 2 ^ a.shift % 2 ^ a.width ≡ byte / 2 ^ a.shift % 2 ^ a.width
+apart_in_byte : (a b : Bits) (number byte : ℕ) → number < 2 ^ b.width → (a.shift + a.width ≤ b.shift) ⊎ (b.shift + b.width ≤ a.shift)
+    → replaced b number byte / 2 ^ a.shift % 2 ^ a.width ≡ byte / 2 ^ a.shift % 2 ^ a.width
 apart_in_byte a b number byte small (inl h) = bits_below (replaced b number byte) byte a.shift a.width b.shift (omega arith) (below-replaced b number byte)
 apart_in_byte a b number byte small (inr h) = bits_above (replaced b number byte) byte a.shift a.width (b.shift + b.width) h (far_above b number byte small)
 
 -- bits apart keep their number
-pub bits_in-with_bits_apart : (a b : Bits) (number : ℕ) (bytes : List ℕ) → b.at < length bytes → get_or bytes b.at 0 < 256 → b.shift + b.width ≤ 8 → number < 2 ^ b.width → are_bits_apart a b ≡ true → bits_in a (with_bits b number bytes) ≡ bits_in a bytes
+pub bits_in-with_bits_apart : (a b : Bits) (number : ℕ) (bytes : List ℕ) → b.at < length bytes → get_or bytes b.at 0 < 256 → b.shift + b.width ≤ 8
+    → number < 2 ^ b.width → are_bits_apart a b ≡ true → bits_in a (with_bits b number bytes) ≡ bits_in a bytes
 bits_in-with_bits_apart a b number bytes within byte room small apart =
     let fits = replaced_fits b number (get_or bytes b.at 0) byte small room in
     elim (a.at == b.at) as (λ t. (a.at == b.at) ≡ t → bits_in a (with_bits b number bytes) ≡ bits_in a bytes) [

@@ -53,10 +53,12 @@ big_from-drop : (at i n : ℕ) (bytes : List ℕ) → big_from (at + i) n bytes 
 big_from-drop at i zero bytes = refl
 big_from-drop at i (suc n) bytes =
     ap (λ b. b * 256 ^ n + big_from (suc (at + i)) n bytes) (sym (get_or-drop at bytes i 0))
-    ∙ ap (λ m. get_or (drop at bytes) i 0 * 256 ^ n + m) (ap (λ k. big_from k n bytes) {x = suc (at + i)} {y = at + suc i} (omega arith) ∙ big_from-drop at (suc i) n bytes)
+    ∙ ap (λ m. get_or (drop at bytes) i 0 * 256 ^ n + m) (ap (λ k. big_from k n bytes) {x = suc (at + i)} {y = at + suc i} (omega arith)
+    ∙ big_from-drop at (suc i) n bytes)
 
 -- the bytes of a number that was read from bytes are those bytes
-big_bytes-big_from : (n i : ℕ) (bytes : List ℕ) → i + n ≤ length bytes → ((k : ℕ) → get_or bytes k 0 < 256) → big_bytes n (big_from i n bytes) ≡ take n (drop i bytes)
+big_bytes-big_from : (n i : ℕ) (bytes : List ℕ) → i + n ≤ length bytes → ((k : ℕ) → get_or bytes k 0 < 256)
+    → big_bytes n (big_from i n bytes) ≡ take n (drop i bytes)
 big_bytes-big_from zero i bytes lies small = refl
 big_bytes-big_from (suc n) i bytes lies small =
     let rest = big_from (suc i) n bytes in
@@ -68,17 +70,21 @@ big_bytes-big_from (suc n) i bytes lies small =
     ∙ sym (ap (take (suc n)) (drop-cons bytes i 0 (omega arith)))
 
 -- so are the bytes of the number of a field
-pub big_bytes-number_in : (f : Field) (bytes : List ℕ) → f.at + f.len ≤ length bytes → All (λ byte. byte < 256) bytes → big_bytes f.len (number_in f bytes) ≡ bytes_in f bytes
+pub big_bytes-number_in : (f : Field) (bytes : List ℕ) → f.at + f.len ≤ length bytes → All (λ byte. byte < 256) bytes
+    → big_bytes f.len (number_in f bytes) ≡ bytes_in f bytes
 big_bytes-number_in f bytes lies all =
-    ap (big_bytes f.len) (sym (big_from-drop f.at 0 f.len bytes) ∙ ap (λ k. big_from k f.len bytes) {x = f.at + 0} {y = f.at} (omega arith)) ∙ big_bytes-big_from f.len f.at bytes lies (byte_at_place bytes all)
+    ap (big_bytes f.len) (sym (big_from-drop f.at 0 f.len bytes) ∙ ap (λ k. big_from k f.len bytes) {x = f.at + 0} {y = f.at} (omega arith))
+    ∙ big_bytes-big_from f.len f.at bytes lies (byte_at_place bytes all)
 
 -- of two writes at one place the last one stands
-pub with_bytes-twice : (at : ℕ) (written before bytes : List ℕ) → at + length written ≤ length bytes → length before ≡ length written → with_bytes at written (with_bytes at before bytes) ≡ with_bytes at written bytes
+pub with_bytes-twice : (at : ℕ) (written before bytes : List ℕ) → at + length written ≤ length bytes → length before ≡ length written
+    → with_bytes at written (with_bytes at before bytes) ≡ with_bytes at written bytes
 unfolding with_bytes
 with_bytes-twice at written before bytes fits same =
     let front : length (take at bytes) ≡ at = length-take-le at bytes (omega arith) in
     let rest = drop (at + length before) bytes in
-    let head : take at (take at bytes ++ (before ++ rest)) ≡ take at bytes = take-append-le at (take at bytes) (before ++ rest) (omega arith) ∙ take_all at (take at bytes) (omega arith) in
+    let head : take at (take at bytes ++ (before ++ rest)) ≡ take at bytes = take-append-le at (take at bytes) (before ++ rest) (omega arith)
+    ∙ take_all at (take at bytes) (omega arith) in
     let tail : drop (at + length written) (take at bytes ++ (before ++ rest)) ≡ drop (at + length written) bytes =
     ap (λ n. drop (n + length written) (take at bytes ++ (before ++ rest))) (sym front)
     ∙ drop-append-add (take at bytes) (before ++ rest) (length written)
@@ -87,7 +93,8 @@ with_bytes-twice at written before bytes fits same =
     ap (λ p. p ++ (written ++ drop (at + length written) (take at bytes ++ (before ++ rest)))) head
     ∙ ap (λ p. take at bytes ++ (written ++ p)) tail
 
-pub with_number-twice : (f : Field) (number before : ℕ) (bytes : List ℕ) → f.at + f.len ≤ length bytes → with_number f number (with_number f before bytes) ≡ with_number f number bytes
+pub with_number-twice : (f : Field) (number before : ℕ) (bytes : List ℕ) → f.at + f.len ≤ length bytes
+    → with_number f number (with_number f before bytes) ≡ with_number f number bytes
 with_number-twice f number before bytes lies =
     let long = length-bytes_high_first f.len number in
     with_bytes-twice f.at (big_bytes f.len number) (big_bytes f.len before) bytes (omega arith) (length-bytes_high_first f.len before ∙ sym long)

@@ -19,11 +19,14 @@ length-hex_text (suc k) n = omega (arith, length-append (hex_text k (n / 16)) (d
 
 -- the first digit is the last to be written
 digits_onto-last : (k n : ℕ) (acc : List ℕ) → n / 16 ≡ 0 → digits_onto (suc k) 16 false n acc ≡ digit_glyph false (n % 16) ∷ acc
-digits_onto-last k n acc none = ap (λ (b : Bool). cond b (digit_glyph false (n % 16) ∷ acc) (digits_onto k 16 false (n / 16) (digit_glyph false (n % 16) ∷ acc))) (eq-eqb _ 0 none)
+digits_onto-last k n acc none =
+    ap (λ (b : Bool). cond b (digit_glyph false (n % 16) ∷ acc) (digits_onto k 16 false (n / 16) (digit_glyph false (n % 16) ∷ acc))) (eq-eqb _ 0 none)
 
 -- a digit is written, and then those in front of it
-digits_onto-step : (k n : ℕ) (acc : List ℕ) → (n / 16 ≡ 0 → ⊥) → digits_onto (suc k) 16 false n acc ≡ digits_onto k 16 false (n / 16) (digit_glyph false (n % 16) ∷ acc)
-digits_onto-step k n acc some = ap (λ (b : Bool). cond b (digit_glyph false (n % 16) ∷ acc) (digits_onto k 16 false (n / 16) (digit_glyph false (n % 16) ∷ acc))) (ne_eqb _ 0 some)
+digits_onto-step : (k n : ℕ) (acc : List ℕ) → (n / 16 ≡ 0 → ⊥)
+    → digits_onto (suc k) 16 false n acc ≡ digits_onto k 16 false (n / 16) (digit_glyph false (n % 16) ∷ acc)
+digits_onto-step k n acc some =
+    ap (λ (b : Bool). cond b (digit_glyph false (n % 16) ∷ acc) (digits_onto k 16 false (n / 16) (digit_glyph false (n % 16) ∷ acc))) (ne_eqb _ 0 some)
 
 -- zeros up to a width
 zeros_before : ℕ → List ℕ → List ℕ
@@ -38,7 +41,8 @@ one_digit k fuel n acc small =
     rw (digits_onto-last fuel n acc none, room, none, hex_text-zero k, append_assoc)
 
 -- the digits of a number below a power, filled up with zeros
-zeros_before-digits : (k fuel n : ℕ) (acc : List ℕ) → k < fuel → n < 16 ^ suc k → zeros_before (suc k + length acc) (digits_onto fuel 16 false n acc) ≡ hex_text (suc k) n ++ acc
+zeros_before-digits : (k fuel n : ℕ) (acc : List ℕ) → k < fuel → n < 16 ^ suc k
+    → zeros_before (suc k + length acc) (digits_onto fuel 16 false n acc) ≡ hex_text (suc k) n ++ acc
 unfolding zeros_before hex_text
 zeros_before-digits k zero n acc room small = absurd (omega arith)
 zeros_before-digits zero (suc fuel) n acc room small = one_digit zero fuel n acc (omega arith)
@@ -62,10 +66,12 @@ digits-is n = refl
 
 -- sixteen digits with zeros in front
 pub padded_integral-hex : (n : ℕ) → n < 2 ^ 64 → padded_integral (format_spec 32 0 4 16 (2 ^ 64 - 1)) false [] (digits 16 false n) ≡ hex_text 16 n
-padded_integral-hex n small = padded_integral-zeros (digits 16 false n) ∙ ap (zeros_before 16) (digits-is n) ∙ zeros_before-digits 15 64 n [] (omega arith) small ∙ append-nil (hex_text 16 n)
+padded_integral-hex n small = padded_integral-zeros (digits 16 false n) ∙ ap (zeros_before 16) (digits-is n)
+    ∙ zeros_before-digits 15 64 n [] (omega arith) small ∙ append-nil (hex_text 16 n)
 
 -- one more digit, in front of those that stand
-pub hex_text-place : (place n : ℕ) (digits : List ℕ) (digit : ℕ) → 0 < place → place ≤ length digits → digit ≡ digit_glyph false (n % 16) → hex_text (place - 1) (n / 16) ++ drop (place - 1) (slice_set digits (place - 1) digit) ≡ hex_text place n ++ drop place digits
+pub hex_text-place : (place n : ℕ) (digits : List ℕ) (digit : ℕ) → 0 < place → place ≤ length digits → digit ≡ digit_glyph false (n % 16)
+    → hex_text (place - 1) (n / 16) ++ drop (place - 1) (slice_set digits (place - 1) digit) ≡ hex_text place n ++ drop place digits
 unfolding hex_text
 hex_text-place zero n digits digit pos room e = absurd (omega arith)
 hex_text-place (suc k) n digits digit pos room e =

@@ -13,16 +13,21 @@ use Rattle.smp_bytes.proofs.PlaceLaws.{get_or-with_bytes_inside, bytes_in-with_b
 
 module _ (method_number attribute modifier tid : ℕ) where
   -- the i-th field of a request holds its number
-  in_request : (class i : ℕ) (e : Entry) → slice_get (request_entries class method_number attribute modifier tid) i ≡ Some e → e.number < 256 ^ e.field.len → number_in e.field (request class method_number attribute modifier tid) ≡ e.number
-  in_request class i e there small = number_in-with_numbers 256 (request_entries class method_number attribute modifier tid) (replicate 256 0) i e refl refl there small
+  in_request : (class i : ℕ) (e : Entry) → slice_get (request_entries class method_number attribute modifier tid) i ≡ Some e → e.number < 256 ^ e.field.len
+      → number_in e.field (request class method_number attribute modifier tid) ≡ e.number
+  in_request class i e there small =
+      number_in-with_numbers 256 (request_entries class method_number attribute modifier tid) (replicate 256 0) i e refl refl there small
 
   -- a field apart from them is 0
-  not_in_request : (class : ℕ) (f : Field) → is_apart_from 256 f (request_entries class method_number attribute modifier tid) ≡ true → number_in f (request class method_number attribute modifier tid) ≡ number_in f (replicate 256 0)
+  not_in_request : (class : ℕ) (f : Field) → is_apart_from 256 f (request_entries class method_number attribute modifier tid) ≡ true
+      → number_in f (request class method_number attribute modifier tid) ≡ number_in f (replicate 256 0)
   not_in_request class f apart = number_in-with_numbers_apart 256 f (request_entries class method_number attribute modifier tid) (replicate 256 0) refl apart
 
   -- a packet whose header is that of a request, but for the fields of a path, holds the request
-  holds_request : (class : ℕ) (packet payload : List ℕ) → FitsRequest method_number attribute modifier tid payload → length packet ≡ 256 → fault_of packet ≡ None → bytes_in attribute_data packet ≡ payload
-      → ((f : Field) → f.at + f.len ≤ 64 → is_apart_from 256 f (path_entries 0) ≡ true → number_in f packet ≡ number_in f (request class method_number attribute modifier tid))
+  holds_request : (class : ℕ) (packet payload : List ℕ) → FitsRequest method_number attribute modifier tid payload → length packet ≡ 256
+      → fault_of packet ≡ None → bytes_in attribute_data packet ≡ payload
+      → ((f : Field) → f.at + f.len ≤ 64 → is_apart_from 256 f (path_entries 0) ≡ true
+      → number_in f packet ≡ number_in f (request class method_number attribute modifier tid))
       → HoldsRequest packet method_number attribute modifier tid payload
   holds_request class packet payload fits count parses attribute_is header =
       record {
@@ -51,7 +56,8 @@ module _ (method_number attribute modifier tid : ℕ) where
 
     length-begun : length begun ≡ 256
     unfolding begun
-    length-begun = length-with_numbers 256 (path_entries (length path)) (request 0x81 method_number attribute modifier tid) (length-request method_number attribute modifier tid 0x81) refl
+    length-begun = length-with_numbers 256 (path_entries (length path)) (request 0x81 method_number attribute modifier tid)
+        (length-request method_number attribute modifier tid 0x81) refl
 
     length-loaded : length loaded ≡ 256
     unfolding loaded
@@ -69,7 +75,8 @@ module _ (method_number attribute modifier tid : ℕ) where
         ∙ get_or-replicate 256 place 0 0 within
 
     -- a port of InitialPath or ReturnPath that the path does not reach
-    port_outside : (place : ℕ) → 128 ≤ place → place < 256 → (place < 129) ⊎ (129 + length path ≤ place) → number_in (record { at = place; len = 1 }) (directed method_number attribute modifier tid path payload) ≡ 0
+    port_outside : (place : ℕ) → 128 ≤ place → place < 256 → (place < 129) ⊎ (129 + length path ≤ place)
+        → number_in (record { at = place; len = 1 }) (directed method_number attribute modifier tid path payload) ≡ 0
     unfolding begun loaded
     port_outside place behind within outside =
         let long = length-loaded in
@@ -96,12 +103,15 @@ module _ (method_number attribute modifier tid : ℕ) where
         ∙ bytes_in-with_bytes 64 payload begun (omega arith)
 
     -- the i-th of the fields that a directed request has besides
-    in_path : (i : ℕ) (e : Entry) → slice_get (path_entries (length path)) i ≡ Some e → e.number < 256 ^ e.field.len → e.field.at + e.field.len ≤ 64 → number_in e.field (directed method_number attribute modifier tid path payload) ≡ e.number
+    in_path : (i : ℕ) (e : Entry) → slice_get (path_entries (length path)) i ≡ Some e → e.number < 256 ^ e.field.len → e.field.at + e.field.len ≤ 64
+        → number_in e.field (directed method_number attribute modifier tid path payload) ≡ e.number
     in_path i e there small before =
         directed_field method_number attribute modifier tid e.field path payload whole short before
-        ∙ number_in-with_numbers 256 (path_entries (length path)) (request 0x81 method_number attribute modifier tid) i e (length-request method_number attribute modifier tid 0x81) refl there small
+        ∙ number_in-with_numbers 256 (path_entries (length path)) (request 0x81 method_number attribute modifier tid) i e
+        (length-request method_number attribute modifier tid 0x81) refl there small
 
-    header : (f : Field) → f.at + f.len ≤ 64 → is_apart_from 256 f (path_entries 0) ≡ true → number_in f (directed method_number attribute modifier tid path payload) ≡ number_in f (request 0x81 method_number attribute modifier tid)
+    header : (f : Field) → f.at + f.len ≤ 64 → is_apart_from 256 f (path_entries 0) ≡ true
+        → number_in f (directed method_number attribute modifier tid path payload) ≡ number_in f (request 0x81 method_number attribute modifier tid)
     header f before apart = directed_header method_number attribute modifier tid f path payload whole short before apart
 
     holds_path : HoldsPath (directed method_number attribute modifier tid path payload) path
@@ -135,8 +145,10 @@ lid_routed_reads_back method_number attribute modifier tid payload fits =
     let made = request 0x01 method_number attribute modifier tid in
     let long : length made ≡ 256 = length-request method_number attribute modifier tid 0x01 in
     let packet = lid_routed method_number attribute modifier tid payload in
-    let front : (f : Field) → f.at + f.len ≤ 64 → number_in f packet ≡ number_in f made = λ f before. lid_routed_field method_number attribute modifier tid f payload whole before in
-    let data_is : bytes_in attribute_data packet ≡ payload = ap (λ n. bytes_in (record { at = 64; len = n }) packet) (sym whole) ∙ bytes_in-with_bytes 64 payload made (omega arith) in (
+    let front : (f : Field) → f.at + f.len ≤ 64
+    → number_in f packet ≡ number_in f made = λ f before. lid_routed_field method_number attribute modifier tid f payload whole before in
+    let data_is : bytes_in attribute_data packet ≡ payload = ap (λ n. bytes_in (record { at = 64; len = n }) packet) (sym whole)
+    ∙ bytes_in-with_bytes 64 payload made (omega arith) in (
       holds_request method_number attribute modifier tid 0x01 packet payload fits
           (length-with_bytes 64 payload made (omega arith) ∙ long)
           (lid_routed_parses method_number attribute modifier tid payload whole)
@@ -145,7 +157,9 @@ lid_routed_reads_back method_number attribute modifier tid payload fits =
       record {
         class = front mgmt_class (omega arith) ∙ in_request method_number attribute modifier tid 0x01 1 _ refl (omega arith);
         no_hops = front (record { at = 6; len = 2 }) (omega arith) ∙ not_in_request method_number attribute modifier tid 0x01 (record { at = 6; len = 2 }) refl;
-        reserved_before = front (record { at = 32; len = 32 }) (omega arith) ∙ not_in_request method_number attribute modifier tid 0x01 (record { at = 32; len = 32 }) refl;
-        reserved_behind = number_in-with_bytes (record { at = 128; len = 128 }) 64 payload made (omega arith) (inr (omega arith)) ∙ not_in_request method_number attribute modifier tid 0x01 (record { at = 128; len = 128 }) refl;
+        reserved_before = front (record { at = 32; len = 32 }) (omega arith)
+            ∙ not_in_request method_number attribute modifier tid 0x01 (record { at = 32; len = 32 }) refl;
+        reserved_behind = number_in-with_bytes (record { at = 128; len = 128 }) 64 payload made (omega arith) (inr (omega arith))
+            ∙ not_in_request method_number attribute modifier tid 0x01 (record { at = 128; len = 128 }) refl;
       },
     )

@@ -9,10 +9,13 @@ use Rattle.byteorder.specs.Numbers.{length-bytes_high_first}
 use Rattle.smp_bytes.specs.Field.{with_bytes, with_number}
 
 -- a part of the bytes with others at its front
-pub part-with_bytes : (at : ℕ) (written bytes part : List ℕ) → at + length written ≤ length bytes → part ≡ written ++ drop (length written) (take (length bytes - at) (drop at bytes)) → put_mid at (length bytes - at) bytes part ≡ with_bytes at written bytes
+pub part-with_bytes : (at : ℕ) (written bytes part : List ℕ) → at + length written ≤ length bytes
+    → part ≡ written ++ drop (length written) (take (length bytes - at) (drop at bytes))
+    → put_mid at (length bytes - at) bytes part ≡ with_bytes at written bytes
 unfolding with_bytes
 part-with_bytes at written bytes part fits e =
-    let none : drop (length bytes - at) (drop at bytes) ≡ [] = drop-drop (length bytes - at) at bytes ∙ drop_all (at + (length bytes - at)) bytes (omega arith) in
+    let none : drop (length bytes - at) (drop at bytes) ≡ [] = drop-drop (length bytes - at) at bytes
+    ∙ drop_all (at + (length bytes - at)) bytes (omega arith) in
     let whole : take (length bytes - at) (drop at bytes) ≡ drop at bytes = take_all (length bytes - at) (drop at bytes) (omega (arith, length-drop at bytes)) in
     ap (λ p. take at bytes ++ (p ++ drop (length bytes - at) (drop at bytes))) (e ∙ ap (λ q. written ++ drop (length written) q) whole)
     ∙ ap (λ q. take at bytes ++ ((written ++ drop (length written) (drop at bytes)) ++ q)) none
@@ -20,13 +23,17 @@ part-with_bytes at written bytes part fits e =
     ∙ ap (λ q. take at bytes ++ (written ++ q)) (drop-drop (length written) at bytes)
 
 -- a part of the bytes with a number at its front
-pub part-with_number : (at n number : ℕ) (bytes part : List ℕ) → at + n ≤ length bytes → part ≡ big_bytes n number ++ drop n (take (length bytes - at) (drop at bytes)) → put_mid at (length bytes - at) bytes part ≡ with_number (record { at = at; len = n }) number bytes
+pub part-with_number : (at n number : ℕ) (bytes part : List ℕ) → at + n ≤ length bytes
+    → part ≡ big_bytes n number ++ drop n (take (length bytes - at) (drop at bytes))
+    → put_mid at (length bytes - at) bytes part ≡ with_number (record { at = at; len = n }) number bytes
 part-with_number at n number bytes part fits e =
     let long = length-bytes_high_first n number in
-    part-with_bytes at (big_bytes n number) bytes part (omega arith) (e ∙ ap (λ m. big_bytes n number ++ drop m (take (length bytes - at) (drop at bytes))) (sym long))
+    part-with_bytes at (big_bytes n number) bytes part (omega arith) (e
+    ∙ ap (λ m. big_bytes n number ++ drop m (take (length bytes - at) (drop at bytes))) (sym long))
 
 -- one byte
-pub set-with_number : (at number : ℕ) (bytes : List ℕ) → at < length bytes → number < 256 → set bytes at number ≡ with_number (record { at = at; len = 1 }) number bytes
+pub set-with_number : (at number : ℕ) (bytes : List ℕ) → at < length bytes → number < 256
+    → set bytes at number ≡ with_number (record { at = at; len = 1 }) number bytes
 unfolding with_bytes
 set-with_number at number bytes fits small =
     set_split bytes at number fits

@@ -10,11 +10,13 @@ LiesIn field bytes = field.at + field.len ≤ length bytes
 
 -- a number that is written into a field is read from it
 abbrev pub NumberIsRead : Type 0
-NumberIsRead = (field : Field) (number : ℕ) (bytes : List ℕ) → LiesIn field bytes → number < 256 ^ field.len → number_in field (with_number field number bytes) ≡ number
+NumberIsRead = (field : Field) (number : ℕ) (bytes : List ℕ) → LiesIn field bytes → number < 256 ^ field.len
+    → number_in field (with_number field number bytes) ≡ number
 
 -- a field apart from it keeps its number
 abbrev pub FieldApartStays : Type 0
-FieldApartStays = (other field : Field) (number : ℕ) (bytes : List ℕ) → LiesIn field bytes → are_apart other field ≡ true → number_in other (with_number field number bytes) ≡ number_in other bytes
+FieldApartStays = (other field : Field) (number : ℕ) (bytes : List ℕ) → LiesIn field bytes → are_apart other field ≡ true
+    → number_in other (with_number field number bytes) ≡ number_in other bytes
 
 -- there are as many bytes as before, and each that is not of the field stays
 pub record KeepsBytesOutside (field : Field) (old new : List ℕ) : Type 0 where
@@ -33,7 +35,8 @@ WriteIsUnique =
 
 -- of two writes into a field the last one stands
 abbrev pub LastWriteStands : Type 0
-LastWriteStands = (field : Field) (number before : ℕ) (bytes : List ℕ) → LiesIn field bytes → with_number field number (with_number field before bytes) ≡ with_number field number bytes
+LastWriteStands = (field : Field) (number before : ℕ) (bytes : List ℕ) → LiesIn field bytes
+    → with_number field number (with_number field before bytes) ≡ with_number field number bytes
 
 -- some bits of a byte ------------------------------------------------------------------
 
@@ -49,7 +52,8 @@ BitsAreRead = (bits : Bits) (number : ℕ) (bytes : List ℕ) → AreBitsIn bits
 
 -- bits apart from them keep their number
 abbrev pub BitsApartStay : Type 0
-BitsApartStay = (other bits : Bits) (number : ℕ) (bytes : List ℕ) → AreBitsIn bits bytes → number < 2 ^ bits.width → are_bits_apart other bits ≡ true → bits_in other (with_bits bits number bytes) ≡ bits_in other bytes
+BitsApartStay = (other bits : Bits) (number : ℕ) (bytes : List ℕ) → AreBitsIn bits bytes → number < 2 ^ bits.width → are_bits_apart other bits ≡ true
+    → bits_in other (with_bits bits number bytes) ≡ bits_in other bytes
 
 -- there are as many bytes as before, the one with the bits is still a byte, and each other stays
 pub record KeepsOtherBytes (bits : Bits) (old new : List ℕ) : Type 0 where
@@ -59,4 +63,5 @@ pub record KeepsOtherBytes (bits : Bits) (old new : List ℕ) : Type 0 where
 
 -- so does a write into some bits
 abbrev pub OtherBytesStay : Type 0
-OtherBytesStay = (bits : Bits) (number : ℕ) (bytes : List ℕ) → AreBitsIn bits bytes → number < 2 ^ bits.width → KeepsOtherBytes bits bytes (with_bits bits number bytes)
+OtherBytesStay = (bits : Bits) (number : ℕ) (bytes : List ℕ) → AreBitsIn bits bytes → number < 2 ^ bits.width
+    → KeepsOtherBytes bits bytes (with_bits bits number bytes)

@@ -30,7 +30,8 @@ lid_routed method_number attribute modifier tid payload = with_bytes attribute_d
 -- a request that leaves by the ports of a path, one after the other
 abbrev pub directed : ℕ → ℕ → ℕ → ℕ → List ℕ → List ℕ → List ℕ
 directed method_number attribute modifier tid path payload =
-    with_bytes (initial_path 1).at path (with_bytes attribute_data.at payload (with_numbers (path_entries (length path)) (request directed_class method_number attribute modifier tid)))
+    with_bytes (initial_path 1).at path (with_bytes attribute_data.at payload
+    (with_numbers (path_entries (length path)) (request directed_class method_number attribute modifier tid)))
 
 -- the status word of an answer: a directed one is on its way back
 abbrev pub answer_status : List ℕ → ℕ → ℕ
@@ -38,7 +39,8 @@ answer_status packet status = if is_directed packet then 2 ^ 15 + status else st
 
 -- the answer to a request: another method, status and attribute, and all else as it was
 abbrev pub answer_packet : List ℕ → ℕ → List ℕ → List ℕ
-answer_packet packet status payload = with_bytes attribute_data.at payload (with_number status_word (answer_status packet status) (with_number method get_resp packet))
+answer_packet packet status payload =
+    with_bytes attribute_data.at payload (with_number status_word (answer_status packet status) (with_number method get_resp packet))
 
 -- the status word with another status; in the directed class its highest bit, the direction, stays
 abbrev pub word_with_status : List ℕ → ℕ → ℕ

@@ -80,7 +80,8 @@ pub fn method_numbers()
 pub fn status_numbers()
     ensures done { Status.DONE.0 ≡ done }
     ensures method { Status.METHOD_NOT_SUPPORTED.0 ≡ method_not_supported }
-    ensures pair { Status.METHOD_AND_ATTRIBUTE_NOT_SUPPORTED.0 ≡ method_and_attribute_not_supported }
+    ensures pair { Status.METHOD_AND_ATTRIBUTE_NOT_SUPPORTED.0
+        ≡ method_and_attribute_not_supported }
     ensures field { Status.INVALID_FIELD.0 ≡ invalid_field }
 {}
 
@@ -90,6 +91,7 @@ pub fn attribute_numbers()
     ensures node_info { AttributeId.NODE_INFO.0 ≡ node_info }
     ensures switch_info { AttributeId.SWITCH_INFO.0 ≡ switch_info }
     ensures port_info { AttributeId.PORT_INFO.0 ≡ port_info }
-    ensures linear_forwarding_table { AttributeId.LINEAR_FORWARDING_TABLE.0 ≡ linear_forwarding_table }
+    ensures linear_forwarding_table { AttributeId.LINEAR_FORWARDING_TABLE.0
+        ≡ linear_forwarding_table }
     ensures sm_info { AttributeId.SM_INFO.0 ≡ sm_info }
 {}

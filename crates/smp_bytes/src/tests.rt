@@ -5,35 +5,46 @@ use crate::{
 use std::process::Abort;
 use std::test::Fail;
 
-/// The answer to a directed Get(NodeInfo) without hops, of an adapter with one port.
-fn reply() -> [u8; 256] {
+/// The answer to a directed Get(NodeInfo) without hops, of an adapter with one port; all behind it is 0.
+const REPLY: [u8; 101] = [
+    0x01, 0x81, 0x01, 0x81, 0x80, 0x00, 0x00, 0x00, 0, 0, 0, 1, 0, 0, 0, 1, // up to TransactionID
+    0x00, 0x11, 0, 0, 0, 0, 0, 0, 0, 0, 0, 0, 0, 0, 0, 0, // up to M_Key
+    0xFF, 0xFF, 0xFF, 0xFF, 0, 0, 0, 0, 0, 0, 0, 0, 0, 0, 0, 0, // both LIDs
+    0, 0, 0, 0, 0, 0, 0, 0, 0, 0, 0, 0, 0, 0, 0, 0, // reserved
+    1, 1, 1, 1, 0, 0, 0, 0, 0, 0, 0x01, 0x00, 0, 0, 0, 0, // the attribute
+    0, 0, 0x01, 0x00, 0, 0, 0, 0, 0, 0, 0x01, 0x01, 0x00, 0x01, 0, 0, //
+    0, 0, 0, 0, 1,
+];
+
+/// A directed Get(NodeInfo) over one hop, through port 1; all behind it is 0.
+const REQUEST: [u8; 130] = [
+    0x01, 0x81, 0x01, 0x01, 0x00, 0x00, 0x00, 0x01, 0, 0, 0, 1, 0, 0, 0, 1, // up to TransactionID
+    0x00, 0x11, 0, 0, 0, 0, 0, 0, 0, 0, 0, 0, 0, 0, 0, 0, // up to M_Key
+    0xFF, 0xFF, 0xFF, 0xFF, 0, 0, 0, 0, 0, 0, 0, 0, 0, 0, 0, 0, // both LIDs
+    0, 0, 0, 0, 0, 0, 0, 0, 0, 0, 0, 0, 0, 0, 0, 0, // reserved
+    0, 0, 0, 0, 0, 0, 0, 0, 0, 0, 0, 0, 0, 0, 0, 0, // the attribute
+    0, 0, 0, 0, 0, 0, 0, 0, 0, 0, 0, 0, 0, 0, 0, 0, //
+    0, 0, 0, 0, 0, 0, 0, 0, 0, 0, 0, 0, 0, 0, 0, 0, //
+    0, 0, 0, 0, 0, 0, 0, 0, 0, 0, 0, 0, 0, 0, 0, 0, //
+    0, 1, // InitialPath
+];
+
+/// The bytes that a packet begins with, and 0 behind them.
+fn packet(begin: &[u8]) -> [u8; 256] {
     let mut bytes = [0; 256];
-    bytes[..8].copy_from_slice(&[0x01, 0x81, 0x01, 0x81, 0x80, 0x00, 0x00, 0x00]);
-    bytes[8..16].copy_from_slice(&[0, 0, 0, 1, 0, 0, 0, 1]);
-    bytes[16..24].copy_from_slice(&[0x00, 0x11, 0, 0, 0, 0, 0, 0]);
-    bytes[32..36].copy_from_slice(&[0xFF, 0xFF, 0xFF, 0xFF]);
-    bytes[64..68].copy_from_slice(&[1, 1, 1, 1]);
-    bytes[68..76].copy_from_slice(&[0, 0, 0, 0, 0, 0, 0x01, 0x00]);
-    bytes[76..84].copy_from_slice(&[0, 0, 0, 0, 0, 0, 0x01, 0x00]);
-    bytes[84..92].copy_from_slice(&[0, 0, 0, 0, 0, 0, 0x01, 0x01]);
-    bytes[92..94].copy_from_slice(&[0x00, 0x01]);
-    bytes[100] = 1;
+    for (place, byte) in bytes.iter_mut().zip(begin) {
+        *place = *byte;
+    }
     bytes
 }
 
-/// The request that it answers, but over one hop, through port 1.
-fn request() -> [u8; 256] {
-    let mut bytes = [0; 256];
-    bytes[..8].copy_from_slice(&[0x01, 0x81, 0x01, 0x01, 0x00, 0x00, 0x00, 0x01]);
-    bytes[8..16].copy_from_slice(&[0, 0, 0, 1, 0, 0, 0, 1]);
-    bytes[16..24].copy_from_slice(&[0x00, 0x11, 0, 0, 0, 0, 0, 0]);
-    bytes[32..36].copy_from_slice(&[0xFF, 0xFF, 0xFF, 0xFF]);
-    bytes[129] = 0x01;
-    bytes
-}
-
-fn assert_bytes(rt: &impl Abort, smp: &Smp, wanted: &[u8; 256]) {
-    assert!(rt; smp.bytes()[..] == wanted[..]);
+/// The bytes from a place on are these.
+fn assert_at(rt: &impl Abort, smp: &Smp, place: usize, wanted: &[u8]) {
+    let is_there = match smp.bytes().get(place..) {
+        Some(rest) => rest.starts_with(wanted),
+        None => false,
+    };
+    assert!(rt; is_there, "from {place} on");
 }
 
 /// What the readers tell of a packet, as numbers in the order of the fields.
@@ -58,7 +69,7 @@ fn numbers(smp: &Smp) -> [u64; 14] {
 
 #[test]
 fn reads_each_field(rt: HostRuntime) -> Result<(), Fail> {
-    let smp = Smp::parse(&reply())?;
+    let smp = Smp::parse(&packet(&REPLY))?;
     let wanted = [
         1,
         1,
@@ -94,7 +105,7 @@ const CHANGES: [(usize, u8, SmpFault, &str); 7] = [
 #[test]
 fn names_each_fault(rt: HostRuntime) -> Result<(), Fail> {
     for (place, byte, fault, name) in CHANGES {
-        let mut bytes = reply();
+        let mut bytes = packet(&REPLY);
         if let Some(changed) = bytes.get_mut(place) {
             *changed = byte;
         }
@@ -109,48 +120,53 @@ fn names_each_fault(rt: HostRuntime) -> Result<(), Fail> {
 fn makes_a_request_and_its_answer(rt: HostRuntime) {
     let mut path = Path::<63>::new();
     path.push(PortNum::new(1));
-    let request_made = Smp::directed(
-        Method::GET,
-        AttributeId::NODE_INFO,
-        0,
-        0x0000_0001_0000_0001,
-        &path,
-        &[0; 64],
-    );
-    assert_bytes(&rt, &request_made, &request());
-    let answer = request_made.answer(Status::DONE, &[0xAB; 64]);
-    let mut wanted = request();
-    wanted[3..5].copy_from_slice(&[0x81, 0x80]);
-    wanted[64..128].copy_from_slice(&[0xAB; 64]);
-    assert_bytes(&rt, &answer, &wanted);
+    let (get, node_info) = (Method::GET, AttributeId::NODE_INFO);
+    let request = Smp::directed(get, node_info, 0, 0x0000_0001_0000_0001, &path, &[0; 64]);
+    assert_at(&rt, &request, 0, &packet(&REQUEST));
+    let answer = request.answer(Status::DONE, &[0xAB; 64]);
+    for (place, bytes) in [
+        (0, &[0x01, 0x81, 0x01, 0x81, 0x80, 0x00, 0x00, 0x01]),
+        (64, &[0xAB; 8]),
+        (120, &[0xAB; 8]),
+        (128, &[0, 1, 0, 0, 0, 0, 0, 0]),
+    ] {
+        assert_at(&rt, &answer, place, bytes);
+    }
 }
 
 #[test]
 fn makes_a_lid_routed_request(rt: HostRuntime) {
     let request = Smp::lid_routed(Method::SET, AttributeId::SM_INFO, 5, 7, &[0xCD; 64]);
-    let mut wanted = [0; 256];
-    wanted[..16].copy_from_slice(&[1, 0x01, 1, 0x02, 0, 0, 0, 0, 0, 0, 0, 0, 0, 0, 0, 7]);
-    wanted[16..24].copy_from_slice(&[0x00, 0x20, 0, 0, 0, 0, 0, 5]);
-    wanted[64..128].copy_from_slice(&[0xCD; 64]);
-    assert_bytes(&rt, &request, &wanted);
+    for (place, bytes) in [
+        (0, &[0x01, 0x01, 0x01, 0x02, 0, 0, 0, 0]),
+        (8, &[0, 0, 0, 0, 0, 0, 0, 7]),
+        (16, &[0x00, 0x20, 0, 0, 0, 0, 0, 5]),
+        (32, &[0, 0, 0, 0, 0, 0, 0, 0]),
+        (64, &[0xCD; 8]),
+        (128, &[0, 0, 0, 0, 0, 0, 0, 0]),
+    ] {
+        assert_at(&rt, &request, place, bytes);
+    }
 }
 
 #[test]
 fn writes_each_field(rt: HostRuntime) -> Result<(), Fail> {
-    let mut smp = Smp::parse(&reply())?;
+    let mut smp = Smp::parse(&packet(&REPLY))?;
     smp.set_method(Method::GET);
     smp.set_returning(false);
     smp.set_status(Status::INVALID_FIELD);
     smp.set_transaction_id(0x0102_0304_0506_0708);
     smp.set_hop_pointer(0);
-    smp.set_initial_path(63, PortNum::new(8));
+    smp.set_initial_path(1, PortNum::new(8));
     smp.set_return_path(1, PortNum::new(9));
-    let mut wanted = reply();
-    wanted[3..6].copy_from_slice(&[0x01, 0x00, 0x1C]);
-    wanted[8..16].copy_from_slice(&[1, 2, 3, 4, 5, 6, 7, 8]);
-    wanted[191] = 8;
-    wanted[193] = 9;
-    assert_bytes(&rt, &smp, &wanted);
+    for (place, bytes) in [
+        (0, &[0x01, 0x81, 0x01, 0x01, 0x00, 0x1C, 0x00, 0x00]),
+        (8, &[1, 2, 3, 4, 5, 6, 7, 8]),
+        (128, &[0, 8, 0, 0, 0, 0, 0, 0]),
+        (192, &[0, 9, 0, 0, 0, 0, 0, 0]),
+    ] {
+        assert_at(&rt, &smp, place, bytes);
+    }
     Ok(())
 }
 

@@ -113,7 +113,8 @@ pub fn put_bits(bytes: &mut [u8], at: usize, shift: u32, width: u32, number: u8)
     requires some { 1 ≤ width }
     requires within { shift + width ≤ 8 }
     requires fits { number < 2 ^ width }
-    ensures { bytes.new ≡ with_bits (record { at = at; shift = shift; width = width }) number bytes.old }
+    ensures { bytes.new
+        ≡ with_bits (record { at = at; shift = shift; width = width }) number bytes.old }
 {
     let byte = u32::from(bytes[at]);
     let replaced = replaced(byte, shift, width, u32::from(number));

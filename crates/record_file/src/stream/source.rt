@@ -33,5 +33,6 @@ pub trait Source {
         ensures bytes { ReadConsumes (left self.old) (left self.new) result room.new }
         ensures failed { (result ≡ Err ReadError.Failed) ↔ IsTrue (has_failed self.new) }
         ensures stays { IsTrue (has_failed self.old) → IsTrue (has_failed self.new) }
-        ensures interrupted { interruptions self.new ≡ interruptions self.old + interruption result };
+        ensures interrupted { interruptions self.new
+            ≡ interruptions self.old + interruption result };
 }

@@ -28,7 +28,12 @@ impl Model for ToRoom {
 
     ghost Value = { Filling };
 
-    ghost view = { λ a. record { bytes = a.bytes.items; room = a.room; has_failed = a.has_failed; is_flushed = a.is_flushed } };
+    ghost view = { λ a. record {
+      bytes = a.bytes.items;
+      room = a.room;
+      has_failed = a.has_failed;
+      is_flushed = a.is_flushed;
+    } };
 
     ghost invariant = { λ a. (vec_len a.bytes ≤ a.room) × (a.room ≤ vec_capacity a.bytes) };
 }

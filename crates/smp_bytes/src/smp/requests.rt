@@ -19,7 +19,8 @@ impl Smp {
         path: &Path<63>,
         payload: &[u8; 64],
     ) -> Smp
-        ensures bytes { result ≡ directed method.0 attribute.0 modifier transaction_id path.now payload.now }
+        ensures bytes { result
+            ≡ directed method.0 attribute.0 modifier transaction_id path.now payload.now }
         ensures hops { length path.now ≤ max_hops }
     {
         let mut bytes = request(DIRECTED_ROUTE, method, attribute, modifier, transaction_id);

@@ -1,10 +1,8 @@
-use Rattle.std.proofs.Common.{take}
-use Rattle.std.specs.FinMap.{entries}
-use Rattle.std.specs.List.{flat_map}
-use Rattle.std.specs.Io.KnownBytes.{Appends}
+use Rattle.fact_store.specs.Walk.{cells_left}
 use Rattle.record_file.specs.CellRecord.{record_bytes}
+use Rattle.record_file.proofs.Writing.{HasWritten}
 use Rattle.record_file.proofs.store_file.write_store.Given as goal
 
--- the records of the cells so far went out
-abbrev pub invariant-loop-i : goal.invariant-loop-i
-invariant-loop-i g l = Appends (g.W.Sink.written l.initial.sink) (g.W.Sink.written l.sink) (flat_map record_bytes (take l.i (entries l.store)))
+-- the records of the cells given so far stand behind what was written before
+abbrev pub invariant-loop-cell : goal.invariant-loop-cell
+invariant-loop-cell g l = HasWritten record_bytes (g.W.Sink.written l.initial.sink) (g.W.Sink.written l.sink) l.yielded (cells_left l.cell-iterator) (cells_left l.initial.cell-iterator)

@@ -1,8 +1,8 @@
-use Rattle.std.proofs.Common.{take}
-use Rattle.std.specs.FinMap.{entries}
-use Rattle.std.specs.Io.KnownBytes.{Appends}
-use Rattle.sm_cli.specs.FactsText.{facts_text}
+use Rattle.fact_store.specs.Walk.{cells_left}
+use Rattle.record_file.proofs.Writing.{HasWritten}
+use Rattle.sm_cli.specs.FactsText.{line_text}
 use Rattle.sm_cli.proofs.facts_text.write_facts.Given as goal
 
-abbrev pub invariant-loop-i : goal.invariant-loop-i
-invariant-loop-i g l = Appends (g.W.Sink.written l.initial.sink) (g.W.Sink.written l.sink) (facts_text (take l.i (entries l.store)))
+-- the lines of the cells given so far were written
+abbrev pub invariant-loop-cell : goal.invariant-loop-cell
+invariant-loop-cell g l = HasWritten line_text (g.W.Sink.written l.initial.sink) (g.W.Sink.written l.sink) l.yielded (cells_left l.cell-iterator) (cells_left l.initial.cell-iterator)

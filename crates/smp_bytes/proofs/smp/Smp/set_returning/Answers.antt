@@ -6,4 +6,5 @@ use Rattle.smp_bytes.proofs.smp.Smp.set_returning.Goals as goal
 pub invariant_of-self : goal.invariant_of-self
 invariant_of-self c =
     let long : length c.self.inside.bytes ≡ 256 = search rules in
-    ap fault_of c.put_bits.ensures ∙ field_parses (record { at = 4; len = 1 }) _ c.self.inside.bytes long (omega arith) refl refl refl refl refl refl refl c.self.invariant
+    ap fault_of c.put_bits.ensures ∙ field_parses (record { at = 4; len = 1 }) _ c.self.inside.bytes long
+    (omega arith) refl refl refl refl refl refl refl c.self.invariant

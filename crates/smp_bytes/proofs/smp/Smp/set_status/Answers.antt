@@ -6,4 +6,5 @@ use Rattle.smp_bytes.proofs.smp.Smp.set_status.Goals as goal
 pub invariant_of-self : goal.invariant_of-self
 invariant_of-self c =
     let long : length c.self.inside.bytes ≡ 256 = search rules in
-    ap fault_of c.put_u16.ensures ∙ field_parses status_word c.match-class.word c.self.inside.bytes long (omega arith) refl refl refl refl refl refl refl c.self.invariant
+    ap fault_of c.put_u16.ensures ∙ field_parses status_word c.match-class.word c.self.inside.bytes long
+    (omega arith) refl refl refl refl refl refl refl c.self.invariant

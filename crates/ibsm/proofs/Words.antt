@@ -1,0 +1,24 @@
+-- What the words of the command line name.
+use Rattle.std.proofs.Common.{◌≡◌, ℕ, List, [], ◌∷◌, Bool, true, false, Option, None, Some, refl, sym, ap, ◌∙◌}
+use Rattle.std.specs.Prelude.{find, map, option_map, option_and_then, if◌then◌else◌}
+use Rattle.std.specs.Str.{bytes_eq}
+use Rattle.clap.specs.Facts.{Entry}
+use Rattle.clap.specs.Matches.{matched_of, raw_values}
+use Rattle.clap.specs.Walk.{Row, row_of, rows_of, Text}
+use Rattle.clap.specs.declared.parser.matches.Found.{Found}
+use Rattle.ibsm.specs.Asked.{values_in}
+
+found_values : (name : List ℕ) (es : List Entry) → option_map raw_values (option_map (λ e. e.1) (find (λ e. bytes_eq e.0.now name) es)) ≡ values_in name (map row_of es)
+found_values name [] = refl
+found_values name (e ∷ es) =
+    elim (bytes_eq e.0.now name) as (λ b. option_map raw_values (option_map (λ x. x.1) (if b then Some e else find (λ x. bytes_eq x.0.now name) es)) ≡ option_map (λ r. r.values) (if b then Some (row_of e) else find (λ r. bytes_eq r.id name) (map row_of es))) [
+      | true ↦ refl
+      | false ↦ found_values name es
+    ]
+
+-- the values that a subcommand's matches hold are those behind the subcommand
+pub named : (o : Option (Text × List Row)) (found : Found) (name : List ℕ) (names : List (List ℕ)) → Some (rows_of found) ≡ option_map (λ p. p.1) o → Some names ≡ option_map raw_values (matched_of found name) → option_and_then (λ s. values_in name s.1) o ≡ Some names
+named None found name names e f = absurd (cc)
+named (Some p) found name names e f =
+    let same : rows_of found ≡ p.1 = cc in
+    ap (values_in name) (sym same) ∙ sym (f ∙ found_values name found.entries.items)
