@@ -18,7 +18,7 @@ pub with_bytes-front_of : (f : Field) (bytes : List ℕ) → length bytes ≡ 64
 unfolding with_bytes
 with_bytes-front_of f bytes long lies =
     let written = bytes_in f bytes in
-    let zeros = replicate (64 - f.at) 0 in
+    let zeros : List ℕ = replicate (64 - f.at) 0 in
     let first : length (take f.at bytes) ≡ f.at = length-take-le f.at bytes (omega arith) in
     let count : length written ≡ f.len = length-take-le f.len (drop f.at bytes) (omega (arith, length-drop f.at bytes)) in
     let head : take f.at (take f.at bytes ++ zeros) ≡ take f.at bytes = take-append-le f.at (take f.at bytes) zeros (omega arith)

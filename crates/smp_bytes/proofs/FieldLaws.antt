@@ -124,7 +124,9 @@ pub number_in-with_numbers_apart : (count : ℕ) (f : Field) (entries : List Ent
     → number_in f (with_numbers entries bytes) ≡ number_in f bytes
 number_in-with_numbers_apart count f [] bytes long h = refl
 number_in-with_numbers_apart count f (e ∷ entries) bytes long h =
-    let within : e.field.at + e.field.len ≤ count = leb-true _ _ (and_parts _ _ (and_parts _ _ h).1).0 in
+    let inside = and_parts (are_apart f e.field) (ends_within count e.field && is_apart_from count f entries) h in
+    let within : e.field.at + e.field.len ≤ count =
+    leb-true (e.field.at + e.field.len) count (and_parts (ends_within count e.field) (is_apart_from count f entries) inside.1).0 in
     number_in-with_numbers_apart count f entries (with_number e.field e.number bytes) (length-with_number e.field e.number bytes (omega arith)
     ∙ long) (and_parts (ends_within count e.field) _ (and_parts _ _ h).1).1
     ∙ number_in-with_number_apart f e.field e.number bytes (omega arith) (and_parts _ _ h).0
