@@ -4,6 +4,7 @@ use Rattle.std.proofs.Math.Nat.{mul-le-mul_left, pow-suc}
 use Rattle.std.proofs.Math.Pow.{pow-lt}
 use Rattle.std.proofs.lemmas.Bool.{cases_order}
 use Rattle.std.proofs.lemmas.List.{append_assoc, append-nil}
+use Rattle.std.proofs.lemmas.Option.{slice_get_cases}
 use Rattle.std.proofs.lemmas.List.Elements.{All-nil, All-push, All-head, All-tail, All-append}
 use Rattle.std.specs.Prelude.{T, All, Option, None, Some, MatchOption, slice_get}
 use Rattle.std.specs.Option.{option_to_list}
@@ -12,14 +13,14 @@ use Rattle.std.specs.FinMap.Entries as sorted
 use Rattle.fact_join.specs.declared.cell.Cell.{Cell}
 use Rattle.fact_store.specs.declared.key.Key.{Key}
 use Rattle.fact_store.specs.declared.value.Value.{Value}
-use Rattle.fact_store.specs.Cells.{AreCells, HasDigits}
+use Rattle.fact_store.specs.Cells.{AreCells, HasDigits, IsPlaceFor}
 use Rattle.fact_store.specs.Key.{key_cmp}
 use Rattle.fact_store.specs.Merge.{join}
 use Rattle.fact_store.specs.Sighting.{IsSighting}
 use Rattle.fact_store.specs.View.{view}
 use Rattle.fact_store.proofs.Keys.{key_total}
 use Rattle.fact_store.proofs.Orders.{greater_back}
-use Rattle.fact_store.proofs.CellOrder.{held, shown, less_back, rising_places, rising-step, rising-move}
+use Rattle.fact_store.proofs.CellOrder.{held, shown, less_back, ends_at, rising_places, rising-step, rising-move}
 use Rattle.fact_store.proofs.CellViews.{view-step_second, view-step_both}
 
 -- digits --------------------------------------------------------------------------------------------
@@ -96,6 +97,20 @@ module _ (key : Key) (cells : List (Key × Cell Value)) (are : AreCells cells) (
     where
       some_is : (a b : Key × Cell Value) → Some a ≡ Some b → a ≡ b
       some_is a b e = cc
+
+-- a key that comes after the last one goes in at the end
+pub behind_last : (key : Key) (cells : List (Key × Cell Value)) (are : AreCells cells) (last : Key × Cell Value) (m : ℕ) → m + 1 ≡ length cells → slice_get cells m ≡ Some last → key_cmp last.0 key ≡ Less → IsPlaceFor key cells (length cells)
+behind_last key cells are last m end at less =
+    ends_at cells (length cells) key (held _ are.rising) (omega arith)
+    (λ j e h k. elim (cases_order j m) [
+      | inl i ↦ subst (λ (z : Key × Cell Value). key_cmp z.0 key ≡ Less) (some_is last e (sym at ∙ ap (slice_get cells) (sym i) ∙ k)) less
+      | inr (inl b) ↦ key_total.trans e.0 last.0 key (rising_places cells (held _ are.rising) j m e last b k at) less
+      | inr (inr a) ↦ absurd (omega arith)
+    ])
+    (λ j e h k. elim (slice_get_cases cells j).1 [ inl w ↦ absurd (let low = w.1 in omega arith) | inr w ↦ absurd (cc) ])
+  where
+    some_is : (a b : Key × Cell Value) → Some a ≡ Some b → a ≡ b
+    some_is a b e = cc
 
 -- two lists in step -------------------------------------------------------------------------------------
 

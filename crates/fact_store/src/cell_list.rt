@@ -6,7 +6,7 @@ ghost use Rattle.fact_store.specs.Merge.{join, merge};
 ghost use Rattle.fact_store.specs.Sighting.{IsSighting};
 ghost use Rattle.fact_store.specs.View.{view};
 
-use crate::find::{compare, find};
+use crate::find::{compare, place_of};
 use crate::sighting::Sighting;
 use fact_join::Join;
 use page_list::{Iter, PageList};
@@ -30,7 +30,7 @@ pub(crate) fn put(cells: &mut PageList<Sighting>, sighting: Sighting)
     ensures put { view cells.new.items ≡ merge (view cells.old.items) (view (sighting ∷ [])) }
     ensures room { cells.old.room ≤ cells.new.room + 1 }
 {
-    match find(cells, &sighting.key()).place {
+    match place_of(cells, &sighting.key()) {
         Ok(place) => {
             let held = cells.get(place).unwrap();
             cells.set(place, join_cells(&held, &sighting));

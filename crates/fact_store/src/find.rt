@@ -17,6 +17,22 @@ pub(crate) fn compare(key: &Key, other: &Key, steps: &mut u128) -> Ordering
     key.cmp(other)
 }
 
+/// Where a key has its cell, or would, to put one in there: behind the last cell, as one step tells where keys come in
+/// their order, or where a search finds it.
+pub(crate) fn place_of(cells: &PageList<Sighting>, key: &Key) -> Result<usize, usize>
+    requires { AreCells cells.now.items }
+    ensures { IsSearched key.now cells.now.items result }
+{
+    let len = cells.len();
+    if len > 0 {
+        let last = cells.get(len - 1).unwrap();
+        if let Ordering::Less = compare(&last.key(), key, &mut 0) {
+            return Err(len);
+        }
+    }
+    find(cells, key).place
+}
+
 /// What a search finds.
 #[derive(Clone, Copy)]
 pub(crate) struct Found {
