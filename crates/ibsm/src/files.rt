@@ -106,8 +106,10 @@ fn name_of<'a>(names: &[&'a str], fault: &Fault) -> &'a str
     ensures { result.now ≡ name_of names.now fault.now }
 {
     match fault {
-        Fault::Open { place } | Fault::File { place, .. } =>
-            names.get(*place).copied().unwrap_or(""),
+        Fault::Open { place } | Fault::File { place, .. } => names
+            .get(*place)
+            .copied()
+            .unwrap_or(""),
         Fault::Write | Fault::Memory => "",
     }
 }

@@ -29,11 +29,7 @@ where
 }
 
 /// The same; an `Err` is want of memory, of which nothing has been said yet.
-fn try_run<R, O, E>(
-    rt: &R,
-    output: O,
-    errors: &mut ToWrite<E>,
-) -> Result<ExitStatus, AllocError>
+fn try_run<R, O, E>(rt: &R, output: O, errors: &mut ToWrite<E>) -> Result<ExitStatus, AllocError>
 where
     R: Env + Files + Print + Eprint + AllocGlobal,
     O: Write + Drop,

@@ -148,8 +148,14 @@ fn check_run(
     says: &str,
 ) -> Result<(), Fail> {
     let (status, output, errors) = answered(rt, command, &names)?;
-    assert!(abort; status == ends && output.as_slice() == writes, "{names:?}: {status:?}");
-    assert!(abort; errors.as_slice().ends_with(says.as_bytes()), "{names:?}: {says}");
+    assert!(abort;
+        status == ends && output.as_slice() == writes,
+        "{names:?}: {status:?}"
+    );
+    assert!(abort;
+        errors.as_slice().ends_with(says.as_bytes()),
+        "{names:?}: {says}"
+    );
     assert!(abort; errors.is_empty() == says.is_empty(), "{names:?}");
     Ok(())
 }
@@ -161,17 +167,38 @@ fn all_files_are_read_and_the_first_fault_counts(rt: HostRuntime) -> Result<(), 
     let cut = file(&rt, "cut", b"IBSMSTO1\x01")?;
     let (node, port_guid) = (node.as_str(), port_guid.as_str());
     let (none, bad, cut) = (none.as_str(), bad.as_str(), cut.as_str());
-    let facts: &[u8] = b"node 0000000000000100 ca 1 @1\nportguid 0000000000000100/1 0000000000000101 @1\n";
-    for names in [[node, port_guid, none], [none, port_guid, node], [port_guid, node, node]] {
+    let facts: &[u8] =
+        b"node 0000000000000100 ca 1 @1\nportguid 0000000000000100/1 0000000000000101 @1\n";
+    for names in [
+        [node, port_guid, none],
+        [none, port_guid, node],
+        [port_guid, node, node],
+    ] {
         check_run(&rt, &rt, Command::Join, names, ExitStatus::Done, BOTH, "")?;
         check_run(&rt, &rt, Command::Facts, names, ExitStatus::Done, facts, "")?;
     }
     for (names, ends, says) in [
         ([node, bad, cut], ExitStatus::Refused, "-bad: bad magic\n"),
-        ([cut, bad, node], ExitStatus::Refused, "-cut: truncated at 8\n"),
-        ([node, none, cut], ExitStatus::Refused, "-cut: truncated at 8\n"),
-        ([node, ".", cut], ExitStatus::InputOutput, "ibsm: .: read failed\n"),
-        ([bad, ".", "missing"], ExitStatus::InputOutput, "ibsm: missing: cannot open\n"),
+        (
+            [cut, bad, node],
+            ExitStatus::Refused,
+            "-cut: truncated at 8\n",
+        ),
+        (
+            [node, none, cut],
+            ExitStatus::Refused,
+            "-cut: truncated at 8\n",
+        ),
+        (
+            [node, ".", cut],
+            ExitStatus::InputOutput,
+            "ibsm: .: read failed\n",
+        ),
+        (
+            [bad, ".", "missing"],
+            ExitStatus::InputOutput,
+            "ibsm: missing: cannot open\n",
+        ),
     ] {
         check_run(&rt, &rt, Command::Join, names, ends, b"", says)?;
     }

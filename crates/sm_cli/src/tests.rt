@@ -56,13 +56,6 @@ fn doubled_file() -> [u8; 552] {
     file
 }
 
-/// The same without its last byte.
-fn cut_file() -> [u8; 551] {
-    let mut file = [0; 551];
-    file.copy_from_slice(&doubled_file()[..551]);
-    file
-}
-
 /// The same; the second record has an attribute that no facts are read from.
 fn half_bad_file() -> [u8; 552] {
     let mut file = doubled_file();
@@ -73,9 +66,12 @@ fn half_bad_file() -> [u8; 552] {
 
 /// The adapter's store with its cells exchanged.
 fn exchanged_store() -> [u8; 72] {
-    let mut file = adapter_store();
-    file[8..40].copy_from_slice(&adapter_store()[40..72]);
-    file[40..72].copy_from_slice(&adapter_store()[8..40]);
+    let mut file = [0; 72];
+    file[..8].copy_from_slice(b"IBSMSTO1");
+    file[8..24].copy_from_slice(&[2, 1, 1, 0, 0, 0, 0, 1, 0, 0, 0, 0, 0, 0, 1, 0]);
+    file[24..32].copy_from_slice(&[0, 0, 0, 0, 0, 0, 1, 1]);
+    file[40..56].copy_from_slice(&[1, 1, 0, 0, 0, 0, 0, 1, 0, 0, 0, 0, 0, 0, 1, 0]);
+    file[56..58].copy_from_slice(&[1, 1]);
     file
 }
 
@@ -85,6 +81,11 @@ fn greatest_store() -> [u8; 40] {
     file[..12].copy_from_slice(b"IBSMSTO1\x05\x01\xFE\x00");
     file[12..26].copy_from_slice(&[0xFF; 14]);
     file
+}
+
+/// The first bytes of a file.
+fn first_of(file: &[u8], count: usize) -> &[u8] {
+    file.get(..count).unwrap_or(file)
 }
 
 /// Says how a run has ended early: its exit status, and the line of its fault. The first file is called FILE, any other OTHER.
@@ -124,11 +125,27 @@ fn check(
     Ok(())
 }
 
+/// Two files, and what a run over them writes and how it ends.
+type Row<'a> = (&'a [u8], &'a [u8], &'a [u8]);
+
+/// Runs over two files each write this and end so.
+fn check_rows(
+    rt: &impl Abort,
+    alloc: Global,
+    command: Command,
+    rows: &[Row<'_>],
+) -> Result<(), Fail> {
+    for (first, second, wanted) in rows {
+        check(rt, alloc, command, &[*first, *second], wanted)?;
+    }
+    Ok(())
+}
+
 #[test]
 fn files_are_taken(rt: HostRuntime) -> Result<(), Fail> {
     let (adapter, doubled, store) = (adapter_file(), doubled_file(), adapter_store());
     let greatest = greatest_store();
-    let rows: [(&[u8], &[u8], &[u8]); 5] = [
+    let rows: [Row<'_>; 5] = [
         (b"IBSMREP1", b"IBSMREP1", b""),
         (&adapter, b"IBSMREP1", ADAPTER_FACTS),
         (b"IBSMSTO1", &doubled, ADAPTER_FACTS),
@@ -139,41 +156,32 @@ fn files_are_taken(rt: HostRuntime) -> Result<(), Fail> {
             b"claim ffffffffffffffff/254 65535 @4294967295\n",
         ),
     ];
-    for (first, second, wanted) in rows {
-        check(&rt, rt.alloc(), Command::Facts, &[first, second], wanted)?;
-    }
-    let rows: [(&[u8], &[u8], &[u8]); 3] = [
+    check_rows(&rt, rt.alloc(), Command::Facts, &rows)?;
+    let joined: [Row<'_>; 3] = [
         (&store, &store, &store),
         (&adapter, b"IBSMSTO1", &store),
         (&greatest, &greatest, &greatest),
     ];
-    for (first, second, wanted) in rows {
-        check(&rt, rt.alloc(), Command::Join, &[first, second], wanted)?;
-    }
-    Ok(())
+    check_rows(&rt, rt.alloc(), Command::Join, &joined)
 }
 
 #[test]
 fn the_first_refused_file_is_named(rt: HostRuntime) -> Result<(), Fail> {
-    let (good, cut, bad) = (adapter_file(), cut_file(), half_bad_file());
-    let exchanged = exchanged_store();
-    let rows: [(&[u8], &[u8], &[u8]); 9] = [
+    let (good, doubled, bad) = (adapter_file(), doubled_file(), half_bad_file());
+    let (cut, exchanged) = (first_of(&doubled, 551), exchanged_store());
+    let rows: [Row<'_>; 9] = [
         (b"", &good, b"3 ibsm: FILE: bad magic\n"),
         (&good, b"IBSM", b"3 ibsm: OTHER: bad magic\n"),
-        (&cut, &good, b"3 ibsm: FILE: truncated at 280\n"),
-        (&good, &cut, b"3 ibsm: OTHER: truncated at 280\n"),
-        (&bad, &cut, b"3 ibsm: FILE: bad report 1: Attribute\n"),
+        (cut, &good, b"3 ibsm: FILE: truncated at 280\n"),
+        (&good, cut, b"3 ibsm: OTHER: truncated at 280\n"),
+        (&bad, cut, b"3 ibsm: FILE: bad report 1: Attribute\n"),
         (&good, &bad, b"3 ibsm: OTHER: bad report 1: Attribute\n"),
         (&exchanged, b"", b"3 ibsm: FILE: cell out of order 1\n"),
         (&good, &exchanged, b"3 ibsm: OTHER: cell out of order 1\n"),
         (&good, b"IBSMSTO1\x01", b"3 ibsm: OTHER: truncated at 8\n"),
     ];
-    for command in [Command::Facts, Command::Join] {
-        for (first, second, wanted) in rows {
-            check(&rt, rt.alloc(), command, &[first, second], wanted)?;
-        }
-    }
-    Ok(())
+    check_rows(&rt, rt.alloc(), Command::Facts, &rows)?;
+    check_rows(&rt, rt.alloc(), Command::Join, &rows)
 }
 
 #[test]
@@ -183,7 +191,7 @@ fn each_cut_and_damage_is_told(rt: HostRuntime) -> Result<(), Fail> {
         (&adapter_store(), 32, ADAPTER_FACTS),
     ] {
         for length in 0..=file.len() {
-            let cut = &file[..length];
+            let cut = first_of(file, length);
             let wanted: &[u8] = match length {
                 0..=7 => b"3 ibsm: FILE: bad magic\n",
                 8 => b"",
@@ -303,14 +311,20 @@ fn a_reader_or_writer_may_fail_at_any_call(rt: HostRuntime) -> Result<(), Fail> 
         } else {
             ADAPTER_FACTS
         };
-        assert!(rt; read_failing(rt.alloc(), fails_at)?.bytes() == wanted, "at call {fails_at}");
+        assert!(rt;
+            read_failing(rt.alloc(), fails_at)?.bytes() == wanted,
+            "at call {fails_at}"
+        );
     }
     // A writer is asked for each of 78 bytes, and to flush, which is when they go out.
     for fails_at in 1..=80 {
         let (outcome, out) = write_failing(rt.alloc(), fails_at)?;
         let is_done = fails_at == 80;
         assert!(rt; outcome.is_ok() == is_done, "at call {fails_at}");
-        assert!(rt; (out.as_slice() == ADAPTER_FACTS) == is_done, "at call {fails_at}");
+        assert!(rt;
+            (out.as_slice() == ADAPTER_FACTS) == is_done,
+            "at call {fails_at}"
+        );
     }
     Ok(())
 }
