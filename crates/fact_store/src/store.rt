@@ -33,6 +33,9 @@ impl From<AllocError> for Refused {
     }
 }
 
+/// As many sightings as a report tells go in one after the other.
+const FEW: usize = 4;
+
 /// What is held of a subnet: the view of all that was put in, a cell for each key.
 #[derive(Drop)]
 pub struct Store {
@@ -82,8 +85,21 @@ impl Store {
         Ok(())
     }
 
-    /// Adds all of them or, where memory runs out, none. Reserves as `reserve` does.
+    /// Adds all of them or, where memory runs out, none. A few take a search each; more are put in order first, and then
+    /// merged.
     pub fn add_all(&mut self, sightings: &[Sighting]) -> Result<(), Refused>
+        ensures ok { OnOk result (self.new ≡ merge self.old (view sightings.now)) }
+        ensures err { OnErr result (self.new ≡ self.old) }
+    {
+        if sightings.len() > FEW {
+            let told = store_of(self.cells.allocator(), sightings)?;
+            return self.merge(&told);
+        }
+        self.add_few(sightings)
+    }
+
+    /// The same, with room for a page each before the first goes in.
+    fn add_few(&mut self, sightings: &[Sighting]) -> Result<(), Refused>
         ensures ok { OnOk result (self.new ≡ merge self.old (view sightings.now)) }
         ensures err { OnErr result (self.new ≡ self.old) }
     {
@@ -206,4 +222,15 @@ fn newer(held: Option<Generation>, told: Generation) -> Generation
         None => told,
         Some(held) => { if held < told { told } else { held } }
     }
+}
+
+/// A store of what the sightings say.
+fn store_of(alloc: Global, sightings: &[Sighting]) -> Result<Store, Refused>
+    ensures { IfOk result (λ store. store ≡ view sightings.now) }
+{
+    let mut store = Store::new(alloc);
+    for sighting in sightings {
+        store.add(*sighting)?;
+    }
+    Ok(store)
 }

@@ -3,7 +3,7 @@ use Rattle.std.proofs.Common.{sym, ap, ◌∙◌, subst, arith}
 use Rattle.fact_store.specs.Cells.{AreCells}
 use Rattle.fact_store.specs.View.{view}
 use Rattle.fact_store.proofs.Held.{one_more_merged, none_merged}
-use Rattle.fact_store.proofs.store.Store.add_all.Goals as goal
+use Rattle.fact_store.proofs.store.Store.add_few.Goals as goal
 
 pub loop-sighting-init : goal.loop-sighting-init
 loop-sighting-init c = (

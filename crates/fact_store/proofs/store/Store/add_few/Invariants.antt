@@ -3,7 +3,7 @@ use Rattle.std.proofs.Common.{◌≡◌, ◌+◌, ◌≤◌, length, take}
 use Rattle.fact_store.specs.Cells.{AreCells}
 use Rattle.fact_store.specs.Merge.{merge}
 use Rattle.fact_store.specs.View.{view}
-use Rattle.fact_store.proofs.store.Store.add_all.Given as goal
+use Rattle.fact_store.proofs.store.Store.add_few.Given as goal
 
 abbrev pub invariant-loop-sighting : goal.invariant-loop-sighting
 invariant-loop-sighting l =
