@@ -1,5 +1,5 @@
 -- What a run over opened files says of the files that were named.
-use Rattle.std.proofs.Common.{◌≡◌, ℕ, Bool, List, Option, Result, Ok, Err, OnOk, ap, subst, length, ◌<◌, arith}
+use Rattle.std.proofs.Common.{◌≡◌, ℕ, Bool, List, Option, Result, Ok, Err, OnOk, subst, length}
 use Rattle.std.specs.Prelude.{IfErr}
 use Rattle.sm_cli.specs.Run.{HasAnswered, IsFaultOf}
 use Rattle.sm_cli.specs.declared.fault.Fault.{Fault}

@@ -1,10 +1,8 @@
 -- Lemmas on the spelling of a report.
-use Rattle.std.proofs.Common.{◌≡◌, ◌↔◌, ℕ, List, Option, None, Some, Result, Ok, Err, take, drop, slice_index, refl, sym, ap, ◌∙◌}
+use Rattle.std.proofs.Common.{◌≡◌, ℕ, List, Option, None, Some, Ok, Err, take, drop, slice_index, refl, sym, ap, ◌∙◌}
 use Rattle.std.specs.Int.{from_be_bytes, w32, w64}
 use Rattle.fact_store.specs.declared.report.Context.{Context}
 use Rattle.fact_store.specs.declared.report.Report.{Report}
-use Rattle.fact_store.specs.declared.ingest.IngestFault.{IngestFault}
-use Rattle.fact_store.specs.declared.ingest.IngestFault.TheVariants.{Report as Refused, Memory as Full}
 use Rattle.fact_store.specs.declared.key.Key.{Key}
 use Rattle.fact_store.specs.Merge.{merge}
 use Rattle.fact_store.specs.View.{Facts, view}
