@@ -1,67 +1,27 @@
 -- The list of end ports has each end port, and nothing else, in their order.
-use Rattle.std.proofs.Common.{◌≡◌, ℕ, List, [], ◌∷◌, inl, inr, refl, sym, ap, ◌∙◌, subst, true, false, cond, map, arith}
+use Rattle.std.proofs.Common.{◌≡◌, ℕ, List, [], ◌∷◌, refl, sym, ap, ◌∙◌, subst, true, false, cond, map, arith}
 use Rattle.std.proofs.lemmas.Bool.{and_parts}
-use Rattle.std.proofs.lemmas.List.Elements.{All-nil, All-cons}
 use Rattle.std.proofs.lemmas.List.Kept.{AllPairs-cons}
-use Rattle.std.specs.Prelude.{Contains, Option, None, Some, All, is_some, option_map, option_and_then}
-use Rattle.std.specs.List.{filter_map, cons_option, AllPairs}
+use Rattle.std.specs.Prelude.{Contains, None, Some, is_some, option_map}
+use Rattle.std.specs.List.{filter_map, AllPairs}
 use Rattle.std.specs.FinMap.{entries}
 use Rattle.std.specs.FinMap.Entries.{find}
-use Rattle.std.specs.Ordering.{is_lt, eq_by_cmp}
-use Rattle.std.specs.declared.cmp.Ordering.TheVariants.{Less}
+use Rattle.std.specs.Ordering.{is_lt}
 use Rattle.fact_join.specs.declared.cell.Cell.{Cell}
 use Rattle.fact_store.specs.declared.key.Key.{Key}
 use Rattle.fact_store.specs.declared.key.Key.TheVariants.{Node, PortGuid, Link, Port, Claim, Cap}
 use Rattle.fact_store.specs.declared.value.Value.{Value}
 use Rattle.fact_store.specs.Key.{key_cmp}
 use Rattle.fact_store.specs.Known.{value_in, guid_in}
-use Rattle.fact_store.specs.View.{Facts}
-use Rattle.fact_store.proofs.Keys.{key_exact, equal_from_test}
 use Rattle.subnet_view.specs.declared.end_port.EndPort.{EndPort}
 use Rattle.subnet_view.specs.Reading.{Cells, port_guid_of}
 use Rattle.subnet_view.specs.EndPorts.{is_end_port_place, is_end_port, guid_and_port, port_cmp, in_order, end_ports, IsEndPort, ComesBefore, EndPortsLaw}
 use Rattle.subnet_view.proofs.Apart.{contains_map, contains-from_map}
 use Rattle.subnet_view.proofs.EndPortOrder.{Rises, in_order_rises, was_ordered, is_ordered}
 use Rattle.subnet_view.proofs.EndPorts.{found_apart}
-use Rattle.subnet_view.proofs.Members.{contains_here, contains_later, contains_cases, contains_none, contains_as, contains_first}
+use Rattle.subnet_view.proofs.Members.{contains_here, contains_later}
+use Rattle.subnet_view.proofs.Taken.{taken_from, is_taken, found_in, all_from}
 use Rattle.subnet_view.proofs.WireLaws.{end_port_from_test, test_from_end_port}
-
--- what is taken of a list comes from an element
-module _ {X Y : Type 0} (f : X → Option Y) where
-  pub taken_from : (xs : List X) (y : Y) → Contains (filter_map f xs) y → (x : X) × Contains xs x × (f x ≡ Some y)
-  taken_from [] y h = absurd (contains_none y h)
-  taken_from (x ∷ xs) y h =
-      elim (f x) as (λ o. f x ≡ o → Contains (cons_option o (filter_map f xs)) y → (z : X) × Contains (x ∷ xs) z × (f z ≡ Some y)) [
-        | None ↦ λ q k. let i = taken_from xs y k in (i.0, contains_later x i.0 xs i.1, i.2)
-        | Some w ↦ λ q k. (elim (contains_cases w y (filter_map f xs) k) [
-          | inl e ↦ (x, contains_here x xs, q ∙ ap (λ (z : Y). Some z) e)
-          | inr m ↦ let i = taken_from xs y m in (i.0, contains_later x i.0 xs i.1, i.2)
-        ])
-      ] refl h
-
-  pub is_taken : (xs : List X) (x : X) (y : Y) → Contains xs x → f x ≡ Some y → Contains (filter_map f xs) y
-  is_taken [] x y h e = absurd (contains_none x h)
-  is_taken (z ∷ xs) x y h e =
-      elim (contains_cases z x xs h) [
-        | inl s ↦ subst (λ (o : Option Y). Contains (cons_option o (filter_map f xs)) y) (sym (ap f s ∙ e)) (contains_here y (filter_map f xs))
-        | inr m ↦ let i = is_taken xs x y m e in
-            elim (f z) as (λ o. Contains (cons_option o (filter_map f xs)) y) [
-              | None ↦ i
-              | Some w ↦ contains_later w y (filter_map f xs) i
-            ]
-      ]
-
--- a key that is found has its cell in the list
-found_in : (key : Key) (cells : Cells) (c : Cell Value) → find key_cmp key cells ≡ Some c → Contains cells (key, c)
-found_in key [] c e = absurd (cc)
-found_in key (x ∷ cells) c e =
-    elim (eq_by_cmp key_cmp key x.0) as (λ t. eq_by_cmp key_cmp key x.0 ≡ t → cond t (Some x.1) (find key_cmp key cells) ≡ Some c → Contains (x ∷ cells) (key, c)) [
-      | true ↦ λ q k.
-          let same : key ≡ x.0 = key_exact key x.0 (equal_from_test (key_cmp key x.0) q) in
-          let cell : x.1 ≡ c = cc in
-          contains_first cells (λ i. (sym same i, cell i))
-      | false ↦ λ q k. contains_later x (key, c) cells (found_in key cells c k)
-    ] refl e
 
 module _ (cells : Cells) where
   -- an end port that is found, with its GUID
@@ -114,17 +74,13 @@ module _ (cells : Cells) where
           | Some guid ↦ λ r t.
               let known : port_guid_of cells e.node e.port ≡ Some guid = ap (λ o. guid_in (value_in o)) q ∙ r in
               let taken : guid_and_port cells (PortGuid e.node e.port, c) ≡ Some (guid, e) =
-                  ap (λ t. cond t (option_map (λ guid. (guid, e)) (port_guid_of cells e.node e.port)) None) both.0 ∙ ap (option_map (λ guid. (guid, e))) known in
+              ap (λ t. cond t (option_map (λ guid. (guid, e)) (port_guid_of cells e.node e.port)) None) both.0 ∙ ap (option_map (λ guid. (guid, e))) known in
               contains_map (λ x. x.1) (in_order found) (guid, e)
               (is_ordered found (guid, e) (is_taken (guid_and_port cells) cells (PortGuid e.node e.port, c) (guid, e) (found_in (PortGuid e.node e.port) cells c q) taken))
         ] refl s)
       ] refl both.1
 
-  -- pairs that rise
-  all_from : {X : Type 0} (P : X → Type 0) (xs : List X) → ((x : X) → Contains xs x → P x) → All P xs
-  all_from P [] h = All-nil P
-  all_from P (x ∷ xs) h = All-cons P x xs (h x (contains_here x xs)) (all_from P xs (λ y k. h y (contains_later x y xs k)))
-
+  -- end ports that rise, in pairs
   in_pairs : (xs : List (ℕ × EndPort)) → Rises xs → ((x : ℕ × EndPort) → Contains xs x → port_guid_of cells x.1.node x.1.port ≡ Some x.0)
       → AllPairs (ComesBefore cells) (map (λ x. x.1) xs)
   in_pairs [] r known = λ i j d p q. absurd (omega (arith, q))

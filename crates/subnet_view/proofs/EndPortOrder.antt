@@ -1,5 +1,5 @@
 -- End ports in their order: sorted lists of the same ones are the same.
-use Rattle.std.proofs.Common.{◌≡◌, ◌<◌, ◌≤◌, ℕ, zero, suc, List, [], ◌∷◌, ◌⊎◌, length, inl, inr, refl, sym, ap, ◌∙◌, subst, Bool, true, false, cond, T, map, arith, get_or}
+use Rattle.std.proofs.Common.{◌≡◌, ◌<◌, ◌≤◌, ℕ, suc, List, [], ◌∷◌, ◌⊎◌, length, inl, inr, refl, sym, ap, ◌∙◌, subst, Bool, true, false, cond, arith, get_or}
 use Rattle.std.specs.Prelude.{Contains, slice_index}
 use Rattle.std.specs.List.{AllByRecursion, IsDistinct}
 use Rattle.std.specs.List.Sorted.{IsPermutation, IsSorted}
@@ -53,8 +53,8 @@ rises_once (x ∷ xs) [] r s h k = absurd (contains_none x (h x (contains_here x
 rises_once (x ∷ xs) (y ∷ ys) r s h k =
     let same : x ≡ y = first (contains_cases y x ys (h x (contains_here x xs))) (contains_cases x y xs (k y (contains_here y ys))) in
     let rest = rises_once xs ys r.1 s.1
-        (λ z m. later z (contains_cases y z ys (h z (contains_later x z xs m))) (λ e. not_before_itself x (subst (λ (w : ℕ × EndPort). port_cmp x w ≡ Less) (sym e ∙ sym same) (r.0 z m))))
-        (λ z m. later' z (contains_cases x z xs (k z (contains_later y z ys m))) (λ e. not_before_itself y (subst (λ (w : ℕ × EndPort). port_cmp y w ≡ Less) (sym e ∙ same) (s.0 z m)))) in
+    (λ z m. later z (contains_cases y z ys (h z (contains_later x z xs m))) (λ e. not_before_itself x (subst (λ (w : ℕ × EndPort). port_cmp x w ≡ Less) (sym e ∙ sym same) (r.0 z m))))
+    (λ z m. later' z (contains_cases x z xs (k z (contains_later y z ys m))) (λ e. not_before_itself y (subst (λ (w : ℕ × EndPort). port_cmp y w ≡ Less) (sym e ∙ same) (s.0 z m)))) in
     λ i. same i ∷ rest i
   where
     first : (y ≡ x) ⊎ Contains ys x → (x ≡ y) ⊎ Contains xs y → x ≡ y

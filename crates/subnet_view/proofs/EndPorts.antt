@@ -22,7 +22,8 @@ use Rattle.subnet_view.proofs.Members.{contains_here, contains_later, contains_c
 
 -- keys in order --------------------------------------------------------------------
 
-true_from : (b : Bool) → T b → b ≡ true
+-- a test that holds is true
+pub true_from : (b : Bool) → T b → b ≡ true
 true_from true h = refl
 true_from false h = absurd h
 

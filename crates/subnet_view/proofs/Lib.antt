@@ -1,6 +1,8 @@
 pub mod Readers
 pub mod Members
 pub mod Apart
+pub mod Taken
+pub mod UsableSwitches
 pub mod EndPorts
 pub mod EndPortOrder
 pub mod EndPortList

@@ -1,5 +1,5 @@
 -- The readers of a store read its cells.
-use Rattle.std.proofs.Common.{◌≡◌, ℕ, ap, sym}
+use Rattle.std.proofs.Common.{◌≡◌, ap}
 use Rattle.std.specs.FinMap.{entries, get-entries}
 use Rattle.fact_store.specs.declared.key.Key.{Key}
 use Rattle.fact_store.specs.Known.{value_in, known}

@@ -1,9 +1,10 @@
 -- What facts say of the nodes and ports of a subnet.
-use Rattle.std.specs.Prelude.{ℕ, Bool, false, List, Option, None, Some, is_some, nat_le, ◌&&◌, if◌then◌else◌}
+use Rattle.std.specs.Prelude.{◌≡◌, ◌↔◌, ◌<◌, ℕ, Bool, false, List, Contains, Option, None, Some, IsTrue, IsSome, is_some, nat_le, ◌&&◌, if◌then◌else◌}
 use Rattle.std.specs.Option.{option_map_or}
-use Rattle.std.specs.List.{filter_map}
-use Rattle.std.specs.FinMap.{find}
+use Rattle.std.specs.List.{filter_map, AllPairs}
+use Rattle.std.specs.FinMap.{find, entries}
 use Rattle.smp_bytes.specs.declared.node_type.NodeType.{NodeType}
+use Rattle.smp_bytes.specs.declared.node_type.NodeType.TheVariants.{Switch}
 use Rattle.smp_bytes.specs.NodeType.{is_switch}
 use Rattle.fact_join.specs.declared.cell.Cell.{Cell}
 use Rattle.fact_store.specs.declared.key.Key.{Key}
@@ -11,6 +12,7 @@ use Rattle.fact_store.specs.declared.key.Key.TheVariants.{Node, PortGuid, Link, 
 use Rattle.fact_store.specs.declared.value.Value.{Value}
 use Rattle.fact_store.specs.Key.{key_cmp}
 use Rattle.fact_store.specs.Known.{value_in, kind_in, guid_in, peer_in, up_in, lid_in, count_in}
+use Rattle.fact_store.specs.View.{Facts}
 
 -- the cells of facts with their keys, in the order of keys
 abbrev pub Cells : Type 0
@@ -72,3 +74,21 @@ usable_guid cells (_, c) = None
 -- the usable switches, by rising GUID
 abbrev pub switches : Cells → List ℕ
 switches cells = filter_map (usable_guid cells) cells
+
+-- the laws of these words: -----------------------------------------------------------
+
+-- a usable switch in words
+abbrev pub IsUsable : Cells → ℕ → Type 0
+IsUsable cells g = (ports : ℕ) × (node_of cells g ≡ Some (Switch, ports)) × IsSome (cap_of cells g)
+
+-- the test says what the words say
+abbrev pub UsableLaw : Type 0
+UsableLaw = (cells : Cells) (g : ℕ) → IsTrue (is_usable cells g) ↔ IsUsable cells g
+
+-- the list has the usable switches, and nothing else
+abbrev pub HasSwitches : Cells → List ℕ → Type 0
+HasSwitches cells guids = (g : ℕ) → Contains guids g ↔ IsUsable cells g
+
+-- the usable switches, each once, by rising GUID
+abbrev pub SwitchesLaw : Type 0
+SwitchesLaw = (facts : Facts) → HasSwitches (entries facts) (switches (entries facts)) × AllPairs (λ a b. a < b) (switches (entries facts))

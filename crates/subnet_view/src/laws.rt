@@ -1,6 +1,17 @@
 //! What the readings of a view mean.
 ghost use Rattle.subnet_view.specs.EndPorts.{EndPortLaw, EndPortsLaw};
+ghost use Rattle.subnet_view.specs.Reading.{UsableLaw, SwitchesLaw};
 ghost use Rattle.subnet_view.specs.Wires.{WireLaw, WiresGoBothWays};
+
+/// A usable switch is a node known to be a switch whose table room is known.
+pub fn usable_is_in_words()
+    ensures { UsableLaw }
+{}
+
+/// The usable switches are listed each once, by rising GUID, and nothing else is.
+pub fn switches_are_listed_by_guid()
+    ensures { SwitchesLaw }
+{}
 
 /// An end port is port 0 of a node known to be a switch, or a port from 1 to the count of a node known
 /// to be another, and its GUID is known.

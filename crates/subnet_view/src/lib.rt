@@ -7,7 +7,10 @@ mod reading;
 mod switch;
 mod wire_end;
 
-pub use end_port::{end_ports, is_end_port, EndPort};
+pub use end_port::{EndPort, end_ports, is_end_port};
 pub use reading::{cap, claim};
 pub use switch::{is_usable, switches};
 pub use wire_end::wire;
+
+#[cfg(test)]
+mod tests;
