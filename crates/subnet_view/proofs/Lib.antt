@@ -1,0 +1,10 @@
+pub mod Readers
+pub mod Members
+pub mod Apart
+pub mod Taken
+pub mod UsableSwitches
+pub mod EndPorts
+pub mod EndPortOrder
+pub mod EndPortList
+pub mod WireEnds
+pub mod WireLaws

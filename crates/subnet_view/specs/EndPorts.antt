@@ -1,0 +1,81 @@
+-- The ports that have a LID: port 0 of a switch, and the ports of other nodes.
+use Rattle.std.specs.Prelude.{◌≡◌, ◌↔◌, ◌≤◌, ℕ, Bool, List, [], ◌∷◌, map, Contains, Option, None, Some, IsTrue, IsSome, is_some, ◌==◌, ◌&&◌, MatchBool, option_map, if◌then◌else◌}
+use Rattle.std.specs.List.{filter_map, AllPairs}
+use Rattle.std.specs.declared.cmp.Ordering.{Ordering}
+use Rattle.std.specs.Ordering.{nat_cmp, is_lt}
+use Rattle.std.specs.Cmp.Lexicographic.{slice_cmp}
+use Rattle.std.specs.FinMap.{entries}
+use Rattle.smp_bytes.specs.declared.node_type.NodeType.{NodeType}
+use Rattle.smp_bytes.specs.NodeType.{is_switch}
+use Rattle.fact_join.specs.declared.cell.Cell.{Cell}
+use Rattle.fact_store.specs.declared.key.Key.{Key}
+use Rattle.fact_store.specs.declared.key.Key.TheVariants.{PortGuid}
+use Rattle.fact_store.specs.declared.value.Value.{Value}
+use Rattle.fact_store.specs.View.{Facts}
+use Rattle.subnet_view.specs.declared.end_port.EndPort.{EndPort}
+use Rattle.subnet_view.specs.Reading.{Cells, node_of, port_guid_of, is_switch_node, is_port_of}
+
+-- port 0 of a switch, or a port from 1 to the count of another node
+abbrev pub is_end_port_place : Cells → ℕ → ℕ → Bool
+is_end_port_place cells g p = if is_switch_node cells g then p == 0 else is_port_of cells g p
+
+-- such a port with a known GUID
+abbrev pub is_end_port : Cells → ℕ → ℕ → Bool
+is_end_port cells g p = is_end_port_place cells g p && is_some (port_guid_of cells g p)
+
+-- the end port of a cell with its port GUID, where the cell is an end port's GUID
+abbrev pub guid_and_port : Cells → Key × Cell Value → Option (ℕ × EndPort)
+guid_and_port cells ((PortGuid g p), c) = if is_end_port_place cells g p then option_map (λ guid. (guid, record { node = g; port = p })) (port_guid_of cells g p) else None
+guid_and_port cells (_, c) = None
+
+-- port GUID, node GUID and port
+abbrev pub port_numbers : ℕ × EndPort → List ℕ
+port_numbers e = e.0 ∷ e.1.node ∷ e.1.port ∷ []
+
+-- the first number in which two end ports differ decides
+abbrev pub port_cmp : ℕ × EndPort → ℕ × EndPort → Ordering
+port_cmp a b = slice_cmp nat_cmp (port_numbers a) (port_numbers b)
+
+-- by port GUID, then node GUID, then port
+abbrev pub comes_before : ℕ × EndPort → ℕ × EndPort → Bool
+comes_before a b = is_lt (port_cmp a b)
+
+-- before the first that it comes before
+abbrev pub put_in_order : ℕ × EndPort → List (ℕ × EndPort) → List (ℕ × EndPort)
+put_in_order e [] = e ∷ []
+put_in_order e (x ∷ xs) = if comes_before e x then e ∷ x ∷ xs else x ∷ put_in_order e xs
+
+-- each put in its place
+abbrev pub in_order : List (ℕ × EndPort) → List (ℕ × EndPort)
+in_order [] = []
+in_order (x ∷ xs) = put_in_order x (in_order xs)
+
+-- the end ports in their order
+abbrev pub end_ports : Cells → List EndPort
+end_ports cells = map (λ e. e.1) (in_order (filter_map (guid_and_port cells) cells))
+
+-- the laws of these words: -----------------------------------------------------------
+
+-- the node is known to be of this type and to have so many ports
+abbrev pub IsNodeWith : Cells → ℕ → NodeType → ℕ → Type 0
+IsNodeWith cells g kind ports = node_of cells g ≡ Some (kind, ports)
+
+-- an end port in words
+abbrev pub IsEndPort : Cells → ℕ → ℕ → Type 0
+IsEndPort cells g p = (kind : NodeType) × (ports : ℕ) × IsNodeWith cells g kind ports × MatchBool (is_switch kind) (p ≡ 0) ((1 ≤ p) × (p ≤ ports)) × IsSome (port_guid_of cells g p)
+
+-- the test says what the words say
+abbrev pub EndPortLaw : Type 0
+EndPortLaw = (cells : Cells) (g p : ℕ) → IsTrue (is_end_port cells g p) ↔ IsEndPort cells g p
+
+-- by port GUID, node GUID and port
+abbrev pub ComesBefore : Cells → EndPort → EndPort → Type 0
+ComesBefore cells a b = (m n : ℕ) → port_guid_of cells a.node a.port ≡ Some m → port_guid_of cells b.node b.port ≡ Some n → IsTrue (comes_before (m, a) (n, b))
+
+-- the list has the end ports, and nothing else
+abbrev pub HasEndPorts : Cells → List EndPort → Type 0
+HasEndPorts cells ports = (e : EndPort) → Contains ports e ↔ IsEndPort cells e.node e.port
+
+-- the end ports, each once, in their order
+abbrev pub EndPortsLaw : Type 0
+EndPortsLaw = (facts : Facts) → HasEndPorts (entries facts) (end_ports (entries facts)) × AllPairs (ComesBefore (entries facts)) (end_ports (entries facts))

@@ -1,0 +1,94 @@
+-- What facts say of the nodes and ports of a subnet.
+use Rattle.std.specs.Prelude.{◌≡◌, ◌↔◌, ◌<◌, ℕ, Bool, false, List, Contains, Option, None, Some, IsTrue, IsSome, is_some, nat_le, ◌&&◌, if◌then◌else◌}
+use Rattle.std.specs.Option.{option_map_or}
+use Rattle.std.specs.List.{filter_map, AllPairs}
+use Rattle.std.specs.FinMap.{find, entries}
+use Rattle.smp_bytes.specs.declared.node_type.NodeType.{NodeType}
+use Rattle.smp_bytes.specs.declared.node_type.NodeType.TheVariants.{Switch}
+use Rattle.smp_bytes.specs.NodeType.{is_switch}
+use Rattle.fact_join.specs.declared.cell.Cell.{Cell}
+use Rattle.fact_store.specs.declared.key.Key.{Key}
+use Rattle.fact_store.specs.declared.key.Key.TheVariants.{Node, PortGuid, Link, Port, Claim, Cap}
+use Rattle.fact_store.specs.declared.value.Value.{Value}
+use Rattle.fact_store.specs.Key.{key_cmp}
+use Rattle.fact_store.specs.Known.{value_in, kind_in, guid_in, peer_in, up_in, lid_in, count_in}
+use Rattle.fact_store.specs.View.{Facts}
+
+-- the cells of facts with their keys, in the order of keys
+abbrev pub Cells : Type 0
+Cells = List (Key × Cell Value)
+
+-- the value that the key is known to have
+abbrev pub known_in : Cells → Key → Option Value
+known_in cells key = value_in (find key_cmp key cells)
+
+-- the type of a node and the number of its ports
+abbrev pub node_of : Cells → ℕ → Option (NodeType × ℕ)
+node_of cells g = kind_in (known_in cells (Node g))
+
+-- the GUID of a port
+abbrev pub port_guid_of : Cells → ℕ → ℕ → Option ℕ
+port_guid_of cells g p = guid_in (known_in cells (PortGuid g p))
+
+-- the node and the port at the other end of a link
+abbrev pub link_of : Cells → ℕ → ℕ → Option (ℕ × ℕ)
+link_of cells g p = peer_in (known_in cells (Link g p))
+
+-- whether a port is up, as far as is known
+abbrev pub up_of : Cells → ℕ → ℕ → Option Bool
+up_of cells g p = up_in (known_in cells (Port g p))
+
+-- the LID that a port claims
+abbrev pub claim_of : Cells → ℕ → ℕ → Option ℕ
+claim_of cells g p = lid_in (known_in cells (Claim g p))
+
+-- the room of a switch's linear forwarding table
+abbrev pub cap_of : Cells → ℕ → Option ℕ
+cap_of cells g = count_in (known_in cells (Cap g))
+
+-- a port that is known to be up
+abbrev pub is_up : Cells → ℕ → ℕ → Bool
+is_up cells g p = option_map_or (λ up. up) (up_of cells g p) false
+
+-- a node that is known to be a switch
+abbrev pub is_switch_node : Cells → ℕ → Bool
+is_switch_node cells g = option_map_or (λ n. is_switch n.0) (node_of cells g) false
+
+-- the number of a node's ports, and 0 where the node is not known
+abbrev pub port_count_of : Cells → ℕ → ℕ
+port_count_of cells g = option_map_or (λ n. n.1) (node_of cells g) 0
+
+-- a switch whose type and table room are known
+abbrev pub is_usable : Cells → ℕ → Bool
+is_usable cells g = is_switch_node cells g && is_some (cap_of cells g)
+
+-- a port from 1 to the node's count
+abbrev pub is_port_of : Cells → ℕ → ℕ → Bool
+is_port_of cells g p = nat_le 1 p && nat_le p (port_count_of cells g)
+
+-- the node of a cell, where it is a usable switch
+abbrev pub usable_guid : Cells → Key × Cell Value → Option ℕ
+usable_guid cells ((Node g), c) = if is_usable cells g then Some g else None
+usable_guid cells (_, c) = None
+
+-- the usable switches, by rising GUID
+abbrev pub switches : Cells → List ℕ
+switches cells = filter_map (usable_guid cells) cells
+
+-- the laws of these words: -----------------------------------------------------------
+
+-- a usable switch in words
+abbrev pub IsUsable : Cells → ℕ → Type 0
+IsUsable cells g = (ports : ℕ) × (node_of cells g ≡ Some (Switch, ports)) × IsSome (cap_of cells g)
+
+-- the test says what the words say
+abbrev pub UsableLaw : Type 0
+UsableLaw = (cells : Cells) (g : ℕ) → IsTrue (is_usable cells g) ↔ IsUsable cells g
+
+-- the list has the usable switches, and nothing else
+abbrev pub HasSwitches : Cells → List ℕ → Type 0
+HasSwitches cells guids = (g : ℕ) → Contains guids g ↔ IsUsable cells g
+
+-- the usable switches, each once, by rising GUID
+abbrev pub SwitchesLaw : Type 0
+SwitchesLaw = (facts : Facts) → HasSwitches (entries facts) (switches (entries facts)) × AllPairs (λ a b. a < b) (switches (entries facts))

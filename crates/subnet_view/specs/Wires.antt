@@ -1,0 +1,45 @@
+-- The wires between the ports of a subnet.
+use Rattle.std.specs.Prelude.{◌≡◌, ◌≢◌, ◌↔◌, ◌≤◌, ℕ, Bool, false, Option, None, Some, IsTrue, IsSome, ◌==◌, ◌&&◌, not, MatchBool, option_and_then, if◌then◌else◌}
+use Rattle.std.specs.Option.{option_map_or}
+use Rattle.smp_bytes.specs.declared.node_type.NodeType.{NodeType}
+use Rattle.smp_bytes.specs.NodeType.{is_switch}
+use Rattle.subnet_view.specs.Reading.{Cells, port_guid_of, link_of, cap_of, is_up, is_switch_node, is_usable, is_port_of}
+use Rattle.subnet_view.specs.EndPorts.{is_end_port, IsNodeWith}
+
+-- a port that can have a wire: up, from 1 to the node's count, and of a usable switch or an end port
+abbrev pub is_wire_end : Cells → ℕ → ℕ → Bool
+is_wire_end cells g p = is_up cells g p && is_port_of cells g p && (if is_switch_node cells g then is_usable cells g else is_end_port cells g p)
+
+-- the port p of the node g
+abbrev pub is_at : ℕ → ℕ → ℕ × ℕ → Bool
+is_at g p q = g == q.0 && p == q.1
+
+-- two different ports that can have a wire and whose links name each other
+abbrev pub is_wire : Cells → ℕ → ℕ → ℕ × ℕ → Bool
+is_wire cells g p q = not (is_at g p q) && is_wire_end cells g p && is_wire_end cells q.0 q.1 && option_map_or (is_at g p) (link_of cells q.0 q.1) false
+
+-- the other end of the wire in a port
+abbrev pub across : Cells → ℕ → ℕ → Option (ℕ × ℕ)
+across cells g p = option_and_then (λ q. if is_wire cells g p q then Some q else None) (link_of cells g p)
+
+-- the laws of these words: -----------------------------------------------------------
+
+-- a port that can have a wire, in words
+abbrev pub CanHaveWire : Cells → ℕ → ℕ → Type 0
+CanHaveWire cells g p = (kind : NodeType) × (ports : ℕ) × IsNodeWith cells g kind ports × (1 ≤ p) × (p ≤ ports) × IsTrue (is_up cells g p) × MatchBool (is_switch kind) (IsSome (cap_of cells g)) (IsSome (port_guid_of cells g p))
+
+-- a wire in words
+pub record IsWire (cells : Cells) (g p h q : ℕ) : Type 0 where
+  pub different : ◌≢◌ {A = ℕ × ℕ} (g, p) (h, q)
+  pub first : CanHaveWire cells g p
+  pub second : CanHaveWire cells h q
+  pub named_there : link_of cells g p ≡ Some (h, q)
+  pub named_back : link_of cells h q ≡ Some (g, p)
+
+-- there is another end exactly where there is a wire
+abbrev pub WireLaw : Type 0
+WireLaw = (cells : Cells) (g p h q : ℕ) → (across cells g p ≡ Some (h, q)) ↔ IsWire cells g p h q
+
+-- the wire in the other end leads back
+abbrev pub WiresGoBothWays : Type 0
+WiresGoBothWays = (cells : Cells) (g p h q : ℕ) → across cells g p ≡ Some (h, q) → across cells h q ≡ Some (g, p)

@@ -1,0 +1,103 @@
+ghost use Rattle.std.specs.Prelude.{◌≡◌, map, IfOk};
+ghost use Rattle.std.specs.List.{filter_map};
+ghost use Rattle.std.specs.List.Sorted.{IsPermutation, IsSorted};
+ghost use Rattle.std.specs.FinMap.{entries};
+ghost use Rattle.subnet_view.specs.EndPorts.{is_end_port, is_end_port_place, guid_and_port, port_numbers, port_cmp, in_order, end_ports};
+
+use crate::reading::{is_port, is_switch, port_guid};
+use fact_store::{Key, Sighting, Store};
+use smp_bytes::{Guid, PortNum};
+use std::alloc::{AllocError, Global};
+
+/// A port that has a LID of its own: port 0 of a switch, or a port of another node.
+#[derive(Clone, Copy, Debug, PartialEq, Eq)]
+pub struct EndPort {
+    /// The GUID of its node.
+    pub node: Guid,
+    /// Its number at the node.
+    pub port: PortNum,
+}
+
+/// Whether a port is an end port: port 0 of a switch, or a port of another node, with a known GUID.
+/// Takes three searches.
+pub fn is_end_port(store: &Store, node: Guid, port: PortNum) -> bool
+    ensures { result ≡ is_end_port (entries store.now) node port }
+{
+    is_end_port_place(store, node, port) && port_guid(store, node, port).is_some()
+}
+
+/// The end ports, by port GUID, then node GUID, then port. Walks the cells, and sorts.
+pub fn end_ports(alloc: Global, store: &Store) -> Result<Vec<EndPort>, AllocError>
+    ensures { IfOk result (λ ports. ports.items ≡ end_ports (entries store.now)) }
+{
+    let sorted = sorted_end_ports(alloc, store)?;
+    sorted.iter().map(|end| end.1).collect(alloc)
+}
+
+/// The end ports with their port GUIDs, in their order.
+fn sorted_end_ports(alloc: Global, store: &Store) -> Result<Vec<(Guid, EndPort)>, AllocError>
+    ensures { IfOk result (λ sorted. sorted.items ≡ in_order (filter_map (guid_and_port (entries store.now)) (entries store.now))) }
+{
+    let mut found = found_end_ports(alloc, store)?;
+    sort(&mut found);
+    Ok(found)
+}
+
+/// The end ports with their port GUIDs, in the order of keys.
+fn found_end_ports(alloc: Global, store: &Store) -> Result<Vec<(Guid, EndPort)>, AllocError>
+    ensures { IfOk result (λ found. found.items ≡ filter_map (guid_and_port (entries store.now)) (entries store.now)) }
+{
+    let mut found = Vec::new(alloc);
+    for sighting in store.cells() {
+        if let Some(end) = guid_and_port(store, &sighting) {
+            found.push(end)?;
+        }
+    }
+    Ok(found)
+}
+
+fn sort(found: &mut [(Guid, EndPort)])
+    ensures permutation { IsPermutation found.old found.new }
+    ensures sorted { IsSorted port_cmp found.new }
+{
+    found.sort_unstable_by_key(sort_key);
+}
+
+/// The port GUID, the node GUID and the port.
+fn sort_key(end: &(Guid, EndPort)) -> [u64; 3]
+    ensures { result ≡ port_numbers end.now }
+{
+    [
+        end.0.number(),
+        end.1.node.number(),
+        u64::from(end.1.port.number()),
+    ]
+}
+
+/// The end port of a cell with its port GUID, where the cell is an end port's GUID.
+fn guid_and_port(store: &Store, sighting: &Sighting) -> Option<(Guid, EndPort)>
+    ensures { result ≡ guid_and_port (entries store.now) sighting.now }
+{
+    match sighting.key() {
+        Key::PortGuid(node, port) => {
+            if is_end_port_place(store, node, port) {
+                let guid = port_guid(store, node, port)?;
+                Some((guid, EndPort { node, port }))
+            } else {
+                None
+            }
+        }
+        _ => None,
+    }
+}
+
+/// Whether the port is port 0 of a switch, or a port from 1 to the count of another node.
+fn is_end_port_place(store: &Store, node: Guid, port: PortNum) -> bool
+    ensures { result ≡ is_end_port_place (entries store.now) node port }
+{
+    if is_switch(store, node) {
+        port.number() == 0
+    } else {
+        is_port(store, node, port)
+    }
+}

@@ -1,0 +1,35 @@
+//! What the readings of a view mean.
+ghost use Rattle.subnet_view.specs.EndPorts.{EndPortLaw, EndPortsLaw};
+ghost use Rattle.subnet_view.specs.Reading.{UsableLaw, SwitchesLaw};
+ghost use Rattle.subnet_view.specs.Wires.{WireLaw, WiresGoBothWays};
+
+/// A usable switch is a node known to be a switch whose table room is known.
+pub fn usable_is_in_words()
+    ensures { UsableLaw }
+{}
+
+/// The usable switches are listed each once, by rising GUID, and nothing else is.
+pub fn switches_are_listed_by_guid()
+    ensures { SwitchesLaw }
+{}
+
+/// An end port is port 0 of a node known to be a switch, or a port from 1 to the count of a node known
+/// to be another, and its GUID is known.
+pub fn end_port_is_in_words()
+    ensures { EndPortLaw }
+{}
+
+/// The end ports are listed each once, by port GUID, node GUID and port, and nothing else is.
+pub fn end_ports_are_listed_in_order()
+    ensures { EndPortsLaw }
+{}
+
+/// A wire joins two different ports that can have one and whose links name each other.
+pub fn wire_is_in_words()
+    ensures { WireLaw }
+{}
+
+/// A wire goes both ways.
+pub fn wires_go_both_ways()
+    ensures { WiresGoBothWays }
+{}

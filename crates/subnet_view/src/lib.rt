@@ -1,0 +1,16 @@
+//! What a view of a subnet says: its usable switches, its end ports and its wires.
+#![tactic(auto)]
+
+mod end_port;
+pub mod laws;
+mod reading;
+mod switch;
+mod wire_end;
+
+pub use end_port::{EndPort, end_ports, is_end_port};
+pub use reading::{cap, claim};
+pub use switch::{is_usable, switches};
+pub use wire_end::wire;
+
+#[cfg(test)]
+mod tests;

@@ -1,0 +1,44 @@
+ghost use Rattle.std.specs.Prelude.{◌≡◌, IfOk};
+ghost use Rattle.std.specs.FinMap.{entries};
+ghost use Rattle.subnet_view.specs.Reading.{is_usable, usable_guid, switches};
+
+use crate::reading::{cap, is_switch};
+use fact_store::{Key, Sighting, Store};
+use smp_bytes::Guid;
+use std::alloc::{AllocError, Global};
+
+/// Whether a node is a switch whose type and table room are known. Takes two searches.
+pub fn is_usable(store: &Store, node: Guid) -> bool
+    ensures { result ≡ is_usable (entries store.now) node }
+{
+    is_switch(store, node) && cap(store, node).is_some()
+}
+
+/// The usable switches, by rising GUID. Walks the cells.
+pub fn switches(alloc: Global, store: &Store) -> Result<Vec<Guid>, AllocError>
+    ensures { IfOk result (λ found. found.items ≡ switches (entries store.now)) }
+{
+    let mut found = Vec::new(alloc);
+    for sighting in store.cells() {
+        if let Some(guid) = usable_guid(store, &sighting) {
+            found.push(guid)?;
+        }
+    }
+    Ok(found)
+}
+
+/// The node of a cell, where it is a usable switch.
+fn usable_guid(store: &Store, sighting: &Sighting) -> Option<Guid>
+    ensures { result ≡ usable_guid (entries store.now) sighting.now }
+{
+    match sighting.key() {
+        Key::Node(node) => {
+            if is_usable(store, node) {
+                Some(node)
+            } else {
+                None
+            }
+        }
+        _ => None,
+    }
+}

@@ -1,0 +1,48 @@
+ghost use Rattle.std.specs.Prelude.{◌≡◌};
+ghost use Rattle.std.specs.FinMap.{entries};
+ghost use Rattle.subnet_view.specs.Wires.{is_wire_end, is_wire, across};
+
+use crate::end_port::is_end_port;
+use crate::reading::{is_port, is_switch, is_up, link};
+use crate::switch::is_usable;
+use fact_store::Store;
+use smp_bytes::{Guid, PortNum};
+
+/// The node and the port at the other end of the wire in a port. There is a wire where the links of two
+/// different ports name each other, and both are up and are ports of usable switches or end ports.
+/// Takes some ten searches.
+pub fn wire(store: &Store, node: Guid, port: PortNum) -> Option<(Guid, PortNum)>
+    ensures { result ≡ across (entries store.now) node port }
+{
+    let (far_node, far_port) = link(store, node, port)?;
+    if is_wire(store, (node, port), (far_node, far_port)) {
+        Some((far_node, far_port))
+    } else {
+        None
+    }
+}
+
+/// Whether there is a wire between two ports, of which the first one's link names the second.
+fn is_wire(store: &Store, near: (Guid, PortNum), far: (Guid, PortNum)) -> bool
+    ensures { result ≡ is_wire (entries store.now) near.0 near.1 far }
+{
+    near != far
+        && is_wire_end(store, near)
+        && is_wire_end(store, far)
+        && link(store, far.0, far.1) == Some(near)
+}
+
+/// Whether a port can have a wire.
+fn is_wire_end(store: &Store, end: (Guid, PortNum)) -> bool
+    ensures { result ≡ is_wire_end (entries store.now) end.0 end.1 }
+{
+    let (node, port) = end;
+    if !is_up(store, node, port) || !is_port(store, node, port) {
+        return false;
+    }
+    if is_switch(store, node) {
+        is_usable(store, node)
+    } else {
+        is_end_port(store, node, port)
+    }
+}
