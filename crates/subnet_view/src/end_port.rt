@@ -5,7 +5,7 @@ ghost use Rattle.std.specs.FinMap.{entries};
 ghost use Rattle.subnet_view.specs.EndPorts.{is_end_port, is_end_port_place, guid_and_port, port_numbers, port_cmp, in_order, end_ports};
 
 use crate::reading::{is_port, is_switch, port_guid};
-use fact_store::{Key, Sighting, Store};
+use fact_store::{Key, Refused, Sighting, Store};
 use smp_bytes::{Guid, PortNum};
 use std::alloc::{AllocError, Global};
 
@@ -27,7 +27,14 @@ pub fn is_end_port(store: &Store, node: Guid, port: PortNum) -> bool
 }
 
 /// The end ports, by port GUID, then node GUID, then port. Walks the cells, and sorts.
-pub fn end_ports(alloc: Global, store: &Store) -> Result<Vec<EndPort>, AllocError>
+pub fn end_ports(alloc: Global, store: &Store) -> Result<Vec<EndPort>, Refused>
+    ensures { IfOk result (λ ports. ports.items ≡ end_ports (entries store.now)) }
+{
+    Ok(listed_end_ports(alloc, store)?)
+}
+
+/// The same, with the allocator's own refusal.
+fn listed_end_ports(alloc: Global, store: &Store) -> Result<Vec<EndPort>, AllocError>
     ensures { IfOk result (λ ports. ports.items ≡ end_ports (entries store.now)) }
 {
     let sorted = sorted_end_ports(alloc, store)?;

@@ -3,7 +3,7 @@ ghost use Rattle.std.specs.FinMap.{entries};
 ghost use Rattle.subnet_view.specs.Reading.{is_usable, usable_guid, switches};
 
 use crate::reading::{cap, is_switch};
-use fact_store::{Key, Sighting, Store};
+use fact_store::{Key, Refused, Sighting, Store};
 use smp_bytes::Guid;
 use std::alloc::{AllocError, Global};
 
@@ -15,7 +15,14 @@ pub fn is_usable(store: &Store, node: Guid) -> bool
 }
 
 /// The usable switches, by rising GUID. Walks the cells.
-pub fn switches(alloc: Global, store: &Store) -> Result<Vec<Guid>, AllocError>
+pub fn switches(alloc: Global, store: &Store) -> Result<Vec<Guid>, Refused>
+    ensures { IfOk result (λ found. found.items ≡ switches (entries store.now)) }
+{
+    Ok(listed_switches(alloc, store)?)
+}
+
+/// The same, with the allocator's own refusal.
+fn listed_switches(alloc: Global, store: &Store) -> Result<Vec<Guid>, AllocError>
     ensures { IfOk result (λ found. found.items ≡ switches (entries store.now)) }
 {
     let mut found = Vec::new(alloc);

@@ -3,7 +3,7 @@ use Rattle.std.specs.FinMap.{entries}
 use Rattle.std.specs.List.{filter_map}
 use Rattle.fact_store.specs.Walk.{cells_left}
 use Rattle.subnet_view.specs.Reading.{usable_guid}
-use Rattle.subnet_view.proofs.switch.switches.Given as goal
+use Rattle.subnet_view.proofs.switch.listed_switches.Given as goal
 
 -- what was found, and what the rest has, are all that there is
 abbrev pub invariant-loop-sighting : goal.invariant-loop-sighting
