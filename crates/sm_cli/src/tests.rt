@@ -1,7 +1,9 @@
 //! Runs over files in memory, and over readers and writers that fail. What they print and answer is written out here by
 //! the formats.
 use super::*;
+use fact_store::ReportFault;
 use record_file::{FileFault, FromBytes, FromRead, Sink, ToRoom, ToWrite};
+use smp_bytes::SmpFault;
 use std::alloc::{AllocError, Global};
 use std::process::Abort;
 use std::test::Fail;
@@ -232,29 +234,36 @@ fn each_cut_and_damage_is_told(rt: HostRuntime) -> Result<(), Fail> {
 }
 
 /// The lines of faults of a file, or of none, with the exit status.
-fn fault_lines() -> [(Fault, &'static [u8]); 11] {
+fn fault_lines() -> [(Fault, &'static str); 12] {
     let file = |fault| Fault::File { place: 0, fault };
     [
-        (Fault::Open { place: 0 }, b"4 ibsm: FILE: cannot open\n"),
-        (Fault::Open { place: 1 }, b"4 ibsm: OTHER: cannot open\n"),
-        (file(FileFault::Magic), b"3 ibsm: FILE: bad magic\n"),
+        (Fault::Open { place: 0 }, "4 ibsm: FILE: cannot open\n"),
+        (Fault::Open { place: 1 }, "4 ibsm: OTHER: cannot open\n"),
+        (file(FileFault::Magic), "3 ibsm: FILE: bad magic\n"),
         (
             file(FileFault::Truncated { offset: 280 }),
-            b"3 ibsm: FILE: truncated at 280\n",
+            "3 ibsm: FILE: truncated at 280\n",
+        ),
+        (
+            file(FileFault::BadReport {
+                index: 3,
+                fault: ReportFault::Smp(SmpFault::HopCount),
+            }),
+            "3 ibsm: FILE: bad report 3: HopCount\n",
         ),
         (
             file(FileFault::BadCell { index: 0 }),
-            b"3 ibsm: FILE: bad cell 0\n",
+            "3 ibsm: FILE: bad cell 0\n",
         ),
         (
             file(FileFault::CellOrder { index: 12 }),
-            b"3 ibsm: FILE: cell out of order 12\n",
+            "3 ibsm: FILE: cell out of order 12\n",
         ),
-        (file(FileFault::TooLong), b"3 ibsm: FILE: too long\n"),
-        (file(FileFault::Read), b"4 ibsm: FILE: read failed\n"),
-        (file(FileFault::Memory), b"5 ibsm: out of memory\n"),
-        (Fault::Memory, b"5 ibsm: out of memory\n"),
-        (Fault::Write, b"4 ibsm: write failed\n"),
+        (file(FileFault::TooLong), "3 ibsm: FILE: too long\n"),
+        (file(FileFault::Read), "4 ibsm: FILE: read failed\n"),
+        (file(FileFault::Memory), "5 ibsm: out of memory\n"),
+        (Fault::Memory, "5 ibsm: out of memory\n"),
+        (Fault::Write, "4 ibsm: write failed\n"),
     ]
 }
 
@@ -263,7 +272,13 @@ fn each_fault_has_its_line_and_status(rt: HostRuntime) -> Result<(), Fail> {
     for (fault, wanted) in fault_lines() {
         let mut sink = ToRoom::new(rt.alloc(), 64)?;
         tell(&mut sink, fault)?;
-        assert!(rt; sink.bytes() == wanted, "{fault:?}");
+        assert!(rt; sink.bytes() == wanted.as_bytes(), "{fault:?}");
+        // `{}` has the same words, without the file's name.
+        let text = format!(in rt.alloc(); "{fault}\n")?;
+        assert!(rt;
+            text.len() > 1 && wanted.ends_with(text.as_str()),
+            "{fault}"
+        );
     }
     for (status, code) in [(ExitStatus::Done, 0), (ExitStatus::Usage, 2)] {
         assert!(rt; status.code() == code, "{status:?}");
