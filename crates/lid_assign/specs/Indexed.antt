@@ -1,0 +1,29 @@
+-- The tables by which the owner of a LID and the LID of an end port are found.
+use Rattle.std.specs.Prelude.{◌≡◌, ◌<◌, ℕ, List, Contains, Option, None, slice_index_or}
+use Rattle.subnet_view.specs.declared.end_port.EndPort.{EndPort}
+use Rattle.std.specs.declared.cmp.Ordering.{Ordering}
+use Rattle.std.specs.Ordering.{nat_cmp, ordering_then}
+use Rattle.std.specs.BTreeMap.{BTreeMap, get}
+use Rattle.lid_assign.specs.Lids.{owner_of, lid_of, top_of}
+
+-- the table has at each LID the end port that has it
+abbrev pub AreOwners : List (EndPort × ℕ) → List (Option EndPort) → Type 0
+AreOwners given owners = (n : ℕ) → slice_index_or owners n None ≡ owner_of given n
+
+-- each LID is below the bound
+abbrev pub AreBelow : ℕ → List (EndPort × ℕ) → Type 0
+AreBelow bound given = (e : EndPort) (n : ℕ) → Contains given (e, n) → n < bound
+
+-- the order of nodes and ports
+abbrev pub place_cmp : ℕ × ℕ → ℕ × ℕ → Ordering
+place_cmp a b = ordering_then (nat_cmp a.0 b.0) (nat_cmp a.1 b.1)
+
+-- the table has at each node and port the LID of that end port
+abbrev pub ByPort : List (EndPort × ℕ) → BTreeMap (ℕ × ℕ) ℕ → Type 0
+ByPort given lids = (e : EndPort) → get place_cmp lids (e.node, e.port) ≡ lid_of given e
+
+-- a map's tables
+pub record IsIndexed (given : List (EndPort × ℕ)) (owners : List (Option EndPort)) (lids : BTreeMap (ℕ × ℕ) ℕ) (top : Option ℕ) : Type 0 where
+  pub owned : AreOwners given owners
+  pub placed : ByPort given lids
+  pub greatest : top ≡ top_of given
