@@ -6,6 +6,8 @@ pub mod Owners
 pub mod Tops
 pub mod Uniqueness
 pub mod Walked
+pub mod FreeLids
+pub mod Tables
 pub mod Free
 pub mod Keeping
 pub mod Giving

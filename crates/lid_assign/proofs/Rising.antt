@@ -47,7 +47,8 @@ pub length-count_up : (start n : ℕ) → length (count_up start n) ≡ n
 length-count_up start zero = refl
 length-count_up start (suc n) = ap suc (length-count_up (suc start) n)
 
-filter_same : (p q : ℕ → Bool) (ns : List ℕ) → ((n : ℕ) → Contains ns n → p n ≡ q n) → filter p ns ≡ filter q ns
+-- tests that agree on a list keep the same of it
+pub filter_same : (p q : ℕ → Bool) (ns : List ℕ) → ((n : ℕ) → Contains ns n → p n ≡ q n) → filter p ns ≡ filter q ns
 filter_same p q [] h = refl
 filter_same p q (n ∷ ns) h = cc (h n (contains_here n ns), filter_same p q ns (λ m k. h m (contains_later n m ns k)))
 

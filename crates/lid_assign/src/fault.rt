@@ -35,9 +35,12 @@ impl LidFault {
 }
 
 impl From<AllocError> for LidFault {
-    fn from(_: AllocError) -> Self
-        ensures { result ≡ LidFault.Memory }
-    {
+    ghost use Rattle.std.specs.Prelude.{◌≡◌};
+    ghost use Rattle.lid_assign.specs.declared.fault.LidFault.TheVariants.{Memory};
+
+    ghost from_gives = { λ e fault. fault ≡ Memory };
+
+    fn from(_: AllocError) -> Self {
         LidFault::Memory
     }
 }

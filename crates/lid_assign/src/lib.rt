@@ -12,3 +12,6 @@ mod room;
 pub use fault::LidFault;
 pub use lid_map::LidMap;
 pub use lids::assign;
+
+#[cfg(test)]
+mod tests;

@@ -1,7 +1,7 @@
-use Rattle.std.proofs.Common.{◌≡◌, length, reverse}
-use Rattle.lid_assign.specs.Indexed.{AreOwners}
+use Rattle.std.proofs.Common.{◌≡◌, length, reverse, vec_len}
+use Rattle.lid_assign.specs.Indexed.{AreOwners, AreBelow}
 use Rattle.lid_assign.proofs.lid_map.owners.Given as goal
 
--- the owners of the LIDs of those seen
+-- the owners of the LIDs of those seen; those to come are below the room too
 abbrev pub invariant-loop-port : goal.invariant-loop-port
-invariant-loop-port l = (length l.owners.items ≡ l.fn.room) × AreOwners (reverse l.yielded) l.owners.items
+invariant-loop-port l = (vec_len l.owners ≡ l.fn.room) × (length l.owners.items ≡ l.fn.room) × AreBelow l.fn.room l.port-iterator.iter.iter.rest.now × AreOwners (reverse l.yielded) l.owners.items
