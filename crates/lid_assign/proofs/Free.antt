@@ -1,5 +1,5 @@
 -- The numbers that are not marked, from the first one on.
-use Rattle.std.proofs.Common.{◌≡◌, ◌<◌, ◌-◌, ◌+◌, ℕ, suc, List, [], ◌∷◌, inl, inr, refl, sym, ap, ◌∙◌, Bool, true, false, cond, arith, length, not, add-one}
+use Rattle.std.proofs.Common.{◌≡◌, ◌<◌, ◌-◌, ◌+◌, ℕ, suc, List, ◌∷◌, inl, inr, sym, ap, ◌∙◌, Bool, true, false, cond, arith, length, not, add-one}
 use Rattle.std.proofs.lemmas.Bool.{cases_lt}
 use Rattle.std.specs.Prelude.{filter, slice_index_or}
 use Rattle.lid_assign.specs.Lids.{count_up}

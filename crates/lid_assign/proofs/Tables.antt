@@ -1,9 +1,9 @@
 -- The tables of a map, from the last end port to the first.
-use Rattle.std.proofs.Common.{◌≡◌, ◌<◌, ℕ, List, [], ◌∷◌, ◌++◌, refl, sym, ap, ◌∙◌, subst, Bool, true, false, cond, length, reverse, ◌&&◌, ◌==◌}
+use Rattle.std.proofs.Common.{◌≡◌, ◌<◌, ℕ, List, [], ◌∷◌, ◌++◌, refl, sym, ap, ◌∙◌, Bool, true, false, cond, length, reverse, ◌&&◌, ◌==◌}
 use Rattle.std.proofs.lemmas.Bool.{eqb-true, eq-eqb, true≢false}
 use Rattle.std.proofs.lemmas.List.{reverse-append, get_or-set_same, get_or-set_other}
 use Rattle.std.specs.Borrow.{Bor}
-use Rattle.std.specs.Prelude.{Contains, Option, None, Some, MatchOption, nat_lt, option_map, slice_index_or, slice_set}
+use Rattle.std.specs.Prelude.{Option, None, Some, MatchOption, option_map, slice_index_or, slice_set}
 use Rattle.std.specs.Option.{option_copied}
 use Rattle.std.specs.List.{find, push}
 use Rattle.std.specs.declared.cmp.Ordering.{Ordering}
@@ -13,12 +13,12 @@ use Rattle.std.specs.Cmp.{both_ways, tied_itself}
 use Rattle.std.specs.FinMap.{nat_cmp-IsAntisymmetric}
 use Rattle.std.proofs.lemmas.Cmp.{nat_cmp_total}
 use Rattle.fact_store.proofs.Keys.{equal_from_test}
-use Rattle.std.specs.BTreeMap.{BTreeMap, get, Updates}
+use Rattle.std.specs.BTreeMap.{BTreeMap, Updates}
 use Rattle.std.proofs.lemmas.List.Elements.{Contains-append_left}
 use Rattle.subnet_view.proofs.Apart.{contains_at}
 use Rattle.subnet_view.proofs.Members.{contains_in}
 use Rattle.subnet_view.specs.declared.end_port.EndPort.{EndPort}
-use Rattle.lid_assign.specs.Lids.{owner_of, lid_of, is_end_port_at}
+use Rattle.lid_assign.specs.Lids.{is_end_port_at}
 use Rattle.lid_assign.specs.Indexed.{AreOwners, AreBelow, ByPort, place_cmp}
 
 -- the last of a list, which a step back takes

@@ -1,5 +1,5 @@
 -- A list that is walked by an index.
-use Rattle.std.proofs.Common.{◌≡◌, ◌<◌, ◌+◌, ℕ, List, ◌∷◌, sym, ap, ◌∙◌, drop, length, get_or, add-one}
+use Rattle.std.proofs.Common.{◌≡◌, ◌<◌, ◌+◌, ℕ, List, ◌∷◌, sym, ◌∙◌, drop, length, get_or, add-one}
 use Rattle.std.proofs.Math.Seq.{drop-cons}
 
 -- the rest begins with the element at the index

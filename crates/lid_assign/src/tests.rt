@@ -39,26 +39,31 @@ fn cap(node: u64, room: u16) -> (Key, Value) {
 }
 
 /// Whether these are the LIDs of the sample fabric's end ports, by each way to find them.
-fn has(map: &LidMap, lids: [u16; 5]) -> bool {
-    let mut is_right = map.top() == lids.iter().copied().max().map(Lid::new);
-    for (port, lid) in ports().into_iter().zip(lids) {
-        let lid = Lid::new(lid);
-        is_right = is_right && map.owner(lid) == Some(port) && map.lid_of(port) == Some(lid);
+fn has(map: &LidMap, lids: &[u16]) -> bool {
+    for ((port, lid), (wanted, number)) in map.given().iter().zip(ports().iter().zip(lids)) {
+        let is_right = port == wanted && lid.number() == *number;
+        if !is_right || map.owner(*lid) != Some(*port) || map.lid_of(*port) != Some(*lid) {
+            return false;
+        }
     }
-    is_right
+    map.given().len() == 5 && map.top() == lids.iter().copied().max().map(Lid::new)
 }
 
 #[test]
 fn lids_of_the_sample_fabric(rt: HostRuntime) -> Result<(), Fail> {
-    for (news, lids) in [
-        ([cap(0x20, 1024), claim(0x100, 0)], [1, 2, 3, 4, 5]),
-        ([claim(0x100, 5), claim(0x200, 5)], [1, 2, 3, 5, 4]),
-        ([claim(0x100, 6), claim(0x200, 2)], [1, 3, 4, 6, 2]),
-        ([claim(0x100, 1024), claim(0x200, 1023)], [1, 2, 3, 4, 1023]),
-        ([cap(0x20, 6), claim(0x200, 6)], [1, 2, 3, 4, 5]),
+    for (first, second, lids) in [
+        (cap(0x20, 1024), claim(0x100, 0), [1, 2, 3, 4, 5].as_slice()),
+        (claim(0x100, 5), claim(0x200, 5), [1, 2, 3, 5, 4].as_slice()),
+        (claim(0x100, 6), claim(0x200, 2), [1, 3, 4, 6, 2].as_slice()),
+        (
+            claim(0x100, 1024),
+            claim(0x200, 1023),
+            [1, 2, 3, 4, 1023].as_slice(),
+        ),
+        (cap(0x20, 6), claim(0x200, 6), [1, 2, 3, 4, 5].as_slice()),
     ] {
-        let map = assign(rt.alloc(), &told(rt.alloc(), &news)?)?;
-        assert!(rt; has(&map, lids) && map.given().len() == 5, "{lids:?}");
+        let map = assign(rt.alloc(), &told(rt.alloc(), &[first, second])?)?;
+        assert!(rt; has(&map, lids), "{lids:?}");
     }
     Ok(())
 }

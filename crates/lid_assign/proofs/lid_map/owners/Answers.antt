@@ -49,7 +49,7 @@ pub loop-port-init : goal.loop-port-init
 loop-port-init c =
     let items = filled _ c.in_ok-owners.ensures.items_if_clones_equal (λ x k. k) in
     let given = ap (λ it. it.iter.iter.rest.now) c.into_iter-port-iterator.ensures.into_iter_gives ∙ ap (λ it. it.iter.rest.now) c.copied-port-items.ensures.source
-        ∙ ap (λ it. it.rest.now) c.rev.ensures.source ∙ c.iter.ensures.rest in (
+    ∙ ap (λ it. it.rest.now) c.rev.ensures.source ∙ c.iter.ensures.rest in (
       c.in_ok-owners.ensures.len ∙ c.from.ensures,
       ap length items ∙ length-replicate {A = Option EndPort} c.from.result None ∙ c.from.ensures,
       λ e n h. c.requires e n (contains_in (e, n) given h),

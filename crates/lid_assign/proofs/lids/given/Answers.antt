@@ -1,9 +1,9 @@
 -- The marks say which numbers are free, and there are enough.
-use Rattle.std.proofs.Common.{◌≡◌, List, Bool, ℕ, sym, ap, ◌∙◌, subst, arith, length}
+use Rattle.std.proofs.Common.{◌≡◌, List, ℕ, sym, ap, ◌∙◌, subst, arith, length}
 use Rattle.std.specs.Prelude.{IfOk}
 use Rattle.std.specs.FinMap.{entries}
 use Rattle.subnet_view.specs.declared.end_port.EndPort.{EndPort}
-use Rattle.lid_assign.specs.Lids.{hand_out, lids, kept}
+use Rattle.lid_assign.specs.Lids.{hand_out, kept}
 use Rattle.lid_assign.specs.Marks.{free_from, others}
 use Rattle.lid_assign.proofs.LidLaws.{enough_free}
 use Rattle.lid_assign.proofs.FreeLids.{room_at_most, free_are, written_over}
