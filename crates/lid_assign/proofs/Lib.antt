@@ -6,6 +6,7 @@ pub mod Owners
 pub mod Tops
 pub mod Uniqueness
 pub mod Walked
+pub mod Owned
 pub mod FreeLids
 pub mod Tables
 pub mod Free

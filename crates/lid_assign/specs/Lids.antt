@@ -1,5 +1,5 @@
 -- Which LID each end port has (addressing chapter, unicast LIDs: 0x0001 to 0xBFFF).
-use Rattle.std.specs.Prelude.{◌≡◌, ◌≢◌, ◌↔◌, ◌<◌, ◌≤◌, ◌-◌, ℕ, zero, suc, Bool, false, List, [], ◌∷◌, ◌++◌, min, max, map, filter, length, Contains, Option, None, Some, ◌==◌, ◌&&◌, not, nat_le, nat_lt, option_map, if◌then◌else◌}
+use Rattle.std.specs.Prelude.{◌≡◌, ◌≢◌, ◌↔◌, ◌<◌, ◌≤◌, ◌-◌, ℕ, zero, suc, Bool, false, List, [], ◌∷◌, ◌++◌, min, max, map, filter, length, Contains, Option, None, Some, ◌==◌, ◌&&◌, not, nat_le, nat_lt, option_map, is_some, if◌then◌else◌}
 use Rattle.std.specs.Option.{option_map_or}
 use Rattle.std.specs.List.{filter_map, list_any, find}
 use Rattle.std.specs.FinMap.{entries}
@@ -87,6 +87,15 @@ greatest (n ∷ ns) = max n (greatest ns)
 abbrev pub top_of : List (EndPort × ℕ) → Option ℕ
 top_of [] = None
 top_of (x ∷ given) = Some (max x.1 (greatest (map (λ y. y.1) given)))
+
+-- one more than the greatest LID, and 0 where there is none
+abbrev pub end_of : Option ℕ → ℕ
+end_of None = 0
+end_of (Some top) = suc top
+
+-- the LIDs that are given, rising
+abbrev pub rising_lids : List (EndPort × ℕ) → List ℕ
+rising_lids given = filter (λ n. is_some (owner_of given n)) (count_up 0 (end_of (top_of given)))
 
 -- the law of the LIDs, in words: ---------------------------------------------------
 

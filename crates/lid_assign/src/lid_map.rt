@@ -1,6 +1,6 @@
-ghost use Rattle.std.specs.Prelude.{◌≡◌, IfOk, max, unwrap_or};
-ghost use Rattle.lid_assign.specs.Lids.{owner_of, lid_of, top_of};
-ghost use Rattle.lid_assign.specs.Indexed.{AreOwners, AreBelow, ByPort};
+ghost use Rattle.std.specs.Prelude.{◌≡◌, ◌≤◌, ◌^◌, length, IfOk, max, unwrap_or};
+ghost use Rattle.lid_assign.specs.Lids.{owner_of, lid_of, top_of, end_of, rising_lids};
+ghost use Rattle.lid_assign.specs.Indexed.{AreOwners, AreBelow, ByPort, owned_from};
 
 use smp_bytes::{Guid, Lid, PortNum};
 use std::alloc::{AllocError, Global};
@@ -19,6 +19,8 @@ pub struct LidMap {
     by_port: BTreeMap<(Guid, PortNum), Lid>,
     /// The greatest LID.
     top: Option<Lid>,
+    /// The LIDs that are given, rising.
+    rising: Vec<Lid>,
 }
 
 impl Model for LidMap {
@@ -30,27 +32,24 @@ impl Model for LidMap {
 
     ghost view = { λ a. a.given.items };
 
-    ghost invariant = { λ a. IsIndexed a.given.items a.owners.items a.by_port a.top };
+    ghost invariant = { λ a. IsIndexed a.given.items a.owners.items a.by_port a.top a.rising.items };
 }
 
 impl LidMap {
-    /// A map of LIDs that are all below `room`.
-    pub(crate) fn new(
-        alloc: Global,
-        given: Vec<(EndPort, Lid)>,
-        room: u16,
-    ) -> Result<Self, AllocError>
-        requires { AreBelow room given.items }
+    /// The map that gives these end ports these LIDs.
+    pub(crate) fn new(alloc: Global, given: Vec<(EndPort, Lid)>) -> Result<Self, AllocError>
         ensures { IfOk result (λ map. map ≡ given.items) }
     {
-        let owners = owners(alloc, &given, room)?;
-        let by_port = by_port(alloc, &given)?;
         let top = top(&given);
+        let owners = owners(alloc, &given, end(&top))?;
+        let by_port = by_port(alloc, &given)?;
+        let rising = rising(alloc, &owners)?;
         Ok(LidMap {
             given,
             owners,
             by_port,
             top,
+            rising,
         })
     }
 
@@ -78,6 +77,13 @@ impl LidMap {
         self.by_port.get(&(port.node, port.port)).copied()
     }
 
+    /// The LIDs that are given, rising.
+    pub fn lids(&self) -> &[Lid]
+        ensures { result.now ≡ rising_lids self.now }
+    {
+        &self.rising
+    }
+
     /// The greatest LID. It is held.
     pub fn top(&self) -> Option<Lid>
         ensures { result ≡ top_of self.now }
@@ -90,16 +96,41 @@ impl LidMap {
 fn owners(
     alloc: Global,
     given: &[(EndPort, Lid)],
-    room: u16,
+    end: usize,
 ) -> Result<Vec<Option<EndPort>>, AllocError>
-    requires { AreBelow room given.now }
-    ensures { IfOk result (λ owners. AreOwners given.now owners.items) }
+    requires { AreBelow end given.now }
+    ensures owners { IfOk result (λ owners. AreOwners given.now owners.items) }
+    ensures len { IfOk result (λ owners. length owners.items ≡ end) }
 {
-    let mut owners = vec![in alloc; None; usize::from(room)]?;
+    let mut owners = vec![in alloc; None; end]?;
     for (port, lid) in given.iter().rev().copied() {
         owners[usize::from(lid.number())] = Some(port);
     }
     Ok(owners)
+}
+
+/// The LIDs that have an owner, rising.
+fn rising(alloc: Global, owners: &[Option<EndPort>]) -> Result<Vec<Lid>, AllocError>
+    requires { length owners.now ≤ 2 ^ 16 }
+    ensures { IfOk result (λ lids. lids.items ≡ owned_from owners.now 0) }
+{
+    let mut lids = Vec::new(alloc);
+    for (lid, owner) in owners.iter().enumerate() {
+        if owner.is_some() {
+            lids.push(Lid::new(lid as u16))?;
+        }
+    }
+    Ok(lids)
+}
+
+/// One more than the greatest LID, and 0 where there is none.
+fn end(top: &Option<Lid>) -> usize
+    ensures { result ≡ end_of top.now }
+{
+    match top {
+        Some(top) => usize::from(top.number()) + 1,
+        None => 0,
+    }
 }
 
 /// The LID of a port of a node. The first one's entry is written last.

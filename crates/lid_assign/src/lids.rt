@@ -30,7 +30,7 @@ pub fn assign(alloc: Global, store: &Store) -> Result<LidMap, LidFault>
         });
     }
     let given = given(alloc, store, &ports, room)?;
-    Ok(LidMap::new(alloc, given, room)?)
+    Ok(LidMap::new(alloc, given)?)
 }
 
 /// The end ports in their order, each with its LID.

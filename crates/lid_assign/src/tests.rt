@@ -46,7 +46,9 @@ fn has(map: &LidMap, lids: &[u16]) -> bool {
             return false;
         }
     }
-    map.given().len() == 5 && map.top() == lids.iter().copied().max().map(Lid::new)
+    let last = map.lids().last().copied();
+    let is_whole = map.given().len() == 5 && map.lids().len() == 5 && map.lids().is_sorted();
+    is_whole && map.top() == last && last == lids.iter().copied().max().map(Lid::new)
 }
 
 #[test]

@@ -13,20 +13,20 @@ pub index_mut-requires : goal.index_mut-requires
 index_mut-requires c =
     let x = c.in-Some.ensures.steps in
     let step = stepped c.loop-port.port-iterator.iter.iter.rest.now c.next.new.self.iter.iter.rest.now (c.in-Some.port, c.in-Some.lid) _ x.0 x.1 x.2 in
-    let below = next_below c.args.room _ _ c.in-Some.port c.in-Some.lid step c.loop-port.invariant.2 in
-    omega (arith, below, c.loop-port.invariant.0, c.from-in-loop-port.ensures, c.number.ensures)
+    let below = next_below c.args.end _ _ c.in-Some.port c.in-Some.lid step c.loop-port.invariant.2 in
+    omega (arith, below, c.loop-port.invariant.0, c.from.ensures, c.number.ensures)
 
 pub loop-port-preserved : goal.loop-port-preserved
 loop-port-preserved c =
     let x = c.in-Some.ensures.steps in
     let step = stepped c.loop-port.port-iterator.iter.iter.rest.now c.next.new.self.iter.iter.rest.now (c.in-Some.port, c.in-Some.lid) _ x.0 x.1 x.2 in
-    let below = next_below c.args.room _ _ c.in-Some.port c.in-Some.lid step c.loop-port.invariant.2 in
-    let place = c.from-in-loop-port.ensures ∙ c.number.ensures in
-    let owners = owners_more _ c.loop-port.owners.items c.in-Some.port c.in-Some.lid c.from-in-loop-port.result place (omega (arith, below, c.loop-port.invariant.1, place)) c.loop-port.invariant.3 in
-    let Are : List (EndPort × ℕ) → Type 0 = λ given. AreOwners given (slice_set c.loop-port.owners.items c.from-in-loop-port.result (Some c.in-Some.port)) in (
+    let below = next_below c.args.end _ _ c.in-Some.port c.in-Some.lid step c.loop-port.invariant.2 in
+    let place = c.from.ensures ∙ c.number.ensures in
+    let owners = owners_more _ c.loop-port.owners.items c.in-Some.port c.in-Some.lid c.from.result place (omega (arith, below, c.loop-port.invariant.1, place)) c.loop-port.invariant.3 in
+    let Are : List (EndPort × ℕ) → Type 0 = λ given. AreOwners given (slice_set c.loop-port.owners.items c.from.result (Some c.in-Some.port)) in (
       c.loop-port.invariant.0,
-      length-set c.loop-port.owners.items c.from-in-loop-port.result (Some c.in-Some.port) ∙ c.loop-port.invariant.1,
-      rest_below c.args.room _ _ c.in-Some.port c.in-Some.lid step c.loop-port.invariant.2,
+      length-set c.loop-port.owners.items c.from.result (Some c.in-Some.port) ∙ c.loop-port.invariant.1,
+      rest_below c.args.end _ _ c.in-Some.port c.in-Some.lid step c.loop-port.invariant.2,
       subst Are (sym (seen c.loop-port.yielded (c.in-Some.port, c.in-Some.lid))) owners,
     )
 
@@ -50,8 +50,8 @@ loop-port-init c =
     let items = filled _ c.in_ok-owners.ensures.items_if_clones_equal (λ x k. k) in
     let given = ap (λ it. it.iter.iter.rest.now) c.into_iter-port-iterator.ensures.into_iter_gives ∙ ap (λ it. it.iter.rest.now) c.copied-port-items.ensures.source
     ∙ ap (λ it. it.rest.now) c.rev.ensures.source ∙ c.iter.ensures.rest in (
-      c.in_ok-owners.ensures.len ∙ c.from.ensures,
-      ap length items ∙ length-replicate {A = Option EndPort} c.from.result None ∙ c.from.ensures,
+      c.in_ok-owners.ensures.len,
+      ap length items ∙ length-replicate {A = Option EndPort} c.args.end None,
       λ e n h. c.requires e n (contains_in (e, n) given h),
-      nowhere c.from.result c.in_ok-owners.owners.items items,
+      nowhere c.args.end c.in_ok-owners.owners.items items,
     )
