@@ -7,6 +7,7 @@ pub mod Tops
 pub mod Uniqueness
 pub mod Walked
 pub mod Owned
+pub mod RisingLids
 pub mod FreeLids
 pub mod Tables
 pub mod Free

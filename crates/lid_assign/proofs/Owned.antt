@@ -1,12 +1,11 @@
 -- The LIDs that have an owner, rising.
-use Rattle.std.proofs.Common.{◌≡◌, ◌<◌, ◌-◌, ◌+◌, ℕ, suc, List, ◌∷◌, sym, ap, ◌∙◌, true, false, cond, arith, length}
+use Rattle.std.proofs.Common.{◌≡◌, ◌<◌, ◌+◌, ℕ, suc, List, ◌∷◌, sym, ap, ◌∙◌, true, false, cond, arith, length}
 use Rattle.std.proofs.lemmas.List.{get_or_default}
 use Rattle.std.specs.Prelude.{Option, None, is_some, filter, slice_index_or}
 use Rattle.subnet_view.specs.declared.end_port.EndPort.{EndPort}
-use Rattle.lid_assign.specs.Lids.{count_up, owner_of, top_of, end_of, rising_lids}
-use Rattle.lid_assign.specs.Indexed.{AreOwners, AreBelow, owned_from}
+use Rattle.lid_assign.specs.Lids.{top_of, end_of}
+use Rattle.lid_assign.specs.Indexed.{AreBelow, owned_from}
 use Rattle.lid_assign.proofs.Free.{counted}
-use Rattle.lid_assign.proofs.Rising.{filter_same}
 use Rattle.lid_assign.proofs.Tops.{at_most_top}
 
 -- what the table has at a place
@@ -25,13 +24,6 @@ module _ (owners : List (Option EndPort)) (n : ℕ) (h : n < length owners) wher
   owned_past e =
       let rest = owned_from owners (n + 1) in
       ap (λ ns. filter (λ m. is_some (slice_index_or owners m None)) ns) (counted n (length owners) h) ∙ ap (λ t. cond t (n ∷ rest) rest) e
-
--- a table that ends at the greatest LID has all
-pub owned_all : (given : List (EndPort × ℕ)) (owners : List (Option EndPort)) → AreOwners given owners → length owners ≡ end_of (top_of given) → owned_from owners 0 ≡ rising_lids given
-owned_all given owners are len =
-    let same : length owners - 0 ≡ end_of (top_of given) = omega (arith, len) in
-    ap (λ k. filter (λ m. is_some (slice_index_or owners m None)) (count_up 0 k)) same
-    ∙ filter_same (λ m. is_some (slice_index_or owners m None)) (λ m. is_some (owner_of given m)) (count_up 0 (end_of (top_of given))) (λ m h. ap is_some (are m))
 
 -- no LID is above the greatest
 pub below_end : (given : List (EndPort × ℕ)) (end : ℕ) → end ≡ end_of (top_of given) → AreBelow end given

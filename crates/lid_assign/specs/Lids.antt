@@ -1,7 +1,7 @@
 -- Which LID each end port has (addressing chapter, unicast LIDs: 0x0001 to 0xBFFF).
 use Rattle.std.specs.Prelude.{◌≡◌, ◌≢◌, ◌↔◌, ◌<◌, ◌≤◌, ◌-◌, ℕ, zero, suc, Bool, false, List, [], ◌∷◌, ◌++◌, min, max, map, filter, length, Contains, Option, None, Some, ◌==◌, ◌&&◌, not, nat_le, nat_lt, option_map, is_some, if◌then◌else◌}
 use Rattle.std.specs.Option.{option_map_or}
-use Rattle.std.specs.List.{filter_map, list_any, find}
+use Rattle.std.specs.List.{filter_map, list_any, find, AllPairs}
 use Rattle.std.specs.FinMap.{entries}
 use Rattle.subnet_view.specs.declared.end_port.EndPort.{EndPort}
 use Rattle.fact_store.specs.View.{Facts}
@@ -131,3 +131,7 @@ LidsAreUnique = (facts : Facts) (given : List (EndPort × ℕ)) → AreLids (ent
 -- who owns a LID has it, and who has it owns it
 abbrev pub OwnersAreInverse : Type 0
 OwnersAreInverse = (facts : Facts) → ¬ (IsNoRoom (entries facts)) → (e : EndPort) (lid : ℕ) → (owner_of (lids (entries facts)) lid ≡ Some e) ↔ (lid_of (lids (entries facts)) e ≡ Some lid)
+
+-- the rising LIDs are those that are given, each once
+abbrev pub RisingLidsLaw : Type 0
+RisingLidsLaw = (given : List (EndPort × ℕ)) → ((n : ℕ) → Contains (rising_lids given) n ↔ ((e : EndPort) × Contains given (e, n))) × AllPairs (λ m n. m < n) (rising_lids given)
