@@ -1,0 +1,15 @@
+pub mod Rising
+pub mod KeptClaims
+pub mod HandOut
+pub mod LidLaws
+pub mod Owners
+pub mod Tops
+pub mod Uniqueness
+pub mod Walked
+pub mod Owned
+pub mod RisingLids
+pub mod FreeLids
+pub mod Tables
+pub mod Free
+pub mod Keeping
+pub mod Giving

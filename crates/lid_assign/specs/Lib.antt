@@ -1,0 +1,4 @@
+pub mod Lids
+pub mod LidFault
+pub mod Marks
+pub mod Indexed

@@ -1,0 +1,51 @@
+ghost use Rattle.std.specs.Prelude.{◌≡◌, IfOk};
+ghost use Rattle.std.specs.FinMap.{entries};
+ghost use Rattle.subnet_view.specs.EndPorts.{end_ports};
+ghost use Rattle.lid_assign.specs.Lids.{room, lids, IsNoRoom};
+ghost use Rattle.lid_assign.specs.LidFault.{JudgesRoom};
+
+use crate::fault::LidFault;
+use crate::give::hand_out;
+use crate::keep::keep_claims;
+use crate::lid_map::LidMap;
+use crate::room::room;
+use fact_store::Store;
+use smp_bytes::Lid;
+use std::alloc::{AllocError, Global};
+use subnet_view::{EndPort, end_ports};
+
+/// A LID for each end port of the view. An end port keeps its claim where that is a LID below the room of
+/// every usable switch's table and no earlier end port claims it; the others take the numbers that are
+/// left, rising. Walks the cells once, and takes a search for each end port.
+pub fn assign(alloc: Global, store: &Store) -> Result<LidMap, LidFault>
+    ensures judged { JudgesRoom result (entries store.now) }
+    ensures lids { IfOk result (λ map. map ≡ lids (entries store.now)) }
+{
+    let room = room(alloc, store)?;
+    let ports = end_ports(alloc, store)?;
+    if !ports.is_empty() && usize::from(room) <= ports.len() {
+        return Err(LidFault::NoRoom {
+            endports: ports.len(),
+            room,
+        });
+    }
+    let given = given(alloc, store, &ports, room)?;
+    Ok(LidMap::new(alloc, given)?)
+}
+
+/// The end ports in their order, each with its LID.
+fn given(
+    alloc: Global,
+    store: &Store,
+    ports: &[EndPort],
+    most: u16,
+) -> Result<Vec<(EndPort, Lid)>, AllocError>
+    requires ports { ports.now ≡ end_ports (entries store.now) }
+    requires room { most ≡ room (entries store.now) }
+    requires enough { ¬ (IsNoRoom (entries store.now)) }
+    ensures { IfOk result (λ given. given.items ≡ lids (entries store.now)) }
+{
+    let mut marks = vec![in alloc; false; usize::from(most)]?;
+    let keepers = keep_claims(alloc, store, ports, &mut marks)?;
+    hand_out(alloc, &keepers, &marks)
+}
