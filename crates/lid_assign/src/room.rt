@@ -4,16 +4,16 @@ ghost use Rattle.std.specs.List.{filter_map};
 ghost use Rattle.subnet_view.specs.Reading.{cap_of};
 ghost use Rattle.lid_assign.specs.Lids.{room, least_room};
 
-use fact_store::Store;
+use fact_store::{Refused, Store};
 use smp_bytes::Guid;
-use std::alloc::{AllocError, Global};
+use std::alloc::Global;
 use subnet_view::{cap, switches};
 
 /// The first number that is no unicast LID.
 const END: u16 = 0xC000;
 
 /// The least table room of a usable switch, and at most the first number that is no unicast LID.
-pub(crate) fn room(alloc: Global, store: &Store) -> Result<u16, AllocError>
+pub(crate) fn room(alloc: Global, store: &Store) -> Result<u16, Refused>
     ensures { IfOk result (λ most. most ≡ room (entries store.now)) }
 {
     Ok(least_room(store, &switches(alloc, store)?))
