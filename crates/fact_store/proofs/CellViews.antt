@@ -14,10 +14,6 @@ use Rattle.fact_store.proofs.Merges.{joined_there, merge_is_commutative, merge_i
 use Rattle.fact_store.proofs.SightingRanges.{get-view_of_one, get-view_of_more}
 use Rattle.fact_store.proofs.Views.{view_of_both}
 
--- the second of three merged first
-swapped : (a b c : Facts) → merge a (merge b c) ≡ merge b (merge a c)
-swapped a b c = sym (merge_is_associative a b c) ∙ ap (λ (x : Facts). merge x c) (merge_is_commutative a b) ∙ merge_is_associative b a c
-
 -- one among others is as one after them
 view_among : (s t : List (Key × Cell Value)) (x : Key × Cell Value) → view (s ++ x ∷ t) ≡ merge (view (s ++ t)) (view (x ∷ []))
 view_among s t x =

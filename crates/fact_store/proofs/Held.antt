@@ -14,7 +14,7 @@ use Rattle.fact_store.specs.Merge.{IsMerge, merge}
 use Rattle.fact_store.specs.Sighting.{IsSighting, AreInRange}
 use Rattle.fact_store.specs.View.{Facts, view, IsNewestGeneration}
 use Rattle.fact_store.proofs.CellOrder.{held, entries-rising, contains_at}
-use Rattle.fact_store.proofs.Members.{contains_none}
+use Rattle.smp_bytes.proofs.Members.{contains_none}
 use Rattle.fact_store.proofs.Merges.{merge_law, merge_empty, merge_is_associative, merge_is_commutative}
 use Rattle.fact_store.proofs.Orders.{contained_get}
 use Rattle.fact_store.proofs.SightingRanges.{in_range, IsNewestAmong, newer_sighting, older_sighting}

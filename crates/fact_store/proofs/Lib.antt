@@ -1,6 +1,5 @@
 pub mod Entries
 pub mod Keys
-pub mod Members
 pub mod Merges
 pub mod Orders
 pub mod SightingRanges

@@ -14,7 +14,7 @@ use Rattle.fact_store.specs.Sighting.{IsSighting}
 use Rattle.fact_store.specs.View.{Facts, view}
 use Rattle.fact_store.proofs.CellOrder.{held, shown, rising-set}
 use Rattle.fact_store.proofs.CellViews.{view-insert, view-set, view_of_two}
-use Rattle.fact_store.proofs.Members.{contains_cases, contains_none}
+use Rattle.smp_bytes.proofs.Members.{contains_cases, contains_none}
 use Rattle.fact_store.proofs.SightingRanges.{get-view_of_one, in_range}
 use Rattle.fact_store.proofs.Views.{is_of_itself, view_of_both}
 

@@ -1,23 +1,19 @@
 -- What a list of sightings tells of its view: its cells, its keys, its ranges and its newest generation.
-use Rattle.std.proofs.Common.{◌≡◌, ◌≤◌, ◌+◌, ℕ, suc, List, [], ◌∷◌, ◌++◌, inl, inr, refl, sym, ap, ◌∙◌, subst, arith, Bool, true, false, cond, ◌&&◌, ◌||◌, map, length}
-use Rattle.std.proofs.lemmas.List.{length-map}
+use Rattle.std.proofs.Common.{◌≡◌, ◌≤◌, ◌+◌, ℕ, List, [], ◌∷◌, ◌++◌, inl, inr, refl, sym, ap, ◌∙◌, subst, arith, true, false, cond, ◌&&◌, ◌||◌, map}
 use Rattle.std.proofs.lemmas.List.Elements.{Contains-append_left, Contains-append_right, Contains-append_cases}
 use Rattle.std.proofs.lemmas.Bool.{and_parts, eq-eqb}
-use Rattle.std.specs.Prelude.{Option, None, Some, MatchOption, Contains, find, max}
-use Rattle.std.specs.FinMap.{get, entries, entries_sorted, keys, len, len-entries, len-empty, len-insert, from_entries, contains_key}
+use Rattle.std.specs.Prelude.{Option, None, Some, MatchOption, Contains, max}
+use Rattle.std.specs.FinMap.{get, keys}
 use Rattle.fact_join.specs.declared.cell.Cell.{Cell}
 use Rattle.fact_join.specs.declared.cell.Cell.TheVariants.{Known, Disputed}
 use Rattle.fact_join.specs.Cell.{generation_of}
 use Rattle.fact_join.specs.Joins.{below-le}
 use Rattle.fact_store.specs.declared.key.Key.{Key}
 use Rattle.fact_store.specs.declared.value.Value.{Value}
-use Rattle.fact_store.specs.Key.{key_cmp}
 use Rattle.fact_store.specs.Sighting.{IsSighting, AreInRange, is_cell_of, is_generation, is_key}
 use Rattle.fact_store.specs.View.{Facts, is_of, cell_at, view, WasSighted, IsNewest, IsCellIn, IsNewestGeneration}
-use Rattle.fact_store.proofs.Keys.{key_total}
-use Rattle.fact_store.proofs.Members.{contains_here, contains_cases, contains_none}
+use Rattle.smp_bytes.proofs.Members.{contains_here, contains_cases, contains_none}
 use Rattle.fact_store.proofs.Merges.{joined_there, get-merge}
-use Rattle.fact_store.proofs.Orders.{get_contained, contained_get, IsLeastKey, find-least}
 use Rattle.fact_store.proofs.ViewLaws.{view_law, newest_in}
 use Rattle.fact_store.proofs.Views.{summary, get-view, view_above, view_of_both}
 
@@ -55,44 +51,7 @@ cell_in s q d e = subst (λ (o : Option (Cell Value)). MatchOption o ((c : Cell 
 pub newest_at : (s : List (Key × Cell Value)) (q : Key) (d : Cell Value) → get (view s) q ≡ Some d → IsNewest q s (generation_of d)
 newest_at s q d e = newest_in q s d (cell_in s q d e)
 
--- each entry of a view was sighted
-entry_sighted : (s : List (Key × Cell Value)) (e : Key × Cell Value) → Contains (entries (view s)) e → (c : Cell Value) × Contains s (e.0, c)
-entry_sighted s e h = let n = (newest_at s e.0 e.1 (contained_get (view s) e.0 e.1 h)).sighted in (n.0, n.1)
-
--- each sighted key is that of an entry
-sighted_entry : (s : List (Key × Cell Value)) (q : Key) (c : Cell Value) → Contains s (q, c) → (d : Cell Value) × Contains (entries (view s)) (q, d)
-sighted_entry s q c h = let d = view_above s q c h in (d.0, get_contained (view s) q d.0 d.1)
-
 -- keys ----------------------------------------------------------------------------------------
-
--- the least key of the sightings is that of the entries
-least_of_view : (p : Key → Bool) (s : List (Key × Cell Value)) (o : Option Key) → IsLeastKey p s o → IsLeastKey p (entries (view s)) o
-least_of_view p s None l = λ e h. let c = entry_sighted s e h in l (e.0, c.0) c.1
-least_of_view p s (Some k) l = (sighted_entry s k l.0.0 l.0.1, l.1, λ e h i. let c = entry_sighted s e h in l.2 (e.0, c.0) c.1 i)
-
--- the least key of the sightings that passes is the first of the view's keys that does
-pub find-keys_of_view : (p : Key → Bool) (s : List (Key × Cell Value)) (o : Option Key) → IsLeastKey p s o → o ≡ find p (keys (view s))
-find-keys_of_view p s o l = sym (find-least p (entries (view s)) (entries_sorted (view s)) o (least_of_view p s o l))
-
--- one at most is added
-at_most_one_more : (b : Bool) (m n : ℕ) → m ≤ n → cond b m (m + 1) ≤ suc n
-at_most_one_more true m n h = omega arith
-at_most_one_more false m n h = omega arith
-
--- a map made of a list is no longer than it
-len-from_entries : (es : List (Key × Cell Value)) → len (from_entries {R = key_cmp} es) ≤ length es
-len-from_entries [] = subst (λ (n : ℕ). n ≤ 0) (sym (len-empty key_cmp (Cell Value))) (omega arith)
-len-from_entries (e ∷ es) =
-    subst (λ (n : ℕ). n ≤ length (e ∷ es)) (sym (len-insert key_total (from_entries es) e.0 e.1))
-    (at_most_one_more (contains_key (from_entries {R = key_cmp} es) e.0) (len (from_entries {R = key_cmp} es)) (length es) (len-from_entries es))
-
--- a view has no more cells than there were sightings
-pub len-view : (s : List (Key × Cell Value)) → len (view s) ≤ length s
-len-view s = subst (λ (n : ℕ). len (view s) ≤ n) (length-map s (λ x. (x.0, cell_at x.0 s))) (len-from_entries (map (λ x. (x.0, cell_at x.0 s)) s))
-
--- facts have as many keys as cells
-pub length-keys : (x : Facts) → length (keys x) ≡ len x
-length-keys x = length-map (entries x) (λ e. e.0) ∙ sym (len-entries x)
 
 -- ranges ----------------------------------------------------------------------------------------
 
@@ -144,7 +103,3 @@ older_sighting s x g l n = (
   (n.0.0, Contains-append_left s (x ∷ []) n.0.0 n.0.1, n.0.2),
   λ y h. elim (Contains-append_cases s (x ∷ []) y h) [ inl k ↦ n.1 y k | inr k ↦ omega (arith, ap (λ (z : Key × Cell Value). generation_of z.1) (contained_one x y k)) ],
 )
-
--- one sighting more that is in range
-pub range_step : (s : List (Key × Cell Value)) (x : Key × Cell Value) → ((y : Key × Cell Value) → Contains s y → IsSighting y) → IsSighting x → (y : Key × Cell Value) → Contains (s ++ x ∷ []) y → IsSighting y
-range_step s x f h y k = elim (Contains-append_cases s (x ∷ []) y k) [ inl i ↦ f y i | inr i ↦ subst IsSighting (contained_one x y i) h ]

@@ -11,7 +11,7 @@ use Rattle.fact_store.specs.declared.key.Key.{Key}
 use Rattle.fact_store.specs.declared.value.Value.{Value}
 use Rattle.fact_store.specs.View.{cells_of, newest_of, agreement, cell_at, view, WasSighted, IsNewest, AllSay, IsCellIn, ViewLaw, ViewIsUnique, ViewOfItsCells}
 use Rattle.fact_store.proofs.Keys.{key_total, key_exact}
-use Rattle.fact_store.proofs.Members.{contains_here, contains_none}
+use Rattle.smp_bytes.proofs.Members.{contains_here, contains_none}
 use Rattle.fact_store.proofs.Merges.{view_antisymm}
 use Rattle.fact_store.proofs.Orders.{get_contained, contained_get}
 use Rattle.fact_store.proofs.Views.{AreAt, is_at, filtered_at, generation-agreement, known_is, newest_above, newest_there, newest_kept, summary, summary_above, summary_least, sighted_in_cells, sighted_from_cells, never_sighted, sighted, at_key, view_above, view_least}

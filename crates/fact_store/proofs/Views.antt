@@ -18,7 +18,7 @@ use Rattle.fact_store.specs.Value.{is_same_cell}
 use Rattle.fact_store.specs.View.{Facts, is_of, cells_of, newest_of, agreement, cell_at, view, MembersDecideView}
 use Rattle.fact_store.specs.Merge.{IsBelowView, merge, ViewOfBoth}
 use Rattle.fact_store.proofs.Keys.{key_total, key_exact, equal_from_test}
-use Rattle.fact_store.proofs.Members.{contains_here, contains_later, contains_cases, contains_none, contains_filter, contains-from_filter, list_all_true, list_all_at}
+use Rattle.smp_bytes.proofs.Members.{contains_here, contains_later, contains_cases, contains_none, contains_filter, contains-from_filter, list_all_true, list_all_at}
 use Rattle.fact_store.proofs.Merges.{the_same, view_antisymm, merge_law}
 use Rattle.fact_store.specs.Values.{same_cell_exact, same_cell_itself}
 

@@ -3,7 +3,7 @@ use Rattle.std.proofs.Common.{◌≡◌, ℕ, ◌-◌, ◌≤◌, ◌+◌, List,
 use Rattle.std.proofs.Common.{append_assoc, take-append-drop}
 use Rattle.std.proofs.lemmas.List.{take_rest, take-append-le, length-take-le}
 use Rattle.std.proofs.Math.Seq.{take-append-add}
-use Rattle.std.specs.Io.KnownBytes.{Appends, Consumes, Keeps, ReadConsumes}
+use Rattle.std.specs.Io.KnownBytes.{Appends, Consumes, ReadConsumes}
 
 pub Appends-trans : (a b c : Option (List ℕ)) (bs cs : List ℕ) → Appends a b bs → Appends b c cs → Appends a c (bs ++ cs)
 Appends-trans None b c bs cs p q = tt
@@ -28,12 +28,6 @@ Consumes-trans None b c bs cs p q = tt
 Consumes-trans (Some x) None c bs cs p q = absurd p
 Consumes-trans (Some x) (Some y) None bs cs p q = absurd q
 Consumes-trans (Some x) (Some y) (Some z) bs cs p q = p ∙ ap (λ l. bs ++ l) q ∙ sym (append_assoc bs cs z)
-
-pub Consumes-kept : (a b c : Option (List ℕ)) (bs : List ℕ) → Consumes a b bs → Keeps b c → Consumes a c bs
-Consumes-kept None b c bs p q = tt
-Consumes-kept (Some x) None c bs p q = absurd p
-Consumes-kept (Some x) (Some y) None bs p q = absurd q
-Consumes-kept (Some x) (Some y) (Some z) bs p q = p ∙ ap (λ l. bs ++ l) (sym q)
 
 -- the front of a buffer, and the bytes that were read behind it
 pub take_part : (buffer room back : List ℕ) (filled n : ℕ) → filled ≤ length buffer → n ≤ length room

@@ -11,7 +11,7 @@ use Rattle.fact_store.specs.declared.value.Value.{Value}
 use Rattle.fact_store.specs.declared.report_fault.ReportFault.{ReportFault}
 use Rattle.fact_store.specs.Key.{is_above}
 use Rattle.record_file.specs.declared.file_fault.FileFault.{FileFault}
-use Rattle.record_file.specs.declared.file_fault.FileFault.TheVariants.{BadCell, CellOrder}
+use Rattle.record_file.specs.declared.file_fault.FileFault.TheVariants.{CellOrder}
 use Rattle.record_file.specs.declared.format.Format.{Format}
 use Rattle.record_file.specs.declared.format.Format.TheVariants.{Reports, Cells}
 use Rattle.record_file.specs.CellRecord.{cell_of}
@@ -93,13 +93,3 @@ judged-bad Reports last r f i h = bad_report (report_judged r) f i h
 judged-bad Cells last r f i h = bad_cell last (cell_of r) f i h
 
 -- how a record is judged ----------------------------------------------------------------
-
-pub good_cell : (last : Option Key) (r : List ℕ) (e : Key × Cell Value) → cell_of r ≡ Some e → is_above last e.0 ≡ true → judged Cells last r ≡ Ok (e ∷ [])
-good_cell last r e is above = ap (of_cell last) is ∙ ap (λ b. cond b (Ok (e ∷ [])) (Err CellOrder)) above
-
-pub cell_out_of_order : (last : Option Key) (r : List ℕ) (e : Key × Cell Value) → cell_of r ≡ Some e → is_above last e.0 ≡ false
-    → judged Cells last r ≡ Err CellOrder
-cell_out_of_order last r e is above = ap (of_cell last) is ∙ ap (λ b. cond b (Ok (e ∷ [])) (Err CellOrder)) above
-
-pub no_cell : (last : Option Key) (r : List ℕ) → cell_of r ≡ None → judged Cells last r ≡ Err BadCell
-no_cell last r none = ap (of_cell last) none

@@ -15,7 +15,7 @@ use Rattle.fact_store.specs.Sighting.{AreInRange, IsSighting}
 use Rattle.fact_store.specs.View.{Facts, view}
 use Rattle.fact_store.proofs.Keys.{key_total}
 use Rattle.fact_store.proofs.Merges.{merge_empty}
-use Rattle.fact_store.proofs.Members.{contains_cases, contains_here, contains_later, contains_none}
+use Rattle.smp_bytes.proofs.Members.{contains_cases, contains_here, contains_later, contains_none}
 use Rattle.fact_store.proofs.Orders.{contained_get, get_contained, less_from_test}
 use Rattle.fact_store.proofs.ViewLaws.{view_of_its_cells}
 use Rattle.record_file.specs.declared.file_fault.FileFault.{FileFault}

@@ -1,14 +1,9 @@
 -- Writing one piece after another.
-use Rattle.std.proofs.Common.{◌≡◌, ℕ, List, [], ◌∷◌, ◌++◌, Option, Some, None, refl, sym, ap, subst, ◌∙◌, OnOk}
-use Rattle.std.proofs.Common.{Result, Ok, Err, append_assoc}
+use Rattle.std.proofs.Common.{◌≡◌, ℕ, List, [], ◌∷◌, ◌++◌, Option, Some, None, sym, ap, subst, ◌∙◌}
+use Rattle.std.proofs.Common.{append_assoc}
 use Rattle.std.specs.Io.KnownBytes.{Appends}
 use Rattle.std.specs.List.{flat_map}
-use Rattle.std.proofs.lemmas.List.{append-nil, flat_map_more}
-
--- nothing was written
-pub appends_nothing : (a : Option (List ℕ)) → Appends a a []
-appends_nothing None = tt
-appends_nothing (Some xs) = sym (append-nil xs)
+use Rattle.std.proofs.lemmas.List.{flat_map_more}
 
 -- one text, and then another
 pub appends_then : (a b c : Option (List ℕ)) (x y : List ℕ) → Appends a b x → Appends b c y → Appends a c (x ++ y)
@@ -17,24 +12,10 @@ appends_then (Some xs) None c x y p q = absurd p
 appends_then (Some xs) (Some ys) None x y p q = absurd q
 appends_then (Some xs) (Some ys) (Some zs) x y p q = q ∙ ap (λ t. t ++ y) p ∙ append_assoc xs x y
 
--- a text, and then nothing more
-pub appends_flushed : (a b c : Option (List ℕ)) (x : List ℕ) → Appends a b x → Appends b c [] → Appends a c x
-appends_flushed a b c x p q = let P : List ℕ → Type 0 = λ t. Appends a c t in subst P (append-nil x) (appends_then a b c x [] p q)
-
--- a text, another, and then the flush that comes last, which may fail
-pub appends_then_last : {E : Type 0} (first text : List ℕ) (a b c d : Option (List ℕ)) (r : Result (Unit {0}) E) → Appends a b first → Appends b c text
-    → OnOk r (Appends c d []) → OnOk r (Appends a d (first ++ text))
-appends_then_last first text a b c d (Ok x) p q k = appends_flushed a c d (first ++ text) (appends_then a b c first text p q) k
-appends_then_last first text a b c d (Err e) p q k = tt
-
 -- the texts of the elements given so far were written; with those that are left they are all
 pub record HasWritten {X : Type 0} (text : X → List ℕ) (a b : Option (List ℕ)) (given left all : List X) : Type 0 where
   pub written : Appends a b (flat_map text given)
   pub parts : given ++ left ≡ all
-
--- of none at the beginning
-pub written_none : {X : Type 0} (text : X → List ℕ) (a : Option (List ℕ)) (all : List X) → HasWritten text a a [] all all
-written_none text a all = record { written = appends_nothing a; parts = refl }
 
 -- of the next one too
 pub written_more : {X : Type 0} (text : X → List ℕ) (a b c : Option (List ℕ)) (given left left' all : List X) (x : X) → HasWritten text a b given left all → left ≡ x ∷ left' → Appends b c (text x) → HasWritten text a c (given ++ x ∷ []) left' all
@@ -42,9 +23,3 @@ written_more text a b c given left left' all x h next q = record {
   written = let P : List ℕ → Type 0 = λ t. Appends a c t in subst P (flat_map_more text [] given x) (appends_then a b c _ (text x) h.written q);
   parts = append_assoc given (x ∷ []) left' ∙ ap (λ t. given ++ t) (sym next) ∙ h.parts;
 }
-
--- and of all in the end
-pub written_all : {X : Type 0} (text : X → List ℕ) (a b : Option (List ℕ)) (given left all : List X) → HasWritten text a b given left all → left ≡ [] → Appends a b (flat_map text all)
-written_all text a b given left all h none =
-    let P : List _ → Type 0 = λ t. Appends a b (flat_map text t) in
-    subst P (sym (append-nil given) ∙ ap (λ t. given ++ t) (sym none) ∙ h.parts) h.written

@@ -6,7 +6,7 @@ use Rattle.std.specs.List.{flat_map}
 use Rattle.fact_join.specs.declared.cell.Cell.{Cell}
 use Rattle.fact_store.specs.declared.key.Key.{Key}
 use Rattle.fact_store.specs.declared.value.Value.{Value}
-use Rattle.fact_store.proofs.Members.{contains_here, contains_later, contains_cases, contains_none}
+use Rattle.smp_bytes.proofs.Members.{contains_here, contains_later, contains_cases, contains_none}
 use Rattle.fact_store.proofs.Views.{members_decide_view}
 use Rattle.record_file.specs.RecordFile.{kept}
 use Rattle.sm_cli.specs.Run.{answer_to}

@@ -5,6 +5,7 @@ pub mod FieldLaws
 pub mod HexText
 pub mod Kept
 pub mod Made
+pub mod Members
 pub mod PlaceLaws
 pub mod RequestLaws
 pub mod Shifts

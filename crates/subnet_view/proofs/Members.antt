@@ -2,7 +2,7 @@
 use Rattle.std.proofs.Common.{◌≡◌, List, [], ◌∷◌, inl, inr, refl, ap, subst, arith, Bool, true, false, ◌||◌}
 use Rattle.std.specs.Prelude.{Contains}
 use Rattle.std.specs.List.{list_any}
-pub use Rattle.fact_store.proofs.Members.{contains_here, contains_later, contains_cases, contains_none, contains_filter, contains-from_filter}
+pub use Rattle.smp_bytes.proofs.Members.{contains_here, contains_later, contains_cases, contains_none, contains_filter, contains-from_filter}
 
 module _ {X : Type 0} where
   -- a list contains what is its first element
