@@ -1,6 +1,6 @@
-ghost use Rattle.std.specs.Prelude.{◌≡◌, ◌<◌, ◌↔◌, None, IfOk, IsTrue, if◌then◌else◌};
+ghost use Rattle.std.specs.Prelude.{◌≡◌, ◌+◌, ◌<◌, ◌≤◌, ◌↔◌, true, None, IfOk, IsTrue, if◌then◌else◌};
 ghost use Rattle.smp_bytes.specs.Field.{number_in, bytes_in};
-ghost use Rattle.smp_bytes.specs.Packet.{base_version, class_version, method, transaction_id, attribute_id, attribute_modifier, m_key, attribute_data, hop_pointer, hop_count, dr_slid, dr_dlid, initial_path, return_path, is_directed, is_response, is_returning, status, fault_of, directed_fault_of};
+ghost use Rattle.smp_bytes.specs.Packet.{base_version, class_version, method, transaction_id, attribute_id, attribute_modifier, m_key, attribute_data, hop_pointer, hop_count, dr_slid, dr_dlid, initial_path, return_path, max_hops, is_directed, is_response, is_returning, status, fault_of, directed_fault_of};
 ghost use Rattle.smp_bytes.specs.Judges.{Judges};
 ghost use Rattle.smp_bytes.specs.declared.header.SmpClass.TheVariants.{LidRouted, DirectedRoute};
 
@@ -125,14 +125,16 @@ impl Smp {
 
     /// HopPointer of a directed packet, at most HopCount + 1.
     pub fn hop_pointer(&self) -> u8
-        ensures { result ≡ number_in hop_pointer self.now }
+        ensures value { result ≡ number_in hop_pointer self.now }
+        ensures most { is_directed self.now ≡ true → result ≤ number_in hop_count self.now + 1 }
     {
         u8_at(&self.bytes, field::HOP_POINTER)
     }
 
     /// HopCount of a directed packet, at most 63.
     pub fn hop_count(&self) -> u8
-        ensures { result ≡ number_in hop_count self.now }
+        ensures value { result ≡ number_in hop_count self.now }
+        ensures most { is_directed self.now ≡ true → result ≤ max_hops }
     {
         u8_at(&self.bytes, field::HOP_COUNT)
     }

@@ -1,0 +1,78 @@
+-- One step of a packet on a directed route. Its hop pointer says how far it has come: on its way out each node notes the
+-- port by which the packet came, and on its way back it leaves by the ports that were noted.
+-- InfiniBand Architecture Specification, Volume 1: directed route SMPs, outgoing and returning.
+use Rattle.std.specs.Prelude.{ℕ, ◌+◌, ◌-◌, Bool, ◌&&◌, ◌||◌, List, nat_lt, nat_le, ◌==◌, if◌then◌else◌}
+use Rattle.smp_bytes.specs.Field.{number_in, with_number}
+use Rattle.smp_bytes.specs.Packet.{hop_pointer, hop_count, initial_path, return_path, is_returning}
+use Rattle.dr_forward.specs.declared.here.Here.{Here}
+use Rattle.dr_forward.specs.declared.verdict.Verdict.{Verdict}
+use Rattle.dr_forward.specs.declared.verdict.Verdict.TheVariants.{Out, ToAgent, ToManager, Discard}
+use Rattle.dr_forward.specs.declared.verdict.DiscardReason.{DiscardReason}
+use Rattle.dr_forward.specs.declared.verdict.DiscardReason.TheVariants.{Course, Transit, OutPort}
+
+-- the packet after a step, and where it goes from there
+pub record Stepped : Type 0 where
+  pub packet : List ℕ
+  pub verdict : Verdict
+
+-- the packet goes no further, and is as it was
+abbrev pub discarded : List ℕ → DiscardReason → Stepped
+discarded packet reason = record { packet = packet; verdict = Discard reason }
+
+-- the packet with its hop pointer moved
+abbrev pub pointed : ℕ → List ℕ → List ℕ
+pointed pointer packet = with_number hop_pointer pointer packet
+
+-- the packet with the port by which it came noted for the way back, at its place on the path
+abbrev pub noted : ℕ → Here → List ℕ → List ℕ
+noted at here packet = with_number (return_path at) here.arrival packet
+
+-- a port from 1 to the node's count
+abbrev pub is_port : Here → ℕ → Bool
+is_port here port = nat_le 1 port && nat_le port here.ports
+
+-- the packet leaves by the port so changed, where the node has such a port
+abbrev pub leaves_by : Here → ℕ → List ℕ → List ℕ → Stepped
+leaves_by here port packet after = if is_port here port then record { packet = after; verdict = Out port } else discarded packet OutPort
+
+-- the packet with its pointer moved on, and the port by which it came noted; it came by none where it was sent
+abbrev pub moved_on : Here → List ℕ → List ℕ
+moved_on here packet =
+    let at = number_in hop_pointer packet in
+    if at == 0 then pointed 1 packet else noted at here (pointed (at + 1) packet)
+
+-- the packet has not come to the end of its path: it leaves where it was sent, or goes on at a switch
+abbrev pub goes_on : Here → List ℕ → Stepped
+goes_on here packet =
+    let at = number_in hop_pointer packet in
+    if at == 0 || here.is_switch then leaves_by here (number_in (initial_path (at + 1)) packet) packet (moved_on here packet)
+    else discarded packet Transit
+
+-- on its way out
+abbrev pub outgoing : Here → List ℕ → Stepped
+outgoing here packet =
+    let at = number_in hop_pointer packet in
+    let hops = number_in hop_count packet in
+    if nat_lt at hops then goes_on here packet
+    else if at == hops then record { packet = moved_on here packet; verdict = ToAgent }
+    else discarded packet Course
+
+-- on its way back, by the port that was noted
+abbrev pub goes_back : Here → List ℕ → Stepped
+goes_back here packet =
+    let before = number_in hop_pointer packet - 1 in
+    leaves_by here (number_in (return_path before) packet) packet (pointed before packet)
+
+-- on its way back: it turns at the end of its path, goes on at each switch, and ends where it began
+abbrev pub returning : Here → List ℕ → Stepped
+returning here packet =
+    let at = number_in hop_pointer packet in
+    let hops = number_in hop_count packet in
+    if at == 0 then discarded packet Course
+    else if at == 1 then record { packet = pointed 0 packet; verdict = ToManager }
+    else if nat_lt hops at || here.is_switch then goes_back here packet
+    else discarded packet Transit
+
+-- one step
+abbrev pub step : Here → List ℕ → Stepped
+step here packet = if is_returning packet then returning here packet else outgoing here packet

@@ -1,0 +1,23 @@
+-- What a step leaves of a packet, and what it notes.
+use Rattle.std.specs.Prelude.{◌≡◌, ◌≢◌, ℕ, ◌+◌, ◌≤◌, ◌<◌, ◌⊎◌, Bool, true, false, List, length}
+use Rattle.smp_bytes.specs.Field.{Field, number_in, are_apart}
+use Rattle.smp_bytes.specs.Packet.{hop_pointer, hop_count, initial_path, return_path, is_returning}
+use Rattle.dr_forward.specs.declared.here.Here.{Here}
+use Rattle.dr_forward.specs.declared.verdict.Verdict.TheVariants.{Out, ToAgent, Discard}
+use Rattle.dr_forward.specs.declared.verdict.DiscardReason.{DiscardReason}
+use Rattle.dr_forward.specs.Step.{step}
+
+-- a packet that is discarded is as it was
+abbrev pub DiscardedIsUnchanged : Type 0
+DiscardedIsUnchanged = (here : Here) (packet : List ℕ) (reason : DiscardReason) → (step here packet).verdict ≡ Discard reason → (step here packet).packet ≡ packet
+
+-- a packet leaves by a port that the node has
+abbrev pub LeavesByAPort : Type 0
+LeavesByAPort = (here : Here) (packet : List ℕ) (port : ℕ) → (step here packet).verdict ≡ Out port → (1 ≤ port) × (port ≤ here.ports)
+
+-- a step writes the hop pointer and the path back, and no other field
+abbrev pub OtherFieldsStay : Type 0
+OtherFieldsStay =
+    (here : Here) (packet : List ℕ) (field : Field) → length packet ≡ 256 → number_in hop_pointer packet < 64
+    → are_apart field hop_pointer ≡ true → field.at + field.len ≤ 192
+    → number_in field (step here packet).packet ≡ number_in field packet

@@ -1,0 +1,25 @@
+use smp_bytes::PortNum;
+
+/// Where a packet goes after a step.
+#[derive(Clone, Copy, Debug, PartialEq, Eq)]
+pub enum Verdict {
+    /// Out by this port, which the node has.
+    Out(PortNum),
+    /// To the node's subnet management agent.
+    ToAgent,
+    /// Back to the subnet manager that sent it.
+    ToManager,
+    /// Nowhere. The packet is as it was.
+    Discard(DiscardReason),
+}
+
+/// Why a packet on a directed route goes no further.
+#[derive(Clone, Copy, Debug, PartialEq, Eq)]
+pub enum DiscardReason {
+    /// Its hop pointer is off its path.
+    Course,
+    /// Its path goes on, and the node is no switch.
+    Transit,
+    /// The port by which its path goes on is 0 or over the node's count.
+    OutPort,
+}
