@@ -6,13 +6,14 @@ use Rattle.clap.specs.Simple.{subcommand_rows_of}
 use Rattle.clap.specs.Walk.{Row}
 use Rattle.clap.specs.declared.parser.matches.ArgMatches.{ArgMatches}
 use Rattle.sm_cli.specs.declared.run.Command.{Command}
-use Rattle.sm_cli.specs.declared.run.Command.TheVariants.{Facts, Join}
+use Rattle.sm_cli.specs.declared.run.Command.TheVariants.{Facts, Join, Plan}
 use Rattle.ibsm.specs.Ending.{AnswersFiles}
 
 -- the subcommand that asks for a command
 abbrev pub word_of : Command → List ℕ
 word_of Facts = codes "facts"
 word_of Join = codes "join"
+word_of Plan = codes "plan"
 
 -- the values of the argument with this name
 abbrev pub values_in : List ℕ → List Row → Option (List (List ℕ))

@@ -7,7 +7,7 @@ use Rattle.sm_cli.specs.FaultText.{fault_text, program_line}
 use Rattle.sm_cli.specs.ExitStatus.{status_of}
 use Rattle.sm_cli.specs.Run.{answer_to, facts_of}
 use Rattle.sm_cli.specs.declared.fault.Fault.{Fault}
-use Rattle.sm_cli.specs.declared.fault.Fault.TheVariants.{Open, File, Write, Memory}
+use Rattle.sm_cli.specs.declared.fault.Fault.TheVariants.{Open, File, NoRoom, Write, Memory}
 use Rattle.sm_cli.specs.declared.exit_status.ExitStatus.{ExitStatus}
 use Rattle.sm_cli.specs.declared.run.Command.{Command}
 
@@ -22,6 +22,7 @@ pub record AnswersFiles (command : Command) (count : ℕ) (written written' : Op
 abbrev pub IsFaultAmong : ℕ → Bool → Fault → Type 0
 IsFaultAmong count output_failed (Open place) = place < count
 IsFaultAmong count output_failed (File place fault) = place < count
+IsFaultAmong count output_failed (NoRoom endports room) = Unit {0}
 IsFaultAmong count output_failed Write = IsTrue output_failed
 IsFaultAmong count output_failed Memory = Unit {0}
 
@@ -34,6 +35,7 @@ name_at (Some name) = name.now
 abbrev pub name_of : List (Bor (List ℕ)) → Fault → List ℕ
 name_of names (Open place) = name_at (slice_get names place)
 name_of names (File place fault) = name_at (slice_get names place)
+name_of names (NoRoom endports room) = []
 name_of names Write = []
 name_of names Memory = []
 

@@ -8,6 +8,9 @@ pub(crate) const FACTS: &str = "facts";
 /// The subcommand that writes a store file.
 pub(crate) const JOIN: &str = "join";
 
+/// The subcommand that prints the plan.
+pub(crate) const PLAN: &str = "plan";
+
 /// The files of a subcommand.
 pub(crate) const FILE: &str = "FILE";
 
@@ -17,7 +20,8 @@ const VERSION: &str = "0.1.0";
 pub(crate) fn command_line<'a>(alloc: Global) -> Result<Command<'a>, AllocError> {
     program(alloc)
         .subcommand(facts(alloc)?)?
-        .subcommand(join(alloc)?)
+        .subcommand(join(alloc)?)?
+        .subcommand(plan(alloc)?)
 }
 
 /// The program, which does nothing without a subcommand.
@@ -39,6 +43,12 @@ fn join<'a>(alloc: Global) -> Result<Command<'a>, AllocError> {
         .about(
             "Writes the facts that all the files tell together to standard output, as a store file",
         )
+        .arg(files(alloc))
+}
+
+fn plan<'a>(alloc: Global) -> Result<Command<'a>, AllocError> {
+    Command::new(alloc, PLAN)
+        .about("Prints the LIDs and the forwarding blocks that follow from the facts of all the files")
         .arg(files(alloc))
 }
 

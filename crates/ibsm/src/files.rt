@@ -110,6 +110,6 @@ fn name_of<'a>(names: &[&'a str], fault: &Fault) -> &'a str
             .get(*place)
             .copied()
             .unwrap_or(""),
-        Fault::Write | Fault::Memory => "",
+        Fault::NoRoom { .. } | Fault::Write | Fault::Memory => "",
     }
 }

@@ -3,7 +3,7 @@ ghost use Rattle.std.specs.Prelude.{◌≡◌, Some, IfSome, map};
 ghost use Rattle.clap.specs.Matches.{subcommand_name_of};
 ghost use Rattle.ibsm.specs.Asked.{AnswersWords, files_named, word_of};
 
-use crate::arguments::{FACTS, FILE, JOIN, command_line};
+use crate::arguments::{FACTS, FILE, JOIN, PLAN, command_line};
 use crate::files::{answer_or_explain, say};
 use clap::error::ErrorKind;
 use clap::{ArgMatches, Error};
@@ -86,6 +86,7 @@ pub(crate) fn asked<'m, 'a>(matches: &'m ArgMatches<'a>) -> Option<(Command, &'m
     let command = match name {
         FACTS => Command::Facts,
         JOIN => Command::Join,
+        PLAN => Command::Plan,
         _ => return None,
     };
     Some((command, words.get_strs(FILE)?))

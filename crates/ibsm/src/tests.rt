@@ -86,10 +86,11 @@ fn other_words_are_explained(rt: HostRuntime) -> Result<(), Fail> {
 
 #[test]
 fn commands_and_files_are_taken(rt: HostRuntime) -> Result<(), Fail> {
-    let cases: [(&[&str], Command, &[&str]); 4] = [
+    let cases: [(&[&str], Command, &[&str]); 5] = [
         (&["ibsm", "facts", "a"], Command::Facts, &["a"]),
         (&["ibsm", "facts", "a", "b"], Command::Facts, &["a", "b"]),
         (&["ibsm", "join", "a"], Command::Join, &["a"]),
+        (&["ibsm", "plan", "a", "b"], Command::Plan, &["a", "b"]),
         (
             &["ibsm", "join", "b", "a", "b"],
             Command::Join,

@@ -5,7 +5,7 @@ use Rattle.fact_store.specs.ReportFault.{report_fault_name}
 use Rattle.record_file.specs.declared.file_fault.FileFault.{FileFault}
 use Rattle.record_file.specs.FileFault.{fault_words, fault_number, fault_of_report, is_of_file}
 use Rattle.sm_cli.specs.declared.fault.Fault.{Fault}
-use Rattle.sm_cli.specs.declared.fault.Fault.TheVariants.{Open, File, Write, Memory}
+use Rattle.sm_cli.specs.declared.fault.Fault.TheVariants.{Open, File, NoRoom, Write, Memory}
 
 -- the name of a file, before what is said of it
 abbrev pub name_text : List ℕ → List ℕ
@@ -33,10 +33,15 @@ words_of fault = fault_words fault ++ number_text (fault_number fault) ++ cause_
 abbrev pub file_fault_text : List ℕ → FileFault → List ℕ
 file_fault_text name fault = if is_of_file fault then named_text name (words_of fault) else words_of fault
 
+-- how many end ports have no LID, and how much room there is
+abbrev pub no_room_text : ℕ → ℕ → List ℕ
+no_room_text endports room = codes "no room: " ++ decimal endports ++ codes " end ports, room " ++ decimal room
+
 -- what is said of a run that ends with the fault, where that is the name of the file that it speaks of
 abbrev pub fault_text : List ℕ → Fault → List ℕ
 fault_text name (Open place) = named_text name (codes "cannot open")
 fault_text name (File place fault) = file_fault_text name fault
+fault_text name (NoRoom endports room) = no_room_text endports room
 fault_text name Write = codes "write failed"
 fault_text name Memory = codes "out of memory"
 

@@ -1,4 +1,5 @@
 pub mod FactsText
+pub mod Faults
 pub mod FaultText
 pub mod ExitStatus
 pub mod Run

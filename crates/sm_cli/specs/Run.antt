@@ -11,8 +11,13 @@ use Rattle.record_file.specs.RecordFile.{kept, outcome}
 use Rattle.record_file.specs.StoreFile.{store_bytes}
 use Rattle.record_file.specs.declared.file_fault.FileFault.{FileFault}
 use Rattle.record_file.specs.declared.file_fault.FileFault.TheVariants.{Read, Memory as NoMemory}
+use Rattle.subnet_view.specs.Reading.{Cells}
+use Rattle.subnet_view.specs.EndPorts.{end_ports}
+use Rattle.lid_assign.specs.Lids.{IsNoRoom, room}
+use Rattle.lft_blocks.specs.Plan.{plan_of}
+use Rattle.lft_blocks.specs.PlanText.{plan_text}
 use Rattle.sm_cli.specs.declared.fault.Fault.{Fault}
-use Rattle.sm_cli.specs.declared.fault.Fault.TheVariants.{Open, File, Write, Memory}
+use Rattle.sm_cli.specs.declared.fault.Fault.TheVariants.{Open, File, NoRoom, Write, Memory}
 use Rattle.sm_cli.specs.declared.run.Command.{Command}
 use Rattle.sm_cli.specs.declared.run.Command.TheVariants as command
 use Rattle.sm_cli.specs.FactsText.{facts_text}
@@ -25,6 +30,27 @@ facts_of files = view (flat_map kept files)
 abbrev pub answer_to : Command → Facts → List ℕ
 answer_to command.Facts facts = facts_text (entries facts)
 answer_to command.Join facts = store_bytes (entries facts)
+answer_to command.Plan facts = plan_text (plan_of (entries facts))
+
+-- what is so of facts that a command answers: they are in range, and a plan has room for their LIDs
+abbrev pub IsAnswered : Command → Facts → Type 0
+IsAnswered command.Facts facts = AreInRange facts
+IsAnswered command.Join facts = AreInRange facts
+IsAnswered command.Plan facts = ¬ (IsNoRoom (entries facts))
+
+-- there are so many end ports, for which the LIDs below so much room are too few
+pub record LacksRoom (cells : Cells) (endports most : ℕ) : Type 0 where
+  pub lacks : IsNoRoom cells
+  pub counted : endports ≡ length (end_ports cells)
+  pub least : most ≡ room cells
+
+-- why a command does not answer the facts
+abbrev pub IsAnswerFault : Command → Facts → Bool → Fault → Type 0
+IsAnswerFault command facts sink_failed (Open place) = ⊥
+IsAnswerFault command facts sink_failed (File place fault) = ⊥
+IsAnswerFault command facts sink_failed (NoRoom endports most) = (command ≡ command.Plan) × LacksRoom (entries facts) endports most
+IsAnswerFault command facts sink_failed Write = IsTrue sink_failed
+IsAnswerFault command facts sink_failed Memory = command ≡ command.Plan
 
 -- the source was read to its end: this was its file, which is accepted
 pub record IsReadAs {S : Type 0} (left : S → Option (List ℕ)) (has_failed : S → Bool) (old new : S) (file : List ℕ) : Type 0 where
@@ -63,7 +89,7 @@ pub record HasAnswered {S : Type 0} (left : S → Option (List ℕ)) (has_failed
   pub files : List (List ℕ)
   pub one_each : length files ≡ length olds
   pub read : AreReadAs left has_failed olds news files
-  pub in_range : AreInRange (facts_of files)
+  pub can_be : IsAnswered command (facts_of files)
   pub answered : Appends written written' (answer_to command (facts_of files))
 
 -- reading the source ended with this fault: it is that of the bytes that were taken, or a read or a growth failed before any
@@ -87,16 +113,17 @@ pub record RefusesFile {S : Type 0} (left : S → Option (List ℕ)) (has_failed
   pub there_after : slice_get news place ≡ Some new
   pub refuses : Refuses left has_failed interruptions old new fault
 
--- all sources were read, but the output took no more
-pub record FailsToWrite {S : Type 0} (left : S → Option (List ℕ)) (has_failed : S → Bool) (olds news : List S) (sink_failed : Bool) : Type 0 where
+-- all sources were read, but what they say is not answered
+pub record FailsToAnswer {S : Type 0} (left : S → Option (List ℕ)) (has_failed : S → Bool) (command : Command) (olds news : List S) (sink_failed : Bool) (fault : Fault) : Type 0 where
   pub files : List (List ℕ)
   pub one_each : length files ≡ length olds
   pub read : AreReadAs left has_failed olds news files
-  pub failed : IsTrue sink_failed
+  pub fails : IsAnswerFault command (facts_of files) sink_failed fault
 
 -- why a run over open files ends early
-abbrev pub IsFaultOf : {S : Type 0} → (S → Option (List ℕ)) → (S → Bool) → (S → ℕ) → List S → List S → Bool → Fault → Type 0
-IsFaultOf left has_failed interruptions olds news sink_failed (Open place) = ⊥
-IsFaultOf left has_failed interruptions olds news sink_failed (File place fault) = RefusesFile left has_failed interruptions olds news place fault
-IsFaultOf left has_failed interruptions olds news sink_failed Write = FailsToWrite left has_failed olds news sink_failed
-IsFaultOf left has_failed interruptions olds news sink_failed Memory = ⊥
+abbrev pub IsFaultOf : {S : Type 0} → (S → Option (List ℕ)) → (S → Bool) → (S → ℕ) → Command → List S → List S → Bool → Fault → Type 0
+IsFaultOf left has_failed interruptions command olds news sink_failed (Open place) = ⊥
+IsFaultOf left has_failed interruptions command olds news sink_failed (File place fault) = RefusesFile left has_failed interruptions olds news place fault
+IsFaultOf left has_failed interruptions command olds news sink_failed (NoRoom endports most) = FailsToAnswer left has_failed command olds news sink_failed (NoRoom endports most)
+IsFaultOf left has_failed interruptions command olds news sink_failed Write = FailsToAnswer left has_failed command olds news sink_failed Write
+IsFaultOf left has_failed interruptions command olds news sink_failed Memory = FailsToAnswer left has_failed command olds news sink_failed Memory

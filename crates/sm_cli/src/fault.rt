@@ -1,7 +1,8 @@
 ghost use Rattle.std.specs.Prelude.{◌≡◌};
 
 use crate::exit_status::ExitStatus;
-use record_file::FileFault;
+use lid_assign::LidFault;
+use record_file::{FileFault, WriteFault};
 use thiserror::Error;
 
 /// Why a run ended early. A place is that of a file among those that were named, counted from 0.
@@ -13,6 +14,14 @@ pub enum Fault {
     /// What is wrong with the file, or that memory was refused as it was taken in.
     #[error("{fault}")]
     File { place: usize, fault: FileFault },
+    /// There are end ports, and no fewer of them than the smallest forwarding table has room for LIDs, 0 among them.
+    #[error("no room: {endports} end ports, room {room}")]
+    NoRoom {
+        /// How many end ports there are.
+        endports: usize,
+        /// How many LIDs the table has room for, 0 among them.
+        room: u16,
+    },
     /// The output took no more.
     #[error("write failed")]
     Write,
@@ -35,7 +44,33 @@ impl Fault {
                 FileFault::Memory => ExitStatus::Memory,
                 _ => ExitStatus::Refused,
             },
+            Fault::NoRoom { .. } => ExitStatus::Refused,
             Fault::Memory => ExitStatus::Memory,
+        }
+    }
+}
+
+impl From<WriteFault> for Fault {
+    ghost use Rattle.std.specs.Prelude.{◌≡◌};
+    ghost use Rattle.sm_cli.specs.declared.fault.Fault.TheVariants.{Write};
+
+    ghost from_gives = { λ e fault. fault ≡ Write };
+
+    fn from(_: WriteFault) -> Self {
+        Fault::Write
+    }
+}
+
+impl From<LidFault> for Fault {
+    ghost use Rattle.std.specs.Prelude.{◌≡◌};
+    ghost use Rattle.sm_cli.specs.Faults.{fault_of_lids};
+
+    ghost from_gives = { λ e fault. fault ≡ fault_of_lids e };
+
+    fn from(fault: LidFault) -> Self {
+        match fault {
+            LidFault::NoRoom { endports, room } => Fault::NoRoom { endports, room },
+            LidFault::Memory => Fault::Memory,
         }
     }
 }

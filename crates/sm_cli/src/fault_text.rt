@@ -1,6 +1,6 @@
 //! What the program says of a fault, one line that begins with its own name.
 ghost use Rattle.record_file.specs.Writes.{Writes};
-ghost use Rattle.sm_cli.specs.FaultText.{name_text, number_text, cause_text, words_of, file_fault_text, fault_text, program_line};
+ghost use Rattle.sm_cli.specs.FaultText.{name_text, number_text, cause_text, words_of, file_fault_text, no_room_text, fault_text, program_line};
 
 use crate::fault::Fault;
 use crate::text::write_number;
@@ -27,9 +27,20 @@ fn write_fault_text<W: Sink>(sink: &mut W, fault: &Fault, name: &[u8]) -> Result
             sink.write(b"cannot open")
         }
         Fault::File { fault, .. } => write_file_fault(sink, fault, name),
+        Fault::NoRoom { endports, room } => write_no_room(sink, *endports, *room),
         Fault::Write => sink.write(b"write failed"),
         Fault::Memory => sink.write(b"out of memory"),
     }
+}
+
+/// Writes how many end ports have no LID, and how much room there is.
+fn write_no_room<W: Sink>(sink: &mut W, endports: usize, room: u16) -> Result<(), WriteFault>
+    ensures writes { Writes W.written W.has_failed result sink.old sink.new (no_room_text endports room) }
+{
+    sink.write(b"no room: ")?;
+    write_number(sink, endports as u64)?;
+    sink.write(b" end ports, room ")?;
+    write_number(sink, u64::from(room))
 }
 
 fn write_file_fault<W: Sink>(sink: &mut W, fault: &FileFault, name: &[u8]) -> Result<(), WriteFault>

@@ -1,12 +1,12 @@
 ghost use Rattle.std.specs.Prelude.{◌≡◌, ◌⊎◌, Err, false, OnOk, OnErr, IfOk, IfErr, IsTrue};
-ghost use Rattle.fact_store.specs.Sighting.{AreInRange};
-ghost use Rattle.record_file.specs.Writes.{Writes};
-ghost use Rattle.sm_cli.specs.Run.{HasAnswered, HasRead, IsFaultOf, ReadsInto, Refuses, RefusesFile, answer_to};
+ghost use Rattle.std.specs.Io.KnownBytes.{Appends};
+ghost use Rattle.sm_cli.specs.Run.{HasAnswered, HasRead, IsAnswered, IsAnswerFault, IsFaultOf, ReadsInto, Refuses, RefusesFile, answer_to};
 
 use crate::facts_text::write_facts;
 use crate::fault::Fault;
 use fact_store::Store;
-use record_file::{FileFault, Sink, Source, WriteFault, absorb, write_store};
+use lft_blocks::{Plan, write_plan};
+use record_file::{FileFault, Sink, Source, absorb, write_store};
 use std::alloc::Global;
 
 /// What a run is to do with the files.
@@ -16,10 +16,12 @@ pub enum Command {
     Facts,
     /// Write them as a store file.
     Join,
+    /// Write the LID of each end port, and the forwarding blocks of each switch, that follow from them.
+    Plan,
 }
 
 /// Reads the files in order, and writes what the command asks for of all that they say. The first fault counts. Where a
-/// file is refused nothing is written; how much went out before a write failed is not said.
+/// file is refused, or there is no room for a plan, nothing is written; how much went out before a write failed is not said.
 pub fn run_files<S: Source, W: Sink>(
     alloc: Global,
     sources: &mut Vec<S>,
@@ -30,7 +32,7 @@ pub fn run_files<S: Source, W: Sink>(
         sources.old.items sources.new.items (W.written sink.old) (W.written sink.new)) }
     ensures flushed { OnOk result (IsTrue (W.is_flushed sink.new)) }
     ensures sink_works { OnOk result (W.has_failed sink.new ≡ false) }
-    ensures refused { IfErr result (IsFaultOf S.left S.has_failed S.interruptions
+    ensures refused { IfErr result (IsFaultOf S.left S.has_failed S.interruptions command
         sources.old.items sources.new.items (W.has_failed sink.new)) }
     ensures nothing_written { OnErr result ((result ≡ Err Fault.Write) ⊎ (sink.new ≡ sink.old)) }
 {
@@ -43,22 +45,45 @@ pub fn run_files<S: Source, W: Sink>(
             });
         }
     };
-    match write_answer(sink, command, &store) {
-        Ok(()) => Ok(()),
-        Err(WriteFault::Write) => Err(Fault::Write),
-    }
+    write_answer(alloc, sink, command, &store)
 }
 
 /// Writes what a command asks for of the facts that a store holds, and flushes.
-fn write_answer<W: Sink>(sink: &mut W, command: Command, store: &Store) -> Result<(), WriteFault>
-    ensures writes { Writes W.written W.has_failed result sink.old sink.new (answer_to command store.now) }
+fn write_answer<W: Sink>(
+    alloc: Global,
+    sink: &mut W,
+    command: Command,
+    store: &Store,
+) -> Result<(), Fault>
+    ensures answered { OnOk result (Appends (W.written sink.old) (W.written sink.new)
+        (answer_to command store.now)) }
+    ensures can_be { OnOk result (IsAnswered command store.now) }
     ensures flushed { OnOk result (IsTrue (W.is_flushed sink.new)) }
-    ensures in_range { OnOk result (AreInRange store.now) }
+    ensures sink_works { OnOk result (W.has_failed sink.new ≡ false) }
+    ensures refused { IfErr result (IsAnswerFault command store.now (W.has_failed sink.new)) }
+    ensures nothing_written { OnErr result ((result ≡ Err Fault.Write) ⊎ (sink.new ≡ sink.old)) }
 {
     match command {
-        Command::Facts => write_facts(sink, store),
-        Command::Join => write_store(sink, store),
+        Command::Facts => write_facts(sink, store)?,
+        Command::Join => write_store(sink, store)?,
+        Command::Plan => return answer_plan(alloc, sink, store),
     }
+    Ok(())
+}
+
+/// Writes the plan of the facts that a store holds, and flushes.
+fn answer_plan<W: Sink>(alloc: Global, sink: &mut W, store: &Store) -> Result<(), Fault>
+    ensures answered { OnOk result (Appends (W.written sink.old) (W.written sink.new)
+        (answer_to Command.Plan store.now)) }
+    ensures can_be { OnOk result (IsAnswered Command.Plan store.now) }
+    ensures flushed { OnOk result (IsTrue (W.is_flushed sink.new)) }
+    ensures sink_works { OnOk result (W.has_failed sink.new ≡ false) }
+    ensures refused { IfErr result (IsAnswerFault Command.Plan store.now (W.has_failed sink.new)) }
+    ensures nothing_written { OnErr result ((result ≡ Err Fault.Write) ⊎ (sink.new ≡ sink.old)) }
+{
+    let plan = Plan::of(alloc, store)?;
+    write_plan(sink, &plan)?;
+    Ok(())
 }
 
 /// A file that was refused: its place among those that were named, from 0, and why.

@@ -10,6 +10,7 @@ use std::test::Fail;
 
 mod devices;
 mod fabric;
+mod plans;
 
 use crate::text::write_number;
 use devices::{Dripping, Sipping};
@@ -234,7 +235,7 @@ fn each_cut_and_damage_is_told(rt: HostRuntime) -> Result<(), Fail> {
 }
 
 /// The lines of faults of a file, or of none, with the exit status.
-fn fault_lines() -> [(Fault, &'static str); 12] {
+fn fault_lines() -> [(Fault, &'static str); 13] {
     let file = |fault| Fault::File { place: 0, fault };
     [
         (Fault::Open { place: 0 }, "4 ibsm: FILE: cannot open\n"),
@@ -262,6 +263,13 @@ fn fault_lines() -> [(Fault, &'static str); 12] {
         (file(FileFault::TooLong), "3 ibsm: FILE: too long\n"),
         (file(FileFault::Read), "4 ibsm: FILE: read failed\n"),
         (file(FileFault::Memory), "5 ibsm: out of memory\n"),
+        (
+            Fault::NoRoom {
+                endports: 7,
+                room: 49152,
+            },
+            "3 ibsm: no room: 7 end ports, room 49152\n",
+        ),
         (Fault::Memory, "5 ibsm: out of memory\n"),
         (Fault::Write, "4 ibsm: write failed\n"),
     ]

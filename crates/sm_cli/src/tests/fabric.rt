@@ -81,7 +81,7 @@ fn file_of(alloc: Global, reports: &[Report]) -> Result<Vec<u8>, AllocError> {
 }
 
 /// The file of the fabric's 27 reports, and that of the same in the other order.
-fn fabric_files(alloc: Global) -> Result<(Vec<u8>, Vec<u8>), AllocError> {
+pub(super) fn fabric_files(alloc: Global) -> Result<(Vec<u8>, Vec<u8>), AllocError> {
     let mut reports = reports(alloc)?;
     let in_order = file_of(alloc, &reports)?;
     reports.reverse();

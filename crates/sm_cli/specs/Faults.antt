@@ -1,0 +1,10 @@
+-- The faults of the crates below, as faults of a run.
+use Rattle.lid_assign.specs.declared.fault.LidFault.{LidFault}
+use Rattle.lid_assign.specs.declared.fault.LidFault.TheVariants as lids
+use Rattle.sm_cli.specs.declared.fault.Fault.{Fault}
+use Rattle.sm_cli.specs.declared.fault.Fault.TheVariants.{NoRoom, Memory}
+
+-- why LIDs are not given, as a fault of a run
+abbrev pub fault_of_lids : LidFault → Fault
+fault_of_lids (lids.NoRoom endports room) = NoRoom endports room
+fault_of_lids lids.Memory = Memory
