@@ -9,6 +9,7 @@ mod numbers;
 mod report_record;
 mod store_file;
 mod stream;
+mod text;
 
 pub use file::absorb;
 pub use file_fault::FileFault;
@@ -16,6 +17,7 @@ pub use store_file::write_store;
 pub use stream::{
     FromBytes, FromRead, ReadError, RoomFault, Sink, Source, ToRoom, ToWrite, WriteFault,
 };
+pub use text::{write_guid, write_number, write_port};
 
 #[cfg(test)]
 mod tests;

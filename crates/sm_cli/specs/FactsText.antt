@@ -1,21 +1,13 @@
 -- Facts as text.
 use Rattle.std.specs.Prelude.{ℕ, List, ◌++◌, codes, decimal, if◌then◌else◌}
 use Rattle.std.specs.List.{flat_map}
-use Rattle.smp_bytes.specs.Text.{hex_text, type_word}
+use Rattle.smp_bytes.specs.Text.{guid_text, port_text, type_word}
 use Rattle.fact_join.specs.declared.cell.Cell.{Cell}
 use Rattle.fact_join.specs.declared.cell.Cell.TheVariants.{Known, Disputed}
 use Rattle.fact_store.specs.declared.key.Key.{Key}
 use Rattle.fact_store.specs.declared.key.Key.TheVariants.{Node, PortGuid, Link, Port, Claim, Cap}
 use Rattle.fact_store.specs.declared.value.Value.{Value}
 use Rattle.fact_store.specs.declared.value.Value.TheVariants.{Kind, Guid, Peer, Up, Lid, Count}
-
--- a node's GUID
-abbrev pub guid_text : ℕ → List ℕ
-guid_text guid = hex_text 16 guid
-
--- a node's GUID and a port
-abbrev pub port_text : ℕ → ℕ → List ℕ
-port_text guid port = guid_text guid ++ codes "/" ++ decimal port
 
 -- the word of what a fact is about
 abbrev pub kind_word : Key → List ℕ

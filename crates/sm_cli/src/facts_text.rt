@@ -5,10 +5,9 @@ ghost use Rattle.record_file.specs.Writes.{Writes};
 ghost use Rattle.fact_store.specs.Sighting.{AreInRange};
 ghost use Rattle.sm_cli.specs.FactsText.{kind_word, place_text, key_text, value_text, cell_text, fact_text, line_text, facts_text};
 
-use crate::text::{write_guid, write_number, write_port};
 use fact_join::Cell;
 use fact_store::{Key, Sighting, Store, Value};
-use record_file::{Sink, WriteFault};
+use record_file::{Sink, WriteFault, write_guid, write_number, write_port};
 
 /// The word of what a fact is about.
 fn kind_word(key: &Key) -> &'static str

@@ -3,9 +3,8 @@ ghost use Rattle.record_file.specs.Writes.{Writes};
 ghost use Rattle.sm_cli.specs.FaultText.{name_text, number_text, cause_text, words_of, file_fault_text, no_room_text, fault_text, program_line};
 
 use crate::fault::Fault;
-use crate::text::write_number;
 use fact_store::ReportFault;
-use record_file::{FileFault, Sink, WriteFault};
+use record_file::{FileFault, Sink, WriteFault, write_number};
 
 /// Writes the line of a fault; `name` is that of the file that it speaks of.
 pub fn write_fault<W: Sink>(sink: &mut W, fault: &Fault, name: &str) -> Result<(), WriteFault>

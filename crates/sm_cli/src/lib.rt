@@ -7,7 +7,6 @@ mod fault;
 mod fault_text;
 pub mod laws;
 mod run;
-mod text;
 
 pub use exit_status::ExitStatus;
 pub use facts_text::{write_cell, write_facts};

@@ -2,7 +2,7 @@
 //! the formats.
 use super::*;
 use fact_store::ReportFault;
-use record_file::{FileFault, FromBytes, FromRead, Sink, ToRoom, ToWrite};
+use record_file::{FileFault, FromBytes, FromRead, Sink, ToRoom, ToWrite, write_number};
 use smp_bytes::SmpFault;
 use std::alloc::{AllocError, Global};
 use std::process::Abort;
@@ -12,7 +12,6 @@ mod devices;
 mod fabric;
 mod plans;
 
-use crate::text::write_number;
 use devices::{Dripping, Sipping};
 
 /// The report file of one answer: NodeInfo of the adapter 0x100, asked by its own port 1.

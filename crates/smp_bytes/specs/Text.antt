@@ -1,5 +1,5 @@
--- The texts of numbers and node types.
-use Rattle.std.specs.Prelude.{ℕ, zero, suc, ◌/◌, ◌%◌, List, [], ◌∷◌, ◌++◌, false, codes}
+-- The texts of numbers, nodes, ports and node types.
+use Rattle.std.specs.Prelude.{ℕ, zero, suc, ◌/◌, ◌%◌, List, [], ◌∷◌, ◌++◌, false, codes, decimal}
 use Rattle.std.specs.Fmt.{digit_glyph}
 use Rattle.smp_bytes.specs.declared.node_type.NodeType.{NodeType}
 use Rattle.smp_bytes.specs.declared.node_type.NodeType.TheVariants.{ChannelAdapter, Switch, Router}
@@ -8,6 +8,14 @@ use Rattle.smp_bytes.specs.declared.node_type.NodeType.TheVariants.{ChannelAdapt
 unfoldable pub hex_text : ℕ → ℕ → List ℕ
 hex_text zero n = []
 hex_text (suc digits) n = hex_text digits (n / 16) ++ digit_glyph false (n % 16) ∷ []
+
+-- a node's GUID
+abbrev pub guid_text : ℕ → List ℕ
+guid_text guid = hex_text 16 guid
+
+-- a node's GUID and a port
+abbrev pub port_text : ℕ → ℕ → List ℕ
+port_text guid port = guid_text guid ++ codes "/" ++ decimal port
 
 -- a node type as one word
 abbrev pub type_word : NodeType → List ℕ

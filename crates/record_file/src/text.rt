@@ -1,10 +1,10 @@
 //! The words that texts are made of, written to a sink.
 ghost use Rattle.std.specs.Prelude.{decimal};
+ghost use Rattle.smp_bytes.specs.Text.{guid_text, port_text};
 ghost use Rattle.record_file.specs.Writes.{Writes};
-ghost use Rattle.sm_cli.specs.FactsText.{guid_text, port_text};
 
+use crate::stream::{Sink, WriteFault};
 use itoa::Buffer;
-use record_file::{Sink, WriteFault};
 use smp_bytes::{Guid, PortNum};
 
 /// Writes a number in decimal.
