@@ -1,0 +1,5 @@
+pub mod Lists
+pub mod Counts
+pub mod WalkLemmas
+pub mod Paths
+pub mod Costs

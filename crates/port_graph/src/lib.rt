@@ -1,0 +1,7 @@
+//! Graphs whose vertices are numbers and whose edges leave by ports: shortest walks, and routes that go
+//! up and then down.
+#![tactic(auto)]
+
+mod exit;
+
+pub use exit::Exit;

@@ -1,0 +1,4 @@
+pub mod Crossing
+pub mod Graph
+pub mod Ranks
+pub mod RouteLaws

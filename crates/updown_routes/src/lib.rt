@@ -1,0 +1,2 @@
+//! Routes that go up towards the root of a component until the target is downhill, and then down.
+#![tactic(auto)]
