@@ -100,7 +100,7 @@ module _ (x y : Facts) (same : (key : Key) → is_claim key ≡ false → get x 
   pub count_same : (g : ℕ) → port_count_of (entries x) g ≡ port_count_of (entries y) g
   count_same g = ap (λ o. option_map_or (λ n. n.1) o 0) (node_same g)
 
-  usable_same : (g : ℕ) → is_usable (entries x) g ≡ is_usable (entries y) g
+  pub usable_same : (g : ℕ) → is_usable (entries x) g ≡ is_usable (entries y) g
   usable_same g = λ i. switch_same g i && is_some (cap_same g i)
 
   port_same : (g p : ℕ) → is_port_of (entries x) g p ≡ is_port_of (entries y) g p
