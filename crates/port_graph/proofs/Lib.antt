@@ -3,3 +3,4 @@ pub mod Counts
 pub mod WalkLemmas
 pub mod Paths
 pub mod Costs
+pub mod Cuts

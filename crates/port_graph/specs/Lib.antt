@@ -1,3 +1,4 @@
 pub mod Walks
 pub mod Slopes
 pub mod Routes
+pub mod Spans

@@ -3,5 +3,7 @@
 #![tactic(auto)]
 
 mod exit;
+mod exits;
 
 pub use exit::Exit;
+pub use exits::Exits;

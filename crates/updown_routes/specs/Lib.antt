@@ -1,4 +1,6 @@
 pub mod Crossing
 pub mod Graph
+pub mod GraphLaws
 pub mod Ranks
+pub mod RankLaws
 pub mod RouteLaws

@@ -1,0 +1,10 @@
+pub mod Rising
+pub mod PortsRise
+pub mod Order
+pub mod Switches
+pub mod Graphs
+pub mod Components
+pub mod Ranks
+pub mod Ways
+pub mod LeastCosts
+pub mod NextPorts
