@@ -1,0 +1,4 @@
+pub mod Entries
+pub mod Plan
+pub mod PlanText
+pub mod PlanLaws
