@@ -6,3 +6,4 @@ pub mod Costs
 pub mod Cuts
 pub mod Searching
 pub mod SearchSteps
+pub mod Renaming
