@@ -24,5 +24,5 @@ pub cut_pushed : (exits more : List Exit) (spans : List Span) (span : Span) → 
     → cut (exits ++ more) (spans ++ span ∷ []) ≡ cut exits spans ++ more ∷ []
 cut_pushed exits more spans span within start end =
     let last : part (exits ++ more) span ≡ more =
-        ap (take (span.end - span.start)) (drop_at exits more span.start (sym start)) ∙ take_all (span.end - span.start) more (omega arith) in
+    ap (take (span.end - span.start)) (drop_at exits more span.start (sym start)) ∙ take_all (span.end - span.start) more (omega arith) in
     map-append (part (exits ++ more)) spans (span ∷ []) ∙ ap₂ (λ (xs : List (List Exit)) (x : List Exit). xs ++ x ∷ []) (cut_kept exits more spans within) last

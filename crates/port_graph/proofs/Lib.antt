@@ -4,3 +4,6 @@ pub mod WalkLemmas
 pub mod Paths
 pub mod Costs
 pub mod Cuts
+pub mod Searching
+pub mod SearchSteps
+pub mod Renaming

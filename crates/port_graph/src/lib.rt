@@ -2,8 +2,10 @@
 //! up and then down.
 #![tactic(auto)]
 
+mod distance;
 mod exit;
 mod exits;
 
+pub use distance::distances;
 pub use exit::Exit;
 pub use exits::Exits;
