@@ -8,8 +8,9 @@ use Rattle.std.specs.Prelude.{Option, None, Some, Contains}
 use Rattle.std.specs.List.{filter_map, cons_option, range_with_len}
 use Rattle.fact_store.proofs.Members.{contains_cases, contains_none}
 use Rattle.port_graph.specs.declared.exit.Exit.{Exit}
+use Rattle.port_graph.specs.Heads.{LeadToVertices}
 use Rattle.port_graph.proofs.Counts.{length_map}
-use Rattle.updown_routes.specs.Wiring.{by_guid, LeadBelow, LeadToVertices}
+use Rattle.updown_routes.specs.Wiring.{by_guid, LeadBelow}
 
 -- port by port: what was found, and what the ports to come have, are all that there is
 module _ (guids : List ℕ) (exit : ℕ → Option Exit) (all : List Exit) (n : ℕ) where

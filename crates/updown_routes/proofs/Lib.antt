@@ -11,3 +11,4 @@ pub mod NextPorts
 pub mod SwitchSearch
 pub mod ExitLists
 pub mod Walked
+pub mod Wirings

@@ -1,19 +1,10 @@
 -- Switches by index, in the order of their GUIDs, with exits that lead to indices.
-use Rattle.std.specs.Prelude.{◌≡◌, ◌<◌, ℕ, Option, MatchOption, List, [], ◌∷◌, map, length, slice_index, slice_index_or, Contains}
-use Rattle.fact_store.specs.View.{Facts}
-use Rattle.std.specs.FinMap.{entries}
+use Rattle.std.specs.Prelude.{◌≡◌, ◌<◌, ℕ, Option, MatchOption, List, [], ◌∷◌, map, length, slice_index, Contains}
 use Rattle.port_graph.specs.declared.exit.Exit.{Exit}
+use Rattle.port_graph.specs.Heads.{LeadToVertices}
 use Rattle.updown_routes.specs.Crossing.{Crossing}
-use Rattle.updown_routes.specs.Graph.{guids_of, graph_of}
+use Rattle.updown_routes.specs.Graph.{guids_of}
 use Rattle.updown_routes.specs.GraphLaws.{IsGraph}
-
--- TEMP
-abbrev pub exits_at : List (List Exit) → ℕ → List Exit
-exits_at exits a = slice_index_or exits a []
-abbrev pub heads : List (List Exit) → ℕ → List ℕ
-heads exits a = map (λ e. e.to) (exits_at exits a)
-abbrev pub LeadToVertices : List (List Exit) → Type 0
-LeadToVertices exits = (a : ℕ) (e : Exit) → Contains (exits_at exits a) e → e.to < length exits
 
 -- each exit leads to a lesser number
 abbrev pub LeadBelow : ℕ → List Exit → Type 0

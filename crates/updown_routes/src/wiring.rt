@@ -1,16 +1,92 @@
-ghost use Rattle.std.specs.Prelude.{◌≡◌, ◌<◌, ◌≤◌, IfOk, IfSome, length, map, option_map, slice_get};
-ghost use Rattle.std.specs.Option.{option_map_or};
+ghost use Rattle.std.specs.Prelude.{◌≡◌, ◌<◌, IfOk, IfSome, length, map, option_map, slice_get};
 ghost use Rattle.std.specs.List.Sorted.{IsStrictlyIncreasing};
 ghost use Rattle.std.specs.FinMap.{entries};
 ghost use Rattle.subnet_view.specs.Reading.{port_count_of, switches};
-ghost use Rattle.updown_routes.specs.Graph.{exit_at, exits_of, graph_of, guids_of};
-ghost use Rattle.updown_routes.specs.Wiring.{by_guid, IsIndexIn, LeadBelow, LeadToVertices};
+ghost use Rattle.port_graph.specs.Heads.{LeadToVertices};
+ghost use Rattle.updown_routes.specs.Graph.{exit_at, exits_at, exits_of, graph_of, guids_of};
+ghost use Rattle.updown_routes.specs.Ranks.{distance};
+ghost use Rattle.updown_routes.specs.Wiring.{by_guid, switch_at, IsIndexIn, LeadBelow};
 
-use fact_store::Store;
+use fact_store::{Refused, Store};
 use port_graph::{Exit, Exits};
 use smp_bytes::{Guid, PortNum};
 use std::alloc::{AllocError, Global};
-use subnet_view::wire;
+use std::marker::Model;
+use subnet_view::{switches, wire};
+
+/// The usable switches and the wires between them.
+#[derive(Drop)]
+pub(crate) struct Wiring {
+    /// The switches by rising GUID. An exit leads to an index among them.
+    guids: Vec<Guid>,
+    /// The exits of each switch, by rising port.
+    exits: Exits,
+}
+
+impl Model for Wiring {
+    ghost use Rattle.std.specs.Prelude.{List};
+    ghost use Rattle.updown_routes.specs.Crossing.{Crossing};
+    ghost use Rattle.updown_routes.specs.Wiring.{named, IsWiring};
+
+    ghost Value = { List Crossing };
+
+    ghost view = { λ a. named a.guids.items a.exits };
+
+    ghost invariant = { λ a. IsWiring a.guids.items a.exits };
+}
+
+impl Wiring {
+    /// The usable switches of the view with the wires between them. Takes some ten searches a port.
+    pub(crate) fn of(alloc: Global, store: &Store) -> Result<Self, Refused>
+        ensures { IfOk result (λ wiring. wiring ≡ graph_of (entries store.now)) }
+    {
+        let guids = switches(alloc, store)?;
+        let exits = exits(alloc, store, &guids)?;
+        Ok(Wiring { guids, exits })
+    }
+
+    /// How many switches there are.
+    pub(crate) fn len(&self) -> usize
+        ensures { result ≡ length self.now }
+    {
+        self.guids.len()
+    }
+
+    /// The switch at an index. Takes one step.
+    pub(crate) fn switch(&self, index: usize) -> Option<Guid>
+        ensures { result ≡ slice_get (guids_of self.now) index }
+    {
+        self.guids.get(index).copied()
+    }
+
+    /// The index of a switch. Takes a search.
+    pub(crate) fn index_of(&self, switch: Guid) -> Option<usize>
+        ensures { IsIndexIn (guids_of self.now) switch result }
+    {
+        index_of(&self.guids, switch)
+    }
+
+    /// The exits of the switch at an index, which lead to indices. Takes one step.
+    pub(crate) fn exits(&self, index: usize) -> &[Exit]
+        requires { index < length self.now }
+        ensures exits { map (by_guid (guids_of self.now)) result.now ≡ exits_at self.now (switch_at self.now index) }
+        ensures to_switches { LeadBelow (length self.now) result.now }
+    {
+        self.exits.at(index)
+    }
+
+    /// The distances from the switch at an index to each switch.
+    pub(crate) fn distances(
+        &self,
+        alloc: Global,
+        from: usize,
+    ) -> Result<Vec<Option<usize>>, AllocError>
+        requires { from < length self.now }
+        ensures { IfOk result (λ found. found.items ≡ map (distance self.now (switch_at self.now from)) (guids_of self.now)) }
+    {
+        port_graph::distances(alloc, &self.exits, from)
+    }
+}
 
 /// The exits of each switch, where the GUIDs are those of the usable switches.
 fn exits(alloc: Global, store: &Store, guids: &[Guid]) -> Result<Exits, AllocError>
