@@ -1,6 +1,6 @@
 -- Lists that are kept end to end in one list, and one more of them.
-use Rattle.std.proofs.Common.{◌≡◌, ◌≤◌, ◌-◌, ◌+◌, ℕ, List, [], ◌∷◌, ◌++◌, refl, sym, ap, ap₂, ◌∙◌, arith, map, length, take, drop}
-use Rattle.std.proofs.lemmas.List.{map-append, length-drop, length-append, take-append-le, drop-append-le, drop_at, take_all}
+use Rattle.std.proofs.Common.{◌≡◌, ◌≤◌, ◌-◌, ◌+◌, List, [], ◌∷◌, ◌++◌, refl, sym, ap, ap₂, ◌∙◌, arith, length, take, drop}
+use Rattle.std.proofs.lemmas.List.{map-append, length-drop, take-append-le, drop-append-le, drop_at, take_all}
 use Rattle.std.proofs.lemmas.List.Elements.{All-head, All-tail}
 use Rattle.port_graph.specs.declared.exit.Exit.{Exit}
 use Rattle.port_graph.specs.declared.exits.Span.{Span}

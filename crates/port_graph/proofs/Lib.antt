@@ -7,3 +7,6 @@ pub mod Cuts
 pub mod Searching
 pub mod SearchSteps
 pub mod Renaming
+pub mod Indexing
+pub mod CostSteps
+pub mod NextPorts

@@ -1,13 +1,13 @@
 -- The steps of a search in breadth, as the code takes them.
-use Rattle.std.proofs.Common.{◌≡◌, ◌≤◌, ◌<◌, ◌+◌, ℕ, zero, suc, List, [], ◌∷◌, ◌++◌, inl, inr, refl, sym, ap, ap₂, ◌∙◌, subst, arith, cond, length, map, replicate}
+use Rattle.std.proofs.Common.{◌≡◌, ◌<◌, ◌+◌, ℕ, zero, suc, List, [], ◌∷◌, ◌++◌, inl, inr, refl, sym, ap, ◌∙◌, subst, arith, cond, length, map, replicate}
 use Rattle.std.proofs.lemmas.Bool.{cases_lt}
 use Rattle.std.proofs.lemmas.List.{length-set, length-append, length-replicate, get_or-replicate, get_or_past, get_or_default}
 use Rattle.std.specs.Prelude.{Option, None, Some, is_some, Contains, All, slice_index_or, slice_set}
 use Rattle.fact_store.proofs.Members.{contains_here, contains_later}
 use Rattle.port_graph.specs.declared.exit.Exit.{Exit}
-use Rattle.port_graph.specs.Heads.{exits_at, heads, LeadToVertices, AreDistances}
+use Rattle.port_graph.specs.Heads.{exits_at, heads, LeadToVertices}
 use Rattle.port_graph.specs.Searches.{Search, reach, reach_all}
-use Rattle.port_graph.proofs.Searching.{unknown, unknown_less, IsBetween, IsFollowing, taken, all_reached, given_back, begun, found}
+use Rattle.port_graph.proofs.Searching.{unknown, unknown_less, IsBetween, taken, all_reached, given_back, begun}
 
 -- at each index what all that the list contains have
 pub all_from_contained : {X : Type 0} (P : X → Type 0) (xs : List X) → ((x : X) → Contains xs x → P x) → All P xs

@@ -1,5 +1,5 @@
 -- A search in breadth finds the shortest walks.
-use Rattle.std.proofs.Common.{◌≡◌, ◌≢◌, ◌≤◌, ◌<◌, ◌+◌, ℕ, zero, suc, List, [], ◌∷◌, ◌++◌, ◌⊎◌, inl, inr, refl, sym, ap, ◌∙◌, subst, arith, Bool, true, false, cond, length, map}
+use Rattle.std.proofs.Common.{◌≡◌, ◌≤◌, ◌<◌, ◌+◌, ℕ, zero, suc, List, [], ◌∷◌, ◌++◌, ◌⊎◌, inl, inr, refl, sym, ap, ◌∙◌, subst, arith, true, false, cond, length, map}
 use Rattle.std.proofs.lemmas.Bool.{cases_lt, cases_eq}
 use Rattle.std.proofs.lemmas.Option.{none-some, same_Some}
 use Rattle.std.proofs.lemmas.List.{length-set, get_or_past, get_or-set_same, get_or-set_other}
@@ -89,7 +89,7 @@ rises_pushed (x ∷ q) b e r h = (
 )
 
 -- a known distance stands in the list
-known_below : (ds : List (Option ℕ)) (a d : ℕ) → Has ds a d → a < length ds
+pub known_below : (ds : List (Option ℕ)) (a d : ℕ) → Has ds a d → a < length ds
 known_below ds a d h = elim (cases_lt a (length ds)) [ inl l ↦ l | inr m ↦ absurd (none-some d (sym (get_or_past ds a None m) ∙ h)) ]
 
 -- one more is known

@@ -4,3 +4,4 @@ pub mod Routes
 pub mod Spans
 pub mod Heads
 pub mod Searches
+pub mod Indexed

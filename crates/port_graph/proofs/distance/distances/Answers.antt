@@ -1,12 +1,12 @@
 -- Vertex by vertex.
-use Rattle.std.proofs.Common.{◌≡◌, ◌<◌, ◌+◌, List, ℕ, suc, refl, sym, ap, ap₂, ◌∙◌, arith, subst, length, replicate, [], ◌∷◌, ◌++◌, add-one}
+use Rattle.std.proofs.Common.{◌≡◌, ◌<◌, ◌+◌, refl, sym, ap, ◌∙◌, arith, length, replicate, [], ◌∷◌, ◌++◌, add-one}
 use Rattle.std.proofs.lemmas.List.{with_items_is, nil_from_length}
-use Rattle.std.specs.Prelude.{Option, None, Some, All, slice_index_or}
+use Rattle.std.specs.Prelude.{Option, None, Some}
 use Rattle.std.specs.Vec.{with_items}
 use Rattle.port_graph.specs.declared.exit.Exit.{Exit}
-use Rattle.port_graph.specs.Heads.{heads, AreDistances}
+use Rattle.port_graph.specs.Heads.{heads}
 use Rattle.port_graph.specs.Searches.{Search, reach_all}
-use Rattle.port_graph.proofs.Searching.{IsBetween, found}
+use Rattle.port_graph.proofs.Searching.{found}
 use Rattle.port_graph.proofs.SearchSteps.{all_from_contained, starts, distance_below, places, between, fewer}
 use Rattle.port_graph.proofs.distance.distances.Goals as goal
 

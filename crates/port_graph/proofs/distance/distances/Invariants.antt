@@ -1,4 +1,4 @@
-use Rattle.std.proofs.Common.{◌≡◌, ◌+◌, length, vec_len}
+use Rattle.std.proofs.Common.{◌+◌, length}
 use Rattle.port_graph.specs.Heads.{heads}
 use Rattle.port_graph.proofs.Searching.{IsBetween, unknown}
 use Rattle.port_graph.proofs.distance.distances.Given as goal
