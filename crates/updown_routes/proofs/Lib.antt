@@ -12,3 +12,5 @@ pub mod SwitchSearch
 pub mod ExitLists
 pub mod Walked
 pub mod Wirings
+pub mod RootByRoot
+pub mod Outside

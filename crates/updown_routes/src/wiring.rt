@@ -4,6 +4,7 @@ ghost use Rattle.std.specs.FinMap.{entries};
 ghost use Rattle.subnet_view.specs.Reading.{port_count_of, switches};
 ghost use Rattle.port_graph.specs.Heads.{LeadToVertices};
 ghost use Rattle.updown_routes.specs.Graph.{exit_at, exits_at, exits_of, graph_of, guids_of};
+ghost use Rattle.updown_routes.specs.GraphLaws.{IsGraph};
 ghost use Rattle.updown_routes.specs.Ranks.{distance};
 ghost use Rattle.updown_routes.specs.Wiring.{by_guid, switch_at, IsIndexIn, LeadBelow};
 
@@ -47,7 +48,8 @@ impl Wiring {
 
     /// How many switches there are.
     pub(crate) fn len(&self) -> usize
-        ensures { result ≡ length self.now }
+        ensures count { result ≡ length self.now }
+        ensures is_graph { IsGraph self.now }
     {
         self.guids.len()
     }
@@ -61,7 +63,8 @@ impl Wiring {
 
     /// The index of a switch. Takes a search.
     pub(crate) fn index_of(&self, switch: Guid) -> Option<usize>
-        ensures { IsIndexIn (guids_of self.now) switch result }
+        ensures found { IsIndexIn (guids_of self.now) switch result }
+        ensures is_graph { IsGraph self.now }
     {
         index_of(&self.guids, switch)
     }
