@@ -1,6 +1,6 @@
 -- Lists that are kept end to end in one list, and one more of them.
-use Rattle.std.proofs.Common.{◌≡◌, ◌≤◌, ◌-◌, ◌+◌, ℕ, List, [], ◌∷◌, ◌++◌, refl, sym, ap, ap₂, ◌∙◌, arith, map, length, take, drop}
-use Rattle.std.proofs.lemmas.List.{map-append, length-drop, length-append, take-append-le, drop-append-le, drop_at, take_all}
+use Rattle.std.proofs.Common.{◌≡◌, ◌≤◌, ◌-◌, ◌+◌, List, [], ◌∷◌, ◌++◌, refl, sym, ap, ap₂, ◌∙◌, arith, length, take, drop}
+use Rattle.std.proofs.lemmas.List.{map-append, length-drop, take-append-le, drop-append-le, drop_at, take_all}
 use Rattle.std.proofs.lemmas.List.Elements.{All-head, All-tail}
 use Rattle.port_graph.specs.declared.exit.Exit.{Exit}
 use Rattle.port_graph.specs.declared.exits.Span.{Span}
@@ -24,5 +24,5 @@ pub cut_pushed : (exits more : List Exit) (spans : List Span) (span : Span) → 
     → cut (exits ++ more) (spans ++ span ∷ []) ≡ cut exits spans ++ more ∷ []
 cut_pushed exits more spans span within start end =
     let last : part (exits ++ more) span ≡ more =
-        ap (take (span.end - span.start)) (drop_at exits more span.start (sym start)) ∙ take_all (span.end - span.start) more (omega arith) in
+    ap (take (span.end - span.start)) (drop_at exits more span.start (sym start)) ∙ take_all (span.end - span.start) more (omega arith) in
     map-append (part (exits ++ more)) spans (span ∷ []) ∙ ap₂ (λ (xs : List (List Exit)) (x : List Exit). xs ++ x ∷ []) (cut_kept exits more spans within) last

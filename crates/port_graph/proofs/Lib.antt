@@ -4,3 +4,9 @@ pub mod WalkLemmas
 pub mod Paths
 pub mod Costs
 pub mod Cuts
+pub mod Searching
+pub mod SearchSteps
+pub mod Renaming
+pub mod Indexing
+pub mod CostSteps
+pub mod NextPorts

@@ -2,8 +2,13 @@
 //! up and then down.
 #![tactic(auto)]
 
+mod cost;
+mod distance;
 mod exit;
 mod exits;
+mod next_port;
 
+pub use distance::distances;
 pub use exit::Exit;
 pub use exits::Exits;
+pub use next_port::next_ports;

@@ -23,11 +23,11 @@ pub is_some_of : (o : Option ℕ) → is_some o ≡ true → (n : ℕ) × (o ≡
 is_some_of None e = absurd (cc)
 is_some_of (Some n) e = (n, refl)
 
-find_same : (p q : ℕ → Bool) (xs : List ℕ) → ((x : ℕ) → Contains xs x → p x ≡ q x) → find p xs ≡ find q xs
+pub find_same : (p q : ℕ → Bool) (xs : List ℕ) → ((x : ℕ) → Contains xs x → p x ≡ q x) → find p xs ≡ find q xs
 find_same p q [] h = refl
 find_same p q (x ∷ xs) h = cc (h x (contains_here x xs), find_same p q xs (λ y k. h y (contains_later x y xs k)))
 
-same_tests : (a b : Bool) → (a ≡ true → b ≡ true) → (b ≡ true → a ≡ true) → a ≡ b
+pub same_tests : (a b : Bool) → (a ≡ true → b ≡ true) → (b ≡ true → a ≡ true) → a ≡ b
 same_tests true b f g = sym (f refl)
 same_tests false true f g = g refl
 same_tests false false f g = refl

@@ -8,3 +8,9 @@ pub mod Ranks
 pub mod Ways
 pub mod LeastCosts
 pub mod NextPorts
+pub mod SwitchSearch
+pub mod ExitLists
+pub mod Walked
+pub mod Wirings
+pub mod RootByRoot
+pub mod Outside

@@ -29,8 +29,11 @@ usable_switch facts g u = ((switches_law facts).0 g).1 ((usable_law (entries fac
 increasing : (xs : List ℕ) → AllPairs (λ a b. a < b) xs → IsStrictlyIncreasing xs
 increasing xs h k l = h k (k + 1) 0 (omega arith) l
 
+pub switches_increase : (facts : Facts) → IsStrictlyIncreasing (switches (entries facts))
+switches_increase facts = increasing (switches (entries facts)) (switches_law facts).1
+
 pub switches_rise : (facts : Facts) → IsStrictlyIncreasing (guids_of (graph_of (entries facts)))
-switches_rise facts = subst IsStrictlyIncreasing (sym (graph_guids (entries facts))) (increasing (switches (entries facts)) (switches_law facts).1)
+switches_rise facts = subst IsStrictlyIncreasing (sym (graph_guids (entries facts))) (switches_increase facts)
 
 pub switch_law : SwitchLaw
 switch_law facts g = let cells = entries facts in (

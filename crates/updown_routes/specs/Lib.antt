@@ -4,3 +4,4 @@ pub mod GraphLaws
 pub mod Ranks
 pub mod RankLaws
 pub mod RouteLaws
+pub mod Wiring
