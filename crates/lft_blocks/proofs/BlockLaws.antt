@@ -25,5 +25,7 @@ module _ {X : Type 0} (f : ℕ → X) (first n : ℕ) where
 pub blocks_hold_entries : BlocksHoldEntries
 blocks_hold_entries homes slopes count s b i these e h =
     let at : 0 + b ≡ b = omega arith in
+    let place : 0 + i ≡ i = omega arith in
     ap (λ entries. slice_get entries i) (made_from (block homes slopes s) 0 count b these e ∙ ap (block homes slopes s) at)
-    ∙ made_at (entry homes slopes s) (64 * b) 64 i h
+    ∙ made_at (λ j. entry homes slopes s (64 * b + j)) 0 64 i h
+    ∙ ap (λ j. Some (entry homes slopes s (64 * b + j))) place

@@ -1,5 +1,5 @@
 -- The entries of linear forwarding tables, in blocks of 64 (subnet management chapter, LinearForwardingTable).
-use Rattle.std.specs.Prelude.{ℕ, suc, ◌*◌, ◌/◌, List, map, Option, Some, ◌==◌, unwrap_or, option_and_then, if◌then◌else◌}
+use Rattle.std.specs.Prelude.{ℕ, suc, ◌+◌, ◌*◌, ◌/◌, List, map, Option, Some, ◌==◌, unwrap_or, option_and_then, if◌then◌else◌}
 use Rattle.std.specs.Option.{option_map_or}
 use Rattle.std.specs.List.{range_with_len}
 use Rattle.subnet_view.specs.declared.end_port.EndPort.{EndPort}
@@ -24,9 +24,9 @@ port_to slopes s home = if home.0 == s then home.1 else unwrap_or (next_port slo
 abbrev pub entry : (ℕ → Option (ℕ × ℕ)) → List Slope → ℕ → ℕ → ℕ
 entry homes slopes s lid = option_map_or (port_to slopes s) (homes lid) 255
 
--- the entries for the LIDs from 64 b on
+-- the entries for 64 LIDs from 64 b on
 abbrev pub block : (ℕ → Option (ℕ × ℕ)) → List Slope → ℕ → ℕ → List ℕ
-block homes slopes s b = map (entry homes slopes s) (range_with_len (64 * b) 64)
+block homes slopes s b = map (λ i. entry homes slopes s (64 * b + i)) (range_with_len 0 64)
 
 -- so many blocks that the last one has the greatest LID; none without a LID
 abbrev pub block_count : Option ℕ → ℕ

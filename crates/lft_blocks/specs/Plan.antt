@@ -1,6 +1,7 @@
 -- What a view plans: a LID for each end port, and each usable switch's blocks.
-use Rattle.std.specs.Prelude.{ℕ, List, map, Option, ◌==◌, option_and_then, slice_get}
+use Rattle.std.specs.Prelude.{◌≡◌, ℕ, List, map, Option, ◌==◌, option_and_then, slice_get}
 use Rattle.std.specs.List.{find}
+use Rattle.std.specs.List.Sorted.{IsStrictlyIncreasing}
 use Rattle.subnet_view.specs.declared.end_port.EndPort.{EndPort}
 use Rattle.subnet_view.specs.Reading.{Cells, switches}
 use Rattle.lid_assign.specs.Lids.{lids, top_of}
@@ -34,3 +35,8 @@ block_at plan guid b = option_and_then (λ table. slice_get table.blocks b) (fin
 -- the usable switches
 abbrev pub guids_of : PlanValue → List ℕ
 guids_of plan = map (λ table. table.guid) plan.tables
+
+-- the switches are those of the tables, by rising GUID
+pub record AreTables (guids : List ℕ) (tables : List SwitchTable) : Type 0 where
+  pub theirs : guids ≡ map (λ table. table.guid) tables
+  pub rising : IsStrictlyIncreasing guids
