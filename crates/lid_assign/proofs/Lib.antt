@@ -13,3 +13,4 @@ pub mod Tables
 pub mod Free
 pub mod Keeping
 pub mod Giving
+pub mod Staying

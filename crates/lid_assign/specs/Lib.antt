@@ -2,3 +2,4 @@ pub mod Lids
 pub mod LidFault
 pub mod Marks
 pub mod Indexed
+pub mod Stability

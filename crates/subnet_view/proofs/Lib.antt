@@ -8,3 +8,5 @@ pub mod EndPortOrder
 pub mod EndPortList
 pub mod WireEnds
 pub mod WireLaws
+pub mod Attachments
+pub mod BesideClaims

@@ -3,7 +3,7 @@ use Rattle.std.specs.Prelude.{◌≡◌, ◌≢◌, ◌↔◌, ◌≤◌, ℕ, B
 use Rattle.std.specs.Option.{option_map_or}
 use Rattle.smp_bytes.specs.declared.node_type.NodeType.{NodeType}
 use Rattle.smp_bytes.specs.NodeType.{is_switch}
-use Rattle.subnet_view.specs.Reading.{Cells, port_guid_of, link_of, cap_of, is_up, is_switch_node, is_usable, is_port_of}
+use Rattle.subnet_view.specs.Reading.{Cells, port_guid_of, link_of, cap_of, is_up, is_switch_node, is_usable, is_port_of, IsUsable}
 use Rattle.subnet_view.specs.EndPorts.{is_end_port, IsNodeWith}
 
 -- a port that can have a wire: up, from 1 to the node's count, and of a usable switch or an end port
@@ -21,6 +21,10 @@ is_wire cells g p q = not (is_at g p q) && is_wire_end cells g p && is_wire_end 
 -- the other end of the wire in a port
 abbrev pub across : Cells → ℕ → ℕ → Option (ℕ × ℕ)
 across cells g p = option_and_then (λ q. if is_wire cells g p q then Some q else None) (link_of cells g p)
+
+-- the switch and the port of it that the wire in an adapter port leads to
+abbrev pub attached : Cells → ℕ → ℕ → Option (ℕ × ℕ)
+attached cells g p = if is_switch_node cells g then None else option_and_then (λ q. if is_switch_node cells q.0 then Some q else None) (across cells g p)
 
 -- the laws of these words: -----------------------------------------------------------
 
@@ -43,3 +47,13 @@ WireLaw = (cells : Cells) (g p h q : ℕ) → (across cells g p ≡ Some (h, q))
 -- the wire in the other end leads back
 abbrev pub WiresGoBothWays : Type 0
 WiresGoBothWays = (cells : Cells) (g p h q : ℕ) → across cells g p ≡ Some (h, q) → across cells h q ≡ Some (g, p)
+
+-- a port of a node that is no known switch, with a wire to a port of a usable switch
+pub record IsAttached (cells : Cells) (g p h q : ℕ) : Type 0 where
+  pub not_a_switch : is_switch_node cells g ≡ false
+  pub wire : IsWire cells g p h q
+  pub to_switch : IsUsable cells h
+
+-- a port is attached exactly where the words say so
+abbrev pub AttachedLaw : Type 0
+AttachedLaw = (cells : Cells) (g p h q : ℕ) → (attached cells g p ≡ Some (h, q)) ↔ IsAttached cells g p h q

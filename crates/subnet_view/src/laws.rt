@@ -1,7 +1,7 @@
 //! What the readings of a view mean.
 ghost use Rattle.subnet_view.specs.EndPorts.{EndPortLaw, EndPortsLaw};
 ghost use Rattle.subnet_view.specs.Reading.{UsableLaw, SwitchesLaw};
-ghost use Rattle.subnet_view.specs.Wires.{WireLaw, WiresGoBothWays};
+ghost use Rattle.subnet_view.specs.Wires.{WireLaw, WiresGoBothWays, AttachedLaw};
 
 /// A usable switch is a node known to be a switch whose table room is known.
 pub fn usable_is_in_words()
@@ -32,4 +32,10 @@ pub fn wire_is_in_words()
 /// A wire goes both ways.
 pub fn wires_go_both_ways()
     ensures { WiresGoBothWays }
+{}
+
+/// A port is attached to a port of a usable switch exactly where its node isn't known to be a switch and
+/// a wire leads from the one to the other.
+pub fn attachment_is_in_words()
+    ensures { AttachedLaw }
 {}

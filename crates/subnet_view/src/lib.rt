@@ -10,7 +10,7 @@ mod wire_end;
 pub use end_port::{EndPort, end_ports, is_end_port};
 pub use reading::{cap, claim};
 pub use switch::{is_usable, switches};
-pub use wire_end::wire;
+pub use wire_end::{attached, wire};
 
 #[cfg(test)]
 mod tests;

@@ -50,6 +50,16 @@ fn reads_the_sample_fabric(rt: HostRuntime) -> Result<(), Fail> {
         let other = wire(&store, near.node, near.port).map(|(node, port)| EndPort { node, port });
         assert!(rt; other == far, "{near:?}");
     }
+    for (near, far) in [
+        (at(0x100, 1), Some(at(0x20, 3))),
+        (at(0x200, 1), Some(at(0x30, 3))),
+        (at(0x100, 2), None),
+        (at(0x20, 3), None),
+        (at(0x10, 1), None),
+    ] {
+        let to = attached(&store, near.node, near.port).map(|(node, port)| EndPort { node, port });
+        assert!(rt; to == far, "{near:?}");
+    }
     Ok(())
 }
 

@@ -1,6 +1,6 @@
 ghost use Rattle.std.specs.Prelude.{◌≡◌};
 ghost use Rattle.std.specs.FinMap.{entries};
-ghost use Rattle.subnet_view.specs.Wires.{is_wire_end, is_wire, across};
+ghost use Rattle.subnet_view.specs.Wires.{is_wire_end, is_wire, across, attached};
 
 use crate::end_port::is_end_port;
 use crate::reading::{is_port, is_switch, is_up, link};
@@ -16,6 +16,22 @@ pub fn wire(store: &Store, node: Guid, port: PortNum) -> Option<(Guid, PortNum)>
 {
     let (far_node, far_port) = link(store, node, port)?;
     if is_wire(store, (node, port), (far_node, far_port)) {
+        Some((far_node, far_port))
+    } else {
+        None
+    }
+}
+
+/// The switch and the port of it that the wire in an adapter port leads to. A port of a node that is known
+/// to be a switch is attached to nothing. Takes some twelve searches.
+pub fn attached(store: &Store, node: Guid, port: PortNum) -> Option<(Guid, PortNum)>
+    ensures { result ≡ attached (entries store.now) node port }
+{
+    if is_switch(store, node) {
+        return None;
+    }
+    let (far_node, far_port) = wire(store, node, port)?;
+    if is_switch(store, far_node) {
         Some((far_node, far_port))
     } else {
         None

@@ -1,0 +1,99 @@
+-- Tables by the places of switches are the tables by their GUIDs.
+use Rattle.std.proofs.Common.{◌≡◌, ◌<◌, ◌+◌, ◌*◌, ℕ, List, [], ◌∷◌, inl, inr, refl, sym, ap, ◌∙◌, subst, arith, cond, ◌==◌, length, map}
+use Rattle.std.proofs.lemmas.Bool.{cases_order, eqb-true, eq-eqb}
+use Rattle.std.proofs.lemmas.List.{get_or-map, length-map}
+use Rattle.std.proofs.lemmas.List.FromFn.{fill_by_all}
+use Rattle.std.proofs.lemmas.List.Kept.{AllPairs-from_increasing}
+use Rattle.std.specs.Prelude.{Option, None, Some, unwrap_or, slice_index, slice_index_or}
+use Rattle.std.specs.Option.{option_map_or}
+use Rattle.std.specs.List.{range_with_len}
+use Rattle.std.specs.List.Sorted.{IsStrictlyIncreasing}
+use Rattle.std.specs.Cmp.{both_ways}
+use Rattle.std.specs.FinMap.{entries}
+use Rattle.fact_store.specs.View.{Facts}
+use Rattle.subnet_view.specs.Reading.{switches}
+use Rattle.updown_routes.proofs.Switches.{switches_increase}
+use Rattle.port_graph.specs.Slopes.{Slope, next_port}
+use Rattle.lft_blocks.specs.declared.home.Home.{Home}
+use Rattle.lft_blocks.specs.Entries.{port_to, entry, blocks}
+use Rattle.lft_blocks.specs.Homes.{meant, IsPlaced, ArePlaced, AreWithin, row_of, entry_in, block_in, table_in}
+use Rattle.lft_blocks.specs.Plan.{SwitchTable, tables_of, AreTables}
+
+module _ (slopes : List Slope) (guids : List ℕ) (rising : IsStrictlyIncreasing guids) where
+  -- places are told apart by their GUIDs
+  same_test : (i j : ℕ) → i < length guids → j < length guids → (i == j) ≡ (slice_index guids i == slice_index guids j)
+  same_test i j h k =
+      both_ways (i == j) (slice_index guids i == slice_index guids j)
+      (λ e. eq-eqb (slice_index guids i) (slice_index guids j) (ap (λ n. slice_index guids n) (eqb-true i j e)))
+      (λ e. eq-eqb i j (same_place (eqb-true (slice_index guids i) (slice_index guids j) e)))
+    where
+      same_place : slice_index guids i ≡ slice_index guids j → i ≡ j
+      same_place e = elim (cases_order i j) [
+        | inl p ↦ p
+        | inr (inl p) ↦ let a = AllPairs-from_increasing guids rising i j 0 p k in absurd (omega arith)
+        | inr (inr p) ↦ let a = AllPairs-from_increasing guids rising j i 0 p h in absurd (omega arith)
+      ]
+
+  module _ (own : ℕ) (there : own < length guids) where
+    abbrev s : ℕ
+    s = slice_index guids own
+
+    abbrev row : List ℕ
+    row = row_of slopes s guids
+
+    port_same : (h : Home) → h.switch < length guids → cond (h.switch == own) h.port (slice_index row h.switch) ≡ port_to slopes s (meant guids h)
+    port_same h w =
+        let at : slice_index row h.switch ≡ unwrap_or (next_port slopes s (slice_index guids h.switch)) 255
+        = get_or-map (λ t. unwrap_or (next_port slopes s t) 255) guids h.switch 0 0 w in
+        λ i. cond (same_test h.switch own w there i) h.port (at i)
+
+    entry_same : (homes : ℕ → Option (ℕ × ℕ)) (placed : List (Option Home)) → ArePlaced guids homes placed → (lid : ℕ) → entry_in placed row own lid ≡ entry homes slopes s lid
+    entry_same homes placed are lid = go (slice_index_or placed lid None) (are lid)
+      where
+        go : (o : Option Home) → IsPlaced guids (homes lid) o → option_map_or (λ h. cond (h.switch == own) h.port (slice_index row h.switch)) o 255 ≡ option_map_or (port_to slopes s) (homes lid) 255
+        go None is = ap (λ home. option_map_or (port_to slopes s) home 255) is.same
+        go (Some h) is = port_same h is.within ∙ ap (λ home. option_map_or (port_to slopes s) home 255) is.same
+
+-- they are the same
+pub tables_same : (slopes : List Slope) (guids : List ℕ) (homes : ℕ → Option (ℕ × ℕ)) (placed : List (Option Home)) (count : ℕ) → IsStrictlyIncreasing guids → ArePlaced guids homes placed
+    → tables_of homes slopes count guids ≡ map (table_in placed slopes guids count) (range_with_len 0 (length guids))
+tables_same slopes guids homes placed count rising are =
+    fill_by_all (table_in placed slopes guids count) (tables_of homes slopes count guids) (length guids) none (length-map guids by_guid)
+    (λ k h. get_or-map by_guid guids k 0 none h ∙ sym (at k h))
+  where
+    none : SwitchTable
+    none = record { guid = 0; blocks = [] }
+
+    by_guid : ℕ → SwitchTable
+    by_guid g = record { guid = g; blocks = blocks homes slopes count g }
+
+    at : (own : ℕ) → own < length guids → table_in placed slopes guids count own ≡ record { guid = slice_index guids own; blocks = blocks homes slopes count (slice_index guids own) }
+    at own h =
+        let same = entry_same slopes guids rising own h homes placed are in
+        λ i. record { guid = slice_index guids own; blocks = map (λ b. map (λ j. same (64 * b + j) i) (range_with_len 0 64)) (range_with_len 0 count) }
+
+-- a home that has a place has a switch
+pub placed_within : (guids : List ℕ) (homes : ℕ → Option (ℕ × ℕ)) (placed : List (Option Home)) → ArePlaced guids homes placed → AreWithin (length guids) placed
+placed_within guids homes placed are lid = (are lid).within
+
+-- the switches of the tables are the switches
+their_guids : (homes : ℕ → Option (ℕ × ℕ)) (slopes : List Slope) (count : ℕ) (guids : List ℕ) → guids ≡ map (λ table. table.guid) (tables_of homes slopes count guids)
+their_guids homes slopes count [] = refl
+their_guids homes slopes count (g ∷ guids) = ap (λ gs. g ∷ gs) (their_guids homes slopes count guids)
+
+-- and rise where these do
+pub are_tables : (homes : ℕ → Option (ℕ × ℕ)) (slopes : List Slope) (count : ℕ) (guids : List ℕ) (tables : List SwitchTable) → IsStrictlyIncreasing guids
+    → tables ≡ tables_of homes slopes count guids → AreTables guids tables
+are_tables homes slopes count guids tables rising e = record {
+  theirs = their_guids homes slopes count guids ∙ ap (map (λ table. table.guid)) (sym e);
+  rising = rising;
+}
+
+-- the usable switches rise
+pub switches_rise : (facts : Facts) (guids : List ℕ) → guids ≡ switches (entries facts) → IsStrictlyIncreasing guids
+switches_rise facts guids e = subst IsStrictlyIncreasing (sym e) (switches_increase facts)
+
+-- the table that is made of a switch's GUID, row and blocks
+pub table_made : (placed : List (Option Home)) (slopes : List Slope) (guids : List ℕ) (count own guid : ℕ) (ports : List ℕ) (blocks : List (List ℕ)) → guid ≡ slice_index guids own
+    → ports ≡ row_of slopes guid guids → blocks ≡ map (block_in placed ports own) (range_with_len 0 count) → record { guid = guid; blocks = blocks } ≡ table_in placed slopes guids count own
+table_made placed slopes guids count own guid ports blocks e f h = λ i. record { guid = e i; blocks = (h ∙ ap (λ r. map (block_in placed r own) (range_with_len 0 count)) (f ∙ ap (λ s. row_of slopes s guids) e)) i }

@@ -1,0 +1,56 @@
+-- The homes of LIDs, LID by LID.
+use Rattle.std.proofs.Common.{◌≡◌, ◌+◌, ◌*◌, ◌<◌, ◌≤◌, ◌/◌, ℕ, suc, List, ◌∷◌, [], ◌++◌, refl, sym, ap, ◌∙◌, subst, inl, inr, arith, length}
+use Rattle.std.proofs.lemmas.Bool.{cases_lt}
+use Rattle.std.proofs.lemmas.List.{get_or_past, get_or_append_left, length_push}
+use Rattle.std.proofs.Math.Seq.{get_or-append_seam}
+use Rattle.std.specs.Prelude.{Option, None, Some, option_and_then, slice_index_or}
+use Rattle.subnet_view.specs.declared.end_port.EndPort.{EndPort}
+use Rattle.subnet_view.specs.Reading.{Cells}
+use Rattle.lid_assign.specs.Lids.{owner_of, top_of}
+use Rattle.lid_assign.proofs.Owners.{given-from_owner}
+use Rattle.lid_assign.proofs.Tops.{at_most_top}
+use Rattle.lft_blocks.specs.declared.home.Home.{Home}
+use Rattle.lft_blocks.specs.Entries.{home_of, home_of_lid, block_count}
+use Rattle.lft_blocks.specs.Homes.{IsPlaced, ArePlaced}
+
+-- no LID behind the last block has an owner
+owner_past : (given : List (EndPort × ℕ)) (lid : ℕ) → 64 * block_count (top_of given) ≤ lid → owner_of given lid ≡ None
+owner_past given lid h =
+    elim (owner_of given lid) as (λ o. owner_of given lid ≡ o → o ≡ None) [
+      | None ↦ λ e. refl
+      | Some port ↦ λ e.
+          let t = at_most_top given port lid (given-from_owner given port lid e) in
+          let count : block_count (top_of given) ≡ suc (t.0 / 64) = ap block_count t.1 in
+          absurd (omega (arith, count, t.2))
+    ] refl
+
+-- each LID below the bound has its home
+abbrev pub ArePlacedBelow : List ℕ → (ℕ → Option (ℕ × ℕ)) → ℕ → List (Option Home) → Type 0
+ArePlacedBelow guids homes n placed = (length placed ≡ n) × ((k : ℕ) → k < n → IsPlaced guids (homes k) (slice_index_or placed k None))
+
+-- one more
+pub placed_more : (guids : List ℕ) (homes : ℕ → Option (ℕ × ℕ)) (n : ℕ) (placed : List (Option Home)) (home : Option Home) → ArePlacedBelow guids homes n placed → IsPlaced guids (homes n) home
+    → ArePlacedBelow guids homes (n + 1) (placed ++ home ∷ [])
+placed_more guids homes n placed home below next =
+    let Is : ℕ → Option Home → Type 0 = λ k h. IsPlaced guids (homes k) h in (
+      length_push placed home ∙ ap (λ m. m + 1) below.0,
+      λ k h. (elim (cases_lt k n) [
+        | inl l ↦ subst (Is k) (sym (get_or_append_left placed (home ∷ []) None k (omega (arith, below.0)))) (below.1 k l)
+        | inr m ↦
+            let last : n ≡ k = omega arith in
+            let at : slice_index_or (placed ++ home ∷ []) k None ≡ home = ap (λ j. slice_index_or (placed ++ home ∷ []) j None) (sym last ∙ sym below.0) ∙ get_or-append_seam placed home [] None in
+            subst (Is k) (sym at) (subst (λ (j : ℕ). Is j home) last next)
+      ]),
+    )
+
+-- and all
+pub placed_all : (cells : Cells) (guids : List ℕ) (given : List (EndPort × ℕ)) (count : ℕ) (placed : List (Option Home)) → count ≡ block_count (top_of given)
+    → ArePlacedBelow guids (home_of_lid cells given) (64 * count) placed → ArePlaced guids (home_of_lid cells given) placed
+placed_all cells guids given count placed is below lid =
+    elim (cases_lt lid (64 * count)) [
+      | inl l ↦ below.1 lid l
+      | inr m ↦
+          let none : home_of_lid cells given lid ≡ None = ap (option_and_then (home_of cells)) (owner_past given lid (omega (arith, is))) in
+          let past = get_or_past placed lid None (omega (arith, below.0)) in
+          subst (λ (x : Option (ℕ × ℕ) × Option Home). IsPlaced guids x.0 x.1) (λ i. (sym none i, sym past i)) (record { same = refl; within = tt })
+    ]

@@ -1,0 +1,39 @@
+-- Facts that differ in claims alone, and give the same LIDs, have the same plan.
+use Rattle.std.proofs.Common.{◌≡◌, ℕ, sym, false, cond, map}
+use Rattle.std.specs.Prelude.{None, Some, option_and_then}
+use Rattle.std.specs.List.{filter_map, range_with_len}
+use Rattle.std.specs.FinMap.{get, entries}
+use Rattle.fact_store.specs.declared.key.Key.{Key}
+use Rattle.fact_store.specs.View.{Facts}
+use Rattle.subnet_view.specs.declared.end_port.EndPort.{EndPort}
+use Rattle.subnet_view.proofs.BesideClaims.{is_claim, switch_same, usable_same, count_same, switches_same, across_same, attached_same}
+use Rattle.lid_assign.specs.Lids.{lids, owner_of, top_of}
+use Rattle.lid_assign.proofs.Staying.{same_but_claims, lids_settle}
+use Rattle.updown_routes.specs.Graph.{exit_at, graph_of}
+use Rattle.updown_routes.specs.Ranks.{slopes_of}
+use Rattle.lft_blocks.specs.Entries.{home_of, block_count}
+use Rattle.lft_blocks.specs.Plan.{tables_of, plan_of}
+use Rattle.lft_blocks.specs.PlanLaws.{PlansStay}
+
+module _ (x y : Facts) (same : (key : Key) → is_claim key ≡ false → get x key ≡ get y key) where
+  exit_same : (g p : ℕ) → exit_at (entries x) g p ≡ exit_at (entries y) g p
+  exit_same g p = λ i. option_and_then (λ q. cond (switch_same x y same q.0 i) (Some (record { port = p; to = q.0 })) None) (across_same x y same g p i)
+
+  graph_same : graph_of (entries x) ≡ graph_of (entries y)
+  graph_same = λ i. map (λ g. record { guid = g; exits = filter_map (λ p. exit_same g p i) (range_with_len 1 (count_same x y same g i)) }) (switches_same x y same i)
+
+  home_same : (e : EndPort) → home_of (entries x) e ≡ home_of (entries y) e
+  home_same e = λ i. cond (usable_same x y same e.node i) (Some (e.node, 0)) (attached_same x y same e.node e.port i)
+
+  plan_same : lids (entries x) ≡ lids (entries y) → plan_of (entries x) ≡ plan_of (entries y)
+  plan_same given =
+      λ i. record {
+        given = given i;
+        tables = tables_of (λ lid. option_and_then (λ e. home_same e i) (owner_of (given i) lid)) (slopes_of (graph_same i)) (block_count (top_of (given i))) (switches_same x y same i);
+      }
+
+-- once the LIDs of a view are claimed, its plan stays
+pub plans_stay : PlansStay
+plans_stay x y room claims =
+    let l = lids_settle x y room claims in
+    (l.0, sym (plan_same x y (same_but_claims x y claims.same) (sym l.1)))

@@ -1,0 +1,40 @@
+-- The homes of LIDs by the indices of their switches, and entries by these.
+use Rattle.std.specs.Prelude.{◌≡◌, ◌<◌, ℕ, ◌+◌, ◌*◌, List, map, length, Option, None, MatchOption, ◌==◌, unwrap_or, option_map, slice_index, slice_index_or, if◌then◌else◌}
+use Rattle.std.specs.Option.{option_map_or}
+use Rattle.std.specs.List.{range_with_len}
+use Rattle.port_graph.specs.Slopes.{Slope, next_port}
+use Rattle.lft_blocks.specs.declared.home.Home.{Home}
+use Rattle.lft_blocks.specs.Plan.{SwitchTable}
+
+-- the switch and the port that are meant
+abbrev pub meant : List ℕ → Home → ℕ × ℕ
+meant guids h = (slice_index guids h.switch, h.port)
+
+-- the home, by the index of its switch
+pub record IsPlaced (guids : List ℕ) (home : Option (ℕ × ℕ)) (placed : Option Home) : Type 0 where
+  pub same : option_map (meant guids) placed ≡ home
+  pub within : MatchOption placed (Unit {0}) (λ h. h.switch < length guids)
+
+-- the home of each LID
+abbrev pub ArePlaced : List ℕ → (ℕ → Option (ℕ × ℕ)) → List (Option Home) → Type 0
+ArePlaced guids homes placed = (lid : ℕ) → IsPlaced guids (homes lid) (slice_index_or placed lid None)
+
+-- each home's switch is one of so many
+abbrev pub AreWithin : ℕ → List (Option Home) → Type 0
+AreWithin n placed = (lid : ℕ) → MatchOption (slice_index_or placed lid None) (Unit {0}) (λ h. h.switch < n)
+
+-- the next port from the switch s towards each switch, and 255 where there is no way
+abbrev pub row_of : List Slope → ℕ → List ℕ → List ℕ
+row_of slopes s guids = map (λ t. unwrap_or (next_port slopes s t) 255) guids
+
+-- the entry for a LID of the switch at the index own, by its row
+abbrev pub entry_in : List (Option Home) → List ℕ → ℕ → ℕ → ℕ
+entry_in placed row own lid = option_map_or (λ h. if h.switch == own then h.port else slice_index row h.switch) (slice_index_or placed lid None) 255
+
+-- its block b
+abbrev pub block_in : List (Option Home) → List ℕ → ℕ → ℕ → List ℕ
+block_in placed row own b = map (λ i. entry_in placed row own (64 * b + i)) (range_with_len 0 64)
+
+-- the table of the switch at an index
+abbrev pub table_in : List (Option Home) → List Slope → List ℕ → ℕ → ℕ → SwitchTable
+table_in placed slopes guids count own = let s = slice_index guids own in record { guid = s; blocks = map (block_in placed (row_of slopes s guids) own) (range_with_len 0 count) }

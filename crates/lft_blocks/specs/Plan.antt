@@ -1,0 +1,42 @@
+-- What a view plans: a LID for each end port, and each usable switch's blocks.
+use Rattle.std.specs.Prelude.{◌≡◌, ℕ, List, map, Option, ◌==◌, option_and_then, slice_get}
+use Rattle.std.specs.List.{find}
+use Rattle.std.specs.List.Sorted.{IsStrictlyIncreasing}
+use Rattle.subnet_view.specs.declared.end_port.EndPort.{EndPort}
+use Rattle.subnet_view.specs.Reading.{Cells, switches}
+use Rattle.lid_assign.specs.Lids.{lids, top_of}
+use Rattle.port_graph.specs.Slopes.{Slope}
+use Rattle.updown_routes.specs.Graph.{graph_of}
+use Rattle.updown_routes.specs.Ranks.{slopes_of}
+use Rattle.lft_blocks.specs.Entries.{home_of_lid, block_count, blocks}
+
+-- a usable switch and its blocks from 0 on
+pub record SwitchTable : Type 0 where
+  pub guid : ℕ
+  pub blocks : List (List ℕ)
+
+-- the end ports in their order with their LIDs, and the usable switches by rising GUID
+pub record PlanValue : Type 0 where
+  pub given : List (EndPort × ℕ)
+  pub tables : List SwitchTable
+
+-- the table of each of these switches
+abbrev pub tables_of : (ℕ → Option (ℕ × ℕ)) → List Slope → ℕ → List ℕ → List SwitchTable
+tables_of homes slopes count guids = map (λ s. record { guid = s; blocks = blocks homes slopes count s }) guids
+
+-- the plan of a view
+abbrev pub plan_of : Cells → PlanValue
+plan_of cells = let given = lids cells in record { given = given; tables = tables_of (home_of_lid cells given) (slopes_of (graph_of cells)) (block_count (top_of given)) (switches cells) }
+
+-- a block of a switch; none where the GUID is no usable switch's, or there is no such block
+abbrev pub block_at : PlanValue → ℕ → ℕ → Option (List ℕ)
+block_at plan guid b = option_and_then (λ table. slice_get table.blocks b) (find (λ table. table.guid == guid) plan.tables)
+
+-- the usable switches
+abbrev pub guids_of : PlanValue → List ℕ
+guids_of plan = map (λ table. table.guid) plan.tables
+
+-- the switches are those of the tables, by rising GUID
+pub record AreTables (guids : List ℕ) (tables : List SwitchTable) : Type 0 where
+  pub theirs : guids ≡ map (λ table. table.guid) tables
+  pub rising : IsStrictlyIncreasing guids

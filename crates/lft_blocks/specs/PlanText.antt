@@ -1,0 +1,53 @@
+-- A plan as text.
+use Rattle.std.specs.Prelude.{ℕ, List, [], ◌++◌, codes, decimal}
+use Rattle.std.specs.Option.{option_map_or}
+use Rattle.std.specs.List.{flat_map, enumerate_from}
+use Rattle.hex.specs.Hex.{encode_lower}
+use Rattle.smp_bytes.specs.Text.{hex_text}
+use Rattle.subnet_view.specs.declared.end_port.EndPort.{EndPort}
+use Rattle.lid_assign.specs.Lids.{owner_of, top_of, rising_lids}
+use Rattle.lft_blocks.specs.Plan.{SwitchTable, PlanValue}
+
+-- a node's GUID
+abbrev pub guid_text : ℕ → List ℕ
+guid_text guid = hex_text 16 guid
+
+-- an end port's node and number
+abbrev pub port_text : EndPort → List ℕ
+port_text port = guid_text port.node ++ codes "/" ++ decimal port.port
+
+-- the line of a LID
+abbrev pub lid_line : ℕ × EndPort → List ℕ
+lid_line x = codes "lid " ++ decimal x.0 ++ codes " " ++ port_text x.1 ++ codes "\n"
+
+-- the line of a LID, where an end port has it
+abbrev pub owner_line : List (EndPort × ℕ) → ℕ → List ℕ
+owner_line given lid = option_map_or (λ port. lid_line (lid, port)) (owner_of given lid) []
+
+-- a line for each LID, rising
+abbrev pub lids_text : List (EndPort × ℕ) → List ℕ
+lids_text given = flat_map (owner_line given) (rising_lids given)
+
+-- the line of a switch
+abbrev pub switch_line : ℕ → ℕ → List ℕ
+switch_line top guid = codes "switch " ++ guid_text guid ++ codes " top " ++ decimal top ++ codes "\n"
+
+-- the line of a block, with two hex digits for each entry
+abbrev pub block_line : ℕ × List ℕ → List ℕ
+block_line x = codes "block " ++ decimal x.0 ++ codes " " ++ encode_lower x.1 ++ codes "\n"
+
+-- a line for each block
+abbrev pub blocks_text : List (List ℕ) → List ℕ
+blocks_text blocks = flat_map block_line (enumerate_from 0 blocks)
+
+-- a switch with the greatest LID, and its blocks
+abbrev pub table_text : ℕ → SwitchTable → List ℕ
+table_text top table = switch_line top table.guid ++ blocks_text table.blocks
+
+-- the switches, where a LID is given
+abbrev pub tables_text : PlanValue → List ℕ
+tables_text plan = option_map_or (λ top. flat_map (table_text top) plan.tables) (top_of plan.given) []
+
+-- the LIDs, and then the switches
+abbrev pub plan_text : PlanValue → List ℕ
+plan_text plan = lids_text plan.given ++ tables_text plan

@@ -1,0 +1,67 @@
+ghost use Rattle.std.specs.Prelude.{◌≡◌, ◌≤◌, ◌<◌, length, map, IfOk};
+ghost use Rattle.std.specs.List.{range_with_len};
+ghost use Rattle.lft_blocks.specs.Entries.{block_count};
+ghost use Rattle.lft_blocks.specs.Homes.{AreWithin, entry_in, block_in};
+
+use crate::home::Home;
+use smp_bytes::Lid;
+use std::alloc::{AllocError, Global};
+
+/// The entry where no way leads to a LID. No switch has this port.
+pub(crate) const NO_WAY: u8 = 255;
+
+/// How many blocks there are, so that the last one has the greatest LID.
+pub(crate) fn block_count(top: Option<Lid>) -> usize
+    ensures count { result ≡ block_count top }
+    ensures few { result ≤ 1024 }
+{
+    match top {
+        Some(top) => usize::from(top.number()) / 64 + 1,
+        None => 0,
+    }
+}
+
+/// The blocks of the switch at the index `own`, by the ports of its row.
+pub(crate) fn blocks(
+    alloc: Global,
+    homes: &[Option<Home>],
+    row: &[u8],
+    own: usize,
+    count: usize,
+) -> Result<Vec<[u8; 64]>, AllocError>
+    requires within { AreWithin (length row.now) homes.now }
+    requires few { count ≤ 1024 }
+    ensures { IfOk result (λ blocks.
+        blocks.items ≡ map (block_in homes.now row.now own) (range_with_len 0 count)) }
+{
+    let mut blocks = Vec::with_capacity(alloc, count)?;
+    for b in 0..count {
+        blocks.push(block(homes, row, own, b))?;
+    }
+    Ok(blocks)
+}
+
+/// A block of the switch.
+fn block(homes: &[Option<Home>], row: &[u8], own: usize, b: usize) -> [u8; 64]
+    requires within { AreWithin (length row.now) homes.now }
+    requires few { b < 1024 }
+    ensures { result ≡ block_in homes.now row.now own b }
+{
+    let mut block = [NO_WAY; 64];
+    for i in 0..64 {
+        block[i] = entry(homes, row, own, 64 * b + i);
+    }
+    block
+}
+
+/// The entry of the switch for a LID.
+fn entry(homes: &[Option<Home>], row: &[u8], own: usize, lid: usize) -> u8
+    requires { AreWithin (length row.now) homes.now }
+    ensures { result ≡ entry_in homes.now row.now own lid }
+{
+    match homes.get(lid).copied().flatten() {
+        Some(home) if home.switch == own => home.port.number(),
+        Some(home) => row[home.switch],
+        None => NO_WAY,
+    }
+}

@@ -1,0 +1,73 @@
+ghost use Rattle.std.specs.Prelude.{◌≡◌, ◌*◌, ◌≤◌, IfOk};
+ghost use Rattle.std.specs.FinMap.{entries};
+ghost use Rattle.std.specs.List.Sorted.{IsStrictlyIncreasing};
+ghost use Rattle.subnet_view.specs.Reading.{switches};
+ghost use Rattle.lid_assign.specs.Lids.{top_of};
+ghost use Rattle.updown_routes.specs.Wiring.{IsIndexIn};
+ghost use Rattle.lft_blocks.specs.Entries.{home_of, home_of_lid, block_count};
+ghost use Rattle.lft_blocks.specs.Homes.{IsPlaced, ArePlaced};
+
+use fact_store::Store;
+use lid_assign::LidMap;
+use smp_bytes::{Guid, Lid, PortNum};
+use std::alloc::{AllocError, Global};
+use subnet_view::{EndPort, attached, is_usable};
+
+/// Where an end port lies.
+#[derive(Clone, Copy)]
+pub(crate) struct Home {
+    /// The index of a switch among the usable ones, by rising GUID.
+    pub(crate) switch: usize,
+    /// The port of it.
+    pub(crate) port: PortNum,
+}
+
+/// The home of each LID that has an entry in one of so many blocks, at the LID.
+pub(crate) fn homes(
+    alloc: Global,
+    store: &Store,
+    guids: &[Guid],
+    lids: &LidMap,
+    count: usize,
+) -> Result<Vec<Option<Home>>, AllocError>
+    requires switches { guids.now ≡ switches (entries store.now) }
+    requires count { count ≡ block_count (top_of lids.now) }
+    requires few { count ≤ 1024 }
+    ensures { IfOk result (λ homes.
+        ArePlaced guids.now (home_of_lid (entries store.now) lids.now) homes.items) }
+{
+    let mut homes = Vec::with_capacity(alloc, 64 * count)?;
+    for lid in 0..64 * count {
+        homes.push(home_of_lid(store, guids, lids, Lid::new(lid as u16)))?;
+    }
+    Ok(homes)
+}
+
+/// The home of a LID. Takes some twelve searches.
+fn home_of_lid(store: &Store, guids: &[Guid], lids: &LidMap, lid: Lid) -> Option<Home>
+    requires { guids.now ≡ switches (entries store.now) }
+    ensures { IsPlaced guids.now (home_of_lid (entries store.now) lids.now lid) result }
+{
+    let (guid, port) = home_of(store, lids.owner(lid)?)?;
+    let switch = index_of(guids, guid)?;
+    Some(Home { switch, port })
+}
+
+/// The usable switch and the port of it at which an end port lies.
+fn home_of(store: &Store, port: EndPort) -> Option<(Guid, PortNum)>
+    ensures { result ≡ home_of (entries store.now) port }
+{
+    if is_usable(store, port.node) {
+        Some((port.node, PortNum::new(0)))
+    } else {
+        attached(store, port.node, port.port)
+    }
+}
+
+/// The index of a GUID among GUIDs that rise. A search.
+pub(crate) fn index_of(guids: &[Guid], guid: Guid) -> Option<usize>
+    requires { IsStrictlyIncreasing guids.now }
+    ensures { IsIndexIn guids.now guid result }
+{
+    guids.binary_search(&guid).ok()
+}

@@ -1,0 +1,13 @@
+//! The laws of plans.
+ghost use Rattle.lft_blocks.specs.PlanLaws.{PlansStay, BlocksHoldEntries};
+
+/// Where the facts differ from those of a view with room in claims alone, and each end port claims the LID
+/// that it has, the plan is the same.
+pub fn plans_stay()
+    ensures { PlansStay }
+{}
+
+/// Block `b` of a switch has at place `i` the entry for the LID `64 * b + i`.
+pub fn blocks_hold_entries()
+    ensures { BlocksHoldEntries }
+{}

@@ -1,0 +1,15 @@
+//! The plan of a subnet: a LID for each end port, and the forwarding table of each switch in blocks of 64 entries.
+#![tactic(auto)]
+
+mod block;
+mod home;
+pub mod laws;
+mod next_ports;
+mod plan;
+mod plan_text;
+mod table;
+mod text;
+
+pub use next_ports::NextPorts;
+pub use plan::Plan;
+pub use plan_text::write_plan;

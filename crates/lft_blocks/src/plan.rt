@@ -1,0 +1,116 @@
+ghost use Rattle.std.specs.Prelude.{◌≡◌, IfOk};
+ghost use Rattle.std.specs.Option.{option_copied};
+ghost use Rattle.std.specs.FinMap.{entries};
+ghost use Rattle.lid_assign.specs.LidFault.{JudgesRoom};
+ghost use Rattle.lid_assign.specs.Lids.{top_of};
+ghost use Rattle.subnet_view.specs.Reading.{switches};
+ghost use Rattle.updown_routes.specs.Graph.{graph_of};
+ghost use Rattle.updown_routes.specs.Ranks.{slopes_of};
+ghost use Rattle.lft_blocks.specs.Entries.{home_of_lid, block_count};
+ghost use Rattle.lft_blocks.specs.Plan.{tables_of, plan_of, block_at, guids_of};
+
+use crate::block::block_count;
+use crate::home::{homes, index_of};
+use crate::next_ports::NextPorts;
+use crate::table::{Table, tables};
+use fact_store::Store;
+use lid_assign::{LidFault, LidMap, assign};
+use smp_bytes::{Guid, Lid};
+use std::alloc::{AllocError, Global};
+use std::marker::Model;
+use subnet_view::switches;
+
+/// The plan of a view: the LID of each end port, and the blocks of each usable switch.
+#[derive(Drop)]
+pub struct Plan {
+    lids: LidMap,
+    /// The usable switches, by rising GUID.
+    switches: Vec<Guid>,
+    /// The table of each.
+    tables: Vec<Table>,
+}
+
+impl Model for Plan {
+    ghost use Rattle.lft_blocks.specs.Plan.{PlanValue, AreTables};
+
+    ghost Value = { PlanValue };
+
+    ghost view = { λ a. record { given = a.lids; tables = a.tables.items } };
+
+    ghost invariant = { λ a. AreTables a.switches.items a.tables.items };
+}
+
+impl Plan {
+    /// The plan of a view. Refused where there is no room for the LIDs. Memory is taken for it, and for the
+    /// routes: some bytes for each two switches, and 64 for each block of each switch.
+    pub fn of<R: NextPorts>(alloc: Global, store: &Store, routes: &R) -> Result<Self, LidFault>
+        requires { R.slopes routes.now ≡ slopes_of (graph_of (entries store.now)) }
+        ensures judged { JudgesRoom result (entries store.now) }
+        ensures plan { IfOk result (λ plan. plan ≡ plan_of (entries store.now)) }
+    {
+        let lids = assign(alloc, store)?;
+        let switches = switches(alloc, store)?;
+        let tables = tables_of(alloc, store, routes, &switches, &lids)?;
+        Ok(Plan {
+            lids,
+            switches,
+            tables,
+        })
+    }
+
+    /// The LID of each end port.
+    pub fn lids(&self) -> &LidMap
+        ensures { result.now ≡ self.now.given }
+    {
+        &self.lids
+    }
+
+    /// The greatest LID. It is held.
+    pub fn top(&self) -> Option<Lid>
+        ensures { result ≡ top_of self.now.given }
+    {
+        self.lids.top()
+    }
+
+    /// The usable switches, by rising GUID.
+    pub fn switches(&self) -> &[Guid]
+        ensures { result.now ≡ guids_of self.now }
+    {
+        &self.switches
+    }
+
+    /// A block of a switch: place `i` of block `b` is the port by which packets for the LID `64 * b + i`
+    /// leave, 0 where the switch has that LID itself, and 255 where no way leads to it. None exactly
+    /// where the GUID is no usable switch's or its table has no such block. Takes a search.
+    pub fn block(&self, guid: Guid, b: usize) -> Option<&[u8; 64]>
+        ensures { option_copied result ≡ block_at self.now guid b }
+    {
+        let index = index_of(&self.switches, guid)?;
+        self.tables[index].block(b)
+    }
+
+    /// The table of each usable switch, by rising GUID.
+    pub(crate) fn tables(&self) -> &[Table]
+        ensures { result.now ≡ self.now.tables }
+    {
+        &self.tables
+    }
+}
+
+/// The table of each usable switch, by rising GUID.
+fn tables_of<R: NextPorts>(
+    alloc: Global,
+    store: &Store,
+    routes: &R,
+    guids: &[Guid],
+    lids: &LidMap,
+) -> Result<Vec<Table>, AllocError>
+    requires { guids.now ≡ switches (entries store.now) }
+    ensures { IfOk result (λ tables.
+        tables.items ≡ tables_of (home_of_lid (entries store.now) lids.now) (R.slopes routes.now)
+        (block_count (top_of lids.now)) guids.now) }
+{
+    let count = block_count(lids.top());
+    let homes = homes(alloc, store, guids, lids, count)?;
+    tables(alloc, routes, &homes, guids, count)
+}

@@ -1,0 +1,119 @@
+//! A plan as text: a line for each LID, and for each switch a line and one for each of its blocks.
+ghost use Rattle.std.specs.Prelude.{List, Option, None, Some, IsTrue, OnOk};
+ghost use Rattle.std.specs.Option.{option_map_or};
+ghost use Rattle.std.specs.List.{flat_map};
+ghost use Rattle.record_file.specs.Writes.{Writes};
+ghost use Rattle.lft_blocks.specs.WritesPart.{WritesPart};
+ghost use Rattle.lft_blocks.specs.PlanText.{lid_line, owner_line, lids_text, switch_line, block_line, blocks_text, table_text, tables_text, plan_text};
+
+use crate::plan::Plan;
+use crate::table::Table;
+use crate::text::{write_entries, write_guid, write_number, write_port};
+use lid_assign::LidMap;
+use record_file::{Sink, WriteFault};
+use smp_bytes::{Guid, Lid};
+use subnet_view::EndPort;
+
+/// Writes a line for each LID, rising, and then for each usable switch, by rising GUID, a line with the
+/// greatest LID and a line for each block; and flushes. Without end ports there is no line. It takes no
+/// memory, and writes each block's digits at once.
+pub fn write_plan<W: Sink>(sink: &mut W, plan: &Plan) -> Result<(), WriteFault>
+    ensures writes { Writes W.written W.has_failed result sink.old sink.new (plan_text plan.now) }
+    ensures flushed { OnOk result (IsTrue (W.is_flushed sink.new)) }
+{
+    write_lids(sink, plan.lids())?;
+    write_tables(sink, plan)?;
+    sink.flush()
+}
+
+/// Writes a line for each LID, rising.
+fn write_lids<W: Sink>(sink: &mut W, lids: &LidMap) -> Result<(), WriteFault>
+    ensures { WritesPart W.written W.has_failed result sink.old sink.new (lids_text lids.now) }
+{
+    for lid in lids.lids() {
+        write_owner(sink, lids, *lid)?;
+    }
+    Ok(())
+}
+
+/// Writes the line of a LID, where an end port has it.
+fn write_owner<W: Sink>(sink: &mut W, lids: &LidMap, lid: Lid) -> Result<(), WriteFault>
+    ensures { WritesPart W.written W.has_failed result sink.old sink.new (owner_line lids.now lid) }
+{
+    match lids.owner(lid) {
+        Some(port) => write_lid(sink, lid, port),
+        None => Ok(()),
+    }
+}
+
+/// Writes the line of a LID.
+fn write_lid<W: Sink>(sink: &mut W, lid: Lid, port: EndPort) -> Result<(), WriteFault>
+    ensures { Writes W.written W.has_failed result sink.old sink.new (lid_line (lid, port)) }
+{
+    sink.write(b"lid ")?;
+    write_number(sink, usize::from(lid.number()))?;
+    sink.write(b" ")?;
+    write_port(sink, port)?;
+    sink.write(b"\n")
+}
+
+/// Writes the switches, where a LID is given.
+fn write_tables<W: Sink>(sink: &mut W, plan: &Plan) -> Result<(), WriteFault>
+    ensures { WritesPart W.written W.has_failed result sink.old sink.new (tables_text plan.now) }
+{
+    match plan.top() {
+        Some(top) => write_each_table(sink, top, plan.tables()),
+        None => Ok(()),
+    }
+}
+
+/// Writes these switches.
+fn write_each_table<W: Sink>(sink: &mut W, top: Lid, tables: &[Table]) -> Result<(), WriteFault>
+    ensures { WritesPart W.written W.has_failed result sink.old sink.new
+        (flat_map (table_text top) tables.now) }
+{
+    for table in tables {
+        write_table(sink, top, table)?;
+    }
+    Ok(())
+}
+
+/// Writes the line of a switch, and those of its blocks.
+fn write_table<W: Sink>(sink: &mut W, top: Lid, table: &Table) -> Result<(), WriteFault>
+    ensures { WritesPart W.written W.has_failed result sink.old sink.new (table_text top table.now) }
+{
+    write_switch(sink, top, table.guid())?;
+    write_blocks(sink, table.blocks())
+}
+
+/// Writes the line of a switch.
+fn write_switch<W: Sink>(sink: &mut W, top: Lid, guid: Guid) -> Result<(), WriteFault>
+    ensures { Writes W.written W.has_failed result sink.old sink.new (switch_line top guid) }
+{
+    sink.write(b"switch ")?;
+    write_guid(sink, guid)?;
+    sink.write(b" top ")?;
+    write_number(sink, usize::from(top.number()))?;
+    sink.write(b"\n")
+}
+
+/// Writes a line for each block.
+fn write_blocks<W: Sink>(sink: &mut W, blocks: &[[u8; 64]]) -> Result<(), WriteFault>
+    ensures { WritesPart W.written W.has_failed result sink.old sink.new (blocks_text blocks.now) }
+{
+    for (b, block) in blocks.iter().enumerate() {
+        write_block(sink, b, block)?;
+    }
+    Ok(())
+}
+
+/// Writes the line of a block.
+fn write_block<W: Sink>(sink: &mut W, b: usize, block: &[u8; 64]) -> Result<(), WriteFault>
+    ensures { Writes W.written W.has_failed result sink.old sink.new (block_line (b, block.now)) }
+{
+    sink.write(b"block ")?;
+    write_number(sink, b)?;
+    sink.write(b" ")?;
+    write_entries(sink, block)?;
+    sink.write(b"\n")
+}

@@ -1,0 +1,43 @@
+-- When LIDs stay as they are.
+use Rattle.std.specs.Prelude.{◌≡◌, ◌≢◌, ◌<◌, ◌⊎◌, ℕ, Contains, None, Some}
+use Rattle.std.specs.FinMap.{get, entries}
+use Rattle.fact_store.specs.declared.key.Key.{Key}
+use Rattle.fact_store.specs.declared.key.Key.TheVariants.{Claim}
+use Rattle.fact_store.specs.View.{Facts}
+use Rattle.subnet_view.specs.declared.end_port.EndPort.{EndPort}
+use Rattle.subnet_view.specs.Reading.{Cells, claim_of}
+use Rattle.subnet_view.specs.EndPorts.{end_ports}
+use Rattle.lid_assign.specs.Lids.{IsNoRoom, room, lids, lid_of, top_of}
+
+-- two views say the same of everything but claims
+abbrev pub DifferInClaims : Facts → Facts → Type 0
+DifferInClaims x y = (key : Key) → ((g p : ℕ) → key ≢ Claim g p) → get x key ≡ get y key
+
+-- each end port of the first claims in the second the LID that it has in the first
+abbrev pub ClaimLids : Cells → Cells → Type 0
+ClaimLids x y = (e : EndPort) (lid : ℕ) → lid_of (lids x) e ≡ Some lid → claim_of y e.node e.port ≡ Some lid
+
+-- the second view is the first once its LIDs are claimed
+pub record IsClaimed (x y : Facts) : Type 0 where
+  pub same : DifferInClaims x y
+  pub claimed : ClaimLids (entries x) (entries y)
+
+-- once the LIDs of a view are claimed, they are given again
+abbrev pub LidsSettle : Type 0
+LidsSettle = (x y : Facts) → ¬ (IsNoRoom (entries x)) → IsClaimed x y → ¬ (IsNoRoom (entries y)) × (lids (entries y) ≡ lids (entries x))
+
+-- the end port claims nothing, or 0
+abbrev pub ClaimsNothing : Cells → EndPort → Type 0
+ClaimsNothing cells e = (claim_of cells e.node e.port ≡ None) ⊎ (claim_of cells e.node e.port ≡ Some 0)
+
+-- the second view has the first's end ports, which claim their LIDs, other end ports that claim nothing, and room for these LIDs
+pub record GrowsFrom (x z : Cells) : Type 0 where
+  pub has : (e : EndPort) → Contains (end_ports x) e → Contains (end_ports z) e
+  pub claimed : ClaimLids x z
+  pub others : (e : EndPort) → Contains (end_ports z) e → (Contains (end_ports x) e → ⊥) → ClaimsNothing z e
+  pub in_room : (top : ℕ) → top_of (lids x) ≡ Some top → top < room z
+
+-- LIDs that are claimed stay, whatever end ports come
+abbrev pub LidsStay : Type 0
+LidsStay = (x z : Facts) → ¬ (IsNoRoom (entries x)) → ¬ (IsNoRoom (entries z)) → GrowsFrom (entries x) (entries z)
+    → (e : EndPort) (lid : ℕ) → lid_of (lids (entries x)) e ≡ Some lid → lid_of (lids (entries z)) e ≡ Some lid

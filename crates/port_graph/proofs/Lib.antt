@@ -1,0 +1,12 @@
+pub mod Lists
+pub mod Counts
+pub mod WalkLemmas
+pub mod Paths
+pub mod Costs
+pub mod Cuts
+pub mod Searching
+pub mod SearchSteps
+pub mod Renaming
+pub mod Indexing
+pub mod CostSteps
+pub mod NextPorts

@@ -1,0 +1,10 @@
+use Rattle.std.proofs.Common.{◌≡◌, drop}
+use Rattle.port_graph.specs.Searches.{Search, reach_all}
+use Rattle.port_graph.proofs.distance.reach.Given as goal
+
+-- what is left to reach leads to the same
+abbrev pub invariant-loop-exit : goal.invariant-loop-exit
+invariant-loop-exit l =
+    let now : Search = (l.distances, l.queue.items) in
+    let before : Search = (l.initial.distances, l.initial.queue.items) in
+    reach_all l.distance now (drop l.exit-index l.exits) ≡ reach_all l.distance before l.exits

@@ -1,0 +1,56 @@
+-- Slopes whose vertices are the numbers from 0 on.
+use Rattle.std.specs.Prelude.{◌≡◌, ◌<◌, ℕ, suc, List, [], ◌∷◌, length, Contains, Option, None, Some, is_some, option_map, slice_index_or, if◌then◌else◌}
+use Rattle.std.specs.List.{filter_map, find}
+use Rattle.port_graph.specs.declared.exit.Exit.{Exit}
+use Rattle.port_graph.specs.Heads.{exits_at, heads}
+use Rattle.port_graph.specs.Slopes.{Slope, lesser, least_of, same_number, next_port}
+
+-- from the first number on, one for each vertex
+abbrev pub indexed_from : ℕ → List (List Exit) → List (List Exit) → List Slope
+indexed_from first [] downs = []
+indexed_from first (u ∷ ups) [] = []
+indexed_from first (u ∷ ups) (d ∷ downs) = record { guid = first; ups = u; downs = d } ∷ indexed_from (suc first) ups downs
+
+-- the slopes of vertices that have these exits up and down
+abbrev pub indexed : List (List Exit) → List (List Exit) → List Slope
+indexed ups downs = indexed_from 0 ups downs
+
+-- each exit leads to a lesser vertex
+abbrev pub LeadToLesser : List (List Exit) → Type 0
+LeadToLesser exits = (a : ℕ) (e : Exit) → Contains (exits_at exits a) e → e.to < a
+
+-- up is to a lesser vertex, and what is up from one vertex has that vertex down from it
+pub record AreSlopes (ups downs : List (List Exit)) : Type 0 where
+  pub all : length downs ≡ length ups
+  pub rise : LeadToLesser ups
+  pub back_up : (a b : ℕ) → Contains (heads downs a) b → Contains (heads ups b) a
+  pub back_down : (a b : ℕ) → Contains (heads ups a) b → Contains (heads downs b) a
+
+-- the lesser of two costs, where there are two
+abbrev pub lesser_of : Option ℕ → Option ℕ → Option ℕ
+lesser_of None other = other
+lesser_of (Some n) other = Some (lesser n other)
+
+-- the distance where there is one, else one more than the least cost over the exits
+abbrev pub cost_of : Option ℕ → List Exit → List (Option ℕ) → Option ℕ
+cost_of distance exits costs = if is_some distance then distance else option_map suc (least_of (filter_map (λ e. slice_index_or costs e.to None) exits))
+
+-- at each of the first vertices such a cost
+pub record AreCosts (ups : List (List Exit)) (distances : List (Option ℕ)) (n : ℕ) (costs : List (Option ℕ)) : Type 0 where
+  pub all : length costs ≡ n
+  pub cost : (a : ℕ) → a < n → slice_index_or costs a None ≡ cost_of (slice_index_or distances a None) (exits_at ups a) costs
+
+-- the port of the first exit to a vertex whose number is one less
+abbrev pub port_nearer : List Exit → List (Option ℕ) → Option ℕ → Option ℕ
+port_nearer exits numbers number = option_map (λ e. e.port) (find (λ e. same_number (option_map suc (slice_index_or numbers e.to None)) number) exits)
+
+-- the port down where a distance is known, else the port up
+abbrev pub port_by : List (List Exit) → List (List Exit) → List (Option ℕ) → List (Option ℕ) → ℕ → Option ℕ
+port_by ups downs distances costs a =
+    let distance = slice_index_or distances a None in
+    if is_some distance then port_nearer (exits_at downs a) distances distance else port_nearer (exits_at ups a) costs (slice_index_or costs a None)
+
+-- at each vertex the next port to the target
+pub record AreNextPorts (ups downs : List (List Exit)) (target : ℕ) (ports : List (Option ℕ)) : Type 0 where
+  pub all : length ports ≡ length ups
+  pub next : (a : ℕ) → a < length ups → slice_index_or ports a None ≡ next_port (indexed ups downs) a target

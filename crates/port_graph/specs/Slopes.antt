@@ -1,0 +1,59 @@
+-- Vertices whose edges lead up or down: down distances, costs and next ports.
+use Rattle.std.specs.Prelude.{ℕ, zero, suc, Bool, false, List, [], ◌∷◌, min, map, length, Option, None, Some, is_some, ◌==◌, option_map, if◌then◌else◌}
+use Rattle.std.specs.List.{filter_map, find}
+use Rattle.port_graph.specs.declared.exit.Exit.{Exit}
+use Rattle.port_graph.specs.Walks.{shortest}
+
+-- the wires of a switch that lead up, to one before it, and down, to one after it
+pub record Slope : Type 0 where
+  pub guid : ℕ
+  pub ups : List Exit
+  pub downs : List Exit
+
+abbrev pub ups_at : List Slope → ℕ → List Exit
+ups_at [] a = []
+ups_at (s ∷ slopes) a = if s.guid == a then s.ups else ups_at slopes a
+
+abbrev pub downs_at : List Slope → ℕ → List Exit
+downs_at [] a = []
+downs_at (s ∷ slopes) a = if s.guid == a then s.downs else downs_at slopes a
+
+abbrev pub below : List Slope → ℕ → List ℕ
+below slopes a = map (λ e. e.to) (downs_at slopes a)
+
+-- the fewest wires that lead down all the way
+abbrev pub down_distance : List Slope → ℕ → ℕ → Option ℕ
+down_distance slopes s t = shortest (below slopes) (length slopes) s t
+
+abbrev pub lesser : ℕ → Option ℕ → ℕ
+lesser n None = n
+lesser n (Some m) = min n m
+
+abbrev pub least_of : List ℕ → Option ℕ
+least_of [] = None
+least_of (n ∷ ns) = Some (lesser n (least_of ns))
+
+-- with at most so many climbs: down where that leads to the target, else one wire up and the least cost from there
+abbrev pub cost_within : List Slope → ℕ → ℕ → ℕ → Option ℕ
+cost_within slopes zero s t = down_distance slopes s t
+cost_within slopes (suc climbs) s t = let down = down_distance slopes s t in if is_some down then down else option_map suc (least_of (filter_map (λ e. cost_within slopes climbs e.to t) (ups_at slopes s)))
+
+-- no climb passes a switch twice
+abbrev pub cost : List Slope → ℕ → ℕ → Option ℕ
+cost slopes s t = cost_within slopes (length slopes) s t
+
+abbrev pub same_number : Option ℕ → Option ℕ → Bool
+same_number (Some a) (Some b) = a == b
+same_number _ _ = false
+
+-- the least port down to a switch that is one nearer to the target
+abbrev pub port_down : List Slope → ℕ → ℕ → Option ℕ
+port_down slopes s t = option_map (λ e. e.port) (find (λ e. same_number (option_map suc (down_distance slopes e.to t)) (down_distance slopes s t)) (downs_at slopes s))
+
+-- the least port up to a switch of least cost
+abbrev pub port_up : List Slope → ℕ → ℕ → Option ℕ
+port_up slopes s t = option_map (λ e. e.port) (find (λ e. same_number (option_map suc (cost slopes e.to t)) (cost slopes s t)) (ups_at slopes s))
+
+-- down if that leads to the target, else up
+abbrev pub next_port : List Slope → ℕ → ℕ → Option ℕ
+next_port slopes s t = if s == t then None else (if is_some (down_distance slopes s t) then port_down slopes s t else port_up slopes s t)

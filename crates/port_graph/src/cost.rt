@@ -1,0 +1,64 @@
+ghost use Rattle.std.specs.Prelude.{◌≡◌, ◌≤◌, ◌<◌, ℕ, length, All, IfOk, Some, None, slice_index_or};
+ghost use Rattle.std.specs.List.{filter_map};
+ghost use Rattle.port_graph.specs.Slopes.{least_of};
+ghost use Rattle.port_graph.specs.Indexed.{LeadToLesser, AreCosts, cost_of, lesser_of};
+
+use crate::exit::Exit;
+use crate::exits::Exits;
+use std::alloc::{AllocError, Global};
+
+/// The cost of each vertex: its distance where it has one, else one more than the least cost of those that
+/// are up from it. Takes a step for each vertex and each exit.
+pub(crate) fn costs(
+    alloc: Global,
+    ups: &Exits,
+    distances: &[Option<usize>],
+) -> Result<Vec<Option<usize>>, AllocError>
+    requires rise { LeadToLesser ups.now }
+    requires all { length distances.now ≡ length ups.now }
+    requires below { (a d : ℕ) → slice_index_or distances.now a None ≡ Some d → d < length ups.now }
+    ensures { IfOk result (λ costs. AreCosts ups.now distances.now (length ups.now) costs.items) }
+{
+    let mut costs = Vec::with_capacity(alloc, ups.len())?;
+    for (vertex, distance) in distances.iter().enumerate() {
+        let cost = cost(*distance, ups.at(vertex), &costs);
+        costs.push(cost)?;
+    }
+    Ok(costs)
+}
+
+/// The cost of a vertex by the costs of those that are up from it.
+fn cost(distance: Option<usize>, ups: &[Exit], costs: &[Option<usize>]) -> Option<usize>
+    requires known { All (λ exit. exit.to < length costs.now) ups.now }
+    requires room { (a c : ℕ) → slice_index_or costs.now a None ≡ Some c → c < usize.MAX }
+    ensures { result ≡ cost_of distance ups.now costs.now }
+{
+    if distance.is_some() {
+        return distance;
+    }
+    let least = least_cost(ups, costs)?;
+    Some(least + 1)
+}
+
+/// The least cost of the vertices to which the exits lead.
+fn least_cost(exits: &[Exit], costs: &[Option<usize>]) -> Option<usize>
+    requires { All (λ exit. exit.to < length costs.now) exits.now }
+    ensures { result ≡ least_of (filter_map (λ exit. slice_index_or costs.now exit.to None) exits.now) }
+{
+    let mut least = None;
+    for exit in exits {
+        least = lesser(least, costs[exit.to]);
+    }
+    least
+}
+
+/// The lesser of two costs, where there are two.
+fn lesser(one: Option<usize>, other: Option<usize>) -> Option<usize>
+    ensures { result ≡ lesser_of one other }
+{
+    match (one, other) {
+        (Some(one), Some(other)) => Some(one.min(other)),
+        (one, None) => one,
+        (None, other) => other,
+    }
+}

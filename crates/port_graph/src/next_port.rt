@@ -1,0 +1,63 @@
+ghost use Rattle.std.specs.Prelude.{◌≡◌, ◌<◌, length, All, IfOk};
+ghost use Rattle.port_graph.specs.Indexed.{AreSlopes, AreNextPorts, port_by, port_nearer};
+
+use crate::cost::costs;
+use crate::distance::distances;
+use crate::exit::Exit;
+use crate::exits::Exits;
+use smp_bytes::PortNum;
+use std::alloc::{AllocError, Global};
+
+/// The next port of each vertex to the target: where a walk down leads there, the first port down to a
+/// vertex one nearer; else the first port up to a vertex of least cost. None at the target, and where no
+/// route leads to it. Takes a step for each vertex and each exit.
+pub fn next_ports(
+    alloc: Global,
+    ups: &Exits,
+    downs: &Exits,
+    target: usize,
+) -> Result<Vec<Option<PortNum>>, AllocError>
+    requires slopes { AreSlopes ups.now downs.now }
+    requires target { target < length ups.now }
+    ensures { IfOk result (λ ports. AreNextPorts ups.now downs.now target ports.items) }
+{
+    let distances = distances(alloc, ups, target)?;
+    let costs = costs(alloc, ups, &distances)?;
+    let mut ports = Vec::with_capacity(alloc, ups.len())?;
+    for vertex in 0..ups.len() {
+        ports.push(next_port(ups, downs, &distances, &costs, vertex))?;
+    }
+    Ok(ports)
+}
+
+/// The next port of a vertex by the down distances and the costs of all.
+fn next_port(
+    ups: &Exits,
+    downs: &Exits,
+    distances: &[Option<usize>],
+    costs: &[Option<usize>],
+    vertex: usize,
+) -> Option<PortNum>
+    requires slopes { AreSlopes ups.now downs.now }
+    requires vertex { vertex < length ups.now }
+    requires distances { length distances.now ≡ length ups.now }
+    requires costs { length costs.now ≡ length ups.now }
+    ensures { result ≡ port_by ups.now downs.now distances.now costs.now vertex }
+{
+    let distance = distances[vertex];
+    if distance.is_some() {
+        port_nearer(downs.at(vertex), distances, distance)
+    } else {
+        port_nearer(ups.at(vertex), costs, costs[vertex])
+    }
+}
+
+/// The port of the first exit to a vertex whose number is one less.
+fn port_nearer(exits: &[Exit], numbers: &[Option<usize>], number: Option<usize>) -> Option<PortNum>
+    requires { All (λ exit. exit.to < length numbers.now) exits.now }
+    ensures { result ≡ port_nearer exits.now numbers.now number }
+{
+    let nearer = number?.checked_sub(1)?;
+    let exit = exits.iter().find(|exit| numbers[exit.to] == Some(nearer))?;
+    Some(exit.port)
+}

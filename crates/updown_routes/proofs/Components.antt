@@ -1,0 +1,241 @@
+-- In one component every switch has a cost to every other: up to the root at worst, and down from there.
+use Rattle.std.proofs.Common.{◌≡◌, ◌+◌, ◌-◌, ℕ, zero, suc, List, [], ◌∷◌, refl, sym, ap, ◌∙◌, subst, arith, Bool, true, false, cond, map, length}
+use Rattle.std.proofs.lemmas.Option.{none-some, same_Some}
+use Rattle.std.specs.Prelude.{Option, None, Some, MatchOption, is_some, option_map, option_and_then, unwrap_or, Contains}
+use Rattle.std.specs.List.{find, filter_map}
+use Rattle.smp_bytes.proofs.Members.{contains_here, contains_later}
+use Rattle.port_graph.specs.declared.exit.Exit.{Exit}
+use Rattle.port_graph.specs.Walks.{has_walk, Walk, HasNoWalk}
+use Rattle.port_graph.specs.Slopes.{Slope, ups_at, downs_at, below, down_distance, least_of, cost_within}
+use Rattle.port_graph.specs.Routes.{IsDownDistance}
+use Rattle.port_graph.proofs.Counts.{length_map}
+use Rattle.port_graph.proofs.WalkLemmas.{least_found, least_is, walk_from_test, test_from_walk, shortest_is}
+use Rattle.port_graph.proofs.Lists.{found, contains_map, contains_filter_map, contains-from_filter_map, least_is_one, has_least}
+use Rattle.port_graph.proofs.Paths.{bounded_walk, keeps_to, walk_append, walk_back, walk_push, walk_reverse, has_least_from}
+use Rattle.updown_routes.specs.Crossing.{Crossing}
+use Rattle.updown_routes.specs.Graph.{exits_at, neighbors}
+use Rattle.updown_routes.specs.Ranks.{distance, in_one_component, root_of, rank_of, is_before, slope_of, slopes_of}
+use Rattle.updown_routes.specs.GraphLaws.{IsGraph, IsSwitch}
+use Rattle.updown_routes.specs.RouteLaws.{CostInComponent, DownDistanceLaw}
+use Rattle.updown_routes.proofs.Order.{lesser, below_lex, downs_are, ups_have, downs_have, has_end}
+
+pub is_some_of : (o : Option ℕ) → is_some o ≡ true → (n : ℕ) × (o ≡ Some n)
+is_some_of None e = absurd (cc)
+is_some_of (Some n) e = (n, refl)
+
+pub find_same : (p q : ℕ → Bool) (xs : List ℕ) → ((x : ℕ) → Contains xs x → p x ≡ q x) → find p xs ≡ find q xs
+find_same p q [] h = refl
+find_same p q (x ∷ xs) h = cc (h x (contains_here x xs), find_same p q xs (λ y k. h y (contains_later x y xs k)))
+
+pub same_tests : (a b : Bool) → (a ≡ true → b ≡ true) → (b ≡ true → a ≡ true) → a ≡ b
+same_tests true b f g = sym (f refl)
+same_tests false true f g = g refl
+same_tests false false f g = refl
+
+module _ (graph : List Crossing) (good : IsGraph graph) where
+  abbrev guids : List ℕ
+  guids = map (λ c. c.guid) graph
+
+  abbrev next : ℕ → List ℕ
+  next = neighbors graph
+
+  -- a walk of any length makes two switches one component
+  pub walk_joins : (n a b : ℕ) → IsSwitch graph a → Walk next a b n → (m : ℕ) × (distance graph a b ≡ Some m)
+  walk_joins n a b h w =
+      let i = bounded_walk next (length guids) guids n a b (omega arith) (keeps_to next guids good.leads_to_switch n a b h w) in
+      has_least_from 0 (length graph) (has_walk next a b) i.0 (omega arith) (omega (arith, i.1, length_map (λ (c : Crossing). c.guid) graph))
+      (test_from_walk next a b i.0 i.2)
+
+  pub walk_of : (a b m : ℕ) → distance graph a b ≡ Some m → Walk next a b m
+  walk_of a b m e = (shortest_is next (length graph) a b m e).walk
+
+  pub joined : (a b m : ℕ) → distance graph a b ≡ Some m → in_one_component graph a b ≡ true
+  joined a b m e = ap is_some e
+
+  pub component_symm : (a b : ℕ) → IsSwitch graph b → in_one_component graph a b ≡ true → in_one_component graph b a ≡ true
+  component_symm a b h e =
+      let d = is_some_of (distance graph a b) e in
+      let w = walk_joins d.0 b a h (walk_reverse next good.both_ways d.0 a b (walk_of a b d.0 d.1)) in
+      joined b a w.0 w.1
+
+  pub component_trans : (a b c : ℕ) → IsSwitch graph a → in_one_component graph a b ≡ true → in_one_component graph b c ≡ true
+      → in_one_component graph a c ≡ true
+  component_trans a b c h e k =
+      let d = is_some_of (distance graph a b) e in
+      let f = is_some_of (distance graph b c) k in
+      let w = walk_joins (d.0 + f.0) a c h (walk_append next d.0 f.0 a b c (walk_of a b d.0 d.1) (walk_of b c f.0 f.1)) in
+      joined a c w.0 w.1
+
+  pub component_itself : (a : ℕ) → IsSwitch graph a → in_one_component graph a a ≡ true
+  component_itself a h = let w = walk_joins 0 a a h refl in joined a a w.0 w.1
+
+  -- all of a component have one root
+  pub same_root : (s t : ℕ) → IsSwitch graph s → IsSwitch graph t → in_one_component graph s t ≡ true → root_of graph s ≡ root_of graph t
+  same_root s t hs ht e =
+      find_same (in_one_component graph s) (in_one_component graph t) guids
+      (λ x k. same_tests (in_one_component graph s x) (in_one_component graph t x)
+      (λ p. component_trans t s x ht (component_symm s t ht e) p)
+      (λ p. component_trans s t x hs e p))
+
+  -- its root, and its rank
+  pub record Rooted (s : ℕ) : Type 0 where
+    pub root : ℕ
+    pub is_root : root_of graph s ≡ Some root
+    pub is_switch : IsSwitch graph root
+    pub rank : ℕ
+    pub is_rank : distance graph root s ≡ Some rank
+
+  pub rooted : (s : ℕ) → IsSwitch graph s → Rooted s
+  rooted s h =
+      let f = found (in_one_component graph s) guids s h (component_itself s h) in
+      let d = is_some_of (distance graph f.0 s) (component_symm s f.0 f.2 f.3) in
+      record { root = f.0; is_root = f.1; is_switch = f.2; rank = d.0; is_rank = d.1 }
+
+  pub rank_is : (s : ℕ) (r : ℕ) (n : ℕ) → root_of graph s ≡ Some r → distance graph r s ≡ Some n → rank_of graph s ≡ Some n
+  rank_is s r n e k = ap (option_and_then (λ root. distance graph root s)) e ∙ k
+
+  -- the switch before the last on a shortest walk
+  prior : (r t n : ℕ) → distance graph r t ≡ Some (suc n) → (u : ℕ) × (distance graph r u ≡ Some n) × Contains (next u) t
+  prior r t n e =
+      let i = least_found 0 (length graph) (has_walk next r t) (suc n) e in
+      let s = shortest_is next (length graph) r t (suc n) e in
+      let b = walk_back next n r t s.walk in (
+        b.0,
+        least_is 0 (length graph) (has_walk next r b.0) n
+            (record {
+              from = omega arith;
+              bounded = omega (arith, i.bounded);
+              passes = test_from_walk next r b.0 n b.1;
+              least = λ m h l. (elim (has_walk next r b.0 m) as (λ t'. has_walk next r b.0 m ≡ t' → t' ≡ false) [
+                | true ↦ λ p. absurd (omega (arith, s.least (suc m) (walk_push next m r b.0 t (walk_from_test next r b.0 m p) b.2)))
+                | false ↦ λ p. refl
+              ] refl);
+            }),
+        b.2,
+      )
+
+  is_switch_before : (u t : ℕ) → Contains (next u) t → IsSwitch graph u
+  is_switch_before u t h = good.leads_to_switch t u (good.both_ways u t h)
+
+  root_before : (u t r : ℕ) → IsSwitch graph t → Contains (next u) t → root_of graph t ≡ Some r → root_of graph u ≡ Some r
+  root_before u t r ht h e =
+      let w = walk_joins 1 u t (is_switch_before u t h) (t, h, refl) in
+      same_root u t (is_switch_before u t h) ht (joined u t w.0 w.1) ∙ e
+
+  before_along : (u t r n : ℕ) → root_of graph u ≡ Some r → root_of graph t ≡ Some r → distance graph r u ≡ Some n → distance graph r t ≡ Some (suc n)
+      → is_before graph u t ≡ true
+  before_along u t r n eu et du dt =
+      let ru : unwrap_or (rank_of graph u) 0 ≡ n = ap (λ o. unwrap_or o 0) (rank_is u r n eu du) in
+      let rt : unwrap_or (rank_of graph t) 0 ≡ suc n = ap (λ o. unwrap_or o 0) (rank_is t r (suc n) et dt) in
+      below_lex (unwrap_or (rank_of graph u) 0) u (unwrap_or (rank_of graph t) 0) t (lesser (omega arith))
+
+  abbrev slopes : List Slope
+  slopes = slopes_of graph
+
+  -- shortest walks from the root lead down all the way
+  root_goes_down : (n r t : ℕ) → IsSwitch graph t → root_of graph t ≡ Some r → distance graph r t ≡ Some n → Walk (below slopes) r t n
+  root_goes_down zero r t h e d = walk_of r t 0 d
+  root_goes_down (suc n) r t h e d =
+      let u = prior r t n d in
+      let eu = root_before u.0 t r h u.2 e in
+      let x = contains_map (λ (y : Exit). y.to) (exits_at graph u.0) t u.2 in
+      let b : is_before graph u.0 x.0.to ≡ true = ap (is_before graph u.0) x.2 ∙ before_along u.0 t r n eu e u.1 d in
+      let there = has_end (downs_at slopes u.0) x.0 (downs_have graph graph u.0 x.0 x.1 b) in
+      walk_push (below slopes) n r u.0 t (root_goes_down n r u.0 (is_switch_before u.0 t u.2) eu u.1)
+      (subst (λ (y : ℕ). Contains (below slopes u.0) y) x.2 there)
+
+  pub root_down : (n r t : ℕ) → IsSwitch graph t → root_of graph t ≡ Some r → distance graph r t ≡ Some n → (m : ℕ) × (down_distance slopes r t ≡ Some m)
+  root_down n r t h e d =
+      let i = least_found 0 (length graph) (has_walk next r t) n d in
+      has_least_from 0 (length slopes) (has_walk (below slopes) r t) n (omega arith) (omega (arith, i.bounded, length_map (slope_of graph) graph))
+      (test_from_walk (below slopes) r t n (root_goes_down n r t h e d))
+
+  -- so with as many climbs as its rank every switch has a cost
+  has_cost : (k s r t d : ℕ) → down_distance slopes r t ≡ Some d → IsSwitch graph s → root_of graph s ≡ Some r → distance graph r s ≡ Some k
+      → (m : ℕ) × (cost_within slopes k s t ≡ Some m)
+  has_cost zero s r t d down h e k = (d, ap (λ x. down_distance slopes x t) (sym (walk_of r s 0 k)) ∙ down)
+  has_cost (suc n) s r t d down h e k =
+      elim (down_distance slopes s t) as
+      (λ o. down_distance slopes s t ≡ o
+      → (m : ℕ) × (cond (is_some o) o (option_map suc (least_of (filter_map (λ x. cost_within slopes n x.to t) (ups_at slopes s)))) ≡ Some m)) [
+        | Some a ↦ λ p. (a, refl)
+        | None ↦ λ p.
+            let u = prior r s n k in
+            let eu = root_before u.0 s r h u.2 e in
+            let x = contains_map (λ (y : Exit). y.to) (exits_at graph s) u.0 (good.both_ways u.0 s u.2) in
+            let b : is_before graph x.0.to s ≡ true = ap (λ y. is_before graph y s) x.2 ∙ before_along u.0 s r n eu e u.1 k in
+            let i = has_cost n u.0 r t d down (is_switch_before u.0 s u.2) eu u.1 in
+            let c : cost_within slopes n x.0.to t ≡ Some i.0 = ap (λ y. cost_within slopes n y t) x.2 ∙ i.1 in
+            let l = has_least (filter_map (λ y. cost_within slopes n y.to t) (ups_at slopes s)) i.0
+            (contains_filter_map (λ (y : Exit). cost_within slopes n y.to t) (ups_at slopes s) x.0 i.0 (ups_have graph graph s x.0 x.1 b) c) in
+            (suc l.0, ap (option_map suc) l.1)
+      ] refl
+
+  -- more climbs keep a cost
+  more_climbs : (k s t m : ℕ) → cost_within slopes k s t ≡ Some m → (l : ℕ) × (cost_within slopes (suc k) s t ≡ Some l)
+  more_climbs zero s t m e =
+      (m, ap (λ o. cond (is_some o) o (option_map suc (least_of (filter_map (λ x. cost_within slopes zero x.to t) (ups_at slopes s))))) e)
+  more_climbs (suc k) s t m e =
+      elim (down_distance slopes s t) as
+      (λ o. cond (is_some o) o (option_map suc (least_of (filter_map (λ x. cost_within slopes k x.to t) (ups_at slopes s)))) ≡ Some m
+      → (l : ℕ) × (cond (is_some o) o (option_map suc (least_of (filter_map (λ x. cost_within slopes (suc k) x.to t) (ups_at slopes s)))) ≡ Some l)) [
+        | Some a ↦ λ p. (a, refl)
+        | None ↦ λ p.
+            let n = some_least (least_of (filter_map (λ x. cost_within slopes k x.to t) (ups_at slopes s))) m p in
+            let i = least_is_one (filter_map (λ x. cost_within slopes k x.to t) (ups_at slopes s)) n.0 n.1 in
+            let x = contains-from_filter_map (λ (y : Exit). cost_within slopes k y.to t) (ups_at slopes s) n.0 i.0 in
+            let j = more_climbs k x.0.to t n.0 x.2 in
+            let l = has_least (filter_map (λ y. cost_within slopes (suc k) y.to t) (ups_at slopes s)) j.0
+            (contains_filter_map (λ (y : Exit). cost_within slopes (suc k) y.to t) (ups_at slopes s) x.0 j.0 x.1 j.1) in
+            (suc l.0, ap (option_map suc) l.1)
+      ] e
+    where
+      some_least : (o : Option ℕ) (m : ℕ) → option_map suc o ≡ Some m → (n : ℕ) × (o ≡ Some n)
+      some_least None m e = absurd (cc)
+      some_least (Some n) m e = (n, refl)
+
+  climbs_more : (j k s t m : ℕ) → cost_within slopes k s t ≡ Some m → (l : ℕ) × (cost_within slopes (j + k) s t ≡ Some l)
+  climbs_more zero k s t m e = (m, ap (λ n. cost_within slopes n s t) (zero_plus k) ∙ e)
+    where
+      zero_plus : (k : ℕ) → zero + k ≡ k
+      zero_plus k = omega arith
+  climbs_more (suc j) k s t m e =
+      let i = climbs_more j k s t m e in
+      let l = more_climbs (j + k) s t i.0 i.1 in
+      (l.0, ap (λ n. cost_within slopes n s t) (suc_plus j k) ∙ l.1)
+    where
+      suc_plus : (j k : ℕ) → suc j + k ≡ suc (j + k)
+      suc_plus j k = omega arith
+
+pub cost_in_component : CostInComponent
+cost_in_component graph good s t hs ht e =
+    let a = rooted graph good s hs in
+    let same : root_of graph t ≡ Some a.root = sym (same_root graph good s t hs ht e) ∙ a.is_root in
+    let b = rooted graph good t ht in
+    let to_t : distance graph a.root t ≡ Some b.rank = ap (λ r. distance graph r t) (same_Some a.root b.root (sym same ∙ b.is_root)) ∙ b.is_rank in
+    let d = root_down graph good b.rank a.root t ht same to_t in
+    let c = has_cost graph good a.rank s a.root t d.0 d.1 hs a.is_root a.is_rank in
+    let i = least_found 0 (length graph) (has_walk (neighbors graph) a.root s) a.rank a.is_rank in
+    let m = climbs_more graph good (length (slopes_of graph) - a.rank) a.rank s t c.0 c.1 in
+    let sum : (length (slopes_of graph) - a.rank) + a.rank ≡ length (slopes_of graph) = omega (arith, i.bounded, length_map (slope_of graph) graph) in
+    (m.0, ap (λ n. cost_within (slopes_of graph) n s t) (sym sum) ∙ m.1)
+
+-- the down distance is the length of a shortest walk down, and none where no walk leads down there
+pub down_distance_law : DownDistanceLaw
+down_distance_law graph good s t hs =
+    elim (down_distance (slopes_of graph) s t) as
+    (λ o. down_distance (slopes_of graph) s t ≡ o → MatchOption o (HasNoWalk (below (slopes_of graph)) s t) (IsDownDistance (slopes_of graph) s t)) [
+      | None ↦ λ e m w.
+          let i = bounded_walk (below (slopes_of graph)) (length (map (λ (c : Crossing). c.guid) graph)) (map (λ (c : Crossing). c.guid) graph) m s t
+          (omega arith) (keeps_to (below (slopes_of graph)) (map (λ (c : Crossing). c.guid) graph) (leads_down graph good) m s t hs w) in
+          let l = has_least_from 0 (length (slopes_of graph)) (has_walk (below (slopes_of graph)) s t) i.0 (omega arith)
+          (omega (arith, i.1, length_map (λ (c : Crossing). c.guid) graph, length_map (slope_of graph) graph))
+          (test_from_walk (below (slopes_of graph)) s t i.0 i.2) in
+          none-some l.0 (sym e ∙ l.1)
+      | Some n ↦ λ e. shortest_is (below (slopes_of graph)) (length (slopes_of graph)) s t n e
+    ] refl
+  where
+    leads_down : (graph : List Crossing) → IsGraph graph → (x y : ℕ) → Contains (below (slopes_of graph) x) y → IsSwitch graph y
+    leads_down graph good x y h =
+        let e = contains_map (λ (z : Exit). z.to) (downs_at (slopes_of graph) x) y h in
+        subst (λ (z : ℕ). IsSwitch graph z) e.2 (good.leads_to_switch x e.0.to (has_end (exits_at graph x) e.0 (downs_are graph graph x e.0 e.1).0))

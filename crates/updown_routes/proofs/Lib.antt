@@ -1,0 +1,16 @@
+pub mod Rising
+pub mod PortsRise
+pub mod Order
+pub mod Switches
+pub mod Graphs
+pub mod Components
+pub mod Ranks
+pub mod Ways
+pub mod LeastCosts
+pub mod NextPorts
+pub mod SwitchSearch
+pub mod ExitLists
+pub mod Walked
+pub mod Wirings
+pub mod RootByRoot
+pub mod Outside

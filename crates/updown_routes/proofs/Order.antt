@@ -1,0 +1,126 @@
+-- The order of switches, and the place of a switch in it, which falls along the wires that lead up.
+use Rattle.std.proofs.Common.{◌≡◌, ◌≤◌, ◌<◌, ℕ, List, [], ◌∷◌, refl, sym, ap, ◌∙◌, subst, arith, Bool, true, false, cond, ◌==◌, ◌||◌, ◌&&◌, map, length}
+use Rattle.std.proofs.lemmas.Bool.{ltb-true, lt-ltb, eqb-true, eq-eqb}
+use Rattle.std.specs.Prelude.{nat_lt, filter, Contains, unwrap_or}
+use Rattle.smp_bytes.proofs.Members.{contains_filter, contains-from_filter}
+use Rattle.subnet_view.proofs.Apart.{contains_map}
+use Rattle.port_graph.specs.declared.exit.Exit.{Exit}
+use Rattle.port_graph.proofs.Counts.{filtered_less, filtered_all, length_map}
+use Rattle.port_graph.specs.Slopes.{ups_at, downs_at}
+use Rattle.updown_routes.specs.Crossing.{Crossing}
+use Rattle.updown_routes.specs.Graph.{exits_at}
+use Rattle.updown_routes.specs.Ranks.{is_before, rank_of, slope_of, slopes_of}
+use Rattle.updown_routes.specs.GraphLaws.{IsGraph}
+
+-- the order ------------------------------------------------------------------------
+
+abbrev pub lex : ℕ → ℕ → ℕ → ℕ → Bool
+lex r a s b = nat_lt r s || (r == s && nat_lt a b)
+
+-- lesser in the first number, or equal there and lesser in the second
+pub data LexBelow (r a s b : ℕ) : Type 0 where
+  lesser : r < s → LexBelow r a s b
+  tied : r ≡ s → a < b → LexBelow r a s b
+
+pub lex_below : (r a s b : ℕ) → lex r a s b ≡ true → LexBelow r a s b
+lex_below r a s b e =
+    elim (nat_lt r s) as (λ t. nat_lt r s ≡ t → (t || (r == s && nat_lt a b)) ≡ true → LexBelow r a s b) [
+      | true ↦ λ p k. lesser (ltb-true r s p)
+      | false ↦ λ p k. (elim (r == s) as (λ t. (r == s) ≡ t → (t && nat_lt a b) ≡ true → LexBelow r a s b) [
+        | true ↦ λ q l. tied (eqb-true r s q) (ltb-true a b l)
+        | false ↦ λ q l. absurd (cc)
+      ] refl k)
+    ] refl e
+
+or_second : (a : Bool) → (a || true) ≡ true
+or_second true = refl
+or_second false = refl
+
+pub below_lex : (r a s b : ℕ) → LexBelow r a s b → lex r a s b ≡ true
+below_lex r a s b (lesser h) = ap (λ t. t || (r == s && nat_lt a b)) (lt-ltb r s h)
+below_lex r a s b (tied e h) =
+    ap (λ t. nat_lt r s || (t && nat_lt a b)) (eq-eqb r s e) ∙ ap (λ t. nat_lt r s || t) (lt-ltb a b h) ∙ or_second (nat_lt r s)
+
+lex_below_trans : (r a s b t c : ℕ) → LexBelow r a s b → LexBelow s b t c → LexBelow r a t c
+lex_below_trans r a s b t c (lesser h) (lesser k) = lesser (omega arith)
+lex_below_trans r a s b t c (lesser h) (tied e k) = lesser (omega arith)
+lex_below_trans r a s b t c (tied e h) (lesser k) = lesser (omega arith)
+lex_below_trans r a s b t c (tied e h) (tied f k) = tied (e ∙ f) (omega arith)
+
+never_below : (r a : ℕ) → LexBelow r a r a → ⊥
+never_below r a (lesser h) = omega arith
+never_below r a (tied e h) = omega arith
+
+-- what an exit of a list leads to is one of the ends of the list
+pub has_end : (es : List Exit) (e : Exit) → Contains es e → Contains (map (λ x. x.to) es) e.to
+has_end es e h = contains_map (λ (x : Exit). x.to) es e h
+
+module _ (graph : List Crossing) where
+  abbrev pub rank : ℕ → ℕ
+  rank a = unwrap_or (rank_of graph a) 0
+
+  pub before_trans : (a b c : ℕ) → is_before graph a b ≡ true → is_before graph b c ≡ true → is_before graph a c ≡ true
+  before_trans a b c h k = below_lex (rank a) a (rank c) c
+      (lex_below_trans (rank a) a (rank b) b (rank c) c (lex_below (rank a) a (rank b) b h) (lex_below (rank b) b (rank c) c k))
+
+  pub not_before_itself : (a : ℕ) → is_before graph a a ≡ false
+  not_before_itself a =
+      elim (is_before graph a a) as (λ t. is_before graph a a ≡ t → t ≡ false) [
+        | true ↦ λ p. absurd (never_below (rank a) a (lex_below (rank a) a (rank a) a p))
+        | false ↦ λ p. refl
+      ] refl
+
+  -- how many switches come before
+  abbrev pub height : ℕ → ℕ
+  height s = length (filter (λ a. is_before graph a s) (map (λ c. c.guid) graph))
+
+  pub ups_filter : (cs : List Crossing) (s : ℕ) → ups_at (map (slope_of graph) cs) s ≡ filter (λ e. is_before graph e.to s) (exits_at cs s)
+  ups_filter [] s = refl
+  ups_filter (c ∷ cs) s =
+      elim (c.guid == s) as
+      (λ t. (c.guid == s) ≡ t → cond t (filter (λ e. is_before graph e.to c.guid) c.exits) (ups_at (map (slope_of graph) cs) s)
+      ≡ filter (λ e. is_before graph e.to s) (cond t c.exits (exits_at cs s))) [
+        | true ↦ λ p. ap (λ g. filter (λ e. is_before graph e.to g) c.exits) (eqb-true c.guid s p)
+        | false ↦ λ p. ups_filter cs s
+      ] refl
+
+  pub downs_filter : (cs : List Crossing) (s : ℕ) → downs_at (map (slope_of graph) cs) s ≡ filter (λ e. is_before graph s e.to) (exits_at cs s)
+  downs_filter [] s = refl
+  downs_filter (c ∷ cs) s =
+      elim (c.guid == s) as
+      (λ t. (c.guid == s) ≡ t → cond t (filter (λ e. is_before graph c.guid e.to) c.exits) (downs_at (map (slope_of graph) cs) s)
+      ≡ filter (λ e. is_before graph s e.to) (cond t c.exits (exits_at cs s))) [
+        | true ↦ λ p. ap (λ g. filter (λ e. is_before graph g e.to) c.exits) (eqb-true c.guid s p)
+        | false ↦ λ p. downs_filter cs s
+      ] refl
+
+  pub ups_are : (cs : List Crossing) (s : ℕ) (e : Exit) → Contains (ups_at (map (slope_of graph) cs) s) e
+      → Contains (exits_at cs s) e × (is_before graph e.to s ≡ true)
+  ups_are cs s e h =
+      contains-from_filter (λ (x : Exit). is_before graph x.to s) (exits_at cs s) e (subst (λ (es : List Exit). Contains es e) (ups_filter cs s) h)
+
+  pub downs_are : (cs : List Crossing) (s : ℕ) (e : Exit) → Contains (downs_at (map (slope_of graph) cs) s) e
+      → Contains (exits_at cs s) e × (is_before graph s e.to ≡ true)
+  downs_are cs s e h =
+      contains-from_filter (λ (x : Exit). is_before graph s x.to) (exits_at cs s) e (subst (λ (es : List Exit). Contains es e) (downs_filter cs s) h)
+
+  pub ups_have : (cs : List Crossing) (s : ℕ) (e : Exit) → Contains (exits_at cs s) e → is_before graph e.to s ≡ true
+      → Contains (ups_at (map (slope_of graph) cs) s) e
+  ups_have cs s e h b =
+      subst (λ (es : List Exit). Contains es e) (sym (ups_filter cs s)) (contains_filter (λ (x : Exit). is_before graph x.to s) (exits_at cs s) e h b)
+
+  pub downs_have : (cs : List Crossing) (s : ℕ) (e : Exit) → Contains (exits_at cs s) e → is_before graph s e.to ≡ true
+      → Contains (downs_at (map (slope_of graph) cs) s) e
+  downs_have cs s e h b =
+      subst (λ (es : List Exit). Contains es e) (sym (downs_filter cs s)) (contains_filter (λ (x : Exit). is_before graph s x.to) (exits_at cs s) e h b)
+
+  pub height_falls : IsGraph graph → (s : ℕ) (e : Exit) → Contains (ups_at (slopes_of graph) s) e → height e.to < height s
+  height_falls good s e h =
+      let u = ups_are graph s e h in
+      filtered_less (λ a. is_before graph a e.to) (λ a. is_before graph a s) (λ a k. before_trans a e.to s k u.1)
+      (map (λ c. c.guid) graph) e.to (good.leads_to_switch s e.to (has_end (exits_at graph s) e u.0)) (not_before_itself e.to) u.1
+
+  pub height_bounded : (s : ℕ) → height s ≤ length (slopes_of graph)
+  height_bounded s =
+      let all = filtered_all (λ a. is_before graph a s) (map (λ c. c.guid) graph) in
+      omega (arith, all, length_map (λ (c : Crossing). c.guid) graph, length_map (slope_of graph) graph)

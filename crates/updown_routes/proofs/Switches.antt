@@ -1,0 +1,42 @@
+-- The switches of the graph that facts give are the usable ones, by rising GUID.
+use Rattle.std.proofs.Common.{◌≡◌, ◌<◌, ℕ, List, [], ◌∷◌, refl, sym, ap, subst, arith, true, map, ◌+◌}
+use Rattle.std.specs.Prelude.{Contains}
+use Rattle.std.specs.List.{AllPairs}
+use Rattle.std.specs.List.Sorted.{IsStrictlyIncreasing}
+use Rattle.std.specs.FinMap.{entries}
+use Rattle.fact_store.specs.View.{Facts}
+use Rattle.subnet_view.specs.Reading.{Cells, is_usable, switches}
+use Rattle.subnet_view.proofs.UsableSwitches.{usable_law, switches_law}
+use Rattle.updown_routes.specs.Crossing.{Crossing}
+use Rattle.updown_routes.specs.Graph.{exits_of, graph_of, guids_of}
+use Rattle.updown_routes.specs.GraphLaws.{SwitchLaw}
+
+-- the graph's GUIDs are those of the switches
+pub graph_guids : (cells : Cells) → guids_of (graph_of cells) ≡ switches cells
+graph_guids cells = same (switches cells)
+  where
+    same : (gs : List ℕ) → map (λ (c : Crossing). c.guid) (map (λ g. record { guid = g; exits = exits_of cells g }) gs) ≡ gs
+    same [] = refl
+    same (g ∷ gs) = ap (λ xs. g ∷ xs) (same gs)
+
+pub switch_usable : (facts : Facts) (g : ℕ) → Contains (switches (entries facts)) g → is_usable (entries facts) g ≡ true
+switch_usable facts g h = (usable_law (entries facts) g).1 (((switches_law facts).0 g).0 h)
+
+pub usable_switch : (facts : Facts) (g : ℕ) → is_usable (entries facts) g ≡ true → Contains (switches (entries facts)) g
+usable_switch facts g u = ((switches_law facts).0 g).1 ((usable_law (entries facts) g).0 u)
+
+-- each number is below the next where it is below all later ones
+increasing : (xs : List ℕ) → AllPairs (λ a b. a < b) xs → IsStrictlyIncreasing xs
+increasing xs h k l = h k (k + 1) 0 (omega arith) l
+
+pub switches_increase : (facts : Facts) → IsStrictlyIncreasing (switches (entries facts))
+switches_increase facts = increasing (switches (entries facts)) (switches_law facts).1
+
+pub switches_rise : (facts : Facts) → IsStrictlyIncreasing (guids_of (graph_of (entries facts)))
+switches_rise facts = subst IsStrictlyIncreasing (sym (graph_guids (entries facts))) (switches_increase facts)
+
+pub switch_law : SwitchLaw
+switch_law facts g = let cells = entries facts in (
+  λ h. switch_usable facts g (subst (λ (xs : List ℕ). Contains xs g) (graph_guids cells) h),
+  λ u. subst (λ (xs : List ℕ). Contains xs g) (sym (graph_guids cells)) (usable_switch facts g u),
+)

@@ -1,0 +1,125 @@
+-- The graph of switches by index, and its distances.
+use Rattle.std.proofs.Common.{◌≡◌, ◌<◌, ℕ, zero, suc, List, [], ◌∷◌, inl, inr, refl, sym, ap, ap₂, ◌∙◌, subst, arith, Bool, true, false, cond, ◌==◌, map, length, get_or}
+use Rattle.std.proofs.lemmas.Bool.{eq-eqb, false_from_ne_true, eqb-true, cases_order}
+use Rattle.std.proofs.lemmas.List.{get_or-map, ext_get_or}
+use Rattle.std.proofs.lemmas.List.Elements.{Contains-get_or}
+use Rattle.std.proofs.lemmas.List.Kept.{AllPairs-from_increasing}
+use Rattle.std.specs.Prelude.{Option, None, Contains, slice_index}
+use Rattle.std.specs.List.Sorted.{IsStrictlyIncreasing}
+use Rattle.subnet_view.specs.Reading.{Cells, switches}
+use Rattle.port_graph.specs.declared.exit.Exit.{Exit}
+use Rattle.port_graph.specs.Walks.{shortest}
+use Rattle.port_graph.specs.Heads.{heads, AreDistances}
+use Rattle.port_graph.proofs.Counts.{length_map}
+use Rattle.port_graph.proofs.Lists.{contains_map}
+use Rattle.port_graph.proofs.Renaming.{IsRenamed, shortest_renamed}
+use Rattle.updown_routes.specs.Crossing.{Crossing}
+use Rattle.updown_routes.specs.Graph.{guids_of, exits_at, neighbors, exits_of, graph_of}
+use Rattle.updown_routes.specs.Ranks.{distance}
+use Rattle.updown_routes.specs.Wiring.{by_guid, crossings, named, switch_at, LeadBelow, IsWiring}
+use Rattle.updown_routes.specs.GraphLaws.{IsGraph}
+use Rattle.updown_routes.proofs.Rising.{Rises, numbers_rise}
+
+-- lists of one length ---------------------------------------------------------------------
+
+pub guids_of_crossings : (gs : List ℕ) (rows : List (List Exit)) → length rows ≡ length gs → guids_of (crossings gs rows) ≡ gs
+guids_of_crossings [] rows e = refl
+guids_of_crossings (g ∷ gs) [] e = absurd (omega arith)
+guids_of_crossings (g ∷ gs) (es ∷ rows) e = ap (λ xs. g ∷ xs) (guids_of_crossings gs rows (omega arith))
+
+exits_of_crossings : (gs : List ℕ) (rows : List (List Exit)) (i : ℕ) → Rises (λ n. n) gs → length rows ≡ length gs → i < length gs
+    → exits_at (crossings gs rows) (slice_index gs i) ≡ get_or rows i []
+exits_of_crossings [] rows i r e h = absurd (omega arith)
+exits_of_crossings (g ∷ gs) [] i r e h = absurd (omega arith)
+exits_of_crossings (g ∷ gs) (es ∷ rows) zero r e h = ap (λ t. cond t es (exits_at (crossings gs rows) g)) (eq-eqb g g refl)
+exits_of_crossings (g ∷ gs) (es ∷ rows) (suc i) r e h =
+    let l : i < length gs = omega arith in
+    let above = r.0 (slice_index gs i) (Contains-get_or gs i 0 l) in
+    let apart : (g == slice_index gs i) ≡ false = false_from_ne_true (g == slice_index gs i) (λ t. omega (arith, eqb-true g (slice_index gs i) t)) in
+    ap (λ t. cond t es (exits_at (crossings gs rows) (slice_index gs i))) apart ∙ exits_of_crossings gs rows i r.1 (omega arith) l
+
+-- rows that a function gives
+crossings_by : (f : ℕ → List Exit) (gs : List ℕ) → crossings gs (map f gs) ≡ map (λ g. record { guid = g; exits = f g }) gs
+crossings_by f [] = refl
+crossings_by f (g ∷ gs) = ap (λ (xs : List Crossing). record { guid = g; exits = f g } ∷ xs) (crossings_by f gs)
+
+-- the switches and their exits are the graph of the facts
+pub named_is_graph : (cells : Cells) (guids : List ℕ) (exits : List (List Exit)) → guids ≡ switches cells
+    → map (map (by_guid guids)) exits ≡ map (exits_of cells) guids → named guids exits ≡ graph_of cells
+named_is_graph cells guids exits same rows =
+    ap (crossings guids) rows ∙ crossings_by (exits_of cells) guids ∙ ap (map (λ g. record { guid = g; exits = exits_of cells g })) same
+
+-- numbers that rise differ
+pub apart_by_index : (xs : List ℕ) → IsStrictlyIncreasing xs → (i j : ℕ) → i < length xs → j < length xs → slice_index xs i ≡ slice_index xs j → i ≡ j
+apart_by_index xs rise i j h k e =
+    elim (cases_order i j) [
+      | inl s ↦ s
+      | inr (inl l) ↦ absurd (omega (arith, e, AllPairs-from_increasing xs rise i j 0 l k))
+      | inr (inr l) ↦ absurd (omega (arith, e, AllPairs-from_increasing xs rise j i 0 l h))
+    ]
+
+-- by index --------------------------------------------------------------------------------
+
+module _ (guids : List ℕ) (exits : List (List Exit)) (is : IsWiring guids exits) (graph : List Crossing) (by_name : named guids exits ≡ graph) where
+  abbrev rows : List (List Exit)
+  rows = map (map (by_guid guids)) exits
+
+  as_many_rows : length rows ≡ length guids
+  as_many_rows = length_map (map (by_guid guids)) exits ∙ is.as_many
+
+  pub guids_are : guids_of graph ≡ guids
+  guids_are = sym (ap guids_of by_name) ∙ guids_of_crossings guids rows as_many_rows
+
+  pub length_is : length graph ≡ length guids
+  length_is = sym (length_map (λ (c : Crossing). c.guid) graph) ∙ ap length guids_are
+
+  pub good : IsGraph graph
+  good = subst IsGraph by_name is.is_graph
+
+  pub rise : IsStrictlyIncreasing guids
+  rise = subst IsStrictlyIncreasing guids_are good.rising
+
+  -- the exits of the switch at an index
+  exits_by_index : (i : ℕ) → i < length guids → exits_at graph (slice_index guids i) ≡ map (by_guid guids) (get_or exits i [])
+  exits_by_index i h =
+      sym (ap (λ (g : List Crossing). exits_at g (slice_index guids i)) by_name)
+      ∙ exits_of_crossings guids rows i (numbers_rise guids rise) as_many_rows h
+      ∙ get_or-map (map (by_guid guids)) exits i [] [] (omega (arith, is.as_many))
+
+  pub exits_of_switch : (i : ℕ) → i < length graph → map (by_guid (guids_of graph)) (get_or exits i []) ≡ exits_at graph (switch_at graph i)
+  exits_of_switch i h =
+      ap (λ gs. map (by_guid gs) (get_or exits i [])) guids_are ∙ sym (exits_by_index i (omega (arith, length_is)))
+      ∙ sym (ap (λ gs. exits_at graph (slice_index gs i)) guids_are)
+
+  pub exits_to_switches : (i : ℕ) → LeadBelow (length graph) (get_or exits i [])
+  exits_to_switches i e h = omega (arith, is.to_switches i e h, is.as_many, length_is)
+
+  ends_by_guid : (es : List Exit) → map (λ e. e.to) (map (by_guid guids) es) ≡ map (slice_index guids) (map (λ e. e.to) es)
+  ends_by_guid [] = refl
+  ends_by_guid (e ∷ es) = ap (λ ns. slice_index guids e.to ∷ ns) (ends_by_guid es)
+
+  -- the graph is that of the indices, by the GUIDs
+  renamed : IsRenamed (slice_index guids) (length guids) (neighbors graph) (heads exits)
+  renamed =
+      record {
+        named = λ i h. ap (map (λ (e : Exit). e.to)) (exits_by_index i h) ∙ ends_by_guid (get_or exits i []);
+        within = λ i b h k. let x = contains_map (λ (e : Exit). e.to) (get_or exits i []) b k in omega (arith, x.2, is.to_switches i x.0 x.1, is.as_many);
+        apart = λ i j h k e. apart_by_index guids rise i j h k e;
+      }
+
+  distance_by_index : (i j : ℕ) → i < length guids → j < length guids
+      → shortest (heads exits) (length exits) i j ≡ distance graph (slice_index guids i) (slice_index guids j)
+  distance_by_index i j h k =
+      sym (shortest_renamed (slice_index guids) (length guids) (neighbors graph) (heads exits) renamed (length exits) i j h k)
+      ∙ ap (λ n. shortest (neighbors graph) n (slice_index guids i) (slice_index guids j)) (is.as_many ∙ sym length_is)
+
+  -- the distances that a search among the indices finds are those of the graph
+  pub distances_are : (i : ℕ) (found : List (Option ℕ)) → i < length graph → AreDistances exits i found
+      → found ≡ map (distance graph (switch_at graph i)) (guids_of graph)
+  distances_are i found h all =
+      ext_get_or None found (map (distance graph (switch_at graph i)) (guids_of graph))
+      (all.all ∙ is.as_many ∙ sym (ap length guids_are) ∙ sym (length_map (distance graph (switch_at graph i)) (guids_of graph)))
+      (λ j k. let l : j < length guids = omega (arith, all.all, is.as_many) in
+      all.shortest j (omega (arith, all.all)) ∙ distance_by_index i j (omega (arith, length_is)) l
+      ∙ ap (λ gs. distance graph (slice_index gs i) (slice_index gs j)) (sym guids_are)
+      ∙ sym (get_or-map (distance graph (switch_at graph i)) (guids_of graph) j 0 None (omega (arith, ap length guids_are))))

@@ -1,0 +1,6 @@
+use Rattle.updown_routes.proofs.RootByRoot.{AreRanksOf}
+use Rattle.updown_routes.proofs.rank.ranks.Given as goal
+
+-- the ranks that the roots so far give
+abbrev pub invariant-loop-root : goal.invariant-loop-root
+invariant-loop-root l = AreRanksOf l.wiring l.root l.ranks.items

@@ -1,0 +1,24 @@
+-- The distances by index are those by GUID.
+use Rattle.std.proofs.Common.{◌≡◌, arith, map}
+use Rattle.std.specs.Prelude.{IfOk}
+use Rattle.std.specs.declared.result.Result.TheVariants.{Ok, Err}
+use Rattle.port_graph.specs.Heads.{AreDistances}
+use Rattle.updown_routes.specs.Graph.{guids_of}
+use Rattle.updown_routes.specs.Ranks.{distance}
+use Rattle.updown_routes.specs.Wiring.{switch_at}
+use Rattle.updown_routes.proofs.Wirings.{length_is, distances_are}
+use Rattle.updown_routes.proofs.wiring.Wiring.distances.Goals as goal
+
+pub distances-requires-clause-vertex : goal.distances-requires-clause-vertex
+distances-requires-clause-vertex c =
+    let l = length_is c.self.inside.guids.items c.self.inside.exits c.self.invariant c.args.self.now c.self.view_is in
+    omega (arith, c.requires, c.self.invariant.as_many)
+
+pub returns : goal.returns
+returns c =
+    let graph = c.args.self.now in
+    elim c.distances.result as (λ r. IfOk r (λ found. AreDistances c.self.inside.exits c.args.from found.items)
+    → IfOk r (λ found. found.items ≡ map (distance graph (switch_at graph c.args.from)) (guids_of graph))) [
+      | Ok found ↦ λ are. distances_are c.self.inside.guids.items c.self.inside.exits c.self.invariant graph c.self.view_is c.args.from found.items c.requires are
+      | Err e ↦ λ are. tt
+    ] c.distances.ensures

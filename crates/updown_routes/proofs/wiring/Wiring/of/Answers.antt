@@ -1,0 +1,31 @@
+-- What the facts give is a graph.
+use Rattle.std.proofs.Common.{◌≡◌, sym, ap, subst, ◌∙◌, List, ℕ, length, map}
+use Rattle.std.specs.FinMap.{entries}
+use Rattle.updown_routes.specs.Graph.{exits_of, graph_of}
+use Rattle.updown_routes.specs.GraphLaws.{IsGraph}
+use Rattle.updown_routes.specs.Wiring.{by_guid, named}
+use Rattle.updown_routes.proofs.ExitLists.{same_length}
+use Rattle.updown_routes.proofs.Graphs.{graph_law}
+use Rattle.updown_routes.proofs.Wirings.{named_is_graph}
+use Rattle.updown_routes.proofs.wiring.Wiring.of.Goals as goal
+
+pub returns : goal.returns
+returns c =
+    let guids = c.in_ok-guids.guids.items in
+    let exits = c.in_ok-exits.exits in
+    let cells = entries c.args.store.now in
+    let Rows : List ℕ → Type 0 = λ gs. map (map (by_guid gs)) exits ≡ map (exits_of cells) gs in
+    named_is_graph cells guids exits c.in_ok-guids.ensures (subst Rows c.deref.ensures.value c.in_ok-exits.ensures.wires)
+
+pub invariant_of-result : goal.invariant_of-result
+invariant_of-result c =
+    let guids = c.in_ok-guids.guids.items in
+    let exits = c.in_ok-exits.exits in
+    let cells = entries c.args.store.now in
+    let Rows : List ℕ → Type 0 = λ gs. map (map (by_guid gs)) exits ≡ map (exits_of cells) gs in
+    let rows = subst Rows c.deref.ensures.value c.in_ok-exits.ensures.wires in
+    record {
+      as_many = same_length (map (by_guid guids)) (exits_of cells) exits guids rows;
+      to_switches = c.in_ok-exits.ensures.to_switches;
+      is_graph = subst IsGraph (sym (named_is_graph cells guids exits c.in_ok-guids.ensures rows)) (graph_law c.args.store.now);
+    }

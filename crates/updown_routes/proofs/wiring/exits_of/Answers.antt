@@ -1,0 +1,38 @@
+-- Port by port.
+use Rattle.std.proofs.Common.{◌≡◌, ◌+◌, sym, ap, ◌∙◌, subst, List, ℕ, length, map}
+use Rattle.std.specs.Prelude.{Option, None, Some, option_map}
+use Rattle.std.specs.FinMap.{entries}
+use Rattle.port_graph.specs.declared.exit.Exit.{Exit}
+use Rattle.updown_routes.specs.Graph.{exit_at, exits_of}
+use Rattle.updown_routes.specs.Wiring.{by_guid, LeadBelow}
+use Rattle.updown_routes.proofs.ExitLists.{AreAll, port_without, port_with, no_more_ports, lead_below_more}
+use Rattle.updown_routes.proofs.wiring.exits_of.Goals as goal
+use Rattle.updown_routes.proofs.wiring.exits_of.Goals.{in-Some+in_ok-push, in_default}
+
+pub loop-before-preserved : goal.loop-before-preserved
+loop-before-preserved c =
+    let guids = c.args.guids.now in
+    let exit : ℕ → Option Exit = exit_at (entries c.args.store.now) c.args.guid in
+    let all = exits_of (entries c.args.store.now) c.args.guid in
+    let before = c.loop-before.before in
+    let count = c.port_count-before-end.result in
+    let found = c.loop-before.found.items in
+    let is = ap exit (sym c.new.ensures) ∙ sym c.exit_at.ensures.wire in
+    let Stands : List Exit → Type 0 = λ xs. AreAll guids exit all count xs (before + 1) × LeadBelow (length guids) xs in
+    elim c.match-exit_at.branch [
+      | in-Some+in_ok-push w ↦
+          let there : exit (before + 1) ≡ Some (by_guid guids w.in-Some.exit) = is ∙ ap (option_map (by_guid guids)) w.in-Some.is in
+          subst Stands (sym (ap (λ v. v.items) w.found-is ∙ w.in_ok-push.ensures.items)) (
+            port_with guids exit all count found before w.in-Some.exit c.loop-before-test.true c.loop-before.invariant.0 there,
+            lead_below_more (length guids) found w.in-Some.exit c.loop-before.invariant.1 w.in-Some.ensures.to_switch,
+          )
+      | in_default w ↦
+          subst Stands (sym (ap (λ v. v.items) w.found-is)) (
+            port_without guids exit all count found before c.loop-before-test.true c.loop-before.invariant.0 (is ∙ ap (option_map (by_guid guids)) w.in_default.is),
+            c.loop-before.invariant.1,
+          )
+    ]
+
+pub returns-clause-wires : goal.returns-clause-wires
+returns-clause-wires c = no_more_ports c.args.guids.now (exit_at (entries c.args.store.now) c.args.guid) (exits_of (entries c.args.store.now) c.args.guid)
+    c.port_count-before-end.result c.loop-before.found.items c.loop-before.before c.loop-before-test.false c.loop-before.invariant.0

@@ -1,0 +1,10 @@
+use Rattle.std.proofs.Common.{length}
+use Rattle.std.specs.FinMap.{entries}
+use Rattle.updown_routes.specs.Graph.{exit_at, exits_of}
+use Rattle.updown_routes.specs.Wiring.{LeadBelow}
+use Rattle.updown_routes.proofs.ExitLists.{AreAll}
+use Rattle.updown_routes.proofs.wiring.exits_of.Given as goal
+
+-- what was found, and what the ports to come have, are all that there is
+abbrev pub invariant-loop-before : goal.invariant-loop-before
+invariant-loop-before l = AreAll l.guids (exit_at (entries l.store) l.guid) (exits_of (entries l.store) l.guid) l.before-end l.found.items l.before × LeadBelow (length l.guids) l.found.items

@@ -1,0 +1,94 @@
+ghost use Rattle.std.specs.Prelude.{◌≡◌, ◌<◌, IfOk, length, map, slice_get};
+ghost use Rattle.std.specs.FinMap.{entries};
+ghost use Rattle.updown_routes.specs.Graph.{exits_at, graph_of, guids_of};
+ghost use Rattle.updown_routes.specs.GraphLaws.{IsGraph};
+ghost use Rattle.updown_routes.specs.Ranks.{rank_of};
+ghost use Rattle.updown_routes.specs.Wiring.{by_guid, switch_at, IsIndexIn, LeadBelow};
+
+use crate::rank::ranks;
+use crate::wiring::Wiring;
+use fact_store::{Refused, Store};
+use port_graph::Exit;
+use smp_bytes::Guid;
+use std::alloc::Global;
+use std::marker::Model;
+
+/// The usable switches of a subnet, the wires between them, and their ranks.
+#[derive(Drop)]
+pub struct Graph {
+    wiring: Wiring,
+    /// The rank of each switch, by rising GUID.
+    ranks: Vec<Option<usize>>,
+}
+
+impl Model for Graph {
+    ghost use Rattle.std.specs.Prelude.{◌≡◌, List, map};
+    ghost use Rattle.updown_routes.specs.Crossing.{Crossing};
+    ghost use Rattle.updown_routes.specs.Graph.{guids_of};
+    ghost use Rattle.updown_routes.specs.Ranks.{rank_of};
+
+    ghost Value = { List Crossing };
+
+    ghost view = { λ a. a.wiring };
+
+    ghost invariant = { λ a. a.ranks.items ≡ map (rank_of a.wiring) (guids_of a.wiring) };
+}
+
+impl Graph {
+    /// The usable switches of the view with the wires between them. Takes some ten searches a port, and a
+    /// search in breadth for each component.
+    pub fn of(alloc: Global, store: &Store) -> Result<Self, Refused>
+        ensures { IfOk result (λ graph. graph ≡ graph_of (entries store.now)) }
+    {
+        let wiring = Wiring::of(alloc, store)?;
+        let ranks = ranks(alloc, &wiring)?;
+        Ok(Graph { wiring, ranks })
+    }
+
+    /// How many switches there are. It is held.
+    pub fn len(&self) -> usize
+        ensures count { result ≡ length self.now }
+        ensures is_graph { IsGraph self.now }
+    {
+        self.wiring.len()
+    }
+
+    /// The switch at an index, by rising GUID from 0 on. Takes one step.
+    pub fn switch(&self, index: usize) -> Option<Guid>
+        ensures { result ≡ slice_get (guids_of self.now) index }
+    {
+        self.wiring.switch(index)
+    }
+
+    /// The index of a switch. Takes a search.
+    pub fn index_of(&self, switch: Guid) -> Option<usize>
+        ensures found { IsIndexIn (guids_of self.now) switch result }
+        ensures is_graph { IsGraph self.now }
+    {
+        self.wiring.index_of(switch)
+    }
+
+    /// The number of wires from the root of its component to a switch; none for another GUID. Takes a search.
+    pub fn rank(&self, switch: Guid) -> Option<usize>
+        ensures { result ≡ rank_of self.now switch }
+    {
+        let index = self.wiring.index_of(switch)?;
+        self.ranks[index]
+    }
+
+    /// The ranks of the switches, by rising GUID.
+    pub(crate) fn ranks(&self) -> &[Option<usize>]
+        ensures { result.now ≡ map (rank_of self.now) (guids_of self.now) }
+    {
+        &self.ranks
+    }
+
+    /// The exits of the switch at an index, which lead to indices. Takes one step.
+    pub(crate) fn exits(&self, index: usize) -> &[Exit]
+        requires { index < length self.now }
+        ensures exits { map (by_guid (guids_of self.now)) result.now ≡ exits_at self.now (switch_at self.now index) }
+        ensures to_switches { LeadBelow (length self.now) result.now }
+    {
+        self.wiring.exits(index)
+    }
+}

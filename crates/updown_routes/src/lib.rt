@@ -1,0 +1,9 @@
+//! Routes that go up towards the root of a component until the target is downhill, and then down.
+#![tactic(auto)]
+
+mod graph;
+pub mod laws;
+mod rank;
+mod wiring;
+
+pub use graph::Graph;

@@ -1,0 +1,155 @@
+ghost use Rattle.std.specs.Prelude.{◌≡◌, ◌<◌, IfOk, IfSome, length, map, option_map, slice_get};
+ghost use Rattle.std.specs.List.Sorted.{IsStrictlyIncreasing};
+ghost use Rattle.std.specs.FinMap.{entries};
+ghost use Rattle.subnet_view.specs.Reading.{port_count_of, switches};
+ghost use Rattle.port_graph.specs.Heads.{LeadToVertices};
+ghost use Rattle.updown_routes.specs.Graph.{exit_at, exits_at, exits_of, graph_of, guids_of};
+ghost use Rattle.updown_routes.specs.GraphLaws.{IsGraph};
+ghost use Rattle.updown_routes.specs.Ranks.{distance};
+ghost use Rattle.updown_routes.specs.Wiring.{by_guid, switch_at, IsIndexIn, LeadBelow};
+
+use fact_store::{Refused, Store};
+use port_graph::{Exit, Exits};
+use smp_bytes::{Guid, PortNum};
+use std::alloc::{AllocError, Global};
+use std::marker::Model;
+use subnet_view::{switches, wire};
+
+/// The usable switches and the wires between them.
+#[derive(Drop)]
+pub(crate) struct Wiring {
+    /// The switches by rising GUID. An exit leads to an index among them.
+    guids: Vec<Guid>,
+    /// The exits of each switch, by rising port.
+    exits: Exits,
+}
+
+impl Model for Wiring {
+    ghost use Rattle.std.specs.Prelude.{List};
+    ghost use Rattle.updown_routes.specs.Crossing.{Crossing};
+    ghost use Rattle.updown_routes.specs.Wiring.{named, IsWiring};
+
+    ghost Value = { List Crossing };
+
+    ghost view = { λ a. named a.guids.items a.exits };
+
+    ghost invariant = { λ a. IsWiring a.guids.items a.exits };
+}
+
+impl Wiring {
+    /// The usable switches of the view with the wires between them. Takes some ten searches a port.
+    pub(crate) fn of(alloc: Global, store: &Store) -> Result<Self, Refused>
+        ensures { IfOk result (λ wiring. wiring ≡ graph_of (entries store.now)) }
+    {
+        let guids = switches(alloc, store)?;
+        let exits = exits(alloc, store, &guids)?;
+        Ok(Wiring { guids, exits })
+    }
+
+    /// How many switches there are.
+    pub(crate) fn len(&self) -> usize
+        ensures count { result ≡ length self.now }
+        ensures is_graph { IsGraph self.now }
+    {
+        self.guids.len()
+    }
+
+    /// The switch at an index. Takes one step.
+    pub(crate) fn switch(&self, index: usize) -> Option<Guid>
+        ensures { result ≡ slice_get (guids_of self.now) index }
+    {
+        self.guids.get(index).copied()
+    }
+
+    /// The index of a switch. Takes a search.
+    pub(crate) fn index_of(&self, switch: Guid) -> Option<usize>
+        ensures found { IsIndexIn (guids_of self.now) switch result }
+        ensures is_graph { IsGraph self.now }
+    {
+        index_of(&self.guids, switch)
+    }
+
+    /// The exits of the switch at an index, which lead to indices. Takes one step.
+    pub(crate) fn exits(&self, index: usize) -> &[Exit]
+        requires { index < length self.now }
+        ensures exits { map (by_guid (guids_of self.now)) result.now ≡ exits_at self.now (switch_at self.now index) }
+        ensures to_switches { LeadBelow (length self.now) result.now }
+    {
+        self.exits.at(index)
+    }
+
+    /// The distances from the switch at an index to each switch.
+    pub(crate) fn distances(
+        &self,
+        alloc: Global,
+        from: usize,
+    ) -> Result<Vec<Option<usize>>, AllocError>
+        requires { from < length self.now }
+        ensures { IfOk result (λ found. found.items ≡ map (distance self.now (switch_at self.now from)) (guids_of self.now)) }
+    {
+        port_graph::distances(alloc, &self.exits, from)
+    }
+}
+
+/// The exits of each switch, where the GUIDs are those of the usable switches.
+fn exits(alloc: Global, store: &Store, guids: &[Guid]) -> Result<Exits, AllocError>
+    requires { guids.now ≡ switches (entries store.now) }
+    ensures wires { IfOk result (λ exits. map (map (by_guid guids.now)) exits ≡ map (exits_of (entries store.now)) guids.now) }
+    ensures to_switches { IfOk result (λ exits. LeadToVertices exits) }
+{
+    let mut exits = Exits::new(alloc);
+    for guid in guids {
+        let found = exits_of(alloc, store, guids, *guid)?;
+        exits.push_vertex(&found)?;
+    }
+    Ok(exits)
+}
+
+/// The wires from a switch to switches, by rising port.
+fn exits_of(
+    alloc: Global,
+    store: &Store,
+    guids: &[Guid],
+    guid: Guid,
+) -> Result<Vec<Exit>, AllocError>
+    requires { guids.now ≡ switches (entries store.now) }
+    ensures wires { IfOk result (λ found. map (by_guid guids.now) found.items ≡ exits_of (entries store.now) guid) }
+    ensures to_switches { IfOk result (λ found. LeadBelow (length guids.now) found.items) }
+{
+    let mut found = Vec::new(alloc);
+    for before in 0..port_count(store, guid) {
+        if let Some(exit) = exit_at(store, guids, guid, PortNum::new(before + 1)) {
+            found.push(exit)?;
+        }
+    }
+    Ok(found)
+}
+
+/// The wire in a port, where it leads to a switch. A search among the switches, and some ten more.
+fn exit_at(store: &Store, guids: &[Guid], guid: Guid, port: PortNum) -> Option<Exit>
+    requires { guids.now ≡ switches (entries store.now) }
+    ensures wire { option_map (by_guid guids.now) result ≡ exit_at (entries store.now) guid port }
+    ensures to_switch { IfSome result (λ e. e.to < length guids.now) }
+{
+    let (far, _) = wire(store, guid, port)?;
+    let to = index_of(guids, far)?;
+    Some(Exit { port, to })
+}
+
+/// The index of a GUID among GUIDs that rise. A search.
+fn index_of(guids: &[Guid], guid: Guid) -> Option<usize>
+    requires { IsStrictlyIncreasing guids.now }
+    ensures { IsIndexIn guids.now guid result }
+{
+    guids.binary_search(&guid).ok()
+}
+
+/// The number of a node's ports, and 0 where the node is not known.
+fn port_count(store: &Store, guid: Guid) -> u8
+    ensures { result ≡ port_count_of (entries store.now) guid }
+{
+    match store.node(guid) {
+        Some((_, ports)) => ports,
+        None => 0,
+    }
+}
