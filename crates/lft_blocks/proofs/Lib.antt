@@ -6,3 +6,4 @@ pub mod Walks
 pub mod TableLookups
 pub mod HomeTables
 pub mod Enumerated
+pub mod BlockOwners

@@ -1,12 +1,15 @@
 -- The laws of plans.
-use Rattle.std.specs.Prelude.{◌≡◌, ◌<◌, ℕ, ◌+◌, ◌*◌, List, Option, Some, slice_get}
+use Rattle.std.specs.Prelude.{◌≡◌, ◌<◌, ℕ, ◌+◌, ◌*◌, List, Option, MatchOption, Some, slice_get}
 use Rattle.std.specs.FinMap.{entries}
 use Rattle.fact_store.specs.View.{Facts}
-use Rattle.lid_assign.specs.Lids.{IsNoRoom}
+use Rattle.subnet_view.specs.Reading.{Cells, IsUsable}
+use Rattle.lid_assign.specs.Lids.{IsNoRoom, lids, top_of}
 use Rattle.lid_assign.specs.Stability.{IsClaimed}
 use Rattle.port_graph.specs.Slopes.{Slope}
-use Rattle.lft_blocks.specs.Entries.{entry, blocks}
-use Rattle.lft_blocks.specs.Plan.{plan_of}
+use Rattle.updown_routes.specs.Graph.{graph_of}
+use Rattle.updown_routes.specs.Ranks.{slopes_of}
+use Rattle.lft_blocks.specs.Entries.{home_of_lid, entry, block, block_count, blocks}
+use Rattle.lft_blocks.specs.Plan.{plan_of, block_at}
 
 -- once the LIDs of a view are claimed, its plan stays
 abbrev pub PlansStay : Type 0
@@ -14,5 +17,18 @@ PlansStay = (x y : Facts) → ¬ (IsNoRoom (entries x)) → IsClaimed x y → ¬
 
 -- block b has the entry for the LID 64 b + i at the place i
 abbrev pub BlocksHoldEntries : Type 0
-BlocksHoldEntries = (homes : ℕ → Option (ℕ × ℕ)) (slopes : List Slope) (count s b i : ℕ) (block : List ℕ)
-    → slice_get (blocks homes slopes count s) b ≡ Some block → i < 64 → slice_get block i ≡ Some (entry homes slopes s (64 * b + i))
+BlocksHoldEntries = (homes : ℕ → Option (ℕ × ℕ)) (slopes : List Slope) (count s b i : ℕ) (ports : List ℕ)
+    → slice_get (blocks homes slopes count s) b ≡ Some ports → i < 64 → slice_get ports i ≡ Some (entry homes slopes s (64 * b + i))
+
+-- the GUID is a usable switch's, and the greatest LID is in this block or a later one
+abbrev pub HasBlock : Cells → ℕ → ℕ → Type 0
+HasBlock cells g b = IsUsable cells g × (b < block_count (top_of (lids cells)))
+
+-- block b of the switch g
+abbrev pub block_of : Cells → ℕ → ℕ → List ℕ
+block_of cells g b = block (home_of_lid cells (lids cells)) (slopes_of (graph_of cells)) g b
+
+-- a plan has just these blocks
+abbrev pub BlocksAreOfSwitches : Type 0
+BlocksAreOfSwitches = (facts : Facts) (g b : ℕ)
+    → MatchOption (block_at (plan_of (entries facts)) g b) (¬ (HasBlock (entries facts) g b)) (λ x. HasBlock (entries facts) g b × (x ≡ block_of (entries facts) g b))

@@ -1,5 +1,5 @@
 //! The laws of plans.
-ghost use Rattle.lft_blocks.specs.PlanLaws.{PlansStay, BlocksHoldEntries};
+ghost use Rattle.lft_blocks.specs.PlanLaws.{PlansStay, BlocksHoldEntries, BlocksAreOfSwitches};
 
 /// Where the facts differ from those of a view with room in claims alone, and each end port claims the LID
 /// that it has, the plan is the same.
@@ -10,4 +10,10 @@ pub fn plans_stay()
 /// Block `b` of a switch has at place `i` the entry for the LID `64 * b + i`.
 pub fn blocks_hold_entries()
     ensures { BlocksHoldEntries }
+{}
+
+/// A plan has a block exactly for a usable switch and a number up to that of the greatest LID's block, and
+/// it is that switch's.
+pub fn blocks_are_of_switches()
+    ensures { BlocksAreOfSwitches }
 {}
