@@ -3,7 +3,7 @@ use Rattle.std.proofs.Common.{◌≡◌, ◌≤◌, ◌<◌, ◌+◌, ℕ, zero,
 use Rattle.std.proofs.lemmas.Bool.{cases_lt, eqb-true, eq-eqb}
 use Rattle.std.proofs.lemmas.List.{get_or_past}
 use Rattle.std.specs.Cmp.{both_ways}
-use Rattle.std.specs.Prelude.{Option, None, Some, is_some, option_map, Contains, slice_index_or}
+use Rattle.std.specs.Prelude.{Option, None, is_some, option_map, Contains, slice_index_or}
 use Rattle.std.specs.List.{filter_map}
 use Rattle.fact_store.proofs.Members.{contains_here, contains_later, contains_cases, contains_none}
 use Rattle.port_graph.specs.declared.exit.Exit.{Exit}

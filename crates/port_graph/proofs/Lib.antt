@@ -11,3 +11,4 @@ pub mod Indexing
 pub mod CostSteps
 pub mod NextPorts
 pub mod Named
+pub mod SampleSlopes

@@ -12,3 +12,6 @@ pub use distance::distances;
 pub use exit::Exit;
 pub use exits::Exits;
 pub use next_port::next_ports;
+
+#[cfg(test)]
+mod tests;

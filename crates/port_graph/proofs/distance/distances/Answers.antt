@@ -1,5 +1,5 @@
 -- Vertex by vertex.
-use Rattle.std.proofs.Common.{◌≡◌, ◌<◌, ◌+◌, refl, sym, ap, ◌∙◌, arith, length, replicate, [], ◌∷◌, ◌++◌, add-one}
+use Rattle.std.proofs.Common.{◌≡◌, ◌<◌, ◌+◌, refl, ap, ◌∙◌, arith, length, replicate, [], ◌∷◌, ◌++◌, add-one}
 use Rattle.std.proofs.lemmas.List.{nil_from_length}
 use Rattle.std.specs.Prelude.{Option, None, Some}
 use Rattle.port_graph.specs.declared.exit.Exit.{Exit}
@@ -26,22 +26,22 @@ loop-vertex-init c =
 pub overflow_add-distance : goal.overflow_add-distance
 overflow_add-distance c =
     let below =
-        distance_below c.args.exits.now c.args.from c.requires.lead c.loop-vertex.distances.items c.loop-vertex.queue.items c.pop_front.new.self.items
-        c.in-Some.vertex c.in-Some.distance c.in-Some.ensures.items c.loop-vertex.invariant in
+    distance_below c.args.exits.now c.args.from c.requires.lead c.loop-vertex.distances.items c.loop-vertex.queue.items c.pop_front.new.self.items
+    c.in-Some.vertex c.in-Some.distance c.in-Some.ensures.items c.loop-vertex.invariant in
     omega (arith, below)
 
 pub reach_all-requires : goal.reach_all-requires
 reach_all-requires c =
     let within =
-        places c.args.exits.now c.args.from c.requires.lead c.loop-vertex.distances.items c.loop-vertex.queue.items c.pop_front.new.self.items
-        c.in-Some.vertex c.in-Some.distance c.in-Some.ensures.items c.loop-vertex.invariant c.at.result.now c.at.ensures in
+    places c.args.exits.now c.args.from c.requires.lead c.loop-vertex.distances.items c.loop-vertex.queue.items c.pop_front.new.self.items
+    c.in-Some.vertex c.in-Some.distance c.in-Some.ensures.items c.loop-vertex.invariant c.at.result.now c.at.ensures in
     all_from_contained (λ (e : Exit). e.to < length c.deref_mut.result.now) c.at.result.now (λ e h. omega (arith, within e h, c.deref_mut.ensures.len))
 
 pub loop-vertex-smaller : goal.loop-vertex-smaller
 loop-vertex-smaller c =
     let step =
-        written c.loop-vertex.distances c.deref_mut.result.now c.reach_all.new.distances c.pop_front.new.self.items c.reach_all.new.queue.items
-        (c.in-Some.distance + 1) c.at.result.now (omega arith) c.deref_mut.ensures.value c.in_ok-reach_all.ensures in
+    written c.loop-vertex.distances c.deref_mut.result.now c.reach_all.new.distances c.pop_front.new.self.items c.reach_all.new.queue.items
+    (c.in-Some.distance + 1) c.at.result.now (omega arith) c.deref_mut.ensures.value c.in_ok-reach_all.ensures in
     fewer c.args.exits.now c.args.from c.requires.lead c.loop-vertex.distances.items c.loop-vertex.queue.items c.pop_front.new.self.items
     c.in-Some.vertex c.in-Some.distance c.in-Some.ensures.items c.loop-vertex.invariant c.at.result.now c.at.ensures
     (c.in-Some.distance + 1) (add-one c.in-Some.distance) _ step
@@ -49,8 +49,8 @@ loop-vertex-smaller c =
 pub loop-vertex-preserved : goal.loop-vertex-preserved
 loop-vertex-preserved c =
     let step =
-        written c.loop-vertex.distances c.deref_mut.result.now c.reach_all.new.distances c.pop_front.new.self.items c.reach_all.new.queue.items
-        (c.in-Some.distance + 1) c.at.result.now (omega arith) c.deref_mut.ensures.value c.in_ok-reach_all.ensures in
+    written c.loop-vertex.distances c.deref_mut.result.now c.reach_all.new.distances c.pop_front.new.self.items c.reach_all.new.queue.items
+    (c.in-Some.distance + 1) c.at.result.now (omega arith) c.deref_mut.ensures.value c.in_ok-reach_all.ensures in
     between c.args.exits.now c.args.from c.requires.lead c.loop-vertex.distances.items c.loop-vertex.queue.items c.pop_front.new.self.items
     c.in-Some.vertex c.in-Some.distance c.in-Some.ensures.items c.loop-vertex.invariant c.at.result.now c.at.ensures
     (c.in-Some.distance + 1) (add-one c.in-Some.distance) _ step
