@@ -6,6 +6,7 @@ mod cost;
 mod distance;
 mod exit;
 mod exits;
+pub mod laws;
 mod next_port;
 
 pub use distance::distances;

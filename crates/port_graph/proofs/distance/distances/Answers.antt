@@ -1,5 +1,5 @@
 -- Vertex by vertex.
-use Rattle.std.proofs.Common.{◌≡◌, ◌<◌, ◌+◌, refl, ap, ◌∙◌, arith, length, replicate, [], ◌∷◌, ◌++◌, add-one}
+use Rattle.std.proofs.Common.{◌≡◌, ◌<◌, refl, ap, ◌∙◌, arith, length, replicate, [], ◌∷◌, ◌++◌, add-one}
 use Rattle.std.proofs.lemmas.List.{nil_from_length}
 use Rattle.std.specs.Prelude.{Option, None, Some}
 use Rattle.port_graph.specs.declared.exit.Exit.{Exit}
@@ -19,8 +19,8 @@ filled {X} C follows not_some = follows same
 pub loop-vertex-init : goal.loop-vertex-init
 loop-vertex-init c =
     let n = length c.args.exits.now in
-    starts (heads c.args.exits.now) c.args.from n c.in_ok-distances.distances.items c.push_back.new.self.items c.requires.vertex
-    (filled _ c.in_ok-distances.ensures.items_if_clones_equal (λ x k. k) ∙ ap (λ m. replicate m None) c.len.ensures)
+    let none : c.in_ok-distances.distances.items ≡ replicate n None = filled _ c.in_ok-distances.ensures.items_if_clones_equal (λ x k. k) ∙ ap (λ m. replicate m None) c.len.ensures in
+    starts (heads c.args.exits.now) c.args.from n c.in_ok-distances.distances.items c.push_back.new.self.items c.requires.vertex none
     (c.in_ok-push_back.ensures.items ∙ ap (λ q. q ++ (c.args.from, 0) ∷ []) c.in_ok-queue.ensures.items)
 
 pub overflow_add-distance : goal.overflow_add-distance
@@ -41,19 +41,19 @@ pub loop-vertex-smaller : goal.loop-vertex-smaller
 loop-vertex-smaller c =
     let step =
     written c.loop-vertex.distances c.deref_mut.result.now c.reach_all.new.distances c.pop_front.new.self.items c.reach_all.new.queue.items
-    (c.in-Some.distance + 1) c.at.result.now (omega arith) c.deref_mut.ensures.value c.in_ok-reach_all.ensures in
+    _ c.at.result.now (omega arith) c.deref_mut.ensures.value c.in_ok-reach_all.ensures in
     fewer c.args.exits.now c.args.from c.requires.lead c.loop-vertex.distances.items c.loop-vertex.queue.items c.pop_front.new.self.items
     c.in-Some.vertex c.in-Some.distance c.in-Some.ensures.items c.loop-vertex.invariant c.at.result.now c.at.ensures
-    (c.in-Some.distance + 1) (add-one c.in-Some.distance) _ step
+    _ (add-one c.in-Some.distance) _ step
 
 pub loop-vertex-preserved : goal.loop-vertex-preserved
 loop-vertex-preserved c =
     let step =
     written c.loop-vertex.distances c.deref_mut.result.now c.reach_all.new.distances c.pop_front.new.self.items c.reach_all.new.queue.items
-    (c.in-Some.distance + 1) c.at.result.now (omega arith) c.deref_mut.ensures.value c.in_ok-reach_all.ensures in
+    _ c.at.result.now (omega arith) c.deref_mut.ensures.value c.in_ok-reach_all.ensures in
     between c.args.exits.now c.args.from c.requires.lead c.loop-vertex.distances.items c.loop-vertex.queue.items c.pop_front.new.self.items
     c.in-Some.vertex c.in-Some.distance c.in-Some.ensures.items c.loop-vertex.invariant c.at.result.now c.at.ensures
-    (c.in-Some.distance + 1) (add-one c.in-Some.distance) _ step
+    _ (add-one c.in-Some.distance) _ step
 
 pub returns : goal.returns
 returns c =
