@@ -3,19 +3,19 @@ use Rattle.std.proofs.Common.{◌≡◌, ◌≤◌, ◌<◌, ◌+◌, ℕ, zero,
 use Rattle.std.proofs.lemmas.Bool.{cases_lt, eqb-true, eq-eqb}
 use Rattle.std.proofs.lemmas.List.{get_or_past}
 use Rattle.std.specs.Cmp.{both_ways}
-use Rattle.std.specs.Prelude.{Option, None, Some, is_some, option_map, Contains, slice_index_or}
+use Rattle.std.specs.Prelude.{Option, None, is_some, option_map, Contains, slice_index_or}
 use Rattle.std.specs.List.{filter_map}
 use Rattle.smp_bytes.proofs.Members.{contains_here, contains_later, contains_cases, contains_none}
 use Rattle.port_graph.specs.declared.exit.Exit.{Exit}
 use Rattle.port_graph.specs.Walks.{has_walk, least_from, shortest, Walk}
 use Rattle.port_graph.specs.Slopes.{ups_at, downs_at, down_distance, least_of, cost}
 use Rattle.port_graph.specs.Heads.{exits_at, heads, LeadToVertices, AreDistances}
-use Rattle.port_graph.specs.Indexed.{indexed_from, indexed, AreSlopes, AreCosts}
+use Rattle.port_graph.specs.Indexed.{indexed_from, indexed, AreSlopes, AreLess, AreCosts, WaysLaw}
 use Rattle.port_graph.proofs.Lists.{filter_map_same, contains_map}
 use Rattle.port_graph.proofs.WalkLemmas.{walk_from_test, test_from_walk, least_found}
 use Rattle.port_graph.proofs.Paths.{walk_push}
 use Rattle.port_graph.proofs.Searching.{known_below}
-use Rattle.port_graph.proofs.Costs.{cost_recurs}
+use Rattle.port_graph.proofs.Costs.{cost_recurs, way}
 
 -- exits ---------------------------------------------------------------------------------
 
@@ -103,20 +103,20 @@ module _ (ups downs : List (List Exit)) (are : AreSlopes ups downs) where
   down_is s t =
       (λ i. shortest (λ a. map (λ e. e.to) (downs_indexed a i)) (all_indexed i) s t) ∙ shortest_turned (heads downs) (heads ups) are.back_up are.back_down (length ups) s t
 
+  abbrev height : ℕ → ℕ
+  height s = min s (length ups)
+
+  falls : (s : ℕ) (e : Exit) → Contains (ups_at (indexed ups downs) s) e → height e.to < height s
+  falls s e h =
+      let k = subst (λ (xs : List Exit). Contains xs e) (ups_indexed s) h in
+      omega (arith, are.rise s e k, exits_below ups s e k)
+
+  bounded : (s : ℕ) → height s ≤ length (indexed ups downs)
+  bounded s = omega (arith, all_indexed)
+
   module _ (t : ℕ) (distances costs : List (Option ℕ)) (lengths : AreDistances ups t distances) (all : AreCosts ups distances (length ups) costs) where
     pub distance_is : (s : ℕ) → s < length ups → slice_index_or distances s None ≡ down_distance (indexed ups downs) s t
     distance_is s h = lengths.shortest s h ∙ sym (down_is s t)
-
-    abbrev height : ℕ → ℕ
-    height s = min s (length ups)
-
-    falls : (s : ℕ) (e : Exit) → Contains (ups_at (indexed ups downs) s) e → height e.to < height s
-    falls s e h =
-        let k = subst (λ (xs : List Exit). Contains xs e) (ups_indexed s) h in
-        omega (arith, are.rise s e k, exits_below ups s e k)
-
-    bounded : (s : ℕ) → height s ≤ length (indexed ups downs)
-    bounded s = omega (arith, all_indexed)
 
     upper : (s : ℕ) → ((e : Exit) → e.to < s → e.to < length ups → slice_index_or costs e.to None ≡ cost (indexed ups downs) e.to t)
         → filter_map (λ e. slice_index_or costs e.to None) (exits_at ups s) ≡ filter_map (λ e. cost (indexed ups downs) e.to t) (ups_at (indexed ups downs) s)
@@ -137,7 +137,12 @@ module _ (ups downs : List (List Exit)) (are : AreSlopes ups downs) where
     cost_is s h = cost_below (suc s) s (omega arith) h
 
 -- a distance is less than the number of vertices
-pub distance_short : (exits : List (List Exit)) (t : ℕ) (distances : List (Option ℕ)) → AreDistances exits t distances → (a d : ℕ) → slice_index_or distances a None ≡ Some d → d < length exits
+pub distance_short : (exits : List (List Exit)) (t : ℕ) (distances : List (Option ℕ)) → AreDistances exits t distances → AreLess (length exits) distances
 distance_short exits t distances are a d h =
     let below = known_below distances a d h in
     omega (arith, (least_found 0 (length exits) (has_walk (heads exits) t a) d (sym (are.shortest a (omega (arith, are.all))) ∙ h)).bounded)
+
+-- a way from each vertex that has a cost
+pub ways_in_words : WaysLaw
+ways_in_words ups downs are s t n target e =
+    way (indexed ups downs) (height ups downs are) (falls ups downs are) (bounded ups downs are) n s t (omega (arith, all_indexed ups downs are)) e

@@ -10,3 +10,6 @@ pub mod Renaming
 pub mod Indexing
 pub mod CostSteps
 pub mod NextPorts
+pub mod Named
+pub mod DistanceLaws
+pub mod SampleSlopes
