@@ -5,3 +5,4 @@ pub mod Ranks
 pub mod RankLaws
 pub mod RouteLaws
 pub mod Wiring
+pub mod Order

@@ -3,6 +3,7 @@
 
 mod graph;
 pub mod laws;
+mod order;
 mod rank;
 mod wiring;
 

@@ -47,7 +47,7 @@ lex_below_trans r a s b t c (lesser h) (tied e k) = lesser (omega arith)
 lex_below_trans r a s b t c (tied e h) (lesser k) = lesser (omega arith)
 lex_below_trans r a s b t c (tied e h) (tied f k) = tied (e ∙ f) (omega arith)
 
-never_below : (r a : ℕ) → LexBelow r a r a → ⊥
+pub never_below : (r a : ℕ) → LexBelow r a r a → ⊥
 never_below r a (lesser h) = omega arith
 never_below r a (tied e h) = omega arith
 
