@@ -15,3 +15,4 @@ pub mod Wirings
 pub mod RootByRoot
 pub mod Outside
 pub mod Orders
+pub mod Placing

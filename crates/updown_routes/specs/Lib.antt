@@ -6,3 +6,4 @@ pub mod RankLaws
 pub mod RouteLaws
 pub mod Wiring
 pub mod Order
+pub mod Placed

@@ -5,6 +5,7 @@ mod graph;
 pub mod laws;
 mod order;
 mod rank;
+mod slope;
 mod wiring;
 
 pub use graph::Graph;
