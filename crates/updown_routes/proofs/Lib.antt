@@ -16,3 +16,4 @@ pub mod RootByRoot
 pub mod Outside
 pub mod Orders
 pub mod Placing
+pub mod PlacedRoutes

@@ -10,13 +10,14 @@ use Rattle.fact_store.proofs.Members.{contains_here, contains_later, contains-fr
 use Rattle.port_graph.specs.declared.exit.Exit.{Exit}
 use Rattle.port_graph.specs.Heads.{exits_at as exits_by_index}
 use Rattle.port_graph.proofs.Counts.{length_map}
+use Rattle.port_graph.proofs.Lists.{contains_map}
 use Rattle.updown_routes.specs.Crossing.{Crossing}
 use Rattle.updown_routes.specs.Graph.{guids_of, exits_at}
 use Rattle.updown_routes.specs.GraphLaws.{IsGraph}
 use Rattle.updown_routes.specs.Ranks.{rank_of, is_before}
 use Rattle.updown_routes.specs.Wiring.{by_guid, switch_at, LeadBelow}
 use Rattle.updown_routes.specs.Order.{goes_before, IsOrder, ArePlaces}
-use Rattle.updown_routes.specs.Placed.{placed, by_place, to_place, ups_from, downs_from, IsPlaced}
+use Rattle.updown_routes.specs.Placed.{placed, by_place, at_place, ups_from, downs_from, IsPlaced}
 use Rattle.updown_routes.proofs.Before.{lex_below, lex_below_trans, never_below, ups_filter, downs_filter}
 
 -- a filter of one map is that of another, where their tests agree
@@ -102,7 +103,7 @@ module _ (graph : List Crossing) (good : IsGraph graph) where
         ∙ by_rank (get_or order p 0) j (omega (arith, is.within p h, many)) k)
 
     -- by its place an exit leads to the same switch
-    same_exit : (e : Exit) → e.to < length guids → by_guid guids e ≡ by_place graph order (to_place places e)
+    same_exit : (e : Exit) → e.to < length guids → by_guid guids e ≡ by_place graph order (at_place places e)
     same_exit e h =
         let b = place_back ranks order is places are e.to (omega (arith, many)) in
         let exit : ℕ → Exit = λ g. record { port = e.port; to = g } in
@@ -110,7 +111,7 @@ module _ (graph : List Crossing) (good : IsGraph graph) where
 
     -- the wires up and down of the switch at a place
     pub row_placed : (p : ℕ) (es : List Exit) → p < length order → LeadBelow (length graph) es → map (by_guid guids) es ≡ exits_at graph (placed graph order p)
-        → IsPlaced graph order p (ups_from p (map (to_place places) es)) (downs_from p (map (to_place places) es))
+        → IsPlaced graph order p (ups_from p (map (at_place places) es)) (downs_from p (map (at_place places) es))
     row_placed p es h lead same =
         let s = placed graph order p in
         let below : (e : Exit) → Contains es e → e.to < length guids = λ e k. omega (arith, lead e k, length_map (λ (x : Crossing). x.guid) graph) in
@@ -118,12 +119,15 @@ module _ (graph : List Crossing) (good : IsGraph graph) where
         let down : Exit → Bool = λ e. is_before graph s e.to in
         record {
           up = ups_filter graph graph s ∙ ap (filter up) (sym same)
-              ∙ filter_moved (by_guid guids) (to_place places) (by_place graph order) up (λ e. nat_lt e.to p) es
+              ∙ filter_moved (by_guid guids) (at_place places) (by_place graph order) up (λ e. nat_lt e.to p) es
               (λ e k. (before_test p e.to h (below e k), same_exit e (below e k)));
           down = downs_filter graph graph s ∙ ap (filter down) (sym same)
-              ∙ filter_moved (by_guid guids) (to_place places) (by_place graph order) down (λ e. nat_lt p e.to) es
+              ∙ filter_moved (by_guid guids) (at_place places) (by_place graph order) down (λ e. nat_lt p e.to) es
               (λ e k. (after_test p e.to h (below e k), same_exit e (below e k)));
-          to_lesser = λ e k. ltb-true e.to p (contains-from_filter (λ (x : Exit). nat_lt x.to p) (map (to_place places) es) e k).1;
+          to_lesser = λ e k. ltb-true e.to p (contains-from_filter (λ (x : Exit). nat_lt x.to p) (map (at_place places) es) e k).1;
+          to_place = λ e k.
+              let x = contains_map (at_place places) es e (contains-from_filter (λ (y : Exit). nat_lt p y.to) (map (at_place places) es) e k).0 in
+              omega (arith, ap (λ (y : Exit). y.to) x.2, (place_back ranks order is places are x.0.to (omega (arith, below x.0 x.1, many))).1);
         }
 
 -- place by place

@@ -7,3 +7,4 @@ pub mod RouteLaws
 pub mod Wiring
 pub mod Order
 pub mod Placed
+pub mod Ports

@@ -16,8 +16,8 @@ abbrev pub by_place : List Crossing → List ℕ → Exit → Exit
 by_place graph order e = record { port = e.port; to = placed graph order e.to }
 
 -- an exit to an index, by the place of that index
-abbrev pub to_place : List ℕ → Exit → Exit
-to_place places e = record { port = e.port; to = slice_index places e.to }
+abbrev pub at_place : List ℕ → Exit → Exit
+at_place places e = record { port = e.port; to = slice_index places e.to }
 
 -- the exits to lesser places, and those to greater
 abbrev pub ups_from : ℕ → List Exit → List Exit
@@ -31,6 +31,7 @@ pub record IsPlaced (graph : List Crossing) (order : List ℕ) (p : ℕ) (ups do
   pub up : ups_at (slopes_of graph) (placed graph order p) ≡ map (by_place graph order) ups
   pub down : downs_at (slopes_of graph) (placed graph order p) ≡ map (by_place graph order) downs
   pub to_lesser : (e : Exit) → Contains ups e → e.to < p
+  pub to_place : (e : Exit) → Contains downs e → e.to < length order
 
 -- of each switch, at its place
 pub record ArePlaced (graph : List Crossing) (order : List ℕ) (ups downs : List (List Exit)) : Type 0 where

@@ -78,8 +78,10 @@ impl Graph {
 
     /// The ranks of the switches, by rising GUID.
     pub(crate) fn ranks(&self) -> &[Option<usize>]
-        ensures { result.now ≡ map (rank_of self.now) (guids_of self.now) }
+        ensures ranks { result.now ≡ map (rank_of self.now) (guids_of self.now) }
+        ensures is_graph { IsGraph self.now }
     {
+        let _ = self.wiring.len();
         &self.ranks
     }
 

@@ -1,7 +1,7 @@
 ghost use Rattle.std.specs.Prelude.{◌≡◌, ◌<◌, All, IfOk, length, map};
 ghost use Rattle.updown_routes.specs.Graph.{guids_of};
 ghost use Rattle.updown_routes.specs.Order.{IsOrder, ArePlaces};
-ghost use Rattle.updown_routes.specs.Placed.{to_place, ups_from, downs_from, ArePlaced};
+ghost use Rattle.updown_routes.specs.Placed.{at_place, ups_from, downs_from, ArePlaced};
 ghost use Rattle.updown_routes.specs.Ranks.{rank_of};
 
 use crate::graph::Graph;
@@ -43,7 +43,7 @@ impl Slopes {
 /// Exits to indices, as exits to the places of these.
 fn to_places(alloc: Global, exits: &[Exit], places: &[usize]) -> Result<Vec<Exit>, AllocError>
     requires { All (λ exit. exit.to < length places.now) exits.now }
-    ensures { IfOk result (λ found. found.items ≡ map (to_place places.now) exits.now) }
+    ensures { IfOk result (λ found. found.items ≡ map (at_place places.now) exits.now) }
 {
     exits
         .iter()

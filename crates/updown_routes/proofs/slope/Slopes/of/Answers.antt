@@ -8,7 +8,7 @@ use Rattle.updown_routes.specs.Crossing.{Crossing}
 use Rattle.updown_routes.specs.Graph.{guids_of, exits_at}
 use Rattle.updown_routes.specs.Ranks.{rank_of}
 use Rattle.updown_routes.specs.Wiring.{by_guid, switch_at}
-use Rattle.updown_routes.specs.Placed.{to_place, ups_from, downs_from}
+use Rattle.updown_routes.specs.Placed.{at_place, ups_from, downs_from}
 use Rattle.updown_routes.proofs.Placing.{ArePlacedTo, row_placed, one_more_placed}
 use Rattle.updown_routes.proofs.slope.Slopes.of.Goals as goal
 
@@ -27,12 +27,12 @@ loop-place-preserved c =
     let place = c.loop-place.place in
     let es = c.exits.result.now in
     let row = row_placed graph c.exits.ensures.is_graph order places c.requires.order c.requires.places place es c.loop-place-test.true c.exits.ensures.to_switches c.exits.ensures.exits in
-    let up : c.deref-in-loop-place.result.now ≡ ups_from place (map (to_place places) es) =
+    let up : c.deref-in-loop-place.result.now ≡ ups_from place (map (at_place places) es) =
     c.deref-in-loop-place.ensures.value ∙ c.in_ok-ups_from.ensures ∙ ap (ups_from place) (c.deref.ensures.value ∙ c.in_ok-exits.ensures) in
-    let down : c.deref-in-loop-place-3.result.now ≡ downs_from place (map (to_place places) es) =
+    let down : c.deref-in-loop-place-3.result.now ≡ downs_from place (map (at_place places) es) =
     c.deref-in-loop-place-3.ensures.value ∙ c.in_ok-downs_from.ensures ∙ ap (downs_from place) (c.deref-in-loop-place-2.ensures.value ∙ c.in_ok-exits.ensures) in
     let ups = c.in_ok-push_vertex.ensures.added ∙ ap (λ x. c.loop-place.ups ++ x ∷ []) up in
     let downs = c.in_ok-push_vertex-2.ensures.added ∙ ap (λ x. c.loop-place.downs ++ x ∷ []) down in
     let Are : List (List Exit) × List (List Exit) → Type 0 = λ x. ArePlacedTo graph order (place + 1) x.0 x.1 in
     subst Are (λ i. (sym ups i, sym downs i))
-    (one_more_placed graph order place c.loop-place.ups c.loop-place.downs (ups_from place (map (to_place places) es)) (downs_from place (map (to_place places) es)) c.loop-place.invariant row)
+    (one_more_placed graph order place c.loop-place.ups c.loop-place.downs (ups_from place (map (at_place places) es)) (downs_from place (map (at_place places) es)) c.loop-place.invariant row)
