@@ -22,16 +22,15 @@ pub struct Graph {
 }
 
 impl Model for Graph {
-    ghost use Rattle.std.specs.Prelude.{◌≡◌, List, map};
+    ghost use Rattle.std.specs.Prelude.{List};
     ghost use Rattle.updown_routes.specs.Crossing.{Crossing};
-    ghost use Rattle.updown_routes.specs.Graph.{guids_of};
-    ghost use Rattle.updown_routes.specs.Ranks.{rank_of};
+    ghost use Rattle.updown_routes.specs.Wiring.{IsRanked};
 
     ghost Value = { List Crossing };
 
     ghost view = { λ a. a.wiring };
 
-    ghost invariant = { λ a. a.ranks.items ≡ map (rank_of a.wiring) (guids_of a.wiring) };
+    ghost invariant = { λ a. IsRanked a.wiring a.ranks.items };
 }
 
 impl Graph {
@@ -62,8 +61,7 @@ impl Graph {
 
     /// The index of a switch. Takes a search.
     pub fn index_of(&self, switch: Guid) -> Option<usize>
-        ensures found { IsIndexIn (guids_of self.now) switch result }
-        ensures is_graph { IsGraph self.now }
+        ensures { IsIndexIn (guids_of self.now) switch result }
     {
         self.wiring.index_of(switch)
     }
@@ -78,7 +76,8 @@ impl Graph {
 
     /// The ranks of the switches, by rising GUID.
     pub(crate) fn ranks(&self) -> &[Option<usize>]
-        ensures { result.now ≡ map (rank_of self.now) (guids_of self.now) }
+        ensures ranks { result.now ≡ map (rank_of self.now) (guids_of self.now) }
+        ensures is_graph { IsGraph self.now }
     {
         &self.ranks
     }
@@ -88,6 +87,7 @@ impl Graph {
         requires { index < length self.now }
         ensures exits { map (by_guid (guids_of self.now)) result.now ≡ exits_at self.now (switch_at self.now index) }
         ensures to_switches { LeadBelow (length self.now) result.now }
+        ensures is_graph { IsGraph self.now }
     {
         self.wiring.exits(index)
     }

@@ -63,8 +63,7 @@ impl Wiring {
 
     /// The index of a switch. Takes a search.
     pub(crate) fn index_of(&self, switch: Guid) -> Option<usize>
-        ensures found { IsIndexIn (guids_of self.now) switch result }
-        ensures is_graph { IsGraph self.now }
+        ensures { IsIndexIn (guids_of self.now) switch result }
     {
         index_of(&self.guids, switch)
     }
