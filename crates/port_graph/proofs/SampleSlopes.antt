@@ -7,10 +7,19 @@ use Rattle.fact_store.proofs.Members.{contains_none, list_all_at}
 use Rattle.port_graph.specs.declared.exit.Exit.{Exit}
 use Rattle.port_graph.specs.Heads.{exits_at, heads, LeadToVertices}
 use Rattle.port_graph.specs.Indexed.{AreSlopes}
-use Rattle.port_graph.specs.Sample.{all_heads, sample_ups, sample_downs}
 use Rattle.port_graph.proofs.Counts.{length_map}
 use Rattle.port_graph.proofs.WalkLemmas.{list_any_found}
 use Rattle.port_graph.proofs.Indexing.{head_of, ups_lead, downs_lead}
+
+-- the vertices to which the exits of each vertex lead
+abbrev pub all_heads : List (List Exit) → List (List ℕ)
+all_heads exits = map (map (λ e. e.to)) exits
+
+abbrev pub sample_ups : List (List ℕ)
+sample_ups = [] ∷ (0 ∷ []) ∷ (0 ∷ 0 ∷ []) ∷ (1 ∷ 2 ∷ []) ∷ (2 ∷ 3 ∷ []) ∷ (4 ∷ 0 ∷ []) ∷ [] ∷ []
+
+abbrev pub sample_downs : List (List ℕ)
+sample_downs = (1 ∷ 2 ∷ 2 ∷ 5 ∷ []) ∷ (3 ∷ []) ∷ (3 ∷ 4 ∷ []) ∷ (4 ∷ []) ∷ (5 ∷ []) ∷ [] ∷ [] ∷ []
 
 -- each of these, the first of which are those of vertex n, are lesser
 abbrev rise_from : ℕ → List (List ℕ) → Bool

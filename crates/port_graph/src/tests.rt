@@ -1,60 +1,35 @@
 //! Distances and next ports of seven vertices, of which the last has no exit.
-ghost use Rattle.std.specs.Prelude.{◌≡◌, length, IfOk};
+ghost use Rattle.std.specs.Prelude.{◌≡◌, map, length, IfOk};
 ghost use Rattle.port_graph.specs.Heads.{LeadToVertices};
 ghost use Rattle.port_graph.specs.Indexed.{AreSlopes};
-ghost use Rattle.port_graph.specs.Sample.{all_heads, sample_ups, sample_downs};
+ghost use Rattle.port_graph.specs.Sample.{exit_of};
 
 use super::*;
 use smp_bytes::PortNum;
 use std::alloc::{AllocError, Global};
 use std::test::Fail;
 
-/// Exits by these ports to these vertices.
-macro_rules! exits {
-    ($($port:literal => $to:literal),*) => {
-        [$(Exit { port: PortNum::new($port), to: $to }),*]
-    };
-}
+/// The exits up of each vertex, by their ports to these vertices.
+const UPS: [&[(u8, usize)]; 7] = [
+    &[],
+    &[(1, 0)],
+    &[(1, 0), (4, 0)],
+    &[(1, 1), (2, 2)],
+    &[(1, 2), (2, 3)],
+    &[(1, 4), (2, 0)],
+    &[],
+];
 
-fn ups(alloc: Global) -> Result<Exits, AllocError>
-    ensures { IfOk result (λ ups. all_heads ups ≡ sample_ups) }
-{
-    let mut ups = Exits::new(alloc);
-    ups.push_vertex(&[])?;
-    ups.push_vertex(&exits![1 => 0])?;
-    ups.push_vertex(&exits![1 => 0, 4 => 0])?;
-    ups.push_vertex(&exits![1 => 1, 2 => 2])?;
-    ups.push_vertex(&exits![1 => 2, 2 => 3])?;
-    ups.push_vertex(&exits![1 => 4, 2 => 0])?;
-    ups.push_vertex(&[])?;
-    Ok(ups)
-}
-
-fn downs(alloc: Global) -> Result<Exits, AllocError>
-    ensures { IfOk result (λ downs. all_heads downs ≡ sample_downs) }
-{
-    let mut downs = Exits::new(alloc);
-    downs.push_vertex(&exits![1 => 1, 2 => 2, 3 => 2, 4 => 5])?;
-    downs.push_vertex(&exits![2 => 3])?;
-    downs.push_vertex(&exits![2 => 3, 3 => 4])?;
-    downs.push_vertex(&exits![3 => 4])?;
-    downs.push_vertex(&exits![3 => 5])?;
-    downs.push_vertex(&[])?;
-    downs.push_vertex(&[])?;
-    Ok(downs)
-}
-
-/// The exits up and down.
-fn sample(alloc: Global) -> Result<(Exits, Exits), AllocError>
-    ensures slopes { IfOk result (λ sample. AreSlopes sample.0 sample.1) }
-    ensures ups_lead { IfOk result (λ sample. LeadToVertices sample.0) }
-    ensures downs_lead { IfOk result (λ sample. LeadToVertices sample.1) }
-    ensures all { IfOk result (λ sample. length sample.0 ≡ 7) }
-{
-    let ups = ups(alloc)?;
-    let downs = downs(alloc)?;
-    Ok((ups, downs))
-}
+/// The exits down.
+const DOWNS: [&[(u8, usize)]; 7] = [
+    &[(1, 1), (2, 2), (3, 2), (4, 5)],
+    &[(2, 3)],
+    &[(2, 3), (3, 4)],
+    &[(3, 4)],
+    &[(3, 5)],
+    &[],
+    &[],
+];
 
 /// The port of each vertex to each target, and 0 for none.
 const PORTS: [[u8; 7]; 7] = [
@@ -67,30 +42,74 @@ const PORTS: [[u8; 7]; 7] = [
     [0, 0, 0, 0, 0, 0, 0],
 ];
 
-#[test]
-fn next_ports_to_each_vertex(rt: HostRuntime) -> Result<(), Fail> {
-    let (ups, downs) = sample(rt.alloc())?;
-    for (target, wanted) in PORTS.iter().enumerate() {
-        let ports = next_ports(rt.alloc(), &ups, &downs, target)?;
-        let is_right = ports
-            .iter()
-            .map(|port| port.map_or(0, PortNum::number))
-            .eq(wanted.iter().copied());
-        assert!(rt; is_right, "{target}");
+/// The distance down from each vertex to each, and 9 for none.
+const DISTANCES: [[usize; 7]; 7] = [
+    [0, 1, 1, 2, 2, 1, 9],
+    [9, 0, 9, 1, 2, 3, 9],
+    [9, 9, 0, 1, 1, 2, 9],
+    [9, 9, 9, 0, 1, 2, 9],
+    [9, 9, 9, 9, 0, 1, 9],
+    [9, 9, 9, 9, 9, 0, 9],
+    [9, 9, 9, 9, 9, 9, 0],
+];
+
+/// Vertices with these exits.
+fn vertices(alloc: Global, rows: &[&[(u8, usize)]]) -> Result<Exits, AllocError>
+    ensures { IfOk result (λ exits. exits ≡ map (λ row. map exit_of row.now) rows.now) }
+{
+    let mut exits = Exits::new(alloc);
+    for row in rows {
+        let row = to_exits(alloc, row)?;
+        exits.push_vertex(&row)?;
     }
-    Ok(())
+    Ok(exits)
+}
+
+fn to_exits(alloc: Global, row: &[(u8, usize)]) -> Result<Vec<Exit>, AllocError>
+    ensures { IfOk result (λ exits. exits.items ≡ map exit_of row.now) }
+{
+    let exits = row.iter().map(|(port, to)| Exit {
+        port: PortNum::new(*port),
+        to: *to,
+    });
+    exits.collect(alloc)
+}
+
+/// The exits up and down.
+fn sample(alloc: Global) -> Result<(Exits, Exits), AllocError>
+    ensures slopes { IfOk result (λ sample. AreSlopes sample.0 sample.1) }
+    ensures ups_lead { IfOk result (λ sample. LeadToVertices sample.0) }
+    ensures downs_lead { IfOk result (λ sample. LeadToVertices sample.1) }
+    ensures all { IfOk result (λ sample. length sample.0 ≡ 7) }
+{
+    let ups = vertices(alloc, &UPS)?;
+    let downs = vertices(alloc, &DOWNS)?;
+    Ok((ups, downs))
+}
+
+/// Whether these are the ports, and 0 for none.
+fn are_ports(ports: &[Option<PortNum>], wanted: &[u8]) -> bool {
+    let numbers = ports.iter().map(|port| port.map_or(0, PortNum::number));
+    numbers.eq(wanted.iter().copied())
+}
+
+/// Whether these are the distances, and 9 for none.
+fn are_distances(distances: &[Option<usize>], wanted: &[usize]) -> bool {
+    let numbers = distances.iter().map(|distance| distance.unwrap_or(9));
+    numbers.eq(wanted.iter().copied())
 }
 
 #[test]
-fn distances_up_and_down(rt: HostRuntime) -> Result<(), Fail> {
+fn distances_and_next_ports(rt: HostRuntime) -> Result<(), Fail> {
     let (ups, downs) = sample(rt.alloc())?;
-    let down = distances(rt.alloc(), &downs, 1)?;
-    let up = distances(rt.alloc(), &ups, 5)?;
-    let is_down = down.as_slice()
-        == [None, Some(0), None, Some(1), Some(2), Some(3), None].as_slice();
-    let is_up = up.as_slice()
-        == [Some(1), Some(3), Some(2), Some(2), Some(1), Some(0), None].as_slice();
-    assert!(rt; is_down && is_up);
+    for (vertex, (ports, lengths)) in PORTS.iter().zip(&DISTANCES).enumerate() {
+        let next = next_ports(rt.alloc(), &ups, &downs, vertex)?;
+        let found = distances(rt.alloc(), &downs, vertex)?;
+        assert!(rt;
+            are_ports(&next, ports) && are_distances(&found, lengths),
+            "{vertex}"
+        );
+    }
     assert!(rt; downs.len() == 7 && downs.at(2).len() == 2 && downs.at(7).is_empty());
     Ok(())
 }
