@@ -3,7 +3,7 @@ use Rattle.std.proofs.Common.{◌≡◌, ◌<◌, ℕ, zero, suc, List, [], ◌�
 use Rattle.std.proofs.lemmas.Bool.{cases_eq}
 use Rattle.std.proofs.lemmas.Option.{none-some}
 use Rattle.std.specs.Prelude.{None, Some, MatchOption, Contains, slice_index_or}
-use Rattle.fact_store.proofs.Members.{contains_here, contains_later}
+use Rattle.smp_bytes.proofs.Members.{contains_here, contains_later}
 use Rattle.port_graph.specs.declared.exit.Exit.{Exit}
 use Rattle.port_graph.specs.Walks.{has_walk, shortest, Walk, IsShortest, HasNoWalk}
 use Rattle.port_graph.specs.Heads.{exits_at, heads, DistancesLaw}

@@ -3,7 +3,7 @@ use Rattle.std.proofs.Common.{◌≡◌, ◌<◌, ◌+◌, ℕ, zero, suc, List,
 use Rattle.std.proofs.lemmas.Bool.{eqb-true, ltb-true}
 use Rattle.std.specs.Prelude.{Contains, nat_lt, slice_index_or}
 use Rattle.std.specs.List.{list_all, list_any}
-use Rattle.fact_store.proofs.Members.{contains_none, list_all_at}
+use Rattle.smp_bytes.proofs.Members.{contains_none, list_all_at}
 use Rattle.port_graph.specs.declared.exit.Exit.{Exit}
 use Rattle.port_graph.specs.Heads.{exits_at, heads, LeadToVertices}
 use Rattle.port_graph.specs.Indexed.{AreSlopes}

@@ -7,7 +7,7 @@ use Rattle.std.proofs.lemmas.Option.{slice_get-get_or, slice_get-map}
 use Rattle.std.specs.Prelude.{Option, None, Some, Contains, All, is_some, option_map, option_and_then, filter, slice_get}
 use Rattle.std.specs.List.{find}
 use Rattle.std.specs.Option.{option_flatten}
-use Rattle.fact_store.proofs.Members.{contains_here, contains_later}
+use Rattle.smp_bytes.proofs.Members.{contains_here, contains_later}
 use Rattle.subnet_view.proofs.Taken.{all_from}
 use Rattle.port_graph.specs.declared.exit.Exit.{Exit}
 use Rattle.port_graph.specs.Slopes.{ups_at, downs_at, down_distance, cost, same_number, port_down, port_up, next_port}

@@ -6,7 +6,7 @@ use Rattle.std.proofs.lemmas.List.{get_or-map, get_or_push, get_or_append_left, 
 use Rattle.std.proofs.lemmas.List.Kept.{AllPairs-from_increasing}
 use Rattle.std.specs.Prelude.{Option, None, Contains, nat_lt, filter, unwrap_or}
 use Rattle.std.specs.Cmp.{both_ways}
-use Rattle.fact_store.proofs.Members.{contains_here, contains_later, contains-from_filter}
+use Rattle.smp_bytes.proofs.Members.{contains_here, contains_later, contains-from_filter}
 use Rattle.port_graph.specs.declared.exit.Exit.{Exit}
 use Rattle.port_graph.specs.Heads.{exits_at as exits_by_index}
 use Rattle.port_graph.proofs.Counts.{length_map}
