@@ -7,6 +7,7 @@ ghost use Rattle.updown_routes.specs.Ranks.{slopes_of};
 use crate::graph::Graph;
 use crate::order::{order, places};
 use crate::slope::Slopes;
+use fact_store::Refused;
 use port_graph::next_ports;
 use smp_bytes::{Guid, PortNum};
 use std::alloc::{AllocError, Global};
@@ -34,7 +35,7 @@ impl<'g> Model for Routes<'g> {
 
 impl<'g> Routes<'g> {
     /// The routes of a graph. For each target takes a step for each switch and each wire.
-    pub fn of(alloc: Global, graph: &'g Graph) -> Result<Self, AllocError>
+    pub fn of(alloc: Global, graph: &'g Graph) -> Result<Self, Refused>
         ensures { IfOk result (λ routes. routes ≡ graph.now) }
     {
         let order = order(alloc, graph.ranks())?;
