@@ -8,7 +8,7 @@ use Rattle.std.specs.List.{filter_map, cons_option}
 use Rattle.port_graph.specs.declared.exit.Exit.{Exit}
 use Rattle.port_graph.specs.Heads.{exits_at}
 use Rattle.port_graph.specs.Slopes.{lesser, least_of}
-use Rattle.port_graph.specs.Indexed.{LeadToLesser, AreCosts, cost_of, lesser_of}
+use Rattle.port_graph.specs.Indexed.{LeadToLesser, AreLess, AreCosts, cost_of, lesser_of}
 use Rattle.port_graph.proofs.Lists.{filter_map_same, contains-from_filter_map, least_is_one}
 
 -- the least of those seen and of the rest
@@ -89,7 +89,7 @@ bounded_more ups rise bound n d costs c all is below are a m h =
     past k other = let l = length_push costs c in grind arith
 
 -- the least cost is below what all are
-pub least_below : (exits : List Exit) (costs : List (Option ℕ)) (bound : ℕ) → ((a c : ℕ) → slice_index_or costs a None ≡ Some c → c < bound)
+pub least_below : (exits : List Exit) (costs : List (Option ℕ)) (bound : ℕ) → AreLess bound costs
     → (m : ℕ) → least_of (filter_map (λ e. slice_index_or costs e.to None) exits) ≡ Some m → m < bound
 least_below exits costs bound room m e =
     let i = least_is_one (filter_map (λ e. slice_index_or costs e.to None) exits) m e in

@@ -10,7 +10,7 @@ use Rattle.port_graph.specs.declared.exit.Exit.{Exit}
 use Rattle.port_graph.specs.Walks.{has_walk, least_from, shortest, Walk}
 use Rattle.port_graph.specs.Slopes.{ups_at, downs_at, down_distance, least_of, cost}
 use Rattle.port_graph.specs.Heads.{exits_at, heads, LeadToVertices, AreDistances}
-use Rattle.port_graph.specs.Indexed.{indexed_from, indexed, AreSlopes, AreCosts}
+use Rattle.port_graph.specs.Indexed.{indexed_from, indexed, AreSlopes, AreLess, AreCosts}
 use Rattle.port_graph.proofs.Lists.{filter_map_same, contains_map}
 use Rattle.port_graph.proofs.WalkLemmas.{walk_from_test, test_from_walk, least_found}
 use Rattle.port_graph.proofs.Paths.{walk_push}
@@ -137,7 +137,7 @@ module _ (ups downs : List (List Exit)) (are : AreSlopes ups downs) where
     cost_is s h = cost_below (suc s) s (omega arith) h
 
 -- a distance is less than the number of vertices
-pub distance_short : (exits : List (List Exit)) (t : ℕ) (distances : List (Option ℕ)) → AreDistances exits t distances → (a d : ℕ) → slice_index_or distances a None ≡ Some d → d < length exits
+pub distance_short : (exits : List (List Exit)) (t : ℕ) (distances : List (Option ℕ)) → AreDistances exits t distances → AreLess (length exits) distances
 distance_short exits t distances are a d h =
     let below = known_below distances a d h in
     omega (arith, (least_found 0 (length exits) (has_walk (heads exits) t a) d (sym (are.shortest a (omega (arith, are.all))) ∙ h)).bounded)

@@ -10,3 +10,4 @@ pub mod Renaming
 pub mod Indexing
 pub mod CostSteps
 pub mod NextPorts
+pub mod Named

@@ -1,7 +1,9 @@
 -- The steps of a search in breadth, as the code takes them.
 use Rattle.std.proofs.Common.{◌≡◌, ◌<◌, ◌+◌, ℕ, zero, suc, List, [], ◌∷◌, ◌++◌, inl, inr, refl, sym, ap, ◌∙◌, subst, arith, cond, length, map, replicate}
 use Rattle.std.proofs.lemmas.Bool.{cases_lt}
-use Rattle.std.proofs.lemmas.List.{length-set, length-append, length-replicate, get_or-replicate, get_or_past, get_or_default}
+use Rattle.std.proofs.lemmas.List.{length-set, length-append, length-replicate, get_or-replicate, get_or_past, get_or_default, with_items_is}
+use Rattle.std.specs.declared.vec.Vec.{Vec}
+use Rattle.std.specs.Vec.{with_items}
 use Rattle.std.specs.Prelude.{Option, None, Some, is_some, Contains, All, slice_index_or, slice_set}
 use Rattle.fact_store.proofs.Members.{contains_here, contains_later}
 use Rattle.port_graph.specs.declared.exit.Exit.{Exit}
@@ -53,6 +55,12 @@ all_counts d s [] below = refl
 all_counts d s (x ∷ left) below =
     all_counts d (reach d s x.to) left (λ e h. let b = below e (contains_later x e left h) in omega (arith, b, reach_keeps_length d s x.to))
     ∙ reach_counts d s x.to (below x (contains_here x left))
+
+-- a step that is written over the distances
+pub written : {Z : Type 0} (distances : Vec (Option ℕ) Z) (seen new : List (Option ℕ)) (q rest : List (ℕ × ℕ)) (d : ℕ) (left : List Exit) → length new ≡ distances.len
+    → seen ≡ distances.items → reach_all d (seen, q) left ≡ (new, rest) → reach_all d (distances.items, q) left ≡ ((with_items distances new).items, rest)
+written distances seen new q rest d left all are step =
+    (λ i. reach_all d (sym are i, q) left) ∙ step ∙ (λ i. (sym (with_items_is distances new all) i, rest))
 
 module _ (exits : List (List Exit)) (from : ℕ) (lead : LeadToVertices exits) (ds : List (Option ℕ)) (before q : List (ℕ × ℕ)) (a d : ℕ)
     (first : before ≡ (a, d) ∷ q) (i : IsBetween (heads exits) from (length exits) (ds, before)) where

@@ -31,6 +31,10 @@ abbrev pub lesser_of : Option ℕ → Option ℕ → Option ℕ
 lesser_of None other = other
 lesser_of (Some n) other = Some (lesser n other)
 
+-- each number that is known is less than the bound
+abbrev pub AreLess : ℕ → List (Option ℕ) → Type 0
+AreLess bound numbers = (a n : ℕ) → slice_index_or numbers a None ≡ Some n → n < bound
+
 -- the distance where there is one, else one more than the least cost over the exits
 abbrev pub cost_of : Option ℕ → List Exit → List (Option ℕ) → Option ℕ
 cost_of distance exits costs = if is_some distance then distance else option_map suc (least_of (filter_map (λ e. slice_index_or costs e.to None) exits))

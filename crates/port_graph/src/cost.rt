@@ -1,7 +1,7 @@
-ghost use Rattle.std.specs.Prelude.{◌≡◌, ◌≤◌, ◌<◌, ℕ, length, All, IfOk, Some, None, slice_index_or};
+ghost use Rattle.std.specs.Prelude.{◌≡◌, ◌<◌, length, All, IfOk, slice_index_or};
 ghost use Rattle.std.specs.List.{filter_map};
 ghost use Rattle.port_graph.specs.Slopes.{least_of};
-ghost use Rattle.port_graph.specs.Indexed.{LeadToLesser, AreCosts, cost_of, lesser_of};
+ghost use Rattle.port_graph.specs.Indexed.{LeadToLesser, AreLess, AreCosts, cost_of, lesser_of};
 
 use crate::exit::Exit;
 use crate::exits::Exits;
@@ -16,7 +16,7 @@ pub(crate) fn costs(
 ) -> Result<Vec<Option<usize>>, AllocError>
     requires rise { LeadToLesser ups.now }
     requires all { length distances.now ≡ length ups.now }
-    requires below { (a d : ℕ) → slice_index_or distances.now a None ≡ Some d → d < length ups.now }
+    requires less { AreLess (length ups.now) distances.now }
     ensures { IfOk result (λ costs. AreCosts ups.now distances.now (length ups.now) costs.items) }
 {
     let mut costs = Vec::with_capacity(alloc, ups.len())?;
@@ -30,7 +30,7 @@ pub(crate) fn costs(
 /// The cost of a vertex by the costs of those that are up from it.
 fn cost(distance: Option<usize>, ups: &[Exit], costs: &[Option<usize>]) -> Option<usize>
     requires known { All (λ exit. exit.to < length costs.now) ups.now }
-    requires room { (a c : ℕ) → slice_index_or costs.now a None ≡ Some c → c < usize.MAX }
+    requires room { AreLess usize.MAX costs.now }
     ensures { result ≡ cost_of distance ups.now costs.now }
 {
     if distance.is_some() {

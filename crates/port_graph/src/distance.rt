@@ -23,14 +23,14 @@ pub fn distances(
     let mut queue = VecDeque::with_capacity(alloc, exits.len())?;
     queue.push_back((from, 0))?;
     while let Some((vertex, distance)) = queue.pop_front() {
-        reach(exits.at(vertex), distance + 1, &mut distances, &mut queue)?;
+        reach_all(exits.at(vertex), distance + 1, &mut distances, &mut queue)?;
     }
     Ok(distances)
 }
 
 /// Notes the distance of each vertex to which the exits lead and whose distance is not known yet, and lets
 /// it wait.
-fn reach(
+fn reach_all(
     exits: &[Exit],
     distance: usize,
     distances: &mut [Option<usize>],

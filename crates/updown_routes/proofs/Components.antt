@@ -17,7 +17,7 @@ use Rattle.updown_routes.specs.Graph.{exits_at, neighbors}
 use Rattle.updown_routes.specs.Ranks.{distance, in_one_component, root_of, rank_of, is_before, slope_of, slopes_of}
 use Rattle.updown_routes.specs.GraphLaws.{IsGraph, IsSwitch}
 use Rattle.updown_routes.specs.RouteLaws.{CostInComponent, DownDistanceLaw}
-use Rattle.updown_routes.proofs.Order.{lesser, below_lex, downs_are, ups_have, downs_have, has_end}
+use Rattle.updown_routes.proofs.Before.{lesser, below_lex, downs_are, ups_have, downs_have, has_end}
 
 pub is_some_of : (o : Option ℕ) → is_some o ≡ true → (n : ℕ) × (o ≡ Some n)
 is_some_of None e = absurd (cc)

@@ -3,7 +3,6 @@ use Rattle.std.proofs.Common.{◌≡◌, ◌≤◌, ◌<◌, ◌+◌, ◌-◌, �
 use Rattle.std.proofs.lemmas.Bool.{cases_lt}
 use Rattle.std.proofs.lemmas.List.{append_assoc, append-nil, get_or_past, map-append}
 use Rattle.std.proofs.lemmas.List.Elements.{Contains-append_cases, Contains-get_or}
-use Rattle.std.proofs.Math.ListN.{drop_of_length-le}
 use Rattle.std.specs.Prelude.{Option, None, Some, Contains}
 use Rattle.std.specs.List.{filter_map, cons_option, range_with_len}
 use Rattle.fact_store.proofs.Members.{contains_cases, contains_none}
@@ -11,6 +10,7 @@ use Rattle.port_graph.specs.declared.exit.Exit.{Exit}
 use Rattle.port_graph.specs.Heads.{LeadToVertices}
 use Rattle.port_graph.proofs.Counts.{length_map}
 use Rattle.updown_routes.specs.Wiring.{by_guid, LeadBelow}
+use Rattle.updown_routes.proofs.Walked.{IsMapped, mapped_more, mapped_all}
 
 -- port by port: what was found, and what the ports to come have, are all that there is
 module _ (guids : List ℕ) (exit : ℕ → Option Exit) (all : List Exit) (n : ℕ) where
@@ -87,20 +87,17 @@ lead_to_rows n rows same all a e h =
 -- switch by switch: the rows so far, and those of the switches to come, are all rows
 module _ (guids : List ℕ) (row_of : ℕ → List Exit) where
   abbrev pub AreRows : List (List Exit) → ℕ → Type 0
-  AreRows rows i = map (map (by_guid guids)) rows ++ map row_of (drop i guids) ≡ map row_of guids
+  AreRows rows i = IsMapped row_of guids (map (map (by_guid guids)) rows) i
 
-  pub one_row : (rows : List (List Exit)) (i g : ℕ) (row : List Exit) → drop i guids ≡ g ∷ drop (i + 1) guids → AreRows rows i → map (by_guid guids) row ≡ row_of g
+  pub one_row : (rows : List (List Exit)) (i g : ℕ) (row : List Exit) → i < length guids → g ≡ get_or guids i g → AreRows rows i → map (by_guid guids) row ≡ row_of g
       → AreRows (rows ++ row ∷ []) (i + 1)
-  one_row rows i g row step e is =
-      let rest = map row_of (drop (i + 1) guids) in
-      ap (λ xs. xs ++ rest) (map-append (map (by_guid guids)) rows (row ∷ []))
-      ∙ append_assoc (map (map (by_guid guids)) rows) (map (by_guid guids) row ∷ []) rest
-      ∙ ap (λ r. map (map (by_guid guids)) rows ++ r ∷ rest) is
-      ∙ sym (ap (λ gs. map (map (by_guid guids)) rows ++ map row_of gs) step) ∙ e
+  one_row rows i g row h item e is =
+      subst (λ (xs : List (List Exit)). IsMapped row_of guids xs (i + 1))
+      (sym (map-append (map (by_guid guids)) rows (row ∷ []) ∙ ap (λ r. map (map (by_guid guids)) rows ++ r ∷ []) is))
+      (mapped_more row_of guids (map (map (by_guid guids)) rows) i g h item e)
 
   pub no_more_rows : (rows : List (List Exit)) (i : ℕ) → length guids ≤ i → AreRows rows i → map (map (by_guid guids)) rows ≡ map row_of guids
-  no_more_rows rows i h e =
-      sym (append-nil (map (map (by_guid guids)) rows)) ∙ sym (ap (λ gs. map (map (by_guid guids)) rows ++ map row_of gs) (drop_of_length-le guids h)) ∙ e
+  no_more_rows rows i h e = mapped_all row_of guids (map (map (by_guid guids)) rows) i h e
 
 -- lists that maps make the same are of one length
 pub same_length : {X Y Z : Type 0} (f : X → Z) (g : Y → Z) (xs : List X) (ys : List Y) → map f xs ≡ map g ys → length xs ≡ length ys

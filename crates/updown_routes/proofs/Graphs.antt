@@ -18,7 +18,7 @@ use Rattle.port_graph.specs.declared.exit.Exit.{Exit}
 use Rattle.port_graph.proofs.Lists.{contains_map, contains_filter_map, contains-from_filter_map}
 use Rattle.updown_routes.specs.Graph.{exit_at, exits_of, graph_of, exits_at, neighbors}
 use Rattle.updown_routes.specs.GraphLaws.{GraphLaw, ExitLaw}
-use Rattle.updown_routes.proofs.Order.{has_end}
+use Rattle.updown_routes.proofs.Before.{has_end}
 use Rattle.updown_routes.proofs.PortsRise.{exits_rise}
 use Rattle.updown_routes.proofs.Switches.{switches_rise, switch_usable, usable_switch, graph_guids}
 

@@ -17,7 +17,7 @@ use Rattle.updown_routes.specs.Graph.{exits_at, neighbors}
 use Rattle.updown_routes.specs.Ranks.{in_one_component, slopes_of}
 use Rattle.updown_routes.specs.GraphLaws.{IsGraph, IsSwitch}
 use Rattle.updown_routes.specs.RouteLaws.{CostLaw, NoCostBetween}
-use Rattle.updown_routes.proofs.Order.{height, height_falls, height_bounded, ups_are, downs_are, has_end}
+use Rattle.updown_routes.proofs.Before.{height, height_falls, height_bounded, ups_are, downs_are, has_end}
 use Rattle.updown_routes.proofs.Components.{walk_joins, joined, down_distance_law}
 use Rattle.updown_routes.proofs.Ranks.{one_shortest}
 use Rattle.port_graph.proofs.Costs as costs

@@ -1,6 +1,6 @@
 pub mod Rising
 pub mod PortsRise
-pub mod Order
+pub mod Before
 pub mod Switches
 pub mod Graphs
 pub mod Components
@@ -14,3 +14,6 @@ pub mod Walked
 pub mod Wirings
 pub mod RootByRoot
 pub mod Outside
+pub mod Orders
+pub mod Placing
+pub mod PlacedRoutes

@@ -15,7 +15,7 @@ use Rattle.updown_routes.specs.Ranks.{slopes_of, is_before}
 use Rattle.updown_routes.specs.GraphLaws.{IsGraph, IsSwitch}
 use Rattle.updown_routes.specs.RouteLaws.{NextPortLaw}
 use Rattle.updown_routes.proofs.Rising.{Rises, rises, rises_filter, find_least}
-use Rattle.updown_routes.proofs.Order.{height, height_falls, height_bounded, ups_filter, downs_filter}
+use Rattle.updown_routes.proofs.Before.{height, height_falls, height_bounded, ups_filter, downs_filter}
 use Rattle.updown_routes.proofs.Ranks.{one_shortest}
 use Rattle.updown_routes.proofs.LeastCosts.{up_leads, down_leads, down_distance_is, no_walk_down, at_most_by, best_up, cost_is_least, cost_is, no_port}
 

@@ -10,7 +10,7 @@ use Rattle.updown_routes.specs.Ranks.{distance, in_one_component, root_of, rank_
 use Rattle.updown_routes.specs.GraphLaws.{IsGraph, IsSwitch}
 use Rattle.updown_routes.specs.RankLaws.{IsRoot, HasRank, RankLaw, BeforeLaw, SlopeLaw}
 use Rattle.updown_routes.proofs.Rising.{find_least, numbers_rise}
-use Rattle.updown_routes.proofs.Order.{rank, LexBelow, lesser, tied, lex_below, below_lex, before_trans, not_before_itself, ups_are, downs_are, ups_have, downs_have, has_end}
+use Rattle.updown_routes.proofs.Before.{rank, LexBelow, lesser, tied, lex_below, below_lex, before_trans, not_before_itself, ups_are, downs_are, ups_have, downs_have, has_end}
 use Rattle.updown_routes.proofs.Components.{is_some_of, walk_joins, walk_of, joined, rank_is, rooted}
 
 pub one_shortest : (next : ℕ → List ℕ) (a b m n : ℕ) → IsShortest next a b m → IsShortest next a b n → m ≡ n
@@ -23,7 +23,7 @@ pub one_rank : (graph : List Crossing) (a m n : ℕ) → HasRank graph a m → H
 one_rank graph a m n (r, i, p) (s, j, q) =
     one_shortest (neighbors graph) s a m n (subst (λ (x : ℕ). IsShortest (neighbors graph) x a m) (one_root graph a r s i j) p) q
 
-lex_total : (r a s b : ℕ) → (a ≡ b → ⊥) → LexBelow r a s b ⊎ LexBelow s b r a
+pub lex_total : (r a s b : ℕ) → (a ≡ b → ⊥) → LexBelow r a s b ⊎ LexBelow s b r a
 lex_total r a s b apart =
     elim (cases_order r s) [
       | inl e ↦ (elim (cases_order a b) [

@@ -24,7 +24,8 @@ first_distance graph (root ∷ roots) v = option_or (distance graph root v) (fir
 abbrev pub AreRanksOf : List Crossing → ℕ → List (Option ℕ) → Type 0
 AreRanksOf graph n ranks = ranks ≡ map (first_distance graph (take n (guids_of graph))) (guids_of graph)
 
-map_same : {X Y : Type 0} (f g : X → Y) (xs : List X) → ((x : X) → Contains xs x → f x ≡ g x) → map f xs ≡ map g xs
+-- a map is that of another function that gives the same
+pub map_same : {X Y : Type 0} (f g : X → Y) (xs : List X) → ((x : X) → Contains xs x → f x ≡ g x) → map f xs ≡ map g xs
 map_same f g [] h = refl
 map_same f g (x ∷ xs) h = let first = h x (contains_here x xs) in let rest = map_same f g xs (λ y k. h y (contains_later x y xs k)) in λ i. first i ∷ rest i
 

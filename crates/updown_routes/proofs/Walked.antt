@@ -1,6 +1,8 @@
 -- Items of a list by index.
-use Rattle.std.proofs.Common.{◌≡◌, ◌<◌, ◌+◌, ℕ, List, ◌∷◌, sym, ap, ◌∙◌, Bor, drop, length, get_or, add-one}
+use Rattle.std.proofs.Common.{◌≡◌, ◌<◌, ◌≤◌, ◌+◌, ◌++◌, ℕ, List, [], ◌∷◌, map, sym, ap, ◌∙◌, Bor, drop, length, get_or, add-one}
 use Rattle.std.proofs.lemmas.Option.{slice_get_past, slice_get-get_or}
+use Rattle.std.proofs.lemmas.List.{append_assoc, append-nil}
+use Rattle.std.proofs.Math.ListN.{drop_of_length-le}
 use Rattle.std.proofs.Math.Seq.{drop-cons}
 use Rattle.std.specs.Prelude.{Option, None, Some, slice_get}
 use Rattle.std.specs.Option.{option_copied}
@@ -9,6 +11,17 @@ use Rattle.std.specs.Slice.{IsItemAt}
 -- the rest begins with the element at the index
 pub next_item : {X : Type 0} (xs : List X) (i : ℕ) (x : X) → i < length xs → x ≡ get_or xs i x → drop i xs ≡ x ∷ drop (i + 1) xs
 next_item xs i x h e = drop-cons xs i x h ∙ (λ j. sym e j ∷ drop (sym (add-one i) j) xs)
+
+-- what was made of the items so far, with what is made of those to come, is made of all
+abbrev pub IsMapped : {X Y : Type 0} → (X → Y) → List X → List Y → ℕ → Type 0
+IsMapped f xs done i = done ++ map f (drop i xs) ≡ map f xs
+
+pub mapped_more : {X Y : Type 0} (f : X → Y) (xs : List X) (done : List Y) (i : ℕ) (x : X) → i < length xs → x ≡ get_or xs i x → IsMapped f xs done i → IsMapped f xs (done ++ f x ∷ []) (i + 1)
+mapped_more f xs done i x h is e =
+    append_assoc done (f x ∷ []) (map f (drop (i + 1) xs)) ∙ sym (ap (λ ys. done ++ map f ys) (next_item xs i x h is)) ∙ e
+
+pub mapped_all : {X Y : Type 0} (f : X → Y) (xs : List X) (done : List Y) (i : ℕ) → length xs ≤ i → IsMapped f xs done i → done ≡ map f xs
+mapped_all f xs done i h e = sym (append-nil done) ∙ sym (ap (λ ys. done ++ map f ys) (drop_of_length-le xs h)) ∙ e
 
 -- what is copied is the item at the index
 pub copied_item : {X : Type 0} (xs : List X) (i : ℕ) (o : Option (Bor X)) → IsItemAt xs i o → option_copied o ≡ slice_get xs i

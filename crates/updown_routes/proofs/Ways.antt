@@ -5,7 +5,7 @@ use Rattle.port_graph.specs.Slopes.{Slope, cost}
 use Rattle.port_graph.proofs.Costs.{cost_recurs, way}
 use Rattle.updown_routes.specs.Ranks.{slopes_of}
 use Rattle.updown_routes.specs.RouteLaws.{CostRecursion, WayLaw}
-use Rattle.updown_routes.proofs.Order.{height, height_falls, height_bounded}
+use Rattle.updown_routes.proofs.Before.{height, height_falls, height_bounded}
 
 pub cost_recursion : CostRecursion
 cost_recursion graph good = cost_recurs (slopes_of graph) (height graph) (height_falls graph good) (height_bounded graph)

@@ -5,3 +5,6 @@ pub mod Ranks
 pub mod RankLaws
 pub mod RouteLaws
 pub mod Wiring
+pub mod Order
+pub mod Placed
+pub mod Ports

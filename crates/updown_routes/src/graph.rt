@@ -78,8 +78,10 @@ impl Graph {
 
     /// The ranks of the switches, by rising GUID.
     pub(crate) fn ranks(&self) -> &[Option<usize>]
-        ensures { result.now ≡ map (rank_of self.now) (guids_of self.now) }
+        ensures ranks { result.now ≡ map (rank_of self.now) (guids_of self.now) }
+        ensures is_graph { IsGraph self.now }
     {
+        let _ = self.wiring.len();
         &self.ranks
     }
 
@@ -88,6 +90,7 @@ impl Graph {
         requires { index < length self.now }
         ensures exits { map (by_guid (guids_of self.now)) result.now ≡ exits_at self.now (switch_at self.now index) }
         ensures to_switches { LeadBelow (length self.now) result.now }
+        ensures is_graph { IsGraph self.now }
     {
         self.wiring.exits(index)
     }

@@ -3,7 +3,11 @@
 
 mod graph;
 pub mod laws;
+mod order;
 mod rank;
+mod routes;
+mod slope;
 mod wiring;
 
 pub use graph::Graph;
+pub use routes::Routes;

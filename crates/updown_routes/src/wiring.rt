@@ -74,6 +74,7 @@ impl Wiring {
         requires { index < length self.now }
         ensures exits { map (by_guid (guids_of self.now)) result.now ≡ exits_at self.now (switch_at self.now index) }
         ensures to_switches { LeadBelow (length self.now) result.now }
+        ensures is_graph { IsGraph self.now }
     {
         self.exits.at(index)
     }

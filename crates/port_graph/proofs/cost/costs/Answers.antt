@@ -30,5 +30,5 @@ loop-vertex-preserved c =
     subst Are (sym c.in_ok-push.ensures.items) (
       costs_more c.args.ups.now c.requires.rise c.args.distances.now n costs c.loop-vertex.invariant.0 c.cost-cost.result is,
       bounded_more c.args.ups.now c.requires.rise (length c.args.ups.now) n (slice_index_or c.args.distances.now n None) costs c.cost-cost.result c.loop-vertex.invariant.0.all is
-          (λ m e. c.requires.below n m e) c.loop-vertex.invariant.1,
+          (λ m e. c.requires.less n m e) c.loop-vertex.invariant.1,
     )

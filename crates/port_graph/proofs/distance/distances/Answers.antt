@@ -1,13 +1,11 @@
 -- Vertex by vertex.
 use Rattle.std.proofs.Common.{◌≡◌, ◌<◌, ◌+◌, refl, sym, ap, ◌∙◌, arith, length, replicate, [], ◌∷◌, ◌++◌, add-one}
-use Rattle.std.proofs.lemmas.List.{with_items_is, nil_from_length}
+use Rattle.std.proofs.lemmas.List.{nil_from_length}
 use Rattle.std.specs.Prelude.{Option, None, Some}
-use Rattle.std.specs.Vec.{with_items}
 use Rattle.port_graph.specs.declared.exit.Exit.{Exit}
 use Rattle.port_graph.specs.Heads.{heads}
-use Rattle.port_graph.specs.Searches.{Search, reach_all}
 use Rattle.port_graph.proofs.Searching.{found}
-use Rattle.port_graph.proofs.SearchSteps.{all_from_contained, starts, distance_below, places, between, fewer}
+use Rattle.port_graph.proofs.SearchSteps.{all_from_contained, starts, distance_below, places, between, fewer, written}
 use Rattle.port_graph.proofs.distance.distances.Goals as goal
 
 -- what follows if a clone of nothing is nothing
@@ -27,39 +25,41 @@ loop-vertex-init c =
 
 pub overflow_add-distance : goal.overflow_add-distance
 overflow_add-distance c =
-    let below = distance_below c.args.exits.now c.args.from c.requires.lead c.loop-vertex.distances.items c.loop-vertex.queue.items c.pop_front.new.self.items c.in-Some.vertex c.in-Some.distance c.in-Some.ensures.items c.loop-vertex.invariant in
+    let below =
+        distance_below c.args.exits.now c.args.from c.requires.lead c.loop-vertex.distances.items c.loop-vertex.queue.items c.pop_front.new.self.items
+        c.in-Some.vertex c.in-Some.distance c.in-Some.ensures.items c.loop-vertex.invariant in
     omega (arith, below)
 
-pub reach-requires : goal.reach-requires
-reach-requires c =
-    let within = places c.args.exits.now c.args.from c.requires.lead c.loop-vertex.distances.items c.loop-vertex.queue.items c.pop_front.new.self.items c.in-Some.vertex c.in-Some.distance c.in-Some.ensures.items c.loop-vertex.invariant c.at.result.now c.at.ensures in
+pub reach_all-requires : goal.reach_all-requires
+reach_all-requires c =
+    let within =
+        places c.args.exits.now c.args.from c.requires.lead c.loop-vertex.distances.items c.loop-vertex.queue.items c.pop_front.new.self.items
+        c.in-Some.vertex c.in-Some.distance c.in-Some.ensures.items c.loop-vertex.invariant c.at.result.now c.at.ensures in
     all_from_contained (λ (e : Exit). e.to < length c.deref_mut.result.now) c.at.result.now (λ e h. omega (arith, within e h, c.deref_mut.ensures.len))
 
 pub loop-vertex-smaller : goal.loop-vertex-smaller
 loop-vertex-smaller c =
-    let ds = c.loop-vertex.distances in
-    let written = with_items_is ds c.reach.new.distances (omega arith) in
-    let after : Search = ((with_items ds c.reach.new.distances).items, c.reach.new.queue.items) in
-    let step : reach_all (c.in-Some.distance + 1) (ds.items, c.pop_front.new.self.items) c.at.result.now ≡ after =
-    ap (λ x. reach_all (c.in-Some.distance + 1) (x, c.pop_front.new.self.items) c.at.result.now) (sym c.deref_mut.ensures.value)
-    ∙ c.in_ok-reach.ensures ∙ (λ i. (sym written i, c.reach.new.queue.items)) in
-    fewer c.args.exits.now c.args.from c.requires.lead ds.items c.loop-vertex.queue.items c.pop_front.new.self.items c.in-Some.vertex c.in-Some.distance
-    c.in-Some.ensures.items c.loop-vertex.invariant c.at.result.now c.at.ensures (c.in-Some.distance + 1) (add-one c.in-Some.distance) after step
+    let step =
+        written c.loop-vertex.distances c.deref_mut.result.now c.reach_all.new.distances c.pop_front.new.self.items c.reach_all.new.queue.items
+        (c.in-Some.distance + 1) c.at.result.now (omega arith) c.deref_mut.ensures.value c.in_ok-reach_all.ensures in
+    fewer c.args.exits.now c.args.from c.requires.lead c.loop-vertex.distances.items c.loop-vertex.queue.items c.pop_front.new.self.items
+    c.in-Some.vertex c.in-Some.distance c.in-Some.ensures.items c.loop-vertex.invariant c.at.result.now c.at.ensures
+    (c.in-Some.distance + 1) (add-one c.in-Some.distance) _ step
 
 pub loop-vertex-preserved : goal.loop-vertex-preserved
 loop-vertex-preserved c =
-    let ds = c.loop-vertex.distances in
-    let written = with_items_is ds c.reach.new.distances (omega arith) in
-    let after : Search = ((with_items ds c.reach.new.distances).items, c.reach.new.queue.items) in
-    let step : reach_all (c.in-Some.distance + 1) (ds.items, c.pop_front.new.self.items) c.at.result.now ≡ after =
-    ap (λ x. reach_all (c.in-Some.distance + 1) (x, c.pop_front.new.self.items) c.at.result.now) (sym c.deref_mut.ensures.value)
-    ∙ c.in_ok-reach.ensures ∙ (λ i. (sym written i, c.reach.new.queue.items)) in
-    between c.args.exits.now c.args.from c.requires.lead ds.items c.loop-vertex.queue.items c.pop_front.new.self.items c.in-Some.vertex c.in-Some.distance
-    c.in-Some.ensures.items c.loop-vertex.invariant c.at.result.now c.at.ensures (c.in-Some.distance + 1) (add-one c.in-Some.distance) after step
+    let step =
+        written c.loop-vertex.distances c.deref_mut.result.now c.reach_all.new.distances c.pop_front.new.self.items c.reach_all.new.queue.items
+        (c.in-Some.distance + 1) c.at.result.now (omega arith) c.deref_mut.ensures.value c.in_ok-reach_all.ensures in
+    between c.args.exits.now c.args.from c.requires.lead c.loop-vertex.distances.items c.loop-vertex.queue.items c.pop_front.new.self.items
+    c.in-Some.vertex c.in-Some.distance c.in-Some.ensures.items c.loop-vertex.invariant c.at.result.now c.at.ensures
+    (c.in-Some.distance + 1) (add-one c.in-Some.distance) _ step
 
 pub returns : goal.returns
 returns c =
     record {
       all = c.loop-vertex.invariant.search.all;
-      shortest = λ a h. found (heads c.args.exits.now) c.args.from (length c.args.exits.now) (c.loop-vertex.distances.items, c.loop-vertex.queue.items) (nil_from_length c.loop-vertex.queue.items (omega (arith, c.in_default.ensures.cases))) c.loop-vertex.invariant a;
+      shortest = λ a h.
+          let none = nil_from_length c.loop-vertex.queue.items (omega (arith, c.in_default.ensures.cases)) in
+          found (heads c.args.exits.now) c.args.from (length c.args.exits.now) (c.loop-vertex.distances.items, c.loop-vertex.queue.items) none c.loop-vertex.invariant a;
     }

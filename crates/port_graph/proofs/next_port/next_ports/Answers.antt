@@ -10,8 +10,8 @@ use Rattle.port_graph.proofs.next_port.next_ports.Goals as goal
 pub distances-requires-clause-lead : goal.distances-requires-clause-lead
 distances-requires-clause-lead c = ups_lead c.args.ups.now c.args.downs.now c.requires.slopes
 
-pub costs-requires-clause-below : goal.costs-requires-clause-below
-costs-requires-clause-below c =
+pub costs-requires-clause-less : goal.costs-requires-clause-less
+costs-requires-clause-less c =
     λ a d h. distance_short c.args.ups.now c.args.target c.in_ok-distances.distances.items c.in_ok-distances.ensures a d (ap (λ xs. slice_index_or xs a None) (sym c.deref.ensures.value) ∙ h)
 
 pub loop-vertex-preserved : goal.loop-vertex-preserved

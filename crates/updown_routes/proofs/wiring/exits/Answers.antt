@@ -5,7 +5,6 @@ use Rattle.port_graph.specs.declared.exit.Exit.{Exit}
 use Rattle.updown_routes.specs.Graph.{exits_of}
 use Rattle.updown_routes.specs.Wiring.{by_guid, LeadBelow}
 use Rattle.updown_routes.proofs.ExitLists.{AllLeadBelow, AreRows, one_row, no_more_rows, all_lead_more, lead_to_rows, same_length}
-use Rattle.updown_routes.proofs.Walked.{next_item}
 use Rattle.updown_routes.proofs.wiring.exits.Goals as goal
 
 pub loop-guid-preserved : goal.loop-guid-preserved
@@ -15,11 +14,10 @@ loop-guid-preserved c =
     let rows = c.loop-guid.exits in
     let i = c.loop-guid.guid-index in
     let guid = c.guid-item.result in
-    let step = next_item guids i guid c.loop-guid-test.true c.guid-item.is in
     let row = c.in_ok-found.found.items in
     let Stands : List (List Exit) → Type 0 = λ xs. AreRows guids row_of xs (i + 1) × AllLeadBelow (length guids) xs in
     subst Stands (sym (c.in_ok-push_vertex.ensures.added ∙ ap (λ r. rows ++ r ∷ []) c.deref.ensures.value)) (
-      one_row guids row_of rows i guid row step c.loop-guid.invariant.0 c.in_ok-found.ensures.wires,
+      one_row guids row_of rows i guid row c.loop-guid-test.true c.guid-item.is c.loop-guid.invariant.0 c.in_ok-found.ensures.wires,
       all_lead_more (length guids) rows row c.loop-guid.invariant.1 c.in_ok-found.ensures.to_switches,
     )
 

@@ -1,6 +1,6 @@
 use Rattle.std.proofs.Common.{◌≡◌, drop}
 use Rattle.port_graph.specs.Searches.{Search, reach_all}
-use Rattle.port_graph.proofs.distance.reach.Given as goal
+use Rattle.port_graph.proofs.distance.reach_all.Given as goal
 
 -- what is left to reach leads to the same
 abbrev pub invariant-loop-exit : goal.invariant-loop-exit

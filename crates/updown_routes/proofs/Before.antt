@@ -41,13 +41,13 @@ below_lex r a s b (lesser h) = ap (λ t. t || (r == s && nat_lt a b)) (lt-ltb r 
 below_lex r a s b (tied e h) =
     ap (λ t. nat_lt r s || (t && nat_lt a b)) (eq-eqb r s e) ∙ ap (λ t. nat_lt r s || t) (lt-ltb a b h) ∙ or_second (nat_lt r s)
 
-lex_below_trans : (r a s b t c : ℕ) → LexBelow r a s b → LexBelow s b t c → LexBelow r a t c
+pub lex_below_trans : (r a s b t c : ℕ) → LexBelow r a s b → LexBelow s b t c → LexBelow r a t c
 lex_below_trans r a s b t c (lesser h) (lesser k) = lesser (omega arith)
 lex_below_trans r a s b t c (lesser h) (tied e k) = lesser (omega arith)
 lex_below_trans r a s b t c (tied e h) (lesser k) = lesser (omega arith)
 lex_below_trans r a s b t c (tied e h) (tied f k) = tied (e ∙ f) (omega arith)
 
-never_below : (r a : ℕ) → LexBelow r a r a → ⊥
+pub never_below : (r a : ℕ) → LexBelow r a r a → ⊥
 never_below r a (lesser h) = omega arith
 never_below r a (tied e h) = omega arith
 

@@ -1,0 +1,18 @@
+-- Switches by index, in the order of their ranks.
+use Rattle.std.specs.Prelude.{◌≡◌, ◌<◌, ℕ, Bool, true, List, length, Contains, Option, None, ◌==◌, ◌&&◌, ◌||◌, nat_lt, unwrap_or, slice_index, slice_index_or}
+
+-- lesser in rank, or of one rank and lesser in index
+abbrev pub goes_before : List (Option ℕ) → ℕ → ℕ → Bool
+goes_before ranks a b = let ra = unwrap_or (slice_index_or ranks a None) 0 in let rb = unwrap_or (slice_index_or ranks b None) 0 in nat_lt ra rb || (ra == rb && nat_lt a b)
+
+-- all indices, each before those that follow it
+pub record IsOrder (ranks : List (Option ℕ)) (order : List ℕ) : Type 0 where
+  pub all : length order ≡ length ranks
+  pub each : (i : ℕ) → i < length ranks → Contains order i
+  pub within : (p : ℕ) → p < length order → slice_index order p < length ranks
+  pub rises : (p q : ℕ) → p < q → q < length order → goes_before ranks (slice_index order p) (slice_index order q) ≡ true
+
+-- at each index its place in the order
+pub record ArePlaces (order places : List ℕ) : Type 0 where
+  pub all : length places ≡ length order
+  pub place : (p : ℕ) → p < length order → slice_index places (slice_index order p) ≡ p

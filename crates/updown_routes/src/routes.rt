@@ -1,0 +1,98 @@
+ghost use Rattle.std.specs.Prelude.{◌≡◌, ◌<◌, All, IfOk, None, length, map, slice_index_or};
+ghost use Rattle.port_graph.specs.Indexed.{indexed, AreSlopes};
+ghost use Rattle.port_graph.specs.Slopes.{next_port};
+ghost use Rattle.updown_routes.specs.Ports.{next_port_at, port_rows};
+ghost use Rattle.updown_routes.specs.Ranks.{slopes_of};
+
+use crate::graph::Graph;
+use crate::order::{order, places};
+use crate::slope::Slopes;
+use port_graph::next_ports;
+use smp_bytes::{Guid, PortNum};
+use std::alloc::{AllocError, Global};
+use std::marker::Model;
+
+/// The next port of each switch of a graph to each other.
+#[derive(Drop)]
+pub struct Routes<'g> {
+    graph: &'g Graph,
+    /// For each target, by rising GUID, the next port of each switch, by rising GUID.
+    towards: Vec<Vec<Option<PortNum>>>,
+}
+
+impl<'g> Model for Routes<'g> {
+    ghost use Rattle.std.specs.Prelude.{◌≡◌, List, map};
+    ghost use Rattle.updown_routes.specs.Crossing.{Crossing};
+    ghost use Rattle.updown_routes.specs.Ports.{ports_of};
+
+    ghost Value = { List Crossing };
+
+    ghost view = { λ a. a.graph.now };
+
+    ghost invariant = { λ a. map (λ ports. ports.items) a.towards.items ≡ ports_of a.graph.now };
+}
+
+impl<'g> Routes<'g> {
+    /// The routes of a graph. For each target takes a step for each switch and each wire.
+    pub fn of(alloc: Global, graph: &'g Graph) -> Result<Self, AllocError>
+        ensures { IfOk result (λ routes. routes ≡ graph.now) }
+    {
+        let order = order(alloc, graph.ranks())?;
+        let places = places(alloc, &order)?;
+        let slopes = Slopes::of(alloc, graph, &order, &places)?;
+        let towards = towards(alloc, &slopes, &places)?;
+        Ok(Routes { graph, towards })
+    }
+
+    /// The port by which a packet leaves a switch to another: down where that leads to the target, else up.
+    /// None at the target, between components, and where one of them is no switch. Takes two searches.
+    pub fn next_port(&self, switch: Guid, target: Guid) -> Option<PortNum>
+        ensures { result ≡ next_port (slopes_of self.now) switch target }
+    {
+        let switch = self.graph.index_of(switch)?;
+        let target = self.graph.index_of(target)?;
+        self.next_port_at(switch, target)
+    }
+
+    /// The same for the switches at two indices of the graph. Takes one step.
+    pub fn next_port_at(&self, switch: usize, target: usize) -> Option<PortNum>
+        ensures { result ≡ next_port_at self.now switch target }
+    {
+        let ports = self.towards.get(target)?;
+        ports.get(switch).copied().flatten()
+    }
+}
+
+/// The next ports between the switches at these places: for each target those of each switch.
+fn towards(
+    alloc: Global,
+    slopes: &Slopes,
+    places: &[usize],
+) -> Result<Vec<Vec<Option<PortNum>>>, AllocError>
+    requires slopes { AreSlopes slopes.now.ups slopes.now.downs }
+    requires places { All (λ p. p < length slopes.now.ups) places.now }
+    ensures { IfOk result (λ towards. map (λ ports. ports.items) towards.items ≡ port_rows slopes.now.ups slopes.now.downs places.now) }
+{
+    let mut towards = Vec::with_capacity(alloc, places.len())?;
+    for target in places {
+        let found = next_ports(alloc, &slopes.ups, &slopes.downs, *target)?;
+        towards.push(at_places(alloc, &found, places)?)?;
+    }
+    Ok(towards)
+}
+
+/// The ports at these places.
+fn at_places(
+    alloc: Global,
+    ports: &[Option<PortNum>],
+    places: &[usize],
+) -> Result<Vec<Option<PortNum>>, AllocError>
+    requires { All (λ p. p < length ports.now) places.now }
+    ensures { IfOk result (λ found. found.items ≡ map (λ p. slice_index_or ports.now p None) places.now) }
+{
+    let mut found = Vec::with_capacity(alloc, places.len())?;
+    for place in places {
+        found.push(ports[*place])?;
+    }
+    Ok(found)
+}
