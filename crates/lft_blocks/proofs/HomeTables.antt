@@ -2,9 +2,10 @@
 use Rattle.std.proofs.Common.{◌≡◌, ◌<◌, ◌+◌, ◌*◌, ℕ, List, [], ◌∷◌, inl, inr, refl, sym, ap, ◌∙◌, subst, arith, cond, ◌==◌, length, map}
 use Rattle.std.proofs.lemmas.Bool.{cases_order, eqb-true, eq-eqb}
 use Rattle.std.proofs.lemmas.List.{get_or-map, length-map}
-use Rattle.std.proofs.lemmas.List.FromFn.{fill_by_all}
+use Rattle.std.proofs.lemmas.List.FromFn.{fill_by_all, get_or-map-range_with_len}
+use Rattle.std.proofs.lemmas.Option.{slice_get-get_or}
 use Rattle.std.proofs.lemmas.List.Kept.{AllPairs-from_increasing}
-use Rattle.std.specs.Prelude.{Option, None, Some, unwrap_or, slice_index, slice_index_or}
+use Rattle.std.specs.Prelude.{Option, None, Some, unwrap_or, option_and_then, slice_get, slice_index, slice_index_or}
 use Rattle.std.specs.Option.{option_map_or}
 use Rattle.std.specs.List.{range_with_len}
 use Rattle.std.specs.List.Sorted.{IsStrictlyIncreasing}
@@ -14,12 +15,19 @@ use Rattle.fact_store.specs.View.{Facts}
 use Rattle.subnet_view.specs.Reading.{switches}
 use Rattle.updown_routes.proofs.Switches.{switches_increase}
 use Rattle.port_graph.specs.Slopes.{Slope, next_port}
+use Rattle.updown_routes.specs.Crossing.{Crossing}
+use Rattle.updown_routes.specs.Graph.{guids_of}
+use Rattle.updown_routes.specs.Ports.{next_port_at}
+use Rattle.updown_routes.specs.Ranks.{slopes_of}
 use Rattle.lft_blocks.specs.declared.home.Home.{Home}
 use Rattle.lft_blocks.specs.Entries.{port_to, entry, blocks}
 use Rattle.lft_blocks.specs.Homes.{meant, IsPlaced, ArePlaced, AreWithin, row_of, entry_in, block_in, table_in}
 use Rattle.lft_blocks.specs.Plan.{SwitchTable, tables_of, AreTables}
 
-module _ (slopes : List Slope) (guids : List ℕ) (rising : IsStrictlyIncreasing guids) where
+module _ (graph : List Crossing) (guids : List ℕ) (theirs : guids ≡ guids_of graph) (rising : IsStrictlyIncreasing guids) where
+  abbrev sloping : List Slope
+  sloping = slopes_of graph
+
   -- places are told apart by their GUIDs
   same_test : (i j : ℕ) → i < length guids → j < length guids → (i == j) ≡ (slice_index guids i == slice_index guids j)
   same_test i j h k =
@@ -39,37 +47,44 @@ module _ (slopes : List Slope) (guids : List ℕ) (rising : IsStrictlyIncreasing
     s = slice_index guids own
 
     abbrev row : List ℕ
-    row = row_of slopes s guids
+    row = row_of graph own (length guids)
 
-    port_same : (h : Home) → h.switch < length guids → cond (h.switch == own) h.port (slice_index row h.switch) ≡ port_to slopes s (meant guids h)
+    -- the next port to a switch by its index
+    port_at : (to : ℕ) → to < length guids → next_port_at graph own to ≡ next_port sloping s (slice_index guids to)
+    port_at to h =
+        let get = λ (i : ℕ) (l : i < length guids). ap (λ gs. slice_get gs i) (sym theirs) ∙ slice_get-get_or guids i 0 l in
+        ap (option_and_then (λ t. option_and_then (λ g. next_port sloping g t) (slice_get (guids_of graph) own))) (get to h)
+        ∙ ap (option_and_then (λ g. next_port sloping g (slice_index guids to))) (get own there)
+
+    port_same : (h : Home) → h.switch < length guids → cond (h.switch == own) h.port (slice_index row h.switch) ≡ port_to sloping s (meant guids h)
     port_same h w =
-        let at : slice_index row h.switch ≡ unwrap_or (next_port slopes s (slice_index guids h.switch)) 255
-        = get_or-map (λ t. unwrap_or (next_port slopes s t) 255) guids h.switch 0 0 w in
+        let at : slice_index row h.switch ≡ unwrap_or (next_port sloping s (slice_index guids h.switch)) 255
+        = get_or-map-range_with_len (λ to. unwrap_or (next_port_at graph own to) 255) 0 (length guids) h.switch h.switch 0 w (omega arith) ∙ ap (λ o. unwrap_or o 255) (port_at h.switch w) in
         λ i. cond (same_test h.switch own w there i) h.port (at i)
 
-    entry_same : (homes : ℕ → Option (ℕ × ℕ)) (placed : List (Option Home)) → ArePlaced guids homes placed → (lid : ℕ) → entry_in placed row own lid ≡ entry homes slopes s lid
+    entry_same : (homes : ℕ → Option (ℕ × ℕ)) (placed : List (Option Home)) → ArePlaced guids homes placed → (lid : ℕ) → entry_in placed row own lid ≡ entry homes sloping s lid
     entry_same homes placed are lid = go (slice_index_or placed lid None) (are lid)
       where
-        go : (o : Option Home) → IsPlaced guids (homes lid) o → option_map_or (λ h. cond (h.switch == own) h.port (slice_index row h.switch)) o 255 ≡ option_map_or (port_to slopes s) (homes lid) 255
-        go None is = ap (λ home. option_map_or (port_to slopes s) home 255) is.same
-        go (Some h) is = port_same h is.within ∙ ap (λ home. option_map_or (port_to slopes s) home 255) is.same
+        go : (o : Option Home) → IsPlaced guids (homes lid) o → option_map_or (λ h. cond (h.switch == own) h.port (slice_index row h.switch)) o 255 ≡ option_map_or (port_to sloping s) (homes lid) 255
+        go None is = ap (λ home. option_map_or (port_to sloping s) home 255) is.same
+        go (Some h) is = port_same h is.within ∙ ap (λ home. option_map_or (port_to sloping s) home 255) is.same
 
 -- they are the same
-pub tables_same : (slopes : List Slope) (guids : List ℕ) (homes : ℕ → Option (ℕ × ℕ)) (placed : List (Option Home)) (count : ℕ) → IsStrictlyIncreasing guids → ArePlaced guids homes placed
-    → tables_of homes slopes count guids ≡ map (table_in placed slopes guids count) (range_with_len 0 (length guids))
-tables_same slopes guids homes placed count rising are =
-    fill_by_all (table_in placed slopes guids count) (tables_of homes slopes count guids) (length guids) none (length-map guids by_guid)
+pub tables_same : (graph : List Crossing) (guids : List ℕ) (homes : ℕ → Option (ℕ × ℕ)) (placed : List (Option Home)) (count : ℕ) → guids ≡ guids_of graph → IsStrictlyIncreasing guids → ArePlaced guids homes placed
+    → tables_of homes (slopes_of graph) count guids ≡ map (table_in placed graph guids count) (range_with_len 0 (length guids))
+tables_same graph guids homes placed count theirs rising are =
+    fill_by_all (table_in placed graph guids count) (tables_of homes (slopes_of graph) count guids) (length guids) none (length-map guids by_guid)
     (λ k h. get_or-map by_guid guids k 0 none h ∙ sym (at k h))
   where
     none : SwitchTable
     none = record { guid = 0; blocks = [] }
 
     by_guid : ℕ → SwitchTable
-    by_guid g = record { guid = g; blocks = blocks homes slopes count g }
+    by_guid g = record { guid = g; blocks = blocks homes (slopes_of graph) count g }
 
-    at : (own : ℕ) → own < length guids → table_in placed slopes guids count own ≡ record { guid = slice_index guids own; blocks = blocks homes slopes count (slice_index guids own) }
+    at : (own : ℕ) → own < length guids → table_in placed graph guids count own ≡ record { guid = slice_index guids own; blocks = blocks homes (slopes_of graph) count (slice_index guids own) }
     at own h =
-        let same = entry_same slopes guids rising own h homes placed are in
+        let same = entry_same graph guids theirs rising own h homes placed are in
         λ i. record { guid = slice_index guids own; blocks = map (λ b. map (λ j. same (64 * b + j) i) (range_with_len 0 64)) (range_with_len 0 count) }
 
 -- a home that has a place has a switch
@@ -94,6 +109,6 @@ pub switches_rise : (facts : Facts) (guids : List ℕ) → guids ≡ switches (e
 switches_rise facts guids e = subst IsStrictlyIncreasing (sym e) (switches_increase facts)
 
 -- the table that is made of a switch's GUID, row and blocks
-pub table_made : (placed : List (Option Home)) (slopes : List Slope) (guids : List ℕ) (count own guid : ℕ) (ports : List ℕ) (blocks : List (List ℕ)) → guid ≡ slice_index guids own
-    → ports ≡ row_of slopes guid guids → blocks ≡ map (block_in placed ports own) (range_with_len 0 count) → record { guid = guid; blocks = blocks } ≡ table_in placed slopes guids count own
-table_made placed slopes guids count own guid ports blocks e f h = λ i. record { guid = e i; blocks = (h ∙ ap (λ r. map (block_in placed r own) (range_with_len 0 count)) (f ∙ ap (λ s. row_of slopes s guids) e)) i }
+pub table_made : (placed : List (Option Home)) (graph : List Crossing) (guids : List ℕ) (count own guid : ℕ) (ports : List ℕ) (blocks : List (List ℕ)) → guid ≡ slice_index guids own
+    → ports ≡ row_of graph own (length guids) → blocks ≡ map (block_in placed ports own) (range_with_len 0 count) → record { guid = guid; blocks = blocks } ≡ table_in placed graph guids count own
+table_made placed graph guids count own guid ports blocks e f h = λ i. record { guid = e i; blocks = (h ∙ ap (λ r. map (block_in placed r own) (range_with_len 0 count)) f) i }

@@ -2,7 +2,8 @@
 use Rattle.std.specs.Prelude.{◌≡◌, ◌<◌, ℕ, ◌+◌, ◌*◌, List, map, length, Option, None, MatchOption, ◌==◌, unwrap_or, option_map, slice_index, slice_index_or, if◌then◌else◌}
 use Rattle.std.specs.Option.{option_map_or}
 use Rattle.std.specs.List.{range_with_len}
-use Rattle.port_graph.specs.Slopes.{Slope, next_port}
+use Rattle.updown_routes.specs.Crossing.{Crossing}
+use Rattle.updown_routes.specs.Ports.{next_port_at}
 use Rattle.lft_blocks.specs.declared.home.Home.{Home}
 use Rattle.lft_blocks.specs.Plan.{SwitchTable}
 
@@ -23,9 +24,9 @@ ArePlaced guids homes placed = (lid : ℕ) → IsPlaced guids (homes lid) (slice
 abbrev pub AreWithin : ℕ → List (Option Home) → Type 0
 AreWithin n placed = (lid : ℕ) → MatchOption (slice_index_or placed lid None) (Unit {0}) (λ h. h.switch < n)
 
--- the next port from the switch s towards each switch, and 255 where there is no way
-abbrev pub row_of : List Slope → ℕ → List ℕ → List ℕ
-row_of slopes s guids = map (λ t. unwrap_or (next_port slopes s t) 255) guids
+-- the next port from the switch at the index own towards each of so many switches, and 255 where there is no way
+abbrev pub row_of : List Crossing → ℕ → ℕ → List ℕ
+row_of graph own n = map (λ to. unwrap_or (next_port_at graph own to) 255) (range_with_len 0 n)
 
 -- the entry for a LID of the switch at the index own, by its row
 abbrev pub entry_in : List (Option Home) → List ℕ → ℕ → ℕ → ℕ
@@ -36,5 +37,5 @@ abbrev pub block_in : List (Option Home) → List ℕ → ℕ → ℕ → List �
 block_in placed row own b = map (λ i. entry_in placed row own (64 * b + i)) (range_with_len 0 64)
 
 -- the table of the switch at an index
-abbrev pub table_in : List (Option Home) → List Slope → List ℕ → ℕ → ℕ → SwitchTable
-table_in placed slopes guids count own = let s = slice_index guids own in record { guid = s; blocks = map (block_in placed (row_of slopes s guids) own) (range_with_len 0 count) }
+abbrev pub table_in : List (Option Home) → List Crossing → List ℕ → ℕ → ℕ → SwitchTable
+table_in placed graph guids count own = record { guid = slice_index guids own; blocks = map (block_in placed (row_of graph own (length guids)) own) (range_with_len 0 count) }

@@ -4,12 +4,14 @@
 mod block;
 mod home;
 pub mod laws;
-mod next_ports;
 mod plan;
 mod plan_text;
 mod table;
 mod text;
 
-pub use next_ports::NextPorts;
+pub use lid_assign::LidFault as PlanFault;
 pub use plan::Plan;
 pub use plan_text::write_plan;
+
+#[cfg(test)]
+mod tests;

@@ -11,14 +11,14 @@ ghost use Rattle.lft_blocks.specs.Plan.{tables_of, plan_of, block_at, guids_of};
 
 use crate::block::block_count;
 use crate::home::{homes, index_of};
-use crate::next_ports::NextPorts;
 use crate::table::{Table, tables};
 use fact_store::Store;
-use lid_assign::{LidFault, LidMap, assign};
+use lid_assign::{LidFault as PlanFault, LidMap, assign};
 use smp_bytes::{Guid, Lid};
 use std::alloc::{AllocError, Global};
 use std::marker::Model;
 use subnet_view::switches;
+use updown_routes::{Graph, Routes};
 
 /// The plan of a view: the LID of each end port, and the blocks of each usable switch.
 #[derive(Drop)]
@@ -43,14 +43,15 @@ impl Model for Plan {
 impl Plan {
     /// The plan of a view. Refused where there is no room for the LIDs. Memory is taken for it, and for the
     /// routes: some bytes for each two switches, and 64 for each block of each switch.
-    pub fn of<R: NextPorts>(alloc: Global, store: &Store, routes: &R) -> Result<Self, LidFault>
-        requires { R.slopes routes.now ≡ slopes_of (graph_of (entries store.now)) }
+    pub fn of(alloc: Global, store: &Store) -> Result<Self, PlanFault>
         ensures judged { JudgesRoom result (entries store.now) }
         ensures plan { IfOk result (λ plan. plan ≡ plan_of (entries store.now)) }
     {
         let lids = assign(alloc, store)?;
         let switches = switches(alloc, store)?;
-        let tables = tables_of(alloc, store, routes, &switches, &lids)?;
+        let graph = Graph::of(alloc, store)?;
+        let routes = Routes::of(alloc, &graph)?;
+        let tables = tables_of(alloc, store, &routes, &switches, &lids)?;
         Ok(Plan {
             lids,
             switches,
@@ -98,16 +99,17 @@ impl Plan {
 }
 
 /// The table of each usable switch, by rising GUID.
-fn tables_of<R: NextPorts>(
+fn tables_of(
     alloc: Global,
     store: &Store,
-    routes: &R,
+    routes: &Routes,
     guids: &[Guid],
     lids: &LidMap,
 ) -> Result<Vec<Table>, AllocError>
-    requires { guids.now ≡ switches (entries store.now) }
-    ensures { IfOk result (λ tables.
-        tables.items ≡ tables_of (home_of_lid (entries store.now) lids.now) (R.slopes routes.now)
+    requires switches { guids.now ≡ switches (entries store.now) }
+    requires routes { routes.now ≡ graph_of (entries store.now) }
+    ensures { IfOk result (λ tables. tables.items
+        ≡ tables_of (home_of_lid (entries store.now) lids.now) (slopes_of routes.now)
         (block_count (top_of lids.now)) guids.now) }
 {
     let count = block_count(lids.top());

@@ -1,15 +1,15 @@
 ghost use Rattle.std.specs.Prelude.{◌≡◌, ◌<◌, ◌≤◌, length, map, unwrap_or, slice_get, IfOk};
 ghost use Rattle.std.specs.Option.{option_copied};
 ghost use Rattle.std.specs.List.{range_with_len};
-ghost use Rattle.port_graph.specs.Slopes.{next_port};
+ghost use Rattle.updown_routes.specs.Ports.{next_port_at};
 ghost use Rattle.lft_blocks.specs.Homes.{AreWithin, row_of, table_in};
 
 use crate::block::{NO_WAY, blocks};
 use crate::home::Home;
-use crate::next_ports::NextPorts;
 use smp_bytes::Guid;
 use std::alloc::{AllocError, Global};
 use std::marker::Model;
+use updown_routes::Routes;
 
 /// The forwarding table of a switch.
 #[derive(Drop)]
@@ -50,9 +50,9 @@ impl Table {
 }
 
 /// The table of each switch. Each entry takes two steps.
-pub(crate) fn tables<R: NextPorts>(
+pub(crate) fn tables(
     alloc: Global,
-    routes: &R,
+    routes: &Routes,
     homes: &[Option<Home>],
     guids: &[Guid],
     count: usize,
@@ -60,7 +60,7 @@ pub(crate) fn tables<R: NextPorts>(
     requires within { AreWithin (length guids.now) homes.now }
     requires few { count ≤ 1024 }
     ensures { IfOk result (λ tables. tables.items
-        ≡ map (table_in homes.now (R.slopes routes.now) guids.now count)
+        ≡ map (table_in homes.now routes.now guids.now count)
         (range_with_len 0 (length guids.now))) }
 {
     let mut tables = Vec::with_capacity(alloc, guids.len())?;
@@ -71,9 +71,9 @@ pub(crate) fn tables<R: NextPorts>(
 }
 
 /// The table of the switch at the index `own`.
-fn table_at<R: NextPorts>(
+fn table_at(
     alloc: Global,
-    routes: &R,
+    routes: &Routes,
     homes: &[Option<Home>],
     guids: &[Guid],
     count: usize,
@@ -83,35 +83,32 @@ fn table_at<R: NextPorts>(
     requires few { count ≤ 1024 }
     requires own { own < length guids.now }
     ensures { IfOk result (λ table.
-        table ≡ table_in homes.now (R.slopes routes.now) guids.now count own) }
+        table ≡ table_in homes.now routes.now guids.now count own) }
 {
-    let guid = guids[own];
-    let row = row(alloc, routes, guid, guids)?;
+    let row = row(alloc, routes, own, guids.len())?;
     let blocks = blocks(alloc, homes, &row, own, count)?;
-    Ok(Table { guid, blocks })
+    Ok(Table {
+        guid: guids[own],
+        blocks,
+    })
 }
 
-/// The next port from a switch towards each, and 255 where there is no way.
-fn row<R: NextPorts>(
-    alloc: Global,
-    routes: &R,
-    from: Guid,
-    guids: &[Guid],
-) -> Result<Vec<u8>, AllocError>
-    ensures { IfOk result (λ row. row.items ≡ row_of (R.slopes routes.now) from guids.now) }
+/// The next port from the switch at the index `own` towards each of so many, and 255 where there is no way.
+fn row(alloc: Global, routes: &Routes, own: usize, len: usize) -> Result<Vec<u8>, AllocError>
+    ensures { IfOk result (λ row. row.items ≡ row_of routes.now own len) }
 {
-    let mut row = Vec::with_capacity(alloc, guids.len())?;
-    for to in guids {
-        row.push(port_towards(routes, from, *to))?;
+    let mut row = Vec::with_capacity(alloc, len)?;
+    for to in 0..len {
+        row.push(port_towards(routes, own, to))?;
     }
     Ok(row)
 }
 
 /// The next port, and 255 where there is no way.
-fn port_towards<R: NextPorts>(routes: &R, from: Guid, to: Guid) -> u8
-    ensures { result ≡ unwrap_or (next_port (R.slopes routes.now) from to) 255 }
+fn port_towards(routes: &Routes, own: usize, to: usize) -> u8
+    ensures { result ≡ unwrap_or (next_port_at routes.now own to) 255 }
 {
-    match routes.next_port(from, to) {
+    match routes.next_port_at(own, to) {
         Some(port) => port.number(),
         None => NO_WAY,
     }

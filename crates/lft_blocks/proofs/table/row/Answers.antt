@@ -1,11 +1,11 @@
-use Rattle.std.proofs.Common.{ℕ, sym}
+use Rattle.std.proofs.Common.{ℕ, sym, arith}
+use Rattle.std.proofs.lemmas.List.FromFn.{map-range_with_len_more}
 use Rattle.std.specs.Prelude.{unwrap_or}
-use Rattle.port_graph.specs.Slopes.{next_port}
-use Rattle.lft_blocks.proofs.Walks.{mapped_more}
+use Rattle.updown_routes.specs.Ports.{next_port_at}
 use Rattle.lft_blocks.proofs.table.row.Goals as goal
 
 pub loop-to-preserved : goal.loop-to-preserved
-loop-to-preserved g c =
-    let port = λ (t : ℕ). unwrap_or (next_port (g.R.NextPorts.slopes c.args.routes.now) c.args.from t) 255 in
-    rw c.in_ok-push.ensures.items (rw c.loop-to.invariant (rw c.port_towards.ensures
-    (sym (mapped_more port c.args.guids.now c.loop-to.to-index c.to-item.result c.loop-to-test.true c.to-item.is))))
+loop-to-preserved c =
+    let port = λ (t : ℕ). unwrap_or (next_port_at c.args.routes.now c.args.own t) 255 in
+    let to = c.loop-to.to in
+    rw c.in_ok-push.ensures.items (rw c.loop-to.invariant (rw c.port_towards.ensures (sym (map-range_with_len_more port 0 to to (omega arith)))))

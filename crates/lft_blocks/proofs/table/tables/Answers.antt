@@ -4,8 +4,8 @@ use Rattle.lft_blocks.specs.Homes.{table_in}
 use Rattle.lft_blocks.proofs.table.tables.Goals as goal
 
 pub loop-own-preserved : goal.loop-own-preserved
-loop-own-preserved g c =
+loop-own-preserved c =
     let a = c.args in
     let own = c.loop-own.own in
     rw c.in_ok-push.ensures.items (rw c.loop-own.invariant (rw c.in_ok-table_at.ensures
-    (sym (map-range_with_len_more (table_in a.homes.now (g.R.NextPorts.slopes a.routes.now) a.guids.now a.count) 0 own own (omega arith)))))
+    (sym (map-range_with_len_more (table_in a.homes.now a.routes.now a.guids.now a.count) 0 own own (omega arith)))))

@@ -5,4 +5,4 @@ use Rattle.lft_blocks.proofs.table.tables.Given as goal
 
 -- the tables so far
 abbrev pub invariant-loop-own : goal.invariant-loop-own
-invariant-loop-own g l = l.tables.items ≡ map (table_in l.homes (g.R.NextPorts.slopes l.routes) l.guids l.count) (range_with_len 0 l.own)
+invariant-loop-own l = l.tables.items ≡ map (table_in l.homes l.routes l.guids l.count) (range_with_len 0 l.own)
