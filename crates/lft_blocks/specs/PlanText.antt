@@ -3,22 +3,14 @@ use Rattle.std.specs.Prelude.{ℕ, List, [], ◌++◌, codes, decimal}
 use Rattle.std.specs.Option.{option_map_or}
 use Rattle.std.specs.List.{flat_map, enumerate_from}
 use Rattle.hex.specs.Hex.{encode_lower}
-use Rattle.smp_bytes.specs.Text.{hex_text}
+use Rattle.smp_bytes.specs.Text.{guid_text, port_text}
 use Rattle.subnet_view.specs.declared.end_port.EndPort.{EndPort}
 use Rattle.lid_assign.specs.Lids.{owner_of, top_of, rising_lids}
 use Rattle.lft_blocks.specs.Plan.{SwitchTable, PlanValue}
 
--- a node's GUID
-abbrev pub guid_text : ℕ → List ℕ
-guid_text guid = hex_text 16 guid
-
--- an end port's node and number
-abbrev pub port_text : EndPort → List ℕ
-port_text port = guid_text port.node ++ codes "/" ++ decimal port.port
-
 -- the line of a LID
 abbrev pub lid_line : ℕ × EndPort → List ℕ
-lid_line x = codes "lid " ++ decimal x.0 ++ codes " " ++ port_text x.1 ++ codes "\n"
+lid_line x = codes "lid " ++ decimal x.0 ++ codes " " ++ port_text x.1.node x.1.port ++ codes "\n"
 
 -- the line of a LID, where an end port has it
 abbrev pub owner_line : List (EndPort × ℕ) → ℕ → List ℕ

@@ -7,7 +7,6 @@ pub mod laws;
 mod plan;
 mod plan_text;
 mod table;
-mod text;
 
 pub use lid_assign::LidFault as PlanFault;
 pub use plan::Plan;

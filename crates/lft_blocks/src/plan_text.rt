@@ -2,15 +2,15 @@
 ghost use Rattle.std.specs.Prelude.{List, Option, None, Some, IsTrue, OnOk};
 ghost use Rattle.std.specs.Option.{option_map_or};
 ghost use Rattle.std.specs.List.{flat_map};
+ghost use Rattle.hex.specs.Hex.{encode_lower};
 ghost use Rattle.record_file.specs.Writes.{Writes};
 ghost use Rattle.lft_blocks.specs.WritesPart.{WritesPart};
 ghost use Rattle.lft_blocks.specs.PlanText.{lid_line, owner_line, lids_text, switch_line, block_line, blocks_text, table_text, tables_text, plan_text};
 
 use crate::plan::Plan;
 use crate::table::Table;
-use crate::text::{write_entries, write_guid, write_number, write_port};
 use lid_assign::LidMap;
-use record_file::{Sink, WriteFault};
+use record_file::{Sink, WriteFault, write_guid, write_number, write_port};
 use smp_bytes::{Guid, Lid};
 use subnet_view::EndPort;
 
@@ -51,9 +51,9 @@ fn write_lid<W: Sink>(sink: &mut W, lid: Lid, port: EndPort) -> Result<(), Write
     ensures { Writes W.written W.has_failed result sink.old sink.new (lid_line (lid, port)) }
 {
     sink.write(b"lid ")?;
-    write_number(sink, usize::from(lid.number()))?;
+    write_number(sink, u64::from(lid.number()))?;
     sink.write(b" ")?;
-    write_port(sink, port)?;
+    write_port(sink, port.node, port.port)?;
     sink.write(b"\n")
 }
 
@@ -93,7 +93,7 @@ fn write_switch<W: Sink>(sink: &mut W, top: Lid, guid: Guid) -> Result<(), Write
     sink.write(b"switch ")?;
     write_guid(sink, guid)?;
     sink.write(b" top ")?;
-    write_number(sink, usize::from(top.number()))?;
+    write_number(sink, u64::from(top.number()))?;
     sink.write(b"\n")
 }
 
@@ -112,8 +112,17 @@ fn write_block<W: Sink>(sink: &mut W, b: usize, block: &[u8; 64]) -> Result<(), 
     ensures { Writes W.written W.has_failed result sink.old sink.new (block_line (b, block.now)) }
 {
     sink.write(b"block ")?;
-    write_number(sink, b)?;
+    write_number(sink, b as u64)?;
     sink.write(b" ")?;
     write_entries(sink, block)?;
     sink.write(b"\n")
+}
+
+/// Writes the entries of a block, each as two hex digits.
+fn write_entries<W: Sink>(sink: &mut W, block: &[u8; 64]) -> Result<(), WriteFault>
+    ensures { Writes W.written W.has_failed result sink.old sink.new (encode_lower block.now) }
+{
+    let mut digits = [0; 128];
+    hex::encode_to_slice(block.as_slice(), &mut digits).unwrap();
+    sink.write(&digits)
 }

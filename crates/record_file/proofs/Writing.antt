@@ -3,7 +3,7 @@ use Rattle.std.proofs.Common.{◌≡◌, ℕ, List, [], ◌∷◌, ◌++◌, Opt
 use Rattle.std.proofs.Common.{append_assoc}
 use Rattle.std.specs.Io.KnownBytes.{Appends}
 use Rattle.std.specs.List.{flat_map}
-use Rattle.std.proofs.lemmas.List.{flat_map_more}
+use Rattle.std.proofs.lemmas.List.{append-nil, flat_map_more}
 
 -- one text, and then another
 pub appends_then : (a b c : Option (List ℕ)) (x y : List ℕ) → Appends a b x → Appends b c y → Appends a c (x ++ y)
@@ -23,3 +23,9 @@ written_more text a b c given left left' all x h next q = record {
   written = let P : List ℕ → Type 0 = λ t. Appends a c t in subst P (flat_map_more text [] given x) (appends_then a b c _ (text x) h.written q);
   parts = append_assoc given (x ∷ []) left' ∙ ap (λ t. given ++ t) (sym next) ∙ h.parts;
 }
+
+-- and of all in the end
+pub written_all : {X : Type 0} (text : X → List ℕ) (a b : Option (List ℕ)) (given left all : List X) → HasWritten text a b given left all → left ≡ [] → Appends a b (flat_map text all)
+written_all text a b given left all h none =
+    let P : List _ → Type 0 = λ t. Appends a b (flat_map text t) in
+    subst P (sym (append-nil given) ∙ ap (λ t. given ++ t) (sym none) ∙ h.parts) h.written
