@@ -3,7 +3,7 @@ use Rattle.std.proofs.Common.{◌≡◌, ℕ, Bool, List, Option, Result, Ok, Er
 use Rattle.std.specs.Prelude.{IfErr}
 use Rattle.sm_cli.specs.Run.{HasAnswered, IsFaultOf}
 use Rattle.sm_cli.specs.declared.fault.Fault.{Fault}
-use Rattle.sm_cli.specs.declared.fault.Fault.TheVariants.{Open, File, Write, Memory}
+use Rattle.sm_cli.specs.declared.fault.Fault.TheVariants.{Open, File, NoRoom, Write, Memory}
 use Rattle.sm_cli.specs.declared.run.Command.{Command}
 use Rattle.sm_cli.proofs.Runs.{inside}
 use Rattle.ibsm.specs.Ending.{AnswersFiles, IsFaultAmong}
@@ -16,20 +16,24 @@ module _ {S : Type 0} (left : S → Option (List ℕ)) (has_failed : S → Bool)
   answers command olds news written written' count (Ok u) e h = subst (λ (n : ℕ). AnswersFiles command n written written') e (record {
     files = h.files;
     one_each = h.one_each;
+    can_be = h.can_be;
     accepted = λ place file at. let r = h.read place file at in r.read.accepted;
     answered = h.answered;
   })
   answers command olds news written written' count (Err f) e h = tt
 
-  among : (interruptions : S → ℕ) (olds news : List S) (sink_failed : Bool) (fault : Fault) → IsFaultOf left has_failed interruptions olds news sink_failed fault → IsFaultAmong (length olds) sink_failed fault
-  among interruptions olds news sink_failed (Open place) h = absurd h
-  among interruptions olds news sink_failed (File place fault) h = inside olds place h.old h.there
-  among interruptions olds news sink_failed Write h = h.failed
-  among interruptions olds news sink_failed Memory h = absurd h
+  among :
+      (interruptions : S → ℕ) (command : Command) (olds news : List S) (sink_failed : Bool) (fault : Fault)
+      → IsFaultOf left has_failed interruptions command olds news sink_failed fault → IsFaultAmong (length olds) sink_failed fault
+  among interruptions command olds news sink_failed (Open place) h = absurd h
+  among interruptions command olds news sink_failed (File place fault) h = inside olds place h.old h.there
+  among interruptions command olds news sink_failed (NoRoom endports most) h = tt
+  among interruptions command olds news sink_failed Write h = h.fails
+  among interruptions command olds news sink_failed Memory h = tt
 
   -- a fault of the sources speaks of one of so many files
   pub faults :
-      (interruptions : S → ℕ) (olds news : List S) (sink_failed : Bool) (count : ℕ) (r : Result (Unit {0}) Fault)
-      → length olds ≡ count → IfErr r (IsFaultOf left has_failed interruptions olds news sink_failed) → IfErr r (IsFaultAmong count sink_failed)
-  faults interruptions olds news sink_failed count (Ok u) e h = tt
-  faults interruptions olds news sink_failed count (Err f) e h = subst (λ (n : ℕ). IsFaultAmong n sink_failed f) e (among interruptions olds news sink_failed f h)
+      (interruptions : S → ℕ) (command : Command) (olds news : List S) (sink_failed : Bool) (count : ℕ) (r : Result (Unit {0}) Fault)
+      → length olds ≡ count → IfErr r (IsFaultOf left has_failed interruptions command olds news sink_failed) → IfErr r (IsFaultAmong count sink_failed)
+  faults interruptions command olds news sink_failed count (Ok u) e h = tt
+  faults interruptions command olds news sink_failed count (Err f) e h = subst (λ (n : ℕ). IsFaultAmong n sink_failed f) e (among interruptions command olds news sink_failed f h)

@@ -5,7 +5,7 @@ use Rattle.std.specs.Borrow.{Bor}
 use Rattle.record_file.specs.RecordFile.{outcome}
 use Rattle.sm_cli.specs.FaultText.{fault_text, program_line}
 use Rattle.sm_cli.specs.ExitStatus.{status_of}
-use Rattle.sm_cli.specs.Run.{answer_to, facts_of}
+use Rattle.sm_cli.specs.Run.{IsAnswered, answer_to, facts_of}
 use Rattle.sm_cli.specs.declared.fault.Fault.{Fault}
 use Rattle.sm_cli.specs.declared.fault.Fault.TheVariants.{Open, File, NoRoom, Write, Memory}
 use Rattle.sm_cli.specs.declared.exit_status.ExitStatus.{ExitStatus}
@@ -16,6 +16,7 @@ pub record AnswersFiles (command : Command) (count : ℕ) (written written' : Op
   pub files : List (List ℕ)
   pub one_each : length files ≡ count
   pub accepted : (place : ℕ) (file : List ℕ) → slice_get files place ≡ Some file → outcome file ≡ Ok tt
+  pub can_be : IsAnswered command (facts_of files)
   pub answered : Appends written written' (answer_to command (facts_of files))
 
 -- a fault speaks of one of so many files, or of the output that has failed, or of memory

@@ -33,9 +33,13 @@ words_of fault = fault_words fault ++ number_text (fault_number fault) ++ cause_
 abbrev pub file_fault_text : List ℕ → FileFault → List ℕ
 file_fault_text name fault = if is_of_file fault then named_text name (words_of fault) else words_of fault
 
--- how many end ports have no LID, and how much room there is
+-- how many end ports there are
+abbrev pub count_text : ℕ → List ℕ
+count_text endports = decimal endports ++ codes " end ports"
+
+-- how many end ports there are, and how much room for them
 abbrev pub no_room_text : ℕ → ℕ → List ℕ
-no_room_text endports room = codes "no room: " ++ decimal endports ++ codes " end ports, room " ++ decimal room
+no_room_text endports room = codes "no room: " ++ count_text endports ++ codes ", room " ++ decimal room
 
 -- what is said of a run that ends with the fault, where that is the name of the file that it speaks of
 abbrev pub fault_text : List ℕ → Fault → List ℕ

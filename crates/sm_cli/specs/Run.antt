@@ -19,7 +19,7 @@ use Rattle.lft_blocks.specs.PlanText.{plan_text}
 use Rattle.sm_cli.specs.declared.fault.Fault.{Fault}
 use Rattle.sm_cli.specs.declared.fault.Fault.TheVariants.{Open, File, NoRoom, Write, Memory}
 use Rattle.sm_cli.specs.declared.run.Command.{Command}
-use Rattle.sm_cli.specs.declared.run.Command.TheVariants as command
+use Rattle.sm_cli.specs.declared.run.Command.TheVariants as commands
 use Rattle.sm_cli.specs.FactsText.{facts_text}
 
 -- what all records of all files say together
@@ -28,15 +28,15 @@ facts_of files = view (flat_map kept files)
 
 -- what a command writes of the facts
 abbrev pub answer_to : Command → Facts → List ℕ
-answer_to command.Facts facts = facts_text (entries facts)
-answer_to command.Join facts = store_bytes (entries facts)
-answer_to command.Plan facts = plan_text (plan_of (entries facts))
+answer_to commands.Facts facts = facts_text (entries facts)
+answer_to commands.Join facts = store_bytes (entries facts)
+answer_to commands.Plan facts = plan_text (plan_of (entries facts))
 
 -- what is so of facts that a command answers: they are in range, and a plan has room for their LIDs
 abbrev pub IsAnswered : Command → Facts → Type 0
-IsAnswered command.Facts facts = AreInRange facts
-IsAnswered command.Join facts = AreInRange facts
-IsAnswered command.Plan facts = ¬ (IsNoRoom (entries facts))
+IsAnswered commands.Facts facts = AreInRange facts
+IsAnswered commands.Join facts = AreInRange facts
+IsAnswered commands.Plan facts = ¬ (IsNoRoom (entries facts))
 
 -- there are so many end ports, for which the LIDs below so much room are too few
 pub record LacksRoom (cells : Cells) (endports most : ℕ) : Type 0 where
@@ -48,9 +48,9 @@ pub record LacksRoom (cells : Cells) (endports most : ℕ) : Type 0 where
 abbrev pub IsAnswerFault : Command → Facts → Bool → Fault → Type 0
 IsAnswerFault command facts sink_failed (Open place) = ⊥
 IsAnswerFault command facts sink_failed (File place fault) = ⊥
-IsAnswerFault command facts sink_failed (NoRoom endports most) = (command ≡ command.Plan) × LacksRoom (entries facts) endports most
+IsAnswerFault command facts sink_failed (NoRoom endports most) = (command ≡ commands.Plan) × LacksRoom (entries facts) endports most
 IsAnswerFault command facts sink_failed Write = IsTrue sink_failed
-IsAnswerFault command facts sink_failed Memory = command ≡ command.Plan
+IsAnswerFault command facts sink_failed Memory = command ≡ commands.Plan
 
 -- the source was read to its end: this was its file, which is accepted
 pub record IsReadAs {S : Type 0} (left : S → Option (List ℕ)) (has_failed : S → Bool) (old new : S) (file : List ℕ) : Type 0 where

@@ -1,6 +1,6 @@
 //! What the program says of a fault, one line that begins with its own name.
 ghost use Rattle.record_file.specs.Writes.{Writes};
-ghost use Rattle.sm_cli.specs.FaultText.{name_text, number_text, cause_text, words_of, file_fault_text, no_room_text, fault_text, program_line};
+ghost use Rattle.sm_cli.specs.FaultText.{name_text, number_text, cause_text, words_of, file_fault_text, count_text, no_room_text, fault_text, program_line};
 
 use crate::fault::Fault;
 use fact_store::ReportFault;
@@ -32,14 +32,22 @@ fn write_fault_text<W: Sink>(sink: &mut W, fault: &Fault, name: &[u8]) -> Result
     }
 }
 
-/// Writes how many end ports have no LID, and how much room there is.
+/// Writes how many end ports there are, and how much room for them.
 fn write_no_room<W: Sink>(sink: &mut W, endports: usize, room: u16) -> Result<(), WriteFault>
     ensures writes { Writes W.written W.has_failed result sink.old sink.new (no_room_text endports room) }
 {
     sink.write(b"no room: ")?;
-    write_number(sink, endports as u64)?;
-    sink.write(b" end ports, room ")?;
+    write_count(sink, endports)?;
+    sink.write(b", room ")?;
     write_number(sink, u64::from(room))
+}
+
+/// Writes how many end ports there are.
+fn write_count<W: Sink>(sink: &mut W, endports: usize) -> Result<(), WriteFault>
+    ensures writes { Writes W.written W.has_failed result sink.old sink.new (count_text endports) }
+{
+    write_number(sink, endports as u64)?;
+    sink.write(b" end ports")
 }
 
 fn write_file_fault<W: Sink>(sink: &mut W, fault: &FileFault, name: &[u8]) -> Result<(), WriteFault>

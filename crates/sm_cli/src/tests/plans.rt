@@ -89,7 +89,8 @@ fn block_line(text: &mut Vec<u8>, number: usize, entries: &str) -> Result<(), Al
     for _ in entries.len()..128 {
         text.push(b'f')?;
     }
-    text.push(b'\n')
+    text.push(b'\n')?;
+    Ok(())
 }
 
 /// The text of a plan of one block: each LID with the end port that has it, and each switch with the block's entries.
