@@ -48,7 +48,9 @@ fn join<'a>(alloc: Global) -> Result<Command<'a>, AllocError> {
 
 fn plan<'a>(alloc: Global) -> Result<Command<'a>, AllocError> {
     Command::new(alloc, PLAN)
-        .about("Prints the LIDs and the forwarding blocks that follow from the facts of all the files")
+        .about(
+            "Prints the LIDs and the forwarding blocks that follow from the facts of all the files",
+        )
         .arg(files(alloc))
 }
 

@@ -10,10 +10,15 @@ use thiserror::Error;
 pub enum Fault {
     /// The file cannot be opened.
     #[error("cannot open")]
-    Open { place: usize },
+    Open {
+        place: usize,
+    },
     /// What is wrong with the file, or that memory was refused as it was taken in.
     #[error("{fault}")]
-    File { place: usize, fault: FileFault },
+    File {
+        place: usize,
+        fault: FileFault,
+    },
     /// There are end ports, and no fewer of them than the smallest forwarding table has room for LIDs, 0 among them.
     #[error("no room: {endports} end ports, room {room}")]
     NoRoom {

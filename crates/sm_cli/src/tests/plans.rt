@@ -25,7 +25,12 @@ fn tell_fact(store: &mut Store, generation: u32, key: Key, value: Value) -> Resu
 }
 
 /// One end of a wire is told to the store.
-fn tell_end(store: &mut Store, generation: u32, end: (u64, u8), peer: (u64, u8)) -> Result<(), Fail> {
+fn tell_end(
+    store: &mut Store,
+    generation: u32,
+    end: (u64, u8),
+    peer: (u64, u8),
+) -> Result<(), Fail> {
     let (node, port) = (Guid::new(end.0), PortNum::new(end.1));
     let far = Value::Peer(Guid::new(peer.0), PortNum::new(peer.1));
     tell_fact(store, generation, Key::Link(node, port), far)?;
@@ -41,7 +46,12 @@ fn tell_node(store: &mut Store, generation: u32, guid: u64, room: Option<u16>) -
     };
     tell_fact(store, generation, Key::Node(node), Value::Kind(kind, ports))?;
     let port_guid = Value::Guid(Guid::new(own_guid));
-    tell_fact(store, generation, Key::PortGuid(node, PortNum::new(own)), port_guid)?;
+    tell_fact(
+        store,
+        generation,
+        Key::PortGuid(node, PortNum::new(own)),
+        port_guid,
+    )?;
     match room {
         Some(room) => tell_fact(store, generation, Key::Cap(node), Value::Count(room)),
         None => Ok(()),
@@ -49,7 +59,12 @@ fn tell_node(store: &mut Store, generation: u32, guid: u64, room: Option<u16>) -
 }
 
 /// What is told at generation 1 of these switches, adapters and wires.
-fn subnet(alloc: Global, switches: &[u64], adapters: &[u64], wires: &[Wire]) -> Result<Store, Fail> {
+fn subnet(
+    alloc: Global,
+    switches: &[u64],
+    adapters: &[u64],
+    wires: &[Wire],
+) -> Result<Store, Fail> {
     let mut store = Store::new(alloc);
     for guid in switches {
         tell_node(&mut store, 1, *guid, Some(1024))?;
@@ -83,9 +98,14 @@ fn planned(alloc: Global, store: &Store, room: usize) -> Result<ToRoom, Fail> {
 }
 
 /// The line of a block with these entries, in hex, and no way from there on.
-fn block_line(text: &mut Vec<u8>, number: usize, entries: &str) -> Result<(), AllocError> {
-    text.extend_from_slice(b"block ")?;
-    text.extend_from_slice(format!(in text.allocator(); "{number} {entries}")?.as_bytes())?;
+fn block_line(
+    alloc: Global,
+    text: &mut Vec<u8>,
+    number: usize,
+    entries: &str,
+) -> Result<(), AllocError> {
+    let line = format!(in alloc; "block {number} {entries}")?;
+    text.extend_from_slice(line.as_bytes())?;
     for _ in entries.len()..128 {
         text.push(b'f')?;
     }
@@ -109,7 +129,7 @@ fn plan_text(
     for (guid, entries) in tables {
         let line = format!(in alloc; "switch {guid:016x} top {top}\n")?;
         text.extend_from_slice(line.as_bytes())?;
-        block_line(&mut text, 0, entries)?;
+        block_line(alloc, &mut text, 0, entries)?;
     }
     Ok(text)
 }
@@ -165,7 +185,11 @@ fn news_change_the_plan(rt: HostRuntime) -> Result<(), Fail> {
         tell_end(&mut disputed, 2, (0x10, 1), far)?;
         tell_end(&mut disputed, 2, far, (0x10, 1))?;
     }
-    let tables = [(0x10, "ff0002020202"), (0x20, "ff0200020302"), (0x30, "ff0102000203")];
+    let tables = [
+        (0x10, "ff0002020202"),
+        (0x20, "ff0200020302"),
+        (0x30, "ff0102000203"),
+    ];
     check_plan(&rt, alloc, &disputed, &LIDS, &tables)?;
     tell_end(&mut disputed, 3, (0x10, 1), (0x20, 1))?;
     tell_end(&mut disputed, 3, (0x20, 1), (0x10, 1))?;
@@ -205,7 +229,11 @@ fn claims_and_rooms_count(rt: HostRuntime) -> Result<(), Fail> {
     tell_claim(&mut twice, 0x100, 5)?;
     tell_claim(&mut twice, 0x200, 5)?;
     let lids = [LIDS[0], LIDS[1], LIDS[2], (4, 0x200, 1), (5, 0x100, 1)];
-    let tables = [(0x10, "ff0001020201"), (0x20, "ff0100020203"), (0x30, "ff0102000302")];
+    let tables = [
+        (0x10, "ff0001020201"),
+        (0x20, "ff0100020203"),
+        (0x30, "ff0102000302"),
+    ];
     check_plan(&rt, alloc, &twice, &lids, &tables)?;
     for (rooms, wanted) in [
         ([1024, 5, 1024], "3 ibsm: no room: 5 end ports, room 5\n"),
@@ -231,9 +259,9 @@ fn large_plan(alloc: Global) -> Result<Vec<u8>, AllocError> {
     ] {
         let line = format!(in alloc; "switch {guid:016x} top 49151\n")?;
         text.extend_from_slice(line.as_bytes())?;
-        block_line(&mut text, 0, first)?;
+        block_line(alloc, &mut text, 0, first)?;
         for number in 1..767 {
-            block_line(&mut text, number, "")?;
+            block_line(alloc, &mut text, number, "")?;
         }
         text.extend_from_slice(b"block 767 ")?;
         for _ in 0..126 {
@@ -271,7 +299,13 @@ fn subnets_of_other_forms(rt: HostRuntime) -> Result<(), Fail> {
         (0x40, 3, 0x50, 2),
     ];
     let star = subnet(alloc, &switches, &[], &wires)?;
-    let lids = [(1, 0x10, 0), (2, 0x20, 0), (3, 0x30, 0), (4, 0x40, 0), (5, 0x50, 0)];
+    let lids = [
+        (1, 0x10, 0),
+        (2, 0x20, 0),
+        (3, 0x30, 0),
+        (4, 0x40, 0),
+        (5, 0x50, 0),
+    ];
     let tables = [
         (0x10, "ff0001020304"),
         (0x20, "ff0100020202"),
@@ -290,7 +324,11 @@ fn subnets_of_other_forms(rt: HostRuntime) -> Result<(), Fail> {
         (0x30, 1, 0x100, 1),
     ];
     let parts = subnet(alloc, &[0x10, 0x20, 0x30], &[0x100], &wires)?;
-    let tables = [(0x10, "ff0002ffff"), (0x20, "ff0100ffff"), (0x30, "ffffff0001")];
+    let tables = [
+        (0x10, "ff0002ffff"),
+        (0x20, "ff0100ffff"),
+        (0x30, "ffffff0001"),
+    ];
     check_plan(&rt, alloc, &parts, &LIDS[..4], &tables)?;
     // Two adapters of one GUID.
     let mut twins = subnet(alloc, &[0x10, 0x20, 0x30], &[0x100], &TRIANGLE[..4])?;
