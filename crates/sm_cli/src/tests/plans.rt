@@ -42,7 +42,7 @@ fn tell_node(store: &mut Store, generation: u32, guid: u64, room: Option<u16>) -
     let node = Guid::new(guid);
     let (kind, ports, own, own_guid) = match room {
         Some(_) => (NodeType::Switch, 4, 0, guid),
-        None => (NodeType::ChannelAdapter, 1, 1, guid + 1),
+        None => (NodeType::ChannelAdapter, 1, 1, guid.wrapping_add(1)),
     };
     tell_fact(store, generation, Key::Node(node), Value::Kind(kind, ports))?;
     let port_guid = Value::Guid(Guid::new(own_guid));
