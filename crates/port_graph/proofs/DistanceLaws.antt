@@ -35,6 +35,7 @@ shortest_found next n within m a b h w =
     let short = bounded_walk next n (numbers n) m a b (omega (arith, all_numbers n)) kept in
     has_least_from 0 n (has_walk next a b) short.0 (omega arith) (omega (arith, short.1, all_numbers n)) (test_from_walk next a b short.0 short.2)
 
+-- the law of distances
 pub distances_in_words : DistancesLaw
 distances_in_words exits from distances lead start are a h =
     elim (slice_index_or distances a None) as (λ o. slice_index_or distances a None ≡ o → MatchOption o (HasNoWalk (heads exits) from a) (IsShortest (heads exits) from a)) [

@@ -5,15 +5,15 @@ use Rattle.std.proofs.lemmas.List.{get_or_past}
 use Rattle.std.specs.Cmp.{both_ways}
 use Rattle.std.specs.Prelude.{Option, None, is_some, option_map, Contains, slice_index_or}
 use Rattle.std.specs.List.{filter_map}
-use Rattle.smp_bytes.proofs.Members.{contains_here, contains_later, contains_cases, contains_none}
+use Rattle.smp_bytes.proofs.Members.{contains_none}
 use Rattle.port_graph.specs.declared.exit.Exit.{Exit}
-use Rattle.port_graph.specs.Walks.{has_walk, least_from, shortest, Walk}
+use Rattle.port_graph.specs.Walks.{has_walk, least_from, shortest}
 use Rattle.port_graph.specs.Slopes.{ups_at, downs_at, down_distance, least_of, cost}
 use Rattle.port_graph.specs.Heads.{exits_at, heads, LeadToVertices, AreDistances}
 use Rattle.port_graph.specs.Indexed.{indexed_from, indexed, AreSlopes, AreLess, AreCosts, WaysLaw}
-use Rattle.port_graph.proofs.Lists.{filter_map_same, contains_map}
+use Rattle.port_graph.proofs.Lists.{filter_map_same, contains_map, contains_mapped}
 use Rattle.port_graph.proofs.WalkLemmas.{walk_from_test, test_from_walk, least_found}
-use Rattle.port_graph.proofs.Paths.{walk_push}
+use Rattle.port_graph.proofs.Paths.{walk_turned}
 use Rattle.port_graph.proofs.Searching.{known_below}
 use Rattle.port_graph.proofs.Costs.{cost_recurs, way}
 
@@ -50,21 +50,7 @@ exits_below exits a e h =
       | inr m ↦ absurd (contains_none e (subst (λ (xs : List Exit). Contains xs e) (get_or_past exits a [] m) h))
     ]
 
--- an exit's vertex is one of the heads
-pub head_of : (es : List Exit) (e : Exit) → Contains es e → Contains (map (λ (x : Exit). x.to) es) e.to
-head_of [] e h = absurd (contains_none e h)
-head_of (x ∷ es) e h =
-    elim (contains_cases x e es h) [
-      | inl same ↦ subst (λ (y : Exit). Contains (x.to ∷ map (λ (z : Exit). z.to) es) y.to) same (contains_here x.to (map (λ (z : Exit). z.to) es))
-      | inr k ↦ contains_later x.to e.to (map (λ (z : Exit). z.to) es) (head_of es e k)
-    ]
-
--- walks that are turned round ------------------------------------------------------------
-
-module _ (next back : ℕ → List ℕ) where
-  walk_turned : ((a b : ℕ) → Contains (next a) b → Contains (back b) a) → (n a b : ℕ) → Walk next a b n → Walk back b a n
-  walk_turned both zero a b e = sym e
-  walk_turned both (suc n) a b (c, h, w) = walk_push back n b c a (walk_turned both n c b w) (both a c h)
+-- walks back ----------------------------------------------------------------------------
 
 module _ (next back : ℕ → List ℕ) (there : (a b : ℕ) → Contains (next a) b → Contains (back b) a) (here : (a b : ℕ) → Contains (back a) b → Contains (next b) a) where
   has_walk_turned : (a b n : ℕ) → has_walk next a b n ≡ has_walk back b a n
@@ -79,6 +65,7 @@ module _ (next back : ℕ → List ℕ) (there : (a b : ℕ) → Contains (next 
 -- down distances and costs ----------------------------------------------------------------
 
 module _ (ups downs : List (List Exit)) (are : AreSlopes ups downs) where
+  -- the exits of a vertex, and how many there are
   pub ups_indexed : (a : ℕ) → ups_at (indexed ups downs) a ≡ exits_at ups a
   ups_indexed a = ups_from ups downs 0 a a are.all (omega arith)
 
@@ -94,7 +81,7 @@ module _ (ups downs : List (List Exit)) (are : AreSlopes ups downs) where
 
   pub downs_lead : LeadToVertices downs
   downs_lead a e h =
-      let back = are.back_up a e.to (head_of (exits_at downs a) e h) in
+      let back = are.back_up a e.to (contains_mapped (λ (x : Exit). x.to) (exits_at downs a) e h) in
       let up = contains_map (λ (x : Exit). x.to) (exits_at ups e.to) a back in
       omega (arith, exits_below ups e.to up.0 up.1, are.all)
 
@@ -115,6 +102,7 @@ module _ (ups downs : List (List Exit)) (are : AreSlopes ups downs) where
   bounded s = omega (arith, all_indexed)
 
   module _ (t : ℕ) (distances costs : List (Option ℕ)) (lengths : AreDistances ups t distances) (all : AreCosts ups distances (length ups) costs) where
+    -- the distances are those of the slopes
     pub distance_is : (s : ℕ) → s < length ups → slice_index_or distances s None ≡ down_distance (indexed ups downs) s t
     distance_is s h = lengths.shortest s h ∙ sym (down_is s t)
 

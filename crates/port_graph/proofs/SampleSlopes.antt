@@ -8,8 +8,9 @@ use Rattle.port_graph.specs.declared.exit.Exit.{Exit}
 use Rattle.port_graph.specs.Heads.{exits_at, heads, LeadToVertices}
 use Rattle.port_graph.specs.Indexed.{AreSlopes}
 use Rattle.port_graph.proofs.Counts.{length_map}
+use Rattle.port_graph.proofs.Lists.{contains_mapped}
 use Rattle.port_graph.proofs.WalkLemmas.{list_any_found}
-use Rattle.port_graph.proofs.Indexing.{head_of, ups_lead, downs_lead}
+use Rattle.port_graph.proofs.Indexing.{ups_lead, downs_lead}
 
 -- the vertices to which the exits of each vertex lead
 abbrev pub all_heads : List (List Exit) → List (List ℕ)
@@ -85,7 +86,7 @@ module _ (ups downs : List (List Exit)) (up : all_heads ups ≡ sample_ups) (dow
   sample_slopes =
       record {
         all = sym (length_map (map (λ (e : Exit). e.to)) downs) ∙ ap length down ∙ sym sample_all;
-        rise = λ a e h. omega (arith, risen 0 sample_ups refl a e.to (there e.to (ups_in a) (head_of (exits_at ups a) e h)));
+        rise = λ a e h. omega (arith, risen 0 sample_ups refl a e.to (there e.to (ups_in a) (contains_mapped (λ (x : Exit). x.to) (exits_at ups a) e h)));
         back_up = λ a b h. there a (sym (ups_in b)) (returned 0 sample_downs sample_ups refl a b a (there b (downs_in a) h) (omega arith));
         back_down = λ a b h. there a (sym (downs_in b)) (returned 0 sample_ups sample_downs refl a b a (there b (ups_in a) h) (omega arith));
       }

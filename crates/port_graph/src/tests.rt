@@ -42,15 +42,15 @@ const PORTS: [[u8; 7]; 7] = [
     [0, 0, 0, 0, 0, 0, 0],
 ];
 
-/// The distance down from each vertex to each, and 9 for none.
-const DISTANCES: [[usize; 7]; 7] = [
-    [0, 1, 1, 2, 2, 1, 9],
-    [9, 0, 9, 1, 2, 3, 9],
-    [9, 9, 0, 1, 1, 2, 9],
-    [9, 9, 9, 0, 1, 2, 9],
-    [9, 9, 9, 9, 0, 1, 9],
-    [9, 9, 9, 9, 9, 0, 9],
-    [9, 9, 9, 9, 9, 9, 0],
+/// The distance down from each vertex to each.
+const DISTANCES: [[Option<usize>; 7]; 7] = [
+    [Some(0), Some(1), Some(1), Some(2), Some(2), Some(1), None],
+    [None, Some(0), None, Some(1), Some(2), Some(3), None],
+    [None, None, Some(0), Some(1), Some(1), Some(2), None],
+    [None, None, None, Some(0), Some(1), Some(2), None],
+    [None, None, None, None, Some(0), Some(1), None],
+    [None, None, None, None, None, Some(0), None],
+    [None, None, None, None, None, None, Some(0)],
 ];
 
 /// Vertices with these exits.
@@ -93,22 +93,14 @@ fn are_ports(ports: &[Option<PortNum>], wanted: &[u8]) -> bool {
     numbers.eq(wanted.iter().copied())
 }
 
-/// Whether these are the distances, and 9 for none.
-fn are_distances(distances: &[Option<usize>], wanted: &[usize]) -> bool {
-    let numbers = distances.iter().map(|distance| distance.unwrap_or(9));
-    numbers.eq(wanted.iter().copied())
-}
-
 #[test]
 fn distances_and_next_ports(rt: HostRuntime) -> Result<(), Fail> {
     let (ups, downs) = sample(rt.alloc())?;
     for (vertex, (ports, lengths)) in PORTS.iter().zip(&DISTANCES).enumerate() {
         let next = next_ports(rt.alloc(), &ups, &downs, vertex)?;
         let found = distances(rt.alloc(), &downs, vertex)?;
-        assert!(rt;
-            are_ports(&next, ports) && are_distances(&found, lengths),
-            "{vertex}"
-        );
+        let is_right = are_ports(&next, ports) && found.as_slice() == lengths.as_slice();
+        assert!(rt; is_right, "{vertex}");
     }
     assert!(rt; downs.len() == 7 && downs.at(2).len() == 2 && downs.at(7).is_empty());
     Ok(())

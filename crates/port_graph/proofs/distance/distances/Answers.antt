@@ -1,5 +1,5 @@
 -- Vertex by vertex.
-use Rattle.std.proofs.Common.{◌≡◌, ◌<◌, refl, ap, ◌∙◌, arith, length, replicate, [], ◌∷◌, ◌++◌, add-one}
+use Rattle.std.proofs.Common.{◌≡◌, ◌<◌, List, ℕ, refl, ap, ◌∙◌, arith, length, replicate, [], ◌∷◌, ◌++◌, add-one}
 use Rattle.std.proofs.lemmas.List.{nil_from_length}
 use Rattle.std.specs.Prelude.{Option, None, Some}
 use Rattle.port_graph.specs.declared.exit.Exit.{Exit}
@@ -21,7 +21,7 @@ loop-vertex-init c =
     let n = length c.args.exits.now in
     let none : c.in_ok-distances.distances.items ≡ replicate n None = filled _ c.in_ok-distances.ensures.items_if_clones_equal (λ x k. k) ∙ ap (λ m. replicate m None) c.len.ensures in
     starts (heads c.args.exits.now) c.args.from n c.in_ok-distances.distances.items c.push_back.new.self.items c.requires.vertex none
-    (c.in_ok-push_back.ensures.items ∙ ap (λ q. q ++ (c.args.from, 0) ∷ []) c.in_ok-queue.ensures.items)
+    (◌∙◌ {A = List (ℕ × ℕ)} c.in_ok-push_back.ensures.items (ap (λ q. q ++ (c.args.from, 0) ∷ []) c.in_ok-queue.ensures.items))
 
 pub overflow_add-distance : goal.overflow_add-distance
 overflow_add-distance c =
