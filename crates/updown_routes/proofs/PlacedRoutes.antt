@@ -15,7 +15,7 @@ use Rattle.port_graph.specs.Heads.{exits_at as exits_by_index, heads}
 use Rattle.port_graph.specs.Indexed.{indexed, AreSlopes, AreNextPorts}
 use Rattle.port_graph.proofs.Counts.{length_map}
 use Rattle.port_graph.proofs.Lists.{contains_map, nothing_there}
-use Rattle.port_graph.proofs.Indexing.{exits_below, head_of, all_indexed}
+use Rattle.port_graph.proofs.Indexing.{exits_below, all_indexed}
 use Rattle.port_graph.proofs.Renaming.{next_port_renamed}
 use Rattle.port_graph.proofs.Named.{AreNamed, renamed}
 use Rattle.updown_routes.specs.Crossing.{Crossing}
@@ -96,7 +96,7 @@ module _ (graph : List Crossing) (good : IsGraph graph) (order places : List ℕ
       let up : Contains (ups_at (slopes_of graph) (name b)) y.0 = subst (λ (p : ℕ). Contains (ups_at (slopes_of graph) (name p)) y.0) x.2 u in
       let z = contains_map (by_place graph order) (exits_by_index ups b) y.0 (subst (λ (es : List Exit). Contains es y.0) (by.each b there).up up) in
       let same : z.0.to ≡ a = names_apart z.0.to a (omega (arith, (by.each b there).to_lesser z.0 z.1)) here (ap (λ (e : Exit). e.to) z.2 ∙ y.2) in
-      subst (λ (p : ℕ). Contains (heads ups b) p) same (head_of (exits_by_index ups b) z.0 z.1)
+      subst (λ (p : ℕ). Contains (heads ups b) p) same (has_end (exits_by_index ups b) z.0 z.1)
 
   -- and a wire down as a wire up
   back_down : (a b : ℕ) → Contains (heads ups a) b → Contains (heads downs b) a
@@ -111,7 +111,7 @@ module _ (graph : List Crossing) (good : IsGraph graph) (order places : List ℕ
       let down : Contains (downs_at (slopes_of graph) (name b)) y.0 = subst (λ (p : ℕ). Contains (downs_at (slopes_of graph) (name p)) y.0) x.2 d in
       let z = contains_map (by_place graph order) (exits_by_index downs b) y.0 (subst (λ (es : List Exit). Contains es y.0) (by.each b there).down down) in
       let same : z.0.to ≡ a = names_apart z.0.to a ((by.each b there).to_place z.0 z.1) here (ap (λ (e : Exit). e.to) z.2 ∙ y.2) in
-      subst (λ (p : ℕ). Contains (heads downs b) p) same (head_of (exits_by_index downs b) z.0 z.1)
+      subst (λ (p : ℕ). Contains (heads downs b) p) same (has_end (exits_by_index downs b) z.0 z.1)
 
   pub are_slopes : AreSlopes ups downs
   are_slopes =
