@@ -26,6 +26,7 @@ use Rattle.updown_routes.proofs.Ranks.{lex_total}
 abbrev pub pair_cmp : ℕ × ℕ → ℕ × ℕ → Ordering
 pair_cmp x y = ordering_then (nat_cmp x.0 y.0) (nat_cmp x.1 y.1)
 
+-- the order of pairs is total
 pub pair_total : IsTotalOrder pair_cmp
 pair_total = then_total (on_total (λ (x : ℕ × ℕ). x.0) nat_cmp_total) (on_total (λ (x : ℕ × ℕ). x.1) nat_cmp_total)
 
@@ -45,6 +46,7 @@ module _ (ranks : List (Option ℕ)) where
   abbrev rank : ℕ → ℕ
   rank i = unwrap_or (get_or ranks i None) 0
 
+  -- each index, after its rank
   abbrev pub ranked : List (ℕ × ℕ)
   ranked = map (λ x. (unwrap_or x.1 0, x.0)) (enumerate_from 0 ranks)
 
@@ -138,6 +140,7 @@ module _ (ranks : List (Option ℕ)) where
           rises = goes_on;
         }
 
+  -- what is sorted by rank and index is an order
   pub sorted_is_order : (sorted : List (ℕ × ℕ)) (order : List ℕ) → IsPermutation ranked sorted → IsSorted pair_cmp sorted → order ≡ map (λ x. x.1) sorted → IsOrder ranks order
   sorted_is_order sorted order moved rises e = subst (IsOrder ranks) (sym e) (is_order sorted moved rises)
 
