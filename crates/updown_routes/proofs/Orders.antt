@@ -1,9 +1,9 @@
 -- What is sorted by rank and index is an order of the indices.
-use Rattle.std.proofs.Common.{◌≡◌, ◌≢◌, ◌<◌, ◌≤◌, ◌+◌, ◌⊎◌, ℕ, List, [], ◌∷◌, inl, inr, refl, sym, ap, ap₂, ◌∙◌, subst, arith, Bool, true, false, cond, ◌==◌, map, length, get_or}
+use Rattle.std.proofs.Common.{◌≡◌, ◌≢◌, ◌<◌, ◌+◌, ℕ, List, inl, inr, refl, sym, ap, ap₂, ◌∙◌, subst, arith, true, false, cond, ◌==◌, map, length, get_or}
 use Rattle.std.proofs.lemmas.Bool.{lt-ltb, eq-eqb, ltb-true, eqb-true, false_from_ne_true, true≢false, cases_order}
 use Rattle.std.proofs.lemmas.Bool.Decides.{Decides-eqb}
 use Rattle.std.proofs.lemmas.Cmp.{then_total, on_total, nat_cmp_total}
-use Rattle.std.proofs.lemmas.List.{get_or-map, ext_get_or, get_or_default}
+use Rattle.std.proofs.lemmas.List.{get_or-map, ext_get_or}
 use Rattle.std.proofs.lemmas.List.Elements.{Contains-get_or}
 use Rattle.std.proofs.lemmas.List.FromFn.{length-enumerate_from, get_or-enumerate_from, length-range_with_len, get_or-range_with_len}
 use Rattle.std.proofs.lemmas.List.Sorted.{IsPermutation-map, IsPermutation-sym, Contains-permutation, length_permutation, ranks_by, sorted_far}
@@ -72,8 +72,8 @@ module _ (ranks : List (Option ℕ)) where
       let long = length_map (λ (x : ℕ × ℕ). x.1) ranked in
       ext_get_or 0 (map (λ x. x.1) ranked) (range_with_len 0 (length ranks)) (long ∙ ranked_long ∙ sym (length-range_with_len 0 (length ranks)))
       (λ i h. let l : i < length ranks = omega (arith, ranked_long) in
-        get_or-map (λ (x : ℕ × ℕ). x.1) ranked i (0, 0) 0 (omega arith) ∙ ap (λ (x : ℕ × ℕ). x.1) (ranked_at i (0, 0) l)
-        ∙ sym (get_or-range_with_len 0 (length ranks) i 0 l ∙ omega arith))
+      get_or-map (λ (x : ℕ × ℕ). x.1) ranked i (0, 0) 0 (omega arith) ∙ ap (λ (x : ℕ × ℕ). x.1) (ranked_at i (0, 0) l)
+      ∙ sym (get_or-range_with_len 0 (length ranks) i 0 l ∙ omega arith))
 
   module _ (sorted : List (ℕ × ℕ)) (moved : IsPermutation ranked sorted) (rises : IsSorted pair_cmp sorted) where
     abbrev order : List ℕ

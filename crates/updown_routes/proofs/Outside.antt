@@ -1,7 +1,7 @@
 -- What is no switch of a graph has no rank and no next port.
-use Rattle.std.proofs.Common.{◌≡◌, ℕ, zero, suc, List, [], ◌∷◌, refl, sym, ap, ◌∙◌, subst, Bool, true, false, cond}
+use Rattle.std.proofs.Common.{◌≡◌, ℕ, zero, suc, List, [], ◌∷◌, refl, sym, ap, ◌∙◌, subst, Bool, false, cond}
 use Rattle.std.proofs.lemmas.Bool.{false_from_ne_true}
-use Rattle.std.specs.Prelude.{Option, None, Some, Contains, option_and_then}
+use Rattle.std.specs.Prelude.{None, Some, Contains, option_and_then}
 use Rattle.std.specs.List.{find}
 use Rattle.fact_store.proofs.Members.{contains_here, contains_later}
 use Rattle.port_graph.specs.Walks.{Walk}
@@ -24,5 +24,5 @@ module _ (graph : List Crossing) (good : IsGraph graph) where
   -- what is no switch has no rank
   pub no_rank : (a : ℕ) → (IsSwitch graph a → ⊥) → rank_of graph a ≡ None
   no_rank a none = ap (option_and_then (λ root. distance graph root a)) (none_passes (in_one_component graph a) (guids_of graph) (λ x h.
-    false_from_ne_true (in_one_component graph a x) (λ e. let d = is_some_of (distance graph a x) e in
+      false_from_ne_true (in_one_component graph a x) (λ e. let d = is_some_of (distance graph a x) e in
       none (walk_begins d.0 a x h (walk_of graph good a x d.0 d.1)))))

@@ -7,8 +7,7 @@ use Rattle.std.proofs.lemmas.Option.{slice_get-get_or, slice_get-map}
 use Rattle.std.specs.Prelude.{Option, None, Some, Contains, All, is_some, option_map, option_and_then, filter, slice_get}
 use Rattle.std.specs.List.{find}
 use Rattle.std.specs.Option.{option_flatten}
-use Rattle.std.specs.Slice.Sort.{NamesEachOnce}
-use Rattle.fact_store.proofs.Members.{contains_here, contains_later, contains_none}
+use Rattle.fact_store.proofs.Members.{contains_here, contains_later}
 use Rattle.subnet_view.proofs.Taken.{all_from}
 use Rattle.port_graph.specs.declared.exit.Exit.{Exit}
 use Rattle.port_graph.specs.Slopes.{ups_at, downs_at, down_distance, cost, same_number, port_down, port_up, next_port}
@@ -17,13 +16,13 @@ use Rattle.port_graph.specs.Indexed.{indexed, AreSlopes, AreNextPorts}
 use Rattle.port_graph.proofs.Counts.{length_map}
 use Rattle.port_graph.proofs.Lists.{contains_map, nothing_there}
 use Rattle.port_graph.proofs.Indexing.{exits_below, head_of, all_indexed}
-use Rattle.port_graph.proofs.Renaming.{rename, next_port_renamed}
+use Rattle.port_graph.proofs.Renaming.{next_port_renamed}
 use Rattle.port_graph.proofs.Named.{AreNamed, renamed}
 use Rattle.updown_routes.specs.Crossing.{Crossing}
-use Rattle.updown_routes.specs.Graph.{guids_of, exits_at, neighbors}
+use Rattle.updown_routes.specs.Graph.{guids_of, exits_at}
 use Rattle.updown_routes.specs.GraphLaws.{IsGraph, IsSwitch}
 use Rattle.updown_routes.specs.Ranks.{rank_of, is_before, slope_of, slopes_of, distance, in_one_component}
-use Rattle.updown_routes.specs.Wiring.{switch_at, IsIndexOf}
+use Rattle.updown_routes.specs.Wiring.{IsIndexOf}
 use Rattle.updown_routes.specs.Order.{IsOrder, ArePlaces}
 use Rattle.updown_routes.specs.Placed.{placed, by_place, ArePlaced}
 use Rattle.updown_routes.specs.Ports.{ports_to, ports_of, next_port_at, port_rows}
@@ -68,15 +67,21 @@ module _ (graph : List Crossing) (good : IsGraph graph) (order places : List ℕ
   up_from p e h k = subst (λ (es : List Exit). Contains es (by_place graph order e)) (sym (by.each p h).up) (moved (exits_by_index ups p) e k)
     where
       moved : (es : List Exit) (e : Exit) → Contains es e → Contains (map (by_place graph order) es) (by_place graph order e)
-      moved es e k = (k.0, omega (arith, k.1, length_map (by_place graph order) es),
-        get_or-map (by_place graph order) es k.0 e (by_place graph order e) k.1 ∙ ap (by_place graph order) k.2)
+      moved es e k = (
+        k.0,
+        omega (arith, k.1, length_map (by_place graph order) es),
+        get_or-map (by_place graph order) es k.0 e (by_place graph order e) k.1 ∙ ap (by_place graph order) k.2,
+      )
 
   down_from : (p : ℕ) (e : Exit) → p < length order → Contains (exits_by_index downs p) e → Contains (downs_at (slopes_of graph) (name p)) (by_place graph order e)
   down_from p e h k = subst (λ (es : List Exit). Contains es (by_place graph order e)) (sym (by.each p h).down) (moved (exits_by_index downs p) e k)
     where
       moved : (es : List Exit) (e : Exit) → Contains es e → Contains (map (by_place graph order) es) (by_place graph order e)
-      moved es e k = (k.0, omega (arith, k.1, length_map (by_place graph order) es),
-        get_or-map (by_place graph order) es k.0 e (by_place graph order e) k.1 ∙ ap (by_place graph order) k.2)
+      moved es e k = (
+        k.0,
+        omega (arith, k.1, length_map (by_place graph order) es),
+        get_or-map (by_place graph order) es k.0 e (by_place graph order e) k.1 ∙ ap (by_place graph order) k.2,
+      )
 
   -- a wire up from one place is there as a wire down to it
   back_up : (a b : ℕ) → Contains (heads downs a) b → Contains (heads ups b) a
@@ -141,7 +146,7 @@ module _ (graph : List Crossing) (good : IsGraph graph) (order places : List ℕ
   switches_placed =
       ext_get_or 0 guids (map name places) (sym as_many ∙ sym are.all ∙ sym (length_map name places))
       (λ j h. let b = place_back (map (rank_of graph) guids) order is places are j (omega (arith, length_map (rank_of graph) guids)) in
-        sym (get_or-map name places j 0 0 (omega (arith, are.all, as_many)) ∙ ap (λ k. get_or guids k 0) b.0))
+      sym (get_or-map name places j 0 0 (omega (arith, are.all, as_many)) ∙ ap (λ k. get_or guids k 0) b.0))
 
   port_placed : (s t : ℕ) → Contains places s → Contains places t → next_port (slopes_of graph) (name s) (name t) ≡ next_port (indexed ups downs) s t
   port_placed s t h k =
@@ -226,4 +231,4 @@ module _ (graph : List Crossing) (good : IsGraph graph) where
   -- nor is there a next port to it
   pub no_port_to : (s t : ℕ) → IsSwitch graph s → (IsSwitch graph t → ⊥) → next_port (slopes_of graph) s t ≡ None
   no_port_to s t h none = (no_cost_between graph good s t h (false_from_ne_true (in_one_component graph s t) (λ e.
-    let d = is_some_of (distance graph s t) e in none (walk_ends graph good d.0 s t h (walk_of graph good s t d.0 d.1))))).1
+      let d = is_some_of (distance graph s t) e in none (walk_ends graph good d.0 s t h (walk_of graph good s t d.0 d.1))))).1

@@ -1,10 +1,10 @@
 -- Up is to lesser places, and down to greater.
-use Rattle.std.proofs.Common.{◌≡◌, ◌<◌, ◌≤◌, ◌+◌, ℕ, List, [], ◌∷◌, ◌++◌, inl, inr, refl, sym, ap, ap₂, ◌∙◌, subst, arith, Bool, true, false, cond, ◌==◌, ◌&&◌, ◌||◌, map, length, get_or}
+use Rattle.std.proofs.Common.{◌≡◌, ◌<◌, ◌+◌, ℕ, List, [], ◌∷◌, ◌++◌, inl, inr, refl, sym, ap, ◌∙◌, subst, arith, Bool, true, false, cond, ◌==◌, ◌&&◌, ◌||◌, map, length, get_or}
 use Rattle.std.proofs.lemmas.Bool.{lt-ltb, ltb-true, cases_order, cases_lt}
 use Rattle.std.proofs.lemmas.Grind.{get_or_default_zero}
 use Rattle.std.proofs.lemmas.List.{get_or-map, get_or_push, get_or_append_left, length-append}
 use Rattle.std.proofs.lemmas.List.Kept.{AllPairs-from_increasing}
-use Rattle.std.specs.Prelude.{Option, None, Contains, nat_lt, filter, unwrap_or, slice_index}
+use Rattle.std.specs.Prelude.{Option, None, Contains, nat_lt, filter, unwrap_or}
 use Rattle.std.specs.Cmp.{both_ways}
 use Rattle.fact_store.proofs.Members.{contains_here, contains_later, contains-from_filter}
 use Rattle.port_graph.specs.declared.exit.Exit.{Exit}

@@ -1,8 +1,8 @@
 -- Ranks that are found root by root.
-use Rattle.std.proofs.Common.{◌≡◌, ◌<◌, ◌≤◌, ◌+◌, ℕ, suc, List, [], ◌∷◌, ◌++◌, inl, inr, refl, sym, ap, ◌∙◌, subst, arith, Bool, true, false, cond, map, length, get_or, take, drop}
+use Rattle.std.proofs.Common.{◌≡◌, ◌<◌, ◌≤◌, ◌+◌, ℕ, suc, List, [], ◌∷◌, ◌++◌, inl, inr, refl, sym, ap, ◌∙◌, subst, arith, true, cond, map, length, get_or, take, drop}
 use Rattle.std.proofs.lemmas.Bool.{true≢false}
 use Rattle.std.proofs.lemmas.List.{get_or-map, ext_get_or, take-append-drop, take_all}
-use Rattle.std.proofs.lemmas.List.Elements.{Contains-get_or, Contains-append_left}
+use Rattle.std.proofs.lemmas.List.Elements.{Contains-append_left}
 use Rattle.std.proofs.Math.Seq.{take-suc}
 use Rattle.std.specs.Prelude.{Option, None, Some, Contains, is_some, option_and_then, replicate}
 use Rattle.std.specs.Option.{option_or}
@@ -12,7 +12,7 @@ use Rattle.port_graph.proofs.Counts.{length_map}
 use Rattle.updown_routes.specs.Crossing.{Crossing}
 use Rattle.updown_routes.specs.Graph.{guids_of}
 use Rattle.updown_routes.specs.GraphLaws.{IsGraph, IsSwitch}
-use Rattle.updown_routes.specs.Ranks.{distance, in_one_component, root_of, rank_of}
+use Rattle.updown_routes.specs.Ranks.{distance, in_one_component, rank_of}
 use Rattle.updown_routes.proofs.Components.{find_same, same_tests, component_symm, component_trans}
 
 -- the distance from the first of these that reaches the switch
@@ -100,10 +100,10 @@ module _ (graph : List Crossing) where
       ext_get_or None new (map (λ v. option_or (first roots v) (distance graph root v)) guids)
       (same ∙ long ∙ sym (length_map (λ v. option_or (first roots v) (distance graph root v)) guids))
       (λ k l. let m : k < length guids = omega arith in
-        each k l
-        ∙ ap (λ xs. option_or (get_or xs k None) (get_or found k None)) are ∙ ap (λ o. option_or o (get_or found k None)) (get_or-map (first roots) guids k 0 None m)
-        ∙ ap (λ xs. option_or (first roots (get_or guids k 0)) (get_or xs k None)) is ∙ ap (option_or (first roots (get_or guids k 0))) (get_or-map (distance graph root) guids k 0 None m)
-        ∙ sym (get_or-map (λ v. option_or (first roots v) (distance graph root v)) guids k 0 None m))
+      each k l
+      ∙ ap (λ xs. option_or (get_or xs k None) (get_or found k None)) are ∙ ap (λ o. option_or o (get_or found k None)) (get_or-map (first roots) guids k 0 None m)
+      ∙ ap (λ xs. option_or (first roots (get_or guids k 0)) (get_or xs k None)) is ∙ ap (option_or (first roots (get_or guids k 0))) (get_or-map (distance graph root) guids k 0 None m)
+      ∙ sym (get_or-map (λ v. option_or (first roots v) (distance graph root v)) guids k 0 None m))
       ∙ map_same (λ v. option_or (first roots v) (distance graph root v)) (first (take (n + 1) guids)) guids
       (λ v k. sym (ap (λ rs. first rs v) (one_more_root n h) ∙ first_more roots root v))
 
@@ -142,6 +142,6 @@ module _ (graph : List Crossing) (good : IsGraph graph) where
       let guids = guids_of graph in
       are ∙ ap (λ roots. map (first_distance graph roots) guids) (take_all n guids h)
       ∙ map_same (first_distance graph guids) (rank_of graph) guids (λ v k.
-        first_is_found graph guids v ∙ ap (option_and_then (λ root. distance graph root v))
-        (find_same (λ root. in_one_component graph root v) (in_one_component graph v) guids
-        (λ x l. same_tests (in_one_component graph x v) (in_one_component graph v x) (component_symm graph good x v k) (component_symm graph good v x l))))
+      first_is_found graph guids v ∙ ap (option_and_then (λ root. distance graph root v))
+      (find_same (λ root. in_one_component graph root v) (in_one_component graph v) guids
+      (λ x l. same_tests (in_one_component graph x v) (in_one_component graph v x) (component_symm graph good x v k) (component_symm graph good v x l))))

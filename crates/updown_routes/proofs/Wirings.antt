@@ -1,10 +1,10 @@
 -- The graph of switches by index, and its distances.
-use Rattle.std.proofs.Common.{◌≡◌, ◌<◌, ℕ, zero, suc, List, [], ◌∷◌, inl, inr, refl, sym, ap, ap₂, ◌∙◌, subst, arith, Bool, true, false, cond, ◌==◌, map, length, get_or}
+use Rattle.std.proofs.Common.{◌≡◌, ◌<◌, ℕ, zero, suc, List, [], ◌∷◌, inl, inr, refl, sym, ap, ◌∙◌, subst, arith, false, cond, ◌==◌, map, length, get_or}
 use Rattle.std.proofs.lemmas.Bool.{eq-eqb, false_from_ne_true, eqb-true, cases_order}
 use Rattle.std.proofs.lemmas.List.{get_or-map, ext_get_or}
 use Rattle.std.proofs.lemmas.List.Elements.{Contains-get_or}
 use Rattle.std.proofs.lemmas.List.Kept.{AllPairs-from_increasing}
-use Rattle.std.specs.Prelude.{Option, None, Contains, slice_index}
+use Rattle.std.specs.Prelude.{Option, None, slice_index}
 use Rattle.std.specs.List.Sorted.{IsStrictlyIncreasing}
 use Rattle.subnet_view.specs.Reading.{Cells, switches}
 use Rattle.port_graph.specs.declared.exit.Exit.{Exit}

@@ -1,10 +1,11 @@
 -- The next ports between the switches of a graph, by rising GUID.
-use Rattle.std.specs.Prelude.{ℕ, List, map, Option, option_and_then, slice_get}
+use Rattle.std.specs.Prelude.{◌≡◌, ℕ, List, map, Option, option_and_then, slice_get}
 use Rattle.port_graph.specs.declared.exit.Exit.{Exit}
 use Rattle.port_graph.specs.Indexed.{indexed}
 use Rattle.port_graph.specs.Slopes.{next_port}
 use Rattle.updown_routes.specs.Crossing.{Crossing}
 use Rattle.updown_routes.specs.Graph.{guids_of}
+use Rattle.updown_routes.specs.GraphLaws.{IsGraph}
 use Rattle.updown_routes.specs.Ranks.{slopes_of}
 
 -- the next port of each switch to a target
@@ -22,3 +23,8 @@ next_port_at graph i j = option_and_then (λ t. option_and_then (λ s. next_port
 -- the next ports between the vertices at these places
 abbrev pub port_rows : List (List Exit) → List (List Exit) → List ℕ → List (List (Option ℕ))
 port_rows ups downs places = map (λ t. map (λ s. next_port (indexed ups downs) s t) places) places
+
+-- a graph, and for each target the next ports of its switches
+pub record IsRouted (graph : List Crossing) (towards : List (List (Option ℕ))) : Type 0 where
+  pub is_graph : IsGraph graph
+  pub are_ports : towards ≡ ports_of graph

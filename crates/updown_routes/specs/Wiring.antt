@@ -5,6 +5,7 @@ use Rattle.port_graph.specs.Heads.{LeadToVertices}
 use Rattle.updown_routes.specs.Crossing.{Crossing}
 use Rattle.updown_routes.specs.Graph.{guids_of}
 use Rattle.updown_routes.specs.GraphLaws.{IsGraph}
+use Rattle.updown_routes.specs.Ranks.{rank_of}
 
 -- each exit leads to a lesser number
 abbrev pub LeadBelow : ℕ → List Exit → Type 0
@@ -41,3 +42,8 @@ pub record IsWiring (guids : List ℕ) (exits : List (List Exit)) : Type 0 where
   pub as_many : length exits ≡ length guids
   pub to_switches : LeadToVertices exits
   pub is_graph : IsGraph (named guids exits)
+
+-- a graph, and the ranks of its switches
+pub record IsRanked (graph : List Crossing) (ranks : List (Option ℕ)) : Type 0 where
+  pub is_graph : IsGraph graph
+  pub are_ranks : ranks ≡ map (rank_of graph) (guids_of graph)

@@ -22,16 +22,15 @@ pub struct Graph {
 }
 
 impl Model for Graph {
-    ghost use Rattle.std.specs.Prelude.{◌≡◌, List, map};
+    ghost use Rattle.std.specs.Prelude.{List};
     ghost use Rattle.updown_routes.specs.Crossing.{Crossing};
-    ghost use Rattle.updown_routes.specs.Graph.{guids_of};
-    ghost use Rattle.updown_routes.specs.Ranks.{rank_of};
+    ghost use Rattle.updown_routes.specs.Wiring.{IsRanked};
 
     ghost Value = { List Crossing };
 
     ghost view = { λ a. a.wiring };
 
-    ghost invariant = { λ a. a.ranks.items ≡ map (rank_of a.wiring) (guids_of a.wiring) };
+    ghost invariant = { λ a. IsRanked a.wiring a.ranks.items };
 }
 
 impl Graph {
@@ -62,8 +61,7 @@ impl Graph {
 
     /// The index of a switch. Takes a search.
     pub fn index_of(&self, switch: Guid) -> Option<usize>
-        ensures found { IsIndexIn (guids_of self.now) switch result }
-        ensures is_graph { IsGraph self.now }
+        ensures { IsIndexIn (guids_of self.now) switch result }
     {
         self.wiring.index_of(switch)
     }
@@ -81,7 +79,6 @@ impl Graph {
         ensures ranks { result.now ≡ map (rank_of self.now) (guids_of self.now) }
         ensures is_graph { IsGraph self.now }
     {
-        let _ = self.wiring.len();
         &self.ranks
     }
 

@@ -11,3 +11,6 @@ mod wiring;
 
 pub use graph::Graph;
 pub use routes::Routes;
+
+#[cfg(test)]
+mod tests;

@@ -21,15 +21,15 @@ pub struct Routes<'g> {
 }
 
 impl<'g> Model for Routes<'g> {
-    ghost use Rattle.std.specs.Prelude.{◌≡◌, List, map};
+    ghost use Rattle.std.specs.Prelude.{List, map};
     ghost use Rattle.updown_routes.specs.Crossing.{Crossing};
-    ghost use Rattle.updown_routes.specs.Ports.{ports_of};
+    ghost use Rattle.updown_routes.specs.Ports.{IsRouted};
 
     ghost Value = { List Crossing };
 
     ghost view = { λ a. a.graph.now };
 
-    ghost invariant = { λ a. map (λ ports. ports.items) a.towards.items ≡ ports_of a.graph.now };
+    ghost invariant = { λ a. IsRouted a.graph.now (map (λ ports. ports.items) a.towards.items) };
 }
 
 impl<'g> Routes<'g> {

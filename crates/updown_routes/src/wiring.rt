@@ -63,8 +63,7 @@ impl Wiring {
 
     /// The index of a switch. Takes a search.
     pub(crate) fn index_of(&self, switch: Guid) -> Option<usize>
-        ensures found { IsIndexIn (guids_of self.now) switch result }
-        ensures is_graph { IsGraph self.now }
+        ensures { IsIndexIn (guids_of self.now) switch result }
     {
         index_of(&self.guids, switch)
     }
@@ -74,7 +73,6 @@ impl Wiring {
         requires { index < length self.now }
         ensures exits { map (by_guid (guids_of self.now)) result.now ≡ exits_at self.now (switch_at self.now index) }
         ensures to_switches { LeadBelow (length self.now) result.now }
-        ensures is_graph { IsGraph self.now }
     {
         self.exits.at(index)
     }

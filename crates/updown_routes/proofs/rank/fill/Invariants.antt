@@ -6,4 +6,4 @@ use Rattle.updown_routes.proofs.rank.fill.Given as goal
 -- what was written, and what is as it was
 abbrev pub invariant-loop-i : goal.invariant-loop-i
 invariant-loop-i l = ((k : ℕ) → k < l.i → get_or l.ranks k None ≡ option_or (get_or l.fn.ranks k None) (get_or l.distances k None))
-  × ((k : ℕ) → l.i ≤ k → get_or l.ranks k None ≡ get_or l.fn.ranks k None)
+    × ((k : ℕ) → l.i ≤ k → get_or l.ranks k None ≡ get_or l.fn.ranks k None)

@@ -1,5 +1,5 @@
 -- Root by root.
-use Rattle.std.proofs.Common.{◌≡◌, ◌+◌, ℕ, List, sym, ap, ap₂, ◌∙◌, subst, arith, length, replicate, refl, ◌<◌, get_or, take, true}
+use Rattle.std.proofs.Common.{◌≡◌, ◌+◌, ℕ, List, sym, ap, ap₂, ◌∙◌, arith, length, replicate, refl, ◌<◌, get_or, take, true}
 use Rattle.std.proofs.lemmas.List.{with_items_is, get_or_default}
 use Rattle.std.specs.Prelude.{Option, None, Some, is_some}
 use Rattle.std.specs.Option.{option_or}

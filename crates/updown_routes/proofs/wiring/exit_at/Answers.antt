@@ -3,10 +3,8 @@ use Rattle.std.proofs.Common.{◌≡◌, sym, ap, ◌∙◌, subst, List, ℕ}
 use Rattle.std.specs.Prelude.{Contains, Option, Some, option_map}
 use Rattle.std.specs.FinMap.{entries}
 use Rattle.std.specs.List.Sorted.{IsStrictlyIncreasing}
-use Rattle.subnet_view.specs.Reading.{switches}
 use Rattle.subnet_view.specs.Wires.{across}
 use Rattle.port_graph.specs.declared.exit.Exit.{Exit}
-use Rattle.updown_routes.specs.Graph.{exit_at}
 use Rattle.updown_routes.specs.Wiring.{by_guid, IsIndexOf}
 use Rattle.updown_routes.proofs.Switches.{switches_increase}
 use Rattle.updown_routes.proofs.SwitchSearch.{no_exit, exit_to_index}

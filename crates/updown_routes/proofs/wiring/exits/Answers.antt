@@ -1,9 +1,9 @@
 -- Switch by switch.
-use Rattle.std.proofs.Common.{◌≡◌, ◌+◌, sym, ap, ◌∙◌, subst, List, ℕ, length, map, ◌++◌, ◌∷◌, []}
+use Rattle.std.proofs.Common.{◌+◌, sym, ap, ◌∙◌, subst, List, ℕ, length, map, ◌++◌, ◌∷◌, []}
 use Rattle.std.specs.FinMap.{entries}
 use Rattle.port_graph.specs.declared.exit.Exit.{Exit}
 use Rattle.updown_routes.specs.Graph.{exits_of}
-use Rattle.updown_routes.specs.Wiring.{by_guid, LeadBelow}
+use Rattle.updown_routes.specs.Wiring.{by_guid}
 use Rattle.updown_routes.proofs.ExitLists.{AllLeadBelow, AreRows, one_row, no_more_rows, all_lead_more, lead_to_rows, same_length}
 use Rattle.updown_routes.proofs.wiring.exits.Goals as goal
 

@@ -1,6 +1,6 @@
 -- Port by port.
-use Rattle.std.proofs.Common.{◌≡◌, ◌+◌, sym, ap, ◌∙◌, subst, List, ℕ, length, map}
-use Rattle.std.specs.Prelude.{Option, None, Some, option_map}
+use Rattle.std.proofs.Common.{◌≡◌, ◌+◌, sym, ap, ◌∙◌, subst, List, ℕ, length}
+use Rattle.std.specs.Prelude.{Option, Some, option_map}
 use Rattle.std.specs.FinMap.{entries}
 use Rattle.port_graph.specs.declared.exit.Exit.{Exit}
 use Rattle.updown_routes.specs.Graph.{exit_at, exits_of}

@@ -1,5 +1,5 @@
 -- A port of the table.
-use Rattle.std.proofs.Common.{◌≡◌, sym, ap, ◌∙◌, List, ℕ, map, Vec, Global}
+use Rattle.std.proofs.Common.{◌≡◌, sym, ap, ◌∙◌, List, ℕ, Vec, Global}
 use Rattle.std.proofs.lemmas.Option.{slice_get-map}
 use Rattle.std.specs.Prelude.{Option, Some, option_map, option_and_then, slice_get}
 use Rattle.std.specs.Option.{option_copied, option_flatten}
@@ -19,7 +19,7 @@ returns c =
     sym (ap (λ xs. slice_get xs c.args.target) c.deref.ensures.value) ∙ sym (copied_item c.deref.result.now c.args.target c.get.result c.get.ensures.lookup)
     ∙ ap option_copied c.in_ok-ports.was in
     let row : slice_get (ports_of graph) c.args.target ≡ Some ports.items =
-    sym (ap (λ xs. slice_get xs c.args.target) c.self.invariant) ∙ slice_get-map items towards c.args.target ∙ ap (option_map items) there in
+    sym (ap (λ xs. slice_get xs c.args.target) c.self.invariant.are_ports) ∙ slice_get-map items towards c.args.target ∙ ap (option_map items) there in
     let port : c.flatten.result ≡ option_flatten (slice_get ports.items c.args.switch) =
     c.flatten.ensures ∙ ap option_flatten (c.copied.ensures ∙ copied_item c.deref-2.result.now c.args.switch c.get-2.result c.get-2.ensures.lookup
     ∙ ap (λ xs. slice_get xs c.args.switch) c.deref-2.ensures.value) in

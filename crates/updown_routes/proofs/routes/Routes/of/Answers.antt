@@ -1,8 +1,7 @@
 -- The table of next ports is that of the graph.
-use Rattle.std.proofs.Common.{◌≡◌, ◌<◌, sym, ap, ◌∙◌, subst, List, ℕ, map, length}
+use Rattle.std.proofs.Common.{◌<◌, sym, ap, ◌∙◌, subst, List, ℕ, map, length}
 use Rattle.std.specs.Prelude.{All, Option}
 use Rattle.std.specs.Slice.Sort.{NamesEachOnce}
-use Rattle.port_graph.specs.declared.exit.Exit.{Exit}
 use Rattle.updown_routes.specs.Graph.{guids_of}
 use Rattle.updown_routes.specs.Order.{IsOrder, ArePlaces}
 use Rattle.updown_routes.specs.Placed.{ArePlaced}
@@ -52,4 +51,8 @@ invariant_of-result c =
     let is = subst (λ (ranks : List (Option ℕ)). IsOrder ranks order) c.ranks.ensures.ranks c.in_ok-order.ensures in
     let are = subst (λ (xs : List ℕ). ArePlaces xs places) c.deref.ensures.value c.in_ok-places.ensures in
     let by = subst (λ (xs : List ℕ). ArePlaced graph xs ups downs) c.deref-2.ensures.value c.in_ok-slopes.ensures in
-    c.in_ok-towards.ensures ∙ ap (port_rows ups downs) c.deref-4.ensures.value ∙ rows_are graph c.ranks.ensures.is_graph order places is are ups downs by
+    record {
+      is_graph = c.ranks.ensures.is_graph;
+      are_ports = c.in_ok-towards.ensures ∙ ap (port_rows ups downs) c.deref-4.ensures.value
+          ∙ rows_are graph c.ranks.ensures.is_graph order places is are ups downs by;
+    }

@@ -1,13 +1,11 @@
 -- Place by place.
-use Rattle.std.proofs.Common.{◌≡◌, ◌<◌, ◌+◌, ◌++◌, ◌∷◌, [], ℕ, List, sym, ap, ◌∙◌, subst, arith, map, length}
-use Rattle.std.specs.Prelude.{All}
+use Rattle.std.proofs.Common.{◌≡◌, ◌<◌, ◌+◌, ◌++◌, ◌∷◌, [], List, sym, ap, ◌∙◌, subst, arith, map, length}
 use Rattle.port_graph.specs.declared.exit.Exit.{Exit}
 use Rattle.port_graph.proofs.Counts.{length_map}
 use Rattle.subnet_view.proofs.Taken.{all_from}
 use Rattle.updown_routes.specs.Crossing.{Crossing}
-use Rattle.updown_routes.specs.Graph.{guids_of, exits_at}
+use Rattle.updown_routes.specs.Graph.{guids_of}
 use Rattle.updown_routes.specs.Ranks.{rank_of}
-use Rattle.updown_routes.specs.Wiring.{by_guid, switch_at}
 use Rattle.updown_routes.specs.Placed.{at_place, ups_from, downs_from}
 use Rattle.updown_routes.proofs.Placing.{ArePlacedTo, row_placed, one_more_placed}
 use Rattle.updown_routes.proofs.slope.Slopes.of.Goals as goal

@@ -3,7 +3,7 @@ use Rattle.std.proofs.Common.{sym, ap, subst, ◌∙◌, List, length, map}
 use Rattle.port_graph.specs.declared.exit.Exit.{Exit}
 use Rattle.updown_routes.specs.Graph.{guids_of}
 use Rattle.updown_routes.specs.Wiring.{by_guid, LeadBelow}
-use Rattle.updown_routes.proofs.Wirings.{exits_of_switch, exits_to_switches, good}
+use Rattle.updown_routes.proofs.Wirings.{exits_of_switch, exits_to_switches}
 use Rattle.updown_routes.proofs.wiring.Wiring.exits.Goals as goal
 
 pub returns-clause-exits : goal.returns-clause-exits
@@ -15,6 +15,3 @@ pub returns-clause-to_switches : goal.returns-clause-to_switches
 returns-clause-to_switches c =
     subst (λ (es : List Exit). LeadBelow (length c.args.self.now) es) (sym c.at.ensures)
     (exits_to_switches c.self.inside.guids.items c.self.inside.exits c.self.invariant c.args.self.now c.self.view_is c.args.index)
-
-pub returns-clause-is_graph : goal.returns-clause-is_graph
-returns-clause-is_graph c = good c.self.inside.guids.items c.self.inside.exits c.self.invariant c.args.self.now c.self.view_is

@@ -2,17 +2,14 @@
 use Rattle.std.proofs.Common.{sym, subst, ◌∙◌, List, ℕ}
 use Rattle.std.specs.List.Sorted.{IsStrictlyIncreasing}
 use Rattle.updown_routes.specs.Wiring.{IsIndexIn}
-use Rattle.updown_routes.proofs.Wirings.{guids_are, good, rise}
+use Rattle.updown_routes.proofs.Wirings.{guids_are, rise}
 use Rattle.updown_routes.proofs.wiring.Wiring.index_of.Goals as goal
 
 pub index_of-requires : goal.index_of-requires
 index_of-requires c = subst IsStrictlyIncreasing (sym c.deref.ensures.value)
     (rise c.self.inside.guids.items c.self.inside.exits c.self.invariant c.args.self.now c.self.view_is)
 
-pub returns-clause-is_graph : goal.returns-clause-is_graph
-returns-clause-is_graph c = good c.self.inside.guids.items c.self.inside.exits c.self.invariant c.args.self.now c.self.view_is
-
-pub returns-clause-found : goal.returns-clause-found
-returns-clause-found c =
+pub returns : goal.returns
+returns c =
     let are = guids_are c.self.inside.guids.items c.self.inside.exits c.self.invariant c.args.self.now c.self.view_is in
     subst (λ (gs : List ℕ). IsIndexIn gs c.args.switch c.index_of.result) (c.deref.ensures.value ∙ sym are) c.index_of.ensures

@@ -1,5 +1,5 @@
 -- There are as many switches as GUIDs, and together they are a graph.
-use Rattle.std.proofs.Common.{sym, ◌∙◌, arith}
+use Rattle.std.proofs.Common.{arith}
 use Rattle.updown_routes.proofs.Wirings.{length_is, good}
 use Rattle.updown_routes.proofs.wiring.Wiring.len.Goals as goal
 

@@ -1,9 +1,9 @@
 -- What the facts give is a graph.
-use Rattle.std.proofs.Common.{◌≡◌, sym, ap, subst, ◌∙◌, List, ℕ, length, map}
+use Rattle.std.proofs.Common.{◌≡◌, sym, subst, List, ℕ, map}
 use Rattle.std.specs.FinMap.{entries}
-use Rattle.updown_routes.specs.Graph.{exits_of, graph_of}
+use Rattle.updown_routes.specs.Graph.{exits_of}
 use Rattle.updown_routes.specs.GraphLaws.{IsGraph}
-use Rattle.updown_routes.specs.Wiring.{by_guid, named}
+use Rattle.updown_routes.specs.Wiring.{by_guid}
 use Rattle.updown_routes.proofs.ExitLists.{same_length}
 use Rattle.updown_routes.proofs.Graphs.{graph_law}
 use Rattle.updown_routes.proofs.Wirings.{named_is_graph}
