@@ -2,7 +2,6 @@ pub mod Stability
 pub mod BlockLaws
 pub mod HomeSwitches
 pub mod PlacedHomes
-pub mod Walks
 pub mod TableLookups
 pub mod HomeTables
 pub mod Enumerated

@@ -33,8 +33,8 @@ abbrev pub block_at : PlanValue → ℕ → ℕ → Option (List ℕ)
 block_at plan guid b = option_and_then (λ table. slice_get table.blocks b) (find (λ table. table.guid == guid) plan.tables)
 
 -- the usable switches
-abbrev pub guids_of : PlanValue → List ℕ
-guids_of plan = map (λ table. table.guid) plan.tables
+abbrev pub switches_of : PlanValue → List ℕ
+switches_of plan = map (λ table. table.guid) plan.tables
 
 -- the switches are those of the tables, by rising GUID
 pub record AreTables (guids : List ℕ) (tables : List SwitchTable) : Type 0 where

@@ -2,9 +2,10 @@
 use Rattle.std.specs.Prelude.{◌≡◌, ◌<◌, ℕ, ◌+◌, ◌*◌, List, Option, MatchOption, Some, slice_get}
 use Rattle.std.specs.FinMap.{entries}
 use Rattle.fact_store.specs.View.{Facts}
+use Rattle.subnet_view.specs.declared.end_port.EndPort.{EndPort}
 use Rattle.subnet_view.specs.Reading.{Cells, IsUsable}
-use Rattle.lid_assign.specs.Lids.{IsNoRoom, lids, top_of}
-use Rattle.lid_assign.specs.Stability.{IsClaimed}
+use Rattle.lid_assign.specs.Lids.{IsNoRoom, lids, lid_of, top_of}
+use Rattle.lid_assign.specs.Stability.{IsClaimed, GrowsFrom}
 use Rattle.port_graph.specs.Slopes.{Slope}
 use Rattle.updown_routes.specs.Graph.{graph_of}
 use Rattle.updown_routes.specs.Ranks.{slopes_of}
@@ -14,6 +15,11 @@ use Rattle.lft_blocks.specs.Plan.{plan_of, block_at}
 -- once the LIDs of a view are claimed, its plan stays
 abbrev pub PlansStay : Type 0
 PlansStay = (x y : Facts) → ¬ (IsNoRoom (entries x)) → IsClaimed x y → ¬ (IsNoRoom (entries y)) × (plan_of (entries y) ≡ plan_of (entries x))
+
+-- LIDs that are claimed stay in plans, whatever end ports come
+abbrev pub LidsStayInPlans : Type 0
+LidsStayInPlans = (x z : Facts) → ¬ (IsNoRoom (entries x)) → ¬ (IsNoRoom (entries z)) → GrowsFrom (entries x) (entries z)
+    → (e : EndPort) (lid : ℕ) → lid_of (plan_of (entries x)).given e ≡ Some lid → lid_of (plan_of (entries z)).given e ≡ Some lid
 
 -- block b has the entry for the LID 64 b + i at the place i
 abbrev pub BlocksHoldEntries : Type 0

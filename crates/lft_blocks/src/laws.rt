@@ -1,10 +1,16 @@
 //! The laws of plans.
-ghost use Rattle.lft_blocks.specs.PlanLaws.{PlansStay, BlocksHoldEntries, BlocksAreOfSwitches};
+ghost use Rattle.lft_blocks.specs.PlanLaws.{PlansStay, LidsStayInPlans, BlocksHoldEntries, BlocksAreOfSwitches};
 
 /// Where the facts differ from those of a view with room in claims alone, and each end port claims the LID
 /// that it has, the plan is the same.
 pub fn plans_stay()
     ensures { PlansStay }
+{}
+
+/// End ports that claim the LIDs that they have in one plan have them in the plan of each view with room
+/// where the other end ports claim nothing or 0, and whose tables have room for the greatest of these LIDs.
+pub fn lids_stay_in_plans()
+    ensures { LidsStayInPlans }
 {}
 
 /// Block `b` of a switch has at place `i` the entry for the LID `64 * b + i`.

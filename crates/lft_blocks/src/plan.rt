@@ -7,7 +7,7 @@ ghost use Rattle.subnet_view.specs.Reading.{switches};
 ghost use Rattle.updown_routes.specs.Graph.{graph_of};
 ghost use Rattle.updown_routes.specs.Ranks.{slopes_of};
 ghost use Rattle.lft_blocks.specs.Entries.{home_of_lid, block_count};
-ghost use Rattle.lft_blocks.specs.Plan.{tables_of, plan_of, block_at, guids_of};
+ghost use Rattle.lft_blocks.specs.Plan.{tables_of, plan_of, block_at, switches_of};
 
 use crate::block::block_count;
 use crate::home::{homes, index_of};
@@ -41,8 +41,9 @@ impl Model for Plan {
 }
 
 impl Plan {
-    /// The plan of a view. Refused where there is no room for the LIDs. Memory is taken for it, and for the
-    /// routes: some bytes for each two switches, and 64 for each block of each switch.
+    /// The plan of a view. It is refused where there is no room for the LIDs. Takes what LIDs and routes take,
+    /// some twelve searches for each LID, and two steps for each entry. It holds 64 bytes for each block of
+    /// each switch, and beside them while it is made 2 for each two switches.
     pub fn of(alloc: Global, store: &Store) -> Result<Self, PlanFault>
         ensures judged { JudgesRoom result (entries store.now) }
         ensures plan { IfOk result (λ plan. plan ≡ plan_of (entries store.now)) }
@@ -75,14 +76,15 @@ impl Plan {
 
     /// The usable switches, by rising GUID.
     pub fn switches(&self) -> &[Guid]
-        ensures { result.now ≡ guids_of self.now }
+        ensures { result.now ≡ switches_of self.now }
     {
         &self.switches
     }
 
-    /// A block of a switch: place `i` of block `b` is the port by which packets for the LID `64 * b + i`
-    /// leave, 0 where the switch has that LID itself, and 255 where no way leads to it. None exactly
-    /// where the GUID is no usable switch's or its table has no such block. Takes a search.
+    /// A block of a switch. Place `i` of block `b` has the port by which packets for the LID `64 * b + i`
+    /// leave: 0 where the switch has that LID itself, and 255 where nobody has it or no way leads there.
+    /// None exactly where the GUID is no usable switch's, or the block comes after that of the greatest LID.
+    /// Takes a search.
     pub fn block(&self, guid: Guid, b: usize) -> Option<&[u8; 64]>
         ensures { option_copied result ≡ block_at self.now guid b }
     {

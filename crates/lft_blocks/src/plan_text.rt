@@ -5,7 +5,8 @@ ghost use Rattle.std.specs.List.{flat_map};
 ghost use Rattle.hex.specs.Hex.{encode_lower};
 ghost use Rattle.record_file.specs.Writes.{Writes};
 ghost use Rattle.lft_blocks.specs.WritesPart.{WritesPart};
-ghost use Rattle.lft_blocks.specs.PlanText.{lid_line, owner_line, lids_text, switch_line, block_line, blocks_text, table_text, tables_text, plan_text};
+ghost use Rattle.lft_blocks.specs.PlanText.{lid_line, owner_line, lids_text, switch_line};
+ghost use Rattle.lft_blocks.specs.PlanText.{block_line, blocks_text, table_text, tables_text, plan_text};
 
 use crate::plan::Plan;
 use crate::table::Table;

@@ -1,4 +1,4 @@
-//! The plan of the sample fabric, of it with other claims and less room, and of nothing.
+//! The plan of the sample fabric, of it with another claim or less room, and of nothing.
 use super::*;
 use fact_store::sample_fabric::reports;
 use fact_store::{Cell, Key, Sighting, Store, Value};
@@ -8,29 +8,36 @@ use smp_bytes::{Generation, Guid, Lid, PortNum};
 use std::alloc::{AllocError, Global};
 use std::test::Fail;
 
-/// The sample fabric's store, and what is told of it at generation 2.
-fn told(alloc: Global, news: &[(Key, Value)]) -> Result<Store, Fail> {
+/// The sample fabric's store.
+fn swept(alloc: Global) -> Result<Store, Fail> {
     let mut store = Store::new(alloc);
     for report in &reports(alloc)? {
         store.ingest(report)?;
     }
-    let generation = Generation::new(2).ok_or("0")?;
-    for (key, value) in news {
-        let sighting = Sighting::new(*key, Cell::Known(generation, *value)).ok_or("no sighting")?;
-        store.add(sighting)?;
-    }
     Ok(store)
 }
 
-/// The second adapter claims this LID.
-fn claim(lid: u16) -> (Key, Value) {
-    let key = Key::Claim(Guid::new(0x200), PortNum::new(1));
-    (key, Value::Lid(Lid::new(lid)))
+/// Tells it more at generation 2.
+fn tell(store: &mut Store, key: Key, value: Value) -> Result<(), Fail> {
+    let generation = Generation::new(2).ok_or("0")?;
+    let sighting = Sighting::new(key, Cell::Known(generation, value)).ok_or("no sighting")?;
+    store.add(sighting)?;
+    Ok(())
 }
 
-/// The second switch has room for so many LIDs.
-fn cap(room: u16) -> (Key, Value) {
-    (Key::Cap(Guid::new(0x20)), Value::Count(room))
+/// The plan of the sample fabric, whose second adapter claims this LID.
+fn plan_claiming(alloc: Global, lid: u16) -> Result<Plan, Fail> {
+    let mut store = swept(alloc)?;
+    let key = Key::Claim(Guid::new(0x200), PortNum::new(1));
+    tell(&mut store, key, Value::Lid(Lid::new(lid)))?;
+    Ok(Plan::of(alloc, &store)?)
+}
+
+/// Why there is no plan of the sample fabric, whose second switch has room for so many LIDs.
+fn fault_of(alloc: Global, room: u16) -> Result<Option<PlanFault>, Fail> {
+    let mut store = swept(alloc)?;
+    tell(&mut store, Key::Cap(Guid::new(0x20)), Value::Count(room))?;
+    Ok(Plan::of(alloc, &store).err())
 }
 
 /// Whether the plan has this greatest LID and no block behind it, and its last block of a switch begins and ends with
@@ -55,7 +62,7 @@ fn blocks_of_the_sample_fabric(rt: HostRuntime) -> Result<(), Fail> {
         (64, 64, 0x20, [2, 255].as_slice(), 255),
         (64, 64, 0x30, [3, 255].as_slice(), 255),
     ] {
-        let plan = Plan::of(rt.alloc(), &told(rt.alloc(), &[claim(lid)])?)?;
+        let plan = plan_claiming(rt.alloc(), lid)?;
         assert!(rt; is_right(&plan, top, guid, first, last), "{lid} {guid:x}");
     }
     Ok(())
@@ -86,43 +93,50 @@ lid 5 0000000000000200/1
     Ok(text)
 }
 
+/// Whether a sink with room for so many bytes takes the plan of the sample fabric and then has this text, or fails.
+fn writes(
+    alloc: Global,
+    text: &[u8],
+    room: usize,
+    wanted: Result<(), WriteFault>,
+) -> Result<bool, Fail> {
+    let plan = plan_claiming(alloc, 0)?;
+    let mut sink = ToRoom::new(alloc, room)?;
+    let answer = write_plan(&mut sink, &plan);
+    Ok(answer == wanted && (answer.is_err() || sink.bytes() == text))
+}
+
 #[test]
 fn text_of_the_sample_fabric(rt: HostRuntime) -> Result<(), Fail> {
     let text = sample_text(rt.alloc())?;
-    let plan = Plan::of(rt.alloc(), &told(rt.alloc(), &[])?)?;
-    for (room, wanted) in [
-        (text.len(), Ok(())),
-        (text.len().saturating_sub(1), Err(WriteFault::Write)),
-    ] {
-        let mut sink = ToRoom::new(rt.alloc(), room)?;
-        let answer = write_plan(&mut sink, &plan);
-        assert!(rt;
-            answer == wanted && text.starts_with(sink.bytes()),
-            "{room}"
-        );
+    for (less, wanted) in [(0, Ok(())), (1, Err(WriteFault::Write))] {
+        let room = text.len().saturating_sub(less);
+        assert!(rt; writes(rt.alloc(), &text, room, wanted)?, "{less}");
     }
     Ok(())
 }
 
+/// Whether the plan has nothing in it, and its text neither.
+fn is_empty(alloc: Global, plan: &Plan) -> Result<bool, Fail> {
+    let mut sink = ToRoom::new(alloc, 0)?;
+    let answer = write_plan(&mut sink, plan);
+    let has_block = plan.block(Guid::new(0x10), 0).is_some();
+    let has_lid = plan.top().is_some() || !plan.lids().given().is_empty();
+    Ok(answer.is_ok() && plan.switches().is_empty() && !has_block && !has_lid)
+}
+
 #[test]
-fn no_end_ports_and_no_room(rt: HostRuntime) -> Result<(), Fail> {
+fn plan_of_nothing(rt: HostRuntime) -> Result<(), Fail> {
     let plan = Plan::of(rt.alloc(), &Store::new(rt.alloc()))?;
-    let mut sink = ToRoom::new(rt.alloc(), 0)?;
-    write_plan(&mut sink, &plan)?;
-    let is_empty = plan.switches().is_empty() && plan.lids().given().is_empty();
-    assert!(rt; is_empty && plan.top().is_none() && plan.block(Guid::new(0x10), 0).is_none());
-    for (room, wanted) in [
-        (
-            5,
-            Some(PlanFault::NoRoom {
-                endports: 5,
-                room: 5,
-            }),
-        ),
-        (6, None),
-    ] {
-        let fault = Plan::of(rt.alloc(), &told(rt.alloc(), &[cap(room)])?).err();
-        assert!(rt; fault == wanted, "{room}");
+    assert!(rt; is_empty(rt.alloc(), &plan)?);
+    Ok(())
+}
+
+#[test]
+fn no_room_for_the_lids(rt: HostRuntime) -> Result<(), Fail> {
+    let no_room = |room| Some(PlanFault::NoRoom { endports: 5, room });
+    for (room, wanted) in [(1, no_room(1)), (5, no_room(5)), (6, None)] {
+        assert!(rt; fault_of(rt.alloc(), room)? == wanted, "{room}");
     }
     Ok(())
 }
