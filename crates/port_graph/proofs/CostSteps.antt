@@ -25,11 +25,13 @@ least_more (Some n) (Some c) rest = ap Some (lesser_assoc n c (least_of rest))
         least_three : (n c m : ℕ) → min (min n c) m ≡ min n (min c m)
         least_three n c m = omega arith
 
+-- nothing is left
 pub least_all : (least : Option ℕ) → lesser_of least None ≡ least
 least_all None = refl
 least_all (Some n) = refl
 
 module _ (ups : List (List Exit)) (rise : LeadToLesser ups) (distances : List (Option ℕ)) where
+  -- no vertex has a cost yet
   pub costs_none : (costs : List (Option ℕ)) → costs ≡ [] → AreCosts ups distances 0 costs
   costs_none costs e = record { all = ap length e; cost = λ a h. absurd (omega arith) }
 

@@ -12,6 +12,7 @@ part_kept exits more span rises within =
     ap (take (span.end - span.start)) (drop-append-le span.start exits more (omega arith))
     ∙ take-append-le (span.end - span.start) (drop span.start exits) more (omega (arith, length-drop span.start exits))
 
+-- nor all of them
 pub cut_kept : (exits more : List Exit) (spans : List Span) → AreWithin exits spans → cut (exits ++ more) spans ≡ cut exits spans
 cut_kept exits more [] within = refl
 cut_kept exits more (span ∷ spans) within =

@@ -3,19 +3,19 @@ use Rattle.std.proofs.Common.{◌≡◌, ◌≤◌, ◌<◌, ◌+◌, ℕ, zero,
 use Rattle.std.proofs.lemmas.Bool.{cases_lt, eqb-true, eq-eqb}
 use Rattle.std.proofs.lemmas.List.{get_or_past}
 use Rattle.std.specs.Cmp.{both_ways}
-use Rattle.std.specs.Prelude.{Option, None, Some, is_some, option_map, Contains, slice_index_or}
+use Rattle.std.specs.Prelude.{Option, None, is_some, option_map, Contains, slice_index_or}
 use Rattle.std.specs.List.{filter_map}
-use Rattle.fact_store.proofs.Members.{contains_here, contains_later, contains_cases, contains_none}
+use Rattle.fact_store.proofs.Members.{contains_none}
 use Rattle.port_graph.specs.declared.exit.Exit.{Exit}
-use Rattle.port_graph.specs.Walks.{has_walk, least_from, shortest, Walk}
+use Rattle.port_graph.specs.Walks.{has_walk, least_from, shortest}
 use Rattle.port_graph.specs.Slopes.{ups_at, downs_at, down_distance, least_of, cost}
 use Rattle.port_graph.specs.Heads.{exits_at, heads, LeadToVertices, AreDistances}
-use Rattle.port_graph.specs.Indexed.{indexed_from, indexed, AreSlopes, AreLess, AreCosts}
-use Rattle.port_graph.proofs.Lists.{filter_map_same, contains_map}
+use Rattle.port_graph.specs.Indexed.{indexed_from, indexed, AreSlopes, AreLess, AreCosts, WaysLaw}
+use Rattle.port_graph.proofs.Lists.{filter_map_same, contains_map, contains_mapped}
 use Rattle.port_graph.proofs.WalkLemmas.{walk_from_test, test_from_walk, least_found}
-use Rattle.port_graph.proofs.Paths.{walk_push}
+use Rattle.port_graph.proofs.Paths.{walk_turned}
 use Rattle.port_graph.proofs.Searching.{known_below}
-use Rattle.port_graph.proofs.Costs.{cost_recurs}
+use Rattle.port_graph.proofs.Costs.{cost_recurs, way}
 
 -- exits ---------------------------------------------------------------------------------
 
@@ -50,21 +50,7 @@ exits_below exits a e h =
       | inr m ↦ absurd (contains_none e (subst (λ (xs : List Exit). Contains xs e) (get_or_past exits a [] m) h))
     ]
 
--- an exit's vertex is one of the heads
-pub head_of : (es : List Exit) (e : Exit) → Contains es e → Contains (map (λ (x : Exit). x.to) es) e.to
-head_of [] e h = absurd (contains_none e h)
-head_of (x ∷ es) e h =
-    elim (contains_cases x e es h) [
-      | inl same ↦ subst (λ (y : Exit). Contains (x.to ∷ map (λ (z : Exit). z.to) es) y.to) same (contains_here x.to (map (λ (z : Exit). z.to) es))
-      | inr k ↦ contains_later x.to e.to (map (λ (z : Exit). z.to) es) (head_of es e k)
-    ]
-
--- walks that are turned round ------------------------------------------------------------
-
-module _ (next back : ℕ → List ℕ) where
-  walk_turned : ((a b : ℕ) → Contains (next a) b → Contains (back b) a) → (n a b : ℕ) → Walk next a b n → Walk back b a n
-  walk_turned both zero a b e = sym e
-  walk_turned both (suc n) a b (c, h, w) = walk_push back n b c a (walk_turned both n c b w) (both a c h)
+-- walks back ----------------------------------------------------------------------------
 
 module _ (next back : ℕ → List ℕ) (there : (a b : ℕ) → Contains (next a) b → Contains (back b) a) (here : (a b : ℕ) → Contains (back a) b → Contains (next b) a) where
   has_walk_turned : (a b n : ℕ) → has_walk next a b n ≡ has_walk back b a n
@@ -79,6 +65,7 @@ module _ (next back : ℕ → List ℕ) (there : (a b : ℕ) → Contains (next 
 -- down distances and costs ----------------------------------------------------------------
 
 module _ (ups downs : List (List Exit)) (are : AreSlopes ups downs) where
+  -- the exits of a vertex, and how many there are
   pub ups_indexed : (a : ℕ) → ups_at (indexed ups downs) a ≡ exits_at ups a
   ups_indexed a = ups_from ups downs 0 a a are.all (omega arith)
 
@@ -94,7 +81,7 @@ module _ (ups downs : List (List Exit)) (are : AreSlopes ups downs) where
 
   pub downs_lead : LeadToVertices downs
   downs_lead a e h =
-      let back = are.back_up a e.to (head_of (exits_at downs a) e h) in
+      let back = are.back_up a e.to (contains_mapped (λ (x : Exit). x.to) (exits_at downs a) e h) in
       let up = contains_map (λ (x : Exit). x.to) (exits_at ups e.to) a back in
       omega (arith, exits_below ups e.to up.0 up.1, are.all)
 
@@ -103,20 +90,21 @@ module _ (ups downs : List (List Exit)) (are : AreSlopes ups downs) where
   down_is s t =
       (λ i. shortest (λ a. map (λ e. e.to) (downs_indexed a i)) (all_indexed i) s t) ∙ shortest_turned (heads downs) (heads ups) are.back_up are.back_down (length ups) s t
 
+  abbrev height : ℕ → ℕ
+  height s = min s (length ups)
+
+  falls : (s : ℕ) (e : Exit) → Contains (ups_at (indexed ups downs) s) e → height e.to < height s
+  falls s e h =
+      let k = subst (λ (xs : List Exit). Contains xs e) (ups_indexed s) h in
+      omega (arith, are.rise s e k, exits_below ups s e k)
+
+  bounded : (s : ℕ) → height s ≤ length (indexed ups downs)
+  bounded s = omega (arith, all_indexed)
+
   module _ (t : ℕ) (distances costs : List (Option ℕ)) (lengths : AreDistances ups t distances) (all : AreCosts ups distances (length ups) costs) where
+    -- the distances are those of the slopes
     pub distance_is : (s : ℕ) → s < length ups → slice_index_or distances s None ≡ down_distance (indexed ups downs) s t
     distance_is s h = lengths.shortest s h ∙ sym (down_is s t)
-
-    abbrev height : ℕ → ℕ
-    height s = min s (length ups)
-
-    falls : (s : ℕ) (e : Exit) → Contains (ups_at (indexed ups downs) s) e → height e.to < height s
-    falls s e h =
-        let k = subst (λ (xs : List Exit). Contains xs e) (ups_indexed s) h in
-        omega (arith, are.rise s e k, exits_below ups s e k)
-
-    bounded : (s : ℕ) → height s ≤ length (indexed ups downs)
-    bounded s = omega (arith, all_indexed)
 
     upper : (s : ℕ) → ((e : Exit) → e.to < s → e.to < length ups → slice_index_or costs e.to None ≡ cost (indexed ups downs) e.to t)
         → filter_map (λ e. slice_index_or costs e.to None) (exits_at ups s) ≡ filter_map (λ e. cost (indexed ups downs) e.to t) (ups_at (indexed ups downs) s)
@@ -141,3 +129,8 @@ pub distance_short : (exits : List (List Exit)) (t : ℕ) (distances : List (Opt
 distance_short exits t distances are a d h =
     let below = known_below distances a d h in
     omega (arith, (least_found 0 (length exits) (has_walk (heads exits) t a) d (sym (are.shortest a (omega (arith, are.all))) ∙ h)).bounded)
+
+-- a way from each vertex that has a cost
+pub ways_in_words : WaysLaw
+ways_in_words ups downs are s t n target e =
+    way (indexed ups downs) (height ups downs are) (falls ups downs are) (bounded ups downs are) n s t (omega (arith, all_indexed ups downs are)) e

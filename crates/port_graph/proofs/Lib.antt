@@ -11,3 +11,5 @@ pub mod Indexing
 pub mod CostSteps
 pub mod NextPorts
 pub mod Named
+pub mod DistanceLaws
+pub mod SampleSlopes

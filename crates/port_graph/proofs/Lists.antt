@@ -27,6 +27,16 @@ module _ {X : Type 0} where
   nothing_there [] h = refl
   nothing_there (x ∷ xs) h = absurd (h x (contains_here x xs))
 
+  -- the image of what a list contains
+  pub contains_mapped : {Y : Type 0} (f : X → Y) (xs : List X) (x : X) → Contains xs x → Contains (map f xs) (f x)
+  contains_mapped f [] x h = absurd (contains_none x h)
+  contains_mapped {Y = Y} f (y ∷ xs) x h =
+      elim (contains_cases y x xs h) [
+        | inl same ↦ subst (λ (z : X). Contains (f y ∷ map f xs) (f z)) same (contains_here (f y) (map f xs))
+        | inr k ↦ contains_later (f y) (f x) (map f xs) (contains_mapped f xs x k)
+      ]
+
+  -- what an image contains comes from an element
   pub contains_map : {Y : Type 0} (f : X → Y) (xs : List X) (y : Y) → Contains (map f xs) y → (x : X) × Contains xs x × (f x ≡ y)
   contains_map f [] y h = absurd (contains_none y h)
   contains_map f (x ∷ xs) y h =

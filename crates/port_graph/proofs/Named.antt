@@ -17,6 +17,7 @@ pub record AreNamed (name : ℕ → ℕ) (slopes : List Slope) (ups downs : List
   pub apart : (a b : ℕ) → a < length ups → b < length ups → name a ≡ name b → a ≡ b
 
 module _ (name : ℕ → ℕ) (slopes : List Slope) (ups downs : List (List Exit)) (are : AreSlopes ups downs) (named : AreNamed name slopes ups downs) where
+  -- their slopes are renamed ones
   pub renamed : AreRenamed name slopes (indexed ups downs)
   renamed =
       let all = all_indexed ups downs are in

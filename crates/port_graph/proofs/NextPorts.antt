@@ -94,6 +94,7 @@ pub record AreFirstPorts (ups downs : List (List Exit)) (t n : ℕ) (ports : Lis
   pub all : length ports ≡ n
   pub next : (a : ℕ) → a < n → slice_index_or ports a None ≡ next_port (indexed ups downs) a t
 
+-- no vertex has one yet
 pub ports_none : (ups downs : List (List Exit)) (t : ℕ) (ports : List (Option ℕ)) → ports ≡ [] → AreFirstPorts ups downs t 0 ports
 ports_none ups downs t ports e = record { all = ap length e; next = λ a h. absurd (omega arith) }
 

@@ -92,9 +92,14 @@ module _ (next : ℕ → List ℕ) where
   walk_push zero a u b e s = (b, subst (λ (y : ℕ). Contains (next y) b) (sym e) s, refl)
   walk_push (suc n) a u b (c, k, w) s = (c, k, walk_push n c u b w s)
 
-  pub walk_reverse : ((x y : ℕ) → Contains (next x) y → Contains (next y) x) → (n a b : ℕ) → Walk next a b n → Walk next b a n
-  walk_reverse both zero a b e = sym e
-  walk_reverse both (suc n) a b (c, s, w) = walk_push n b c a (walk_reverse both n c b w) (both a c s)
+-- a walk turned round is a walk along the edges back
+pub walk_turned : (next back : ℕ → List ℕ) → ((x y : ℕ) → Contains (next x) y → Contains (back y) x) → (n a b : ℕ) → Walk next a b n → Walk back b a n
+walk_turned next back both zero a b e = sym e
+walk_turned next back both (suc n) a b (c, s, w) = walk_push back n b c a (walk_turned next back both n c b w) (both a c s)
+
+-- where each edge has one back a walk can be turned round
+pub walk_reverse : (next : ℕ → List ℕ) → ((x y : ℕ) → Contains (next x) y → Contains (next y) x) → (n a b : ℕ) → Walk next a b n → Walk next b a n
+walk_reverse next = walk_turned next next
 
 -- some number below the bound passes, so there is a least
 pub has_least_from : (n bound : ℕ) (test : ℕ → Bool) (m : ℕ) → n ≤ m → m < n + bound → test m ≡ true → (r : ℕ) × (least_from n bound test ≡ Some r)

@@ -3,11 +3,13 @@ use Rattle.std.proofs.Common.{◌≡◌, ◌≤◌, ◌<◌, ◌+◌, ℕ, zero,
 use Rattle.std.proofs.lemmas.Bool.{cases_lt, cases_eq}
 use Rattle.std.proofs.lemmas.Option.{none-some, same_Some}
 use Rattle.std.proofs.lemmas.List.{length-set, get_or_past, get_or-set_same, get_or-set_other}
+use Rattle.std.proofs.lemmas.List.Elements.{Contains-push, Contains-push_cases, Contains-append_left}
 use Rattle.std.specs.Prelude.{Option, None, Some, is_some, Contains, slice_index_or, slice_set}
 use Rattle.fact_store.proofs.Members.{contains_here, contains_later, contains_cases, contains_none}
 use Rattle.port_graph.specs.declared.exit.Exit.{Exit}
 use Rattle.port_graph.specs.Walks.{has_walk, shortest, Walk}
 use Rattle.port_graph.specs.Searches.{Search, reach, reach_all}
+use Rattle.port_graph.proofs.Lists.{contains_mapped}
 use Rattle.port_graph.proofs.WalkLemmas.{least_is, shortest_is, test_from_walk, walk_from_test}
 use Rattle.port_graph.proofs.Paths.{walk_push}
 
@@ -57,33 +59,12 @@ pub record IsFollowing (next : ℕ → List ℕ) (from n a d : ℕ) (left : List
 
 -- lists --------------------------------------------------------------------------------
 
--- what a list with one more contains
-pushed_cases : {X : Type 0} (xs : List X) (x y : X) → Contains (xs ++ x ∷ []) y → (x ≡ y) ⊎ Contains xs y
-pushed_cases [] x y h = contains_cases x y [] h
-pushed_cases (z ∷ xs) x y h =
-    elim (contains_cases z y (xs ++ x ∷ []) h) [
-      | inl e ↦ inr (subst (λ (w : _). Contains (z ∷ xs) w) e (contains_here z xs))
-      | inr k ↦ (elim (pushed_cases xs x y k) [ inl e ↦ inl e | inr i ↦ inr (contains_later z y xs i) ])
-    ]
-
-pushed_last : {X : Type 0} (xs : List X) (x : X) → Contains (xs ++ x ∷ []) x
-pushed_last [] x = contains_here x []
-pushed_last (z ∷ xs) x = contains_later z x (xs ++ x ∷ []) (pushed_last xs x)
-
-pushed_kept : {X : Type 0} (xs : List X) (x y : X) → Contains xs y → Contains (xs ++ x ∷ []) y
-pushed_kept [] x y h = absurd (contains_none y h)
-pushed_kept (z ∷ xs) x y h =
-    elim (contains_cases z y xs h) [
-      | inl e ↦ subst (λ (w : _). Contains (z ∷ xs ++ x ∷ []) w) e (contains_here z (xs ++ x ∷ []))
-      | inr k ↦ contains_later z y (xs ++ x ∷ []) (pushed_kept xs x y k)
-    ]
-
 rises_pushed : (q : List (ℕ × ℕ)) (b e : ℕ) → Rises q → ((a d : ℕ) → Contains q (a, d) → d ≤ e) → Rises (q ++ (b, e) ∷ [])
 rises_pushed [] b e r h = (λ a d k. absurd (contains_none (a, d) k), tt)
 rises_pushed (x ∷ q) b e r h = (
-  λ a d k. (elim (pushed_cases q (b, e) (a, d) k) [
-    | inl i ↦ let last : e ≡ d = ap (λ (y : ℕ × ℕ). y.1) i in omega (arith, h x.0 x.1 (contains_here x q))
-    | inr j ↦ r.0 a d j
+  λ a d k. (elim (Contains-push_cases q (b, e) (a, d) k) [
+    | inl j ↦ r.0 a d j
+    | inr i ↦ let last : e ≡ d = ap (λ (y : ℕ × ℕ). y.1) i in omega (arith, h x.0 x.1 (contains_here x q))
   ]),
   rises_pushed q b e r.1 (λ a d k. h a d (contains_later x (a, d) q k)),
 )
@@ -160,17 +141,17 @@ module _ (next : ℕ → List ℕ) (from n a d : ℕ) where
                 | inl new ↦ omega (arith, i.search.short a d i.here, less, new.1)
                 | inr old ↦ omega (arith, i.search.short b e old, less)
               ]);
-              waits = λ b e h. (elim (pushed_cases s.1 (x.to, suc d) (b, e) h) [
-                | inl same ↦ let Known : ℕ × ℕ → Type 0 = λ y. Has (slice_set s.0 x.to (Some (suc d))) y.0 y.1 in
+              waits = λ b e h. (elim (Contains-push_cases s.1 (x.to, suc d) (b, e) h) [
+                | inl old ↦ kept b e (i.search.waits b e old)
+                | inr same ↦ let Known : ℕ × ℕ → Type 0 = λ y. Has (slice_set s.0 x.to (Some (suc d))) y.0 y.1 in
                     subst Known same (get_or-set_same s.0 x.to (Some (suc d)) None below)
-                | inr old ↦ kept b e (i.search.waits b e old)
               ]);
               rises = rises_pushed s.1 x.to (suc d) i.search.rises (λ b e h. i.near b e (i.search.waits b e h));
             };
         here = kept a d i.here;
-        above = λ b e h. (elim (pushed_cases s.1 (x.to, suc d) (b, e) h) [
-          | inl same ↦ let it : suc d ≡ e = ap (λ (y : ℕ × ℕ). y.1) same in omega (arith, it)
-          | inr old ↦ i.above b e old
+        above = λ b e h. (elim (Contains-push_cases s.1 (x.to, suc d) (b, e) h) [
+          | inl old ↦ i.above b e old
+          | inr same ↦ let it : suc d ≡ e = ap (λ (y : ℕ × ℕ). y.1) same in omega (arith, it)
         ]);
         near = λ b e h. (elim (cases b e h) [
           | inl new ↦ omega (arith, new.1)
@@ -178,11 +159,11 @@ module _ (next : ℕ → List ℕ) (from n a d : ℕ) where
         ]);
         followed = λ b e h. (elim (cases b e h) [
           | inl new ↦ let Waits : ℕ × ℕ → Type 0 = λ y. Contains (s.1 ++ (x.to, suc d) ∷ []) y in
-              inr (inl (subst Waits (λ j. (sym new.0 j, sym new.1 j)) (pushed_last s.1 (x.to, suc d))))
+              inr (inl (subst Waits (λ j. (sym new.0 j, sym new.1 j)) (Contains-push s.1 (x.to, suc d))))
           | inr old ↦ (elim (i.followed b e old) [
             | inl same ↦ inl same
             | inr more ↦ (elim more [
-              | inl waits ↦ inr (inl (pushed_kept s.1 (x.to, suc d) (b, e) waits))
+              | inl waits ↦ inr (inl (Contains-append_left s.1 ((x.to, suc d) ∷ []) (b, e) waits))
               | inr done ↦ inr (inr (followed_kept s.0 x.to (suc d) below none next b e done))
             ])
           ])
@@ -240,16 +221,8 @@ module _ (next : ℕ → List ℕ) (from n : ℕ) where
           | inr done ↦ inr (inr done)
         ]);
         led = λ b h. inl (subst (λ (bs : List ℕ). Contains bs b) is h);
-        lead = λ e h. (subst (λ (bs : List ℕ). Contains bs e.to) (sym is) (head_of left e h), lead e h);
+        lead = λ e h. (subst (λ (bs : List ℕ). Contains bs e.to) (sym is) (contains_mapped (λ (x : Exit). x.to) left e h), lead e h);
       }
-    where
-      head_of : (left : List Exit) (e : Exit) → Contains left e → Contains (map (λ (e : Exit). e.to) left) e.to
-      head_of [] e h = absurd (contains_none e h)
-      head_of (x ∷ left) e h =
-          elim (contains_cases x e left h) [
-            | inl same ↦ subst (λ (y : Exit). Contains (x.to ∷ map (λ (e : Exit). e.to) left) y.to) same (contains_here x.to (map (λ (e : Exit). e.to) left))
-            | inr k ↦ contains_later x.to e.to (map (λ (e : Exit). e.to) left) (head_of left e k)
-          ]
 
   -- all its exits were followed
   pub given_back : (a d : ℕ) (s : Search) → IsFollowing next from n a d [] s → IsBetween next from n s
@@ -316,6 +289,7 @@ module _ (next : ℕ → List ℕ) (from n : ℕ) where
         let g = reaches m w.0 f.0 b f.1 w.2 in
         (g.0, g.1, omega (arith, g.2, f.2))
 
+    -- the distances are found
     pub found : (a : ℕ) → slice_index_or s.0 a None ≡ shortest next n from a
     found a =
         elim (slice_index_or s.0 a None) as (λ o. slice_index_or s.0 a None ≡ o → o ≡ shortest next n from a) [

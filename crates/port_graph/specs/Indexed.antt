@@ -3,7 +3,8 @@ use Rattle.std.specs.Prelude.{◌≡◌, ◌<◌, ℕ, suc, List, [], ◌∷◌,
 use Rattle.std.specs.List.{filter_map, find}
 use Rattle.port_graph.specs.declared.exit.Exit.{Exit}
 use Rattle.port_graph.specs.Heads.{exits_at, heads}
-use Rattle.port_graph.specs.Slopes.{Slope, lesser, least_of, same_number, next_port}
+use Rattle.port_graph.specs.Slopes.{Slope, lesser, least_of, same_number, cost, next_port}
+use Rattle.port_graph.specs.Routes.{Way}
 
 -- from the first number on, one for each vertex
 abbrev pub indexed_from : ℕ → List (List Exit) → List (List Exit) → List Slope
@@ -58,3 +59,7 @@ port_by ups downs distances costs a =
 pub record AreNextPorts (ups downs : List (List Exit)) (target : ℕ) (ports : List (Option ℕ)) : Type 0 where
   pub all : length ports ≡ length ups
   pub next : (a : ℕ) → a < length ups → slice_index_or ports a None ≡ next_port (indexed ups downs) a target
+
+-- from a vertex with a cost a way by next ports leads to the target, first up and then down, over as many exits as the cost
+abbrev pub WaysLaw : Type 0
+WaysLaw = (ups downs : List (List Exit)) → AreSlopes ups downs → (s t n : ℕ) → t < length ups → cost (indexed ups downs) s t ≡ Some n → Way (indexed ups downs) s t n

@@ -6,9 +6,13 @@ mod cost;
 mod distance;
 mod exit;
 mod exits;
+pub mod laws;
 mod next_port;
 
 pub use distance::distances;
 pub use exit::Exit;
 pub use exits::Exits;
 pub use next_port::next_ports;
+
+#[cfg(test)]
+mod tests;

@@ -19,14 +19,17 @@ use Rattle.updown_routes.specs.GraphLaws.{IsGraph, IsSwitch}
 use Rattle.updown_routes.specs.RouteLaws.{CostInComponent, DownDistanceLaw}
 use Rattle.updown_routes.proofs.Before.{lesser, below_lex, downs_are, ups_have, downs_have, has_end}
 
+-- where there is a number, it is one
 pub is_some_of : (o : Option ℕ) → is_some o ≡ true → (n : ℕ) × (o ≡ Some n)
 is_some_of None e = absurd (cc)
 is_some_of (Some n) e = (n, refl)
 
+-- tests that agree on a list find the same in it
 pub find_same : (p q : ℕ → Bool) (xs : List ℕ) → ((x : ℕ) → Contains xs x → p x ≡ q x) → find p xs ≡ find q xs
 find_same p q [] h = refl
 find_same p q (x ∷ xs) h = cc (h x (contains_here x xs), find_same p q xs (λ y k. h y (contains_later x y xs k)))
 
+-- tests of which each follows from the other agree
 pub same_tests : (a b : Bool) → (a ≡ true → b ≡ true) → (b ≡ true → a ≡ true) → a ≡ b
 same_tests true b f g = sym (f refl)
 same_tests false true f g = g refl
@@ -46,18 +49,22 @@ module _ (graph : List Crossing) (good : IsGraph graph) where
       has_least_from 0 (length graph) (has_walk next a b) i.0 (omega arith) (omega (arith, i.1, length_map (λ (c : Crossing). c.guid) graph))
       (test_from_walk next a b i.0 i.2)
 
+  -- a distance is the length of a walk
   pub walk_of : (a b m : ℕ) → distance graph a b ≡ Some m → Walk next a b m
   walk_of a b m e = (shortest_is next (length graph) a b m e).walk
 
+  -- what has a distance is in one component
   pub joined : (a b m : ℕ) → distance graph a b ≡ Some m → in_one_component graph a b ≡ true
   joined a b m e = ap is_some e
 
+  -- one is in another's component where the other is in its
   pub component_symm : (a b : ℕ) → IsSwitch graph b → in_one_component graph a b ≡ true → in_one_component graph b a ≡ true
   component_symm a b h e =
       let d = is_some_of (distance graph a b) e in
       let w = walk_joins d.0 b a h (walk_reverse next good.both_ways d.0 a b (walk_of a b d.0 d.1)) in
       joined b a w.0 w.1
 
+  -- one is in the component of what is in another's
   pub component_trans : (a b c : ℕ) → IsSwitch graph a → in_one_component graph a b ≡ true → in_one_component graph b c ≡ true
       → in_one_component graph a c ≡ true
   component_trans a b c h e k =
@@ -66,6 +73,7 @@ module _ (graph : List Crossing) (good : IsGraph graph) where
       let w = walk_joins (d.0 + f.0) a c h (walk_append next d.0 f.0 a b c (walk_of a b d.0 d.1) (walk_of b c f.0 f.1)) in
       joined a c w.0 w.1
 
+  -- a switch is in its own component
   pub component_itself : (a : ℕ) → IsSwitch graph a → in_one_component graph a a ≡ true
   component_itself a h = let w = walk_joins 0 a a h refl in joined a a w.0 w.1
 
@@ -91,6 +99,7 @@ module _ (graph : List Crossing) (good : IsGraph graph) where
       let d = is_some_of (distance graph f.0 s) (component_symm s f.0 f.2 f.3) in
       record { root = f.0; is_root = f.1; is_switch = f.2; rank = d.0; is_rank = d.1 }
 
+  -- the rank is the distance from the root
   pub rank_is : (s : ℕ) (r : ℕ) (n : ℕ) → root_of graph s ≡ Some r → distance graph r s ≡ Some n → rank_of graph s ≡ Some n
   rank_is s r n e k = ap (option_and_then (λ root. distance graph root s)) e ∙ k
 
@@ -144,6 +153,7 @@ module _ (graph : List Crossing) (good : IsGraph graph) where
       walk_push (below slopes) n r u.0 t (root_goes_down n r u.0 (is_switch_before u.0 t u.2) eu u.1)
       (subst (λ (y : ℕ). Contains (below slopes u.0) y) x.2 there)
 
+  -- the root has a down distance to each of its component
   pub root_down : (n r t : ℕ) → IsSwitch graph t → root_of graph t ≡ Some r → distance graph r t ≡ Some n → (m : ℕ) × (down_distance slopes r t ≡ Some m)
   root_down n r t h e d =
       let i = least_found 0 (length graph) (has_walk next r t) n d in
@@ -207,6 +217,7 @@ module _ (graph : List Crossing) (good : IsGraph graph) where
       suc_plus : (j k : ℕ) → suc j + k ≡ suc (j + k)
       suc_plus j k = omega arith
 
+-- all of a component have a cost to each other
 pub cost_in_component : CostInComponent
 cost_in_component graph good s t hs ht e =
     let a = rooted graph good s hs in

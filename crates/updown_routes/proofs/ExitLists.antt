@@ -14,6 +14,7 @@ use Rattle.updown_routes.proofs.Walked.{IsMapped, mapped_more, mapped_all}
 
 -- port by port: what was found, and what the ports to come have, are all that there is
 module _ (guids : List ℕ) (exit : ℕ → Option Exit) (all : List Exit) (n : ℕ) where
+  -- the exits of the ports so far, and those of the ports to come, are all
   abbrev pub AreAll : List Exit → ℕ → Type 0
   AreAll found p = map (by_guid guids) found ++ filter_map exit (range_with_len (1 + p) (n - p)) ≡ all
 
@@ -28,11 +29,13 @@ module _ (guids : List ℕ) (exit : ℕ → Option Exit) (all : List Exit) (n : 
       ∙ ap these (ap (λ q. cons_option (exit q) (filter_map exit (range_with_len (q + 1) (n - (p + 1))))) (sym next))
       ∙ sym (ap (λ k. map (by_guid guids) found ++ filter_map exit (range_with_len (1 + p) k)) more) ∙ e
 
+  -- a port that has none
   pub port_without : (found : List Exit) (p : ℕ) → p < n → AreAll found p → exit (p + 1) ≡ None → AreAll found (p + 1)
   port_without found p h e none =
       let rest = filter_map exit (range_with_len (1 + (p + 1)) (n - (p + 1))) in
       sym (ap (λ o. map (by_guid guids) found ++ cons_option o rest) none) ∙ one_port found p h e
 
+  -- a port that has one
   pub port_with : (found : List Exit) (p : ℕ) (x : Exit) → p < n → AreAll found p → exit (p + 1) ≡ Some (by_guid guids x) → AreAll (found ++ x ∷ []) (p + 1)
   port_with found p x h e some =
       let rest = filter_map exit (range_with_len (1 + (p + 1)) (n - (p + 1))) in
@@ -40,6 +43,7 @@ module _ (guids : List ℕ) (exit : ℕ → Option Exit) (all : List Exit) (n : 
       ∙ append_assoc (map (by_guid guids) found) (by_guid guids x ∷ []) rest
       ∙ sym (ap (λ o. map (by_guid guids) found ++ cons_option o rest) some) ∙ one_port found p h e
 
+  -- after the last port all are found
   pub no_more_ports : (found : List Exit) (p : ℕ) → n ≤ p → AreAll found p → map (by_guid guids) found ≡ all
   no_more_ports found p h e =
       let none : n - p ≡ 0 = omega arith in
@@ -56,16 +60,11 @@ lead_below_more n found x all here e h =
       ])
     ]
 
-pub none_leads : (n : ℕ) (found : List Exit) → found ≡ [] → LeadBelow n found
-none_leads n found e x h = absurd (contains_none x (subst (λ (xs : List Exit). Contains xs x) e h))
-
 -- the exits of each switch lead below a number
 abbrev pub AllLeadBelow : ℕ → List (List Exit) → Type 0
 AllLeadBelow n rows = (es : List Exit) → Contains rows es → LeadBelow n es
 
-pub no_row_leads : (n : ℕ) (rows : List (List Exit)) → rows ≡ [] → AllLeadBelow n rows
-no_row_leads n rows e es h = absurd (contains_none es (subst (λ (xs : List (List Exit)). Contains xs es) e h))
-
+-- one more switch, whose exits lead below the number
 pub all_lead_more : (n : ℕ) (rows : List (List Exit)) (row : List Exit) → AllLeadBelow n rows → LeadBelow n row → AllLeadBelow n (rows ++ row ∷ [])
 all_lead_more n rows row all here es h =
     elim (Contains-append_cases rows (row ∷ []) es h) [
@@ -86,9 +85,11 @@ lead_to_rows n rows same all a e h =
 
 -- switch by switch: the rows so far, and those of the switches to come, are all rows
 module _ (guids : List ℕ) (row_of : ℕ → List Exit) where
+  -- the rows so far, and those of the switches to come, are all rows
   abbrev pub AreRows : List (List Exit) → ℕ → Type 0
   AreRows rows i = IsMapped row_of guids (map (map (by_guid guids)) rows) i
 
+  -- one more switch's row
   pub one_row : (rows : List (List Exit)) (i g : ℕ) (row : List Exit) → i < length guids → g ≡ get_or guids i g → AreRows rows i → map (by_guid guids) row ≡ row_of g
       → AreRows (rows ++ row ∷ []) (i + 1)
   one_row rows i g row h item e is =
@@ -96,6 +97,7 @@ module _ (guids : List ℕ) (row_of : ℕ → List Exit) where
       (sym (map-append (map (by_guid guids)) rows (row ∷ []) ∙ ap (λ r. map (map (by_guid guids)) rows ++ r ∷ []) is))
       (mapped_more row_of guids (map (map (by_guid guids)) rows) i g h item e)
 
+  -- after the last switch all rows are there
   pub no_more_rows : (rows : List (List Exit)) (i : ℕ) → length guids ≤ i → AreRows rows i → map (map (by_guid guids)) rows ≡ map row_of guids
   no_more_rows rows i h e = mapped_all row_of guids (map (map (by_guid guids)) rows) i h e
 

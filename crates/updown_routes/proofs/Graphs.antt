@@ -49,6 +49,7 @@ pub record IsWireEnd (cells : Cells) (g p : ℕ) : Type 0 where
   pub is_port : (1 ≤ p) × (p ≤ port_count_of cells g)
   pub usable : is_switch_node cells g ≡ true → is_usable cells g ≡ true
 
+-- where a wire can end is a port, and usable where it is a switch's
 pub wire_end : (cells : Cells) (g p : ℕ) → is_wire_end cells g p ≡ true → IsWireEnd cells g p
 wire_end cells g p h =
     let a = and_parts (is_up cells g p && is_port_of cells g p) (cond (is_switch_node cells g) (is_usable cells g) (is_end_port cells g p)) h in
@@ -67,6 +68,7 @@ pub data ExitsAt (cells : Cells) (gs : List ℕ) (a : ℕ) : Type 0 where
   at_switch : Contains gs a → exits_at (map (λ g. record { guid = g; exits = exits_of cells g }) gs) a ≡ exits_of cells a → ExitsAt cells gs a
   elsewhere : (Contains gs a → ⊥) → exits_at (map (λ g. record { guid = g; exits = exits_of cells g }) gs) a ≡ [] → ExitsAt cells gs a
 
+-- a switch of the list has its exits, and what is none has no exits
 pub exits_listed : (cells : Cells) (gs : List ℕ) (a : ℕ) → ExitsAt cells gs a
 exits_listed cells [] a = elsewhere (λ h. contains_none a h) refl
 exits_listed cells (g ∷ gs) a =
@@ -153,6 +155,7 @@ module _ (facts : Facts) where
       record { end_port = c.port; wire = across_back cells a c.port (b, c.exit.end_port) c.exit.wire; is_switch = s.0 } in
       record { from = end_switch a b c; port = c.exit.end_port; exit = back }
 
+-- what facts give is a graph
 pub graph_law : GraphLaw
 graph_law facts =
     let cells = entries facts in
@@ -163,6 +166,7 @@ graph_law facts =
       both_ways = λ a b h. crosses facts b a (turned facts a b (crossed facts a b h));
     }
 
+-- its exits are the wires among usable switches
 pub exit_law : ExitLaw
 exit_law facts g p h u = let cells = entries facts in (
   λ there.

@@ -22,6 +22,7 @@ use Rattle.updown_routes.proofs.Components.{walk_joins, joined, down_distance_la
 use Rattle.updown_routes.proofs.Ranks.{one_shortest}
 use Rattle.port_graph.proofs.Costs as costs
 
+-- there is one cost
 pub one_cost : (slopes : List Slope) (s t m n : ℕ) → IsCost slopes s t m → IsCost slopes s t n → m ≡ n
 one_cost slopes s t m n i j = omega (arith, i.least n j.route, j.least m i.route)
 
@@ -33,14 +34,17 @@ module _ (graph : List Crossing) (good : IsGraph graph) where
   abbrev slopes : List Slope
   slopes = slopes_of graph
 
+  -- a wire up leads to a neighbor
   pub up_leads : (s : ℕ) (e : Exit) → Contains (ups_at slopes s) e → Contains (neighbors graph s) e.to
   up_leads s e h = has_end (exits_at graph s) e (ups_are graph graph s e h).0
 
+  -- a wire down leads to a neighbor
   pub down_leads : (s : ℕ) (e : Exit) → Contains (downs_at slopes s) e → Contains (neighbors graph s) e.to
   down_leads s e h = has_end (exits_at graph s) e (downs_are graph graph s e h).0
 
   -- the down distance is what the words say -----------------------------------------
 
+  -- the down distance in words is the one that is computed
   pub down_distance_is : (s t n : ℕ) → IsSwitch graph s → IsDownDistance slopes s t n → down_distance slopes s t ≡ Some n
   down_distance_is s t n hs i =
       elim (down_distance slopes s t) as (λ o. MatchOption o (HasNoWalk (below slopes) s t) (IsDownDistance slopes s t) → o ≡ Some n) [
@@ -48,6 +52,7 @@ module _ (graph : List Crossing) (good : IsGraph graph) where
         | Some k ↦ λ m. ap (λ (x : ℕ). Some x) (one_shortest (below slopes) s t k n m i)
       ] (down_distance_law graph good s t hs)
 
+  -- where no walk leads down none is computed
   pub no_down_distance : (s t : ℕ) → HasNoWalk (below slopes) s t → down_distance slopes s t ≡ None
   no_down_distance s t none =
       elim (down_distance slopes s t) as (λ o. down_distance slopes s t ≡ o → o ≡ None) [
@@ -55,11 +60,13 @@ module _ (graph : List Crossing) (good : IsGraph graph) where
         | Some n ↦ λ e. absurd (none n (shortest_is (below slopes) (length slopes) s t n e).walk)
       ] refl
 
+  -- where none is computed no walk leads down
   pub no_walk_down : (s t : ℕ) → IsSwitch graph s → down_distance slopes s t ≡ None → HasNoWalk (below slopes) s t
   no_walk_down s t hs e = MatchOption-at_none (HasNoWalk (below slopes) s t) (IsDownDistance slopes s t) e (down_distance_law graph good s t hs)
 
   -- costs -----------------------------------------------------------------------------
 
+  -- where there is a down distance it is the cost
   pub cost_down : (s t d : ℕ) → down_distance slopes s t ≡ Some d → cost slopes s t ≡ Some d
   cost_down = costs.cost_down slopes (height graph) (height_falls graph good) (height_bounded graph)
 
@@ -109,6 +116,7 @@ module _ (graph : List Crossing) (good : IsGraph graph) where
         | Some d ↦ λ e. down_route s t (suc n) (e ∙ sym (cost_down s t d e) ∙ k)
       ] refl
 
+  -- the cost that is computed is the one in words
   pub cost_is_least : (s t n : ℕ) → IsSwitch graph s → cost slopes s t ≡ Some n → IsCost slopes s t n
   cost_is_least s t n hs k =
       record {
@@ -116,6 +124,7 @@ module _ (graph : List Crossing) (good : IsGraph graph) where
         least = λ m r. let c = cost_of_route r.1 r.2 s t r.0 hs r.3 r.4 in omega (arith, c.2, same_Some c.0 n (sym c.1 ∙ k), r.5);
       }
 
+  -- the cost in words is the one that is computed
   pub cost_is : (s t n : ℕ) → IsSwitch graph s → IsCost slopes s t n → cost slopes s t ≡ Some n
   cost_is s t n hs i =
       let r = i.route in
@@ -137,6 +146,7 @@ module _ (graph : List Crossing) (good : IsGraph graph) where
   route_is_walk : (s t n : ℕ) → IsRoute slopes s t n → (m : ℕ) × Walk (neighbors graph) s t m
   route_is_walk s t n r = (r.1 + r.2, walk_append (neighbors graph) r.1 r.2 s r.0 t (climb_is_walk r.1 s t r.0 r.3) (descent_is_walk r.2 r.0 t r.4.walk))
 
+  -- without a cost there is no next port
   pub no_port : (s t : ℕ) → cost slopes s t ≡ None → next_port slopes s t ≡ None
   no_port s t k =
       elim (s == t) as (λ b. cond b None (cond (is_some (down_distance slopes s t)) (port_down slopes s t) (port_up slopes s t)) ≡ None) [
@@ -161,6 +171,7 @@ module _ (graph : List Crossing) (good : IsGraph graph) where
             absurd (true≢false (sym (joined graph good s t j.0 j.1) ∙ apart))
       ] refl
 
+-- the cost is the length of a shortest route
 pub cost_law : CostLaw
 cost_law graph good s t hs =
     elim (cost (slopes_of graph) s t) as
@@ -169,5 +180,6 @@ cost_law graph good s t hs =
       | Some n ↦ λ e. cost_is_least graph good s t n hs e
     ] refl
 
+-- between components there is none
 pub no_cost_between : NoCostBetween
 no_cost_between graph good s t hs apart = let none = no_cost graph good s t hs apart in (none, no_port graph good s t none)

@@ -40,6 +40,7 @@ module _ (slopes : List Slope) (s t p q : ℕ) where
       let b = j.least x i.wire (subst (λ (c : ℕ). IsCost slopes i.to t c) same i.is_cost) in
       omega arith
 
+  -- there is one next port
   pub one_next_port : IsNextPort slopes s t p → IsNextPort slopes s t q → p ≡ q
   one_next_port (apart, inl i) (_, inl j) = one_port_down i j
   one_next_port (apart, inl i) (_, inr j) = absurd (j.no_walk_down (suc i.distance) i.is_distance.walk)
@@ -63,6 +64,7 @@ module _ (graph : List Crossing) (good : IsGraph graph) where
   downs_rise s = subst (λ (es : List Exit). Rises (λ e. e.port) es) (sym (downs_filter graph graph s))
       (rises_filter (λ (e : Exit). e.port) (λ e. is_before graph s e.to) (exits_at graph s) (exits_rise s))
 
+  -- the next port where there is a down distance
   pub down_port : (s t d : ℕ) → (s == t) ≡ false → down_distance slopes s t ≡ Some d → (p : ℕ) × (next_port slopes s t ≡ Some p) × IsPortDown slopes s t p
   down_port s t zero apart e = absurd (eqb-false s t apart (shortest_zero (below slopes) (length slopes) s t e))
   down_port s t (suc d) apart e =
@@ -85,6 +87,7 @@ module _ (graph : List Crossing) (good : IsGraph graph) where
         },
       )
 
+  -- the next port where there is none
   pub up_port : (s t n : ℕ) → IsSwitch graph s → (s == t) ≡ false → down_distance slopes s t ≡ None → cost slopes s t ≡ Some n
       → (p : ℕ) × (next_port slopes s t ≡ Some p) × IsPortUp slopes s t p
   up_port s t zero hs apart e k = absurd (eqb-false s t apart (at_no_cost slopes (height graph) (height_falls graph good) (height_bounded graph) s t k))
@@ -117,6 +120,7 @@ module _ (graph : List Crossing) (good : IsGraph graph) where
       let q = at_most_by graph good s t i.its_cost x e i.wire (cost_is graph good i.to t i.its_cost to_switch i.is_cost) in
       none-some q.0 (sym k ∙ q.1)
 
+-- the next port is the one in words
 pub next_port_law : NextPortLaw
 next_port_law graph good s t hs =
     let slopes : List Slope = slopes_of graph in

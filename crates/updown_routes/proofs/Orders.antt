@@ -18,7 +18,7 @@ use Rattle.std.specs.declared.cmp.Ordering.{Ordering}
 use Rattle.std.specs.declared.cmp.Ordering.TheVariants.{Less, Equal, Greater}
 use Rattle.std.specs.Ordering.{is_lt, nat_cmp, ordering_then}
 use Rattle.port_graph.proofs.Counts.{length_map}
-use Rattle.updown_routes.specs.Order.{goes_before, IsOrder}
+use Rattle.updown_routes.specs.Order.{goes_before, ranked, IsOrder}
 use Rattle.updown_routes.proofs.Before.{lex, LexBelow, lesser, tied, lex_below, below_lex, never_below}
 use Rattle.updown_routes.proofs.Ranks.{lex_total}
 
@@ -26,6 +26,7 @@ use Rattle.updown_routes.proofs.Ranks.{lex_total}
 abbrev pub pair_cmp : ℕ × ℕ → ℕ × ℕ → Ordering
 pair_cmp x y = ordering_then (nat_cmp x.0 y.0) (nat_cmp x.1 y.1)
 
+-- the order of pairs is total
 pub pair_total : IsTotalOrder pair_cmp
 pair_total = then_total (on_total (λ (x : ℕ × ℕ). x.0) nat_cmp_total) (on_total (λ (x : ℕ × ℕ). x.1) nat_cmp_total)
 
@@ -45,13 +46,10 @@ module _ (ranks : List (Option ℕ)) where
   abbrev rank : ℕ → ℕ
   rank i = unwrap_or (get_or ranks i None) 0
 
-  abbrev pub ranked : List (ℕ × ℕ)
-  ranked = map (λ x. (unwrap_or x.1 0, x.0)) (enumerate_from 0 ranks)
-
-  ranked_long : length ranked ≡ length ranks
+  ranked_long : length (ranked ranks) ≡ length ranks
   ranked_long = length_map (λ (x : ℕ × Option ℕ). (unwrap_or x.1 0, x.0)) (enumerate_from 0 ranks) ∙ length-enumerate_from 0 ranks
 
-  ranked_at : (i : ℕ) (d : ℕ × ℕ) → i < length ranks → get_or ranked i d ≡ (rank i, i)
+  ranked_at : (i : ℕ) (d : ℕ × ℕ) → i < length ranks → get_or (ranked ranks) i d ≡ (rank i, i)
   ranked_at i d h =
       let nothing : ℕ × Option ℕ = (0, None) in
       let long = length-enumerate_from 0 ranks in
@@ -60,30 +58,30 @@ module _ (ranks : List (Option ℕ)) where
       ∙ ap (λ (x : ℕ × Option ℕ). (unwrap_or x.1 0, x.0)) (get_or-enumerate_from 0 ranks i nothing h) ∙ ap (λ (k : ℕ). (rank i, k)) plus
 
   -- each is its index, after the rank at that index
-  ranked_by_index : (x : ℕ × ℕ) → Contains ranked x → (x.1 < length ranks) × (x.0 ≡ rank x.1)
+  ranked_by_index : (x : ℕ × ℕ) → Contains (ranked ranks) x → (x.1 < length ranks) × (x.0 ≡ rank x.1)
   ranked_by_index x h =
       let l : h.0 < length ranks = omega (arith, h.1, ranked_long) in
       let e : (rank h.0, h.0) ≡ x = sym (ranked_at h.0 x l) ∙ h.2 in
       let i : h.0 ≡ x.1 = ap (λ (y : ℕ × ℕ). y.1) e in
       (omega arith, sym (ap (λ (y : ℕ × ℕ). y.0) e) ∙ ap rank i)
 
-  ranked_indices : map (λ x. x.1) ranked ≡ range_with_len 0 (length ranks)
+  ranked_indices : map (λ x. x.1) (ranked ranks) ≡ range_with_len 0 (length ranks)
   ranked_indices =
-      let long = length_map (λ (x : ℕ × ℕ). x.1) ranked in
-      ext_get_or 0 (map (λ x. x.1) ranked) (range_with_len 0 (length ranks)) (long ∙ ranked_long ∙ sym (length-range_with_len 0 (length ranks)))
+      let long = length_map (λ (x : ℕ × ℕ). x.1) (ranked ranks) in
+      ext_get_or 0 (map (λ x. x.1) (ranked ranks)) (range_with_len 0 (length ranks)) (long ∙ ranked_long ∙ sym (length-range_with_len 0 (length ranks)))
       (λ i h. let l : i < length ranks = omega (arith, ranked_long) in
-      get_or-map (λ (x : ℕ × ℕ). x.1) ranked i (0, 0) 0 (omega arith) ∙ ap (λ (x : ℕ × ℕ). x.1) (ranked_at i (0, 0) l)
+      get_or-map (λ (x : ℕ × ℕ). x.1) (ranked ranks) i (0, 0) 0 (omega arith) ∙ ap (λ (x : ℕ × ℕ). x.1) (ranked_at i (0, 0) l)
       ∙ sym (get_or-range_with_len 0 (length ranks) i 0 l ∙ omega arith))
 
-  module _ (sorted : List (ℕ × ℕ)) (moved : IsPermutation ranked sorted) (rises : IsSorted pair_cmp sorted) where
+  module _ (sorted : List (ℕ × ℕ)) (moved : IsPermutation (ranked ranks) sorted) (rises : IsSorted pair_cmp sorted) where
     abbrev order : List ℕ
     order = map (λ x. x.1) sorted
 
     order_long : length order ≡ length ranks
-    order_long = length_map (λ (x : ℕ × ℕ). x.1) sorted ∙ length_permutation ranked sorted moved ∙ ranked_long
+    order_long = length_map (λ (x : ℕ × ℕ). x.1) sorted ∙ length_permutation (ranked ranks) sorted moved ∙ ranked_long
 
     indices_moved : IsPermutation (range_with_len 0 (length ranks)) order
-    indices_moved = subst (λ (xs : List ℕ). IsPermutation xs order) ranked_indices (IsPermutation-map (λ (x : ℕ × ℕ). x.1) ranked sorted moved)
+    indices_moved = subst (λ (xs : List ℕ). IsPermutation xs order) ranked_indices (IsPermutation-map (λ (x : ℕ × ℕ). x.1) (ranked ranks) sorted moved)
 
     range_apart : AllPairs (λ a b. a ≢ b) (range_with_len 0 (length ranks))
     range_apart i j d h k e =
@@ -109,7 +107,7 @@ module _ (ranks : List (Option ℕ)) where
 
     stands : (p : ℕ) → p < length order → ((get_or sorted p (0, 0)).1 < length ranks) × ((get_or sorted p (0, 0)).0 ≡ rank (get_or sorted p (0, 0)).1)
     stands p h = ranked_by_index (get_or sorted p (0, 0))
-        (Contains-permutation sorted ranked (get_or sorted p (0, 0)) (IsPermutation-sym ranked sorted moved)
+        (Contains-permutation sorted (ranked ranks) (get_or sorted p (0, 0)) (IsPermutation-sym (ranked ranks) sorted moved)
         (Contains-get_or sorted p (0, 0) (omega (arith, length_map (λ (x : ℕ × ℕ). x.1) sorted))))
 
     goes_on : (p q : ℕ) → p < q → q < length order → goes_before ranks (get_or order p 0) (get_or order q 0) ≡ true
@@ -138,7 +136,8 @@ module _ (ranks : List (Option ℕ)) where
           rises = goes_on;
         }
 
-  pub sorted_is_order : (sorted : List (ℕ × ℕ)) (order : List ℕ) → IsPermutation ranked sorted → IsSorted pair_cmp sorted → order ≡ map (λ x. x.1) sorted → IsOrder ranks order
+  -- what is sorted by rank and index is an order
+  pub sorted_is_order : (sorted : List (ℕ × ℕ)) (order : List ℕ) → IsPermutation (ranked ranks) sorted → IsSorted pair_cmp sorted → order ≡ map (λ x. x.1) sorted → IsOrder ranks order
   sorted_is_order sorted order moved rises e = subst (IsOrder ranks) (sym e) (is_order sorted moved rises)
 
 -- nothing goes before itself

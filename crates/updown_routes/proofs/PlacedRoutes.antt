@@ -8,6 +8,7 @@ use Rattle.std.specs.Prelude.{Option, None, Some, Contains, All, is_some, option
 use Rattle.std.specs.List.{find}
 use Rattle.std.specs.Option.{option_flatten}
 use Rattle.fact_store.proofs.Members.{contains_here, contains_later}
+use Rattle.subnet_view.proofs.Apart.{contains_map as in_map}
 use Rattle.subnet_view.proofs.Taken.{all_from}
 use Rattle.port_graph.specs.declared.exit.Exit.{Exit}
 use Rattle.port_graph.specs.Slopes.{ups_at, downs_at, down_distance, cost, same_number, port_down, port_up, next_port}
@@ -15,7 +16,7 @@ use Rattle.port_graph.specs.Heads.{exits_at as exits_by_index, heads}
 use Rattle.port_graph.specs.Indexed.{indexed, AreSlopes, AreNextPorts}
 use Rattle.port_graph.proofs.Counts.{length_map}
 use Rattle.port_graph.proofs.Lists.{contains_map, nothing_there}
-use Rattle.port_graph.proofs.Indexing.{exits_below, head_of, all_indexed}
+use Rattle.port_graph.proofs.Indexing.{exits_below, all_indexed}
 use Rattle.port_graph.proofs.Renaming.{next_port_renamed}
 use Rattle.port_graph.proofs.Named.{AreNamed, renamed}
 use Rattle.updown_routes.specs.Crossing.{Crossing}
@@ -64,24 +65,10 @@ module _ (graph : List Crossing) (good : IsGraph graph) (order places : List ℕ
 
   -- the exits of the switch at a place lead to those at the places of its exits
   up_from : (p : ℕ) (e : Exit) → p < length order → Contains (exits_by_index ups p) e → Contains (ups_at (slopes_of graph) (name p)) (by_place graph order e)
-  up_from p e h k = subst (λ (es : List Exit). Contains es (by_place graph order e)) (sym (by.each p h).up) (moved (exits_by_index ups p) e k)
-    where
-      moved : (es : List Exit) (e : Exit) → Contains es e → Contains (map (by_place graph order) es) (by_place graph order e)
-      moved es e k = (
-        k.0,
-        omega (arith, k.1, length_map (by_place graph order) es),
-        get_or-map (by_place graph order) es k.0 e (by_place graph order e) k.1 ∙ ap (by_place graph order) k.2,
-      )
+  up_from p e h k = subst (λ (es : List Exit). Contains es (by_place graph order e)) (sym (by.each p h).up) (in_map (by_place graph order) (exits_by_index ups p) e k)
 
   down_from : (p : ℕ) (e : Exit) → p < length order → Contains (exits_by_index downs p) e → Contains (downs_at (slopes_of graph) (name p)) (by_place graph order e)
-  down_from p e h k = subst (λ (es : List Exit). Contains es (by_place graph order e)) (sym (by.each p h).down) (moved (exits_by_index downs p) e k)
-    where
-      moved : (es : List Exit) (e : Exit) → Contains es e → Contains (map (by_place graph order) es) (by_place graph order e)
-      moved es e k = (
-        k.0,
-        omega (arith, k.1, length_map (by_place graph order) es),
-        get_or-map (by_place graph order) es k.0 e (by_place graph order e) k.1 ∙ ap (by_place graph order) k.2,
-      )
+  down_from p e h k = subst (λ (es : List Exit). Contains es (by_place graph order e)) (sym (by.each p h).down) (in_map (by_place graph order) (exits_by_index downs p) e k)
 
   -- a wire up from one place is there as a wire down to it
   back_up : (a b : ℕ) → Contains (heads downs a) b → Contains (heads ups b) a
@@ -96,7 +83,7 @@ module _ (graph : List Crossing) (good : IsGraph graph) (order places : List ℕ
       let up : Contains (ups_at (slopes_of graph) (name b)) y.0 = subst (λ (p : ℕ). Contains (ups_at (slopes_of graph) (name p)) y.0) x.2 u in
       let z = contains_map (by_place graph order) (exits_by_index ups b) y.0 (subst (λ (es : List Exit). Contains es y.0) (by.each b there).up up) in
       let same : z.0.to ≡ a = names_apart z.0.to a (omega (arith, (by.each b there).to_lesser z.0 z.1)) here (ap (λ (e : Exit). e.to) z.2 ∙ y.2) in
-      subst (λ (p : ℕ). Contains (heads ups b) p) same (head_of (exits_by_index ups b) z.0 z.1)
+      subst (λ (p : ℕ). Contains (heads ups b) p) same (has_end (exits_by_index ups b) z.0 z.1)
 
   -- and a wire down as a wire up
   back_down : (a b : ℕ) → Contains (heads ups a) b → Contains (heads downs b) a
@@ -111,8 +98,9 @@ module _ (graph : List Crossing) (good : IsGraph graph) (order places : List ℕ
       let down : Contains (downs_at (slopes_of graph) (name b)) y.0 = subst (λ (p : ℕ). Contains (downs_at (slopes_of graph) (name p)) y.0) x.2 d in
       let z = contains_map (by_place graph order) (exits_by_index downs b) y.0 (subst (λ (es : List Exit). Contains es y.0) (by.each b there).down down) in
       let same : z.0.to ≡ a = names_apart z.0.to a ((by.each b there).to_place z.0 z.1) here (ap (λ (e : Exit). e.to) z.2 ∙ y.2) in
-      subst (λ (p : ℕ). Contains (heads downs b) p) same (head_of (exits_by_index downs b) z.0 z.1)
+      subst (λ (p : ℕ). Contains (heads downs b) p) same (has_end (exits_by_index downs b) z.0 z.1)
 
+  -- the wires up and down by place are slopes
   pub are_slopes : AreSlopes ups downs
   are_slopes =
       record {
@@ -138,6 +126,7 @@ module _ (graph : List Crossing) (good : IsGraph graph) (order places : List ℕ
       let b = place_back (map (rank_of graph) guids) order is places are h.0 (omega (arith, h.1, are.all, is.all)) in
       omega (arith, e, b.1, by.all_up)
 
+  -- each place is one of theirs
   pub places_within : All (λ p. p < length ups) places
   places_within = all_from (λ p. p < length ups) places place_within
 
@@ -165,6 +154,7 @@ module _ (graph : List Crossing) (good : IsGraph graph) (order places : List ℕ
 -- target by target ------------------------------------------------------------------------
 
 module _ (ups downs : List (List Exit)) (places : List ℕ) (within : All (λ p. p < length ups) places) where
+  -- the next ports to a target
   abbrev pub row_to : ℕ → List (Option ℕ)
   row_to t = map (λ s. next_port (indexed ups downs) s t) places
 
@@ -172,6 +162,7 @@ module _ (ups downs : List (List Exit)) (places : List ℕ) (within : All (λ p.
   row_found t found are = map_same (λ p. get_or found p None) (λ s. next_port (indexed ups downs) s t) places
       (λ p h. are.next p (subst (λ (q : ℕ). q < length ups) h.2 (within h.0 p h.1)))
 
+  -- the ports to one more target
   pub one_more_target : (i : ℕ) (rows : List (List (Option ℕ))) (found : List (Option ℕ)) → i < length places → AreNextPorts ups downs (get_or places i 0) found
       → IsMapped row_to places rows i → IsMapped row_to places (rows ++ map (λ p. get_or found p None) places ∷ []) (i + 1)
   one_more_target i rows found h are so_far =

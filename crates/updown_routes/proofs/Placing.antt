@@ -54,6 +54,7 @@ module _ (ranks : List (Option ℕ)) (order : List ℕ) (is : IsOrder ranks orde
 
   -- each index has its place
   module _ (places : List ℕ) (are : ArePlaces order places) where
+    -- the order has an index at its place
     pub place_back : (j : ℕ) → j < length ranks → (get_or order (get_or places j 0) 0 ≡ j) × (get_or places j 0 < length order)
     place_back j h =
         let c = is.each j h in
@@ -132,9 +133,11 @@ module _ (graph : List Crossing) (good : IsGraph graph) where
 
 -- place by place
 module _ (graph : List Crossing) (order : List ℕ) where
+  -- the wires of the switches at the first places
   abbrev pub ArePlacedTo : ℕ → List (List Exit) → List (List Exit) → Type 0
   ArePlacedTo n ups downs = (length ups ≡ n) × (length downs ≡ n) × ((p : ℕ) → p < n → IsPlaced graph order p (exits_by_index ups p) (exits_by_index downs p))
 
+  -- the wires of the switch at one more place
   pub one_more_placed : (n : ℕ) (ups downs : List (List Exit)) (up down : List Exit) → ArePlacedTo n ups downs → IsPlaced graph order n up down
       → ArePlacedTo (n + 1) (ups ++ up ∷ []) (downs ++ down ∷ [])
   one_more_placed n ups downs up down (lu, ld, all) here = (

@@ -26,5 +26,6 @@ module _ (cells : Cells) (g : ℕ) where
             (omega (arith, i), lower e.port start _ (omega (arith, i)) (rising_from start (start + 1) n (omega arith)))
       ] refl
 
+  -- the exits of a switch stand by rising port
   pub exits_rise : IsStrictlyIncreasing (map (λ e. e.port) (exits_of cells g))
   exits_rise = risen_from 0 _ (rising_from 0 1 (port_count_of cells g) (omega arith))

@@ -13,16 +13,19 @@ use Rattle.updown_routes.proofs.Rising.{find_least, numbers_rise}
 use Rattle.updown_routes.proofs.Before.{rank, LexBelow, lesser, tied, lex_below, below_lex, before_trans, not_before_itself, ups_are, downs_are, ups_have, downs_have, has_end}
 use Rattle.updown_routes.proofs.Components.{is_some_of, walk_joins, walk_of, joined, rank_is, rooted}
 
+-- shortest walks have one length
 pub one_shortest : (next : ℕ → List ℕ) (a b m n : ℕ) → IsShortest next a b m → IsShortest next a b n → m ≡ n
 one_shortest next a b m n i j = omega (arith, i.least n j.walk, j.least m i.walk)
 
 one_root : (graph : List Crossing) (a r s : ℕ) → IsRoot graph a r → IsRoot graph a s → r ≡ s
 one_root graph a r s i j = omega (arith, i.least s j.reached.0 j.reached.1, j.least r i.reached.0 i.reached.1)
 
+-- a switch has one rank
 pub one_rank : (graph : List Crossing) (a m n : ℕ) → HasRank graph a m → HasRank graph a n → m ≡ n
 one_rank graph a m n (r, i, p) (s, j, q) =
     one_shortest (neighbors graph) s a m n (subst (λ (x : ℕ). IsShortest (neighbors graph) x a m) (one_root graph a r s i j) p) q
 
+-- of two pairs with different second numbers one is below the other
 pub lex_total : (r a s b : ℕ) → (a ≡ b → ⊥) → LexBelow r a s b ⊎ LexBelow s b r a
 lex_total r a s b apart =
     elim (cases_order r s) [
@@ -44,10 +47,12 @@ module _ (graph : List Crossing) where
         | inr l ↦ below_lex (rank graph b) b (rank graph a) a l
       ]
 
+  -- of two switches at most one is before the other
   pub before_asymm : (a b : ℕ) → is_before graph a b ≡ true → is_before graph b a ≡ false
   before_asymm a b h = false_from_ne_true (is_before graph b a) (λ k. true≢false (sym (before_trans graph a b a h k) ∙ not_before_itself graph a))
 
 module _ (graph : List Crossing) (good : IsGraph graph) where
+  -- a walk from a switch ends at one
   pub walk_ends : (n a b : ℕ) → IsSwitch graph a → Walk (neighbors graph) a b n → IsSwitch graph b
   walk_ends zero a b h e = subst (λ (x : ℕ). IsSwitch graph x) e h
   walk_ends (suc n) a b h (c, s, w) = walk_ends n c b (good.leads_to_switch a c s) w
@@ -62,6 +67,7 @@ module _ (graph : List Crossing) (good : IsGraph graph) where
         least = λ b n w. let j = walk_joins graph good n a b h w in f.least b (walk_ends n a b h w) (joined graph good a b j.0 j.1);
       }
 
+  -- each switch has a rank, and it is the one in words
   pub has_rank : (a : ℕ) → IsSwitch graph a → (n : ℕ) × (rank_of graph a ≡ Some n) × HasRank graph a n
   has_rank a h =
       let r = rooted graph good a h in (
@@ -73,9 +79,11 @@ module _ (graph : List Crossing) (good : IsGraph graph) where
   ranked : (a m : ℕ) → IsSwitch graph a → HasRank graph a m → rank graph a ≡ m
   ranked a m h k = let r = has_rank a h in ap (λ o. unwrap_or o 0) r.1 ∙ one_rank graph a r.0 m r.2 k
 
+-- the rank is the one in words
 pub rank_law : RankLaw
 rank_law graph good a h = let r = has_rank graph good a h in subst (λ (o : Option ℕ). MatchOption o ⊥ (HasRank graph a)) (sym r.1) r.2
 
+-- before is so in words where it is by the test
 pub before_law : BeforeLaw
 before_law graph good a b ha hb = (
   λ e m n p q. (elim (lex_below (rank graph a) a (rank graph b) b e) [
@@ -93,6 +101,7 @@ before_law graph good a b ha hb = (
       ]),
 )
 
+-- up and down are so in words where they are by the test
 pub slope_law : SlopeLaw
 slope_law graph good a e ha =
     let to_switch : Contains (exits_at graph a) e → IsSwitch graph e.to = λ h. good.leads_to_switch a e.to (has_end (exits_at graph a) e h) in (

@@ -57,6 +57,7 @@ module _ (facts : Facts) (g p : ℕ) (q : ℕ × ℕ) (wire : across (entries fa
   abbrev test : Bool
   test = is_switch_node (entries facts) q.0
 
+  -- a wire to what is no switch is no exit
   pub no_exit : (Contains guids q.0 → ⊥) → exit_at (entries facts) g p ≡ None
   no_exit none =
       let exit : Option Exit = Some (record { port = p; to = q.0 }) in
@@ -66,6 +67,7 @@ module _ (facts : Facts) (g p : ℕ) (q : ℕ × ℕ) (wire : across (entries fa
         | false ↦ λ e. refl
       ] refl)
 
+  -- a wire to the switch at an index is the exit there
   pub exit_to_index : (i : ℕ) → IsIndexOf guids q.0 i → Some (by_guid guids (record { port = p; to = i })) ≡ exit_at (entries facts) g p
   exit_to_index i found =
       let is = and_parts test (is_some (cap_of (entries facts) q.0)) (switch_usable facts q.0 (index_in guids q.0 i found)) in

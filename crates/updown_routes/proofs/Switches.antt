@@ -19,9 +19,11 @@ graph_guids cells = same (switches cells)
     same [] = refl
     same (g ∷ gs) = ap (λ xs. g ∷ xs) (same gs)
 
+-- a switch of the list is usable
 pub switch_usable : (facts : Facts) (g : ℕ) → Contains (switches (entries facts)) g → is_usable (entries facts) g ≡ true
 switch_usable facts g h = (usable_law (entries facts) g).1 (((switches_law facts).0 g).0 h)
 
+-- a usable switch is in the list
 pub usable_switch : (facts : Facts) (g : ℕ) → is_usable (entries facts) g ≡ true → Contains (switches (entries facts)) g
 usable_switch facts g u = ((switches_law facts).0 g).1 ((usable_law (entries facts) g).0 u)
 
@@ -29,12 +31,15 @@ usable_switch facts g u = ((switches_law facts).0 g).1 ((usable_law (entries fac
 increasing : (xs : List ℕ) → AllPairs (λ a b. a < b) xs → IsStrictlyIncreasing xs
 increasing xs h k l = h k (k + 1) 0 (omega arith) l
 
+-- the switches rise
 pub switches_increase : (facts : Facts) → IsStrictlyIncreasing (switches (entries facts))
 switches_increase facts = increasing (switches (entries facts)) (switches_law facts).1
 
+-- and so do the graph's
 pub switches_rise : (facts : Facts) → IsStrictlyIncreasing (guids_of (graph_of (entries facts)))
 switches_rise facts = subst IsStrictlyIncreasing (sym (graph_guids (entries facts))) (switches_increase facts)
 
+-- the graph's switches are the usable ones
 pub switch_law : SwitchLaw
 switch_law facts g = let cells = entries facts in (
   λ h. switch_usable facts g (subst (λ (xs : List ℕ). Contains xs g) (graph_guids cells) h),

@@ -16,10 +16,12 @@ next_item xs i x h e = drop-cons xs i x h ∙ (λ j. sym e j ∷ drop (sym (add-
 abbrev pub IsMapped : {X Y : Type 0} → (X → Y) → List X → List Y → ℕ → Type 0
 IsMapped f xs done i = done ++ map f (drop i xs) ≡ map f xs
 
+-- one more item
 pub mapped_more : {X Y : Type 0} (f : X → Y) (xs : List X) (done : List Y) (i : ℕ) (x : X) → i < length xs → x ≡ get_or xs i x → IsMapped f xs done i → IsMapped f xs (done ++ f x ∷ []) (i + 1)
 mapped_more f xs done i x h is e =
     append_assoc done (f x ∷ []) (map f (drop (i + 1) xs)) ∙ sym (ap (λ ys. done ++ map f ys) (next_item xs i x h is)) ∙ e
 
+-- after the last item all is made
 pub mapped_all : {X Y : Type 0} (f : X → Y) (xs : List X) (done : List Y) (i : ℕ) → length xs ≤ i → IsMapped f xs done i → done ≡ map f xs
 mapped_all f xs done i h e = sym (append-nil done) ∙ sym (ap (λ ys. done ++ map f ys) (drop_of_length-le xs h)) ∙ e
 

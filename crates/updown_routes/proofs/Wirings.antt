@@ -22,6 +22,7 @@ use Rattle.updown_routes.proofs.Rising.{Rises, numbers_rise}
 
 -- lists of one length ---------------------------------------------------------------------
 
+-- the switches of a graph that is put together
 pub guids_of_crossings : (gs : List ℕ) (rows : List (List Exit)) → length rows ≡ length gs → guids_of (crossings gs rows) ≡ gs
 guids_of_crossings [] rows e = refl
 guids_of_crossings (g ∷ gs) [] e = absurd (omega arith)
@@ -67,15 +68,19 @@ module _ (guids : List ℕ) (exits : List (List Exit)) (is : IsWiring guids exit
   as_many_rows : length rows ≡ length guids
   as_many_rows = length_map (map (by_guid guids)) exits ∙ is.as_many
 
+  -- the GUIDs of the graph
   pub guids_are : guids_of graph ≡ guids
   guids_are = sym (ap guids_of by_name) ∙ guids_of_crossings guids rows as_many_rows
 
+  -- there are as many switches as GUIDs
   pub length_is : length graph ≡ length guids
   length_is = sym (length_map (λ (c : Crossing). c.guid) graph) ∙ ap length guids_are
 
+  -- it is a graph
   pub good : IsGraph graph
   good = subst IsGraph by_name is.is_graph
 
+  -- the GUIDs rise
   pub rise : IsStrictlyIncreasing guids
   rise = subst IsStrictlyIncreasing guids_are good.rising
 
@@ -86,11 +91,13 @@ module _ (guids : List ℕ) (exits : List (List Exit)) (is : IsWiring guids exit
       ∙ exits_of_crossings guids rows i (numbers_rise guids rise) as_many_rows h
       ∙ get_or-map (map (by_guid guids)) exits i [] [] (omega (arith, is.as_many))
 
+  -- the exits by index are those by GUID
   pub exits_of_switch : (i : ℕ) → i < length graph → map (by_guid (guids_of graph)) (get_or exits i []) ≡ exits_at graph (switch_at graph i)
   exits_of_switch i h =
       ap (λ gs. map (by_guid gs) (get_or exits i [])) guids_are ∙ sym (exits_by_index i (omega (arith, length_is)))
       ∙ sym (ap (λ gs. exits_at graph (slice_index gs i)) guids_are)
 
+  -- they lead to switches
   pub exits_to_switches : (i : ℕ) → LeadBelow (length graph) (get_or exits i [])
   exits_to_switches i e h = omega (arith, is.to_switches i e h, is.as_many, length_is)
 

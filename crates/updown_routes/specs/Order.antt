@@ -1,9 +1,19 @@
 -- Switches by index, in the order of their ranks.
-use Rattle.std.specs.Prelude.{◌≡◌, ◌<◌, ℕ, Bool, true, List, length, Contains, Option, None, ◌==◌, ◌&&◌, ◌||◌, nat_lt, unwrap_or, slice_index, slice_index_or}
+use Rattle.std.specs.Prelude.{◌≡◌, ◌<◌, ℕ, Bool, true, List, map, EachIndex, length, Contains, Option, None, ◌==◌, ◌&&◌, ◌||◌, nat_lt, unwrap_or, slice_index, slice_index_or}
+use Rattle.std.specs.List.{enumerate_from}
+use Rattle.std.specs.Option.{option_or}
 
 -- lesser in rank, or of one rank and lesser in index
 abbrev pub goes_before : List (Option ℕ) → ℕ → ℕ → Bool
 goes_before ranks a b = let ra = unwrap_or (slice_index_or ranks a None) 0 in let rb = unwrap_or (slice_index_or ranks b None) 0 in nat_lt ra rb || (ra == rb && nat_lt a b)
+
+-- each index, after its rank
+abbrev pub ranked : List (Option ℕ) → List (ℕ × ℕ)
+ranked ranks = map (λ x. (unwrap_or x.1 0, x.0)) (enumerate_from 0 ranks)
+
+-- where there is no rank yet, the distance
+abbrev pub FillsIn : List (Option ℕ) → List (Option ℕ) → List (Option ℕ) → Type 0
+FillsIn ranks distances new = EachIndex new (λ k. slice_index_or new k None ≡ option_or (slice_index_or ranks k None) (slice_index_or distances k None))
 
 -- all indices, each before those that follow it
 pub record IsOrder (ranks : List (Option ℕ)) (order : List ℕ) : Type 0 where

@@ -3,9 +3,9 @@ use Rattle.std.specs.Prelude.{◌≡◌, ◌<◌, ℕ, Option, MatchOption, List
 use Rattle.port_graph.specs.declared.exit.Exit.{Exit}
 use Rattle.port_graph.specs.Heads.{LeadToVertices}
 use Rattle.updown_routes.specs.Crossing.{Crossing}
-use Rattle.updown_routes.specs.Graph.{guids_of}
+use Rattle.updown_routes.specs.Graph.{guids_of, exits_at}
 use Rattle.updown_routes.specs.GraphLaws.{IsGraph}
-use Rattle.updown_routes.specs.Ranks.{rank_of}
+use Rattle.updown_routes.specs.Ranks.{distance, rank_of}
 
 -- each exit leads to a lesser number
 abbrev pub LeadBelow : ℕ → List Exit → Type 0
@@ -26,6 +26,14 @@ switch_at graph i = slice_index (guids_of graph) i
 -- an exit to an index, by the GUID at that index
 abbrev pub by_guid : List ℕ → Exit → Exit
 by_guid guids e = record { port = e.port; to = slice_index guids e.to }
+
+-- the exits of the switch at an index, which lead to indices
+abbrev pub AreExitsAt : List Crossing → ℕ → List Exit → Type 0
+AreExitsAt graph i exits = map (by_guid (guids_of graph)) exits ≡ exits_at graph (switch_at graph i)
+
+-- the distances from the switch at an index to each, by rising GUID
+abbrev pub distances_from : List Crossing → ℕ → List (Option ℕ)
+distances_from graph i = map (distance graph (switch_at graph i)) (guids_of graph)
 
 -- switches, each with its exits
 abbrev pub crossings : List ℕ → List (List Exit) → List Crossing

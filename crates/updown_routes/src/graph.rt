@@ -1,9 +1,9 @@
 ghost use Rattle.std.specs.Prelude.{◌≡◌, ◌<◌, IfOk, length, map, slice_get};
 ghost use Rattle.std.specs.FinMap.{entries};
-ghost use Rattle.updown_routes.specs.Graph.{exits_at, graph_of, guids_of};
+ghost use Rattle.updown_routes.specs.Graph.{graph_of, guids_of};
 ghost use Rattle.updown_routes.specs.GraphLaws.{IsGraph};
 ghost use Rattle.updown_routes.specs.Ranks.{rank_of};
-ghost use Rattle.updown_routes.specs.Wiring.{by_guid, switch_at, IsIndexIn, LeadBelow};
+ghost use Rattle.updown_routes.specs.Wiring.{AreExitsAt, IsIndexIn, LeadBelow};
 
 use crate::rank::ranks;
 use crate::wiring::Wiring;
@@ -34,8 +34,8 @@ impl Model for Graph {
 }
 
 impl Graph {
-    /// The usable switches of the view with the wires between them. Takes some ten searches a port, and a
-    /// search in breadth for each component.
+    /// The usable switches of the view with the wires between them. Takes some ten searches a port,
+    /// and a search in breadth for each component.
     pub fn of(alloc: Global, store: &Store) -> Result<Self, Refused>
         ensures { IfOk result (λ graph. graph ≡ graph_of (entries store.now)) }
     {
@@ -66,7 +66,8 @@ impl Graph {
         self.wiring.index_of(switch)
     }
 
-    /// The number of wires from the root of its component to a switch; none for another GUID. Takes a search.
+    /// The number of wires from the root of its component to a switch; none for another GUID.
+    /// Takes a search.
     pub fn rank(&self, switch: Guid) -> Option<usize>
         ensures { result ≡ rank_of self.now switch }
     {
@@ -85,7 +86,7 @@ impl Graph {
     /// The exits of the switch at an index, which lead to indices. Takes one step.
     pub(crate) fn exits(&self, index: usize) -> &[Exit]
         requires { index < length self.now }
-        ensures exits { map (by_guid (guids_of self.now)) result.now ≡ exits_at self.now (switch_at self.now index) }
+        ensures exits { AreExitsAt self.now index result.now }
         ensures to_switches { LeadBelow (length self.now) result.now }
         ensures is_graph { IsGraph self.now }
     {

@@ -3,8 +3,8 @@ ghost use Rattle.updown_routes.specs.GraphLaws.{GraphLaw, SwitchLaw, ExitLaw};
 ghost use Rattle.updown_routes.specs.RankLaws.{RankLaw, BeforeLaw, SlopeLaw};
 ghost use Rattle.updown_routes.specs.RouteLaws.{DownDistanceLaw, CostLaw, CostRecursion, NextPortLaw, WayLaw, NoCostBetween, CostInComponent};
 
-/// What facts give is a graph: its switches stand by rising GUID, each with its exits by rising port,
-/// and each wire leads to a switch that has a wire back.
+/// What facts give is a graph: its switches stand by rising GUID, each with its exits by rising
+/// port, and each wire leads to a switch that has a wire back.
 pub fn facts_give_a_graph()
     ensures { GraphLaw }
 {}
@@ -19,13 +19,14 @@ pub fn exits_are_wires_among_switches()
     ensures { ExitLaw }
 {}
 
-/// Each switch has a rank: the length of a shortest walk from the switch with the least GUID of those
-/// that can be reached.
+/// Each switch has a rank: the length of a shortest walk from the switch with the least GUID of
+/// those that can be reached.
 pub fn ranks_are_in_words()
     ensures { RankLaw }
 {}
 
-/// A switch is before another where its rank is lesser, or the ranks are equal and its GUID is lesser.
+/// A switch is before another where its rank is lesser, or the ranks are equal and its GUID is
+/// lesser.
 pub fn before_is_in_words()
     ensures { BeforeLaw }
 {}
@@ -35,31 +36,32 @@ pub fn up_and_down_are_in_words()
     ensures { SlopeLaw }
 {}
 
-/// The down distance is the length of a shortest walk down, and there is none where no walk leads down
-/// to the target.
+/// The down distance is the length of a shortest walk down, and there is none where no walk leads
+/// down to the target.
 pub fn down_distances_are_in_words()
     ensures { DownDistanceLaw }
 {}
 
-/// The cost is the length of a shortest route: a climb past switches from which no walk leads down to
-/// the target, and a shortest walk down.
+/// The cost is the length of a shortest route: a climb past switches from which no walk leads
+/// down to the target, and a shortest walk down.
 pub fn costs_are_in_words()
     ensures { CostLaw }
 {}
 
-/// The cost is the down distance where there is one, else one more than the least cost over the wires up.
+/// The cost is the down distance where there is one, else one more than the least cost over the
+/// wires up.
 pub fn costs_follow_the_wires_up()
     ensures { CostRecursion }
 {}
 
-/// The next port is the least port down to a switch one nearer, or else, where no walk leads down, the
-/// least port up to a switch of least cost.
+/// The next port is the least port down to a switch one nearer, or else, where no walk leads
+/// down, the least port up to a switch of least cost.
 pub fn next_ports_are_in_words()
     ensures { NextPortLaw }
 {}
 
-/// From each switch with a cost the next ports lead to the target, up and then down, over as many wires
-/// as the cost.
+/// From each switch with a cost the next ports lead to the target, up and then down, over as many
+/// wires as the cost.
 pub fn next_ports_lead_to_the_target()
     ensures { WayLaw }
 {}

@@ -1,7 +1,6 @@
-ghost use Rattle.std.specs.Prelude.{◌≡◌, IfOk, length, map, unwrap_or};
-ghost use Rattle.std.specs.List.{enumerate_from};
+ghost use Rattle.std.specs.Prelude.{◌≡◌, IfOk, length, map};
 ghost use Rattle.std.specs.Slice.Sort.{NamesEachOnce};
-ghost use Rattle.updown_routes.specs.Order.{IsOrder, ArePlaces};
+ghost use Rattle.updown_routes.specs.Order.{ranked, IsOrder, ArePlaces};
 
 use std::alloc::{AllocError, Global};
 
@@ -23,7 +22,7 @@ fn indices(alloc: Global, ranked: &[(usize, usize)]) -> Result<Vec<usize>, Alloc
 
 /// Each index, after its rank.
 fn ranked(alloc: Global, ranks: &[Option<usize>]) -> Result<Vec<(usize, usize)>, AllocError>
-    ensures { IfOk result (λ ranked. ranked.items ≡ map (λ x. (unwrap_or x.1 0, x.0)) (enumerate_from 0 ranks.now)) }
+    ensures { IfOk result (λ pairs. pairs.items ≡ ranked ranks.now) }
 {
     ranks
         .iter()

@@ -1,13 +1,13 @@
-ghost use Rattle.std.specs.Prelude.{◌≡◌, EachIndex, None, IfOk, length, map, slice_index_or};
-ghost use Rattle.std.specs.Option.{option_or};
+ghost use Rattle.std.specs.Prelude.{◌≡◌, IfOk, length, map};
 ghost use Rattle.updown_routes.specs.Graph.{guids_of};
+ghost use Rattle.updown_routes.specs.Order.{FillsIn};
 ghost use Rattle.updown_routes.specs.Ranks.{rank_of};
 
 use crate::wiring::Wiring;
 use std::alloc::{AllocError, Global};
 
-/// The rank of each switch. A switch that no switch before it reaches is the root of its component, and
-/// the ranks there are the distances from it: a search for each component.
+/// The rank of each switch. A switch that no switch before it reaches is the root of its component,
+/// and the ranks there are the distances from it: a search for each component.
 pub(crate) fn ranks(alloc: Global, wiring: &Wiring) -> Result<Vec<Option<usize>>, AllocError>
     ensures { IfOk result (λ ranks. ranks.items ≡ map (rank_of wiring.now) (guids_of wiring.now)) }
 {
@@ -24,7 +24,7 @@ pub(crate) fn ranks(alloc: Global, wiring: &Wiring) -> Result<Vec<Option<usize>>
 /// Puts the distance of each switch where there is no rank yet.
 fn fill(ranks: &mut [Option<usize>], distances: &[Option<usize>])
     requires { length ranks.old ≡ length distances.now }
-    ensures { EachIndex ranks.new (λ k. slice_index_or ranks.new k None ≡ option_or (slice_index_or ranks.old k None) (slice_index_or distances.now k None)) }
+    ensures { FillsIn ranks.old distances.now ranks.new }
 {
     for (i, rank) in ranks.iter_mut().enumerate() {
         *rank = rank.or(distances[i]);

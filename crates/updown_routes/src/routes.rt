@@ -44,8 +44,9 @@ impl<'g> Routes<'g> {
         Ok(Routes { graph, towards })
     }
 
-    /// The port by which a packet leaves a switch to another: down where that leads to the target, else up.
-    /// None at the target, between components, and where one of them is no switch. Takes two searches.
+    /// The port by which a packet leaves a switch to another: down where that leads to the target,
+    /// else up. None at the target, between components, and where one of them is no switch. Takes
+    /// two searches.
     pub fn next_port(&self, switch: Guid, target: Guid) -> Option<PortNum>
         ensures { result ≡ next_port (slopes_of self.now) switch target }
     {
@@ -71,7 +72,8 @@ fn towards(
 ) -> Result<Vec<Vec<Option<PortNum>>>, AllocError>
     requires slopes { AreSlopes slopes.now.ups slopes.now.downs }
     requires places { All (λ p. p < length slopes.now.ups) places.now }
-    ensures { IfOk result (λ towards. map (λ ports. ports.items) towards.items ≡ port_rows slopes.now.ups slopes.now.downs places.now) }
+    ensures { IfOk result (λ towards. map (λ ports. ports.items) towards.items
+        ≡ port_rows slopes.now.ups slopes.now.downs places.now) }
 {
     let mut towards = Vec::with_capacity(alloc, places.len())?;
     for target in places {
@@ -88,7 +90,8 @@ fn at_places(
     places: &[usize],
 ) -> Result<Vec<Option<PortNum>>, AllocError>
     requires { All (λ p. p < length ports.now) places.now }
-    ensures { IfOk result (λ found. found.items ≡ map (λ p. slice_index_or ports.now p None) places.now) }
+    ensures { IfOk result (λ found.
+        found.items ≡ map (λ p. slice_index_or ports.now p None) places.now) }
 {
     let mut found = Vec::with_capacity(alloc, places.len())?;
     for place in places {

@@ -18,7 +18,8 @@ pub(crate) struct Slopes {
 }
 
 impl Slopes {
-    /// The wires up and down of each switch, where the order is that of ranks and GUIDs and has these places.
+    /// The wires up and down of each switch, where the order is that of ranks and GUIDs and has
+    /// these places.
     pub(crate) fn of(
         alloc: Global,
         graph: &Graph,

@@ -110,8 +110,8 @@ struct Row {
     hops: &'static [Hop],
 }
 
-/// In the last one four switches stand in a row beneath the root, and packets go down the row though it is nearer by
-/// the root.
+/// In the last one four switches stand in a row beneath the root, and packets go down the row though
+/// it is nearer by the root.
 const ROWS: [Row; 5] = [
     Row {
         name: "none",

@@ -3,10 +3,9 @@ ghost use Rattle.std.specs.List.Sorted.{IsStrictlyIncreasing};
 ghost use Rattle.std.specs.FinMap.{entries};
 ghost use Rattle.subnet_view.specs.Reading.{port_count_of, switches};
 ghost use Rattle.port_graph.specs.Heads.{LeadToVertices};
-ghost use Rattle.updown_routes.specs.Graph.{exit_at, exits_at, exits_of, graph_of, guids_of};
+ghost use Rattle.updown_routes.specs.Graph.{exit_at, exits_of, graph_of, guids_of};
 ghost use Rattle.updown_routes.specs.GraphLaws.{IsGraph};
-ghost use Rattle.updown_routes.specs.Ranks.{distance};
-ghost use Rattle.updown_routes.specs.Wiring.{by_guid, switch_at, IsIndexIn, LeadBelow};
+ghost use Rattle.updown_routes.specs.Wiring.{by_guid, distances_from, AreExitsAt, IsIndexIn, LeadBelow};
 
 use fact_store::{Refused, Store};
 use port_graph::{Exit, Exits};
@@ -71,7 +70,7 @@ impl Wiring {
     /// The exits of the switch at an index, which lead to indices. Takes one step.
     pub(crate) fn exits(&self, index: usize) -> &[Exit]
         requires { index < length self.now }
-        ensures exits { map (by_guid (guids_of self.now)) result.now ≡ exits_at self.now (switch_at self.now index) }
+        ensures exits { AreExitsAt self.now index result.now }
         ensures to_switches { LeadBelow (length self.now) result.now }
     {
         self.exits.at(index)
@@ -84,7 +83,7 @@ impl Wiring {
         from: usize,
     ) -> Result<Vec<Option<usize>>, AllocError>
         requires { from < length self.now }
-        ensures { IfOk result (λ found. found.items ≡ map (distance self.now (switch_at self.now from)) (guids_of self.now)) }
+        ensures { IfOk result (λ found. found.items ≡ distances_from self.now from) }
     {
         port_graph::distances(alloc, &self.exits, from)
     }
@@ -93,7 +92,8 @@ impl Wiring {
 /// The exits of each switch, where the GUIDs are those of the usable switches.
 fn exits(alloc: Global, store: &Store, guids: &[Guid]) -> Result<Exits, AllocError>
     requires { guids.now ≡ switches (entries store.now) }
-    ensures wires { IfOk result (λ exits. map (map (by_guid guids.now)) exits ≡ map (exits_of (entries store.now)) guids.now) }
+    ensures wires { IfOk result (λ exits.
+        map (map (by_guid guids.now)) exits ≡ map (exits_of (entries store.now)) guids.now) }
     ensures to_switches { IfOk result (λ exits. LeadToVertices exits) }
 {
     let mut exits = Exits::new(alloc);
@@ -112,7 +112,8 @@ fn exits_of(
     guid: Guid,
 ) -> Result<Vec<Exit>, AllocError>
     requires { guids.now ≡ switches (entries store.now) }
-    ensures wires { IfOk result (λ found. map (by_guid guids.now) found.items ≡ exits_of (entries store.now) guid) }
+    ensures wires { IfOk result (λ found.
+        map (by_guid guids.now) found.items ≡ exits_of (entries store.now) guid) }
     ensures to_switches { IfOk result (λ found. LeadBelow (length guids.now) found.items) }
 {
     let mut found = Vec::new(alloc);
