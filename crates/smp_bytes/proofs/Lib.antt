@@ -1,6 +1,8 @@
 pub mod Answered
 pub mod BitLaws
+pub mod Cabled
 pub mod CopyLaws
+pub mod DirectedWalks
 pub mod FieldLaws
 pub mod HexText
 pub mod Kept
