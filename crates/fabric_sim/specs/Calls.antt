@@ -1,0 +1,32 @@
+-- The calls of a fabric that change no cable, one after the other.
+use Rattle.std.specs.Prelude.{ℕ, Bool, false, List, [], ◌∷◌, ◌==◌}
+use Rattle.smp_bytes.specs.declared.cable.NodePort.{NodePort}
+use Rattle.fabric_sim.specs.declared.packet.Packet.{Packet}
+use Rattle.fabric_sim.specs.Simulation.{Simulation}
+use Rattle.fabric_sim.specs.Delivery.{delivered}
+use Rattle.fabric_sim.specs.Changes.{injected, repeated, lost, manager_seated}
+
+pub data Call : Type 0 where
+  Inject : (from : NodePort) (packet : Packet) → Call
+  Deliver : (serial : ℕ) → Call
+  Lose : (serial : ℕ) → Call
+  Repeat : (serial : ℕ) → Call
+  Seat : (at : NodePort) → Call
+
+abbrev pub after_call : Simulation → Call → Simulation
+after_call s (Inject from packet) = (injected s from packet).fabric
+after_call s (Deliver serial) = (delivered s serial).fabric
+after_call s (Lose serial) = (lost s serial).fabric
+after_call s (Repeat serial) = (repeated s serial).fabric
+after_call s (Seat at) = (manager_seated s at).fabric
+
+abbrev pub after_calls : List Call → Simulation → Simulation
+after_calls [] s = s
+after_calls (call ∷ calls) s = after_calls calls (after_call s call)
+
+abbrev pub is_delivery_of : ℕ → Call → Bool
+is_delivery_of serial (Deliver other) = other == serial
+is_delivery_of serial (Inject from packet) = false
+is_delivery_of serial (Lose other) = false
+is_delivery_of serial (Repeat other) = false
+is_delivery_of serial (Seat at) = false

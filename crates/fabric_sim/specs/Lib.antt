@@ -1,0 +1,6 @@
+pub mod Simulation
+pub mod Delivery
+pub mod Changes
+pub mod Calls
+pub mod ThereAndBack
+pub mod Ping

@@ -1,0 +1,39 @@
+-- Where a packet for a LID comes to, wire by wire, and how many wires it takes.
+-- InfiniBand Architecture Specification, Volume 1: switches, unicast forwarding by the linear forwarding table.
+use Rattle.std.specs.Prelude.{◌≡◌, ℕ, zero, suc, ◌+◌, List, length}
+use Rattle.std.specs.Option.{option_map_or}
+use Rattle.smp_bytes.specs.declared.cable.NodePort.{NodePort}
+use Rattle.smp_bytes.specs.declared.course.Course.{Course}
+use Rattle.smp_bytes.specs.declared.course.Course.TheVariants.{Delivers, LeavesBy, Drops}
+use Rattle.smp_bytes.specs.Fabric.{Fabric}
+use Rattle.smp_bytes.specs.Forwarding.{Standing, Hop, sent_from, arrived_at, course, wire_bound, IsDelivered, IsLost}
+use Rattle.fabric_sim.specs.declared.ping.Ping.{Ping}
+use Rattle.fabric_sim.specs.declared.ping.Ping.TheVariants.{Reached, Lost}
+
+-- what becomes of a packet after so many wires, by its course and by what becomes of it at the other end of a wire
+abbrev pub ping_by : Fabric → Standing → ℕ → (NodePort → Ping) → Course → Ping
+ping_by f s hops on (Delivers p) = Reached p hops
+ping_by f s hops on (LeavesBy out) = option_map_or on (f.across out) (Lost s.place.node)
+ping_by f s hops on Drops = Lost s.place.node
+
+-- the same, where it may take so many wires more, after which it is lost where it is
+abbrev pub ping_on : Fabric → ℕ → ℕ → ℕ → Standing → Ping
+ping_on f lid zero hops s = ping_by f s hops (λ into. Lost s.place.node) (course f lid s)
+ping_on f lid (suc left) hops s = ping_by f s hops (λ into. ping_on f lid left (hops + 1) (arrived_at into)) (course f lid s)
+
+-- a packet for a LID, sent from a port
+abbrev pub ping : Fabric → ℕ → NodePort → Ping
+ping f lid source = ping_on f lid (wire_bound f) 0 (sent_from source)
+
+-- a way of so many wires delivers it
+pub record DeliversOver (f : Fabric) (lid : ℕ) (source target : NodePort) (count : ℕ) : Type 0 where
+  pub hops : List Hop
+  pub length : length hops ≡ count
+  pub delivered : IsDelivered f lid source hops target
+
+-- what a ping tells is so: a packet that reaches a port is delivered there over so many wires, and one that is lost at a
+-- node is lost there
+abbrev pub PingsTell : Type 0
+PingsTell = (f : Fabric) (lid : ℕ) (source : NodePort)
+    → ((target : NodePort) (count : ℕ) → ping f lid source ≡ Reached target count → DeliversOver f lid source target count)
+    × ((place : ℕ) → ping f lid source ≡ Lost place → (hops : List Hop) × IsLost f lid source hops place)

@@ -1,0 +1,130 @@
+-- A simulated fabric: the agents of its nodes, the cables between their ports, and the packets on their way.
+use Rattle.std.specs.Prelude.{◌≡◌, ℕ, ◌+◌, ◌^◌, ◌<◌, ◌≤◌, ◌↔◌, ◌&&◌, not, Bool, true, false, List, [], map, length, All, AllPairs, find, filter, slice_get, slice_index_or, nat_le, ◌==◌, if◌then◌else◌, Option, Some, None}
+use Rattle.std.specs.Option.{option_map_or}
+use Rattle.smp_bytes.specs.declared.cable.NodePort.{NodePort}
+use Rattle.smp_bytes.specs.Fabric.{Fabric}
+use Rattle.attr_codec.specs.declared.port_state.PortState.TheVariants.{Down}
+use Rattle.node_agents.specs.Agent.{Agent, IsAgent, node_of, is_switch, state_at, base_lid_at, entry_at, has_seat}
+use Rattle.fabric_sim.specs.declared.flight.Place.{Place}
+use Rattle.fabric_sim.specs.declared.flight.Place.TheVariants.{Seat, Arrived, Made}
+use Rattle.fabric_sim.specs.declared.flight.Flight.{Flight}
+
+-- The agents by the places of their nodes; for each node the other ends of the cables in its ports, from port 0 on, in
+-- which no cable can be; the packets in flight, by rising serial number; and the serial number that is given next, 2 ^ 64
+-- where none is left.
+pub record Simulation : Type 0 where
+  pub agents : List Agent
+  pub peers : List (List (Option NodePort))
+  pub flights : List Flight
+  pub next : ℕ
+
+-- nodes and ports ----------------------------------------------------------------------
+
+abbrev pub agent_at : Simulation → ℕ → Option Agent
+agent_at s place = slice_get s.agents place
+
+-- how many ports a node has from 1 on
+abbrev pub port_count : Simulation → ℕ → ℕ
+port_count s place = option_map_or (λ a. a.node.ports) (agent_at s place) 0
+
+-- a port from 1 to its node's count, into which a cable can go
+abbrev pub is_cable_port : Simulation → NodePort → Bool
+is_cable_port s p = nat_le 1 p.port && nat_le p.port (port_count s p.node)
+
+-- a subnet manager sits at the port
+abbrev pub is_seat_at : Simulation → NodePort → Bool
+is_seat_at s p = option_map_or (λ a. has_seat a p.port) (agent_at s p.node) false
+
+-- the port at the other end of the cable in a port; that port itself, for a loop
+abbrev pub across : List (List (Option NodePort)) → NodePort → Option NodePort
+across peers p = slice_index_or (slice_index_or peers p.node []) p.port None
+
+-- the fabric that packets see: its nodes and cables, and what its agents hold
+abbrev pub fabric_of : Simulation → Fabric
+fabric_of s =
+    record {
+      nodes = map node_of s.agents;
+      across = across s.peers;
+      base_lid = λ p. option_map_or (λ a. base_lid_at a p.port) (agent_at s p.node) 0;
+      entry = λ place lid. option_map_or (λ a. entry_at a lid) (agent_at s place) 255;
+      top = λ place. option_map_or (λ a. a.top) (agent_at s place) 0;
+    }
+
+-- places -----------------------------------------------------------------------------
+
+-- the port where a packet waits
+abbrev pub port_of : Place → NodePort
+port_of (Seat p) = p
+port_of (Arrived p) = p
+port_of (Made p) = p
+
+-- the packet waits where its sender sits
+abbrev pub is_at_seat : Place → Bool
+is_at_seat (Seat p) = true
+is_at_seat (Arrived p) = false
+is_at_seat (Made p) = false
+
+-- the packet came to its port by a wire
+abbrev pub is_by_wire : Place → Bool
+is_by_wire (Seat p) = false
+is_by_wire (Arrived p) = true
+is_by_wire (Made p) = false
+
+-- where the answer to a request waits that waited there: at its sender's seat, or where it is made
+abbrev pub answer_place : Place → Place
+answer_place (Seat p) = Seat p
+answer_place (Arrived p) = Made p
+answer_place (Made p) = Made p
+
+-- packets in flight -----------------------------------------------------------------------
+
+abbrev pub is_numbered : ℕ → Flight → Bool
+is_numbered serial flight = flight.serial == serial
+
+-- the packet with a serial number
+abbrev pub flight_with : List Flight → ℕ → Option Flight
+flight_with flights serial = find (is_numbered serial) flights
+
+-- all others
+abbrev pub without_flight : List Flight → ℕ → List Flight
+without_flight flights serial = filter (λ flight. not (is_numbered serial flight)) flights
+
+-- with another in the place of the one that has its serial number
+abbrev pub with_moved : List Flight → Flight → List Flight
+with_moved flights moved = map (λ flight. if is_numbered moved.serial flight then moved else flight) flights
+
+-- what holds of each simulation ---------------------------------------------------------
+
+-- a list of the other ends for each node, with a place for each of its ports, port 0 among them
+abbrev pub FitsPorts : Simulation → Type 0
+FitsPorts s = (place : ℕ) (a : Agent) → agent_at s place ≡ Some a → length (slice_index_or s.peers place []) ≡ a.node.ports + 1
+
+-- a port from 1 on is down exactly where no cable is in it
+abbrev pub AreUncabledDown : Simulation → Type 0
+AreUncabledDown s =
+    (p : NodePort) (a : Agent) → agent_at s p.node ≡ Some a → is_cable_port s p ≡ true → (state_at a p.port ≡ Down) ↔ (across s.peers p ≡ None)
+
+-- the cables in ports
+pub record AreCables (s : Simulation) : Type 0 where
+  pub lists : length s.peers ≡ length s.agents
+  pub fit : FitsPorts s
+  pub ends : (p q : NodePort) → across s.peers p ≡ Some q → is_cable_port s p ≡ true
+  pub lead_back : (p q : NodePort) → across s.peers p ≡ Some q → across s.peers q ≡ Some p
+  pub down : AreUncabledDown s
+
+-- a packet in flight waits at a port, and at a seat where its place is one, under a number that was given
+pub record IsWaiting (s : Simulation) (flight : Flight) : Type 0 where
+  pub port : is_cable_port s (port_of flight.place) ≡ true
+  pub seat : is_at_seat flight.place ≡ true → is_seat_at s (port_of flight.place) ≡ true
+  pub given : flight.serial < s.next
+
+-- serial numbers rise
+abbrev pub AreRising : List Flight → Type 0
+AreRising flights = AllPairs (λ before after. before.serial < after.serial) flights
+
+pub record IsSimulation (s : Simulation) : Type 0 where
+  pub agents : All IsAgent s.agents
+  pub cables : AreCables s
+  pub waiting : All (IsWaiting s) s.flights
+  pub rising : AreRising s.flights
+  pub next : s.next ≤ 2 ^ 64

@@ -1,0 +1,78 @@
+-- There and back: a request on a directed route is answered at the end of its path, and the answer comes to its sender.
+use Rattle.std.specs.Prelude.{◌≡◌, ◌≢◌, ℕ, ◌<◌, ◌≤◌, ◌^◌, true, List, [], ◌∷◌, length, slice_get, Option, Some, Result, Ok, All, count_by}
+use Rattle.smp_bytes.specs.declared.cable.NodePort.{NodePort}
+use Rattle.smp_bytes.specs.Header.{get_resp, sm_info}
+use Rattle.smp_bytes.specs.Field.{number_in, bytes_in}
+use Rattle.smp_bytes.specs.Packet as field
+use Rattle.smp_bytes.specs.Packet.{is_returning, status, max_hops, permissive_lid}
+use Rattle.smp_bytes.specs.Requests.{directed}
+use Rattle.smp_bytes.specs.ReadBack.{FitsRequest}
+use Rattle.smp_bytes.specs.DirectedWalk.{directed_end}
+use Rattle.node_agents.specs.Agent.{Agent}
+use Rattle.node_agents.specs.Answers.{answered}
+use Rattle.fabric_sim.specs.declared.packet.Packet.{Packet}
+use Rattle.fabric_sim.specs.declared.delivered.Delivered.TheVariants as delivered_is
+use Rattle.fabric_sim.specs.Simulation.{Simulation, IsSimulation, agent_at, is_seat_at, fabric_of}
+use Rattle.fabric_sim.specs.Delivery.{delivered}
+use Rattle.fabric_sim.specs.Changes.{injected}
+use Rattle.fabric_sim.specs.Calls.{Call, Lose, after_calls, is_delivery_of}
+
+-- a directed request has no LID-routed part
+abbrev pub directed_packet : List ℕ → Packet
+directed_packet bytes = record { bytes = bytes; slid = permissive_lid; dlid = permissive_lid }
+
+-- a path leaves by the port where its sender sits
+abbrev pub BeginsWith : ℕ → List ℕ → Type 0
+BeginsWith port [] = Unit {0}
+BeginsWith port (first ∷ path) = first ≡ port
+
+-- the answer to a request over a path: with its numbers, and with what the agent answered
+pub record IsAnswerOver (path : List ℕ) (request told answer : List ℕ) : Type 0 where
+  pub method : number_in field.method answer ≡ get_resp
+  pub returning : is_returning answer ≡ true
+  pub pointer : number_in field.hop_pointer answer ≡ 0
+  pub hops : number_in field.hop_count answer ≡ length path
+  pub path : bytes_in (record { at = 129; len = length path }) answer ≡ path
+  pub transaction_id : number_in field.transaction_id answer ≡ number_in field.transaction_id request
+  pub attribute_id : number_in field.attribute_id answer ≡ number_in field.attribute_id request
+  pub attribute_modifier : number_in field.attribute_modifier answer ≡ number_in field.attribute_modifier request
+  pub status : status answer ≡ status told
+  pub attribute_data : bytes_in field.attribute_data answer ≡ bytes_in field.attribute_data told
+
+-- the call isn't the loss of the packet
+abbrev pub KeepsPacket : ℕ → Call → Type 0
+KeepsPacket serial call = call ≢ Lose serial
+
+-- so many of the calls deliver the packet, and none loses it
+abbrev pub Deliver : List Call → ℕ → ℕ → Type 0
+Deliver calls serial count = All (KeepsPacket serial) calls × (count_by (is_delivery_of serial) calls ≡ count)
+
+-- the delivery of a request is answered by an agent, at this port
+pub record IsAnsweredAt (s : Simulation) (serial : ℕ) (request : List ℕ) (at : NodePort) (agent : Agent) : Type 0 where
+  pub agent : agent_at s at.node ≡ Some agent
+  pub result : (delivered s serial).result ≡ Ok (delivered_is.Answered s.next)
+  pub after : agent_at (delivered s serial).fabric at.node ≡ Some (answered agent request at.port).agent
+
+-- the delivery of an answer hands it up to the manager at a port
+pub record ComesHome (s : Simulation) (serial : ℕ) (at : NodePort) (path request told : List ℕ) : Type 0 where
+  pub packet : Packet
+  pub result : (delivered s serial).result ≡ Ok (delivered_is.ToManager at packet)
+  pub answer : IsAnswerOver path request told packet.bytes
+
+-- Whatever else is called, as long as no cable changes and the packet is not lost: the delivery after as many as the path
+-- has ports is the one that the agent at the path's end answers; and the answer, if it is not lost, is handed up by the
+-- delivery after as many again, at the port that the request was sent from.
+abbrev pub ThereAndBack : Type 0
+ThereAndBack =
+    (s : Simulation) (origin end : NodePort) (method attribute modifier tid : ℕ) (path payload : List ℕ)
+    → IsSimulation s → is_seat_at s origin ≡ true → s.next < 2 ^ 64
+    → FitsRequest method attribute modifier tid payload → method < 2 ^ 7 → attribute ≢ sm_info → All (λ byte. byte < 2 ^ 8) payload
+    → length path ≤ max_hops → All (λ port. port < 2 ^ 8) path → BeginsWith origin.port path → directed_end (fabric_of s) origin path ≡ Some end
+    → (there back : List Call) →
+    let request = directed method attribute modifier tid path payload in
+    let sent = (injected s origin (directed_packet request)).fabric in
+    let arrived = after_calls there sent in
+    let turned = (delivered arrived s.next).fabric in
+    Deliver there s.next (length path) → arrived.next < 2 ^ 64
+    → (agent : Agent) × IsAnsweredAt arrived s.next request end agent
+    × (Deliver back arrived.next (length path) → ComesHome (after_calls back turned) arrived.next origin path request (answered agent request end.port).packet)

@@ -1,0 +1,22 @@
+use std::alloc::AllocError;
+use thiserror::Error;
+
+/// Why a call on a fabric is refused. The fabric is then as it was.
+#[derive(Clone, Copy, Debug, PartialEq, Eq, Error)]
+pub enum FabricFault {
+    /// No packet in flight has the serial number.
+    #[error("NoSuchPacket")]
+    NoSuchPacket,
+    /// No such port is there, or none that the call is for.
+    #[error("NoSuchPort")]
+    NoSuchPort,
+    /// A subnet manager sits at the port, or a cable is in it.
+    #[error("PortTaken")]
+    PortTaken,
+    /// The memory that the call needs was refused.
+    #[error("Memory")]
+    Memory,
+    /// A serial number is needed, and all are spent.
+    #[error("SerialsSpent")]
+    SerialsSpent,
+}

@@ -1,0 +1,16 @@
+use crate::delivered::Reason;
+use crate::flight::Place;
+use crate::packet::Packet;
+
+/// What becomes of a packet where it waits.
+#[derive(Clone, Copy)]
+pub(crate) enum Outcome {
+    /// It waits at another place.
+    Moves(Place, Packet),
+    /// The agent answers this request; its answer has these addresses.
+    Asks(Packet),
+    /// It is handed to the subnet manager.
+    HandsUp(Packet),
+    /// It goes no further.
+    Drops(Reason),
+}

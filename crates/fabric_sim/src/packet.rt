@@ -1,0 +1,13 @@
+use smp_bytes::Lid;
+
+/// A packet with the LIDs by which switches forward it. In a packet on a directed route, both are the permissive
+/// LID.
+#[derive(Clone, Copy, Debug, PartialEq, Eq)]
+pub struct Packet {
+    /// The 256 bytes of a subnet management packet; they needn't parse.
+    pub bytes: [u8; 256],
+    /// The LID of its sender.
+    pub slid: Lid,
+    /// The LID that it is for.
+    pub dlid: Lid,
+}
