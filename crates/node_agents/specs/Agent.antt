@@ -1,0 +1,99 @@
+-- The agent of a node: what it is made as, and what it holds.
+use Rattle.std.specs.Prelude.{◌≡◌, ℕ, ◌+◌, ◌*◌, ◌/◌, ◌^◌, ◌<◌, ◌≤◌, ◌⊎◌, Bool, true, false, List, All, length, replicate, slice_index_or, slice_set, ◌∷◌, if◌then◌else◌}
+use Rattle.smp_bytes.specs.declared.node_type.NodeType.{NodeType}
+use Rattle.smp_bytes.specs.NodeType as types
+use Rattle.smp_bytes.specs.Fabric.{Node}
+use Rattle.attr_codec.specs.declared.port_state.PortState.{PortState}
+use Rattle.attr_codec.specs.declared.port_state.PortState.TheVariants.{NoChange, Down, Initialize, Active}
+use Rattle.node_agents.specs.declared.agent_node.AgentNode.{AgentNode}
+use Rattle.node_agents.specs.declared.port.Port.{Port}
+
+-- the node as it was built, its ports from port 0 on, its forwarding table in whole blocks, and the greatest LID that is forwarded
+pub record Agent : Type 0 where
+  pub node : AgentNode
+  pub ports : List Port
+  pub table : List ℕ
+  pub top : ℕ
+
+-- what is read of it ------------------------------------------------------------------
+
+abbrev pub is_switch : Agent → Bool
+is_switch a = types.is_switch a.node.kind
+
+-- a port that nothing was written to, in a state
+abbrev pub port_in : PortState → Port
+port_in state = record { base_lid = 0; master_sm_lid = 0; state = state; is_sm = false }
+
+-- a port; one that the node lacks is down and holds nothing
+abbrev pub port_at : Agent → ℕ → Port
+port_at a port = slice_index_or a.ports port (port_in Down)
+
+abbrev pub state_at : Agent → ℕ → PortState
+state_at a port = (port_at a port).state
+
+abbrev pub base_lid_at : Agent → ℕ → ℕ
+base_lid_at a port = (port_at a port).base_lid
+
+-- a subnet manager sits at the port
+abbrev pub has_seat : Agent → ℕ → Bool
+has_seat a port = (port_at a port).is_sm
+
+-- the port by which the switch forwards to a LID; 255, which is none, where the table has no such entry
+abbrev pub entry_at : Agent → ℕ → ℕ
+entry_at a lid = slice_index_or a.table lid 255
+
+-- the GUID of a port: a switch has one GUID, an adapter's ports have those after its own
+abbrev pub port_guid : AgentNode → ℕ → ℕ
+port_guid node port = if types.is_switch node.kind then node.guid else node.guid + port
+
+-- the node that forwarding sees
+abbrev pub node_of : Agent → Node
+node_of a = record { guid = a.node.guid; kind = a.node.kind; ports = a.node.ports; cap = a.node.cap; port_guid = port_guid a.node }
+
+-- what changes it from outside ----------------------------------------------------------
+
+-- with another port in the place of one
+abbrev pub with_port : Agent → ℕ → Port → Agent
+with_port a port to = record a { ports = slice_set a.ports port to }
+
+-- a cable goes into a port, or comes out
+abbrev pub wired : Agent → ℕ → Bool → Agent
+wired a port is_wired = with_port a port (record (port_at a port) { state = if is_wired then Initialize else Down })
+
+-- a subnet manager comes to sit at a port
+abbrev pub seated : Agent → ℕ → Agent
+seated a port = with_port a port (record (port_at a port) { is_sm = true })
+
+-- how it is made ----------------------------------------------------------------------
+
+-- how many blocks of 64 entries a table with room for so many entries has
+abbrev pub block_count : ℕ → ℕ
+block_count cap = (cap + 63) / 64
+
+-- no port wired, nobody seated, nothing written; a switch's port 0 is always active
+unfoldable pub fresh_agent : AgentNode → Agent
+fresh_agent node =
+    record {
+      node = node;
+      ports = port_in (if types.is_switch node.kind then Active else Down) ∷ replicate node.ports (port_in Down);
+      table = replicate (64 * block_count node.cap) 255;
+      top = 0;
+    }
+
+-- nodes that can be built: 1 to 254 ports, a table of unicast LIDs at a switch alone, and a GUID for each port
+pub record IsAgentNode (node : AgentNode) : Type 0 where
+  pub ports : (1 ≤ node.ports) × (node.ports ≤ 254)
+  pub cap : node.cap ≤ 49152
+  pub no_table : types.is_switch node.kind ≡ false → node.cap ≡ 0
+  pub port_guids : types.is_switch node.kind ≡ false → node.guid + node.ports < 2 ^ 64
+
+-- what holds of each agent
+pub record IsAgent (a : Agent) : Type 0 where
+  pub node : IsAgentNode a.node
+  pub ports : length a.ports ≡ a.node.ports + 1
+  pub states : All (λ port. (port.state ≡ NoChange) → ⊥) a.ports
+  pub port_zero : is_switch a ≡ true → state_at a 0 ≡ Active
+  pub lids : All (λ port. port.base_lid ≤ 0xBFFF) a.ports
+  pub seats : is_switch a ≡ true → All (λ port. port.is_sm ≡ false) a.ports
+  pub table : length a.table ≡ 64 * block_count a.node.cap
+  pub top : (a.top ≡ 0) ⊎ (a.top < a.node.cap)

@@ -1,0 +1,69 @@
+-- What an agent answers to a request that comes to one of its ports, and what it holds afterwards.
+-- InfiniBand Architecture Specification, Volume 1: subnet management class, methods and attributes.
+use Rattle.std.specs.Prelude.{ℕ, ◌&&◌, ◌==◌, List, if◌then◌else◌, Result, Ok, Err}
+use Rattle.std.specs.Option.{ok_or}
+use Rattle.smp_bytes.specs.Header.{get, set, node_description, node_info, switch_info, port_info, linear_forwarding_table, done}
+use Rattle.smp_bytes.specs.Field.{number_in, bytes_in}
+use Rattle.smp_bytes.specs.Packet.{method, attribute_id, attribute_modifier, attribute_data}
+use Rattle.smp_bytes.specs.Requests.{answer_packet}
+use Rattle.node_agents.specs.declared.refusal.Refusal.{Refusal}
+use Rattle.node_agents.specs.declared.refusal.Refusal.TheVariants.{Method, MethodAndAttribute, InvalidField}
+use Rattle.node_agents.specs.Refusal.{status_of}
+use Rattle.node_agents.specs.Agent.{Agent, is_switch}
+use Rattle.node_agents.specs.NodeInfo.{get_node_description, get_node_info}
+use Rattle.node_agents.specs.SwitchInfo.{get_switch_info, set_switch_info}
+use Rattle.node_agents.specs.PortInfo.{get_port_info, set_port_info}
+use Rattle.node_agents.specs.ForwardingBlock.{get_block, set_block}
+
+-- what a Get of an attribute tells
+abbrev pub get_attribute : Agent → ℕ → ℕ → ℕ → Result (List ℕ) Refusal
+get_attribute a attribute modifier arrival =
+    if attribute == node_description then Ok (get_node_description a)
+    else if attribute == node_info then Ok (get_node_info a arrival)
+    else if attribute == port_info then ok_or (get_port_info a modifier arrival) InvalidField
+    else if is_switch a && attribute == switch_info then Ok (get_switch_info a)
+    else if is_switch a && attribute == linear_forwarding_table then ok_or (get_block a modifier) InvalidField
+    else Err MethodAndAttribute
+
+-- what a Set of an attribute makes of the agent
+abbrev pub set_attribute : Agent → ℕ → ℕ → ℕ → List ℕ → Result Agent Refusal
+set_attribute a attribute modifier arrival payload =
+    if attribute == port_info then ok_or (set_port_info a modifier arrival payload) InvalidField
+    else if is_switch a && attribute == switch_info then ok_or (set_switch_info a payload) InvalidField
+    else if is_switch a && attribute == linear_forwarding_table then ok_or (set_block a modifier payload) InvalidField
+    else Err MethodAndAttribute
+
+-- what is told to a request, or why it is refused, and the agent afterwards
+pub record Met : Type 0 where
+  pub told : Result (List ℕ) Refusal
+  pub agent : Agent
+
+abbrev pub met_get : Agent → List ℕ → ℕ → Met
+met_get a packet arrival =
+    record { told = get_attribute a (number_in attribute_id packet) (number_in attribute_modifier packet) arrival; agent = a }
+
+-- the answer to a Set that is taken tells what a Get would now
+abbrev pub met_set : Agent → Result Agent Refusal → List ℕ → ℕ → Met
+met_set a (Ok after) packet arrival = met_get after packet arrival
+met_set a (Err refusal) packet arrival = record { told = Err refusal; agent = a }
+
+abbrev pub met : Agent → List ℕ → ℕ → Met
+met a packet arrival =
+    if number_in method packet == get then met_get a packet arrival
+    else if number_in method packet == set then met_set a
+    (set_attribute a (number_in attribute_id packet) (number_in attribute_modifier packet) arrival (bytes_in attribute_data packet)) packet arrival
+    else record { told = Err Method; agent = a }
+
+-- a refusal sends the request's own bytes back
+abbrev pub answer_with : List ℕ → Result (List ℕ) Refusal → List ℕ
+answer_with packet (Ok payload) = answer_packet packet done payload
+answer_with packet (Err refusal) = answer_packet packet (status_of refusal) (bytes_in attribute_data packet)
+
+-- the answer to a request, and what the agent holds then
+pub record Answered : Type 0 where
+  pub packet : List ℕ
+  pub agent : Agent
+
+-- what an agent answers to a packet that came to a port of it
+unfoldable pub answered : Agent → List ℕ → ℕ → Answered
+answered a packet arrival = record { packet = answer_with packet (met a packet arrival).told; agent = (met a packet arrival).agent }

@@ -1,0 +1,17 @@
+-- A block of the linear forwarding table: what a Get tells and a Set takes.
+-- InfiniBand Architecture Specification, Volume 1: subnet management, LinearForwardingTable.
+use Rattle.std.specs.Prelude.{ℕ, ◌*◌, Bool, ◌&&◌, List, take, drop, nat_le, nat_lt, if◌then◌else◌, Option, Some, None}
+use Rattle.smp_bytes.specs.Field.{with_bytes}
+use Rattle.node_agents.specs.Agent.{Agent}
+
+-- a block of unicast LIDs that begins within the table
+abbrev pub has_block : Agent → ℕ → Bool
+has_block a block = nat_le block 767 && nat_lt (64 * block) a.node.cap
+
+-- the block's 64 entries
+abbrev pub get_block : Agent → ℕ → Option (List ℕ)
+get_block a block = if has_block a block then Some (take 64 (drop (64 * block) a.table)) else None
+
+-- all 64 of them
+abbrev pub set_block : Agent → ℕ → List ℕ → Option Agent
+set_block a block payload = if has_block a block then Some (record a { table = with_bytes (64 * block) payload a.table }) else None

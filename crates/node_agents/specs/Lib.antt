@@ -1,0 +1,7 @@
+pub mod Agent
+pub mod Answers
+pub mod ForwardingBlock
+pub mod NodeInfo
+pub mod PortInfo
+pub mod Refusal
+pub mod SwitchInfo

@@ -1,0 +1,33 @@
+-- Node description and node information: what a Get tells. No Set of them is known.
+-- InfiniBand Architecture Specification, Volume 1: subnet management, NodeDescription and NodeInfo.
+use Rattle.std.specs.Prelude.{ℕ, List}
+use Rattle.attr_codec.specs.declared.node_info.NodeInfo.{NodeInfo}
+use Rattle.attr_codec.specs.NodeInfo.{node_info_bytes}
+use Rattle.attr_codec.specs.NodeTypeNumber.{number_of_type}
+use Rattle.node_agents.specs.declared.agent_node.AgentNode.{AgentNode}
+use Rattle.node_agents.specs.Agent.{Agent, port_guid}
+
+-- the text that the node was given
+abbrev pub get_node_description : Agent → List ℕ
+get_node_description a = a.node.description
+
+-- of the port by which the request came
+abbrev pub node_info_of : AgentNode → ℕ → NodeInfo
+node_info_of node arrival =
+    record {
+      base_version = 1;
+      class_version = 1;
+      node_type = number_of_type node.kind;
+      num_ports = node.ports;
+      system_image_guid = node.guid;
+      node_guid = node.guid;
+      port_guid = port_guid node arrival;
+      partition_cap = 1;
+      device_id = 0;
+      revision = 0;
+      local_port_num = arrival;
+      vendor_id = 0;
+    }
+
+abbrev pub get_node_info : Agent → ℕ → List ℕ
+get_node_info a arrival = node_info_bytes (node_info_of a.node arrival)

@@ -1,0 +1,72 @@
+-- Port information: which port a request means, what a Get tells and a Set takes.
+-- InfiniBand Architecture Specification, Volume 1: subnet management, PortInfo.
+use Rattle.std.specs.Prelude.{ℕ, ◌+◌, Bool, not, ◌&&◌, ◌||◌, ◌==◌, List, [], ◌∷◌, nat_lt, nat_le, if◌then◌else◌, Option, Some, None, option_map, option_and_then}
+use Rattle.smp_bytes.specs.Field.{number_in, bits_in, with_bits}
+use Rattle.smp_bytes.specs.Requests.{flag}
+use Rattle.attr_codec.specs.Image.{image}
+use Rattle.attr_codec.specs.PortInfo.{base_lid, master_sm_lid, local_port_num, port_state, is_sm_bit, number_of_state, state_of_number}
+use Rattle.attr_codec.specs.declared.port_state.PortState.{PortState}
+use Rattle.attr_codec.specs.declared.port_state.PortState.TheVariants.{NoChange, Down, Initialize, Armed, Active}
+use Rattle.node_agents.specs.declared.port.Port.{Port}
+use Rattle.node_agents.specs.Agent.{Agent, is_switch, port_at, with_port}
+
+-- any port of a switch, 0 among them; of an adapter the one that the request came to, by its number or by 0
+abbrev pub port_meant : Agent → ℕ → ℕ → Option ℕ
+port_meant a modifier arrival =
+    if is_switch a then (if nat_le modifier a.node.ports then Some modifier else None)
+    else if modifier == 0 || modifier == arrival then Some arrival
+    else None
+
+-- Get ---------------------------------------------------------------------------------
+
+-- what is told of a port to a request that came by this or another one; all else is 0
+abbrev pub port_info_of : Port → ℕ → List ℕ
+port_info_of port arrival =
+    with_bits port_state (number_of_state port.state) (with_bits is_sm_bit (flag port.is_sm)
+    (image (record { field = base_lid; number = port.base_lid } ∷ record { field = master_sm_lid; number = port.master_sm_lid }
+    ∷ record { field = local_port_num; number = arrival } ∷ [])))
+
+abbrev pub get_port_info : Agent → ℕ → ℕ → Option (List ℕ)
+get_port_info a modifier arrival = option_map (λ port. port_info_of (port_at a port) arrival) (port_meant a modifier arrival)
+
+-- Set ---------------------------------------------------------------------------------
+
+-- the greatest LID that a port may have
+abbrev pub max_unicast_lid : ℕ
+max_unicast_lid = 0xBFFF
+
+-- each port of an adapter has a LID, and of a switch port 0 alone
+abbrev pub has_lid : Agent → ℕ → Bool
+has_lid a port = not (is_switch a) || port == 0
+
+-- the next state on the way to Active, which a manager may wish for; no wish goes to Down, or from it
+abbrev pub is_next_state : PortState → PortState → Bool
+is_next_state Initialize Armed = true
+is_next_state Armed Active = true
+is_next_state _ _ = false
+
+-- the state after a wish, where it is granted: for no change, for the present state, or for the next
+abbrev pub state_after : PortState → PortState → Option PortState
+state_after state wish =
+    if number_of_state wish == 0 || number_of_state wish == number_of_state state then Some state
+    else if is_next_state state wish then Some wish
+    else None
+
+-- a port in another state, with the LIDs of the payload where it has LIDs
+abbrev pub port_with : Port → Bool → List ℕ → PortState → Port
+port_with port has_lid payload state =
+    record port {
+      base_lid = if has_lid then number_in base_lid payload else port.base_lid;
+      master_sm_lid = if has_lid then number_in master_sm_lid payload else port.master_sm_lid;
+      state = state;
+    }
+
+-- what a payload makes of a port, if its LID is one that a port may have and the state wished for is granted
+abbrev pub port_after : Port → Bool → List ℕ → Option Port
+port_after port has_lid payload =
+    if nat_lt max_unicast_lid (number_in base_lid payload) then None
+    else option_map (port_with port has_lid payload) (option_and_then (state_after port.state) (state_of_number (bits_in port_state payload)))
+
+abbrev pub set_port_info : Agent → ℕ → ℕ → List ℕ → Option Agent
+set_port_info a modifier arrival payload =
+    option_and_then (λ port. option_map (with_port a port) (port_after (port_at a port) (has_lid a port) payload)) (port_meant a modifier arrival)

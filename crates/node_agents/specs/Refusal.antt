@@ -1,0 +1,11 @@
+-- The statuses that tell why a request is refused.
+-- InfiniBand Architecture Specification, Volume 1: management datagrams, status field.
+use Rattle.std.specs.Prelude.{ℕ}
+use Rattle.smp_bytes.specs.Header.{method_not_supported, method_and_attribute_not_supported, invalid_field}
+use Rattle.node_agents.specs.declared.refusal.Refusal.{Refusal}
+use Rattle.node_agents.specs.declared.refusal.Refusal.TheVariants.{Method, MethodAndAttribute, InvalidField}
+
+abbrev pub status_of : Refusal → ℕ
+status_of Method = method_not_supported
+status_of MethodAndAttribute = method_and_attribute_not_supported
+status_of InvalidField = invalid_field

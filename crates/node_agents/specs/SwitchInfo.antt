@@ -1,0 +1,15 @@
+-- Switch information: what a Get tells and a Set takes.
+-- InfiniBand Architecture Specification, Volume 1: subnet management, SwitchInfo.
+use Rattle.std.specs.Prelude.{ℕ, List, [], ◌∷◌, nat_lt, if◌then◌else◌, Option, Some, None}
+use Rattle.smp_bytes.specs.Field.{number_in}
+use Rattle.attr_codec.specs.Image.{image}
+use Rattle.attr_codec.specs.SwitchInfo.{linear_fdb_cap, linear_fdb_top}
+use Rattle.node_agents.specs.Agent.{Agent}
+
+-- how many entries the table has room for, and the greatest LID that is forwarded; all else is 0
+abbrev pub get_switch_info : Agent → List ℕ
+get_switch_info a = image (record { field = linear_fdb_cap; number = a.node.cap } ∷ record { field = linear_fdb_top; number = a.top } ∷ [])
+
+-- the greatest LID that is forwarded, if the table has room for it; all else in it is ignored
+abbrev pub set_switch_info : Agent → List ℕ → Option Agent
+set_switch_info a payload = let top = number_in linear_fdb_top payload in if nat_lt top a.node.cap then Some (record a { top = top }) else None

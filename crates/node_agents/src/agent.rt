@@ -1,0 +1,176 @@
+ghost use Rattle.std.specs.Prelude.{◌≡◌, ◌≤◌, false, true, IfOk};
+ghost use Rattle.node_agents.specs.Agent.{IsAgentNode, fresh_agent, is_switch, port_at, state_at, base_lid_at, has_seat, entry_at, wired, seated};
+ghost use Rattle.node_agents.specs.Answers.{answered};
+
+use crate::agent_node::AgentNode;
+use crate::port::Port;
+use crate::refusal::Refusal;
+use crate::{forwarding_block, node_info, port_info, switch_info};
+use attr_codec::{Attribute, PortState};
+use smp_bytes::{AttributeId, Guid, Lid, Method, NodeType, PortNum, Smp, Status};
+use std::alloc::{AllocError, Global};
+use std::marker::Model;
+
+/// The subnet management agent of a node. Contracts see the node, its ports, its forwarding table and the table's top.
+#[derive(Drop)]
+pub struct Agent {
+    pub(crate) node: AgentNode,
+    /// What is held of each port, from port 0 on; an adapter's port 0 is not used.
+    pub(crate) ports: Vec<Port>,
+    /// The forwarding table in whole blocks: the port for each LID.
+    pub(crate) table: Vec<u8>,
+    /// The greatest LID that is forwarded.
+    pub(crate) top: Lid,
+}
+
+impl Model for Agent {
+    ghost use Rattle.node_agents.specs.Agent.{Agent as Held, IsAgent};
+
+    ghost Value = { Held };
+
+    ghost view = { λ a. record { node = a.node; ports = a.ports.items; table = a.table.items; top = a.top } };
+
+    ghost invariant = { λ a. IsAgent (record { node = a.node; ports = a.ports.items; table = a.table.items; top = a.top }) };
+}
+
+impl Agent {
+    /// The agent of a node, with no port wired, no manager seated and nothing written. Takes all its memory here.
+    pub fn new(alloc: Global, node: AgentNode) -> Result<Agent, AllocError>
+        requires { IsAgentNode node }
+        ensures { IfOk result (λ agent. agent ≡ fresh_agent node) }
+    {
+        let port_zero = if node.kind == NodeType::Switch {
+            PortState::Active
+        } else {
+            PortState::Down
+        };
+        let mut ports = Vec::with_capacity(alloc, usize::from(node.ports) + 1)?;
+        ports.push(Port::in_state(port_zero))?;
+        for _ in 0..node.ports {
+            ports.push(Port::in_state(PortState::Down))?;
+        }
+        let entries = usize::from(node.cap).div_ceil(64) * 64;
+        let table = vec![in alloc; 255; entries]?;
+        Ok(Agent {
+            node,
+            ports,
+            table,
+            top: Lid::new(0),
+        })
+    }
+
+    /// The GUID of the node.
+    pub fn guid(&self) -> Guid
+        ensures { result ≡ self.now.node.guid }
+    {
+        self.node.guid
+    }
+
+    /// The type of the node.
+    pub fn kind(&self) -> NodeType
+        ensures { result ≡ self.now.node.kind }
+    {
+        self.node.kind
+    }
+
+    /// Whether the node is a switch.
+    pub fn is_switch(&self) -> bool
+        ensures { result ≡ is_switch self.now }
+    {
+        match self.node.kind {
+            NodeType::Switch => true,
+            NodeType::ChannelAdapter | NodeType::Router => false,
+        }
+    }
+
+    /// How many ports the node has from 1 on, 1 to 254.
+    pub fn ports(&self) -> u8
+        ensures count { result ≡ self.now.node.ports }
+        ensures least { 1 ≤ result }
+        ensures most { result ≤ 254 }
+    {
+        self.node.ports
+    }
+
+    /// LinearFDBCap: how many entries the forwarding table has room for, 0 where there is none.
+    pub fn cap(&self) -> u16
+        ensures { result ≡ self.now.node.cap }
+    {
+        self.node.cap
+    }
+
+    /// LinearFDBTop: the greatest LID that a switch forwards.
+    pub fn top(&self) -> Lid
+        ensures { result ≡ self.now.top }
+    {
+        self.top
+    }
+
+    /// The port by which a switch forwards to a LID; 255, which is none, where the table has no such entry.
+    pub fn entry(&self, lid: Lid) -> PortNum
+        ensures { result ≡ entry_at self.now lid }
+    {
+        match self.table.get(usize::from(lid.number())) {
+            Some(port) => PortNum::new(*port),
+            None => PortNum::new(255),
+        }
+    }
+
+    /// The state of a port; Down where the node has no such port. A switch's port 0 is always Active.
+    pub fn port_state(&self, port: PortNum) -> PortState
+        ensures { result ≡ state_at self.now port }
+    {
+        self.port(port).state
+    }
+
+    /// The LID of a port, 0 for none.
+    pub fn base_lid(&self, port: PortNum) -> Lid
+        ensures { result ≡ base_lid_at self.now port }
+    {
+        self.port(port).base_lid
+    }
+
+    /// Whether a subnet manager sits at a port.
+    pub fn has_seat(&self, port: PortNum) -> bool
+        ensures { result ≡ has_seat self.now port }
+    {
+        self.port(port).is_sm
+    }
+
+    /// A cable goes into a port, which becomes Initialize, or comes out, and it becomes Down.
+    pub fn set_wired(&mut self, port: PortNum, is_wired: bool)
+        requires least { 1 ≤ port }
+        requires most { port ≤ self.old.node.ports }
+        ensures { self.new ≡ wired self.old port is_wired }
+    {
+        self.ports[usize::from(port.number())].state = if is_wired {
+            PortState::Initialize
+        } else {
+            PortState::Down
+        };
+    }
+
+    /// A subnet manager comes to sit at a port of an adapter.
+    pub fn set_seat(&mut self, port: PortNum)
+        requires adapter { is_switch self.old ≡ false }
+        requires least { 1 ≤ port }
+        requires most { port ≤ self.old.node.ports }
+        ensures { self.new ≡ seated self.old port }
+    {
+        self.ports[usize::from(port.number())].is_sm = true;
+    }
+
+    /// The answer to a request that came to a port, and what a Set makes of the agent. A request that is refused changes
+    /// nothing. Takes time in proportion to the 64 bytes of an attribute.
+    pub fn answer(&mut self, smp: &Smp, arrival: PortNum) -> Smp
+        requires least { 1 ≤ arrival }
+        requires most { arrival ≤ self.old.node.ports }
+        ensures answer { result ≡ (answered self.old smp.now arrival).packet }
+        ensures state { self.new ≡ (answered self.old smp.now arrival).agent }
+    {
+        match self.meet(smp, arrival) {
+            Ok(payload) => smp.answer(Status::DONE, &payload),
+            Err(refusal) => smp.answer(refusal.status(), &smp.attribute_data()),
+        }
+    }
+}

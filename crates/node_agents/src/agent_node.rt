@@ -1,0 +1,17 @@
+use attr_codec::NodeDescription;
+use smp_bytes::{Guid, NodeType};
+
+/// A node as it was built.
+#[derive(Clone, Copy, Debug, PartialEq, Eq)]
+pub struct AgentNode {
+    /// The GUID of the node, and of a switch's port 0; the ports of another have the GUIDs after it.
+    pub guid: Guid,
+    /// Its type; a router counts as an adapter.
+    pub kind: NodeType,
+    /// How many ports it has from 1 on, 1 to 254.
+    pub ports: u8,
+    /// How many entries a switch's forwarding table has room for, at most 49152; 0 at others.
+    pub cap: u16,
+    /// What an operator calls it.
+    pub description: NodeDescription,
+}
