@@ -1,6 +1,5 @@
 -- What else changes a fabric: managers seated, packets sent, copied and lost, cables plugged in and cut.
-use Rattle.std.specs.Prelude.{ℕ, ◌+◌, ◌^◌, Bool, true, false, ◌&&◌, not, List, [], slice_index_or, slice_set, ◌==◌, if◌then◌else◌, Option, Some, None, is_none, is_some, Result, Ok}
-use Rattle.std.specs.Option.{option_map_or}
+use Rattle.std.specs.Prelude.{ℕ, ◌^◌, ◌&&◌, ◌||◌, not, List, [], slice_index_or, slice_set, ◌==◌, if◌then◌else◌, Option, Some, None, is_none, is_some, Ok}
 use Rattle.smp_bytes.specs.declared.cable.NodePort.{NodePort}
 use Rattle.smp_bytes.specs.Fabric.{is_switch_at}
 use Rattle.smp_bytes.specs.Packet.{is_lid_routed}
@@ -8,7 +7,6 @@ use Rattle.node_agents.specs.Agent.{Agent, wired, seated}
 use Rattle.fabric_sim.specs.declared.packet.Packet.{Packet}
 use Rattle.fabric_sim.specs.declared.flight.Place.TheVariants.{Seat}
 use Rattle.fabric_sim.specs.declared.flight.Flight.{Flight}
-use Rattle.fabric_sim.specs.declared.fault.FabricFault.{FabricFault}
 use Rattle.fabric_sim.specs.declared.fault.FabricFault.TheVariants.{NoSuchPacket, NoSuchPort, PortTaken, SerialsSpent}
 use Rattle.fabric_sim.specs.Simulation.{Simulation, is_cable_port, is_seat_at, across, fabric_of, flight_with}
 use Rattle.fabric_sim.specs.Delivery.{Called, refused, with_changed, with_flight, without}

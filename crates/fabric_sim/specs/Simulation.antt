@@ -4,7 +4,7 @@ use Rattle.std.specs.Option.{option_map_or}
 use Rattle.smp_bytes.specs.declared.cable.NodePort.{NodePort}
 use Rattle.smp_bytes.specs.Fabric.{Fabric}
 use Rattle.attr_codec.specs.declared.port_state.PortState.TheVariants.{Down}
-use Rattle.node_agents.specs.Agent.{Agent, IsAgent, node_of, is_switch, state_at, base_lid_at, entry_at, has_seat}
+use Rattle.node_agents.specs.Agent.{Agent, IsAgent, node_of, state_at, base_lid_at, entry_at, has_seat}
 use Rattle.fabric_sim.specs.declared.flight.Place.{Place}
 use Rattle.fabric_sim.specs.declared.flight.Place.TheVariants.{Seat, Arrived, Made}
 use Rattle.fabric_sim.specs.declared.flight.Flight.{Flight}

@@ -1,5 +1,5 @@
 -- There and back: a request on a directed route is answered at the end of its path, and the answer comes to its sender.
-use Rattle.std.specs.Prelude.{◌≡◌, ◌≢◌, ℕ, ◌<◌, ◌≤◌, ◌^◌, true, List, [], ◌∷◌, length, slice_get, Option, Some, Result, Ok, All, count_by}
+use Rattle.std.specs.Prelude.{◌≡◌, ◌≢◌, ℕ, ◌<◌, ◌≤◌, ◌^◌, true, List, [], ◌∷◌, length, Some, Ok, All, count_by}
 use Rattle.smp_bytes.specs.declared.cable.NodePort.{NodePort}
 use Rattle.smp_bytes.specs.Header.{get_resp, sm_info}
 use Rattle.smp_bytes.specs.Field.{number_in, bytes_in}
@@ -32,7 +32,7 @@ pub record IsAnswerOver (path : List ℕ) (request told answer : List ℕ) : Typ
   pub returning : is_returning answer ≡ true
   pub pointer : number_in field.hop_pointer answer ≡ 0
   pub hops : number_in field.hop_count answer ≡ length path
-  pub path : bytes_in (record { at = 129; len = length path }) answer ≡ path
+  pub ports : bytes_in (record { at = 129; len = length path }) answer ≡ path
   pub transaction_id : number_in field.transaction_id answer ≡ number_in field.transaction_id request
   pub attribute_id : number_in field.attribute_id answer ≡ number_in field.attribute_id request
   pub attribute_modifier : number_in field.attribute_modifier answer ≡ number_in field.attribute_modifier request
@@ -49,7 +49,7 @@ Deliver calls serial count = All (KeepsPacket serial) calls × (count_by (is_del
 
 -- the delivery of a request is answered by an agent, at this port
 pub record IsAnsweredAt (s : Simulation) (serial : ℕ) (request : List ℕ) (at : NodePort) (agent : Agent) : Type 0 where
-  pub agent : agent_at s at.node ≡ Some agent
+  pub there : agent_at s at.node ≡ Some agent
   pub result : (delivered s serial).result ≡ Ok (delivered_is.Answered s.next)
   pub after : agent_at (delivered s serial).fabric at.node ≡ Some (answered agent request at.port).agent
 
