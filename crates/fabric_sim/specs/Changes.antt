@@ -1,5 +1,5 @@
 -- What else changes a fabric: managers seated, packets sent, copied and lost, cables plugged in and cut.
-use Rattle.std.specs.Prelude.{ℕ, ◌^◌, ◌&&◌, ◌||◌, not, List, [], slice_index_or, slice_set, ◌==◌, if◌then◌else◌, Option, Some, None, is_none, is_some, Ok}
+use Rattle.std.specs.Prelude.{ℕ, ◌&&◌, ◌||◌, not, List, [], slice_index_or, slice_set, if◌then◌else◌, Option, Some, None, is_none, is_some, Ok}
 use Rattle.smp_bytes.specs.declared.cable.NodePort.{NodePort}
 use Rattle.smp_bytes.specs.Fabric.{is_switch_at}
 use Rattle.smp_bytes.specs.Packet.{is_lid_routed}
@@ -7,9 +7,9 @@ use Rattle.node_agents.specs.Agent.{Agent, wired, seated}
 use Rattle.fabric_sim.specs.declared.packet.Packet.{Packet}
 use Rattle.fabric_sim.specs.declared.flight.Place.TheVariants.{Seat}
 use Rattle.fabric_sim.specs.declared.flight.Flight.{Flight}
-use Rattle.fabric_sim.specs.declared.fault.FabricFault.TheVariants.{NoSuchPacket, NoSuchPort, PortTaken, SerialsSpent}
+use Rattle.fabric_sim.specs.declared.fault.FabricFault.TheVariants.{NoSuchPacket, NoSuchPort, PortTaken}
 use Rattle.fabric_sim.specs.Simulation.{Simulation, is_cable_port, is_seat_at, across, fabric_of, flight_with}
-use Rattle.fabric_sim.specs.Delivery.{Called, refused, with_changed, with_flight, without}
+use Rattle.fabric_sim.specs.Delivery.{Called, refused, with_changed, launched, without}
 
 -- packets ------------------------------------------------------------------------------
 
@@ -20,15 +20,11 @@ addressed s p packet = if is_lid_routed packet.bytes then record packet { slid =
 -- a packet sent from a seat
 unfoldable pub injected : Simulation → NodePort → Packet → Called ℕ
 injected s p packet =
-    if not (is_seat_at s p) then refused s NoSuchPort
-    else if s.next == 2 ^ 64 then refused s SerialsSpent
-    else record { fabric = with_flight s (Seat p) (addressed s p packet); result = Ok s.next }
+    if not (is_seat_at s p) then refused s NoSuchPort else launched s (Seat p) (addressed s p packet)
 
 abbrev pub copied : Simulation → Option Flight → Called ℕ
 copied s None = refused s NoSuchPacket
-copied s (Some flight) =
-    if s.next == 2 ^ 64 then refused s SerialsSpent
-    else record { fabric = with_flight s flight.place flight.packet; result = Ok s.next }
+copied s (Some flight) = launched s flight.place flight.packet
 
 -- a copy of a packet in flight, at its place
 unfoldable pub repeated : Simulation → ℕ → Called ℕ

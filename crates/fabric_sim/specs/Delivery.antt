@@ -38,10 +38,6 @@ use Rattle.fabric_sim.specs.Simulation.{Simulation, agent_at, port_count, is_sea
 abbrev pub carrying : Packet → List ℕ → Packet
 carrying packet bytes = record packet { bytes = bytes }
 
--- with its addresses exchanged
-abbrev pub turned : Packet → Packet
-turned packet = record packet { slid = packet.dlid; dlid = packet.slid }
-
 -- out by a port, to the other end of its cable
 abbrev pub leaving : Simulation → NodePort → Packet → Outcome
 leaving s out packet = option_map_or (λ into. Moves (Arrived into) packet) (across s.peers out) (Drops Down)
@@ -66,7 +62,7 @@ abbrev pub at_agent : Simulation → NodePort → Packet → Outcome
 at_agent s p packet =
     if is_response packet.bytes then Drops OffCourse
     else if is_for_manager s p packet.bytes then HandsUp packet
-    else Asks packet
+    else Asks packet.bytes packet.slid packet.dlid
 
 abbrev pub by_verdict : Simulation → NodePort → Packet → Verdict → Outcome
 by_verdict s p packet (Out port) = leaving s (record { node = p.node; port = port }) packet
@@ -82,10 +78,10 @@ directed_outcome s p packet =
 
 -- a packet that is forwarded by its DLID
 
--- what has arrived is handed up or answered; the answer goes back to where the request came from
+-- what has arrived is handed up or answered; the answer's addresses are those of the request exchanged
 abbrev pub by_course : Simulation → NodePort → Packet → Course → Outcome
 by_course s p packet (course_is.Delivers q) =
-    if is_response packet.bytes || is_for_manager s p packet.bytes then HandsUp packet else Asks (turned packet)
+    if is_response packet.bytes || is_for_manager s p packet.bytes then HandsUp packet else Asks packet.bytes packet.dlid packet.slid
 by_course s p packet (course_is.LeavesBy out) = leaving s out packet
 by_course s p packet course_is.Drops = Drops NoRoute
 
@@ -121,6 +117,10 @@ abbrev pub with_flight : Simulation → Place → Packet → Simulation
 with_flight s place packet =
     record s { flights = s.flights ++ record { serial = s.next; place = place; packet = packet } ∷ []; next = s.next + 1 }
 
+-- the same as a call, where a serial number is left
+abbrev pub launched : Simulation → Place → Packet → Called ℕ
+launched s place packet = if s.next == 2 ^ 64 then refused s SerialsSpent else record { fabric = with_flight s place packet; result = Ok s.next }
+
 -- without the packet of a number
 abbrev pub without : Simulation → ℕ → Simulation
 without s serial = record s { flights = without_flight s.flights serial }
@@ -134,18 +134,18 @@ abbrev pub answer_at : Simulation → NodePort → List ℕ → List ℕ
 answer_at s p bytes = option_map_or (λ a. (answered a bytes p.port).packet) (agent_at s p.node) bytes
 
 -- the agent has answered the request that waited there, and its answer waits in its stead
-abbrev pub asked : Simulation → Flight → Packet → Simulation
-asked s flight request =
+abbrev pub asked : Simulation → Flight → List ℕ → ℕ → ℕ → Simulation
+asked s flight request slid dlid =
     let p = port_of flight.place in
-    let told = record (without s flight.serial) { agents = with_changed s.agents p.node (λ a. (answered a request.bytes p.port).agent) } in
-    with_flight told (answer_place flight.place) (carrying request (answer_at s p request.bytes))
+    let told = record (without s flight.serial) { agents = with_changed s.agents p.node (λ a. (answered a request p.port).agent) } in
+    with_flight told (answer_place flight.place) (record { bytes = answer_at s p request; slid = slid; dlid = dlid })
 
 -- the packet fares so; an answer needs a serial number of its own
 abbrev pub brought : Simulation → Flight → Outcome → Called Delivered
 brought s flight (Moves place packet) = record { fabric = moved_to s flight.serial place packet; result = Ok (delivered_is.Moved flight.serial) }
-brought s flight (Asks request) =
+brought s flight (Asks request slid dlid) =
     if s.next == 2 ^ 64 then refused s SerialsSpent
-    else record { fabric = asked s flight request; result = Ok (delivered_is.Answered s.next) }
+    else record { fabric = asked s flight request slid dlid; result = Ok (delivered_is.Answered s.next) }
 brought s flight (HandsUp packet) = record { fabric = without s flight.serial; result = Ok (delivered_is.ToManager (port_of flight.place) packet) }
 brought s flight (Drops reason) = record { fabric = without s flight.serial; result = Ok (delivered_is.Discarded reason) }
 

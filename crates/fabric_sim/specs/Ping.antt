@@ -18,7 +18,7 @@ ping_by f s hops on Drops = Lost s.place.node
 
 -- the same, where it may take so many wires more, after which it is lost where it is
 abbrev pub ping_on : Fabric → ℕ → ℕ → ℕ → Standing → Ping
-ping_on f lid zero hops s = ping_by f s hops (λ into. Lost s.place.node) (course f lid s)
+ping_on f lid zero hops s = Lost s.place.node
 ping_on f lid (suc left) hops s = ping_by f s hops (λ into. ping_on f lid left (hops + 1) (arrived_at into)) (course f lid s)
 
 -- a packet for a LID, sent from a port

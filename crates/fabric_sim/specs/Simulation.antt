@@ -1,8 +1,8 @@
 -- A simulated fabric: the agents of its nodes, the cables between their ports, and the packets on their way.
-use Rattle.std.specs.Prelude.{◌≡◌, ℕ, ◌+◌, ◌^◌, ◌<◌, ◌≤◌, ◌↔◌, ◌&&◌, not, Bool, true, false, List, [], map, length, All, AllPairs, find, filter, slice_get, slice_index_or, nat_le, ◌==◌, if◌then◌else◌, Option, Some, None}
+use Rattle.std.specs.Prelude.{◌≡◌, ℕ, ◌+◌, ◌^◌, ◌<◌, ◌≤◌, ◌↔◌, ◌&&◌, ◌||◌, not, Bool, true, false, List, [], map, length, All, AllPairs, find, filter, slice_get, slice_index_or, nat_le, ◌==◌, if◌then◌else◌, Option, Some, None}
 use Rattle.std.specs.Option.{option_map_or}
 use Rattle.smp_bytes.specs.declared.cable.NodePort.{NodePort}
-use Rattle.smp_bytes.specs.Fabric.{Fabric}
+use Rattle.smp_bytes.specs.Fabric.{Fabric, is_switch_at}
 use Rattle.attr_codec.specs.declared.port_state.PortState.TheVariants.{Down}
 use Rattle.node_agents.specs.Agent.{Agent, IsAgent, node_of, state_at, base_lid_at, entry_at, has_seat}
 use Rattle.fabric_sim.specs.declared.flight.Place.{Place}
@@ -17,6 +17,11 @@ pub record Simulation : Type 0 where
   pub peers : List (List (Option NodePort))
   pub flights : List Flight
   pub next : ℕ
+
+-- the number that is given next: none is left after 2 ^ 64 - 1
+abbrev pub next_serial : Option ℕ → ℕ
+next_serial None = 2 ^ 64
+next_serial (Some serial) = serial
 
 -- nodes and ports ----------------------------------------------------------------------
 
@@ -49,6 +54,10 @@ fabric_of s =
       entry = λ place lid. option_map_or (λ a. entry_at a lid) (agent_at s place) 255;
       top = λ place. option_map_or (λ a. a.top) (agent_at s place) 0;
     }
+
+-- a port of the fabric: a cable port, or port 0 of a switch
+abbrev pub is_port : Simulation → NodePort → Bool
+is_port s p = nat_le p.port (port_count s p.node) && (nat_le 1 p.port || is_switch_at (fabric_of s) p.node)
 
 -- places -----------------------------------------------------------------------------
 
@@ -122,7 +131,9 @@ pub record IsWaiting (s : Simulation) (flight : Flight) : Type 0 where
 abbrev pub AreRising : List Flight → Type 0
 AreRising flights = AllPairs (λ before after. before.serial < after.serial) flights
 
+-- at most 1024 nodes with their agents, cables between them, and packets in flight that wait where they can
 pub record IsSimulation (s : Simulation) : Type 0 where
+  pub few : length s.agents ≤ 1024
   pub agents : All IsAgent s.agents
   pub cables : AreCables s
   pub waiting : All (IsWaiting s) s.flights

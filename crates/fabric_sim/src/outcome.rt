@@ -1,14 +1,15 @@
 use crate::delivered::Reason;
 use crate::flight::Place;
 use crate::packet::Packet;
+use smp_bytes::{Lid, Smp};
 
 /// What becomes of a packet where it waits.
 #[derive(Clone, Copy)]
 pub(crate) enum Outcome {
     /// It waits at another place.
     Moves(Place, Packet),
-    /// The agent answers this request; its answer has these addresses.
-    Asks(Packet),
+    /// The agent answers this request. The answer has this SLID and this DLID.
+    Asks(Smp, Lid, Lid),
     /// It is handed to the subnet manager.
     HandsUp(Packet),
     /// It goes no further.
