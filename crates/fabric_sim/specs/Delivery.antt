@@ -78,10 +78,13 @@ directed_outcome s p packet =
 
 -- a packet that is forwarded by its DLID
 
--- what has arrived is handed up or answered; the answer's addresses are those of the request exchanged
-abbrev pub by_course : Simulation → NodePort → Packet → Course → Outcome
-by_course s p packet (course_is.Delivers q) =
+-- at the port that it is for it is handed up or answered; the answer's addresses are those of the request exchanged
+abbrev pub arrived : Simulation → NodePort → Packet → Outcome
+arrived s p packet =
     if is_response packet.bytes || is_for_manager s p packet.bytes then HandsUp packet else Asks packet.bytes packet.dlid packet.slid
+
+abbrev pub by_course : Simulation → NodePort → Packet → Course → Outcome
+by_course s p packet (course_is.Delivers q) = arrived s p packet
 by_course s p packet (course_is.LeavesBy out) = leaving s out packet
 by_course s p packet course_is.Drops = Drops NoRoute
 

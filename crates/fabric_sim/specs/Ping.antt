@@ -1,12 +1,15 @@
 -- Where a packet for a LID comes to, wire by wire, and how many wires it takes.
 -- InfiniBand Architecture Specification, Volume 1: switches, unicast forwarding by the linear forwarding table.
-use Rattle.std.specs.Prelude.{◌≡◌, ℕ, zero, suc, ◌+◌, List, length}
+use Rattle.std.specs.Prelude.{◌≡◌, ℕ, zero, suc, ◌+◌, List, length, Option, Some, None, if◌then◌else◌}
 use Rattle.std.specs.Option.{option_map_or}
 use Rattle.smp_bytes.specs.declared.cable.NodePort.{NodePort}
 use Rattle.smp_bytes.specs.declared.course.Course.{Course}
 use Rattle.smp_bytes.specs.declared.course.Course.TheVariants.{Delivers, LeavesBy, Drops}
 use Rattle.smp_bytes.specs.Fabric.{Fabric}
 use Rattle.smp_bytes.specs.Forwarding.{Standing, Hop, sent_from, arrived_at, course, wire_bound, IsDelivered, IsLost}
+use Rattle.fabric_sim.specs.declared.fault.FabricFault.{FabricFault}
+use Rattle.fabric_sim.specs.declared.fault.FabricFault.TheVariants.{NoSuchPort}
+use Rattle.fabric_sim.specs.Simulation.{Simulation, is_port}
 use Rattle.fabric_sim.specs.declared.ping.Ping.{Ping}
 use Rattle.fabric_sim.specs.declared.ping.Ping.TheVariants.{Reached, Lost}
 
@@ -24,6 +27,10 @@ ping_on f lid (suc left) hops s = ping_by f s hops (λ into. ping_on f lid left 
 -- a packet for a LID, sent from a port
 abbrev pub ping : Fabric → ℕ → NodePort → Ping
 ping f lid source = ping_on f lid (wire_bound f) 0 (sent_from source)
+
+-- no such port is there to send from
+abbrev pub ping_fault : Simulation → NodePort → Option FabricFault
+ping_fault s source = if is_port s source then None else Some NoSuchPort
 
 -- a way of so many wires delivers it
 pub record DeliversOver (f : Fabric) (lid : ℕ) (source target : NodePort) (count : ℕ) : Type 0 where

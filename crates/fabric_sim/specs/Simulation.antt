@@ -1,5 +1,5 @@
 -- A simulated fabric: the agents of its nodes, the cables between their ports, and the packets on their way.
-use Rattle.std.specs.Prelude.{◌≡◌, ℕ, ◌+◌, ◌^◌, ◌<◌, ◌≤◌, ◌↔◌, ◌&&◌, ◌||◌, not, Bool, true, false, List, [], map, length, All, AllPairs, find, filter, slice_get, slice_index_or, nat_le, ◌==◌, if◌then◌else◌, Option, Some, None}
+use Rattle.std.specs.Prelude.{◌≡◌, ℕ, ◌+◌, ◌^◌, ◌<◌, ◌≤◌, ◌↔◌, ◌&&◌, ◌||◌, not, Bool, true, false, List, [], map, length, All, AllPairs, find, filter, slice_get, slice_index_or, nat_le, ◌==◌, if◌then◌else◌, Option, Some, None, option_map}
 use Rattle.std.specs.Option.{option_map_or}
 use Rattle.smp_bytes.specs.declared.cable.NodePort.{NodePort}
 use Rattle.smp_bytes.specs.Fabric.{Fabric, is_switch_at}
@@ -94,6 +94,15 @@ is_numbered serial flight = flight.serial == serial
 abbrev pub flight_with : List Flight → ℕ → Option Flight
 flight_with flights serial = find (is_numbered serial) flights
 
+-- it is the i-th in flight
+abbrev pub IsFlightAt : List Flight → ℕ → ℕ → Type 0
+IsFlightAt flights i serial = option_map (λ flight. flight.serial) (slice_get flights i) ≡ Some serial
+
+-- the place of the packet with a serial number, or that there is none
+abbrev pub Finds : List Flight → ℕ → Option ℕ → Type 0
+Finds flights serial None = flight_with flights serial ≡ None
+Finds flights serial (Some i) = IsFlightAt flights i serial × (slice_get flights i ≡ flight_with flights serial)
+
 -- all others
 abbrev pub without_flight : List Flight → ℕ → List Flight
 without_flight flights serial = filter (λ flight. not (is_numbered serial flight)) flights
@@ -121,10 +130,14 @@ pub record AreCables (s : Simulation) : Type 0 where
   pub lead_back : (p q : NodePort) → across s.peers p ≡ Some q → across s.peers q ≡ Some p
   pub down : AreUncabledDown s
 
--- a packet in flight waits at a port, and at a seat where its place is one, under a number that was given
+-- a packet can wait at a port, and at a seat where its place is one
+pub record CanWait (s : Simulation) (place : Place) : Type 0 where
+  pub port : is_cable_port s (port_of place) ≡ true
+  pub seat : is_at_seat place ≡ true → is_seat_at s (port_of place) ≡ true
+
+-- a packet in flight waits where it can, under a number that was given
 pub record IsWaiting (s : Simulation) (flight : Flight) : Type 0 where
-  pub port : is_cable_port s (port_of flight.place) ≡ true
-  pub seat : is_at_seat flight.place ≡ true → is_seat_at s (port_of flight.place) ≡ true
+  pub place : CanWait s flight.place
   pub given : flight.serial < s.next
 
 -- serial numbers rise

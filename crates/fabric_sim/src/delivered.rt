@@ -1,4 +1,5 @@
 use crate::packet::Packet;
+use dr_forward::DiscardReason;
 use smp_bytes::NodePort;
 
 /// Why a packet goes no further.
@@ -16,6 +17,21 @@ pub enum Reason {
     Unreadable,
     /// The node neither takes nor forwards packets for its DLID.
     NoRoute,
+}
+
+impl From<DiscardReason> for Reason {
+    ghost use Rattle.std.specs.Prelude.{◌≡◌};
+    ghost use Rattle.fabric_sim.specs.Delivery.{reason_of};
+
+    ghost from_gives = { λ from reason. reason ≡ reason_of from };
+
+    fn from(reason: DiscardReason) -> Self {
+        match reason {
+            DiscardReason::Course => Reason::Course,
+            DiscardReason::Transit => Reason::Transit,
+            DiscardReason::OutPort => Reason::OutPort,
+        }
+    }
 }
 
 /// What a delivery did.

@@ -1,3 +1,6 @@
+ghost use Rattle.std.specs.Prelude.{◌≡◌};
+ghost use Rattle.fabric_sim.specs.Simulation.{port_of, is_at_seat, is_by_wire, answer_place};
+
 use crate::packet::Packet;
 use smp_bytes::NodePort;
 
@@ -10,6 +13,41 @@ pub enum Place {
     Arrived(NodePort),
     /// At a port where it was made, as the answer to a request that came by a wire.
     Made(NodePort),
+}
+
+impl Place {
+    /// The port where the packet waits.
+    pub fn port(&self) -> NodePort
+        ensures { result ≡ port_of self.now }
+    {
+        match *self {
+            Place::Seat(port) | Place::Arrived(port) | Place::Made(port) => port,
+        }
+    }
+
+    /// Whether the packet waits where its sender sits.
+    pub(crate) fn is_seat(&self) -> bool
+        ensures { result ≡ is_at_seat self.now }
+    {
+        matches!(*self, Place::Seat(_))
+    }
+
+    /// Whether the packet came to its port by a wire.
+    pub(crate) fn is_by_wire(&self) -> bool
+        ensures { result ≡ is_by_wire self.now }
+    {
+        matches!(*self, Place::Arrived(_))
+    }
+
+    /// Where the answer to a request waits that waited here.
+    pub(crate) fn answer_place(&self) -> Place
+        ensures { result ≡ answer_place self.now }
+    {
+        match *self {
+            Place::Seat(port) => Place::Seat(port),
+            Place::Arrived(port) | Place::Made(port) => Place::Made(port),
+        }
+    }
 }
 
 /// A packet in flight.

@@ -1,14 +1,22 @@
 //! A simulated fabric: nodes, the cables between them, and the packets on their way.
 #![tactic(auto)]
 
+mod cables;
+mod changes;
+mod deliver;
 mod delivered;
+mod fabric;
 mod fault;
 mod flight;
+mod flights;
+mod forward;
 mod outcome;
 mod packet;
+mod peers;
 mod ping;
 
 pub use delivered::{Delivered, Reason};
+pub use fabric::Fabric;
 pub use fault::FabricFault;
 pub use flight::{Flight, Place};
 pub use packet::Packet;

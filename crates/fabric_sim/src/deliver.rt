@@ -1,0 +1,205 @@
+ghost use Rattle.std.specs.Prelude.{◌≡◌, ◌<◌, length, slice_get, Some, None, true, false};
+ghost use Rattle.smp_bytes.specs.Packet.{is_directed, fault_of};
+ghost use Rattle.smp_bytes.specs.Forwarding.{course};
+ghost use Rattle.fabric_sim.specs.declared.outcome.Outcome.TheVariants.{Asks};
+ghost use Rattle.fabric_sim.specs.Simulation.{port_of, is_cable_port, fabric_of};
+ghost use Rattle.fabric_sim.specs.Delivery.{carrying, here_at, is_for_manager, leaving, at_agent, by_verdict, by_course, arrived, directed_outcome, lid_routed_outcome, outcome, brought, delivered, moved_to, without};
+
+use crate::delivered::{Delivered, Reason};
+use crate::fabric::Fabric;
+use crate::fault::FabricFault;
+use crate::flight::{Flight, Place};
+use crate::outcome::Outcome;
+use crate::packet::Packet;
+use dr_forward::{Here, Verdict, step};
+use smp_bytes::{AttributeId, Course, Lid, NodePort, Smp, SmpClass};
+
+impl Fabric {
+    /// One step of the packet in flight that has the serial number: it moves over a wire, is answered, is handed to a
+    /// subnet manager, or is discarded. Takes no memory. The first packet in flight takes one search step, and any
+    /// other as many as their number has binary digits, and its place is closed by the others.
+    ///
+    /// # Errors
+    ///
+    /// `NoSuchPacket`, and `SerialsSpent` where an agent is to answer and no serial number is left.
+    pub fn deliver(&mut self, serial: u64) -> Result<Delivered, FabricFault>
+        ensures fabric { self.new ≡ (delivered self.old serial).fabric }
+        ensures result { result ≡ (delivered self.old serial).result }
+    {
+        let Some(i) = self.find(serial) else {
+            return Err(FabricFault::NoSuchPacket);
+        };
+        let flight = self.flights[i];
+        let outcome = self.outcome(flight.place, &flight.packet);
+        self.bring(i, &flight, outcome)
+    }
+
+    /// Moves, answers, hands up or discards the packet of a place among those in flight.
+    fn bring(
+        &mut self,
+        i: usize,
+        flight: &Flight,
+        outcome: Outcome,
+    ) -> Result<Delivered, FabricFault>
+        requires at { slice_get self.old.flights i ≡ Some flight.now }
+        requires outcome { outcome ≡ outcome self.old flight.now.place flight.now.packet }
+        ensures fabric { self.new ≡ (brought self.old flight.now outcome).fabric }
+        ensures result { result ≡ (brought self.old flight.now outcome).result }
+    {
+        match outcome {
+            Outcome::Moves(place, packet) => {
+                self.move_to(i, flight.serial, place, packet);
+                Ok(Delivered::Moved(flight.serial))
+            }
+            Outcome::Asks(smp, slid, dlid) => self.ask(i, flight, &smp, slid, dlid),
+            Outcome::HandsUp(packet) => {
+                self.remove(i, flight.serial);
+                Ok(Delivered::ToManager(flight.place.port(), packet))
+            }
+            Outcome::Drops(reason) => {
+                self.remove(i, flight.serial);
+                Ok(Delivered::Discarded(reason))
+            }
+        }
+    }
+
+    /// Lets the agent answer a request that waits there. The answer waits in its stead.
+    fn ask(
+        &mut self,
+        i: usize,
+        flight: &Flight,
+        request: &Smp,
+        slid: Lid,
+        dlid: Lid,
+    ) -> Result<Delivered, FabricFault>
+        requires at { slice_get self.old.flights i ≡ Some flight.now }
+        ensures fabric { self.new ≡ (brought self.old flight.now (Asks request.now slid dlid)).fabric }
+        ensures result { result ≡ (brought self.old flight.now (Asks request.now slid dlid)).result }
+    {
+        let Some(serial) = self.next else {
+            return Err(FabricFault::SerialsSpent);
+        };
+        let at = flight.place.port();
+        let agent = &mut self.agents[at.node];
+        let answer = agent.answer(request, at.port);
+        self.flights.remove(i);
+        self.flights.push_back_reserved(Flight {
+            serial,
+            place: flight.place.answer_place(),
+            packet: Packet {
+                bytes: *answer.bytes(),
+                slid,
+                dlid,
+            },
+        });
+        self.next = serial.checked_add(1);
+        Ok(Delivered::Answered(serial))
+    }
+
+    /// What becomes of a packet where it waits.
+    fn outcome(&self, place: Place, packet: &Packet) -> Outcome
+        requires { is_cable_port self.now (port_of place) ≡ true }
+        ensures { result ≡ outcome self.now place packet.now }
+    {
+        let Ok(smp) = Smp::parse(&packet.bytes) else {
+            return Outcome::Drops(Reason::Unreadable);
+        };
+        if !place.is_seat() && self.across(place.port()).is_none() {
+            return Outcome::Drops(Reason::Down);
+        }
+        match smp.class() {
+            SmpClass::DirectedRoute => self.directed_outcome(place.port(), smp, packet),
+            SmpClass::LidRouted => self.lid_routed_outcome(place, &smp, packet),
+        }
+    }
+
+    /// A step of a packet on a directed route.
+    fn directed_outcome(&self, at: NodePort, mut smp: Smp, packet: &Packet) -> Outcome
+        requires bytes { smp ≡ packet.now.bytes }
+        requires directed { is_directed smp ≡ true }
+        requires port { is_cable_port self.now at ≡ true }
+        ensures { result ≡ directed_outcome self.now at packet.now }
+    {
+        let verdict = step(&mut smp, &self.here(at));
+        let packet = Packet {
+            bytes: *smp.bytes(),
+            ..*packet
+        };
+        match verdict {
+            Verdict::Out(port) => self.leaving(NodePort { port, ..at }, &packet),
+            Verdict::ToAgent => self.at_agent(at, smp, &packet),
+            Verdict::ToManager => Outcome::HandsUp(packet),
+            Verdict::Discard(reason) => Outcome::Drops(Reason::from(reason)),
+        }
+    }
+
+    /// The node of a port, as a step sees it.
+    fn here(&self, at: NodePort) -> Here
+        requires { at.node < length self.now.agents }
+        ensures { result ≡ here_at self.now at }
+    {
+        let agent = self.agent_in(at.node);
+        Here {
+            is_switch: agent.is_switch(),
+            ports: agent.ports(),
+            arrival: at.port,
+        }
+    }
+
+    /// A packet that has come to the end of its path.
+    fn at_agent(&self, at: NodePort, smp: Smp, packet: &Packet) -> Outcome
+        requires { smp ≡ packet.now.bytes }
+        ensures { result ≡ at_agent self.now at packet.now }
+    {
+        if smp.is_response() {
+            Outcome::Drops(Reason::Course)
+        } else if self.is_for_manager(at, &smp) {
+            Outcome::HandsUp(*packet)
+        } else {
+            Outcome::Asks(smp, packet.slid, packet.dlid)
+        }
+    }
+
+    /// What the node does with a packet that is forwarded by its DLID.
+    fn lid_routed_outcome(&self, place: Place, smp: &Smp, packet: &Packet) -> Outcome
+        requires bytes { smp.now ≡ packet.now.bytes }
+        requires port { (port_of place).node < length self.now.agents }
+        ensures { result ≡ lid_routed_outcome self.now place packet.now }
+    {
+        let at = place.port();
+        match self.course(packet.dlid, at, place.is_by_wire()) {
+            Course::Delivers(_) => self.arrival(at, smp, packet),
+            Course::LeavesBy(out) => self.leaving(out, packet),
+            Course::Drops => Outcome::Drops(Reason::NoRoute),
+        }
+    }
+
+    /// A packet that has come to the port of its DLID.
+    fn arrival(&self, at: NodePort, smp: &Smp, packet: &Packet) -> Outcome
+        requires { smp.now ≡ packet.now.bytes }
+        ensures { result ≡ arrived self.now at packet.now }
+    {
+        if smp.is_response() || self.is_for_manager(at, smp) {
+            Outcome::HandsUp(*packet)
+        } else {
+            Outcome::Asks(*smp, packet.dlid, packet.slid)
+        }
+    }
+
+    /// Out by a port, to the other end of its cable.
+    fn leaving(&self, out: NodePort, packet: &Packet) -> Outcome
+        ensures { result ≡ leaving self.now out packet.now }
+    {
+        match self.across(out) {
+            Some(into) => Outcome::Moves(Place::Arrived(into), *packet),
+            None => Outcome::Drops(Reason::Down),
+        }
+    }
+
+    /// Whether the packet is a manager's business at a port where a manager sits.
+    fn is_for_manager(&self, at: NodePort, smp: &Smp) -> bool
+        ensures { result ≡ is_for_manager self.now at smp.now }
+    {
+        smp.attribute_id() == AttributeId::SM_INFO && self.is_seat(at)
+    }
+}

@@ -1,0 +1,118 @@
+ghost use Rattle.std.specs.Prelude.{◌≡◌, ◌<◌, length, slice_get, option_copied, Some};
+ghost use Rattle.smp_bytes.specs.Fabric.{is_switch_at};
+ghost use Rattle.fabric_sim.specs.Simulation.{agent_at, across, is_seat_at, is_cable_port, fabric_of};
+
+use crate::flight::Flight;
+use crate::peers::Peers;
+use node_agents::Agent;
+use smp_bytes::{Lid, NodePort};
+use std::collections::VecDeque;
+use std::marker::Model;
+
+/// A simulated fabric. Nodes are named by their places, from 0. Contracts see the agents, the other ends of the
+/// cables, the packets in flight and the next serial number.
+#[derive(Drop)]
+pub struct Fabric {
+    pub(crate) agents: Vec<Agent>,
+    /// For each node, the other ends of the cables in its ports.
+    pub(crate) peers: Vec<Peers>,
+    /// By rising serial number.
+    pub(crate) flights: VecDeque<Flight>,
+    /// The serial number that is given next; none is left after the greatest.
+    pub(crate) next: Option<u64>,
+}
+
+impl Model for Fabric {
+    ghost use Rattle.fabric_sim.specs.Simulation.{Simulation, IsSimulation, next_serial};
+
+    ghost Value = { Simulation };
+
+    ghost view = { λ f. record { agents = f.agents.items; peers = f.peers.items; flights = f.flights.items; next = next_serial f.next } };
+
+    ghost invariant = { λ f. IsSimulation (record { agents = f.agents.items; peers = f.peers.items; flights = f.flights.items; next = next_serial f.next }) };
+}
+
+impl Fabric {
+    /// How many nodes there are.
+    pub fn node_count(&self) -> usize
+        ensures { result ≡ length self.now.agents }
+    {
+        self.agents.len()
+    }
+
+    /// The agent of a node. Takes one step.
+    pub fn agent(&self, node: usize) -> Option<&Agent>
+        ensures { option_copied result ≡ agent_at self.now node }
+    {
+        self.agents.get(node)
+    }
+
+    /// How many packets are in flight.
+    pub fn flight_count(&self) -> usize
+        ensures { result ≡ length self.now.flights }
+    {
+        self.flights.len()
+    }
+
+    /// A packet in flight, from 0 by rising serial number. Takes one step.
+    pub fn in_flight(&self, i: usize) -> Option<&Flight>
+        ensures { option_copied result ≡ slice_get self.now.flights i }
+    {
+        self.flights.get(i)
+    }
+
+    /// The port at the other end of the cable in a port; that port itself, for a loop.
+    pub fn across(&self, port: NodePort) -> Option<NodePort>
+        ensures { result ≡ across self.now.peers port }
+    {
+        self.peers.get(port.node)?.across(port.port)
+    }
+
+    /// Whether a subnet manager sits at a port.
+    pub fn is_seat(&self, port: NodePort) -> bool
+        ensures { result ≡ is_seat_at self.now port }
+    {
+        match self.agent(port.node) {
+            Some(agent) => agent.has_seat(port.port),
+            None => false,
+        }
+    }
+
+    /// The agent of a node that is there.
+    pub(crate) fn agent_in(&self, node: usize) -> &Agent
+        requires { node < length self.now.agents }
+        ensures { agent_at self.now node ≡ Some result.now }
+    {
+        &self.agents[node]
+    }
+
+    /// Whether the node of a place is a switch.
+    pub(crate) fn is_switch_at(&self, node: usize) -> bool
+        ensures { result ≡ is_switch_at (fabric_of self.now) node }
+    {
+        match self.agent(node) {
+            Some(agent) => agent.is_switch(),
+            None => false,
+        }
+    }
+
+    /// Whether a port is one from 1 to its node's count.
+    pub(crate) fn is_cable_port(&self, port: NodePort) -> bool
+        ensures { result ≡ is_cable_port self.now port }
+    {
+        match self.agent(port.node) {
+            Some(agent) => 1 <= port.port.number() && port.port.number() <= agent.ports(),
+            None => false,
+        }
+    }
+
+    /// The LID of a port, 0 where there is none.
+    pub(crate) fn base_lid(&self, port: NodePort) -> Lid
+        ensures { result ≡ (fabric_of self.now).base_lid port }
+    {
+        match self.agent(port.node) {
+            Some(agent) => agent.base_lid(port.port),
+            None => Lid::new(0),
+        }
+    }
+}

@@ -1,0 +1,106 @@
+ghost use Rattle.std.specs.Prelude.{◌≡◌, ◌<◌, ◌==◌, length, count_by, IfOk, true};
+ghost use Rattle.smp_bytes.specs.Fabric.{switch_count};
+ghost use Rattle.smp_bytes.specs.Forwarding.{course, switch_course, entry_course, adapter_course};
+ghost use Rattle.smp_bytes.specs.Judges.{Judges};
+ghost use Rattle.node_agents.specs.Agent.{is_switch, entry_at};
+ghost use Rattle.fabric_sim.specs.Simulation.{fabric_of, is_port};
+ghost use Rattle.fabric_sim.specs.Ping.{ping, ping_fault};
+
+use crate::fabric::Fabric;
+use crate::fault::FabricFault;
+use crate::ping::Ping;
+use node_agents::Agent;
+use smp_bytes::{Course, Lid, NodePort, PortNum};
+
+/// The entry of a forwarding table that drops a packet.
+const NO_PORT: u8 = 255;
+
+impl Fabric {
+    /// Where a packet for a LID comes to that is sent from a port: over which wires switches forward it, by their
+    /// tables alone. From a port of a switch it begins at the switch. It is lost after two wires for each switch and
+    /// two more, for then it goes round. Takes a step for each node, and one for each wire. No memory.
+    ///
+    /// # Errors
+    ///
+    /// `NoSuchPort`. Port 0 of a switch is a port.
+    pub fn ping(&self, from: NodePort, lid: Lid) -> Result<Ping, FabricFault>
+        ensures judged { Judges result (ping_fault self.now from) }
+        ensures ping { IfOk result (λ comes. comes ≡ ping (fabric_of self.now) lid from) }
+    {
+        if !self.is_port(from) {
+            return Err(FabricFault::NoSuchPort);
+        }
+        let bound = 2 * self.switch_count() + 2;
+        let mut at = from;
+        let mut is_by_wire = false;
+        for hops in 0..bound {
+            let out = match self.course(lid, at, is_by_wire) {
+                Course::Delivers(port) => return Ok(Ping::Reached(port, hops)),
+                Course::LeavesBy(out) => out,
+                Course::Drops => return Ok(Ping::Lost(at.node)),
+            };
+            let Some(into) = self.across(out) else {
+                return Ok(Ping::Lost(at.node));
+            };
+            at = into;
+            is_by_wire = true;
+        }
+        Ok(Ping::Lost(at.node))
+    }
+
+    /// What the node at a port does with a packet for a LID.
+    pub(crate) fn course(&self, lid: Lid, at: NodePort, is_by_wire: bool) -> Course
+        requires { at.node < length self.now.agents }
+        ensures { result ≡ course (fabric_of self.now) lid
+            (record { place = at; by_wire = is_by_wire }) }
+    {
+        let agent = self.agent_in(at.node);
+        if agent.is_switch() {
+            switch_course(agent, at.node, lid)
+        } else if agent.base_lid(at.port) == lid {
+            Course::Delivers(at)
+        } else if is_by_wire {
+            Course::Drops
+        } else {
+            Course::LeavesBy(at)
+        }
+    }
+
+    /// Whether a port is there: one from 1 to its node's count, or port 0 of a switch.
+    pub(crate) fn is_port(&self, port: NodePort) -> bool
+        ensures { result ≡ is_port self.now port }
+    {
+        match self.agent(port.node) {
+            Some(agent) => {
+                port.port.number() <= agent.ports()
+                    && (1 <= port.port.number() || agent.is_switch())
+            }
+            None => false,
+        }
+    }
+
+    /// How many nodes are switches.
+    fn switch_count(&self) -> usize
+        ensures { result ≡ switch_count (fabric_of self.now) }
+    {
+        self.agents.iter().filter(|agent| agent.is_switch()).count()
+    }
+}
+
+/// What a switch does with a packet for a LID.
+fn switch_course(agent: &Agent, node: usize, lid: Lid) -> Course
+    ensures { result ≡ switch_course agent.now.node.ports node agent.now.top lid
+        (entry_at agent.now lid) }
+{
+    if lid.number() == 0 || agent.top() < lid {
+        return Course::Drops;
+    }
+    let port = agent.entry(lid);
+    if port.number() == NO_PORT || agent.ports() < port.number() {
+        Course::Drops
+    } else if port.number() == 0 {
+        Course::Delivers(NodePort { node, port })
+    } else {
+        Course::LeavesBy(NodePort { node, port })
+    }
+}

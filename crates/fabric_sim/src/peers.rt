@@ -1,0 +1,48 @@
+ghost use Rattle.std.specs.Prelude.{◌≡◌, ◌+◌, ◌<◌, None, length, replicate, slice_index_or, slice_set, IfOk};
+
+use smp_bytes::{NodePort, PortNum};
+use std::alloc::{AllocError, Global};
+use std::marker::Model;
+
+/// For each port of a node, from port 0 on, the port at the other end of the cable in it.
+#[derive(Drop)]
+pub(crate) struct Peers {
+    others: Vec<Option<NodePort>>,
+}
+
+impl Model for Peers {
+    ghost use Rattle.std.specs.Prelude.{List, Option};
+    ghost use Rattle.smp_bytes.specs.declared.cable.NodePort.{NodePort};
+
+    ghost Value = { List (Option NodePort) };
+
+    ghost view = { λ p. p.others.items };
+}
+
+impl Peers {
+    /// Those of a node with so many ports from 1 on, without a cable.
+    pub(crate) fn new(alloc: Global, ports: u8) -> Result<Peers, AllocError>
+        ensures { IfOk result (λ peers. peers ≡ replicate (ports + 1) None) }
+    {
+        let others = vec![in alloc; None; usize::from(ports) + 1]?;
+        Ok(Peers { others })
+    }
+
+    /// The port at the other end of the cable in a port.
+    pub(crate) fn across(&self, port: PortNum) -> Option<NodePort>
+        ensures { result ≡ slice_index_or self.now port None }
+    {
+        self.others
+            .get(usize::from(port.number()))
+            .copied()
+            .flatten()
+    }
+
+    /// Puts a cable into a port or takes it out.
+    pub(crate) fn set(&mut self, port: PortNum, other: Option<NodePort>)
+        requires { port < length self.old }
+        ensures { self.new ≡ slice_set self.old port other }
+    {
+        self.others[usize::from(port.number())] = other;
+    }
+}
