@@ -10,7 +10,8 @@ use Rattle.node_agents.specs.declared.refusal.Refusal.{Refusal}
 use Rattle.node_agents.specs.declared.refusal.Refusal.TheVariants.{Method, MethodAndAttribute, InvalidField}
 use Rattle.node_agents.specs.Refusal.{status_of}
 use Rattle.node_agents.specs.Agent.{Agent, is_switch}
-use Rattle.node_agents.specs.NodeInfo.{get_node_description, get_node_info}
+use Rattle.node_agents.specs.NodeDescription.{get_node_description}
+use Rattle.node_agents.specs.NodeInfo.{get_node_info}
 use Rattle.node_agents.specs.SwitchInfo.{get_switch_info, set_switch_info}
 use Rattle.node_agents.specs.PortInfo.{get_port_info, set_port_info}
 use Rattle.node_agents.specs.ForwardingBlock.{get_block, set_block}

@@ -1,6 +1,6 @@
 -- Port information: which port a request means, what a Get tells and a Set takes.
 -- InfiniBand Architecture Specification, Volume 1: subnet management, PortInfo.
-use Rattle.std.specs.Prelude.{ℕ, ◌+◌, Bool, not, ◌&&◌, ◌||◌, ◌==◌, List, [], ◌∷◌, nat_lt, nat_le, if◌then◌else◌, Option, Some, None, option_map, option_and_then}
+use Rattle.std.specs.Prelude.{ℕ, Bool, true, false, not, ◌&&◌, ◌||◌, ◌==◌, List, [], ◌∷◌, nat_lt, nat_le, if◌then◌else◌, Option, Some, None, option_map, option_and_then}
 use Rattle.smp_bytes.specs.Field.{number_in, bits_in, with_bits}
 use Rattle.smp_bytes.specs.Requests.{flag}
 use Rattle.attr_codec.specs.Image.{image}
