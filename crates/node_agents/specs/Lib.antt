@@ -1,4 +1,5 @@
 pub mod Agent
+pub mod AnswerLaws
 pub mod Answers
 pub mod ForwardingBlock
 pub mod NodeDescription

@@ -34,6 +34,7 @@ impl Model for Agent {
 
 impl Agent {
     /// The agent of a node, with no port wired, no manager seated and nothing written. Takes all its memory here.
+    #[tactic(auto, unfolding(crate::specs::Agent::fresh_agent))]
     pub fn new(alloc: Global, node: AgentNode) -> Result<Agent, AllocError>
         requires { IsAgentNode node }
         ensures { IfOk result (λ agent. agent ≡ fresh_agent node) }
@@ -163,6 +164,7 @@ impl Agent {
 
     /// The answer to a request that came to a port, and what a Set makes of the agent. A request that is refused changes
     /// nothing. Takes time in proportion to the 64 bytes of an attribute.
+    #[tactic(auto, unfolding(crate::specs::Answers::answered))]
     pub fn answer(&mut self, smp: &Smp, arrival: PortNum) -> Smp
         requires least { 1 ≤ arrival }
         requires most { arrival ≤ self.old.node.ports }

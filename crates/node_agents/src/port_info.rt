@@ -1,8 +1,7 @@
 //! PortInfo: which port a request means, what a Get tells, and what a Set takes.
-ghost use Rattle.std.specs.Prelude.{◌≡◌, ◌≤◌, is_some, option_map, option_and_then, IfSome};
+ghost use Rattle.std.specs.Prelude.{◌≡◌, ◌≤◌, is_some, IfSome};
 ghost use Rattle.std.specs.Option.{unwrap_or};
-ghost use Rattle.node_agents.specs.Agent.{port_at};
-ghost use Rattle.node_agents.specs.PortInfo.{port_meant, port_info_of, get_port_info, has_lid, state_after, port_after, set_port_info};
+ghost use Rattle.node_agents.specs.PortInfo.{port_meant, port_info_of, get_port_info, has_lid, state_after, port_after, changed_port, set_port_info};
 
 use crate::agent::Agent;
 use crate::port::Port;
@@ -37,6 +36,7 @@ pub(crate) fn set(agent: &mut Agent, modifier: u32, arrival: PortNum, payload: &
 }
 
 /// The port that a Set means, and what it makes of it.
+#[tactic(auto, unfolding(crate::specs::PortInfo::changed_port))]
 fn changed_port(
     agent: &Agent,
     modifier: u32,
@@ -44,7 +44,7 @@ fn changed_port(
     payload: &[u8; 64],
 ) -> Option<(PortNum, Port)>
     requires { arrival ≤ agent.now.node.ports }
-    ensures changed { result ≡ option_and_then (λ port. option_map (λ after. (port, after)) (port_after (port_at agent.now port) (has_lid agent.now port) payload.now)) (port_meant agent.now modifier arrival) }
+    ensures changed { result ≡ changed_port agent.now modifier arrival payload.now }
     ensures port { IfSome result (λ changed. changed.0 ≤ agent.now.node.ports) }
 {
     let port = port_meant(agent, modifier, arrival)?;

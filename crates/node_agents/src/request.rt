@@ -1,10 +1,8 @@
 //! Which requests an agent meets, and how.
-ghost use Rattle.std.specs.Prelude.{◌≡◌, ◌≤◌};
-ghost use Rattle.std.specs.Result.{result_err, result_unwrap_or};
-ghost use Rattle.smp_bytes.specs.Field.{number_in, bytes_in};
+ghost use Rattle.std.specs.Prelude.{◌≡◌, ◌≤◌, None, Some, if◌then◌else◌};
 ghost use Rattle.smp_bytes.specs.Judges.{Judges};
-ghost use Rattle.smp_bytes.specs.Packet.{attribute_id, attribute_modifier, attribute_data};
-ghost use Rattle.node_agents.specs.Answers.{get_attribute, set_attribute, met, met_get};
+ghost use Rattle.node_agents.specs.declared.refusal.Refusal.TheVariants.{InvalidField};
+ghost use Rattle.node_agents.specs.Answers.{Takes, set_of, met, get_of};
 
 use crate::agent::Agent;
 use crate::refusal::Refusal;
@@ -28,9 +26,10 @@ pub(crate) fn meet(agent: &mut Agent, smp: &Smp, arrival: PortNum) -> Result<[u8
 }
 
 /// What a Get of the packet's attribute tells.
+#[tactic(auto, unfolding(crate::specs::Answers::get_of))]
 fn get(agent: &Agent, smp: &Smp, arrival: PortNum) -> Result<[u8; 64], Refusal>
     requires { arrival ≤ agent.now.node.ports }
-    ensures { result ≡ (met_get agent.now smp.now arrival).told }
+    ensures { result ≡ get_of agent.now smp.now arrival }
 {
     let attribute = smp.attribute_id();
     let modifier = smp.attribute_modifier();
@@ -50,23 +49,29 @@ fn get(agent: &Agent, smp: &Smp, arrival: PortNum) -> Result<[u8; 64], Refusal>
 }
 
 /// Takes a Set of the packet's attribute, or says why it doesn't.
+#[tactic(auto, unfolding(crate::specs::Answers::set_of))]
 fn set(agent: &mut Agent, smp: &Smp, arrival: PortNum) -> Result<(), Refusal>
     requires { arrival ≤ agent.old.node.ports }
-    ensures judged { Judges result (result_err (set_attribute agent.old (number_in attribute_id smp.now) (number_in attribute_modifier smp.now) arrival (bytes_in attribute_data smp.now))) }
-    ensures agent { agent.new ≡ result_unwrap_or (set_attribute agent.old (number_in attribute_id smp.now) (number_in attribute_modifier smp.now) arrival (bytes_in attribute_data smp.now)) agent.old }
+    ensures { Takes result agent.old agent.new (set_of agent.old smp.now arrival) }
 {
     let attribute = smp.attribute_id();
     let modifier = smp.attribute_modifier();
     let payload = smp.attribute_data();
-    let is_taken = if attribute == AttributeId::PORT_INFO {
-        port_info::set(agent, modifier, arrival, &payload)
+    if attribute == AttributeId::PORT_INFO {
+        valid_if(port_info::set(agent, modifier, arrival, &payload))
     } else if agent.is_switch() && attribute == AttributeId::SWITCH_INFO {
-        switch_info::set(agent, &payload)
+        valid_if(switch_info::set(agent, &payload))
     } else if agent.is_switch() && attribute == AttributeId::LINEAR_FORWARDING_TABLE {
-        forwarding_block::set(agent, modifier, &payload)
+        valid_if(forwarding_block::set(agent, modifier, &payload))
     } else {
-        return Err(Refusal::MethodAndAttribute);
-    };
+        Err(Refusal::MethodAndAttribute)
+    }
+}
+
+/// Ok where the fields were taken.
+fn valid_if(is_taken: bool) -> Result<(), Refusal>
+    ensures { Judges result (if is_taken then None else Some InvalidField) }
+{
     if is_taken {
         Ok(())
     } else {
