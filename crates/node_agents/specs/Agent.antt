@@ -1,5 +1,5 @@
 -- The agent of a node: what it is made as, and what it holds.
-use Rattle.std.specs.Prelude.{◌≡◌, ℕ, ◌+◌, ◌*◌, ◌/◌, ◌^◌, ◌<◌, ◌≤◌, ◌⊎◌, Bool, true, false, List, All, length, replicate, slice_index_or, slice_set, ◌∷◌, if◌then◌else◌}
+use Rattle.std.specs.Prelude.{◌≡◌, ◌≢◌, ℕ, ◌+◌, ◌*◌, ◌/◌, ◌^◌, ◌<◌, ◌≤◌, ◌⊎◌, Bool, true, false, List, All, length, replicate, slice_index_or, slice_set, ◌∷◌, if◌then◌else◌}
 use Rattle.smp_bytes.specs.declared.node_type.NodeType.{NodeType}
 use Rattle.smp_bytes.specs.NodeType as types
 use Rattle.smp_bytes.specs.Fabric.{Node}
@@ -87,13 +87,17 @@ pub record IsAgentNode (node : AgentNode) : Type 0 where
   pub no_table : types.is_switch node.kind ≡ false → node.cap ≡ 0
   pub port_guids : types.is_switch node.kind ≡ false → node.guid + node.ports < 2 ^ 64
 
+-- what holds of each port that an agent has: a state, a LID that a port may have, and no subnet manager at a switch
+pub record IsPort (kind : NodeType) (port : Port) : Type 0 where
+  pub state : port.state ≢ NoChange
+  pub base_lid : port.base_lid ≤ 0xBFFF
+  pub is_sm : types.is_switch kind ≡ true → port.is_sm ≡ false
+
 -- what holds of each agent
 pub record IsAgent (a : Agent) : Type 0 where
   pub node : IsAgentNode a.node
-  pub ports : length a.ports ≡ a.node.ports + 1
-  pub states : All (λ port. (port.state ≡ NoChange) → ⊥) a.ports
+  pub count : length a.ports ≡ a.node.ports + 1
+  pub ports : All (IsPort a.node.kind) a.ports
   pub port_zero : is_switch a ≡ true → state_at a 0 ≡ Active
-  pub lids : All (λ port. port.base_lid ≤ 0xBFFF) a.ports
-  pub seats : is_switch a ≡ true → All (λ port. port.is_sm ≡ false) a.ports
   pub table : length a.table ≡ 64 * block_count a.node.cap
   pub top : (a.top ≡ 0) ⊎ (a.top < a.node.cap)

@@ -1,6 +1,6 @@
 -- What an agent answers to a request that comes to one of its ports, and what it holds afterwards.
 -- InfiniBand Architecture Specification, Volume 1: subnet management class, methods and attributes.
-use Rattle.std.specs.Prelude.{ℕ, ◌&&◌, ◌==◌, List, if◌then◌else◌, Result, Ok, Err}
+use Rattle.std.specs.Prelude.{◌≡◌, ℕ, ◌&&◌, ◌==◌, List, if◌then◌else◌, Result, Ok, Err}
 use Rattle.std.specs.Option.{ok_or}
 use Rattle.smp_bytes.specs.Header.{get, set, node_description, node_info, switch_info, port_info, linear_forwarding_table, done}
 use Rattle.smp_bytes.specs.Field.{number_in, bytes_in}
@@ -10,7 +10,8 @@ use Rattle.node_agents.specs.declared.refusal.Refusal.{Refusal}
 use Rattle.node_agents.specs.declared.refusal.Refusal.TheVariants.{Method, MethodAndAttribute, InvalidField}
 use Rattle.node_agents.specs.Refusal.{status_of}
 use Rattle.node_agents.specs.Agent.{Agent, is_switch}
-use Rattle.node_agents.specs.NodeInfo.{get_node_description, get_node_info}
+use Rattle.node_agents.specs.NodeDescription.{get_node_description}
+use Rattle.node_agents.specs.NodeInfo.{get_node_info}
 use Rattle.node_agents.specs.SwitchInfo.{get_switch_info, set_switch_info}
 use Rattle.node_agents.specs.PortInfo.{get_port_info, set_port_info}
 use Rattle.node_agents.specs.ForwardingBlock.{get_block, set_block}
@@ -33,25 +34,33 @@ set_attribute a attribute modifier arrival payload =
     else if is_switch a && attribute == linear_forwarding_table then ok_or (set_block a modifier payload) InvalidField
     else Err MethodAndAttribute
 
+-- a call that takes a Set makes the agent what it is to be; one that refuses it leaves the agent as it was
+abbrev pub Takes : {T : Type 0} → Result T Refusal → Agent → Agent → Result Agent Refusal → Type 0
+Takes (Ok _) old new after = after ≡ Ok new
+Takes (Err refusal) old new after = (after ≡ Err refusal) × (new ≡ old)
+
 -- what is told to a request, or why it is refused, and the agent afterwards
 pub record Met : Type 0 where
   pub told : Result (List ℕ) Refusal
   pub agent : Agent
 
-abbrev pub met_get : Agent → List ℕ → ℕ → Met
-met_get a packet arrival =
-    record { told = get_attribute a (number_in attribute_id packet) (number_in attribute_modifier packet) arrival; agent = a }
+-- what a packet asks to be told
+unfoldable pub get_of : Agent → List ℕ → ℕ → Result (List ℕ) Refusal
+get_of a packet arrival = get_attribute a (number_in attribute_id packet) (number_in attribute_modifier packet) arrival
+
+-- what a packet that sets makes of the agent
+unfoldable pub set_of : Agent → List ℕ → ℕ → Result Agent Refusal
+set_of a packet arrival = set_attribute a (number_in attribute_id packet) (number_in attribute_modifier packet) arrival (bytes_in attribute_data packet)
 
 -- the answer to a Set that is taken tells what a Get would now
 abbrev pub met_set : Agent → Result Agent Refusal → List ℕ → ℕ → Met
-met_set a (Ok after) packet arrival = met_get after packet arrival
+met_set a (Ok after) packet arrival = record { told = get_of after packet arrival; agent = after }
 met_set a (Err refusal) packet arrival = record { told = Err refusal; agent = a }
 
 abbrev pub met : Agent → List ℕ → ℕ → Met
 met a packet arrival =
-    if number_in method packet == get then met_get a packet arrival
-    else if number_in method packet == set then met_set a
-    (set_attribute a (number_in attribute_id packet) (number_in attribute_modifier packet) arrival (bytes_in attribute_data packet)) packet arrival
+    if number_in method packet == get then record { told = get_of a packet arrival; agent = a }
+    else if number_in method packet == set then met_set a (set_of a packet arrival) packet arrival
     else record { told = Err Method; agent = a }
 
 -- a refusal sends the request's own bytes back

@@ -1,6 +1,8 @@
 pub mod Agent
+pub mod AnswerLaws
 pub mod Answers
 pub mod ForwardingBlock
+pub mod NodeDescription
 pub mod NodeInfo
 pub mod PortInfo
 pub mod Refusal

@@ -1,15 +1,11 @@
--- Node description and node information: what a Get tells. No Set of them is known.
--- InfiniBand Architecture Specification, Volume 1: subnet management, NodeDescription and NodeInfo.
+-- Node information: what a Get tells. It can't be set.
+-- InfiniBand Architecture Specification, Volume 1: subnet management, NodeInfo.
 use Rattle.std.specs.Prelude.{ℕ, List}
 use Rattle.attr_codec.specs.declared.node_info.NodeInfo.{NodeInfo}
 use Rattle.attr_codec.specs.NodeInfo.{node_info_bytes}
 use Rattle.attr_codec.specs.NodeTypeNumber.{number_of_type}
 use Rattle.node_agents.specs.declared.agent_node.AgentNode.{AgentNode}
 use Rattle.node_agents.specs.Agent.{Agent, port_guid}
-
--- the text that the node was given
-abbrev pub get_node_description : Agent → List ℕ
-get_node_description a = a.node.description
 
 -- of the port by which the request came
 abbrev pub node_info_of : AgentNode → ℕ → NodeInfo

@@ -6,7 +6,6 @@ use Rattle.smp_bytes.specs.Requests.{flag}
 use Rattle.attr_codec.specs.Image.{image}
 use Rattle.attr_codec.specs.PortInfo.{base_lid, master_sm_lid, local_port_num, port_state, is_sm_bit, number_of_state, state_of_number}
 use Rattle.attr_codec.specs.declared.port_state.PortState.{PortState}
-use Rattle.attr_codec.specs.declared.port_state.PortState.TheVariants.{NoChange, Down, Initialize, Armed, Active}
 use Rattle.node_agents.specs.declared.port.Port.{Port}
 use Rattle.node_agents.specs.Agent.{Agent, is_switch, port_at, with_port}
 
@@ -39,11 +38,9 @@ max_unicast_lid = 0xBFFF
 abbrev pub has_lid : Agent → ℕ → Bool
 has_lid a port = not (is_switch a) || port == 0
 
--- the next state on the way to Active, which a manager may wish for; no wish goes to Down, or from it
+-- the next state on the way from Initialize to Active; none leads to Down, or from it
 abbrev pub is_next_state : PortState → PortState → Bool
-is_next_state Initialize Armed = true
-is_next_state Armed Active = true
-is_next_state _ _ = false
+is_next_state state wish = nat_le 2 (number_of_state state) && number_of_state wish == number_of_state state + 1
 
 -- the state after a wish, where it is granted: for no change, for the present state, or for the next
 abbrev pub state_after : PortState → PortState → Option PortState
@@ -67,6 +64,10 @@ port_after port has_lid payload =
     if nat_lt max_unicast_lid (number_in base_lid payload) then None
     else option_map (port_with port has_lid payload) (option_and_then (state_after port.state) (state_of_number (bits_in port_state payload)))
 
+-- the port that a Set means, and what the payload makes of it
+unfoldable pub changed_port : Agent → ℕ → ℕ → List ℕ → Option (ℕ × Port)
+changed_port a modifier arrival payload =
+    option_and_then (λ port. option_map (λ after. (port, after)) (port_after (port_at a port) (has_lid a port) payload)) (port_meant a modifier arrival)
+
 abbrev pub set_port_info : Agent → ℕ → ℕ → List ℕ → Option Agent
-set_port_info a modifier arrival payload =
-    option_and_then (λ port. option_map (with_port a port) (port_after (port_at a port) (has_lid a port) payload)) (port_meant a modifier arrival)
+set_port_info a modifier arrival payload = option_map (λ changed. with_port a changed.0 changed.1) (changed_port a modifier arrival payload)

@@ -1,13 +1,12 @@
-ghost use Rattle.std.specs.Prelude.{◌≡◌, ◌≤◌, false, true, IfOk};
+ghost use Rattle.std.specs.Prelude.{◌≡◌, ◌≤◌, false, IfOk};
 ghost use Rattle.node_agents.specs.Agent.{IsAgentNode, fresh_agent, is_switch, port_at, state_at, base_lid_at, has_seat, entry_at, wired, seated};
 ghost use Rattle.node_agents.specs.Answers.{answered};
 
 use crate::agent_node::AgentNode;
 use crate::port::Port;
-use crate::refusal::Refusal;
-use crate::{forwarding_block, node_info, port_info, switch_info};
-use attr_codec::{Attribute, PortState};
-use smp_bytes::{AttributeId, Guid, Lid, Method, NodeType, PortNum, Smp, Status};
+use crate::request::meet;
+use attr_codec::PortState;
+use smp_bytes::{Guid, Lid, NodeType, PortNum, Smp, Status};
 use std::alloc::{AllocError, Global};
 use std::marker::Model;
 
@@ -35,19 +34,15 @@ impl Model for Agent {
 
 impl Agent {
     /// The agent of a node, with no port wired, no manager seated and nothing written. Takes all its memory here.
+    #[tactic(auto, unfolding(crate::specs::Agent::fresh_agent))]
     pub fn new(alloc: Global, node: AgentNode) -> Result<Agent, AllocError>
         requires { IsAgentNode node }
         ensures { IfOk result (λ agent. agent ≡ fresh_agent node) }
     {
-        let port_zero = if node.kind == NodeType::Switch {
-            PortState::Active
-        } else {
-            PortState::Down
-        };
-        let mut ports = Vec::with_capacity(alloc, usize::from(node.ports) + 1)?;
-        ports.push(Port::in_state(port_zero))?;
-        for _ in 0..node.ports {
-            ports.push(Port::in_state(PortState::Down))?;
+        let count = usize::from(node.ports) + 1;
+        let mut ports = vec![in alloc; Port::in_state(PortState::Down); count]?;
+        if node.is_switch() {
+            ports[0] = Port::in_state(PortState::Active);
         }
         let entries = usize::from(node.cap).div_ceil(64) * 64;
         let table = vec![in alloc; 255; entries]?;
@@ -77,10 +72,7 @@ impl Agent {
     pub fn is_switch(&self) -> bool
         ensures { result ≡ is_switch self.now }
     {
-        match self.node.kind {
-            NodeType::Switch => true,
-            NodeType::ChannelAdapter | NodeType::Router => false,
-        }
+        self.node.is_switch()
     }
 
     /// How many ports the node has from 1 on, 1 to 254.
@@ -113,6 +105,16 @@ impl Agent {
         match self.table.get(usize::from(lid.number())) {
             Some(port) => PortNum::new(*port),
             None => PortNum::new(255),
+        }
+    }
+
+    /// What is held of a port; nothing, and Down, where the node has no such port.
+    pub(crate) fn port(&self, port: PortNum) -> Port
+        ensures { result ≡ port_at self.now port }
+    {
+        match self.ports.get(usize::from(port.number())) {
+            Some(port) => *port,
+            None => Port::in_state(PortState::Down),
         }
     }
 
@@ -162,13 +164,14 @@ impl Agent {
 
     /// The answer to a request that came to a port, and what a Set makes of the agent. A request that is refused changes
     /// nothing. Takes time in proportion to the 64 bytes of an attribute.
+    #[tactic(auto, unfolding(crate::specs::Answers::answered))]
     pub fn answer(&mut self, smp: &Smp, arrival: PortNum) -> Smp
         requires least { 1 ≤ arrival }
         requires most { arrival ≤ self.old.node.ports }
         ensures answer { result ≡ (answered self.old smp.now arrival).packet }
         ensures state { self.new ≡ (answered self.old smp.now arrival).agent }
     {
-        match self.meet(smp, arrival) {
+        match meet(self, smp, arrival) {
             Ok(payload) => smp.answer(Status::DONE, &payload),
             Err(refusal) => smp.answer(refusal.status(), &smp.attribute_data()),
         }

@@ -1,3 +1,6 @@
+ghost use Rattle.std.specs.Prelude.{◌≡◌};
+ghost use Rattle.smp_bytes.specs.NodeType.{is_switch};
+
 use attr_codec::NodeDescription;
 use smp_bytes::{Guid, NodeType};
 
@@ -14,4 +17,16 @@ pub struct AgentNode {
     pub cap: u16,
     /// What an operator calls it.
     pub description: NodeDescription,
+}
+
+impl AgentNode {
+    /// Whether it is a switch.
+    pub(crate) fn is_switch(&self) -> bool
+        ensures { result ≡ is_switch self.now.kind }
+    {
+        match self.kind {
+            NodeType::Switch => true,
+            NodeType::ChannelAdapter | NodeType::Router => false,
+        }
+    }
 }

@@ -3,8 +3,14 @@
 
 mod agent;
 mod agent_node;
+mod forwarding_block;
+mod node_description;
+mod node_info;
 mod port;
+mod port_info;
 mod refusal;
+mod request;
+mod switch_info;
 
 pub use agent::Agent;
 pub use agent_node::AgentNode;

@@ -1,3 +1,5 @@
+ghost use Rattle.std.specs.Prelude.{◌≡◌};
+
 use attr_codec::PortState;
 use smp_bytes::Lid;
 
@@ -5,10 +7,26 @@ use smp_bytes::Lid;
 #[derive(Clone, Copy, Debug, PartialEq, Eq)]
 pub struct Port {
     /// The port's own LID, 0 for none.
-    pub base_lid: Lid,
+    pub(crate) base_lid: Lid,
     /// The LID of the subnet manager.
-    pub master_sm_lid: Lid,
-    pub state: PortState,
+    pub(crate) master_sm_lid: Lid,
+    pub(crate) state: PortState,
     /// IsSM: a subnet manager sits at the port.
-    pub is_sm: bool,
+    pub(crate) is_sm: bool,
+}
+
+impl Port {
+    ghost use Rattle.node_agents.specs.Agent.{port_in};
+
+    /// A port in a state, to which nothing was written.
+    pub(crate) fn in_state(state: PortState) -> Self
+        ensures { result ≡ port_in state }
+    {
+        Port {
+            base_lid: Lid::new(0),
+            master_sm_lid: Lid::new(0),
+            state,
+            is_sm: false,
+        }
+    }
 }

@@ -1,0 +1,2 @@
+pub mod PortSteps
+pub mod Shapes

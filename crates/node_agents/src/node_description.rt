@@ -1,0 +1,13 @@
+//! NodeDescription, which can't be set.
+ghost use Rattle.std.specs.Prelude.{◌≡◌};
+ghost use Rattle.node_agents.specs.NodeDescription.{get_node_description};
+
+use crate::agent::Agent;
+use attr_codec::Attribute;
+
+/// What a Get tells.
+pub(crate) fn get(agent: &Agent) -> [u8; 64]
+    ensures { result ≡ get_node_description agent.now }
+{
+    agent.node.description.encode()
+}

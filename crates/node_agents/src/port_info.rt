@@ -1,0 +1,121 @@
+//! PortInfo: which port a request means, what a Get tells, and what a Set takes.
+ghost use Rattle.std.specs.Prelude.{◌≡◌, ◌≤◌, is_some, IfSome};
+ghost use Rattle.std.specs.Option.{unwrap_or};
+ghost use Rattle.node_agents.specs.PortInfo.{port_meant, port_info_of, get_port_info, has_lid, state_after, port_after, changed_port, set_port_info};
+
+use crate::agent::Agent;
+use crate::port::Port;
+use attr_codec::{Attribute, PortInfo, PortState};
+use smp_bytes::PortNum;
+
+/// The greatest LID that a port may have.
+const MAX_UNICAST_LID: u16 = 0xBFFF;
+
+/// What a Get tells.
+pub(crate) fn get(agent: &Agent, modifier: u32, arrival: PortNum) -> Option<[u8; 64]>
+    ensures { result ≡ get_port_info agent.now modifier arrival }
+{
+    let port = port_meant(agent, modifier, arrival)?;
+    Some(told(agent.port(port), arrival))
+}
+
+/// Takes the LIDs, at an end port, and the state, where it takes both; whether that is so.
+pub(crate) fn set(agent: &mut Agent, modifier: u32, arrival: PortNum, payload: &[u8; 64]) -> bool
+    requires { arrival ≤ agent.old.node.ports }
+    ensures taken { result ≡ is_some (set_port_info agent.old modifier arrival payload.now) }
+    ensures agent { agent.new
+        ≡ unwrap_or (set_port_info agent.old modifier arrival payload.now) agent.old }
+{
+    match changed_port(agent, modifier, arrival, payload) {
+        Some((port, after)) => {
+            agent.ports[usize::from(port.number())] = after;
+            true
+        }
+        None => false,
+    }
+}
+
+/// The port that a Set means, and what it makes of it.
+#[tactic(auto, unfolding(crate::specs::PortInfo::changed_port))]
+fn changed_port(
+    agent: &Agent,
+    modifier: u32,
+    arrival: PortNum,
+    payload: &[u8; 64],
+) -> Option<(PortNum, Port)>
+    requires { arrival ≤ agent.now.node.ports }
+    ensures changed { result ≡ changed_port agent.now modifier arrival payload.now }
+    ensures port { IfSome result (λ changed. changed.0 ≤ agent.now.node.ports) }
+{
+    let port = port_meant(agent, modifier, arrival)?;
+    let after = port_after(agent.port(port), has_lid(agent, port), payload)?;
+    Some((port, after))
+}
+
+/// The port that a request means: any of a switch, and of an adapter the one to which it came.
+fn port_meant(agent: &Agent, modifier: u32, arrival: PortNum) -> Option<PortNum>
+    ensures port { result ≡ port_meant agent.now modifier arrival }
+{
+    if agent.node.is_switch() {
+        let is_port = modifier <= u32::from(agent.node.ports);
+        is_port.then(|| PortNum::new(modifier as u8))
+    } else if modifier == 0 || modifier == u32::from(arrival.number()) {
+        Some(arrival)
+    } else {
+        None
+    }
+}
+
+/// What is told of a port to a request that came by this or another one.
+fn told(port: Port, arrival: PortNum) -> [u8; 64]
+    ensures { result ≡ port_info_of port arrival }
+{
+    let mut info = PortInfo::decode(&[0; 64]);
+    info.set_base_lid(port.base_lid);
+    info.set_master_sm_lid(port.master_sm_lid);
+    info.set_local_port_num(arrival);
+    info.set_is_sm(port.is_sm);
+    info.set_port_state(port.state);
+    info.encode()
+}
+
+/// Whether the port has a LID of its own: each of an adapter has, and port 0 of a switch.
+fn has_lid(agent: &Agent, port: PortNum) -> bool
+    ensures { result ≡ has_lid agent.now port }
+{
+    !agent.node.is_switch() || port.number() == 0
+}
+
+/// What a Set makes of a port, or None where it refuses the LID or the state.
+fn port_after(port: Port, has_lid: bool, payload: &[u8; 64]) -> Option<Port>
+    ensures { result ≡ port_after port has_lid payload.now }
+{
+    let info = PortInfo::decode(payload);
+    if info.base_lid().number() > MAX_UNICAST_LID {
+        return None;
+    }
+    let state = state_after(port.state, info.port_state()?)?;
+    if !has_lid {
+        return Some(Port { state, ..port });
+    }
+    Some(Port {
+        base_lid: info.base_lid(),
+        master_sm_lid: info.master_sm_lid(),
+        state,
+        ..port
+    })
+}
+
+/// The state after a wish: no change, the present state, or the next one on the way to Active.
+fn state_after(state: PortState, wish: PortState) -> Option<PortState>
+    ensures { result ≡ state_after state wish }
+{
+    match (state, wish) {
+        (_, PortState::NoChange) => Some(state),
+        (PortState::Initialize, PortState::Armed) | (PortState::Armed, PortState::Active) => {
+            Some(wish)
+        }
+        _ if wish == state => Some(state),
+        _ => None,
+    }
+}

@@ -1,0 +1,80 @@
+//! Which requests an agent meets, and how.
+ghost use Rattle.std.specs.Prelude.{◌≡◌, ◌≤◌, None, Some, if◌then◌else◌};
+ghost use Rattle.smp_bytes.specs.Judges.{Judges};
+ghost use Rattle.node_agents.specs.declared.refusal.Refusal.TheVariants.{InvalidField};
+ghost use Rattle.node_agents.specs.Answers.{Takes, set_of, met, get_of};
+
+use crate::agent::Agent;
+use crate::refusal::Refusal;
+use crate::{forwarding_block, node_description, node_info, port_info, switch_info};
+use smp_bytes::{AttributeId, Method, PortNum, Smp};
+
+/// What is told to a request, or why it is refused, and what it makes of the agent.
+pub(crate) fn meet(agent: &mut Agent, smp: &Smp, arrival: PortNum) -> Result<[u8; 64], Refusal>
+    requires { arrival ≤ agent.old.node.ports }
+    ensures told { result ≡ (met agent.old smp.now arrival).told }
+    ensures agent { agent.new ≡ (met agent.old smp.now arrival).agent }
+{
+    if smp.method() == Method::GET {
+        get(agent, smp, arrival)
+    } else if smp.method() == Method::SET {
+        set(agent, smp, arrival)?;
+        get(agent, smp, arrival)
+    } else {
+        Err(Refusal::Method)
+    }
+}
+
+/// What a Get of the packet's attribute tells.
+#[tactic(auto, unfolding(crate::specs::Answers::get_of))]
+fn get(agent: &Agent, smp: &Smp, arrival: PortNum) -> Result<[u8; 64], Refusal>
+    requires { arrival ≤ agent.now.node.ports }
+    ensures { result ≡ get_of agent.now smp.now arrival }
+{
+    let attribute = smp.attribute_id();
+    let modifier = smp.attribute_modifier();
+    if attribute == AttributeId::NODE_DESCRIPTION {
+        Ok(node_description::get(agent))
+    } else if attribute == AttributeId::NODE_INFO {
+        Ok(node_info::get(agent, arrival))
+    } else if attribute == AttributeId::PORT_INFO {
+        port_info::get(agent, modifier, arrival).ok_or(Refusal::InvalidField)
+    } else if agent.is_switch() && attribute == AttributeId::SWITCH_INFO {
+        Ok(switch_info::get(agent))
+    } else if agent.is_switch() && attribute == AttributeId::LINEAR_FORWARDING_TABLE {
+        forwarding_block::get(agent, modifier).ok_or(Refusal::InvalidField)
+    } else {
+        Err(Refusal::MethodAndAttribute)
+    }
+}
+
+/// Takes a Set of the packet's attribute, or says why it doesn't.
+#[tactic(auto, unfolding(crate::specs::Answers::set_of))]
+fn set(agent: &mut Agent, smp: &Smp, arrival: PortNum) -> Result<(), Refusal>
+    requires { arrival ≤ agent.old.node.ports }
+    ensures { Takes result agent.old agent.new (set_of agent.old smp.now arrival) }
+{
+    let attribute = smp.attribute_id();
+    let modifier = smp.attribute_modifier();
+    let payload = smp.attribute_data();
+    if attribute == AttributeId::PORT_INFO {
+        valid_if(port_info::set(agent, modifier, arrival, &payload))
+    } else if agent.is_switch() && attribute == AttributeId::SWITCH_INFO {
+        valid_if(switch_info::set(agent, &payload))
+    } else if agent.is_switch() && attribute == AttributeId::LINEAR_FORWARDING_TABLE {
+        valid_if(forwarding_block::set(agent, modifier, &payload))
+    } else {
+        Err(Refusal::MethodAndAttribute)
+    }
+}
+
+/// Ok where the fields were taken.
+fn valid_if(is_taken: bool) -> Result<(), Refusal>
+    ensures { Judges result (if is_taken then None else Some InvalidField) }
+{
+    if is_taken {
+        Ok(())
+    } else {
+        Err(Refusal::InvalidField)
+    }
+}
