@@ -93,8 +93,8 @@ lid_routed_outcome s place packet =
     by_course s (port_of place) packet (course (fabric_of s) packet.dlid (record { place = port_of place; by_wire = is_by_wire place }))
 
 -- any packet: it has to parse, and where it came by a wire or is an answer that was made there, its port has to be up
-unfoldable pub outcome : Simulation → Place → Packet → Outcome
-outcome s place packet =
+unfoldable pub outcome_of : Simulation → Place → Packet → Outcome
+outcome_of s place packet =
     if is_some (fault_of packet.bytes) then Drops Unreadable
     else if not (is_at_seat place) && is_none (across s.peers (port_of place)) then Drops Down
     else if is_directed packet.bytes then directed_outcome s (port_of place) packet
@@ -154,7 +154,7 @@ brought s flight (Drops reason) = record { fabric = without s flight.serial; res
 
 abbrev pub delivered_flight : Simulation → Option Flight → Called Delivered
 delivered_flight s None = refused s NoSuchPacket
-delivered_flight s (Some flight) = brought s flight (outcome s flight.place flight.packet)
+delivered_flight s (Some flight) = brought s flight (outcome_of s flight.place flight.packet)
 
 -- one step of the packet with a serial number
 unfoldable pub delivered : Simulation → ℕ → Called Delivered

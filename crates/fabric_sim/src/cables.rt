@@ -20,14 +20,14 @@ impl Fabric {
         ensures fabric { self.new ≡ (plugged self.old one other).fabric }
         ensures result { result ≡ (plugged self.old one other).result }
     {
-        if !self.is_cable_port(one) || !self.is_cable_port(other) {
+        if !self.is_cable_port(&one) || !self.is_cable_port(&other) {
             return Err(FabricFault::NoSuchPort);
         }
-        if self.across(one).is_some() || self.across(other).is_some() {
+        if self.across(&one).is_some() || self.across(&other).is_some() {
             return Err(FabricFault::PortTaken);
         }
-        set_end(&mut self.agents, &mut self.peers, one, Some(other));
-        set_end(&mut self.agents, &mut self.peers, other, Some(one));
+        set_end(&mut self.agents, &mut self.peers, &one, Some(other));
+        set_end(&mut self.agents, &mut self.peers, &other, Some(one));
         Ok(())
     }
 
@@ -40,22 +40,22 @@ impl Fabric {
         ensures fabric { self.new ≡ (cut self.old at).fabric }
         ensures result { result ≡ (cut self.old at).result }
     {
-        let Some(other) = self.across(at) else {
+        let Some(other) = self.across(&at) else {
             return Err(FabricFault::NoSuchPort);
         };
-        set_end(&mut self.agents, &mut self.peers, at, None);
-        set_end(&mut self.agents, &mut self.peers, other, None);
+        set_end(&mut self.agents, &mut self.peers, &at, None);
+        set_end(&mut self.agents, &mut self.peers, &other, None);
         Ok(())
     }
 }
 
 /// Puts the end of a cable into a port, or takes it out.
-fn set_end(agents: &mut [Agent], peers: &mut [Peers], port: NodePort, other: Option<NodePort>)
-    requires agent { port.node < length agents.old }
-    requires peers { port.node < length peers.old }
+fn set_end(agents: &mut [Agent], peers: &mut [Peers], port: &NodePort, other: Option<NodePort>)
+    requires agent { port.now.node < length agents.old }
+    requires peers { port.now.node < length peers.old }
     ensures agents { agents.new
-        ≡ with_changed agents.old port.node (λ a. wired a port.port (is_some other)) }
-    ensures peers { peers.new ≡ with_peer peers.old port other }
+        ≡ with_changed agents.old port.now.node (λ a. wired a port.now.port (is_some other)) }
+    ensures peers { peers.new ≡ with_peer peers.old port.now other }
 {
     let agent = &mut agents[port.node];
     agent.set_wired(port.port, other.is_some());

@@ -23,10 +23,10 @@ impl Fabric {
         ensures fabric { self.new ≡ (manager_seated self.old at).fabric }
         ensures result { result ≡ (manager_seated self.old at).result }
     {
-        if self.is_switch_at(at.node) || !self.is_cable_port(at) {
+        if self.is_switch_at(at.node) || !self.is_cable_port(&at) {
             return Err(FabricFault::NoSuchPort);
         }
-        if self.is_seat(at) {
+        if self.is_seat(&at) {
             return Err(FabricFault::PortTaken);
         }
         let agent = &mut self.agents[at.node];
@@ -45,16 +45,16 @@ impl Fabric {
         ensures result { result ≢ Err Memory → result ≡ (injected self.old from packet).result }
         ensures memory { result ≡ Err Memory → self.new ≡ self.old }
     {
-        if !self.is_seat(from) {
+        if !self.is_seat(&from) {
             return Err(FabricFault::NoSuchPort);
         }
-        let packet = self.addressed(from, packet);
+        let packet = self.addressed(&from, packet);
         self.launch(Place::Seat(from), packet)
     }
 
     /// The packet with the LID of its port, where switches forward it by LIDs.
-    fn addressed(&self, from: NodePort, packet: Packet) -> Packet
-        ensures { result ≡ addressed self.now from packet }
+    fn addressed(&self, from: &NodePort, packet: Packet) -> Packet
+        ensures { result ≡ addressed self.now from.now packet }
     {
         if packet.bytes[MGMT_CLASS] == LID_ROUTED {
             Packet {

@@ -3,7 +3,7 @@ ghost use Rattle.smp_bytes.specs.Packet.{is_directed, fault_of};
 ghost use Rattle.smp_bytes.specs.Forwarding.{course};
 ghost use Rattle.fabric_sim.specs.declared.outcome.Outcome.TheVariants.{Asks};
 ghost use Rattle.fabric_sim.specs.Simulation.{port_of, is_cable_port, fabric_of};
-ghost use Rattle.fabric_sim.specs.Delivery.{carrying, here_at, is_for_manager, leaving, at_agent, by_verdict, by_course, arrived, directed_outcome, lid_routed_outcome, outcome, brought, delivered, moved_to, without};
+ghost use Rattle.fabric_sim.specs.Delivery.{carrying, here_at, is_for_manager, leaving, at_agent, by_verdict, by_course, arrived, directed_outcome, lid_routed_outcome, outcome_of, brought, delivered, moved_to, without};
 
 use crate::delivered::{Delivered, Reason};
 use crate::fabric::Fabric;
@@ -42,7 +42,7 @@ impl Fabric {
         outcome: Outcome,
     ) -> Result<Delivered, FabricFault>
         requires at { slice_get self.old.flights i ≡ Some flight.now }
-        requires outcome { outcome ≡ outcome self.old flight.now.place flight.now.packet }
+        requires fares { outcome ≡ outcome_of self.old flight.now.place flight.now.packet }
         ensures fabric { self.new ≡ (brought self.old flight.now outcome).fabric }
         ensures result { result ≡ (brought self.old flight.now outcome).result }
     {
@@ -99,34 +99,36 @@ impl Fabric {
     /// What becomes of a packet where it waits.
     fn outcome(&self, place: Place, packet: &Packet) -> Outcome
         requires { is_cable_port self.now (port_of place) ≡ true }
-        ensures { result ≡ outcome self.now place packet.now }
+        ensures { result ≡ outcome_of self.now place packet.now }
     {
         let Ok(smp) = Smp::parse(&packet.bytes) else {
             return Outcome::Drops(Reason::Unreadable);
         };
-        if !place.is_seat() && self.across(place.port()).is_none() {
+        let at = place.port();
+        if !place.is_seat() && self.across(&at).is_none() {
             return Outcome::Drops(Reason::Down);
         }
         match smp.class() {
-            SmpClass::DirectedRoute => self.directed_outcome(place.port(), smp, packet),
+            SmpClass::DirectedRoute => self.directed_outcome(&at, smp, packet),
             SmpClass::LidRouted => self.lid_routed_outcome(place, &smp, packet),
         }
     }
 
     /// A step of a packet on a directed route.
-    fn directed_outcome(&self, at: NodePort, mut smp: Smp, packet: &Packet) -> Outcome
+    fn directed_outcome(&self, at: &NodePort, mut smp: Smp, packet: &Packet) -> Outcome
         requires bytes { smp ≡ packet.now.bytes }
         requires directed { is_directed smp ≡ true }
-        requires port { is_cable_port self.now at ≡ true }
-        ensures { result ≡ directed_outcome self.now at packet.now }
+        requires port { is_cable_port self.now at.now ≡ true }
+        ensures { result ≡ directed_outcome self.now at.now packet.now }
     {
         let verdict = step(&mut smp, &self.here(at));
         let packet = Packet {
             bytes: *smp.bytes(),
-            ..*packet
+            slid: packet.slid,
+            dlid: packet.dlid,
         };
         match verdict {
-            Verdict::Out(port) => self.leaving(NodePort { port, ..at }, &packet),
+            Verdict::Out(port) => self.leaving(&NodePort { node: at.node, port }, &packet),
             Verdict::ToAgent => self.at_agent(at, smp, &packet),
             Verdict::ToManager => Outcome::HandsUp(packet),
             Verdict::Discard(reason) => Outcome::Drops(Reason::from(reason)),
@@ -134,9 +136,9 @@ impl Fabric {
     }
 
     /// The node of a port, as a step sees it.
-    fn here(&self, at: NodePort) -> Here
-        requires { at.node < length self.now.agents }
-        ensures { result ≡ here_at self.now at }
+    fn here(&self, at: &NodePort) -> Here
+        requires { at.now.node < length self.now.agents }
+        ensures { result ≡ here_at self.now at.now }
     {
         let agent = self.agent_in(at.node);
         Here {
@@ -147,9 +149,9 @@ impl Fabric {
     }
 
     /// A packet that has come to the end of its path.
-    fn at_agent(&self, at: NodePort, smp: Smp, packet: &Packet) -> Outcome
+    fn at_agent(&self, at: &NodePort, smp: Smp, packet: &Packet) -> Outcome
         requires { smp ≡ packet.now.bytes }
-        ensures { result ≡ at_agent self.now at packet.now }
+        ensures { result ≡ at_agent self.now at.now packet.now }
     {
         if smp.is_response() {
             Outcome::Drops(Reason::Course)
@@ -167,17 +169,17 @@ impl Fabric {
         ensures { result ≡ lid_routed_outcome self.now place packet.now }
     {
         let at = place.port();
-        match self.course(packet.dlid, at, place.is_by_wire()) {
-            Course::Delivers(_) => self.arrival(at, smp, packet),
-            Course::LeavesBy(out) => self.leaving(out, packet),
+        match self.course(packet.dlid, &at, place.is_by_wire()) {
+            Course::Delivers(_) => self.arrival(&at, smp, packet),
+            Course::LeavesBy(out) => self.leaving(&out, packet),
             Course::Drops => Outcome::Drops(Reason::NoRoute),
         }
     }
 
     /// A packet that has come to the port of its DLID.
-    fn arrival(&self, at: NodePort, smp: &Smp, packet: &Packet) -> Outcome
+    fn arrival(&self, at: &NodePort, smp: &Smp, packet: &Packet) -> Outcome
         requires { smp.now ≡ packet.now.bytes }
-        ensures { result ≡ arrived self.now at packet.now }
+        ensures { result ≡ arrived self.now at.now packet.now }
     {
         if smp.is_response() || self.is_for_manager(at, smp) {
             Outcome::HandsUp(*packet)
@@ -187,8 +189,8 @@ impl Fabric {
     }
 
     /// Out by a port, to the other end of its cable.
-    fn leaving(&self, out: NodePort, packet: &Packet) -> Outcome
-        ensures { result ≡ leaving self.now out packet.now }
+    fn leaving(&self, out: &NodePort, packet: &Packet) -> Outcome
+        ensures { result ≡ leaving self.now out.now packet.now }
     {
         match self.across(out) {
             Some(into) => Outcome::Moves(Place::Arrived(into), *packet),
@@ -197,8 +199,8 @@ impl Fabric {
     }
 
     /// Whether the packet is a manager's business at a port where a manager sits.
-    fn is_for_manager(&self, at: NodePort, smp: &Smp) -> bool
-        ensures { result ≡ is_for_manager self.now at smp.now }
+    fn is_for_manager(&self, at: &NodePort, smp: &Smp) -> bool
+        ensures { result ≡ is_for_manager self.now at.now smp.now }
     {
         smp.attribute_id() == AttributeId::SM_INFO && self.is_seat(at)
     }

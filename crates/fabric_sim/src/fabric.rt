@@ -62,15 +62,15 @@ impl Fabric {
     }
 
     /// The port at the other end of the cable in a port; that port itself, for a loop.
-    pub fn across(&self, port: NodePort) -> Option<NodePort>
-        ensures { result ≡ across self.now.peers port }
+    pub fn across(&self, port: &NodePort) -> Option<NodePort>
+        ensures { result ≡ across self.now.peers port.now }
     {
         self.peers.get(port.node)?.across(port.port)
     }
 
     /// Whether a subnet manager sits at a port.
-    pub fn is_seat(&self, port: NodePort) -> bool
-        ensures { result ≡ is_seat_at self.now port }
+    pub fn is_seat(&self, port: &NodePort) -> bool
+        ensures { result ≡ is_seat_at self.now port.now }
     {
         match self.agent(port.node) {
             Some(agent) => agent.has_seat(port.port),
@@ -97,8 +97,8 @@ impl Fabric {
     }
 
     /// Whether a port is one from 1 to its node's count.
-    pub(crate) fn is_cable_port(&self, port: NodePort) -> bool
-        ensures { result ≡ is_cable_port self.now port }
+    pub(crate) fn is_cable_port(&self, port: &NodePort) -> bool
+        ensures { result ≡ is_cable_port self.now port.now }
     {
         match self.agent(port.node) {
             Some(agent) => 1 <= port.port.number() && port.port.number() <= agent.ports(),
@@ -107,8 +107,8 @@ impl Fabric {
     }
 
     /// The LID of a port, 0 where there is none.
-    pub(crate) fn base_lid(&self, port: NodePort) -> Lid
-        ensures { result ≡ (fabric_of self.now).base_lid port }
+    pub(crate) fn base_lid(&self, port: &NodePort) -> Lid
+        ensures { result ≡ (fabric_of self.now).base_lid port.now }
     {
         match self.agent(port.node) {
             Some(agent) => agent.base_lid(port.port),

@@ -27,19 +27,19 @@ impl Fabric {
         ensures judged { Judges result (ping_fault self.now from) }
         ensures ping { IfOk result (λ comes. comes ≡ ping (fabric_of self.now) lid from) }
     {
-        if !self.is_port(from) {
+        if !self.is_port(&from) {
             return Err(FabricFault::NoSuchPort);
         }
         let bound = 2 * self.switch_count() + 2;
         let mut at = from;
         let mut is_by_wire = false;
         for hops in 0..bound {
-            let out = match self.course(lid, at, is_by_wire) {
+            let out = match self.course(lid, &at, is_by_wire) {
                 Course::Delivers(port) => return Ok(Ping::Reached(port, hops)),
                 Course::LeavesBy(out) => out,
                 Course::Drops => return Ok(Ping::Lost(at.node)),
             };
-            let Some(into) = self.across(out) else {
+            let Some(into) = self.across(&out) else {
                 return Ok(Ping::Lost(at.node));
             };
             at = into;
@@ -49,26 +49,26 @@ impl Fabric {
     }
 
     /// What the node at a port does with a packet for a LID.
-    pub(crate) fn course(&self, lid: Lid, at: NodePort, is_by_wire: bool) -> Course
-        requires { at.node < length self.now.agents }
+    pub(crate) fn course(&self, lid: Lid, at: &NodePort, is_by_wire: bool) -> Course
+        requires { at.now.node < length self.now.agents }
         ensures { result ≡ course (fabric_of self.now) lid
-            (record { place = at; by_wire = is_by_wire }) }
+            (record { place = at.now; by_wire = is_by_wire }) }
     {
         let agent = self.agent_in(at.node);
         if agent.is_switch() {
             switch_course(agent, at.node, lid)
         } else if agent.base_lid(at.port) == lid {
-            Course::Delivers(at)
+            Course::Delivers(*at)
         } else if is_by_wire {
             Course::Drops
         } else {
-            Course::LeavesBy(at)
+            Course::LeavesBy(*at)
         }
     }
 
     /// Whether a port is there: one from 1 to its node's count, or port 0 of a switch.
-    pub(crate) fn is_port(&self, port: NodePort) -> bool
-        ensures { result ≡ is_port self.now port }
+    pub(crate) fn is_port(&self, port: &NodePort) -> bool
+        ensures { result ≡ is_port self.now port.now }
     {
         match self.agent(port.node) {
             Some(agent) => {
