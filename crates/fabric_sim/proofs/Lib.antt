@@ -1,0 +1,4 @@
+mod Serials
+mod AgentLists
+mod PeerLists
+mod PortChanges

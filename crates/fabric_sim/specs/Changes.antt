@@ -57,16 +57,24 @@ with_peer peers p other = slice_set peers p.node (slice_set (slice_index_or peer
 abbrev pub with_end : Simulation → NodePort → Option NodePort → Simulation
 with_end s p other = record (changed_at s p (λ a port. wired a port (is_some other))) { peers = with_peer s.peers p other }
 
+-- with a cable between two ports, or a loop in one
+unfoldable pub joined : Simulation → NodePort → NodePort → Simulation
+joined s p q = with_end (with_end s p (Some q)) q (Some p)
+
+-- without the cable between two ports
+unfoldable pub parted : Simulation → NodePort → NodePort → Simulation
+parted s p q = with_end (with_end s p None) q None
+
 -- a cable is plugged into two free ports, or as a loop into one
 unfoldable pub plugged : Simulation → NodePort → NodePort → Called (Unit {0})
 plugged s p q =
     if not (is_cable_port s p && is_cable_port s q) then refused s NoSuchPort
     else if not (is_none (across s.peers p) && is_none (across s.peers q)) then refused s PortTaken
-    else record { fabric = with_end (with_end s p (Some q)) q (Some p); result = Ok tt }
+    else record { fabric = joined s p q; result = Ok tt }
 
 abbrev pub cut_apart : Simulation → NodePort → Option NodePort → Called (Unit {0})
 cut_apart s p None = refused s NoSuchPort
-cut_apart s p (Some q) = record { fabric = with_end (with_end s p None) q None; result = Ok tt }
+cut_apart s p (Some q) = record { fabric = parted s p q; result = Ok tt }
 
 -- the cable in a port is cut
 unfoldable pub cut : Simulation → NodePort → Called (Unit {0})

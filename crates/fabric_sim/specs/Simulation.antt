@@ -33,8 +33,11 @@ abbrev pub port_count : Simulation → ℕ → ℕ
 port_count s place = option_map_or (λ a. a.node.ports) (agent_at s place) 0
 
 -- a port from 1 to its node's count, into which a cable can go
+abbrev pub has_cable_port : List Agent → NodePort → Bool
+has_cable_port agents p = nat_le 1 p.port && nat_le p.port (option_map_or (λ a. a.node.ports) (slice_get agents p.node) 0)
+
 abbrev pub is_cable_port : Simulation → NodePort → Bool
-is_cable_port s p = nat_le 1 p.port && nat_le p.port (port_count s p.node)
+is_cable_port s p = has_cable_port s.agents p
 
 -- a subnet manager sits at the port
 abbrev pub is_seat_at : Simulation → NodePort → Bool
@@ -112,6 +115,10 @@ abbrev pub with_moved : List Flight → Flight → List Flight
 with_moved flights moved = map (λ flight. if is_numbered moved.serial flight then moved else flight) flights
 
 -- what holds of each simulation ---------------------------------------------------------
+
+-- a place for the other end of the cable in a port
+abbrev pub HasPeerPlace : List (List (Option NodePort)) → NodePort → Type 0
+HasPeerPlace peers p = p.port < length (slice_index_or peers p.node [])
 
 -- a list of the other ends for each node, with a place for each of its ports, port 0 among them
 abbrev pub FitsPorts : Simulation → Type 0

@@ -1,8 +1,8 @@
-ghost use Rattle.std.specs.Prelude.{◌≡◌, ◌<◌, ◌≤◌, Some, length, slice_get, is_some};
+ghost use Rattle.std.specs.Prelude.{◌≡◌, true, None, Some};
 ghost use Rattle.node_agents.specs.Agent.{wired};
-ghost use Rattle.fabric_sim.specs.Simulation.{is_cable_port};
+ghost use Rattle.fabric_sim.specs.Simulation.{is_cable_port, has_cable_port, across, HasPeerPlace};
 ghost use Rattle.fabric_sim.specs.Delivery.{with_changed};
-ghost use Rattle.fabric_sim.specs.Changes.{with_peer, plugged, cut};
+ghost use Rattle.fabric_sim.specs.Changes.{with_peer, joined, plugged, parted, cut};
 
 use crate::fabric::Fabric;
 use crate::fault::FabricFault;
@@ -16,6 +16,7 @@ impl Fabric {
     /// # Errors
     ///
     /// `NoSuchPort` where either is no port from 1 to its node's count, and `PortTaken` where a cable is in either.
+    #[tactic(auto, unfolding(crate::specs::Changes::plugged))]
     pub fn plug(&mut self, one: NodePort, other: NodePort) -> Result<(), FabricFault>
         ensures fabric { self.new ≡ (plugged self.old one other).fabric }
         ensures result { result ≡ (plugged self.old one other).result }
@@ -26,9 +27,23 @@ impl Fabric {
         if self.across(&one).is_some() || self.across(&other).is_some() {
             return Err(FabricFault::PortTaken);
         }
-        set_end(&mut self.agents, &mut self.peers, &one, Some(other));
-        set_end(&mut self.agents, &mut self.peers, &other, Some(one));
+        self.join(&one, &other);
         Ok(())
+    }
+
+    /// Plugs a cable into two free ports, or a loop into one.
+    #[tactic(auto, unfolding(crate::specs::Changes::joined))]
+    pub(crate) fn join(&mut self, one: &NodePort, other: &NodePort)
+        requires one { is_cable_port self.old one.now ≡ true }
+        requires other { is_cable_port self.old other.now ≡ true }
+        requires one_free { across self.old.peers one.now ≡ None }
+        requires other_free { across self.old.peers other.now ≡ None }
+        ensures { self.new ≡ joined self.old one.now other.now }
+    {
+        set_wired(&mut self.agents, one, true);
+        set_wired(&mut self.agents, other, true);
+        set_peer(&mut self.peers, one, Some(*other));
+        set_peer(&mut self.peers, other, Some(*one));
     }
 
     /// Cuts the cable in a port. Its two ports become Down. Takes no memory.
@@ -36,6 +51,7 @@ impl Fabric {
     /// # Errors
     ///
     /// `NoSuchPort`, also where no cable is in the port.
+    #[tactic(auto, unfolding(crate::specs::Changes::cut))]
     pub fn cut(&mut self, at: NodePort) -> Result<(), FabricFault>
         ensures fabric { self.new ≡ (cut self.old at).fabric }
         ensures result { result ≡ (cut self.old at).result }
@@ -43,22 +59,38 @@ impl Fabric {
         let Some(other) = self.across(&at) else {
             return Err(FabricFault::NoSuchPort);
         };
-        set_end(&mut self.agents, &mut self.peers, &at, None);
-        set_end(&mut self.agents, &mut self.peers, &other, None);
+        self.part(&at, &other);
         Ok(())
+    }
+
+    /// Takes a cable out of its two ports.
+    #[tactic(auto, unfolding(crate::specs::Changes::parted))]
+    fn part(&mut self, one: &NodePort, other: &NodePort)
+        requires { across self.old.peers one.now ≡ Some other.now }
+        ensures { self.new ≡ parted self.old one.now other.now }
+    {
+        set_wired(&mut self.agents, one, false);
+        set_wired(&mut self.agents, other, false);
+        set_peer(&mut self.peers, one, None);
+        set_peer(&mut self.peers, other, None);
     }
 }
 
-/// Puts the end of a cable into a port, or takes it out.
-fn set_end(agents: &mut [Agent], peers: &mut [Peers], port: &NodePort, other: Option<NodePort>)
-    requires agent { port.now.node < length agents.old }
-    requires peers { port.now.node < length peers.old }
-    ensures agents { agents.new
-        ≡ with_changed agents.old port.now.node (λ a. wired a port.now.port (is_some other)) }
-    ensures peers { peers.new ≡ with_peer peers.old port.now other }
+/// Wires a port of one of the agents, or takes its wire away.
+fn set_wired(agents: &mut [Agent], port: &NodePort, is_wired: bool)
+    requires { has_cable_port agents.old port.now ≡ true }
+    ensures { agents.new
+        ≡ with_changed agents.old port.now.node (λ a. wired a port.now.port is_wired) }
 {
     let agent = &mut agents[port.node];
-    agent.set_wired(port.port, other.is_some());
+    agent.set_wired(port.port, is_wired);
+}
+
+/// Puts the other end of a cable down at a port, or strikes it out.
+fn set_peer(peers: &mut [Peers], port: &NodePort, other: Option<NodePort>)
+    requires { HasPeerPlace peers.old port.now }
+    ensures { peers.new ≡ with_peer peers.old port.now other }
+{
     let peers = &mut peers[port.node];
     peers.set(port.port, other);
 }

@@ -19,6 +19,7 @@ impl Fabric {
     /// # Errors
     ///
     /// `NoSuchPort`, also at a switch, and `PortTaken` where a manager sits there.
+    #[tactic(auto, unfolding(crate::specs::Changes::manager_seated))]
     pub fn seat(&mut self, at: NodePort) -> Result<(), FabricFault>
         ensures fabric { self.new ≡ (manager_seated self.old at).fabric }
         ensures result { result ≡ (manager_seated self.old at).result }
@@ -40,6 +41,7 @@ impl Fabric {
     /// # Errors
     ///
     /// `NoSuchPort` where no manager sits there, `SerialsSpent`, and `Memory`.
+    #[tactic(auto, unfolding(crate::specs::Changes::injected))]
     pub fn inject(&mut self, from: NodePort, packet: Packet) -> Result<u64, FabricFault>
         ensures fabric { result ≢ Err Memory → self.new ≡ (injected self.old from packet).fabric }
         ensures result { result ≢ Err Memory → result ≡ (injected self.old from packet).result }
@@ -71,6 +73,7 @@ impl Fabric {
     /// # Errors
     ///
     /// `NoSuchPacket`.
+    #[tactic(auto, unfolding(crate::specs::Changes::lost))]
     pub fn lose(&mut self, serial: u64) -> Result<(), FabricFault>
         ensures fabric { self.new ≡ (lost self.old serial).fabric }
         ensures result { result ≡ (lost self.old serial).result }
@@ -88,6 +91,7 @@ impl Fabric {
     /// # Errors
     ///
     /// `NoSuchPacket`, `SerialsSpent`, and `Memory`.
+    #[tactic(auto, unfolding(crate::specs::Changes::repeated))]
     pub fn repeat(&mut self, serial: u64) -> Result<u64, FabricFault>
         ensures fabric { result ≢ Err Memory → self.new ≡ (repeated self.old serial).fabric }
         ensures result { result ≢ Err Memory → result ≡ (repeated self.old serial).result }

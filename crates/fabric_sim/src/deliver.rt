@@ -22,6 +22,7 @@ impl Fabric {
     /// # Errors
     ///
     /// `NoSuchPacket`, and `SerialsSpent` where an agent is to answer and no serial number is left.
+    #[tactic(auto, unfolding(crate::specs::Delivery::delivered))]
     pub fn deliver(&mut self, serial: u64) -> Result<Delivered, FabricFault>
         ensures fabric { self.new ≡ (delivered self.old serial).fabric }
         ensures result { result ≡ (delivered self.old serial).result }
@@ -97,6 +98,7 @@ impl Fabric {
     }
 
     /// What becomes of a packet where it waits.
+    #[tactic(auto, unfolding(crate::specs::Delivery::outcome_of))]
     fn outcome(&self, place: Place, packet: &Packet) -> Outcome
         requires { is_cable_port self.now (port_of place) ≡ true }
         ensures { result ≡ outcome_of self.now place packet.now }

@@ -1,0 +1,92 @@
+-- An agent that a port is wired at, or that a manager comes to sit at.
+use Rattle.std.proofs.Common.{◌≡◌, ◌≢◌, ℕ, zero, suc, ◌+◌, ◌<◌, ◌≤◌, Bool, true, false, List, [], ◌∷◌, length, get_or, set, refl, arith, ap, sym, ◌∙◌, subst, length-set, get_or-set_same, get_or-set_other}
+use Rattle.std.specs.Prelude.{if◌then◌else◌}
+use Rattle.std.proofs.lemmas.List.Elements.{All-set}
+use Rattle.attr_codec.specs.declared.port_state.PortState.{PortState}
+use Rattle.attr_codec.specs.declared.port_state.PortState.TheVariants.{NoChange, Down, Initialize}
+use Rattle.node_agents.specs.declared.port.Port.{Port}
+use Rattle.node_agents.specs.Agent.{Agent, IsAgent, IsPort, is_switch, has_seat, state_at, port_at, port_in, with_port, wired, seated}
+use Rattle.node_agents.proofs.Shapes.{is_port_at}
+use Rattle.fabric_sim.proofs.AgentLists.{KeepsSeats, KeepsDown}
+
+-- the state of a port with a cable or without
+abbrev pub state_by : Bool → PortState
+state_by is_wired = if is_wired then Initialize else Down
+
+state_by-change : (b : Bool) → state_by b ≢ NoChange
+state_by-change true e = cc
+state_by-change false e = cc
+
+-- who sits, where what is written at a port says the same
+seats-set : (ports : List Port) (at q : ℕ) (new absent : Port) → new.is_sm ≡ (get_or ports at absent).is_sm → (get_or (set ports at new) q absent).is_sm ≡ (get_or ports q absent).is_sm
+seats-set [] at q new absent e = refl
+seats-set (x ∷ xs) zero zero new absent e = e
+seats-set (x ∷ xs) zero (suc q) new absent e = refl
+seats-set (x ∷ xs) (suc at) zero new absent e = refl
+seats-set (x ∷ xs) (suc at) (suc q) new absent e = seats-set xs at q new absent e
+
+-- the states, likewise
+states-set : (ports : List Port) (at q : ℕ) (new absent : Port) → new.state ≡ (get_or ports at absent).state → (get_or (set ports at new) q absent).state ≡ (get_or ports q absent).state
+states-set [] at q new absent e = refl
+states-set (x ∷ xs) zero zero new absent e = e
+states-set (x ∷ xs) zero (suc q) new absent e = refl
+states-set (x ∷ xs) (suc at) zero new absent e = refl
+states-set (x ∷ xs) (suc at) (suc q) new absent e = states-set xs at q new absent e
+
+-- a manager more
+seats-more : (ports : List Port) (at q : ℕ) (new absent : Port) → new.is_sm ≡ true → (get_or ports q absent).is_sm ≡ true → (get_or (set ports at new) q absent).is_sm ≡ true
+seats-more [] at q new absent e h = h
+seats-more (x ∷ xs) zero zero new absent e h = e
+seats-more (x ∷ xs) zero (suc q) new absent e h = h
+seats-more (x ∷ xs) (suc at) zero new absent e h = h
+seats-more (x ∷ xs) (suc at) (suc q) new absent e h = seats-more xs at q new absent e h
+
+-- an agent with a port written
+is_agent-with_port : (a : Agent) (port : ℕ) (new : Port) → IsAgent a → IsPort a.node.kind new → (is_switch a ≡ true → state_at (with_port a port new) 0 ≡ state_at a 0) → IsAgent (with_port a port new)
+is_agent-with_port a port new is fits zero-stays =
+    record {
+      node = is.node;
+      count = length-set a.ports port new ∙ is.count;
+      ports = All-set (IsPort a.node.kind) a.ports port new fits is.ports;
+      port_zero = λ h. zero-stays h ∙ is.port_zero h;
+      table = is.table;
+      top = is.top;
+    }
+
+-- wired ------------------------------------------------------------------------------
+
+pub keeps_seats-wired : (a : Agent) (port : ℕ) (is_wired : Bool) → KeepsSeats a (wired a port is_wired)
+keeps_seats-wired a port is_wired =
+    record { node = refl; seats = λ q h. seats-set a.ports port q (record (port_at a port) { state = state_by is_wired }) (port_in Down) refl ∙ h }
+
+pub state-wired : (a : Agent) (port : ℕ) (is_wired : Bool) → port < length a.ports → state_at (wired a port is_wired) port ≡ state_by is_wired
+state-wired a port is_wired within = ap (λ p. p.state) (get_or-set_same a.ports port (record (port_at a port) { state = state_by is_wired }) (port_in Down) within)
+
+pub state-wired_other : (a : Agent) (port q : ℕ) (is_wired : Bool) → q ≢ port → state_at (wired a port is_wired) q ≡ state_at a q
+state-wired_other a port q is_wired ne = ap (λ p. p.state) (get_or-set_other a.ports port q (record (port_at a port) { state = state_by is_wired }) (port_in Down) ne)
+
+pub is_agent-wired : (a : Agent) (port : ℕ) (is_wired : Bool) → 1 ≤ port → IsAgent a → IsAgent (wired a port is_wired)
+is_agent-wired a port is_wired least is =
+    let old = is_port_at a is port in
+    is_agent-with_port a port (record (port_at a port) { state = state_by is_wired }) is
+    (record { state = state_by-change is_wired; base_lid = old.base_lid; is_sm = old.is_sm })
+    (λ h. state-wired_other a port 0 is_wired (λ e. omega arith))
+
+-- seated ------------------------------------------------------------------------------
+
+pub keeps_down-seated : (a : Agent) (port : ℕ) → KeepsDown a (seated a port)
+keeps_down-seated a port =
+    let new : Port = record (port_at a port) { is_sm = true } in
+    let state : (q : ℕ) → state_at (seated a port) q ≡ state_at a q = λ q. states-set a.ports port q new (port_in Down) refl in
+    record {
+      seats = record { node = refl; seats = λ q h. seats-more a.ports port q new (port_in Down) refl h };
+      to = λ q h. sym (state q) ∙ h;
+      from = λ q h. state q ∙ h;
+    }
+
+pub is_agent-seated : (a : Agent) (port : ℕ) → is_switch a ≡ false → IsAgent a → IsAgent (seated a port)
+is_agent-seated a port adapter is =
+    let old = is_port_at a is port in
+    is_agent-with_port a port (record (port_at a port) { is_sm = true }) is
+    (record { state = old.state; base_lid = old.base_lid; is_sm = λ h. cc })
+    (λ h. cc)
