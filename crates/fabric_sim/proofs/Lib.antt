@@ -2,3 +2,5 @@ mod Serials
 mod AgentLists
 mod PeerLists
 mod PortChanges
+mod Invariants
+mod Recabled

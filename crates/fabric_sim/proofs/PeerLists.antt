@@ -22,8 +22,8 @@ same_or_apart p q =
     at x y e u v f = cc
 
 -- ports that differ, of one node
-ports-differ : (p q : NodePort) → p ≢ q → p.node ≡ q.node → p.port ≢ q.port
-ports-differ p q ne n m = elim (same_or_apart p q) [ inl e ↦ ne e | inr k ↦ k (at p.node q.node n p.port q.port m) ]
+pub ports_differ : (p q : NodePort) → p ≢ q → p.node ≡ q.node → p.port ≢ q.port
+ports_differ p q ne n m = elim (same_or_apart p q) [ inl e ↦ ne e | inr k ↦ k (at p.node q.node n p.port q.port m) ]
   where
     at : (x y : ℕ) → x ≡ y → (u v : ℕ) → u ≡ v → ◌≡◌ {A = NodePort} (record { node = x; port = u }) (record { node = y; port = v })
     at x y e u v f = cc
@@ -54,7 +54,7 @@ across_apart peers p q other ne =
           | inl lt ↦ let here : get_or (set peers p.node row) q.node [] ≡ row = subst (λ k. get_or (set peers p.node row) k [] ≡ row) n (get_or-set_same peers p.node row [] lt) in
               let old : get_or peers p.node [] ≡ get_or peers q.node [] = ap (λ k. get_or peers k []) n in
               ap (λ xs. get_or xs q.port None) here
-              ∙ (get_or-set_other (get_or peers p.node []) p.port q.port other None (λ e. ports-differ p q ne n (sym e)) ∙ ap (λ xs. get_or xs q.port None) old)
+              ∙ (get_or-set_other (get_or peers p.node []) p.port q.port other None (λ e. ports_differ p q ne n (sym e)) ∙ ap (λ xs. get_or xs q.port None) old)
         ]
     ]
 

@@ -19,7 +19,7 @@ use Rattle.fabric_sim.specs.Simulation.{AreRising, is_numbered, flight_with, wit
 abbrev pub AreAbove : ℕ → List Flight → Type 0
 AreAbove serial flights = (k : ℕ) (d : Flight) → k < length flights → serial < (get_or flights k d).serial
 
-rising-head : (x : Flight) (xs : List Flight) → AreRising (x ∷ xs) → AreAbove x.serial xs
+pub rising-head : (x : Flight) (xs : List Flight) → AreRising (x ∷ xs) → AreAbove x.serial xs
 rising-head x xs rising k d h = rising 0 (suc k) d (omega arith) (omega arith)
 
 pub rising-tail : (x : Flight) (xs : List Flight) → AreRising (x ∷ xs) → AreRising xs
