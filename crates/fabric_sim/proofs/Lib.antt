@@ -4,3 +4,4 @@ mod PeerLists
 mod PortChanges
 mod Invariants
 mod Recabled
+mod Written

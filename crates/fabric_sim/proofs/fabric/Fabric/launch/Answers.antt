@@ -1,0 +1,7 @@
+use Rattle.std.proofs.Common.{ap}
+use Rattle.fabric_sim.specs.Simulation.{next_serial}
+use Rattle.fabric_sim.proofs.Written.{launched_valid, next_after}
+use Rattle.fabric_sim.proofs.fabric.Fabric.launch.Goals as goal
+
+pub invariant_of-self-2 : goal.invariant_of-self-2
+invariant_of-self-2 c = launched_valid _ _ c.self.view_is c.in-Some.serial _ c.args.place c.args.packet _ c.self.invariant c.requires (ap next_serial c.in-Some.is) ? ? (next_after c.in-Some.serial _ ? c.checked_add-self-inside.ensures)
