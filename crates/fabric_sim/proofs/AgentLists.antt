@@ -129,6 +129,22 @@ seats_stay xs ys k p = by (slice_get xs p.node) (slice_get ys p.node) (k p.node)
     by (Some a) None h e = absurd h
     by (Some a) (Some b) h e = h.seats p.port e
 
+-- nobody new sits at a port
+pub record NoNewSeats (a b : Agent) : Type 0 where
+  pub seats : (port : ℕ) → has_seat b port ≡ true → has_seat a port ≡ true
+
+pub no_new_seats_same : (a : Agent) → NoNewSeats a a
+no_new_seats_same a = record { seats = λ port h. h }
+
+pub seats_before : (xs ys : List Agent) → AllRelated NoNewSeats xs ys → (p : NodePort) → option_map_or (λ a. has_seat a p.port) (slice_get ys p.node) false ≡ true → option_map_or (λ a. has_seat a p.port) (slice_get xs p.node) false ≡ true
+seats_before xs ys k p = by (slice_get xs p.node) (slice_get ys p.node) (k p.node)
+  where
+    by : (m n : Option Agent) → Related NoNewSeats m n → option_map_or (λ a. has_seat a p.port) n false ≡ true → option_map_or (λ a. has_seat a p.port) m false ≡ true
+    by None None h e = cc
+    by None (Some b) h e = absurd h
+    by (Some a) None h e = absurd h
+    by (Some a) (Some b) h e = h.seats p.port e
+
 -- the agent before
 pub record Before (R : Agent → Agent → Type 0) (xs : List Agent) (place : ℕ) (b : Agent) : Type 0 where
   pub agent : Agent
@@ -161,3 +177,6 @@ at_agent xs p h =
     by : (m : Option Agent) → slice_get xs p.node ≡ m → 1 ≤ p.port → p.port ≤ option_map_or (λ a. a.node.ports) m 0 → AtAgent xs p
     by None e least most = absurd (omega arith)
     by (Some a) e least most = record { agent = a; there = e; within = slice_get_within xs p.node a e; least = least; most = most }
+
+pub within_agents : (xs : List Agent) (p : NodePort) → has_cable_port xs p ≡ true → p.node < length xs
+within_agents xs p h = (at_agent xs p h).within

@@ -1,15 +1,15 @@
 -- What holds of each simulation holds after each call.
 use Rattle.std.proofs.Common.{cond, ◌≡◌, ◌≢◌, ℕ, ◌+◌, ◌^◌, ◌<◌, ◌≤◌, ◌↔◌, ◌⊎◌, inl, inr, Bool, true, false, not, List, [], ◌∷◌, ◌++◌, length, get_or, refl, arith, ap, sym, ◌∙◌, subst}
-use Rattle.std.specs.Prelude.{Option, Some, None, option_map, All, AllPairs, map, filter, slice_get, if◌then◌else◌, ◌==◌}
+use Rattle.std.specs.Prelude.{Option, Some, None, option_map, All, AllPairs, map, filter, slice_get, slice_set, if◌then◌else◌, ◌==◌}
 use Rattle.std.specs.Option.{option_map_or}
-use Rattle.std.proofs.lemmas.Bool.{eqb-true}
+use Rattle.std.proofs.lemmas.Bool.{eqb-true, cases_eq}
 use Rattle.std.proofs.lemmas.Option.{slice_get-map}
 use Rattle.std.proofs.lemmas.List.Elements.{All-filter, All-push, All-weaker, All-head, All-tail, All-cons}
 use Rattle.std.proofs.lemmas.List.Kept.{AllPairs-cons, AllPairs-filter}
 use Rattle.std.proofs.lemmas.List.Quantifiers.{all_pairs_push}
 use Rattle.smp_bytes.specs.declared.cable.NodePort.{NodePort}
 use Rattle.attr_codec.specs.declared.port_state.PortState.TheVariants.{Down}
-use Rattle.node_agents.specs.Agent.{Agent, IsAgent, state_at, is_switch, node_of, seated}
+use Rattle.node_agents.specs.Agent.{Agent, IsAgent, state_at, has_seat, is_switch, node_of, seated}
 use Rattle.node_agents.specs.Answers.{answered}
 use Rattle.node_agents.proofs.Shapes.{answered_keeps_shape, answered_is_agent}
 use Rattle.smp_bytes.specs.Fabric.{is_switch_at}
@@ -21,8 +21,9 @@ use Rattle.fabric_sim.specs.declared.packet.Packet.{Packet}
 use Rattle.fabric_sim.specs.Simulation.{Simulation, IsSimulation, AreCables, FitsPorts, AreUncabledDown, CanWait, IsWaiting, AreRising, HasPeerPlace, agent_at, across, has_cable_port, is_numbered, with_moved, without_flight, fabric_of, port_of, answer_place}
 use Rattle.fabric_sim.specs.Delivery.{with_changed, with_flight, without, moved_to, asked}
 use Rattle.fabric_sim.specs.Changes.{changed_at}
-use Rattle.fabric_sim.proofs.AgentLists.{AllRelated, KeepsSeats, KeepsDown, Before, AtAgent, before, at_agent, cable_ports_stay, seats_stay, Related, keeps_down_same, keeps_down_from_shape, length-changed, all_changed, related_changed}
-use Rattle.fabric_sim.proofs.PortChanges.{is_agent-seated, keeps_down-seated}
+use Rattle.fabric_sim.proofs.AgentLists.{AllRelated, KeepsSeats, KeepsDown, Before, AtAgent, before, at_agent, cable_ports_stay, seats_stay, Related, keeps_down_same, keeps_down_from_shape, length-changed, all_changed, related_changed, NoNewSeats, no_new_seats_same, seats_before, changed_at_place, others_stay}
+use Rattle.fabric_sim.proofs.PortChanges.{is_agent-seated, keeps_down-seated, seat-seated_other}
+use Rattle.fabric_sim.proofs.PeerLists.{same_or_apart, ports_differ}
 use Rattle.fabric_sim.proofs.Serials.{rising-head, rising-tail}
 
 -- where agents change ---------------------------------------------------------------------
@@ -43,16 +44,18 @@ waiting-after s t keeps same next waiting =
 -- with other agents and other cables, whose ends stand in the same ports
 pub recabled : (s : Simulation) (agents : List Agent) (peers : List (List (Option NodePort))) → IsSimulation s
     → length agents ≡ length s.agents → All IsAgent agents → AllRelated KeepsSeats s.agents agents
+    → ((p : NodePort) → option_map_or (λ a. has_seat a p.port) (slice_get agents p.node) false ≡ true → has_cable_port s.agents p ≡ true)
     → length peers ≡ length s.peers → ((place : ℕ) → length (get_or peers place []) ≡ length (get_or s.peers place []))
     → ((p q : NodePort) → across peers p ≡ Some q → has_cable_port s.agents p ≡ true)
     → ((p q : NodePort) → across peers p ≡ Some q → across peers q ≡ Some p)
     → AreUncabledDown (record s { agents = agents; peers = peers })
     → IsSimulation (record s { agents = agents; peers = peers })
-recabled s agents peers is count all keeps lists rows ends back down =
+recabled s agents peers is count all keeps sits lists rows ends back down =
     let t : Simulation = record s { agents = agents; peers = peers } in
     record {
       few = subst (λ n. n ≤ 1024) (sym count) is.few;
       agents = all;
+      seats = λ p h. cable_ports_stay s.agents agents keeps p ∙ sits p h;
       cables = record {
         lists = lists ∙ (is.cables.lists ∙ sym count);
         fit = λ place b e. let old = before KeepsSeats s.agents agents keeps place b e in
@@ -76,9 +79,10 @@ seats-of xs ys keeps place = by (slice_get xs place) (slice_get ys place) (keeps
     by (Some a) (Some b) h = h.seats
 
 -- with other agents, of which the same ports are down
-pub with_agents : (s : Simulation) (agents : List Agent) → IsSimulation s → length agents ≡ length s.agents → All IsAgent agents → AllRelated KeepsDown s.agents agents → IsSimulation (record s { agents = agents })
-with_agents s agents is count all keeps =
-    recabled s agents s.peers is count all (seats-of s.agents agents keeps) refl (λ place. refl) is.cables.ends is.cables.lead_back
+pub with_agents : (s : Simulation) (agents : List Agent) → IsSimulation s → length agents ≡ length s.agents → All IsAgent agents → AllRelated KeepsDown s.agents agents
+    → ((p : NodePort) → option_map_or (λ a. has_seat a p.port) (slice_get agents p.node) false ≡ true → has_cable_port s.agents p ≡ true) → IsSimulation (record s { agents = agents })
+with_agents s agents is count all keeps sits =
+    recabled s agents s.peers is count all (seats-of s.agents agents keeps) sits refl (λ place. refl) is.cables.ends is.cables.lead_back
     (λ p b e port.
     let old = before KeepsDown s.agents agents keeps p.node b e in
     let there : has_cable_port s.agents p ≡ true = sym (cable_ports_stay s.agents agents (seats-of s.agents agents keeps) p) ∙ port in
@@ -95,6 +99,7 @@ with_flight_is s place packet is can left =
     record {
       few = is.few;
       agents = is.agents;
+      seats = is.seats;
       cables = record { lists = is.cables.lists; fit = is.cables.fit; ends = is.cables.ends; lead_back = is.cables.lead_back; down = is.cables.down };
       waiting = All-push (IsWaiting t) s.flights flight
       (All-weaker (IsWaiting s) (IsWaiting t) (λ f w. record { place = record { port = w.place.port; seat = w.place.seat }; given = let g = w.given in omega arith }) s.flights is.waiting)
@@ -110,6 +115,7 @@ without_is s serial is =
     record {
       few = is.few;
       agents = is.agents;
+      seats = is.seats;
       cables = record { lists = is.cables.lists; fit = is.cables.fit; ends = is.cables.ends; lead_back = is.cables.lead_back; down = is.cables.down };
       waiting = All-filter (λ f. not (is_numbered serial f)) (IsWaiting t) s.flights
       (All-weaker (IsWaiting s) (IsWaiting t) (λ f w. record { place = record { port = w.place.port; seat = w.place.seat }; given = w.given }) s.flights is.waiting);
@@ -160,6 +166,7 @@ moved_to_is s serial place packet is can =
     record {
       few = is.few;
       agents = is.agents;
+      seats = is.seats;
       cables = record { lists = is.cables.lists; fit = is.cables.fit; ends = is.cables.ends; lead_back = is.cables.lead_back; down = is.cables.down };
       waiting = All-weaker (IsWaiting s) (IsWaiting t) (λ f w. record { place = record { port = w.place.port; seat = w.place.seat }; given = w.given }) (with_moved s.flights new)
       (waiting-moved s new s.flights can is.waiting);
@@ -192,14 +199,39 @@ asked_is s flight request slid dlid is can left =
     let gone : Simulation = without s flight.serial in
     let told : Simulation = record gone { agents = agents } in
     let told_is : IsSimulation told = with_agents gone agents (without_is s flight.serial is) (length-changed s.agents p.node change)
-    (all_changed IsAgent s.agents p.node change is.agents (λ a e h. answered_is_agent a request p.port h)) keeps in
+    (all_changed IsAgent s.agents p.node change is.agents (λ a e h. answered_is_agent a request p.port h)) keeps
+    (λ q h. is.seats q (seats_before s.agents agents (related_changed NoNewSeats no_new_seats_same s.agents p.node change
+    (λ a e. record { seats = λ port k. sym ((answered_keeps_shape a request p.port).seats port) ∙ k })) q h)) in
     with_flight_is told (answer_place flight.place) _ told_is
     (can_wait_after s told (answer_place flight.place) (seats-of s.agents agents keeps) (answer-can-wait s flight.place can)) left
 
+-- who sits at another port than one that is taken
+seat-before : (agents : List Agent) (p q : NodePort) → p ≢ q → option_map_or (λ a. has_seat a q.port) (slice_get (with_changed agents p.node (λ a. seated a p.port)) q.node) false ≡ true → option_map_or (λ a. has_seat a q.port) (slice_get agents q.node) false ≡ true
+seat-before agents p q ne h =
+    elim (cases_eq p.node q.node) [
+      | inr n ↦ sym (ap (λ m. option_map_or (λ a. has_seat a q.port) m false) (others_stay agents p.node q.node (λ a. seated a p.port) n)) ∙ h
+      | inl n ↦ subst (λ k. option_map_or (λ a. has_seat a q.port) (slice_get agents k) false ≡ true) n
+          (by n (slice_get agents p.node) refl
+          (subst (λ k. option_map_or (λ a. has_seat a q.port) (slice_get (with_changed agents p.node (λ a. seated a p.port)) k) false ≡ true) (sym n) h))
+    ]
+  where
+    by : p.node ≡ q.node → (m : Option Agent) → slice_get agents p.node ≡ m → option_map_or (λ a. has_seat a q.port) (slice_get (with_changed agents p.node (λ a. seated a p.port)) p.node) false ≡ true → option_map_or (λ a. has_seat a q.port) (slice_get agents p.node) false ≡ true
+    by n None e k =
+        let unchanged : with_changed agents p.node (λ a. seated a p.port) ≡ agents = ap (λ m. option_map_or (λ a. slice_set agents p.node (seated a p.port)) m agents) e in
+        sym (ap (λ xs. option_map_or (λ a. has_seat a q.port) (slice_get xs p.node) false) unchanged) ∙ k
+    by n (Some a) e k =
+        let now : has_seat (seated a p.port) q.port ≡ true = sym (ap (λ m. option_map_or (λ a. has_seat a q.port) m false) (changed_at_place agents p.node a (λ a. seated a p.port) e)) ∙ k in
+        ap (λ m. option_map_or (λ a. has_seat a q.port) m false) e ∙ (sym (seat-seated_other a p.port q.port (λ m. ports_differ p q ne n (sym m))) ∙ now)
+
 -- a manager sits at a port of an adapter
-pub seated_is : (s : Simulation) (p : NodePort) → IsSimulation s → is_switch_at (fabric_of s) p.node ≡ false → IsSimulation (changed_at s p seated)
-seated_is s p is adapter =
+pub seated_is : (s : Simulation) (p : NodePort) → IsSimulation s → has_cable_port s.agents p ≡ true → is_switch_at (fabric_of s) p.node ≡ false → IsSimulation (changed_at s p seated)
+seated_is s p is port adapter =
     let change : Agent → Agent = λ a. seated a p.port in
     with_agents s (with_changed s.agents p.node change) is (length-changed s.agents p.node change)
     (all_changed IsAgent s.agents p.node change is.agents (λ a e h. is_agent-seated a p.port (adapter_at s p.node a e adapter) h))
     (related_changed KeepsDown keeps_down_same s.agents p.node change (λ a e. keeps_down-seated a p.port))
+    (λ q h.
+    elim (same_or_apart p q) [
+      | inl e ↦ subst (λ r. has_cable_port s.agents r ≡ true) e port
+      | inr ne ↦ is.seats q (seat-before s.agents p q ne h)
+    ])

@@ -1,7 +1,7 @@
-mod Serials
-mod AgentLists
-mod PeerLists
-mod PortChanges
-mod Invariants
-mod Recabled
-mod Written
+pub mod Serials
+pub mod AgentLists
+pub mod PeerLists
+pub mod PortChanges
+pub mod Invariants
+pub mod Recabled
+pub mod Written

@@ -7,7 +7,7 @@ use Rattle.attr_codec.specs.declared.port_state.PortState.TheVariants.{NoChange,
 use Rattle.node_agents.specs.declared.port.Port.{Port}
 use Rattle.node_agents.specs.Agent.{Agent, IsAgent, IsPort, is_switch, has_seat, state_at, port_at, port_in, with_port, wired, seated}
 use Rattle.node_agents.proofs.Shapes.{is_port_at}
-use Rattle.fabric_sim.proofs.AgentLists.{KeepsSeats, KeepsDown}
+use Rattle.fabric_sim.proofs.AgentLists.{KeepsSeats, KeepsDown, NoNewSeats}
 
 -- the state of a port with a cable or without
 abbrev pub state_by : Bool → PortState
@@ -59,6 +59,10 @@ pub keeps_seats-wired : (a : Agent) (port : ℕ) (is_wired : Bool) → KeepsSeat
 keeps_seats-wired a port is_wired =
     record { node = refl; seats = λ q h. seats-set a.ports port q (record (port_at a port) { state = state_by is_wired }) (port_in Down) refl ∙ h }
 
+pub no_new_seats-wired : (a : Agent) (port : ℕ) (is_wired : Bool) → NoNewSeats a (wired a port is_wired)
+no_new_seats-wired a port is_wired =
+    record { seats = λ q h. sym (seats-set a.ports port q (record (port_at a port) { state = state_by is_wired }) (port_in Down) refl) ∙ h }
+
 pub state-wired : (a : Agent) (port : ℕ) (is_wired : Bool) → port < length a.ports → state_at (wired a port is_wired) port ≡ state_by is_wired
 state-wired a port is_wired within = ap (λ p. p.state) (get_or-set_same a.ports port (record (port_at a port) { state = state_by is_wired }) (port_in Down) within)
 
@@ -90,3 +94,7 @@ is_agent-seated a port adapter is =
     is_agent-with_port a port (record (port_at a port) { is_sm = true }) is
     (record { state = old.state; base_lid = old.base_lid; is_sm = λ h. cc })
     (λ h. cc)
+
+-- elsewhere nobody new sits
+pub seat-seated_other : (a : Agent) (port q : ℕ) → q ≢ port → has_seat (seated a port) q ≡ has_seat a q
+seat-seated_other a port q ne = ap (λ p. p.is_sm) (get_or-set_other a.ports port q (record (port_at a port) { is_sm = true }) (port_in Down) ne)

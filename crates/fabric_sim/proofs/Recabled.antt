@@ -10,9 +10,9 @@ use Rattle.node_agents.specs.Agent.{Agent, IsAgent, state_at, wired}
 use Rattle.fabric_sim.specs.Simulation.{Simulation, IsSimulation, HasPeerPlace, AreUncabledDown, agent_at, across, has_cable_port}
 use Rattle.fabric_sim.specs.Delivery.{with_changed}
 use Rattle.fabric_sim.specs.Changes.{with_peer, joined, parted}
-use Rattle.fabric_sim.proofs.AgentLists.{AllRelated, Related, KeepsSeats, AtAgent, at_agent, all_at, length-changed, all_changed, related_changed, keeps_seats_same, changed_at_place, others_stay, cable_ports_stay}
+use Rattle.fabric_sim.proofs.AgentLists.{AllRelated, Related, KeepsSeats, AtAgent, at_agent, all_at, length-changed, all_changed, related_changed, keeps_seats_same, changed_at_place, others_stay, cable_ports_stay, NoNewSeats, no_new_seats_same, seats_before}
 use Rattle.fabric_sim.proofs.PeerLists.{same_or_apart, ports_differ, across_here, across_apart, length-row, length-with_peer, has_place_after}
-use Rattle.fabric_sim.proofs.PortChanges.{state_by, keeps_seats-wired, state-wired, state-wired_other, is_agent-wired}
+use Rattle.fabric_sim.proofs.PortChanges.{state_by, keeps_seats-wired, no_new_seats-wired, state-wired, state-wired_other, is_agent-wired}
 use Rattle.fabric_sim.proofs.Invariants.{recabled}
 
 -- one port wired ----------------------------------------------------------------------------
@@ -27,6 +27,9 @@ wired_at agents p b = with_changed agents p.node (λ a. wired a p.port b)
 
 keeps-wired : (agents : List Agent) (p : NodePort) (b : Bool) → AllRelated KeepsSeats agents (wired_at agents p b)
 keeps-wired agents p b = related_changed KeepsSeats keeps_seats_same agents p.node (λ a. wired a p.port b) (λ a e. keeps_seats-wired a p.port b)
+
+no-new : (agents : List Agent) (p : NodePort) (b : Bool) → AllRelated NoNewSeats agents (wired_at agents p b)
+no-new agents p b = related_changed NoNewSeats no_new_seats_same agents p.node (λ a. wired a p.port b) (λ a e. no_new_seats-wired a p.port b)
 
 all-wired : (agents : List Agent) (p : NodePort) (b : Bool) → has_cable_port agents p ≡ true → All IsAgent agents → All IsAgent (wired_at agents p b)
 all-wired agents p b port all =
@@ -162,6 +165,7 @@ module _ (s : Simulation) (is : IsSimulation s) (p q : NodePort) (b : Bool) (at_
       (length-changed (wired_at s.agents p b) q.node (λ a. wired a q.port b) ∙ length-changed s.agents p.node (λ a. wired a p.port b))
       (all-wired (wired_at s.agents p b) q b q_port_then (all-wired s.agents p b ends.p_port is.agents))
       keeps-both
+      (λ r h. is.seats r (seats_before s.agents (wired_at s.agents p b) (no-new s.agents p b) r (seats_before (wired_at s.agents p b) agents_now (no-new (wired_at s.agents p b) q b) r h)))
       (length-with_peer (with_peer s.peers p at_p) q at_q ∙ length-with_peer s.peers p at_p)
       (λ place. length-row (with_peer s.peers p at_p) q at_q place ∙ length-row s.peers p at_p place)
       cabled-now back

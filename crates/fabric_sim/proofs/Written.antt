@@ -1,20 +1,24 @@
 -- What the bodies write is what the calls are to leave.
 use Rattle.std.proofs.Common.{◌≡◌, ◌≢◌, ℕ, ◌+◌, ◌^◌, ◌<◌, ◌≤◌, ◌*◌, Bool, true, false, List, [], ◌∷◌, ◌++◌, length, get_or, take, drop, refl, arith, ap, sym, ◌∙◌, subst, lit≤}
-use Rattle.std.specs.Prelude.{Option, Some, None, OnSome, SomeIff, MatchOption, remove, slice_get, slice_set, if◌then◌else◌, ◌==◌}
+use Rattle.std.specs.Prelude.{Option, Some, None, IfSome, OnSome, SomeIff, MatchOption, remove, slice_get, slice_set, nat_le, if◌then◌else◌, ◌==◌}
 use Rattle.std.specs.Option.{option_map_or}
+use Rattle.std.proofs.lemmas.Bool.{cond-false, ne_eqb, le-leb, and_from}
 use Rattle.std.proofs.lemmas.List.{take_at}
 use Rattle.std.proofs.lemmas.Option.{slice_get_within, get_or_from_slice_get}
 use Rattle.smp_bytes.specs.declared.cable.NodePort.{NodePort}
-use Rattle.node_agents.specs.Agent.{Agent, wired}
+use Rattle.node_agents.specs.Agent.{Agent, IsAgent, has_seat, wired}
 use Rattle.node_agents.specs.Answers.{answered}
 use Rattle.fabric_sim.specs.declared.flight.Place.{Place}
-use Rattle.fabric_sim.specs.declared.flight.Place.TheVariants.{Seat}
+use Rattle.fabric_sim.specs.declared.flight.Place.TheVariants.{Seat, Arrived}
+use Rattle.fabric_sim.specs.declared.outcome.Outcome.{Outcome}
+use Rattle.fabric_sim.specs.declared.outcome.Outcome.TheVariants.{Moves, Drops}
+use Rattle.fabric_sim.specs.declared.delivered.Reason.TheVariants.{Down}
 use Rattle.fabric_sim.specs.declared.flight.Flight.{Flight}
 use Rattle.fabric_sim.specs.declared.packet.Packet.{Packet}
-use Rattle.fabric_sim.specs.Simulation.{Simulation, IsSimulation, CanWait, IsWaiting, IsFlightAt, without_flight, HasPeerPlace, agent_at, across, has_cable_port, port_of, answer_place, next_serial}
-use Rattle.fabric_sim.specs.Delivery.{with_changed, with_flight, without, moved_to, asked, answer_at}
-use Rattle.fabric_sim.specs.Changes.{with_peer}
-use Rattle.fabric_sim.proofs.AgentLists.{AtAgent, at_agent, length-changed}
+use Rattle.fabric_sim.specs.Simulation.{Simulation, IsSimulation, CanWait, IsWaiting, IsFlightAt, without_flight, HasPeerPlace, is_seat_at, agent_at, across, has_cable_port, port_of, answer_place, next_serial}
+use Rattle.fabric_sim.specs.Delivery.{with_changed, with_flight, without, moved_to, asked, answer_at, leaving}
+use Rattle.fabric_sim.specs.Changes.{with_peer, changed_at}
+use Rattle.fabric_sim.proofs.AgentLists.{AtAgent, at_agent, all_at, length-changed}
 use Rattle.fabric_sim.proofs.PeerLists.{length-with_peer}
 use Rattle.fabric_sim.proofs.Serials.{AtPlace, at_place, moved_at, without_at}
 use Rattle.fabric_sim.proofs.Invariants.{moved_to_is, without_is, with_flight_is, asked_is}
@@ -144,3 +148,41 @@ asked_valid v s e i slid dlid flight request t is at left same =
 -- what a vector holds after its slice was written
 pub written_back : {X : Type 0} (n : ℕ) (old new : List X) → n ≡ length old → length new ≡ length old → take n (new ++ drop (length new) old) ≡ new
 written_back n old new count long = take_at new (drop (length new) old) n (long ∙ sym count)
+
+-- a request is answered where a serial number is left
+pub asked_result : (s t : Simulation) (serial : ℕ) (a : Simulation) → s.next ≡ serial → serial < 2 ^ 64 → t ≡ a → (b : Simulation) → t ≡ (if s.next == 2 ^ 64 then b else a)
+asked_result s t serial a now fits same b = same ∙ sym (cond-false _ b a (ne_eqb s.next (2 ^ 64) (λ e. differ s.next serial now fits e)))
+  where
+    differ : (n serial : ℕ) → n ≡ serial → serial < 2 ^ 64 → n ≡ 2 ^ 64 → ⊥
+    differ n serial now fits e = omega arith
+
+-- where packets can wait ------------------------------------------------------------------
+
+-- a seat is at a cable port
+pub seat_waits : (s : Simulation) (p : NodePort) → IsSimulation s → is_seat_at s p ≡ true → CanWait s (Seat p)
+seat_waits s p is seat = record { port = is.seats p seat; seat = λ h. seat }
+
+-- what leaves by a port waits at the other end
+pub leaving_waits : (s : Simulation) (out : NodePort) (packet : Packet) (place : Place) (moved : Packet) → IsSimulation s → leaving s out packet ≡ Moves place moved → CanWait s place
+leaving_waits s out packet place moved is h = by (across s.peers out) refl h
+  where
+    by : (m : Option NodePort) → across s.peers out ≡ m → option_map_or (λ into. Moves (Arrived into) packet) m (Drops Down) ≡ Moves place moved → CanWait s place
+    by None e h = cc
+    by (Some into) e h =
+        let same : Arrived into ≡ place = cc in
+        subst (CanWait s) same (record { port = is.cables.ends into out (is.cables.lead_back out into e); seat = λ k. cc })
+
+-- one agent changed ------------------------------------------------------------------------
+
+-- the agents with the one that was read changed
+pub changed_now : (v s : Simulation) → v ≡ s → (p : NodePort) (change : Agent → ℕ → Agent) (a new : Agent) → slice_get v.agents p.node ≡ Some a → new ≡ change a p.port
+    → ◌≡◌ {A = Simulation} (record v { agents = slice_set v.agents p.node new }) (changed_at s p change)
+changed_now v s e p change a new there after =
+    ap (λ x. record v { agents = slice_set v.agents p.node x }) after
+    ∙ (ap (λ xs. record v { agents = xs }) (sym (ap (λ m. option_map_or (λ b. slice_set v.agents p.node (change b p.port)) m v.agents) there))
+    ∙ ap (λ w. changed_at w p change) e)
+
+-- the port at the other end of a cable is a cable port
+pub other_is : (s : Simulation) (p : NodePort) (m : Option NodePort) → IsSimulation s → m ≡ across s.peers p → IfSome m (λ other. has_cable_port s.agents other ≡ true)
+other_is s p None is e = tt
+other_is s p (Some other) is e = is.cables.ends other p (is.cables.lead_back p other (sym e))

@@ -30,7 +30,7 @@ use Rattle.fabric_sim.specs.declared.outcome.Outcome.{Outcome}
 use Rattle.fabric_sim.specs.declared.outcome.Outcome.TheVariants.{Moves, Asks, HandsUp, Drops}
 use Rattle.fabric_sim.specs.declared.fault.FabricFault.{FabricFault}
 use Rattle.fabric_sim.specs.declared.fault.FabricFault.TheVariants.{NoSuchPacket, SerialsSpent}
-use Rattle.fabric_sim.specs.Simulation.{Simulation, agent_at, port_count, is_seat_at, across, fabric_of, port_of, is_at_seat, is_by_wire, answer_place, flight_with, without_flight, with_moved}
+use Rattle.fabric_sim.specs.Simulation.{Simulation, agent_at, port_count, is_seat_at, across, fabric_of, port_of, is_at_seat, is_by_wire, answer_place, flight_with, without_flight, with_moved, CanWait}
 
 -- where the packet goes ---------------------------------------------------------------------
 
@@ -99,6 +99,13 @@ outcome_of s place packet =
     else if not (is_at_seat place) && is_none (across s.peers (port_of place)) then Drops Down
     else if is_directed packet.bytes then directed_outcome s (port_of place) packet
     else lid_routed_outcome s place packet
+
+-- what moves can wait where it comes to
+abbrev pub CanFare : Simulation → Outcome → Type 0
+CanFare s (Moves place packet) = CanWait s place
+CanFare s (Asks request slid dlid) = Unit {0}
+CanFare s (HandsUp packet) = Unit {0}
+CanFare s (Drops reason) = Unit {0}
 
 -- what a call leaves -------------------------------------------------------------------------
 

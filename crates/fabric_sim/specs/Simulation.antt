@@ -155,6 +155,7 @@ AreRising flights = AllPairs (λ before after. before.serial < after.serial) fli
 pub record IsSimulation (s : Simulation) : Type 0 where
   pub few : length s.agents ≤ 1024
   pub agents : All IsAgent s.agents
+  pub seats : (p : NodePort) → is_seat_at s p ≡ true → is_cable_port s p ≡ true
   pub cables : AreCables s
   pub waiting : All (IsWaiting s) s.flights
   pub rising : AreRising s.flights

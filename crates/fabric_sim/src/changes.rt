@@ -19,7 +19,7 @@ impl Fabric {
     /// # Errors
     ///
     /// `NoSuchPort`, also at a switch, and `PortTaken` where a manager sits there.
-    #[tactic(auto, unfolding(crate::specs::Changes::manager_seated))]
+    #[tactic(auto, using(crate::proofs::AgentLists::within_agents), unfolding(crate::specs::Changes::manager_seated))]
     pub fn seat(&mut self, at: NodePort) -> Result<(), FabricFault>
         ensures fabric { self.new ≡ (manager_seated self.old at).fabric }
         ensures result { result ≡ (manager_seated self.old at).result }

@@ -3,7 +3,7 @@ ghost use Rattle.smp_bytes.specs.Packet.{is_directed, fault_of};
 ghost use Rattle.smp_bytes.specs.Forwarding.{course};
 ghost use Rattle.fabric_sim.specs.declared.outcome.Outcome.TheVariants.{Asks};
 ghost use Rattle.fabric_sim.specs.Simulation.{port_of, is_cable_port, fabric_of};
-ghost use Rattle.fabric_sim.specs.Delivery.{carrying, here_at, is_for_manager, leaving, at_agent, by_verdict, by_course, arrived, directed_outcome, lid_routed_outcome, outcome_of, brought, delivered, moved_to, without};
+ghost use Rattle.fabric_sim.specs.Delivery.{carrying, here_at, is_for_manager, leaving, at_agent, by_verdict, by_course, arrived, directed_outcome, lid_routed_outcome, outcome_of, CanFare, brought, delivered};
 
 use crate::delivered::{Delivered, Reason};
 use crate::fabric::Fabric;
@@ -43,7 +43,7 @@ impl Fabric {
         outcome: Outcome,
     ) -> Result<Delivered, FabricFault>
         requires at { slice_get self.old.flights i ≡ Some flight.now }
-        requires fares { outcome ≡ outcome_of self.old flight.now.place flight.now.packet }
+        requires can { CanFare self.old outcome }
         ensures fabric { self.new ≡ (brought self.old flight.now outcome).fabric }
         ensures result { result ≡ (brought self.old flight.now outcome).result }
     {
@@ -98,10 +98,11 @@ impl Fabric {
     }
 
     /// What becomes of a packet where it waits.
-    #[tactic(auto, unfolding(crate::specs::Delivery::outcome_of))]
+    #[tactic(auto, using(crate::proofs::AgentLists::within_agents), unfolding(crate::specs::Delivery::outcome_of))]
     fn outcome(&self, place: Place, packet: &Packet) -> Outcome
         requires { is_cable_port self.now (port_of place) ≡ true }
-        ensures { result ≡ outcome_of self.now place packet.now }
+        ensures outcome { result ≡ outcome_of self.now place packet.now }
+        ensures can { CanFare self.now result }
     {
         let Ok(smp) = Smp::parse(&packet.bytes) else {
             return Outcome::Drops(Reason::Unreadable);
@@ -121,7 +122,8 @@ impl Fabric {
         requires bytes { smp ≡ packet.now.bytes }
         requires directed { is_directed smp ≡ true }
         requires port { is_cable_port self.now at.now ≡ true }
-        ensures { result ≡ directed_outcome self.now at.now packet.now }
+        ensures outcome { result ≡ directed_outcome self.now at.now packet.now }
+        ensures can { CanFare self.now result }
     {
         let verdict = step(&mut smp, &self.here(at));
         let packet = Packet {
@@ -153,7 +155,8 @@ impl Fabric {
     /// A packet that has come to the end of its path.
     fn at_agent(&self, at: &NodePort, smp: Smp, packet: &Packet) -> Outcome
         requires { smp ≡ packet.now.bytes }
-        ensures { result ≡ at_agent self.now at.now packet.now }
+        ensures outcome { result ≡ at_agent self.now at.now packet.now }
+        ensures can { CanFare self.now result }
     {
         if smp.is_response() {
             Outcome::Drops(Reason::Course)
@@ -168,7 +171,8 @@ impl Fabric {
     fn lid_routed_outcome(&self, place: Place, smp: &Smp, packet: &Packet) -> Outcome
         requires bytes { smp.now ≡ packet.now.bytes }
         requires port { (port_of place).node < length self.now.agents }
-        ensures { result ≡ lid_routed_outcome self.now place packet.now }
+        ensures outcome { result ≡ lid_routed_outcome self.now place packet.now }
+        ensures can { CanFare self.now result }
     {
         let at = place.port();
         match self.course(packet.dlid, &at, place.is_by_wire()) {
@@ -181,7 +185,8 @@ impl Fabric {
     /// A packet that has come to the port of its DLID.
     fn arrival(&self, at: &NodePort, smp: &Smp, packet: &Packet) -> Outcome
         requires { smp.now ≡ packet.now.bytes }
-        ensures { result ≡ arrived self.now at.now packet.now }
+        ensures outcome { result ≡ arrived self.now at.now packet.now }
+        ensures can { CanFare self.now result }
     {
         if smp.is_response() || self.is_for_manager(at, smp) {
             Outcome::HandsUp(*packet)
@@ -192,7 +197,8 @@ impl Fabric {
 
     /// Out by a port, to the other end of its cable.
     fn leaving(&self, out: &NodePort, packet: &Packet) -> Outcome
-        ensures { result ≡ leaving self.now out.now packet.now }
+        ensures outcome { result ≡ leaving self.now out.now packet.now }
+        ensures can { CanFare self.now result }
     {
         match self.across(out) {
             Some(into) => Outcome::Moves(Place::Arrived(into), *packet),

@@ -1,4 +1,4 @@
-ghost use Rattle.std.specs.Prelude.{◌≡◌, ◌<◌, length, slice_get, option_copied, Some};
+ghost use Rattle.std.specs.Prelude.{◌≡◌, ◌<◌, length, slice_get, option_copied, true, Some, IfSome};
 ghost use Rattle.smp_bytes.specs.Fabric.{is_switch_at};
 ghost use Rattle.fabric_sim.specs.Simulation.{agent_at, across, is_seat_at, is_cable_port, fabric_of};
 
@@ -63,16 +63,18 @@ impl Fabric {
 
     /// The port at the other end of the cable in a port; that port itself, for a loop.
     pub fn across(&self, port: &NodePort) -> Option<NodePort>
-        ensures { result ≡ across self.now.peers port.now }
+        ensures other { result ≡ across self.now.peers port.now }
+        ensures port { IfSome result (λ other. is_cable_port self.now other ≡ true) }
     {
         self.peers.get(port.node)?.across(port.port)
     }
 
     /// Whether a subnet manager sits at a port.
     pub fn is_seat(&self, port: &NodePort) -> bool
-        ensures { result ≡ is_seat_at self.now port.now }
+        ensures seat { result ≡ is_seat_at self.now port.now }
+        ensures port { result ≡ true → is_cable_port self.now port.now ≡ true }
     {
-        match self.agent(port.node) {
+        match self.agents.get(port.node) {
             Some(agent) => agent.has_seat(port.port),
             None => false,
         }

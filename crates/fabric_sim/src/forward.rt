@@ -1,4 +1,4 @@
-ghost use Rattle.std.specs.Prelude.{◌≡◌, ◌<◌, ◌==◌, length, count_by, IfOk, true};
+ghost use Rattle.std.specs.Prelude.{◌≡◌, ◌<◌, ◌≤◌, length, count_by, IfOk, true};
 ghost use Rattle.smp_bytes.specs.Fabric.{switch_count};
 ghost use Rattle.smp_bytes.specs.Forwarding.{course, switch_course, entry_course, adapter_course};
 ghost use Rattle.smp_bytes.specs.Judges.{Judges};
@@ -81,7 +81,8 @@ impl Fabric {
 
     /// How many nodes are switches.
     fn switch_count(&self) -> usize
-        ensures { result ≡ switch_count (fabric_of self.now) }
+        ensures count { result ≡ switch_count (fabric_of self.now) }
+        ensures few { result ≤ 1024 }
     {
         self.agents.iter().filter(|agent| agent.is_switch()).count()
     }

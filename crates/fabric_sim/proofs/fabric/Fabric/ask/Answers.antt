@@ -1,10 +1,43 @@
-use Rattle.std.proofs.Common.{◌≡◌, ap, sym, ◌∙◌, subst}
-use Rattle.std.specs.Prelude.{remove}
-use Rattle.fabric_sim.specs.Simulation.{Simulation, next_serial}
+use Rattle.std.proofs.Common.{◌≡◌, ◌<◌, ◌+◌, ◌^◌, Bool, true, List, [], ◌∷◌, ◌++◌, ap, sym, ◌∙◌, subst, rules}
+use Rattle.std.specs.Prelude.{remove, slice_get, slice_set, option_map, Some}
+use Rattle.fabric_sim.specs.declared.flight.Flight.{Flight}
+use Rattle.fabric_sim.specs.Simulation.{Simulation, IsFlightAt, next_serial, has_cable_port, port_of, answer_place}
+use Rattle.fabric_sim.specs.Delivery.{asked}
+use Rattle.fabric_sim.proofs.Written.{removed, next_after, waiting_at, asks, Asks, asked_now, asked_valid, asked_result}
 use Rattle.fabric_sim.proofs.fabric.Fabric.ask.Goals as goal
 
+fits : (c : goal.After-self-2-1) → c.in-Some.serial < 2 ^ 64
+fits c = search rules
+
+at : (c : goal.After-self-2-1) → slice_get c.self.inside.flights.items c.args.i ≡ Some c.args.flight.now
+at c = let P : Simulation → Type 0 = λ s. slice_get s.flights c.args.i ≡ Some c.args.flight.now in subst P (sym c.self.view_is) c.requires.at
+
+left : (c : goal.After-self-2-1) → c.remove.new.self.items ≡ remove c.self.inside.flights.items c.args.i
+left c = removed _ _ c.args.i c.args.flight.now.serial _ _ c.self.inside.flights.ok.0 (ap (option_map (λ (f : Flight). f.serial)) (at c)) c.remove.ensures.succeeds c.remove.ensures.items
+
+more : (c : goal.After-self-2-1) → c.push_back_reserved.new.self.items ≡ remove c.self.inside.flights.items c.args.i
+    ++ record { serial = c.in-Some.serial; place = answer_place c.args.flight.now.place; packet = record { bytes = c.answer-answer.result; slid = c.args.slid; dlid = c.args.dlid } } ∷ []
+more c =
+    c.push_back_reserved.ensures.items
+    ∙ (ap (λ fs. fs ++ record { serial = c.in-Some.serial; place = c.answer_place.result; packet = record { bytes = c.bytes.result.now; slid = c.args.slid; dlid = c.args.dlid } } ∷ []) (left c)
+    ∙ (ap (λ p. remove c.self.inside.flights.items c.args.i ++ record { serial = c.in-Some.serial; place = p; packet = record { bytes = c.bytes.result.now; slid = c.args.slid; dlid = c.args.dlid } } ∷ []) c.answer_place.ensures
+    ∙ ap (λ b. remove c.self.inside.flights.items c.args.i ++ record { serial = c.in-Some.serial; place = answer_place c.args.flight.now.place; packet = record { bytes = b; slid = c.args.slid; dlid = c.args.dlid } } ∷ []) c.bytes.ensures.bytes))
+
+port : (c : goal.After-self-2-1) → has_cable_port c.self.inside.agents.items (port_of c.args.flight.now.place) ≡ true
+port c = (waiting_at _ c.args.i c.args.flight.now c.self.invariant (at c)).place.port
+
+written : (c : goal.After-self-2-1) → ◌≡◌ {A = Simulation}
+    (record { agents = slice_set c.self.inside.agents.items c.port-at.result.node c.answer-answer.new.self; peers = c.self.inside.peers.items; flights = c.push_back_reserved.new.self.items; next = next_serial c.checked_add-self-inside.result })
+    (asked c.args.self.now c.args.flight.now c.args.request.now c.args.slid c.args.dlid)
+written c =
+    let done = asks (record { agents = c.self.inside.agents.items; peers = c.self.inside.peers.items; flights = c.self.inside.flights.items; next = next_serial c.self.inside.next }) c.args.flight.now c.args.request.now c.answer-answer.result c.port-at.result c.index_mut-agent.result.now c.answer-answer.new.self (port c) c.port-at.ensures c.index_mut-agent.ensures.value c.answer-answer.ensures.state c.answer-answer.ensures.answer in
+    asked_now _ _ c.self.view_is c.args.i c.in-Some.serial _ c.args.slid c.args.dlid c.args.flight.now c.args.request.now c.answer-answer.result c.port-at.result.node c.answer-answer.new.self _ c.self.invariant c.requires.at
+    (ap (λ p. p.node) c.port-at.ensures) done (ap next_serial c.in-Some.is) (more c) (next_after c.in-Some.serial _ (fits c) c.checked_add-self-inside.ensures)
+
 pub invariant_of-self : goal.invariant_of-self
-invariant_of-self c = ?
+invariant_of-self c =
+    asked_valid _ _ c.self.view_is c.args.i c.args.slid c.args.dlid c.args.flight.now c.args.request.now _ c.self.invariant c.requires.at
+    (subst (λ n. n < 2 ^ 64) (sym (ap next_serial c.in-Some.is)) (fits c)) (written c)
 
 pub returns-clause-fabric : goal.returns-clause-fabric
-returns-clause-fabric c = let h = c.in-Some.is in let k = c.index_mut-agent.ensures in let l = c.answer-answer.ensures in let m = c.push_back_reserved.ensures in ?
+returns-clause-fabric c = ap (λ s. s) (written c) ∙ ?

@@ -1,17 +1,29 @@
-
+use Rattle.std.proofs.Common.{◌≡◌, true, false, sym, ◌∙◌, ap, subst, rules, arith}
+use Rattle.std.specs.Prelude.{Some, slice_get, slice_set}
+use Rattle.smp_bytes.specs.Fabric.{is_switch_at}
+use Rattle.node_agents.specs.Agent.{seated}
+use Rattle.fabric_sim.specs.Simulation.{Simulation, IsSimulation, is_cable_port, has_cable_port, fabric_of, next_serial}
+use Rattle.fabric_sim.specs.Changes.{changed_at, manager_seated}
+use Rattle.fabric_sim.proofs.Invariants.{seated_is}
+use Rattle.fabric_sim.proofs.Written.{agent_read, changed_now}
 use Rattle.fabric_sim.proofs.fabric.Fabric.seat.Goals as goal
 
-pub index_mut-agent-requires : goal.index_mut-agent-requires
-index_mut-agent-requires c = ?
+port : (c : goal.After-self-1) → is_cable_port c.args.self.now c.args.at ≡ true
+port c = search rules
 
-pub set_seat-requires-clause-adapter : goal.set_seat-requires-clause-adapter
-set_seat-requires-clause-adapter c = ?
+adapter : (c : goal.After-self-1) → is_switch_at (fabric_of c.args.self.now) c.args.at.node ≡ false
+adapter c = search rules
 
-pub set_seat-requires-clause-most : goal.set_seat-requires-clause-most
-set_seat-requires-clause-most c = ?
+written : (c : goal.After-self-1) → ◌≡◌ {A = Simulation}
+    (record { agents = slice_set c.self.inside.agents.items c.args.at.node c.set_seat.new.self; peers = c.self.inside.peers.items; flights = c.self.inside.flights.items; next = next_serial c.self.inside.next })
+    (changed_at c.args.self.now c.args.at seated)
+written c =
+    let there : has_cable_port c.self.inside.agents.items c.args.at ≡ true = let P : Simulation → Type 0 = λ s. is_cable_port s c.args.at ≡ true in subst P (sym c.self.view_is) (port c) in
+    changed_now _ _ c.self.view_is c.args.at seated c.index_mut-agent.result.now c.set_seat.new.self (agent_read _ c.args.at _ there c.index_mut-agent.ensures.value) c.set_seat.ensures
 
 pub invariant_of-self : goal.invariant_of-self
-invariant_of-self c = ?
+invariant_of-self c = subst IsSimulation (sym (written c)) (seated_is c.args.self.now c.args.at (subst IsSimulation c.self.view_is c.self.invariant) (port c) (adapter c))
 
 pub returns-clause-fabric : goal.returns-clause-fabric
-returns-clause-fabric c = ?
+unfolding manager_seated
+returns-clause-fabric c = written c ∙ ?
