@@ -1,2 +1,5 @@
+pub mod Lengths
+pub mod Outcomes
 pub mod PortSteps
 pub mod Shapes
+pub mod Told

@@ -61,7 +61,7 @@ keeps-with_port a port new steps =
             is_sm = λ h. steps.is_sm ∙ old.is_sm h;
           } in
           record {
-            node = is.node;
+            node = is.node; description = is.description;
             count = length-set a.ports port new ∙ is.count;
             ports = All-set (IsPort a.node.kind) a.ports port new after is.ports;
             port_zero = λ h. (each 0).state.active (is.port_zero h);
@@ -94,7 +94,7 @@ top_taken a b top true fits h =
     let e : record a { top = top } ≡ b = cc in
     let kept : Keeps a (record a { top = top }) = record {
       shape = same_ports a a.table top;
-      is_agent = λ is. record { node = is.node; count = is.count; ports = is.ports; port_zero = is.port_zero; table = is.table; top = inr (fits refl) };
+      is_agent = λ is. record { node = is.node; description = is.description; count = is.count; ports = is.ports; port_zero = is.port_zero; table = is.table; top = inr (fits refl) };
     } in
     subst (Keeps a) e kept
 
@@ -117,7 +117,7 @@ block_taken a b block payload true small has h =
     let kept : Keeps a (record a { table = with_bytes (64 * block) payload a.table }) = record {
       shape = same_ports a (with_bytes (64 * block) payload a.table) a.top;
       is_agent = λ is. let within = block_within a block is (has refl) in record {
-        node = is.node;
+        node = is.node; description = is.description;
         count = is.count;
         ports = is.ports;
         port_zero = is.port_zero;
@@ -130,7 +130,7 @@ block_taken a b block payload true small has h =
 pub keeps-set_block : (a b : Agent) (block : ℕ) (payload : List ℕ) → length payload ≤ 64 → set_block a block payload ≡ Some b → Keeps a b
 keeps-set_block a b block payload small h = block_taken a b block payload (has_block a block) small (λ e. e) h
 
-from_ok : (m : Option Agent) (b : Agent) → ok_or m InvalidField ≡ Ok b → m ≡ Some b
+pub from_ok : (m : Option Agent) (b : Agent) → ok_or m InvalidField ≡ Ok b → m ≡ Some b
 from_ok None b h = cc
 from_ok (Some x) b h = cc
 
