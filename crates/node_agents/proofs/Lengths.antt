@@ -1,10 +1,10 @@
 -- Whatever is told has 64 bytes.
-use Rattle.std.proofs.Common.{◌≡◌, ℕ, ◌+◌, ◌*◌, ◌<◌, ◌≤◌, Bool, true, false, List, [], ◌∷◌, refl, sym, ap, ◌∙◌, arith, length, take, drop, replicate}
+use Rattle.std.proofs.Common.{◌≡◌, ℕ, ◌*◌, ◌<◌, Bool, true, false, List, [], ◌∷◌, refl, sym, ap, ◌∙◌, arith, length, take, drop, replicate}
 use Rattle.std.specs.Prelude.{Option, Some, None, Result, Ok, Err, option_map, if◌then◌else◌, ◌==◌, ◌&&◌}
 use Rattle.std.specs.Option.{ok_or}
 use Rattle.std.proofs.lemmas.List.{length-drop, length-take-le}
 use Rattle.smp_bytes.specs.Header.{node_description, node_info, switch_info, port_info, linear_forwarding_table}
-use Rattle.smp_bytes.specs.Field.{Bits, Entry, number_in, with_bits, with_numbers, replaced}
+use Rattle.smp_bytes.specs.Field.{Bits, Entry, number_in, with_bits, replaced}
 use Rattle.smp_bytes.specs.Packet.{attribute_id, attribute_modifier}
 use Rattle.smp_bytes.specs.Requests.{flag}
 use Rattle.smp_bytes.proofs.FieldLaws.{length-with_number, length-with_numbers}
@@ -19,8 +19,8 @@ use Rattle.node_agents.specs.Agent.{Agent, IsAgent, is_switch, port_at}
 use Rattle.node_agents.specs.NodeDescription.{get_node_description}
 use Rattle.node_agents.specs.NodeInfo.{node_info_of, get_node_info}
 use Rattle.node_agents.specs.SwitchInfo.{get_switch_info}
-use Rattle.node_agents.specs.PortInfo.{port_info_of, port_meant, get_port_info}
-use Rattle.node_agents.specs.ForwardingBlock.{has_block, get_block}
+use Rattle.node_agents.specs.PortInfo.{port_info_of, port_meant}
+use Rattle.node_agents.specs.ForwardingBlock.{has_block}
 use Rattle.node_agents.specs.Answers.{get_of}
 use Rattle.node_agents.proofs.Shapes.{block_within}
 

@@ -1,24 +1,21 @@
 -- What an answer tells, and what a Set that is taken was about.
-use Rattle.std.proofs.Common.{◌≡◌, ◌≢◌, ◌⊎◌, ℕ, ◌+◌, ◌*◌, ◌^◌, ◌<◌, ◌≤◌, Bool, true, false, List, inl, inr, refl, sym, ap, ◌∙◌, subst, arith, length, take, drop}
-use Rattle.std.specs.Prelude.{Option, Some, None, Result, Ok, Err, option_map, if◌then◌else◌, ◌==◌, ◌&&◌}
+use Rattle.std.proofs.Common.{◌≡◌, ◌⊎◌, ℕ, ◌^◌, ◌<◌, Bool, true, false, List, inl, inr, refl, sym, ap, ◌∙◌, arith, length, drop}
+use Rattle.std.specs.Prelude.{Option, Some, Result, Ok, Err, if◌then◌else◌, ◌==◌, ◌&&◌}
 use Rattle.std.specs.Option.{ok_or}
-use Rattle.std.proofs.lemmas.Bool.{and_parts, eqb-true, eq-eqb, cond-true}
+use Rattle.std.proofs.lemmas.Bool.{and_parts, eqb-true}
 use Rattle.std.proofs.lemmas.List.{length-drop, length-take-le}
-use Rattle.smp_bytes.specs.Header.{get, set, done, node_description, node_info, switch_info, port_info, linear_forwarding_table}
+use Rattle.smp_bytes.specs.Header.{get, set, switch_info, port_info, linear_forwarding_table}
 use Rattle.smp_bytes.specs.Field.{number_in, bytes_in}
-use Rattle.smp_bytes.specs.Packet.{method, attribute_id, attribute_modifier, attribute_data, status}
-use Rattle.smp_bytes.specs.ReadBack.{HoldsAnswer}
+use Rattle.smp_bytes.specs.Packet.{method, attribute_id, attribute_modifier, attribute_data}
 use Rattle.smp_bytes.proofs.Answered.{answer_reads_back}
-use Rattle.node_agents.specs.declared.port.Port.{Port}
 use Rattle.node_agents.specs.declared.refusal.Refusal.{Refusal}
 use Rattle.node_agents.specs.declared.refusal.Refusal.TheVariants.{Method, MethodAndAttribute, InvalidField}
-use Rattle.node_agents.specs.Refusal.{status_of}
-use Rattle.node_agents.specs.Agent.{Agent, IsAgent, is_switch, with_port}
+use Rattle.node_agents.specs.Agent.{Agent, IsAgent, is_switch}
 use Rattle.node_agents.specs.SwitchInfo.{get_switch_info, set_switch_info}
-use Rattle.node_agents.specs.PortInfo.{port_meant, changed_port, get_port_info, set_port_info}
+use Rattle.node_agents.specs.PortInfo.{get_port_info, set_port_info}
 use Rattle.node_agents.specs.ForwardingBlock.{get_block, set_block}
-use Rattle.node_agents.specs.Answers.{get_attribute, set_attribute, get_of, set_of, Met, met_set, met, status_told, payload_told, answered}
-use Rattle.node_agents.specs.AnswerLaws.{IsPacket, AnswersHold, GetsChangeNothing, RefusalsChangeNothing, IsTaken}
+use Rattle.node_agents.specs.Answers.{get_attribute, get_of, set_of, Met, met_set, met, status_told, payload_told, answered}
+use Rattle.node_agents.specs.AnswerLaws.{AnswersHold}
 use Rattle.node_agents.proofs.Shapes.{from_ok, keeps-set_of}
 use Rattle.node_agents.proofs.Lengths.{Whole, whole-get_of}
 

@@ -61,7 +61,8 @@ keeps-with_port a port new steps =
             is_sm = λ h. steps.is_sm ∙ old.is_sm h;
           } in
           record {
-            node = is.node; description = is.description;
+            node = is.node;
+            description = is.description;
             count = length-set a.ports port new ∙ is.count;
             ports = All-set (IsPort a.node.kind) a.ports port new after is.ports;
             port_zero = λ h. (each 0).state.active (is.port_zero h);
@@ -117,7 +118,8 @@ block_taken a b block payload true small has h =
     let kept : Keeps a (record a { table = with_bytes (64 * block) payload a.table }) = record {
       shape = same_ports a (with_bytes (64 * block) payload a.table) a.top;
       is_agent = λ is. let within = block_within a block is (has refl) in record {
-        node = is.node; description = is.description;
+        node = is.node;
+        description = is.description;
         count = is.count;
         ports = is.ports;
         port_zero = is.port_zero;

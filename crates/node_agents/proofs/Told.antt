@@ -1,23 +1,22 @@
 -- What a Set that is taken makes of the agent, and what is told then.
-use Rattle.std.proofs.Common.{◌≡◌, ◌≢◌, ◌⊎◌, ℕ, ◌+◌, ◌*◌, ◌^◌, ◌<◌, ◌≤◌, Bool, true, false, List, inl, inr, refl, sym, ap, ◌∙◌, subst, arith, length, take, drop}
-use Rattle.std.specs.Prelude.{Option, Some, None, Result, Ok, Err, option_map, option_and_then, if◌then◌else◌, ◌==◌, ◌&&◌, nat_lt}
+use Rattle.std.proofs.Common.{◌≡◌, ◌≢◌, ◌⊎◌, ℕ, ◌*◌, Bool, true, false, List, inl, inr, refl, sym, ap, ◌∙◌, subst, arith, take, drop}
+use Rattle.std.specs.Prelude.{Option, Some, None, Result, Ok, Err, option_map, option_and_then, if◌then◌else◌, ◌==◌}
 use Rattle.std.specs.Option.{ok_or}
-use Rattle.std.proofs.lemmas.Bool.{eq-eqb, cond-true}
 use Rattle.smp_bytes.specs.Header.{get, set, done, switch_info, port_info, linear_forwarding_table}
 use Rattle.smp_bytes.specs.Field.{number_in, bytes_in, with_bytes}
-use Rattle.smp_bytes.specs.Packet.{method, attribute_id, attribute_modifier, attribute_data, status}
+use Rattle.smp_bytes.specs.Packet.{method, attribute_id, attribute_modifier, attribute_data}
 use Rattle.attr_codec.specs.SwitchInfo.{linear_fdb_top}
 use Rattle.node_agents.specs.declared.port.Port.{Port}
 use Rattle.node_agents.specs.declared.refusal.Refusal.{Refusal}
 use Rattle.node_agents.specs.declared.refusal.Refusal.TheVariants.{Method, MethodAndAttribute, InvalidField}
 use Rattle.node_agents.specs.Agent.{Agent, IsAgent, is_switch, port_at, with_port}
 use Rattle.node_agents.specs.SwitchInfo.{get_switch_info, set_switch_info}
-use Rattle.node_agents.specs.PortInfo.{has_lid, port_meant, port_info_of, port_after, changed_port, get_port_info, set_port_info}
-use Rattle.node_agents.specs.ForwardingBlock.{has_block, get_block, set_block}
+use Rattle.node_agents.specs.PortInfo.{has_lid, port_meant, port_info_of, port_after, changed_port, set_port_info}
+use Rattle.node_agents.specs.ForwardingBlock.{has_block, set_block}
 use Rattle.node_agents.specs.Answers.{get_attribute, get_of, set_of, Met, met_set, met, status_told, payload_told, answered}
-use Rattle.node_agents.specs.AnswerLaws.{IsPacket, GetsChangeNothing, RefusalsChangeNothing, IsTaken, IsAboutTheSame, GetsTellAsSets}
+use Rattle.node_agents.specs.AnswerLaws.{GetsChangeNothing, RefusalsChangeNothing, IsTaken, IsAboutTheSame, GetsTellAsSets}
 use Rattle.node_agents.proofs.Shapes.{answered_is_agent}
-use Rattle.node_agents.proofs.Outcomes.{answers_hold, SetsOne, SetsPortInfo, SetsSwitchInfo, SetsABlock, what_is_set, get_of-port_info, get_of-switch_info, get_of-block}
+use Rattle.node_agents.proofs.Outcomes.{answers_hold, SetsPortInfo, SetsSwitchInfo, SetsABlock, what_is_set, get_of-port_info, get_of-switch_info, get_of-block}
 
 -- what each Set makes of the agent ----------------------------------------------------------------
 
@@ -179,13 +178,16 @@ module _ (a : Agent) (packet : List ℕ) (arrival number : ℕ) (is : IsTaken a 
       let m : met a packet arrival ≡ met_set a (Ok b) packet arrival =
       met-set a packet arrival is.method ∙ ap (λ r. met_set a r packet arrival) (sym e) in
       let something = something_told a b packet arrival (sym e) in
-      let told : (met a packet arrival).told ≡ Ok something.0 = ap (λ (x : Met). x.told) m ∙ something.1 in
-      (b, something.0, record {
-        taken = sym e;
-        told = something.1;
-        agent = answered-agent a packet arrival ∙ ap (λ (x : Met). x.agent) m;
-        payload_is = holds.attribute_data ∙ ap (λ t. payload_told t packet) told;
-      })
+      let told : (met a packet arrival).told ≡ Ok something.0 = ap (λ (x : Met). x.told) m ∙ something.1 in (
+        b,
+        something.0,
+        record {
+          taken = sym e;
+          told = something.1;
+          agent = answered-agent a packet arrival ∙ ap (λ (x : Met). x.agent) m;
+          payload_is = holds.attribute_data ∙ ap (λ t. payload_told t packet) told;
+        },
+      )
   by_outcome (Err refusal) e =
       let holds = answers_hold a packet arrival is.agent is.whole in
       let m : met a packet arrival ≡ met_set a (Err refusal) packet arrival =

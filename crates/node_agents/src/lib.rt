@@ -4,6 +4,7 @@
 mod agent;
 mod agent_node;
 mod forwarding_block;
+pub mod laws;
 mod node_description;
 mod node_info;
 mod port;
