@@ -19,7 +19,7 @@ use Rattle.node_agents.specs.Agent.{Agent, IsAgent, IsPort, is_switch, port_in, 
 use Rattle.node_agents.specs.SwitchInfo.{set_switch_info}
 use Rattle.node_agents.specs.ForwardingBlock.{has_block, set_block}
 use Rattle.node_agents.specs.PortInfo.{changed_port, set_port_info}
-use Rattle.node_agents.specs.Answers.{set_of, Met, met_set, answered}
+use Rattle.node_agents.specs.Answers.{set_of, met, Met, met_set, answered}
 use Rattle.node_agents.specs.AnswerLaws.{KeepsShape, AnsweredKeepsShape, AnsweredIsAgent}
 use Rattle.node_agents.proofs.PortSteps.{Steps, steps_changed, steps-slice_set}
 
@@ -177,11 +177,19 @@ keeps-met_set : (a : Agent) (after : Result Agent Refusal) (packet : List ℕ) (
 keeps-met_set a (Ok b) packet arrival f = f b refl
 keeps-met_set a (Err refusal) packet arrival f = keeps_same a
 
+pub keeps-met : (a : Agent) (packet : List ℕ) (arrival : ℕ) → Keeps a (met a packet arrival).agent
+keeps-met a packet arrival =
+    met_both a (number_in method packet == get) _ _ (keeps_same a)
+    (met_both a (number_in method packet == set) _ _ (keeps-met_set a (set_of a packet arrival) packet arrival (λ b. keeps-set_of a b packet arrival))
+    (keeps_same a))
+
 pub keeps-answered : (a : Agent) (packet : List ℕ) (arrival : ℕ) → Keeps a (answered a packet arrival).agent
 unfolding answered
-keeps-answered a packet arrival =
-    met_both a (number_in method packet == get) _ _ (keeps_same a)
-    (met_both a (number_in method packet == set) _ _ (keeps-met_set a (set_of a packet arrival) packet arrival (λ b. keeps-set_of a b packet arrival)) (keeps_same a))
+keeps-answered a packet arrival = keeps-met a packet arrival
+
+-- the node is as it was, whatever is answered
+pub met_keeps_node : (a b : Agent) (packet : List ℕ) (arrival : ℕ) → b ≡ (met a packet arrival).agent → b.node ≡ a.node
+met_keeps_node a b packet arrival e = ap (λ (x : Agent). x.node) e ∙ (keeps-met a packet arrival).shape.node
 
 pub answered_keeps_shape : AnsweredKeepsShape
 answered_keeps_shape a packet arrival = (keeps-answered a packet arrival).shape

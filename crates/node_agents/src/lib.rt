@@ -15,3 +15,6 @@ mod switch_info;
 
 pub use agent::Agent;
 pub use agent_node::AgentNode;
+
+#[cfg(test)]
+mod tests;
