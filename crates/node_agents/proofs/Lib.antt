@@ -1,2 +1,7 @@
+pub mod Lengths
+pub mod Outcomes
 pub mod PortSteps
+pub mod Made
+pub mod Sets
 pub mod Shapes
+pub mod Told

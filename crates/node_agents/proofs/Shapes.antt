@@ -19,7 +19,7 @@ use Rattle.node_agents.specs.Agent.{Agent, IsAgent, IsPort, is_switch, port_in, 
 use Rattle.node_agents.specs.SwitchInfo.{set_switch_info}
 use Rattle.node_agents.specs.ForwardingBlock.{has_block, set_block}
 use Rattle.node_agents.specs.PortInfo.{changed_port, set_port_info}
-use Rattle.node_agents.specs.Answers.{set_of, Met, met_set, answered}
+use Rattle.node_agents.specs.Answers.{set_of, met, Met, met_set, answered}
 use Rattle.node_agents.specs.AnswerLaws.{KeepsShape, AnsweredKeepsShape, AnsweredIsAgent}
 use Rattle.node_agents.proofs.PortSteps.{Steps, steps_changed, steps-slice_set}
 
@@ -62,6 +62,7 @@ keeps-with_port a port new steps =
           } in
           record {
             node = is.node;
+            description = is.description;
             count = length-set a.ports port new ∙ is.count;
             ports = All-set (IsPort a.node.kind) a.ports port new after is.ports;
             port_zero = λ h. (each 0).state.active (is.port_zero h);
@@ -94,7 +95,7 @@ top_taken a b top true fits h =
     let e : record a { top = top } ≡ b = cc in
     let kept : Keeps a (record a { top = top }) = record {
       shape = same_ports a a.table top;
-      is_agent = λ is. record { node = is.node; count = is.count; ports = is.ports; port_zero = is.port_zero; table = is.table; top = inr (fits refl) };
+      is_agent = λ is. record { node = is.node; description = is.description; count = is.count; ports = is.ports; port_zero = is.port_zero; table = is.table; top = inr (fits refl) };
     } in
     subst (Keeps a) e kept
 
@@ -118,6 +119,7 @@ block_taken a b block payload true small has h =
       shape = same_ports a (with_bytes (64 * block) payload a.table) a.top;
       is_agent = λ is. let within = block_within a block is (has refl) in record {
         node = is.node;
+        description = is.description;
         count = is.count;
         ports = is.ports;
         port_zero = is.port_zero;
@@ -130,7 +132,7 @@ block_taken a b block payload true small has h =
 pub keeps-set_block : (a b : Agent) (block : ℕ) (payload : List ℕ) → length payload ≤ 64 → set_block a block payload ≡ Some b → Keeps a b
 keeps-set_block a b block payload small h = block_taken a b block payload (has_block a block) small (λ e. e) h
 
-from_ok : (m : Option Agent) (b : Agent) → ok_or m InvalidField ≡ Ok b → m ≡ Some b
+pub from_ok : (m : Option Agent) (b : Agent) → ok_or m InvalidField ≡ Ok b → m ≡ Some b
 from_ok None b h = cc
 from_ok (Some x) b h = cc
 
@@ -175,11 +177,19 @@ keeps-met_set : (a : Agent) (after : Result Agent Refusal) (packet : List ℕ) (
 keeps-met_set a (Ok b) packet arrival f = f b refl
 keeps-met_set a (Err refusal) packet arrival f = keeps_same a
 
+pub keeps-met : (a : Agent) (packet : List ℕ) (arrival : ℕ) → Keeps a (met a packet arrival).agent
+keeps-met a packet arrival =
+    met_both a (number_in method packet == get) _ _ (keeps_same a)
+    (met_both a (number_in method packet == set) _ _ (keeps-met_set a (set_of a packet arrival) packet arrival (λ b. keeps-set_of a b packet arrival))
+    (keeps_same a))
+
 pub keeps-answered : (a : Agent) (packet : List ℕ) (arrival : ℕ) → Keeps a (answered a packet arrival).agent
 unfolding answered
-keeps-answered a packet arrival =
-    met_both a (number_in method packet == get) _ _ (keeps_same a)
-    (met_both a (number_in method packet == set) _ _ (keeps-met_set a (set_of a packet arrival) packet arrival (λ b. keeps-set_of a b packet arrival)) (keeps_same a))
+keeps-answered a packet arrival = keeps-met a packet arrival
+
+-- the node is as it was, whatever is answered
+pub met_keeps_node : (a b : Agent) (packet : List ℕ) (arrival : ℕ) → b ≡ (met a packet arrival).agent → b.node ≡ a.node
+met_keeps_node a b packet arrival e = ap (λ (x : Agent). x.node) e ∙ (keeps-met a packet arrival).shape.node
 
 pub answered_keeps_shape : AnsweredKeepsShape
 answered_keeps_shape a packet arrival = (keeps-answered a packet arrival).shape

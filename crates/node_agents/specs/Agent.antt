@@ -96,6 +96,7 @@ pub record IsPort (kind : NodeType) (port : Port) : Type 0 where
 -- what holds of each agent
 pub record IsAgent (a : Agent) : Type 0 where
   pub node : IsAgentNode a.node
+  pub description : length a.node.description ≡ 64
   pub count : length a.ports ≡ a.node.ports + 1
   pub ports : All (IsPort a.node.kind) a.ports
   pub port_zero : is_switch a ≡ true → state_at a 0 ≡ Active

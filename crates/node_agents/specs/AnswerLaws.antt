@@ -1,8 +1,18 @@
--- What an answer leaves of an agent, and what is told after a Set.
-use Rattle.std.specs.Prelude.{◌≡◌, ◌↔◌, ℕ, List}
+-- What an answer is, what it leaves of the agent, and what a Set that is taken does.
+use Rattle.std.specs.Prelude.{◌≡◌, ◌≢◌, ◌↔◌, ◌⊎◌, ℕ, ◌+◌, ◌*◌, ◌<◌, ◌≤◌, Bool, true, false, List, length, slice_index, None, Some}
+use Rattle.smp_bytes.specs.Header.{get, set, done, switch_info, port_info, linear_forwarding_table}
+use Rattle.smp_bytes.specs.Field.{number_in, bytes_in, bits_in}
+use Rattle.smp_bytes.specs.Packet.{method, attribute_id, attribute_modifier, attribute_data, status, fault_of}
+use Rattle.smp_bytes.specs.ReadBack.{HoldsAnswer}
+use Rattle.attr_codec.specs.PortInfo.{base_lid, port_state}
+use Rattle.attr_codec.specs.SwitchInfo.{linear_fdb_top}
 use Rattle.attr_codec.specs.declared.port_state.PortState.TheVariants.{Down}
-use Rattle.node_agents.specs.Agent.{Agent, IsAgent, state_at, has_seat}
-use Rattle.node_agents.specs.Answers.{answered}
+use Rattle.node_agents.specs.declared.agent_node.AgentNode.{AgentNode}
+use Rattle.node_agents.specs.Agent.{Agent, IsAgent, IsAgentNode, is_switch, state_at, has_seat, port_at, base_lid_at, entry_at, fresh_agent, wired, seated}
+use Rattle.node_agents.specs.PortInfo.{has_lid, port_meant}
+use Rattle.node_agents.specs.Answers.{met, status_told, payload_told, answered}
+
+-- agents stay agents --------------------------------------------------------------------
 
 -- the node, the ports that are down, and the subnet managers' seats are as they were
 pub record KeepsShape (old new : Agent) : Type 0 where
@@ -14,6 +24,98 @@ pub record KeepsShape (old new : Agent) : Type 0 where
 abbrev pub AnsweredKeepsShape : Type 0
 AnsweredKeepsShape = (a : Agent) (packet : List ℕ) (arrival : ℕ) → KeepsShape a (answered a packet arrival).agent
 
--- an agent stays one
+-- an agent stays one, whatever it answers
 abbrev pub AnsweredIsAgent : Type 0
 AnsweredIsAgent = (a : Agent) (packet : List ℕ) (arrival : ℕ) → IsAgent a → IsAgent (answered a packet arrival).agent
+
+-- answers ---------------------------------------------------------------------------------
+
+-- 256 bytes that are a packet
+pub record IsPacket (packet : List ℕ) : Type 0 where
+  pub count : length packet ≡ 256
+  pub parses : fault_of packet ≡ None
+
+-- an answer is a packet with the status and the attribute that are told; all else but the method stands as in the request
+abbrev pub AnswersHold : Type 0
+AnswersHold =
+    (a : Agent) (packet : List ℕ) (arrival : ℕ) → IsAgent a → IsPacket packet
+    → (let told = (met a packet arrival).told in HoldsAnswer packet (answered a packet arrival).packet (status_told told) (payload_told told packet))
+
+-- a Get leaves the agent as it was
+abbrev pub GetsChangeNothing : Type 0
+GetsChangeNothing = (a : Agent) (packet : List ℕ) (arrival : ℕ) → number_in method packet ≡ get → (answered a packet arrival).agent ≡ a
+
+-- so does a request whose answer has another status than 0
+abbrev pub RefusalsChangeNothing : Type 0
+RefusalsChangeNothing =
+    (a : Agent) (packet : List ℕ) (arrival : ℕ) → IsAgent a → IsPacket packet → status (answered a packet arrival).packet ≢ done
+    → (answered a packet arrival).agent ≡ a
+
+-- Sets ------------------------------------------------------------------------------------
+
+-- a packet sets an attribute, and the agent takes it
+pub record IsTaken (a : Agent) (packet : List ℕ) (arrival number : ℕ) : Type 0 where
+  pub agent : IsAgent a
+  pub whole : IsPacket packet
+  pub method : number_in method packet ≡ set
+  pub attribute : number_in attribute_id packet ≡ number
+  pub done : status (answered a packet arrival).packet ≡ done
+
+-- two packets are about the same attribute, with the same modifier
+pub record IsAboutTheSame (p q : List ℕ) : Type 0 where
+  pub attribute : number_in attribute_id p ≡ number_in attribute_id q
+  pub modifier : number_in attribute_modifier p ≡ number_in attribute_modifier q
+
+-- a Get by the same port tells what the answer to the Set before it told
+abbrev pub GetsTellAsSets : Type 0
+GetsTellAsSets =
+    (a : Agent) (p q : List ℕ) (arrival number : ℕ) → IsTaken a p arrival number → IsPacket q → number_in method q ≡ get → IsAboutTheSame q p
+    → bytes_in attribute_data (answered (answered a p arrival).agent q arrival).packet ≡ bytes_in attribute_data (answered a p arrival).packet
+
+-- a block that is set is told, stands in the table at its place, and nothing else is changed
+pub record SetsBlock (a after : Agent) (block : ℕ) (payload told : List ℕ) : Type 0 where
+  pub is_told : told ≡ payload
+  pub inside : (i : ℕ) → i < 64 → entry_at after (64 * block + i) ≡ slice_index payload i
+  pub outside : (lid : ℕ) → (lid < 64 * block) ⊎ (64 * block + 64 ≤ lid) → entry_at after lid ≡ entry_at a lid
+  pub all_else : after ≡ record a { table = after.table }
+
+-- what a Set of a block does
+abbrev pub BlocksAreSet : Type 0
+BlocksAreSet =
+    (a : Agent) (packet : List ℕ) (arrival : ℕ) → IsTaken a packet arrival linear_forwarding_table
+    → SetsBlock a (answered a packet arrival).agent (number_in attribute_modifier packet) (bytes_in attribute_data packet)
+    (bytes_in attribute_data (answered a packet arrival).packet)
+
+-- the top that is set is told, and nothing else is changed
+pub record SetsTop (a after : Agent) (payload told : List ℕ) : Type 0 where
+  pub is_told : number_in linear_fdb_top told ≡ number_in linear_fdb_top payload
+  pub all_else : after ≡ record a { top = number_in linear_fdb_top payload }
+
+-- what a Set of switch information does
+abbrev pub TopsAreSet : Type 0
+TopsAreSet =
+    (a : Agent) (packet : List ℕ) (arrival : ℕ) → IsTaken a packet arrival switch_info
+    → SetsTop a (answered a packet arrival).agent (bytes_in attribute_data packet) (bytes_in attribute_data (answered a packet arrival).packet)
+
+-- the LID that is set at a port with a LID is told, and so is the state; no other port and nothing else is changed
+pub record SetsPort (a after : Agent) (port : ℕ) (payload told : List ℕ) : Type 0 where
+  pub lid : has_lid a port ≡ true → base_lid_at after port ≡ number_in base_lid payload
+  pub lid_told : has_lid a port ≡ true → number_in base_lid told ≡ number_in base_lid payload
+  pub state_told : bits_in port_state payload ≢ 0 → bits_in port_state told ≡ bits_in port_state payload
+  pub others : (place : ℕ) → place ≢ port → port_at after place ≡ port_at a place
+  pub all_else : after ≡ record a { ports = after.ports }
+
+-- what a Set of port information does
+abbrev pub PortsAreSet : Type 0
+PortsAreSet =
+    (a : Agent) (packet : List ℕ) (arrival port : ℕ) → arrival ≤ a.node.ports → IsTaken a packet arrival port_info
+    → port_meant a (number_in attribute_modifier packet) arrival ≡ Some port
+    → SetsPort a (answered a packet arrival).agent port (bytes_in attribute_data packet) (bytes_in attribute_data (answered a packet arrival).packet)
+
+-- from outside ------------------------------------------------------------------------------
+
+-- an agent that is made, wired at a port from 1 on, or given a subnet manager at a port of an adapter is one
+pub record AgentsAreMade : Type 0 where
+  pub fresh : (node : AgentNode) → IsAgentNode node → length node.description ≡ 64 → IsAgent (fresh_agent node)
+  pub wired : (a : Agent) (port : ℕ) (is_wired : Bool) → IsAgent a → 1 ≤ port → IsAgent (wired a port is_wired)
+  pub seated : (a : Agent) (port : ℕ) → IsAgent a → is_switch a ≡ false → IsAgent (seated a port)

@@ -63,10 +63,18 @@ met a packet arrival =
     else if number_in method packet == set then met_set a (set_of a packet arrival) packet arrival
     else record { told = Err Method; agent = a }
 
--- a refusal sends the request's own bytes back
+-- the status of an answer
+abbrev pub status_told : Result (List ℕ) Refusal → ℕ
+status_told (Ok payload) = done
+status_told (Err refusal) = status_of refusal
+
+-- its attribute: a refusal sends the request's own back
+abbrev pub payload_told : Result (List ℕ) Refusal → List ℕ → List ℕ
+payload_told (Ok payload) packet = payload
+payload_told (Err refusal) packet = bytes_in attribute_data packet
+
 abbrev pub answer_with : List ℕ → Result (List ℕ) Refusal → List ℕ
-answer_with packet (Ok payload) = answer_packet packet done payload
-answer_with packet (Err refusal) = answer_packet packet (status_of refusal) (bytes_in attribute_data packet)
+answer_with packet told = answer_packet packet (status_told told) (payload_told told packet)
 
 -- the answer to a request, and what the agent holds then
 pub record Answered : Type 0 where

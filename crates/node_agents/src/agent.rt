@@ -37,7 +37,8 @@ impl Agent {
     #[tactic(auto, unfolding(crate::specs::Agent::fresh_agent))]
     pub fn new(alloc: Global, node: AgentNode) -> Result<Agent, AllocError>
         requires { IsAgentNode node }
-        ensures { IfOk result (λ agent. agent ≡ fresh_agent node) }
+        ensures agent { IfOk result (λ agent. agent ≡ fresh_agent node) }
+        ensures node { IfOk result (λ agent. agent.node ≡ node) }
     {
         let count = usize::from(node.ports) + 1;
         let mut ports = vec![in alloc; Port::in_state(PortState::Down); count]?;
@@ -170,6 +171,7 @@ impl Agent {
         requires most { arrival ≤ self.old.node.ports }
         ensures answer { result ≡ (answered self.old smp.now arrival).packet }
         ensures state { self.new ≡ (answered self.old smp.now arrival).agent }
+        ensures node { self.new.node ≡ self.old.node }
     {
         match meet(self, smp, arrival) {
             Ok(payload) => smp.answer(Status::DONE, &payload),

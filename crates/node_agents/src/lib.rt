@@ -4,6 +4,7 @@
 mod agent;
 mod agent_node;
 mod forwarding_block;
+pub mod laws;
 mod node_description;
 mod node_info;
 mod port;
@@ -14,3 +15,6 @@ mod switch_info;
 
 pub use agent::Agent;
 pub use agent_node::AgentNode;
+
+#[cfg(test)]
+mod tests;

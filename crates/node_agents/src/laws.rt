@@ -1,0 +1,59 @@
+//! The laws of agents: what no request changes, what an answer is, and what a Set does.
+ghost use Rattle.node_agents.specs.AnswerLaws.{AgentsAreMade, AnsweredIsAgent, AnsweredKeepsShape, AnswersHold, GetsChangeNothing, RefusalsChangeNothing, GetsTellAsSets, BlocksAreSet, TopsAreSet, PortsAreSet};
+
+/// What is made, wired and given a subnet manager is an agent.
+#[tactic(auto, using(crate::proofs::Made::agents_are_made))]
+pub fn agents_are_made()
+    ensures { AgentsAreMade }
+{}
+
+/// An agent stays one, whatever it answers.
+#[tactic(auto, using(crate::proofs::Shapes::answered_is_agent))]
+pub fn answered_is_agent()
+    ensures { AnsweredIsAgent }
+{}
+
+/// No request changes the node, which ports are down, or where subnet managers sit.
+#[tactic(auto, using(crate::proofs::Shapes::answered_keeps_shape))]
+pub fn answered_keeps_shape()
+    ensures { AnsweredKeepsShape }
+{}
+
+/// An answer is a packet with the status and the attribute that are told, and for the rest as the request was.
+pub fn answers_hold()
+    ensures { AnswersHold }
+{}
+
+/// A Get leaves the agent as it was.
+#[tactic(auto, using(crate::proofs::Told::gets_change_nothing))]
+pub fn gets_change_nothing()
+    ensures { GetsChangeNothing }
+{}
+
+/// A request whose answer has another status than 0 leaves the agent as it was.
+#[tactic(auto, using(crate::proofs::Told::refusals_change_nothing))]
+pub fn refusals_change_nothing()
+    ensures { RefusalsChangeNothing }
+{}
+
+/// After a Set that is taken, a Get by the same port tells what the answer to the Set told.
+pub fn gets_tell_as_sets()
+    ensures { GetsTellAsSets }
+{}
+
+/// A block that is set is told and stands in the table at its place, and nothing else is changed.
+#[tactic(auto, using(crate::proofs::Sets::blocks_are_set))]
+pub fn blocks_are_set()
+    ensures { BlocksAreSet }
+{}
+
+/// The greatest LID to forward that is set is told, and nothing else is changed.
+#[tactic(auto, using(crate::proofs::Sets::tops_are_set))]
+pub fn tops_are_set()
+    ensures { TopsAreSet }
+{}
+
+/// The LID and the state that are set at a port are told; no other port and nothing else is changed.
+pub fn ports_are_set()
+    ensures { PortsAreSet }
+{}
