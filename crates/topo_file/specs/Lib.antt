@@ -3,6 +3,7 @@ pub mod NodeName
 pub mod Number
 pub mod Places
 pub mod Reading
+pub mod ReadingLaws
 pub mod Text
 pub mod TopoFault
 pub mod Topology

@@ -104,6 +104,10 @@ with_links nodes links (at ∷ later) = link_of nodes at >>= with_link at.line l
 abbrev pub topology_in : Lines → Result Layout TopoFault
 topology_in told = with_links told.nodes [] told.links >>= λ links. Ok (record { nodes = told.nodes; links = links })
 
+-- the nodes and the links of all lines
+abbrev pub told_by : List (List ℕ) → Result Lines TopoFault
+told_by lines = with_lines 1 (record { nodes = []; links = [] }) lines
+
 -- what a text says
 unfoldable pub topology_of : List ℕ → Result Layout TopoFault
-topology_of text = with_lines 1 (record { nodes = []; links = [] }) (lines text) >>= topology_in
+topology_of text = told_by (lines text) >>= topology_in

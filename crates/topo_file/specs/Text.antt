@@ -29,16 +29,20 @@ abbrev pub words_in : List ℕ × List (List ℕ) → List (List ℕ)
 words_in ([], later) = later
 words_in (b ∷ word, later) = (b ∷ word) ∷ later
 
--- the rest of the word that is begun, within quotes or not, and the words behind it: a word ends at a blank or a tab outside
--- quotes, and with the line, which ends at a '#' outside quotes
+-- a word ends before a blank, a tab or a '#' outside quotes
+abbrev pub is_behind_word : Bool → ℕ → Bool
+is_behind_word quoted b = not quoted && (b == 35 || is_blank b)
+
+-- quotes begin and end at a quote
+abbrev pub is_quoted_after : Bool → ℕ → Bool
+is_quoted_after quoted b = if b == 34 then not quoted else quoted
+
+-- the rest of the word that is begun, within quotes or not, and the words behind it; a '#' outside quotes ends the line
 abbrev pub parts : Bool → List ℕ → List ℕ × List (List ℕ)
 parts quoted [] = ([], [])
 parts quoted (b ∷ bytes) =
-    if b == 34 then onto_word b (parts (not quoted) bytes)
-    else (if quoted then onto_word b (parts true bytes)
-    else (if b == 35 then ([], [])
-    else (if is_blank b then ([], words_in (parts false bytes))
-    else onto_word b (parts false bytes))))
+    if is_behind_word quoted b then ([], if b == 35 then [] else words_in (parts false bytes))
+    else onto_word b (parts (is_quoted_after quoted b) bytes)
 
 -- the words of a line
 abbrev pub words : List ℕ → List (List ℕ)

@@ -15,7 +15,11 @@ IsRefused (Linked line) told = told ≡ Err (Linked line)
 IsRefused (GuidRange line) told = told ≡ Err (GuidRange line)
 IsRefused (TooManyNodes line) told = told ≡ Err (TooManyNodes line)
 
+-- a call answers exactly what is told, a value as it is seen or the first fault, unless memory was refused
+abbrev pub ReadsAs : {S T : Type 0} → (S → T) → Result S TopoFault → Result T TopoFault → Type 0
+ReadsAs seen (Ok value) told = told ≡ Ok (seen value)
+ReadsAs seen (Err fault) told = IsRefused fault told
+
 -- a call answers exactly what is told, a value or the first fault, unless memory was refused
 abbrev pub Reads : {T : Type 0} → Result T TopoFault → Result T TopoFault → Type 0
-Reads (Ok value) told = told ≡ Ok value
-Reads (Err fault) told = IsRefused fault told
+Reads result told = ReadsAs (λ value. value) result told

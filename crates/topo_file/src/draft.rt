@@ -1,6 +1,6 @@
-ghost use Rattle.std.specs.Prelude.{◌≡◌, ◌<◌, ◌^◌, [], length};
+ghost use Rattle.std.specs.Prelude.{◌≡◌, [], Some};
 ghost use Rattle.topo_file.specs.Line.{line_of};
-ghost use Rattle.topo_file.specs.Reading.{with_line, with_link_line, node_of};
+ghost use Rattle.topo_file.specs.Reading.{with_line, node_of};
 ghost use Rattle.topo_file.specs.TopoFault.{Reads};
 
 use crate::fault::TopoFault;
@@ -57,32 +57,26 @@ impl Draft {
                 let nodes = nodes.with(number, node(number, line)?)?;
                 Ok(Draft { nodes, links })
             }
-            Some(Line::Link(link)) => {
-                let links = with_link(nodes.len(), links, number, link)?;
-                Ok(Draft { nodes, links })
-            }
+            Some(Line::Link(link)) => Draft { nodes, links }.with_link(number, link),
         }
     }
-}
 
-/// The links and one more, of the last of so many nodes.
-fn with_link(
-    nodes: usize,
-    mut links: Vec<LinkAt>,
-    line: usize,
-    link: LinkLine,
-) -> Result<Vec<LinkAt>, TopoFault>
-    ensures { Reads (result_map (λ v. v.items) result) (with_link_line line nodes links.items link) }
-{
-    if nodes == 0 {
-        return Err(TopoFault::Syntax { line });
+    /// These lines and the next one, a link.
+    fn with_link(self, number: usize, link: LinkLine) -> Result<Self, TopoFault>
+        ensures { Reads result (with_line number self (Some (Line.Link link))) }
+    {
+        let Draft { nodes, mut links } = self;
+        let count = nodes.len();
+        if count == 0 {
+            return Err(TopoFault::Syntax { line: number });
+        }
+        links.push(LinkAt {
+            line: number,
+            node: count - 1,
+            link,
+        })?;
+        Ok(Draft { nodes, links })
     }
-    links.push(LinkAt {
-        line,
-        node: nodes - 1,
-        link,
-    })?;
-    Ok(links)
 }
 
 /// The node that a line tells.

@@ -4,7 +4,7 @@ ghost use Rattle.topo_file.specs.Line.{line_of, kind_of, node_line, cap_of, link
 
 use crate::name::NodeName;
 use crate::number::{guid, port_number, table_room};
-use crate::text::split_word;
+use crate::text::{place_of, split_word};
 use smp_bytes::{Guid, NodeType};
 
 /// What a line says.
@@ -52,10 +52,12 @@ pub(crate) fn read_line(line: &[u8]) -> Option<Line>
 fn kind(word: &[u8]) -> Option<NodeType>
     ensures { result ≡ kind_of word.now }
 {
-    match word {
-        b"Switch" => Some(NodeType::Switch),
-        b"Hca" | b"Ca" => Some(NodeType::ChannelAdapter),
-        _ => None,
+    if word == b"Switch".as_slice() {
+        Some(NodeType::Switch)
+    } else if word == b"Hca".as_slice() || word == b"Ca".as_slice() {
+        Some(NodeType::ChannelAdapter)
+    } else {
+        None
     }
 }
 
@@ -153,16 +155,11 @@ fn enclosed(word: &[u8], first: u8, close: u8) -> Option<(&[u8], &[u8])>
     until(rest, close)
 }
 
+#[tactic(auto, using(crate::proofs::Splits::until_at, crate::proofs::Splits::until_none))]
 /// What stands before the first `close`, and what stands behind it.
 fn until(bytes: &[u8], close: u8) -> Option<(&[u8], &[u8])>
     ensures { option_map (λ x. (x.0.now, x.1.now)) result ≡ until close bytes.now }
 {
-    let mut len = 0;
-    while len < bytes.len() {
-        if bytes[len] == close {
-            return Some((&bytes[..len], &bytes[len + 1..]));
-        }
-        len += 1;
-    }
-    None
+    let len = place_of(bytes, close)?;
+    Some((&bytes[..len], &bytes[len + 1..]))
 }

@@ -56,7 +56,7 @@ impl NodeName {
 fn is_name(name: &[u8]) -> bool
     ensures { result ≡ is_name name.now }
 {
-    (1..=64).contains(&name.len()) && name.iter().all(|byte| is_name_byte(*byte))
+    !name.is_empty() && name.len() <= 64 && name.iter().all(|byte| is_name_byte(*byte))
 }
 
 /// Whether a name may have the character.

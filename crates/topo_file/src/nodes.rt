@@ -102,7 +102,8 @@ impl Nodes {
             mut nodes,
             mut places,
         } = self;
-        places.insert(node.name.copied(), place)?;
+        let name = node.name.copied();
+        places.insert(name, place)?;
         nodes.push(node)?;
         Ok(Nodes { nodes, places })
     }

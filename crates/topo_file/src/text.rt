@@ -1,6 +1,7 @@
-ghost use Rattle.std.specs.Prelude.{◌≡◌, ◌<◌, ◌≤◌, ◌∷◌, [], false, length, take, drop, MatchOption};
-ghost use Rattle.topo_file.specs.Text.{lines, words, is_blank, parts, without_return};
+ghost use Rattle.std.specs.Prelude.{◌≡◌, ◌<◌, ◌≤◌, ◌∷◌, ◌==◌, [], false, not, length, take, drop, position, MatchOption};
+ghost use Rattle.topo_file.specs.Text.{lines, words, is_blank, parts, is_behind_word, is_quoted_after, without_return};
 
+#[tactic(auto, using(crate::proofs::Splits::lines_at, crate::proofs::Splits::lines_none))]
 /// The first line of a text without its end, and the text behind it; or `None` where the text is empty.
 pub(crate) fn split_line(text: &[u8]) -> Option<(&[u8], &[u8])>
     ensures line { MatchOption result (lines text.now ≡ [])
@@ -10,17 +11,13 @@ pub(crate) fn split_line(text: &[u8]) -> Option<(&[u8], &[u8])>
     if text.is_empty() {
         return None;
     }
-    let mut end = 0;
-    while end < text.len() && text[end] != b'\n' {
-        end += 1;
-    }
-    let (line, rest) = text.split_at(end);
-    match rest {
-        [] => Some((line, rest)),
-        [_, rest @ ..] => Some((without_return(line), rest)),
+    match place_of(text, b'\n') {
+        Some(end) => Some((without_return(&text[..end]), &text[end + 1..])),
+        None => Some((text, &[])),
     }
 }
 
+#[tactic(auto, using(crate::proofs::Splits::without_return_at, crate::proofs::Splits::without_return_other))]
 /// The line without the carriage return that it may end with.
 fn without_return(line: &[u8]) -> &[u8]
     ensures { result.now ≡ without_return line.now }
@@ -36,17 +33,19 @@ pub(crate) fn split_word(line: &[u8]) -> Option<(&[u8], &[u8])>
     ensures { MatchOption result (words line.now ≡ [])
         (λ x. words line.now ≡ x.0.now ∷ words x.1.now) }
 {
-    let mut start = 0;
-    while start < line.len() && is_blank(line[start]) {
-        start += 1;
-    }
-    let line = &line[start..];
-    let end = word_len(line);
-    if end == 0 {
+    let (_, line) = line.split_at(word_start(line)?);
+    if line[0] == b'#' {
         None
     } else {
-        Some(line.split_at(end))
+        Some(line.split_at(word_len(line)))
     }
+}
+
+/// The place of the first byte that is none that separates words.
+fn word_start(line: &[u8]) -> Option<usize>
+    ensures { result ≡ position (λ b. not (is_blank b)) line.now }
+{
+    line.iter().position(|byte| !is_blank(*byte))
 }
 
 /// How long the word is that the line begins with.
@@ -56,17 +55,34 @@ fn word_len(line: &[u8]) -> usize
     ensures behind { (parts false line.now).1 ≡ words (drop result line.now) }
 {
     let mut is_quoted = false;
-    let mut len = 0;
-    while len < line.len() {
-        let byte = line[len];
-        if byte == b'"' {
-            is_quoted = !is_quoted;
-        } else if !is_quoted && (byte == b'#' || is_blank(byte)) {
-            return len;
+    for (place, byte) in line.iter().enumerate() {
+        if is_behind_word(is_quoted, *byte) {
+            return place;
         }
-        len += 1;
+        is_quoted = is_quoted_after(is_quoted, *byte);
     }
-    len
+    line.len()
+}
+
+/// Whether a word, within quotes or not, ends before the byte.
+fn is_behind_word(is_quoted: bool, byte: u8) -> bool
+    ensures { result ≡ is_behind_word is_quoted byte }
+{
+    !is_quoted && (byte == b'#' || is_blank(byte))
+}
+
+/// Whether a word is within quotes behind the byte.
+fn is_quoted_after(is_quoted: bool, byte: u8) -> bool
+    ensures { result ≡ is_quoted_after is_quoted byte }
+{
+    if byte == b'"' { !is_quoted } else { is_quoted }
+}
+
+/// The place of the first such byte.
+pub(crate) fn place_of(bytes: &[u8], byte: u8) -> Option<usize>
+    ensures { result ≡ position (λ b. b == byte) bytes.now }
+{
+    bytes.iter().position(|b| *b == byte)
 }
 
 /// Whether the byte separates words.
