@@ -1,14 +1,14 @@
 -- Where bytes are split.
-use Rattle.std.proofs.Common.{◌≡◌, ℕ, zero, suc, ◌+◌, ◌-◌, ◌<◌, ◌≤◌, Bool, true, false, cond, ◌&&◌, not, List, [], ◌∷◌, ◌++◌, length, get_or, take, drop, Option, None, Some, refl, sym, ap, ◌∙◌, subst, arith, add-one}
+use Rattle.std.proofs.Common.{◌≡◌, ℕ, zero, suc, ◌+◌, ◌-◌, ◌<◌, ◌≤◌, Bool, true, false, cond, ◌&&◌, List, [], ◌∷◌, ◌++◌, length, get_or, take, drop, None, Some, refl, sym, ap, ◌∙◌, arith, add-one}
 use Rattle.std.specs.Prelude.{position, ◌==◌}
 use Rattle.std.specs.List.{position_or_len}
 use Rattle.std.proofs.Math.Bool.{and-false}
-use Rattle.std.proofs.lemmas.Bool.{ltb-false}
+use Rattle.std.proofs.lemmas.Bool.{ltb-false, eqb-true}
 use Rattle.std.proofs.lemmas.List.{take_all, length-drop}
 use Rattle.std.proofs.lemmas.List.Quantifiers.{position-Some}
 use Rattle.std.proofs.lemmas.List.Sums.{fails_before_first}
 use Rattle.topo_file.specs.Line.{until}
-use Rattle.topo_file.specs.Text.{lines, without_return, onto_first, begins_with}
+use Rattle.topo_file.specs.Text.{lines, without_return}
 
 -- what a range up to the end takes
 pub to_end : (n : ℕ) (xs : List ℕ) → take (length xs - n) (drop n xs) ≡ drop n xs
@@ -89,13 +89,22 @@ lines_nowhere (b ∷ c ∷ bytes) h f =
 pub lines_none : (text : List ℕ) → 0 < length text → position (λ b. b == 10) text ≡ None → lines text ≡ text ∷ []
 lines_none text h e = lines_nowhere text h (none_passes (λ b. b == 10) text e)
 
+pub differs : (b c : ℕ) → (b ≡ c → ⊥) → (b == c) ≡ false
+differs b c apart = elim (b == c) as (λ t. (b == c) ≡ t → (b == c) ≡ false) [ true ↦ λ e. absurd (apart (eqb-true b c e)) | false ↦ λ e. e ] refl
+
 -- the carriage return at the end, and none
-pub without_return_at : (line : List ℕ) → without_return (line ++ 13 ∷ []) ≡ line
+without_return_at : (line : List ℕ) → without_return (line ++ 13 ∷ []) ≡ line
 without_return_at [] = refl
 without_return_at (b ∷ []) = refl
 without_return_at (b ∷ c ∷ line) = ap (λ rest. b ∷ rest) (without_return_at (c ∷ line))
 
-pub without_return_other : (line : List ℕ) (b : ℕ) → (b == 13) ≡ false → without_return (line ++ b ∷ []) ≡ line ++ b ∷ []
+without_return_other : (line : List ℕ) (b : ℕ) → (b == 13) ≡ false → without_return (line ++ b ∷ []) ≡ line ++ b ∷ []
 without_return_other [] b e = rw e refl
 without_return_other (c ∷ []) b e = rw e refl
 without_return_other (c ∷ d ∷ line) b e = ap (λ rest. c ∷ rest) (without_return_other (d ∷ line) b e)
+
+pub return_at_end : (line rest : List ℕ) (b : ℕ) → line ≡ rest ++ b ∷ [] → b ≡ 13 → rest ≡ without_return line
+return_at_end line rest b e f = sym (without_return_at rest) ∙ ap (λ n. without_return (rest ++ n ∷ [])) (sym f) ∙ ap without_return (sym e)
+
+pub no_return_at_end : (line rest : List ℕ) (b : ℕ) → line ≡ rest ++ b ∷ [] → (b ≡ 13 → ⊥) → line ≡ without_return line
+no_return_at_end line rest b e f = e ∙ sym (without_return_other rest b (differs b 13 f)) ∙ ap without_return (sym e)

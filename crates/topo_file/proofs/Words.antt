@@ -1,12 +1,12 @@
 -- The words of a line, one after the other.
-use Rattle.std.proofs.Common.{◌≡◌, ℕ, zero, suc, ◌+◌, ◌-◌, ◌<◌, ◌≤◌, Bool, true, false, cond, ◌||◌, not, List, [], ◌∷◌, ◌++◌, length, get_or, take, drop, Option, None, Some, refl, sym, ap, ◌∙◌, subst, arith, add-one, add-zero, append_assoc, append-nil, ◌⊎◌, inl, inr}
+use Rattle.std.proofs.Common.{◌≡◌, ℕ, zero, suc, ◌-◌, ◌<◌, ◌≤◌, Bool, true, false, ◌||◌, not, List, [], ◌∷◌, ◌++◌, length, get_or, take, drop, None, Some, refl, sym, ap, ◌∙◌, subst, arith, add-zero, append_assoc, append-nil, ◌⊎◌, inl, inr}
 use Rattle.std.specs.Prelude.{position, ◌==◌}
 use Rattle.std.proofs.Math.Seq.{take-suc, drop-cons, drop-length}
 use Rattle.std.proofs.lemmas.Bool.{eqb-true}
 use Rattle.std.proofs.lemmas.List.{get_or-drop, length-drop}
 use Rattle.std.proofs.lemmas.List.Quantifiers.{position-Some}
 use Rattle.topo_file.specs.Text.{words, words_in, parts, onto_word, is_blank, is_behind_word, is_quoted_after}
-use Rattle.topo_file.proofs.Splits.{none_passes}
+use Rattle.topo_file.proofs.Splits.{none_passes, differs}
 
 either : (s t : Bool) → (s || t) ≡ true → (s ≡ true) ⊎ (t ≡ true)
 either true t e = inl refl
@@ -82,9 +82,10 @@ word_ended line i false h e b =
 -- the line has ended
 pub line_ended : (line : List ℕ) (quoted : Bool) → IsBegun line quoted (length line) → ((parts false line).0 ≡ take (length line) line) × ((parts false line).1 ≡ words (drop (length line) line))
 line_ended line quoted b =
-    let none : drop (length line) line ≡ [] = drop-length line in
-    (b.word ∙ ap (λ l. take (length line) line ++ (parts quoted l).0) none ∙ append-nil (take (length line) line),
-     b.behind ∙ ap (λ l. (parts quoted l).1) none ∙ sym (ap words none))
+    let none : drop (length line) line ≡ [] = drop-length line in (
+      b.word ∙ ap (λ l. take (length line) line ++ (parts quoted l).0) none ∙ append-nil (take (length line) line),
+      b.behind ∙ ap (λ l. (parts quoted l).1) none ∙ sym (ap words none),
+    )
 
 -- a word is there, and none
 begins : (p : List ℕ × List (List ℕ)) (b : ℕ) (word : List ℕ) → p.0 ≡ b ∷ word → words_in p ≡ p.0 ∷ p.1
@@ -126,12 +127,6 @@ start line rest i e is =
 -- no word, where a comment stands
 pub comment_at : (line rest : List ℕ) (i : ℕ) → position (λ b. not (is_blank b)) line ≡ Some i → rest ≡ drop i line → get_or rest 0 0 ≡ 35 → words line ≡ []
 comment_at line rest i e is at = let s = start line rest i e is in s.same ∙ no_word rest s.some at
-
-differs : (b c : ℕ) → (b ≡ c → ⊥) → (b == c) ≡ false
-differs b c apart = elim (b == c) as (λ t. (b == c) ≡ t → (b == c) ≡ false) [ true ↦ λ e. absurd (apart (eqb-true b c e)) | false ↦ λ e. e ] refl
-
-neither : (s t : Bool) → s ≡ false → t ≡ false → (s || t) ≡ false
-neither s t e f = cc
 
 -- a word and what stands behind it
 pub word_at : (line rest : List ℕ) (i n : ℕ) → position (λ b. not (is_blank b)) line ≡ Some i → rest ≡ drop i line → (get_or rest 0 0 ≡ 35 → ⊥)

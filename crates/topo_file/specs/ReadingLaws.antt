@@ -1,8 +1,8 @@
 -- What is kept from line to line.
-use Rattle.std.specs.Prelude.{◌≢◌, ◌<◌, ◌≤◌, ℕ, List, All, length}
-use Rattle.std.specs.List.{AllPairs}
+use Rattle.std.specs.Prelude.{◌≡◌, ◌≢◌, ◌≤◌, ℕ, List, All, Some, length}
+use Rattle.std.specs.List.{AllPairs, AllByRecursion}
 use Rattle.topo_file.specs.declared.node.Node.{Node}
-use Rattle.topo_file.specs.declared.draft.LinkAt.{LinkAt}
+use Rattle.topo_file.specs.declared.line.LinkLine.{LinkLine}
 use Rattle.topo_file.specs.Topology.{IsNode}
 use Rattle.topo_file.specs.Reading.{Lines}
 
@@ -12,5 +12,11 @@ pub record AreNodes (all : List Node) : Type 0 where
   pub nodes : All IsNode all
   pub names : AllPairs (λ x y. x.name ≢ y.name) all
 
-abbrev pub IsDraft : Lines → Type 0
-IsDraft told = AreNodes told.nodes
+-- a link's ports are from 1 on, where they are in their range
+pub record IsLinkLine (link : LinkLine) : Type 0 where
+  pub port : (p : ℕ) → link.port ≡ Some p → 1 ≤ p
+  pub peer_port : (p : ℕ) → link.peer_port ≡ Some p → 1 ≤ p
+
+pub record IsDraft (told : Lines) : Type 0 where
+  pub nodes : AreNodes told.nodes
+  pub links : AllByRecursion (λ at. IsLinkLine at.link) told.links

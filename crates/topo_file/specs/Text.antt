@@ -1,5 +1,5 @@
 -- A text as lines, and a line as words.
-use Rattle.std.specs.Prelude.{ℕ, Bool, true, false, List, [], ◌∷◌, ◌==◌, ◌&&◌, ◌||◌, not, if◌then◌else◌}
+use Rattle.std.specs.Prelude.{ℕ, Bool, false, List, [], ◌∷◌, ◌==◌, ◌&&◌, ◌||◌, not, if◌then◌else◌}
 
 -- the byte stands first
 abbrev pub begins_with : ℕ → List ℕ → Bool

@@ -35,6 +35,7 @@ pub(crate) struct LinkLine {
     pub(crate) peer_port: Option<u8>,
 }
 
+#[tactic(auto, unfolding(crate::specs::Line::line_of))]
 /// What a line says; `None` is a line that is none of the grammar's.
 pub(crate) fn read_line(line: &[u8]) -> Option<Line>
     ensures { result ≡ line_of line.now }

@@ -17,15 +17,15 @@ pub(crate) fn split_line(text: &[u8]) -> Option<(&[u8], &[u8])>
     }
 }
 
-#[tactic(auto, using(crate::proofs::Splits::without_return_at, crate::proofs::Splits::without_return_other))]
+#[tactic(auto, using(crate::proofs::Splits::return_at_end, crate::proofs::Splits::no_return_at_end))]
 /// The line without the carriage return that it may end with.
 fn without_return(line: &[u8]) -> &[u8]
     ensures { result.now ≡ without_return line.now }
 {
-    match line {
-        [line @ .., b'\r'] => line,
-        _ => line,
-    }
+    let Some((last, rest)) = line.split_last() else {
+        return line;
+    };
+    if *last == b'\r' { rest } else { line }
 }
 
 /// The first word of a line, and what stands behind it; or `None` where there is none.
