@@ -14,11 +14,11 @@ use Rattle.dr_forward.specs.declared.verdict.Verdict.TheVariants.{Out, ToAgent, 
 use Rattle.dr_forward.specs.Step.{pointed, noted, is_port, leaves_by, moved_on, step}
 
 -- the way that a known test chooses
-taken : {X : Type 0} (b : Bool) (x y : X) → b ≡ true → (if b then x else y) ≡ x
+pub taken : {X : Type 0} (b : Bool) (x y : X) → b ≡ true → (if b then x else y) ≡ x
 taken true x y h = refl
 taken false x y h = cc
 
-passed : {X : Type 0} (b : Bool) (x y z : X) → b ≡ false → y ≡ z → (if b then x else y) ≡ z
+pub passed : {X : Type 0} (b : Bool) (x y z : X) → b ≡ false → y ≡ z → (if b then x else y) ≡ z
 passed true x y z h e = cc
 passed false x y z h e = e
 

@@ -48,7 +48,7 @@ pub record IsOut (request : List ℕ) (noted : ℕ → ℕ) (k : ℕ) (bytes : L
   pub pointer : number_in hop_pointer bytes ≡ k
   pub notes : (i : ℕ) → 0 < i → i < k → number_in (return_path i) bytes ≡ noted i
 
-module _ {path request : List ℕ} (r : IsRequestOver path request) (noted : ℕ → ℕ) (small : (i : ℕ) → noted i < 256) where
+module _ {path request : List ℕ} (r : IsRequestOver path request) (noted : ℕ → ℕ) (small : (i : ℕ) → 0 < i → i ≤ length path → noted i < 256) where
   module _ {bytes : List ℕ} {k : ℕ} (o : IsOut request noted k bytes) where
     pub out_directed : is_directed bytes ≡ true
     out_directed = ap (λ n. n == 0x81) (field_kept (record { at = 1; len = 1 }) request bytes (inl (omega arith)) o.kept) ∙ r.directed
@@ -77,7 +77,7 @@ module _ {path request : List ℕ} (r : IsRequestOver path request) (noted : ℕ
         here_noted : 0 < k → number_in (return_path k) (moved_on here bytes) ≡ noted k
         here_noted some =
             subst (λ n. number_in (return_path n) (moved_on here bytes) ≡ here.arrival) o.pointer
-            (moved_on_notes bytes o.count here (omega (arith, o.pointer)) (omega (arith, o.pointer, within, r.short)) (omega (arith, arrives some, small k)))
+            (moved_on_notes bytes o.count here (omega (arith, o.pointer)) (omega (arith, o.pointer, within, r.short)) (omega (arith, arrives some, small k some within)))
             ∙ arrives some
 
         notes : (i : ℕ) → 0 < i → i < k + 1 → number_in (return_path i) (moved_on here bytes) ≡ noted i
@@ -146,7 +146,7 @@ pub record Turns (path : List ℕ) (noted : ℕ → ℕ) (answer : List ℕ) : T
   pub begins : IsBack answer noted (length path) (length path) answer
   pub reads : IsAnswerBack (length path) answer
 
-module _ {path request : List ℕ} (r : IsRequestOver path request) (noted : ℕ → ℕ) (small : (i : ℕ) → noted i < 256)
+module _ {path request : List ℕ} (r : IsRequestOver path request) (noted : ℕ → ℕ) (small : (i : ℕ) → 0 < i → i ≤ length path → noted i < 256)
     {bytes : List ℕ} (o : IsOut request noted (length path + 1) bytes) (given : ℕ) (payload : List ℕ) (a : HoldsAnswer bytes (answer_packet bytes given payload) given payload) where
   same_field : (f : Field) → (128 ≤ f.at) ⊎ ((6 ≤ f.at) × (f.at + f.len ≤ 64)) → number_in f (answer_packet bytes given payload) ≡ number_in f bytes
   same_field f apart =
