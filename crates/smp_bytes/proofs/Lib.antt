@@ -1,7 +1,10 @@
 pub mod Answered
 pub mod BitLaws
+pub mod Cabled
 pub mod CopyLaws
+pub mod DirectedWalks
 pub mod FieldLaws
+pub mod Forwarded
 pub mod HexText
 pub mod Kept
 pub mod Made

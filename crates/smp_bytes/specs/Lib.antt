@@ -1,4 +1,9 @@
+pub mod Cables
+pub mod DirectedWalk
+pub mod Fabric
+pub mod FabricLaws
 pub mod Field
+pub mod Forwarding
 pub mod Header
 pub mod Judges
 pub mod Laws

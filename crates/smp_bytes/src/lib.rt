@@ -1,6 +1,8 @@
 //! Subnet management packets and the numbers that they carry, each as a type of its own.
 #![tactic(auto)]
 
+mod cable;
+mod course;
 mod field;
 mod generation;
 mod guid;
@@ -16,6 +18,8 @@ mod smp_fault;
 mod tests;
 pub mod wire;
 
+pub use cable::{Cable, NodePort};
+pub use course::Course;
 pub use generation::Generation;
 pub use guid::Guid;
 pub use header::{AttributeId, Method, SmpClass, Status};
