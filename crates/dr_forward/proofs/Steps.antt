@@ -1,8 +1,8 @@
 -- What holds of each way to go on holds of a step.
-use Rattle.std.proofs.Common.{◌≡◌, ℕ, ◌+◌, ◌-◌, ◌<◌, ◌≤◌, Bool, true, false, ◌&&◌, ◌||◌, ◌==◌, List, [], length, refl, sym, ap, ◌∙◌, arith}
+use Rattle.std.proofs.Common.{◌≡◌, ℕ, ◌+◌, ◌-◌, ◌<◌, ◌≤◌, Bool, true, false, ◌||◌, ◌==◌, List, length, refl, ◌∙◌, arith}
 use Rattle.std.proofs.lemmas.Bool.Decides.{nat_tests}
-use Rattle.std.specs.Prelude.{nat_lt, nat_le, if◌then◌else◌}
-use Rattle.smp_bytes.specs.Field.{Field, number_in, with_number, are_apart}
+use Rattle.std.specs.Prelude.{nat_lt, if◌then◌else◌}
+use Rattle.smp_bytes.specs.Field.{Field, number_in, are_apart}
 use Rattle.smp_bytes.specs.Packet.{hop_pointer, hop_count, initial_path, return_path, is_returning}
 use Rattle.smp_bytes.proofs.FieldLaws.{length-with_number, number_in-with_number_apart}
 use Rattle.dr_forward.specs.declared.here.Here.{Here}

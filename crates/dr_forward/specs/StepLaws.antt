@@ -1,9 +1,9 @@
 -- What a step leaves of a packet, and what it notes.
-use Rattle.std.specs.Prelude.{◌≡◌, ◌≢◌, ℕ, ◌+◌, ◌≤◌, ◌<◌, ◌⊎◌, Bool, true, false, List, length}
+use Rattle.std.specs.Prelude.{◌≡◌, ℕ, ◌+◌, ◌≤◌, ◌<◌, true, List, length}
 use Rattle.smp_bytes.specs.Field.{Field, number_in, are_apart}
-use Rattle.smp_bytes.specs.Packet.{hop_pointer, hop_count, initial_path, return_path, is_returning}
+use Rattle.smp_bytes.specs.Packet.{hop_pointer}
 use Rattle.dr_forward.specs.declared.here.Here.{Here}
-use Rattle.dr_forward.specs.declared.verdict.Verdict.TheVariants.{Out, ToAgent, Discard}
+use Rattle.dr_forward.specs.declared.verdict.Verdict.TheVariants.{Out, Discard}
 use Rattle.dr_forward.specs.declared.verdict.DiscardReason.{DiscardReason}
 use Rattle.dr_forward.specs.Step.{step}
 

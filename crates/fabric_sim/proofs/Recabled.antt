@@ -25,8 +25,8 @@ state_of agents p = option_map_or (λ a. state_at a p.port) (slice_get agents p.
 abbrev pub wired_at : List Agent → NodePort → Bool → List Agent
 wired_at agents p b = with_changed agents p.node (λ a. wired a p.port b)
 
-keeps-wired : (agents : List Agent) (p : NodePort) (b : Bool) → AllRelated KeepsSeats agents (wired_at agents p b)
-keeps-wired agents p b = related_changed KeepsSeats keeps_seats_same agents p.node (λ a. wired a p.port b) (λ a e. keeps_seats-wired a p.port b)
+pub keeps_wired : (agents : List Agent) (p : NodePort) (b : Bool) → AllRelated KeepsSeats agents (wired_at agents p b)
+keeps_wired agents p b = related_changed KeepsSeats keeps_seats_same agents p.node (λ a. wired a p.port b) (λ a e. keeps_seats-wired a p.port b)
 
 no-new : (agents : List Agent) (p : NodePort) (b : Bool) → AllRelated NoNewSeats agents (wired_at agents p b)
 no-new agents p b = related_changed NoNewSeats no_new_seats_same agents p.node (λ a. wired a p.port b) (λ a e. no_new_seats-wired a p.port b)
@@ -65,6 +65,14 @@ state-apart agents p q b ne =
           (state-beside agents p q.port b (λ m. ports_differ p q ne n (sym m)))
     ]
 
+-- a cable port has a place for its other end
+pub place_of : (s : Simulation) (r : NodePort) → IsSimulation s → has_cable_port s.agents r ≡ true → HasPeerPlace s.peers r
+place_of s r is port =
+    let at = at_agent s.agents r port in
+    let fit : length (get_or s.peers r.node []) ≡ at.agent.node.ports + 1 = is.cables.fit r.node at.agent at.there in
+    let most : r.port ≤ at.agent.node.ports = at.most in
+    omega arith
+
 -- both ends --------------------------------------------------------------------------------
 
 -- what is written at the two ends, which may be one port
@@ -82,24 +90,17 @@ module _ (s : Simulation) (is : IsSimulation s) (p q : NodePort) (b : Bool) (at_
   abbrev pub peers_now : List (List (Option NodePort))
   peers_now = with_peer (with_peer s.peers p at_p) q at_q
 
-  pub place_of : (r : NodePort) → has_cable_port s.agents r ≡ true → HasPeerPlace s.peers r
-  place_of r port =
-      let at = at_agent s.agents r port in
-      let fit : length (get_or s.peers r.node []) ≡ at.agent.node.ports + 1 = is.cables.fit r.node at.agent at.there in
-      let most : r.port ≤ at.agent.node.ports = at.most in
-      omega arith
-
   pub q_port_then : has_cable_port (wired_at s.agents p b) q ≡ true
-  q_port_then = cable_ports_stay s.agents (wired_at s.agents p b) (keeps-wired s.agents p b) q ∙ ends.q_port
+  q_port_then = cable_ports_stay s.agents (wired_at s.agents p b) (keeps_wired s.agents p b) q ∙ ends.q_port
 
   across-q : across peers_now q ≡ at_q
-  across-q = across_here (with_peer s.peers p at_p) q at_q (has_place_after s.peers p q at_p (place_of q ends.q_port))
+  across-q = across_here (with_peer s.peers p at_p) q at_q (has_place_after s.peers p q at_p (place_of s q is ends.q_port))
 
   across-p : across peers_now p ≡ at_p
   across-p =
       elim (same_or_apart p q) [
         | inl e ↦ subst (λ r. across peers_now r ≡ at_p) (sym e) (across-q ∙ ends.loop e)
-        | inr ne ↦ across_apart (with_peer s.peers p at_p) q p at_q (λ e. ne (sym e)) ∙ across_here s.peers p at_p (place_of p ends.p_port)
+        | inr ne ↦ across_apart (with_peer s.peers p at_p) q p at_q (λ e. ne (sym e)) ∙ across_here s.peers p at_p (place_of s p is ends.p_port)
       ]
 
   pub across-other : (r : NodePort) → p ≢ r → q ≢ r → across peers_now r ≡ across s.peers r
@@ -119,7 +120,7 @@ module _ (s : Simulation) (is : IsSimulation s) (p q : NodePort) (b : Bool) (at_
   state-other r np nq = state-apart (wired_at s.agents p b) q r b nq ∙ state-apart s.agents p r b np
 
   keeps-both : AllRelated KeepsSeats s.agents agents_now
-  keeps-both place = by (slice_get s.agents place) (slice_get (wired_at s.agents p b) place) (slice_get agents_now place) (keeps-wired s.agents p b place) (keeps-wired (wired_at s.agents p b) q b place)
+  keeps-both place = by (slice_get s.agents place) (slice_get (wired_at s.agents p b) place) (slice_get agents_now place) (keeps_wired s.agents p b place) (keeps_wired (wired_at s.agents p b) q b place)
     where
       by : (l m n : Option Agent) → Related KeepsSeats l m → Related KeepsSeats m n → Related KeepsSeats l n
       by None None None h k = tt

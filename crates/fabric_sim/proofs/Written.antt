@@ -2,7 +2,7 @@
 use Rattle.std.proofs.Common.{◌≡◌, ◌≢◌, ℕ, ◌+◌, ◌^◌, ◌<◌, ◌≤◌, ◌*◌, Bool, true, false, List, [], ◌∷◌, ◌++◌, length, get_or, take, drop, refl, arith, ap, sym, ◌∙◌, subst, lit≤}
 use Rattle.std.specs.Prelude.{Option, Some, None, IfSome, OnSome, SomeIff, MatchOption, remove, slice_get, slice_set, nat_le, if◌then◌else◌, ◌==◌}
 use Rattle.std.specs.Option.{option_map_or}
-use Rattle.std.proofs.lemmas.Bool.{cond-false, ne_eqb, le-leb, and_from}
+use Rattle.std.proofs.lemmas.Bool.{ne_eqb}
 use Rattle.std.proofs.lemmas.List.{take_at}
 use Rattle.std.proofs.lemmas.Option.{slice_get_within, get_or_from_slice_get}
 use Rattle.smp_bytes.specs.declared.cable.NodePort.{NodePort}
@@ -18,8 +18,9 @@ use Rattle.fabric_sim.specs.declared.packet.Packet.{Packet}
 use Rattle.fabric_sim.specs.Simulation.{Simulation, IsSimulation, CanWait, IsWaiting, IsFlightAt, without_flight, HasPeerPlace, is_seat_at, agent_at, across, has_cable_port, port_of, answer_place, next_serial}
 use Rattle.fabric_sim.specs.Delivery.{with_changed, with_flight, without, moved_to, asked, answer_at, leaving}
 use Rattle.fabric_sim.specs.Changes.{with_peer, changed_at}
-use Rattle.fabric_sim.proofs.AgentLists.{AtAgent, at_agent, all_at, length-changed}
-use Rattle.fabric_sim.proofs.PeerLists.{length-with_peer}
+use Rattle.fabric_sim.proofs.AgentLists.{AtAgent, at_agent, all_at, length-changed, cable_ports_stay}
+use Rattle.fabric_sim.proofs.PeerLists.{length-with_peer, has_place_after}
+use Rattle.fabric_sim.proofs.Recabled.{wired_at, keeps_wired}
 use Rattle.fabric_sim.proofs.Serials.{AtPlace, at_place, moved_at, without_at}
 use Rattle.fabric_sim.proofs.Invariants.{moved_to_is, without_is, with_flight_is, asked_is}
 
@@ -149,13 +150,6 @@ asked_valid v s e i slid dlid flight request t is at left same =
 pub written_back : {X : Type 0} (n : ℕ) (old new : List X) → n ≡ length old → length new ≡ length old → take n (new ++ drop (length new) old) ≡ new
 written_back n old new count long = take_at new (drop (length new) old) n (long ∙ sym count)
 
--- a request is answered where a serial number is left
-pub asked_result : (s t : Simulation) (serial : ℕ) (a : Simulation) → s.next ≡ serial → serial < 2 ^ 64 → t ≡ a → (b : Simulation) → t ≡ (if s.next == 2 ^ 64 then b else a)
-asked_result s t serial a now fits same b = same ∙ sym (cond-false _ b a (ne_eqb s.next (2 ^ 64) (λ e. differ s.next serial now fits e)))
-  where
-    differ : (n serial : ℕ) → n ≡ serial → serial < 2 ^ 64 → n ≡ 2 ^ 64 → ⊥
-    differ n serial now fits e = omega arith
-
 -- where packets can wait ------------------------------------------------------------------
 
 -- a seat is at a cable port
@@ -186,3 +180,28 @@ changed_now v s e p change a new there after =
 pub other_is : (s : Simulation) (p : NodePort) (m : Option NodePort) → IsSimulation s → m ≡ across s.peers p → IfSome m (λ other. has_cable_port s.agents other ≡ true)
 other_is s p None is e = tt
 other_is s p (Some other) is e = is.cables.ends other p (is.cables.lead_back p other (sym e))
+
+-- after the first end was written -----------------------------------------------------------
+
+-- a cable port is one still
+pub port_then : (agents first now : List Agent) (n : ℕ) (p q : NodePort) (b : Bool) → length agents ≡ n → first ≡ with_changed agents p.node (λ a. wired a p.port b)
+    → now ≡ take n (first ++ drop (length first) agents) → has_cable_port agents q ≡ true → has_cable_port now q ≡ true
+port_then agents first now n p q b count wrote back port =
+    let long : length first ≡ length agents = ap length wrote ∙ length-changed agents p.node (λ a. wired a p.port b) in
+    let same : now ≡ with_changed agents p.node (λ a. wired a p.port b) = back ∙ (written_back n agents first (sym count) long ∙ wrote) in
+    subst (λ xs. has_cable_port xs q ≡ true) (sym same) (cable_ports_stay agents (wired_at agents p b) (keeps_wired agents p b) q ∙ port)
+
+-- and there is a place for its other end still
+pub place_then : (peers first now : List (List (Option NodePort))) (n : ℕ) (p q : NodePort) (other : Option NodePort) → length peers ≡ n → first ≡ with_peer peers p other
+    → now ≡ take n (first ++ drop (length first) peers) → HasPeerPlace peers q → HasPeerPlace now q
+place_then peers first now n p q other count wrote back place =
+    let long : length first ≡ length peers = ap length wrote ∙ length-with_peer peers p other in
+    let same : now ≡ with_peer peers p other = back ∙ (written_back n peers first (sym count) long ∙ wrote) in
+    subst (λ xs. HasPeerPlace xs q) (sym same) (has_place_after peers p q other place)
+
+-- a serial number is left
+pub is_left : (v s : Simulation) (serial : ℕ) → v ≡ s → v.next ≡ serial → serial < 2 ^ 64 → (s.next == 2 ^ 64) ≡ false
+is_left v s serial e now fits = ne_eqb _ _ (λ h. differ s.next serial (sym (ap (λ w. w.next) e) ∙ now) fits h)
+  where
+    differ : (n serial : ℕ) → n ≡ serial → serial < 2 ^ 64 → n ≡ 2 ^ 64 → ⊥
+    differ n serial now fits e = omega arith

@@ -82,7 +82,8 @@ at-false false x y h = refl
 first-back : (c : Cable) (cs : List Cable) → other_end (c ∷ cs) c.one ≡ Some c.other
 first-back c cs = at-true _ _ _ (same_port-refl c.one)
 
-second-back : (t : Bool) (c : Cable) (m : Option NodePort) → (t ≡ true → c.one ≡ c.other) → (if t then Some c.other else if is_same_port c.other c.other then Some c.one else m) ≡ Some c.one
+second-back : (t : Bool) (c : Cable) (m : Option NodePort) → (t ≡ true → c.one ≡ c.other)
+    → (if t then Some c.other else if is_same_port c.other c.other then Some c.one else m) ≡ Some c.one
 second-back true c m h = ap (λ x. Some x) (sym (h refl))
 second-back false c m h = at-true _ _ _ (same_port-refl c.other)
 

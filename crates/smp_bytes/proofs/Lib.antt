@@ -4,6 +4,7 @@ pub mod Cabled
 pub mod CopyLaws
 pub mod DirectedWalks
 pub mod FieldLaws
+pub mod Forwarded
 pub mod HexText
 pub mod Kept
 pub mod Made

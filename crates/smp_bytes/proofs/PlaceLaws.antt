@@ -33,7 +33,7 @@ bytes_in-with_bytes at written bytes fits =
     ap (take (length written)) (drop-with_bytes at written bytes fits) ∙ take-append_seam written (drop (at + length written) bytes)
 
 -- bytes that are alike are alike in a row
-bytes_in-alike : (f : Field) (xs ys : List ℕ) → f.at + f.len ≤ length xs → f.at + f.len ≤ length ys
+pub bytes_in-alike : (f : Field) (xs ys : List ℕ) → f.at + f.len ≤ length xs → f.at + f.len ≤ length ys
     → ((k : ℕ) → f.at ≤ k → k < f.at + f.len → get_or xs k 0 ≡ get_or ys k 0) → bytes_in f xs ≡ bytes_in f ys
 bytes_in-alike f xs ys lies lies' same =
     let long : (zs : List ℕ) → f.at + f.len ≤ length zs

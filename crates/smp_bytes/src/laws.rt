@@ -4,7 +4,7 @@ ghost use Rattle.smp_bytes.specs.Header.{get, set, get_resp, done, method_not_su
 ghost use Rattle.smp_bytes.specs.Laws.{NumberIsRead, FieldApartStays, BytesOutsideStay, WriteIsUnique, LastWriteStands, BitsAreRead, BitsApartStay, OtherBytesStay};
 ghost use Rattle.smp_bytes.specs.ReadBack.{DirectedReadsBack, LidRoutedReadsBack, AnswerReadsBack, StatusReadsBack};
 ghost use Rattle.smp_bytes.specs.Cables.{CablesLeadBack};
-ghost use Rattle.smp_bytes.specs.FabricLaws.{WalksGoOn};
+ghost use Rattle.smp_bytes.specs.FabricLaws.{PacketsEndOnce, WalksGoOn};
 
 use crate::header::{AttributeId, Method, Status};
 
@@ -108,4 +108,9 @@ pub fn cables_lead_back()
 #[tactic(auto, using(crate::proofs::DirectedWalks::walks_go_on))]
 pub fn walks_go_on()
     ensures { WalksGoOn }
+{}
+
+/// A packet for a LID that is sent from a port is delivered at a port, or lost at a node, and never both.
+pub fn packets_end_once()
+    ensures { PacketsEndOnce }
 {}

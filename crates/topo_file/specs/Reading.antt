@@ -1,0 +1,113 @@
+-- What a text says: a topology, or its first fault.
+use Rattle.std.specs.Prelude.{ℕ, zero, suc, ◌+◌, ◌^◌, ◌||◌, Bool, false, List, [], ◌∷◌, ◌++◌, Option, None, Some, Result, Ok, Err, length, is_some, nat_le, nat_lt, option_and_then, slice_get, if◌then◌else◌}
+use Rattle.std.specs.Option.{option_map_or}
+use Rattle.smp_bytes.specs.NodeType.{is_switch}
+use Rattle.smp_bytes.specs.declared.cable.Cable.{Cable}
+use Rattle.smp_bytes.specs.declared.cable.NodePort.{NodePort}
+use Rattle.topo_file.specs.declared.fault.TopoFault.{TopoFault}
+use Rattle.topo_file.specs.declared.fault.TopoFault.TheVariants.{Syntax, Name, Ports, Peer, Port, Linked, GuidRange, TooManyNodes}
+use Rattle.topo_file.specs.declared.line.Line.{Line}
+use Rattle.topo_file.specs.declared.line.Line.TheVariants as line
+use Rattle.topo_file.specs.declared.line.NodeLine.{NodeLine}
+use Rattle.topo_file.specs.declared.line.LinkLine.{LinkLine}
+use Rattle.topo_file.specs.declared.draft.LinkAt.{LinkAt}
+use Rattle.topo_file.specs.declared.node.Node.{Node}
+use Rattle.topo_file.specs.Text.{lines}
+use Rattle.topo_file.specs.Line.{line_of}
+use Rattle.topo_file.specs.Topology.{Layout, place_of, is_port, other_end}
+
+-- what may follow a value, or its fault
+infixl 10 ◌>>=◌
+abbrev pub ◌>>=◌ : {A B : Type 0} → Result A TopoFault → (A → Result B TopoFault) → Result B TopoFault
+(Ok value) >>= next = next value
+(Err fault) >>= next = Err fault
+
+-- the nodes and the link lines so far
+pub record Lines : Type 0 where
+  pub nodes : List Node
+  pub links : List LinkAt
+
+-- the GUID of the last port of an adapter does not fit
+abbrev pub is_beyond : NodeLine → ℕ → Bool
+is_beyond node ports = if is_switch node.kind then false else nat_le (2 ^ 64) (node.guid + ports)
+
+-- the node that a line of this number tells
+abbrev pub node_with : ℕ → NodeLine → Option ℕ → Option ℕ → Result Node TopoFault
+node_with number node (Some ports) (Some cap) =
+    if is_beyond node ports then Err (GuidRange number)
+    else Ok (record { name = node.name; kind = node.kind; ports = ports; guid = node.guid; cap = cap })
+node_with number node (Some ports) None = Err (Ports number)
+node_with number node None cap = Err (Ports number)
+
+abbrev pub node_of : ℕ → NodeLine → Result Node TopoFault
+node_of number node = node_with number node node.ports node.cap
+
+-- the nodes with one more
+abbrev pub with_node : ℕ → List Node → Node → Result (List Node) TopoFault
+with_node number nodes node =
+    if is_some (place_of nodes node.name) then Err (Name number)
+    else (if nat_lt (length nodes) 1024 then Ok (nodes ++ node ∷ []) else Err (TooManyNodes number))
+
+-- the link lines with one more, below the last of so many nodes
+abbrev pub with_link_line : ℕ → ℕ → List LinkAt → LinkLine → Result (List LinkAt) TopoFault
+with_link_line number zero links link = Err (Syntax number)
+with_link_line number (suc last) links link = Ok (links ++ record { line = number; node = last; link = link } ∷ [])
+
+-- what a line of this number adds to the lines before it
+abbrev pub with_line : ℕ → Lines → Option Line → Result Lines TopoFault
+with_line number before None = Err (Syntax number)
+with_line number before (Some line.Empty) = Ok before
+with_line number before (Some (line.Node node)) =
+    node_of number node >>= with_node number before.nodes >>= λ nodes. Ok (record before { nodes = nodes })
+with_line number before (Some (line.Link link)) =
+    with_link_line number (length before.nodes) before.links link >>= λ links. Ok (record before { links = links })
+
+-- what lines add that count from this number
+abbrev pub with_lines : ℕ → Lines → List (List ℕ) → Result Lines TopoFault
+with_lines number before [] = Ok before
+with_lines number before (line ∷ later) = with_line number before (line_of line) >>= λ now. with_lines (number + 1) now later
+
+-- the port of the node at a place, where the node has it
+abbrev pub port_at : List Node → ℕ → Option ℕ → Option NodePort
+port_at nodes place port =
+    option_and_then (λ p. option_and_then (λ node. if nat_le p node.ports then Some (record { node = place; port = p }) else None) (slice_get nodes place)) port
+
+abbrev pub link_between : ℕ → Option NodePort → Option NodePort → Result Cable TopoFault
+link_between number (Some one) (Some other) = Ok (record { one = one; other = other })
+link_between number (Some one) None = Err (Port number)
+link_between number None other = Err (Port number)
+
+abbrev pub link_to : List Node → LinkAt → Option ℕ → Result Cable TopoFault
+link_to nodes at None = Err (Peer at.line)
+link_to nodes at (Some place) = link_between at.line (port_at nodes at.node at.link.port) (port_at nodes place at.link.peer_port)
+
+-- the link that a line tells
+abbrev pub link_of : List Node → LinkAt → Result Cable TopoFault
+link_of nodes at = link_to nodes at (place_of nodes at.link.peer)
+
+-- the port is there, and this one
+abbrev pub is_end : NodePort → Option NodePort → Bool
+is_end p found = option_map_or (is_port p) found false
+
+-- the links with one more, which may be there already
+abbrev pub with_link : ℕ → List Cable → Cable → Result (List Cable) TopoFault
+with_link number links link =
+    if is_end link.other (other_end links link.one) then Ok links
+    else (if is_some (other_end links link.one) || is_some (other_end links link.other) then Err (Linked number) else Ok (links ++ link ∷ []))
+
+-- the links with those that the lines tell
+abbrev pub with_links : List Node → List Cable → List LinkAt → Result (List Cable) TopoFault
+with_links nodes links [] = Ok links
+with_links nodes links (at ∷ later) = link_of nodes at >>= with_link at.line links >>= λ now. with_links nodes now later
+
+-- the topology of the lines
+abbrev pub topology_in : Lines → Result Layout TopoFault
+topology_in told = with_links told.nodes [] told.links >>= λ links. Ok (record { nodes = told.nodes; links = links })
+
+-- the nodes and the links of all lines
+abbrev pub told_by : List (List ℕ) → Result Lines TopoFault
+told_by lines = with_lines 1 (record { nodes = []; links = [] }) lines
+
+-- what a text says
+unfoldable pub topology_of : List ℕ → Result Layout TopoFault
+topology_of text = told_by (lines text) >>= topology_in

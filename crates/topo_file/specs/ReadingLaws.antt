@@ -1,0 +1,22 @@
+-- What is kept from line to line.
+use Rattle.std.specs.Prelude.{◌≡◌, ◌≢◌, ◌≤◌, ℕ, List, All, Some, length}
+use Rattle.std.specs.List.{AllPairs, AllByRecursion}
+use Rattle.topo_file.specs.declared.node.Node.{Node}
+use Rattle.topo_file.specs.declared.line.LinkLine.{LinkLine}
+use Rattle.topo_file.specs.Topology.{IsNode}
+use Rattle.topo_file.specs.Reading.{Lines}
+
+-- nodes as a topology may have them
+pub record AreNodes (all : List Node) : Type 0 where
+  pub few : length all ≤ 1024
+  pub nodes : All IsNode all
+  pub names : AllPairs (λ x y. x.name ≢ y.name) all
+
+-- a link's ports are from 1 on, where they are in their range
+pub record IsLinkLine (link : LinkLine) : Type 0 where
+  pub port : (p : ℕ) → link.port ≡ Some p → 1 ≤ p
+  pub peer_port : (p : ℕ) → link.peer_port ≡ Some p → 1 ≤ p
+
+pub record IsDraft (told : Lines) : Type 0 where
+  pub nodes : AreNodes told.nodes
+  pub links : AllByRecursion (λ at. IsLinkLine at.link) told.links

@@ -1,0 +1,74 @@
+-- What a topology is.
+use Rattle.std.specs.Prelude.{◌≡◌, ◌≢◌, ℕ, suc, ◌+◌, ◌<◌, ◌≤◌, ◌^◌, ◌==◌, ◌&&◌, Bool, List, [], ◌∷◌, All, Option, None, Some, IsTrue, option_map, length, slice_get, if◌then◌else◌}
+use Rattle.std.specs.List.{AllPairs}
+use Rattle.std.specs.Str.{bytes_eq}
+use Rattle.smp_bytes.specs.declared.node_type.NodeType.{NodeType}
+use Rattle.smp_bytes.specs.declared.node_type.NodeType.TheVariants.{ChannelAdapter, Switch, Router}
+use Rattle.smp_bytes.specs.declared.cable.Cable.{Cable}
+use Rattle.smp_bytes.specs.declared.cable.NodePort.{NodePort}
+use Rattle.topo_file.specs.declared.node.Node.{Node}
+use Rattle.topo_file.specs.NodeName.{is_name}
+
+-- nodes, and the links between their ports
+pub record Layout : Type 0 where
+  pub nodes : List Node
+  pub links : List Cable
+
+-- the place of the node that has the name
+abbrev pub place_of : List Node → List ℕ → Option ℕ
+place_of [] name = None
+place_of (node ∷ nodes) name = if bytes_eq node.name name then Some 0 else option_map suc (place_of nodes name)
+
+-- the port is this one
+abbrev pub is_port : NodePort → NodePort → Bool
+is_port p q = p.node == q.node && p.port == q.port
+
+-- the port at the other end of the link in a port
+abbrev pub other_end : List Cable → NodePort → Option NodePort
+other_end [] p = None
+other_end (link ∷ links) p =
+    if is_port link.one p then Some link.other else (if is_port link.other p then Some link.one else other_end links p)
+
+-- the entries that a node's forwarding table may have, and the GUIDs that its ports may need
+abbrev pub IsOfKind : NodeType → ℕ → ℕ → ℕ → Type 0
+IsOfKind Switch ports guid cap = (1 ≤ cap) × (cap ≤ 0xC000)
+IsOfKind ChannelAdapter ports guid cap = (cap ≡ 0) × (guid + ports < 2 ^ 64)
+IsOfKind Router ports guid cap = ⊥
+
+-- a node as a topology may have it
+pub record IsNode (node : Node) : Type 0 where
+  pub named : IsTrue (is_name node.name)
+  pub some_ports : 1 ≤ node.ports
+  pub port_range : node.ports ≤ 254
+  pub guid_range : node.guid < 2 ^ 64
+  pub of_kind : IsOfKind node.kind node.ports node.guid node.cap
+
+-- a port from 1 on of a node that is there
+pub record IsPortIn (nodes : List Node) (p : NodePort) : Type 0 where
+  pub node : Node
+  pub there : slice_get nodes p.node ≡ Some node
+  pub some : 1 ≤ p.port
+  pub within : p.port ≤ node.ports
+
+pub record IsLinkIn (nodes : List Node) (link : Cable) : Type 0 where
+  pub one : IsPortIn nodes link.one
+  pub other : IsPortIn nodes link.other
+
+-- two links have no port in common
+pub record AreApart (x y : Cable) : Type 0 where
+  pub one_one : x.one ≢ y.one
+  pub one_other : x.one ≢ y.other
+  pub other_one : x.other ≢ y.one
+  pub other_other : x.other ≢ y.other
+
+-- at most 1,024 nodes, each with a name of its own, and links between their ports, at most one in each
+pub record IsTopology (t : Layout) : Type 0 where
+  pub few : length t.nodes ≤ 1024
+  pub nodes : All IsNode t.nodes
+  pub names : AllPairs (λ x y. x.name ≢ y.name) t.nodes
+  pub links : All (IsLinkIn t.nodes) t.links
+  pub apart : AllPairs AreApart t.links
+
+-- no two nodes have one GUID
+abbrev pub GuidsDiffer : List Node → Type 0
+GuidsDiffer nodes = AllPairs (λ x y. x.guid ≢ y.guid) nodes

@@ -1,0 +1,100 @@
+ghost use Rattle.std.specs.Prelude.{◌≡◌, [], Some};
+ghost use Rattle.topo_file.specs.Line.{line_of};
+ghost use Rattle.topo_file.specs.Reading.{with_line, node_of};
+ghost use Rattle.topo_file.specs.TopoFault.{Reads};
+
+use crate::fault::TopoFault;
+use crate::line::{Line, LinkLine, NodeLine, read_line};
+use crate::node::Node;
+use crate::nodes::Nodes;
+use smp_bytes::NodeType;
+use std::alloc::Global;
+use std::marker::Model;
+
+/// A link with the number of its line and the place of the node below which it stands.
+#[derive(Drop)]
+pub(crate) struct LinkAt {
+    pub(crate) line: usize,
+    pub(crate) node: usize,
+    pub(crate) link: LinkLine,
+}
+
+/// The nodes and the links of the lines so far.
+#[derive(Drop)]
+pub(crate) struct Draft {
+    pub(crate) nodes: Nodes,
+    pub(crate) links: Vec<LinkAt>,
+}
+
+impl Model for Draft {
+    ghost use Rattle.topo_file.specs.Reading.{Lines};
+
+    ghost Value = { Lines };
+
+    ghost view = { λ a. record { nodes = a.nodes; links = a.links.items } };
+}
+
+impl Draft {
+    /// No lines.
+    pub(crate) fn new(alloc: Global) -> Self
+        ensures { result ≡ record { nodes = []; links = [] } }
+    {
+        Draft {
+            nodes: Nodes::new(alloc),
+            links: Vec::new(alloc),
+        }
+    }
+
+    /// These lines and the next one.
+    pub(crate) fn with(self, number: usize, line: &[u8]) -> Result<Self, TopoFault>
+        ensures { Reads result (with_line number self (line_of line.now)) }
+    {
+        let Draft { nodes, links } = self;
+        match read_line(line) {
+            None => Err(TopoFault::Syntax { line: number }),
+            Some(Line::Empty) => Ok(Draft { nodes, links }),
+            Some(Line::Node(line)) => {
+                let nodes = nodes.with(number, node(number, line)?)?;
+                Ok(Draft { nodes, links })
+            }
+            Some(Line::Link(link)) => Draft { nodes, links }.with_link(number, link),
+        }
+    }
+
+    /// These lines and the next one, a link.
+    fn with_link(self, number: usize, link: LinkLine) -> Result<Self, TopoFault>
+        ensures { Reads result (with_line number self (Some (Line.Link link))) }
+    {
+        let Draft { nodes, mut links } = self;
+        let count = nodes.len();
+        if count == 0 {
+            return Err(TopoFault::Syntax { line: number });
+        }
+        links.push(LinkAt {
+            line: number,
+            node: count - 1,
+            link,
+        })?;
+        Ok(Draft { nodes, links })
+    }
+}
+
+/// The node that a line tells.
+fn node(number: usize, line: NodeLine) -> Result<Node, TopoFault>
+    ensures { Reads result (node_of number line) }
+{
+    let (Some(ports), Some(cap)) = (line.ports, line.cap) else {
+        return Err(TopoFault::Ports { line: number });
+    };
+    let last = line.guid.number().checked_add(u64::from(ports));
+    if line.kind != NodeType::Switch && last.is_none() {
+        return Err(TopoFault::GuidRange { line: number });
+    }
+    Ok(Node {
+        name: line.name,
+        kind: line.kind,
+        ports,
+        guid: line.guid,
+        cap,
+    })
+}

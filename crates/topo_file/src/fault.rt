@@ -1,0 +1,57 @@
+use std::alloc::{AllocError, AllocFailed};
+use thiserror::Error;
+
+/// Why a text is no topology, in the order in which it is judged: first each line in turn, then each link in
+/// turn. Lines count from 1.
+#[derive(Clone, Copy, Debug, PartialEq, Eq, Error)]
+pub enum TopoFault {
+    /// The line is none of the grammar's, or a link above all nodes.
+    #[error("line {line}: syntax")]
+    Syntax { line: usize },
+    /// Another node has the name.
+    #[error("line {line}: name")]
+    Name { line: usize },
+    /// A port count outside 1 to 254, or a forwarding table's room outside 1 to 49,152.
+    #[error("line {line}: ports")]
+    Ports { line: usize },
+    /// A link to a name that no node has.
+    #[error("line {line}: peer")]
+    Peer { line: usize },
+    /// A link's port is 0 or over its node's count.
+    #[error("line {line}: port")]
+    Port { line: usize },
+    /// A port is linked in two ways.
+    #[error("line {line}: linked")]
+    Linked { line: usize },
+    /// The GUID of an adapter's last port does not fit 64 bits.
+    #[error("line {line}: guid")]
+    GuidRange { line: usize },
+    /// The node is the 1,025th.
+    #[error("line {line}: too many nodes")]
+    TooManyNodes { line: usize },
+    /// Memory was refused.
+    #[error("out of memory")]
+    Memory,
+}
+
+impl From<AllocError> for TopoFault {
+    ghost use Rattle.std.specs.Prelude.{◌≡◌};
+    ghost use Rattle.topo_file.specs.declared.fault.TopoFault.TheVariants.{Memory};
+
+    ghost from_gives = { λ e fault. fault ≡ Memory };
+
+    fn from(_: AllocError) -> Self {
+        TopoFault::Memory
+    }
+}
+
+impl<T: Drop> From<AllocFailed<T>> for TopoFault {
+    ghost use Rattle.std.specs.Prelude.{◌≡◌};
+    ghost use Rattle.topo_file.specs.declared.fault.TopoFault.TheVariants.{Memory};
+
+    ghost from_gives = { λ e fault. fault ≡ Memory };
+
+    fn from(_: AllocFailed<T>) -> Self {
+        TopoFault::Memory
+    }
+}

@@ -1,0 +1,166 @@
+ghost use Rattle.std.specs.Prelude.{◌≡◌, ◌∷◌, option_map};
+ghost use Rattle.topo_file.specs.Text.{words};
+ghost use Rattle.topo_file.specs.Line.{line_of, kind_of, node_line, cap_of, link_line, quoted_name, bracketed_port, enclosed, until};
+
+use crate::name::NodeName;
+use crate::number::{guid, port_number, table_room};
+use crate::text::{place_of, split_word};
+use smp_bytes::{Guid, NodeType};
+
+/// What a line says.
+#[derive(Drop)]
+pub(crate) enum Line {
+    Empty,
+    Node(NodeLine),
+    Link(LinkLine),
+}
+
+/// A node as its line tells it. A number is `None` where it is out of its range.
+#[derive(Drop)]
+pub(crate) struct NodeLine {
+    pub(crate) kind: NodeType,
+    /// From 1 to 254.
+    pub(crate) ports: Option<u8>,
+    pub(crate) name: NodeName,
+    pub(crate) guid: Guid,
+    /// From 1 to 49,152 at a switch, and 0 at an adapter.
+    pub(crate) cap: Option<u16>,
+}
+
+/// A link as a line of one of its nodes tells it. A port is `None` where it is not from 1 to 254.
+#[derive(Drop)]
+pub(crate) struct LinkLine {
+    pub(crate) port: Option<u8>,
+    pub(crate) peer: NodeName,
+    pub(crate) peer_port: Option<u8>,
+}
+
+#[tactic(auto, unfolding(crate::specs::Line::line_of))]
+/// What a line says; `None` is a line that is none of the grammar's.
+pub(crate) fn read_line(line: &[u8]) -> Option<Line>
+    ensures { result ≡ line_of line.now }
+{
+    let Some((word, rest)) = split_word(line) else {
+        return Some(Line::Empty);
+    };
+    match kind(word) {
+        Some(kind) => Some(Line::Node(node_line(kind, rest)?)),
+        None => Some(Line::Link(link_line(word, rest)?)),
+    }
+}
+
+/// The type of node that a word is for.
+fn kind(word: &[u8]) -> Option<NodeType>
+    ensures { result ≡ kind_of word.now }
+{
+    if word == b"Switch".as_slice() {
+        Some(NodeType::Switch)
+    } else if word == b"Hca".as_slice() || word == b"Ca".as_slice() {
+        Some(NodeType::ChannelAdapter)
+    } else {
+        None
+    }
+}
+
+/// The rest of the line of a node.
+fn node_line(kind: NodeType, line: &[u8]) -> Option<NodeLine>
+    ensures { result ≡ node_line kind (words line.now) }
+{
+    let (ports, line) = split_word(line)?;
+    let (name, line) = split_word(line)?;
+    let (word, line) = split_word(line)?;
+    let (number, line) = split_word(line)?;
+    if word != b"guid".as_slice() {
+        return None;
+    }
+    Some(NodeLine {
+        kind,
+        ports: port_number(ports)?,
+        name: quoted_name(name)?,
+        guid: guid(number)?,
+        cap: cap(kind, line)?,
+    })
+}
+
+/// The room of a node's forwarding table, by the rest of its line.
+fn cap(kind: NodeType, line: &[u8]) -> Option<Option<u16>>
+    ensures { result ≡ cap_of kind (words line.now) }
+{
+    let word = split_word(line);
+    match (kind, word) {
+        (NodeType::Switch, None) => Some(Some(1024)),
+        (NodeType::Switch, Some((word, line))) => given_cap(word, line),
+        (NodeType::ChannelAdapter, None) => Some(Some(0)),
+        _ => None,
+    }
+}
+
+/// The room of a switch's forwarding table, by the word `cap` and what follows it.
+fn given_cap(word: &[u8], line: &[u8]) -> Option<Option<u16>>
+    ensures { result ≡ cap_of NodeType.Switch (word.now ∷ words line.now) }
+{
+    let (number, line) = split_word(line)?;
+    if word != b"cap".as_slice() || split_word(line).is_some() {
+        return None;
+    }
+    table_room(number)
+}
+
+/// A link, by the first word of its line and what follows it.
+fn link_line(port: &[u8], line: &[u8]) -> Option<LinkLine>
+    ensures { result ≡ link_line (port.now ∷ words line.now) }
+{
+    let (end, line) = split_word(line)?;
+    if split_word(line).is_some() {
+        return None;
+    }
+    let port = bracketed_port(port)?;
+    let (peer, peer_port) = enclosed(end, b'"', b'"')?;
+    Some(LinkLine {
+        port,
+        peer: NodeName::new(peer)?,
+        peer_port: bracketed_port(peer_port)?,
+    })
+}
+
+/// A name in quotes.
+fn quoted_name(word: &[u8]) -> Option<NodeName>
+    ensures { result ≡ quoted_name word.now }
+{
+    let (name, rest) = enclosed(word, b'"', b'"')?;
+    if !rest.is_empty() {
+        return None;
+    }
+    NodeName::new(name)
+}
+
+/// A port in brackets.
+fn bracketed_port(word: &[u8]) -> Option<Option<u8>>
+    ensures { result ≡ bracketed_port word.now }
+{
+    let (port, rest) = enclosed(word, b'[', b']')?;
+    if !rest.is_empty() {
+        return None;
+    }
+    port_number(port)
+}
+
+/// What stands between the byte `first`, which the word begins with, and the next `close`, and what stands behind that one.
+fn enclosed(word: &[u8], first: u8, close: u8) -> Option<(&[u8], &[u8])>
+    ensures { option_map (λ x. (x.0.now, x.1.now)) result ≡ enclosed first close word.now }
+{
+    let (byte, rest) = word.split_first()?;
+    if *byte != first {
+        return None;
+    }
+    until(rest, close)
+}
+
+#[tactic(auto, using(crate::proofs::Splits::until_at, crate::proofs::Splits::until_none))]
+/// What stands before the first `close`, and what stands behind it.
+fn until(bytes: &[u8], close: u8) -> Option<(&[u8], &[u8])>
+    ensures { option_map (λ x. (x.0.now, x.1.now)) result ≡ until close bytes.now }
+{
+    let len = place_of(bytes, close)?;
+    Some((&bytes[..len], &bytes[len + 1..]))
+}

@@ -1,0 +1,121 @@
+ghost use Rattle.std.specs.Prelude.{◌≡◌, [], ◌∷◌, ◌++◌};
+ghost use Rattle.topo_file.specs.Topology.{other_end};
+ghost use Rattle.topo_file.specs.Reading.{with_link, with_links, link_of};
+ghost use Rattle.topo_file.specs.TopoFault.{Reads};
+
+use crate::draft::LinkAt;
+use crate::fault::TopoFault;
+use crate::nodes::Nodes;
+use smp_bytes::{Cable, NodePort, PortNum};
+use std::alloc::Global;
+use std::collections::BTreeMap;
+use std::marker::Model;
+
+/// Links by place, at most one in each port.
+#[derive(Drop)]
+pub(crate) struct Links {
+    links: Vec<Cable>,
+    /// The port at the other end of the link in a port.
+    across: BTreeMap<(usize, PortNum), NodePort>,
+}
+
+impl Model for Links {
+    ghost use Rattle.std.specs.Prelude.{List};
+    ghost use Rattle.smp_bytes.specs.declared.cable.Cable.{Cable as Told};
+    ghost use Rattle.topo_file.specs.Places.{HasEnds};
+
+    ghost Value = { List Told };
+
+    ghost view = { λ a. a.links.items };
+
+    ghost invariant = { λ a. HasEnds a.links.items a.across };
+}
+
+impl Links {
+    /// No links.
+    fn new(alloc: Global) -> Self
+        ensures { result ≡ [] }
+    {
+        Links {
+            links: Vec::new(alloc),
+            across: BTreeMap::new(alloc),
+        }
+    }
+
+    /// The links that the lines tell, each once. Takes a few searches for each line.
+    pub(crate) fn of(alloc: Global, nodes: &Nodes, lines: &[LinkAt]) -> Result<Self, TopoFault>
+        ensures { Reads result (with_links nodes.now [] lines.now) }
+    {
+        let mut links = Links::new(alloc);
+        for at in lines {
+            links = links.with(at.line, link(nodes, at)?)?;
+        }
+        Ok(links)
+    }
+
+    /// The links in their order.
+    pub(crate) fn as_slice(&self) -> &[Cable]
+        ensures { result.now ≡ self.now }
+    {
+        &self.links
+    }
+
+    /// The port at the other end of the link in a port. A search.
+    fn other_end(&self, port: NodePort) -> Option<NodePort>
+        ensures { result ≡ other_end self.now port }
+    {
+        self.across.get(&key(port)).copied()
+    }
+
+    /// These links and that of a line, which may be one of them.
+    fn with(self, line: usize, link: Cable) -> Result<Self, TopoFault>
+        ensures { Reads result (with_link line self link) }
+    {
+        let beyond_one = self.other_end(link.one);
+        let beyond_other = self.other_end(link.other);
+        match (beyond_one, beyond_other) {
+            (Some(end), _) if end == link.other => Ok(self),
+            (None, None) => self.with_new(link),
+            _ => Err(TopoFault::Linked { line }),
+        }
+    }
+
+    /// These links and another, in whose ports there is none.
+    fn with_new(self, link: Cable) -> Result<Self, TopoFault>
+        requires one { other_end self link.one ≡ None }
+        requires other { other_end self link.other ≡ None }
+        ensures { Reads result (Ok (self ++ link ∷ [])) }
+    {
+        let Links {
+            mut links,
+            mut across,
+        } = self;
+        across.insert(key(link.one), link.other)?;
+        across.insert(key(link.other), link.one)?;
+        links.push(link)?;
+        Ok(Links { links, across })
+    }
+}
+
+/// A port as the index has it.
+fn key(port: NodePort) -> (usize, PortNum)
+    ensures { result ≡ (port.node, port.port) }
+{
+    (port.node, port.port)
+}
+
+/// The link that a line tells.
+fn link(nodes: &Nodes, at: &LinkAt) -> Result<Cable, TopoFault>
+    ensures { Reads result (link_of nodes.now at.now) }
+{
+    let line = at.line;
+    let Some(place) = nodes.place(&at.link.peer) else {
+        return Err(TopoFault::Peer { line });
+    };
+    let one = nodes.port(at.node, at.link.port);
+    let other = nodes.port(place, at.link.peer_port);
+    match (one, other) {
+        (Some(one), Some(other)) => Ok(Cable { one, other }),
+        _ => Err(TopoFault::Port { line }),
+    }
+}

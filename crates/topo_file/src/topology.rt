@@ -1,0 +1,146 @@
+ghost use Rattle.std.specs.Prelude.{◌≡◌, ◌↔◌, length, slice_get, IsTrue, IfOk, option_copied};
+ghost use Rattle.topo_file.specs.Text.{lines};
+ghost use Rattle.topo_file.specs.Topology.{place_of, IsTopology, GuidsDiffer};
+ghost use Rattle.topo_file.specs.Reading.{topology_of, topology_in, told_by};
+ghost use Rattle.topo_file.specs.ReadingLaws.{IsDraft};
+ghost use Rattle.topo_file.specs.TopoFault.{Reads};
+
+use crate::draft::Draft;
+use crate::fault::TopoFault;
+use crate::links::Links;
+use crate::name::NodeName;
+use crate::node::Node;
+use crate::nodes::Nodes;
+use crate::text::split_line;
+use smp_bytes::Cable;
+use std::alloc::{AllocError, Global};
+use std::collections::BTreeSet;
+use std::marker::Model;
+
+/// The nodes of a simulated fabric, and the links between their ports.
+#[derive(Drop)]
+pub struct Topology {
+    nodes: Nodes,
+    links: Links,
+    guids_distinct: bool,
+}
+
+impl Model for Topology {
+    ghost use Rattle.std.specs.Prelude.{◌↔◌, IsTrue};
+    ghost use Rattle.topo_file.specs.Topology.{Layout, IsTopology, GuidsDiffer};
+
+    ghost Value = { Layout };
+
+    ghost view = { λ a. record { nodes = a.nodes; links = a.links } };
+
+    ghost invariant = { λ a. IsTopology (record { nodes = a.nodes; links = a.links })
+        × (IsTrue a.guids_distinct ↔ GuidsDiffer a.nodes) };
+}
+
+impl Topology {
+    /// How many nodes there are: at most 1,024.
+    pub fn count(&self) -> usize
+        ensures count { result ≡ length self.now.nodes }
+        ensures is_topology { IsTopology self.now }
+    {
+        self.nodes.len()
+    }
+
+    /// The node at a place, from 0, in the order of their lines. Takes one step.
+    pub fn node(&self, place: usize) -> Option<&Node>
+        ensures { option_copied result ≡ slice_get self.now.nodes place }
+    {
+        self.nodes.get(place)
+    }
+
+    /// How many links there are.
+    pub fn link_count(&self) -> usize
+        ensures { result ≡ length self.now.links }
+    {
+        self.links.as_slice().len()
+    }
+
+    /// The link at a place, from 0: each once, in the order of their first lines. Takes one step.
+    pub fn link(&self, place: usize) -> Option<Cable>
+        ensures { result ≡ slice_get self.now.links place }
+    {
+        self.links.as_slice().get(place).copied()
+    }
+
+    /// The place of the node that has the name. A search.
+    pub fn find(&self, name: &str) -> Option<usize>
+        ensures { result ≡ place_of self.now.nodes name.now }
+    {
+        self.nodes.place(&NodeName::new(name.as_bytes())?)
+    }
+
+    /// Whether no two nodes have the same GUID. It is held.
+    pub fn guids_distinct(&self) -> bool
+        ensures { IsTrue result ↔ GuidsDiffer self.now.nodes }
+    {
+        self.guids_distinct
+    }
+}
+
+/// Reads the text of a topology. Each line, which ends with LF or CR LF, is empty, a node or a link of the node
+/// above it, and `#` outside quotes begins a comment:
+///
+/// ```text
+/// Switch 4 "S1" guid 0x10 cap 1024
+/// [1] "H1"[1]
+/// Hca 1 "H1" guid 0x100
+/// ```
+///
+/// A node has a port count, a name and a GUID, and a switch may have the room of its forwarding table. A link has a
+/// port, and its peer's name and port. Takes a search for each node and each link.
+pub fn parse(alloc: Global, text: &str) -> Result<Topology, TopoFault>
+    ensures { Reads result (topology_of text.now) }
+{
+    finish(alloc, read_lines(alloc, text.as_bytes())?)
+}
+
+/// The nodes and the links of a text's lines.
+fn read_lines(alloc: Global, text: &[u8]) -> Result<Draft, TopoFault>
+    ensures { Reads result (told_by (lines text.now)) }
+{
+    let mut draft = Draft::new(alloc);
+    let mut number = 0;
+    let mut rest = text;
+    while let Some((line, later)) = split_line(rest) {
+        number += 1;
+        draft = draft.with(number, line)?;
+        rest = later;
+    }
+    Ok(draft)
+}
+
+/// The topology of the lines.
+fn finish(alloc: Global, draft: Draft) -> Result<Topology, TopoFault>
+    requires { IsDraft draft }
+    ensures { Reads result (topology_in draft) }
+{
+    let Draft {
+        nodes,
+        links: lines,
+    } = draft;
+    let links = Links::of(alloc, &nodes, &lines)?;
+    let guids_distinct = guids_distinct(alloc, nodes.as_slice())?;
+    Ok(Topology {
+        nodes,
+        links,
+        guids_distinct,
+    })
+}
+
+/// Whether no two nodes have the same GUID.
+fn guids_distinct(alloc: Global, nodes: &[Node]) -> Result<bool, AllocError>
+    ensures { IfOk result (λ distinct. IsTrue distinct ↔ GuidsDiffer nodes.now) }
+{
+    let mut seen = BTreeSet::new(alloc);
+    for node in nodes {
+        if !seen.insert(node.guid)? {
+            return Ok(false);
+        }
+    }
+    Ok(true)
+}
