@@ -11,6 +11,7 @@ use Rattle.smp_bytes.specs.declared.cable.NodePort.{NodePort}
 use Rattle.attr_codec.specs.declared.port_state.PortState.TheVariants.{Down}
 use Rattle.node_agents.specs.Agent.{Agent, IsAgent, state_at, has_seat, is_switch, node_of, seated}
 use Rattle.node_agents.specs.Answers.{answered}
+use Rattle.node_agents.proofs.Made.{agents_are_made}
 use Rattle.node_agents.proofs.Shapes.{answered_keeps_shape, answered_is_agent}
 use Rattle.smp_bytes.specs.Fabric.{is_switch_at}
 use Rattle.smp_bytes.specs.NodeType as types
@@ -22,7 +23,7 @@ use Rattle.fabric_sim.specs.Simulation.{Simulation, IsSimulation, AreCables, Fit
 use Rattle.fabric_sim.specs.Delivery.{with_changed, with_flight, without, moved_to, asked}
 use Rattle.fabric_sim.specs.Changes.{changed_at}
 use Rattle.fabric_sim.proofs.AgentLists.{AllRelated, KeepsSeats, KeepsDown, Before, AtAgent, before, at_agent, cable_ports_stay, seats_stay, Related, keeps_down_same, keeps_down_from_shape, length-changed, all_changed, related_changed, NoNewSeats, no_new_seats_same, seats_before, changed_at_place, others_stay}
-use Rattle.fabric_sim.proofs.PortChanges.{is_agent-seated, keeps_down-seated, seat-seated_other}
+use Rattle.fabric_sim.proofs.PortChanges.{keeps_down-seated, seat-seated_other}
 use Rattle.fabric_sim.proofs.PeerLists.{same_or_apart, ports_differ}
 use Rattle.fabric_sim.proofs.Serials.{rising-head, rising-tail}
 
@@ -228,7 +229,7 @@ pub seated_is : (s : Simulation) (p : NodePort) → IsSimulation s → has_cable
 seated_is s p is port adapter =
     let change : Agent → Agent = λ a. seated a p.port in
     with_agents s (with_changed s.agents p.node change) is (length-changed s.agents p.node change)
-    (all_changed IsAgent s.agents p.node change is.agents (λ a e h. is_agent-seated a p.port (adapter_at s p.node a e adapter) h))
+    (all_changed IsAgent s.agents p.node change is.agents (λ a e h. agents_are_made.seated a p.port h (adapter_at s p.node a e adapter)))
     (related_changed KeepsDown keeps_down_same s.agents p.node change (λ a e. keeps_down-seated a p.port))
     (λ q h.
     elim (same_or_apart p q) [

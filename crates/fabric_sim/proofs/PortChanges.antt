@@ -6,16 +6,12 @@ use Rattle.attr_codec.specs.declared.port_state.PortState.{PortState}
 use Rattle.attr_codec.specs.declared.port_state.PortState.TheVariants.{NoChange, Down, Initialize}
 use Rattle.node_agents.specs.declared.port.Port.{Port}
 use Rattle.node_agents.specs.Agent.{Agent, IsAgent, IsPort, is_switch, has_seat, state_at, port_at, port_in, with_port, wired, seated}
-use Rattle.node_agents.proofs.Shapes.{is_port_at}
+use Rattle.node_agents.proofs.Made.{agents_are_made}
 use Rattle.fabric_sim.proofs.AgentLists.{KeepsSeats, KeepsDown, NoNewSeats}
 
 -- the state of a port with a cable or without
 abbrev pub state_by : Bool → PortState
 state_by is_wired = if is_wired then Initialize else Down
-
-state_by-change : (b : Bool) → state_by b ≢ NoChange
-state_by-change true e = cc
-state_by-change false e = cc
 
 -- who sits, where what is written at a port says the same
 seats-set : (ports : List Port) (at q : ℕ) (new absent : Port) → new.is_sm ≡ (get_or ports at absent).is_sm → (get_or (set ports at new) q absent).is_sm ≡ (get_or ports q absent).is_sm
@@ -41,18 +37,6 @@ seats-more (x ∷ xs) zero (suc q) new absent e h = h
 seats-more (x ∷ xs) (suc at) zero new absent e h = h
 seats-more (x ∷ xs) (suc at) (suc q) new absent e h = seats-more xs at q new absent e h
 
--- an agent with a port written
-is_agent-with_port : (a : Agent) (port : ℕ) (new : Port) → IsAgent a → IsPort a.node.kind new → (is_switch a ≡ true → state_at (with_port a port new) 0 ≡ state_at a 0) → IsAgent (with_port a port new)
-is_agent-with_port a port new is fits zero-stays =
-    record {
-      node = is.node;
-      count = length-set a.ports port new ∙ is.count;
-      ports = All-set (IsPort a.node.kind) a.ports port new fits is.ports;
-      port_zero = λ h. zero-stays h ∙ is.port_zero h;
-      table = is.table;
-      top = is.top;
-    }
-
 -- wired ------------------------------------------------------------------------------
 
 pub keeps_seats-wired : (a : Agent) (port : ℕ) (is_wired : Bool) → KeepsSeats a (wired a port is_wired)
@@ -70,11 +54,7 @@ pub state-wired_other : (a : Agent) (port q : ℕ) (is_wired : Bool) → q ≢ p
 state-wired_other a port q is_wired ne = ap (λ p. p.state) (get_or-set_other a.ports port q (record (port_at a port) { state = state_by is_wired }) (port_in Down) ne)
 
 pub is_agent-wired : (a : Agent) (port : ℕ) (is_wired : Bool) → 1 ≤ port → IsAgent a → IsAgent (wired a port is_wired)
-is_agent-wired a port is_wired least is =
-    let old = is_port_at a is port in
-    is_agent-with_port a port (record (port_at a port) { state = state_by is_wired }) is
-    (record { state = state_by-change is_wired; base_lid = old.base_lid; is_sm = old.is_sm })
-    (λ h. state-wired_other a port 0 is_wired (λ e. omega arith))
+is_agent-wired a port is_wired least is = agents_are_made.wired a port is_wired is least
 
 -- seated ------------------------------------------------------------------------------
 
@@ -87,13 +67,6 @@ keeps_down-seated a port =
       to = λ q h. sym (state q) ∙ h;
       from = λ q h. state q ∙ h;
     }
-
-pub is_agent-seated : (a : Agent) (port : ℕ) → is_switch a ≡ false → IsAgent a → IsAgent (seated a port)
-is_agent-seated a port adapter is =
-    let old = is_port_at a is port in
-    is_agent-with_port a port (record (port_at a port) { is_sm = true }) is
-    (record { state = old.state; base_lid = old.base_lid; is_sm = λ h. cc })
-    (λ h. cc)
 
 -- elsewhere nobody new sits
 pub seat-seated_other : (a : Agent) (port q : ℕ) → q ≢ port → has_seat (seated a port) q ≡ has_seat a q
