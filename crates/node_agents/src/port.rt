@@ -4,7 +4,7 @@ use attr_codec::PortState;
 use smp_bytes::Lid;
 
 /// What an agent holds of a port.
-#[derive(Clone, Copy, Debug, PartialEq, Eq)]
+#[derive(Clone, Copy)]
 pub struct Port {
     /// The port's own LID, 0 for none.
     pub(crate) base_lid: Lid,

@@ -4,7 +4,7 @@ ghost use Rattle.node_agents.specs.Refusal.{status_of};
 use smp_bytes::Status;
 
 /// Why an agent refuses a request, in the order in which it is judged.
-#[derive(Clone, Copy, Debug, PartialEq, Eq)]
+#[derive(Clone, Copy)]
 pub(crate) enum Refusal {
     /// The method is neither Get nor Set.
     Method,
