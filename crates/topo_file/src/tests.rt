@@ -1,6 +1,6 @@
 //! Texts of topologies, and what is wrong with others.
 use super::*;
-use smp_bytes::{Cable, Guid, NodePort, NodeType, PortNum};
+use smp_bytes::Cable;
 use std::alloc::Global;
 use std::test::Fail;
 
@@ -20,13 +20,16 @@ Hca 1 "H1" guid 0x100
 Hca 1 "H2" guid 0x200
 "#;
 
-/// What is wrong with a text.
-fn fault(alloc: Global, text: &str) -> Option<TopoFault> {
-    parse(alloc, text).err()
+/// What is said of a text that is no topology.
+fn refusal(alloc: Global, text: &str) -> Result<String, Fail> {
+    match parse(alloc, text) {
+        Ok(_) => Ok(String::new(alloc)),
+        Err(fault) => Ok(format!(in alloc; "{fault}")?),
+    }
 }
 
 #[test]
-fn lines_of_no_grammar(rt: HostRuntime) {
+fn lines_of_no_grammar(rt: HostRuntime) -> Result<(), Fail> {
     for text in [
         r#"switch 1 "A" guid 0x1"#,
         r#"Switch 1 "A" guid 0x1 cap"#,
@@ -59,86 +62,80 @@ fn lines_of_no_grammar(rt: HostRuntime) {
         "Hca",
     ] {
         assert!(rt;
-            fault(rt.alloc(), text) == Some(TopoFault::Syntax { line: 1 }),
+            refusal(rt.alloc(), text)?.as_str() == "line 1: syntax",
             "{text}"
         );
     }
-    for link in [
-        r#"Switch 9 "A" guid 0x1
-[1]"A"[3]"#,
-        r#"Switch 9 "A" guid 0x1
-[1] "A" [3]"#,
-        r#"Switch 9 "A" guid 0x1
-[1] "A"[3] 5"#,
-        r#"Switch 9 "A" guid 0x1
-[1 ] "A"[3]"#,
-        r#"Switch 9 "A" guid 0x1
-[] "A"[3]"#,
-        r#"Switch 9 "A" guid 0x1
-[-1] "A"[3]"#,
-    ] {
-        assert!(rt;
-            fault(rt.alloc(), link) == Some(TopoFault::Syntax { line: 2 }),
-            "{link}"
-        );
-    }
+    Ok(())
 }
 
 #[test]
 fn faults_with_their_lines(rt: HostRuntime) -> Result<(), Fail> {
-    use TopoFault::{GuidRange, Linked, Name, Peer, Port, Ports, Syntax};
-
     for (text, wanted) in [
-        ("Hca 0 \"A\" guid 0x1", Ports { line: 1 }),
-        ("Hca 255 \"A\" guid 0x1", Ports { line: 1 }),
+        ("Hca 0 \"A\" guid 0x1", "line 1: ports"),
+        ("Hca 255 \"A\" guid 0x1", "line 1: ports"),
         (
             "Hca 99999999999999999999999 \"A\" guid 0x1",
-            Ports { line: 1 },
+            "line 1: ports",
         ),
-        ("\nSwitch 1 \"A\" guid 0x1 cap 0", Ports { line: 2 }),
-        ("\nSwitch 1 \"A\" guid 0x1 cap 49153", Ports { line: 2 }),
-        ("Ca 2 \"A\" guid 0xFFFFfffffffffffe", GuidRange { line: 1 }),
+        ("\nSwitch 1 \"A\" guid 0x1 cap 0", "line 2: ports"),
+        ("\nSwitch 1 \"A\" guid 0x1 cap 49153", "line 2: ports"),
+        ("Ca 2 \"A\" guid 0xFFFFfffffffffffe", "line 1: guid"),
         (
             "Ca 1 \"A\" guid 0x1\r\nCa 1 \"A\" guid 0x2\r\nCa 0 \"B\" guid 0x1",
-            Name { line: 2 },
+            "line 2: name",
         ),
         (
             "Ca 1 \"A\" guid 0x1\nx\nCa 1 \"A\" guid 0x1",
-            Syntax { line: 2 },
+            "line 2: syntax",
         ),
+        ("Ca 1 \"A\" guid 0x1\n[1]\"A\"[3]", "line 2: syntax"),
+        ("Ca 1 \"A\" guid 0x1\n[1] \"A\" [3]", "line 2: syntax"),
+        ("Ca 1 \"A\" guid 0x1\n[1] \"A\"[3] 5", "line 2: syntax"),
+        ("Ca 1 \"A\" guid 0x1\n[] \"A\"[-1]", "line 2: syntax"),
         (
             "Ca 1 \"A\" guid 0x1\n[1] \"B\"[1]\nCa 0 \"B\" guid 0x1",
-            Ports { line: 3 },
+            "line 3: ports",
         ),
         (
             "Ca 1 \"A\" guid 0x1\n[9] \"B\"[1]\n[9] \"A\"[1]",
-            Peer { line: 2 },
+            "line 2: peer",
         ),
-        ("Ca 1 \"A\" guid 0x1\n[1] \"A\"[2]", Port { line: 2 }),
-        ("Ca 1 \"A\" guid 0x1\n[1] \"A\"[0]", Port { line: 2 }),
+        ("Ca 1 \"A\" guid 0x1\n[1] \"A\"[2]", "line 2: port"),
+        ("Ca 1 \"A\" guid 0x1\n[1] \"A\"[0]", "line 2: port"),
         (
             "Ca 1 \"A\" guid 0x1\n[99999999999999999999] \"A\"[1]",
-            Port { line: 2 },
+            "line 2: port",
         ),
         (
             "Ca 3 \"A\" guid 0x1\n[1] \"A\"[2]\n[3] \"A\"[2]",
-            Linked { line: 3 },
+            "line 3: linked",
         ),
         (
             "Ca 3 \"A\" guid 0x1\n[1] \"A\"[1]\n[1] \"A\"[2]",
-            Linked { line: 3 },
+            "line 3: linked",
         ),
     ] {
-        assert!(rt; fault(rt.alloc(), text) == Some(wanted), "{text}");
+        assert!(rt; refusal(rt.alloc(), text)?.as_str() == wanted, "{text}");
     }
+    Ok(())
+}
+
+#[test]
+fn faults_of_the_sample_with_a_line_more(rt: HostRuntime) -> Result<(), Fail> {
     for (line, wanted) in [
-        ("[5] \"H2\"[1]", Port { line: 4 }),
-        ("[3] \"X\"[1]", Peer { line: 4 }),
-        ("[2] \"S3\"[4]", Linked { line: 4 }),
+        ("[5] \"H2\"[1]", "line 4: port"),
+        ("[3] \"X\"[1]", "line 4: peer"),
+        ("[2] \"S3\"[4]", "line 4: linked"),
     ] {
         let text = format!(in rt.alloc(); "{HEAD}{line}\n{TAIL}")?;
-        assert!(rt; fault(rt.alloc(), text.as_str()) == Some(wanted), "{line}");
+        assert!(rt;
+            refusal(rt.alloc(), text.as_str())?.as_str() == wanted,
+            "{line}"
+        );
     }
+    let memory = format!(in rt.alloc(); "{}", TopoFault::Memory)?;
+    assert!(rt; memory.as_str() == "out of memory");
     Ok(())
 }
 
@@ -173,84 +170,60 @@ fn texts_of_topologies(rt: HostRuntime) -> Result<(), Fail> {
     Ok(())
 }
 
-fn port(node: usize, port: u8) -> NodePort {
-    NodePort {
-        node,
-        port: PortNum::new(port),
+/// The nodes, a line each: name, type, ports, GUID and the forwarding table's entries.
+fn nodes(alloc: Global, topology: &Topology) -> Result<String, Fail> {
+    let mut text = String::new(alloc);
+    for place in 0..topology.count() {
+        let node = topology.node(place).ok_or("no node")?;
+        let name = node.name.as_str();
+        let sizes = format!(in alloc; "{} {} {}", node.ports, node.guid, node.cap)?;
+        text.push_str(format!(in alloc; "{name} {} {sizes}\n", node.kind)?.as_str())?;
     }
+    Ok(text)
+}
+
+/// The links, a line each: the place and the port of one end, and of the other.
+fn links(alloc: Global, topology: &Topology) -> Result<String, Fail> {
+    let mut text = String::new(alloc);
+    for place in 0..topology.link_count() {
+        let Cable { one, other } = topology.link(place).ok_or("no link")?;
+        let one = format!(in alloc; "{}/{}", one.node, one.port)?;
+        let other = format!(in alloc; "{}/{}", other.node, other.port)?;
+        text.push_str(format!(in alloc; "{one} {other}\n")?.as_str())?;
+    }
+    Ok(text)
 }
 
 #[test]
 fn sample_fabric(rt: HostRuntime) -> Result<(), Fail> {
     let text = format!(in rt.alloc(); "{HEAD}{TAIL}")?;
     let topology = parse(rt.alloc(), text.as_str())?;
-    let nodes = [
-        ("S1", NodeType::Switch, 4, 0x10, 1024),
-        ("S2", NodeType::Switch, 4, 0x20, 1024),
-        ("S3", NodeType::Switch, 4, 0x30, 1024),
-        ("H1", NodeType::ChannelAdapter, 1, 0x100, 0),
-        ("H2", NodeType::ChannelAdapter, 1, 0x200, 0),
-    ];
-    for (place, (name, kind, ports, guid, cap)) in nodes.into_iter().enumerate() {
-        let node = topology.node(place).ok_or(name)?;
-        let is_right = node.name.as_str() == name && node.kind == kind && node.ports == ports;
-        let is_told = node.guid == Guid::new(guid) && node.cap == cap;
-        assert!(rt;
-            is_right && is_told && topology.find(name) == Some(place),
-            "{name}"
-        );
-    }
-    let links = [
-        (port(0, 1), port(1, 1)),
-        (port(0, 2), port(2, 1)),
-        (port(1, 2), port(2, 2)),
-        (port(1, 3), port(3, 1)),
-        (port(2, 3), port(4, 1)),
-    ];
-    for (place, (one, other)) in links.into_iter().enumerate() {
-        assert!(rt;
-            topology.link(place) == Some(Cable { one, other }),
-            "{place}"
-        );
-    }
-    let is_whole = topology.count() == 5 && topology.link_count() == 5;
-    assert!(rt; is_whole && topology.guids_distinct() && topology.find("s1").is_none());
+    let all_nodes = "S1 switch 4 0000000000000010 1024\nS2 switch 4 0000000000000020 1024\n\
+        S3 switch 4 0000000000000030 1024\nH1 ca 1 0000000000000100 0\nH2 ca 1 0000000000000200 0\n";
+    assert!(rt; nodes(rt.alloc(), &topology)?.as_str() == all_nodes);
+    let all_links = "0/1 1/1\n0/2 2/1\n1/2 2/2\n1/3 3/1\n2/3 4/1\n";
+    assert!(rt; links(rt.alloc(), &topology)?.as_str() == all_links);
+    assert!(rt; topology.find("H1") == Some(3) && topology.find("h1").is_none());
     Ok(())
+}
+
+/// So many nodes, named by their numbers, of one GUID.
+fn many(alloc: Global, count: usize) -> Result<String, Fail> {
+    let mut text = String::new(alloc);
+    for number in 0..count {
+        let line = format!(in alloc; "Ca 1 \"{number}\" guid 0x5\n")?;
+        text.push_str(line.as_str())?;
+    }
+    Ok(text)
 }
 
 #[test]
 fn at_most_1024_nodes(rt: HostRuntime) -> Result<(), Fail> {
-    let mut text = String::new(rt.alloc());
-    for number in 0..1024 {
-        text.push_str(format!(in rt.alloc(); "Ca 1 \"{number}\" guid 0x5\n")?.as_str())?;
-    }
-    let topology = parse(rt.alloc(), text.as_str())?;
-    assert!(rt; topology.count() == 1024 && topology.find("1023") == Some(1023));
-    assert!(rt; !topology.guids_distinct());
-    text.push_str("Ca 1 \"last\" guid 0x5")?;
-    let last = fault(rt.alloc(), text.as_str());
-    assert!(rt; last == Some(TopoFault::TooManyNodes { line: 1025 }));
-    Ok(())
-}
-
-#[test]
-fn texts_of_faults(rt: HostRuntime) -> Result<(), Fail> {
-    for (fault, wanted) in [
-        (TopoFault::Syntax { line: 4 }, "line 4: syntax"),
-        (TopoFault::Name { line: 4 }, "line 4: name"),
-        (TopoFault::Ports { line: 4 }, "line 4: ports"),
-        (TopoFault::Peer { line: 4 }, "line 4: peer"),
-        (TopoFault::Port { line: 4 }, "line 4: port"),
-        (TopoFault::Linked { line: 4 }, "line 4: linked"),
-        (TopoFault::GuidRange { line: 4 }, "line 4: guid"),
-        (
-            TopoFault::TooManyNodes { line: 4 },
-            "line 4: too many nodes",
-        ),
-        (TopoFault::Memory, "out of memory"),
-    ] {
-        let text = format!(in rt.alloc(); "{fault}")?;
-        assert!(rt; text.as_str() == wanted, "{wanted}");
-    }
+    let most = many(rt.alloc(), 1024)?;
+    let topology = parse(rt.alloc(), most.as_str())?;
+    assert!(rt; topology.find("1023") == Some(1023) && !topology.guids_distinct());
+    let beyond = many(rt.alloc(), 1025)?;
+    let said = refusal(rt.alloc(), beyond.as_str())?;
+    assert!(rt; said.as_str() == "line 1025: too many nodes");
     Ok(())
 }
