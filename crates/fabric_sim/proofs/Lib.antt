@@ -5,3 +5,10 @@ pub mod PortChanges
 pub mod Invariants
 pub mod Recabled
 pub mod Written
+pub mod TripAdvances
+pub mod TripCalls
+pub mod TripEnds
+pub mod TripFlights
+pub mod TripShapes
+pub mod TripsBack
+pub mod TripsOut

@@ -5,3 +5,4 @@ pub mod Made
 pub mod Sets
 pub mod Shapes
 pub mod Told
+pub mod SameRequests

@@ -1,0 +1,92 @@
+-- What stays of a fabric while no cable changes: its nodes, the cables between them, and a packet that no call is for.
+use Rattle.std.proofs.Common.{◌≡◌, ℕ, zero, suc, ◌≤◌, false, List, [], ◌∷◌, map, refl, sym, ap, ◌∙◌, subst}
+use Rattle.std.proofs.lemmas.Option.{same_Some}
+use Rattle.std.specs.Prelude.{Option, Some, None, slice_get, slice_set}
+use Rattle.std.specs.Option.{option_map_or}
+use Rattle.smp_bytes.specs.NodeType.{is_switch as is_switch_type}
+use Rattle.smp_bytes.specs.Fabric.{is_switch_at}
+use Rattle.node_agents.specs.declared.agent_node.AgentNode.{AgentNode}
+use Rattle.node_agents.specs.Agent.{Agent, IsAgent, node_of}
+use Rattle.fabric_sim.specs.Simulation.{Simulation, port_count, fabric_of}
+use Rattle.fabric_sim.specs.Delivery.{with_changed}
+use Rattle.fabric_sim.proofs.TripFlights.{AreGiven}
+
+-- nodes --------------------------------------------------------------------------------
+
+abbrev pub nodes_of : List Agent → List AgentNode
+nodes_of agents = map (λ a. a.node) agents
+
+-- what is read of the node at a place
+pub read_of_node : {X : Type 0} (read : AgentNode → X) (d : X) (agents : List Agent) (place : ℕ)
+    → option_map_or (λ (a : Agent). read a.node) (slice_get agents place) d ≡ option_map_or read (slice_get (nodes_of agents) place) d
+read_of_node read d [] place = refl
+read_of_node read d (a ∷ agents) zero = refl
+read_of_node read d (a ∷ agents) (suc place) = read_of_node read d agents place
+
+pub switch_by_node : (agents : List Agent) (place : ℕ)
+    → option_map_or (λ node. is_switch_type node.kind) (slice_get (map node_of agents) place) false
+    ≡ option_map_or (λ (n : AgentNode). is_switch_type n.kind) (slice_get (nodes_of agents) place) false
+switch_by_node [] place = refl
+switch_by_node (a ∷ agents) zero = refl
+switch_by_node (a ∷ agents) (suc place) = switch_by_node agents place
+
+nodes_set : (agents : List Agent) (place : ℕ) (a to : Agent) → slice_get agents place ≡ Some a → to.node ≡ a.node
+    → nodes_of (slice_set agents place to) ≡ nodes_of agents
+nodes_set [] place a to h e = refl
+nodes_set (x ∷ agents) zero a to h e = ap (λ n. n ∷ nodes_of agents) (e ∙ ap (λ (y : Agent). y.node) (sym (same_Some x a h)))
+nodes_set (x ∷ agents) (suc place) a to h e = ap (λ ns. x.node ∷ ns) (nodes_set agents place a to h e)
+
+pub nodes_changed : (agents : List Agent) (place : ℕ) (change : Agent → Agent) → ((a : Agent) → (change a).node ≡ a.node)
+    → nodes_of (with_changed agents place change) ≡ nodes_of agents
+nodes_changed agents place change keeps = by_agent (slice_get agents place) refl
+  where
+    by_agent : (o : Option Agent) → slice_get agents place ≡ o → nodes_of (option_map_or (λ a. slice_set agents place (change a)) o agents) ≡ nodes_of agents
+    by_agent None e = refl
+    by_agent (Some a) e = nodes_set agents place a (change a) e (keeps a)
+
+-- agents -------------------------------------------------------------------------------
+
+abbrev pub AreAgents : List Agent → Type 0
+AreAgents [] = Unit {0}
+AreAgents (a ∷ agents) = IsAgent a × AreAgents agents
+
+pub agent_there : (agents : List Agent) (place : ℕ) (a : Agent) → AreAgents agents → slice_get agents place ≡ Some a → IsAgent a
+agent_there [] place a all h = absurd (cc)
+agent_there (x ∷ agents) zero a all h = subst IsAgent (same_Some x a h) all.0
+agent_there (x ∷ agents) (suc place) a all h = agent_there agents place a all.1 h
+
+agents_set : (agents : List Agent) (place : ℕ) (to : Agent) → AreAgents agents → IsAgent to → AreAgents (slice_set agents place to)
+agents_set [] place to all h = tt
+agents_set (x ∷ agents) zero to all h = (h, all.1)
+agents_set (x ∷ agents) (suc place) to all h = (all.0, agents_set agents place to all.1 h)
+
+pub agents_changed : (agents : List Agent) (place : ℕ) (change : Agent → Agent) → AreAgents agents
+    → ((a : Agent) → slice_get agents place ≡ Some a → IsAgent a → IsAgent (change a)) → AreAgents (with_changed agents place change)
+agents_changed agents place change all keeps = by_agent (slice_get agents place) refl
+  where
+    by_agent : (o : Option Agent) → slice_get agents place ≡ o → AreAgents (option_map_or (λ a. slice_set agents place (change a)) o agents)
+    by_agent None e = all
+    by_agent (Some a) e = agents_set agents place (change a) all (keeps a e (agent_there agents place a all e))
+
+-- along some calls ---------------------------------------------------------------------
+
+-- the nodes and cables are as they were, and serial numbers are given in turn
+pub record IsAlong (start s : Simulation) : Type 0 where
+  pub nodes : nodes_of s.agents ≡ nodes_of start.agents
+  pub peers : s.peers ≡ start.peers
+  pub agents : AreAgents s.agents
+  pub given : AreGiven s.next s.flights
+  pub next : start.next ≤ s.next
+
+-- a port has its node's counts and type as before
+pub port_count_stays : {start s : Simulation} → IsAlong start s → (place : ℕ) → port_count s place ≡ port_count start place
+port_count_stays {start = start} {s = s} along place =
+    read_of_node (λ (n : AgentNode). n.ports) 0 s.agents place
+    ∙ ap (λ ns. option_map_or (λ (n : AgentNode). n.ports) (slice_get ns place) 0) along.nodes
+    ∙ sym (read_of_node (λ (n : AgentNode). n.ports) 0 start.agents place)
+
+pub switch_stays : {start s : Simulation} → IsAlong start s → (place : ℕ) → is_switch_at (fabric_of s) place ≡ is_switch_at (fabric_of start) place
+switch_stays {start = start} {s = s} along place =
+    switch_by_node s.agents place
+    ∙ ap (λ ns. option_map_or (λ (n : AgentNode). is_switch_type n.kind) (slice_get ns place) false) along.nodes
+    ∙ sym (switch_by_node start.agents place)
