@@ -7,8 +7,8 @@ use Rattle.attr_codec.specs.PortInfo.{base_lid, port_state, number_of_state, sta
 use Rattle.attr_codec.specs.declared.port_state.PortState.{PortState}
 use Rattle.attr_codec.specs.declared.port_state.PortState.TheVariants.{NoChange, Down, Initialize, Armed, Active}
 use Rattle.node_agents.specs.declared.port.Port.{Port}
-use Rattle.node_agents.specs.Agent.{Agent, port_at}
-use Rattle.node_agents.specs.PortInfo.{is_next_state, state_after, port_with, port_after, max_unicast_lid, has_lid, port_meant, changed_port}
+use Rattle.node_agents.specs.Agent.{Agent, port_at, max_unicast_lid}
+use Rattle.node_agents.specs.PortInfo.{is_next_state, state_after, port_with, port_after, has_lid, port_meant, changed_port}
 
 -- from one state to another by a wish, if at all
 pub record Moves (s t : PortState) : Type 0 where
@@ -52,21 +52,21 @@ granted s t (Some w) h = chosen s w t _ _ (goes_on s w) h
 -- what a Set makes of a port
 pub record Steps (old new : Port) : Type 0 where
   pub state : Moves old.state new.state
-  pub base_lid : old.base_lid ≤ 0xBFFF → new.base_lid ≤ 0xBFFF
+  pub base_lid : old.base_lid ≤ max_unicast_lid → new.base_lid ≤ max_unicast_lid
   pub is_sm : new.is_sm ≡ old.is_sm
 
 pub steps_none : (port : Port) → Steps port port
 steps_none port = record { state = stays port.state; base_lid = λ h. h; is_sm = refl }
 
-lid_chosen : (has_lid : Bool) (x y : ℕ) → x ≤ 0xBFFF → y ≤ 0xBFFF → (if has_lid then x else y) ≤ 0xBFFF
+lid_chosen : (has_lid : Bool) (x y : ℕ) → x ≤ max_unicast_lid → y ≤ max_unicast_lid → (if has_lid then x else y) ≤ max_unicast_lid
 lid_chosen true x y h k = h
 lid_chosen false x y h k = k
 
 module _ (port new : Port) (has : Bool) (payload : List ℕ) where
-  taken : (t : PortState) → number_in base_lid payload ≤ 0xBFFF → Moves port.state t → Steps port (port_with port has payload t)
+  taken : (t : PortState) → number_in base_lid payload ≤ max_unicast_lid → Moves port.state t → Steps port (port_with port has payload t)
   taken t small moves = record { state = moves; base_lid = λ old. lid_chosen has _ _ small old; is_sm = refl }
 
-  judged : (b : Bool) (m : Option PortState) → (b ≡ false → number_in base_lid payload ≤ 0xBFFF) → ((t : PortState) → m ≡ Some t → Moves port.state t)
+  judged : (b : Bool) (m : Option PortState) → (b ≡ false → number_in base_lid payload ≤ max_unicast_lid) → ((t : PortState) → m ≡ Some t → Moves port.state t)
       → (if b then None else option_map (port_with port has payload) m) ≡ Some new → Steps port new
   judged true m small moves h = cc
   judged false None small moves h = cc

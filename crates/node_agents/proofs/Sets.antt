@@ -16,9 +16,9 @@ use Rattle.attr_codec.specs.PortInfo.{base_lid, port_state, number_of_state, sta
 use Rattle.attr_codec.specs.declared.port_state.PortState.{PortState}
 use Rattle.attr_codec.specs.declared.port_state.PortState.TheVariants.{NoChange, Down, Initialize, Armed, Active}
 use Rattle.node_agents.specs.declared.port.Port.{Port}
-use Rattle.node_agents.specs.Agent.{Agent, IsAgent, is_switch, port_in, port_at, base_lid_at, with_port}
+use Rattle.node_agents.specs.Agent.{Agent, IsAgent, is_switch, port_in, port_at, base_lid_at, with_port, max_unicast_lid}
 use Rattle.node_agents.specs.SwitchInfo.{get_switch_info}
-use Rattle.node_agents.specs.PortInfo.{has_lid, is_next_state, state_after, port_with, port_after, port_meant, port_info_of, max_unicast_lid}
+use Rattle.node_agents.specs.PortInfo.{has_lid, is_next_state, state_after, port_with, port_after, port_meant, port_info_of}
 use Rattle.node_agents.specs.ForwardingBlock.{has_block}
 use Rattle.node_agents.specs.declared.refusal.Refusal.{Refusal}
 use Rattle.node_agents.specs.Answers.{get_of, answered}
@@ -118,7 +118,8 @@ blocks_are_set a packet arrival is =
     let known : SetsBlock a b block payload (take 64 (drop (64 * block) b.table)) =
     subst (λ (x : Agent). SetsBlock a x block payload (take 64 (drop (64 * block) x.table))) after.1
     (sets_block a block payload is.agent (length-payload packet is.whole.count) after.0) in
-    transported P a packet arrival b t.1 (take 64 (drop (64 * block) b.table)) t.2 (get_after_block a b packet arrival payload s.0 s.1.attribute s.1.taken) known
+    let got = get_after_block a b packet arrival payload s.0 s.1.attribute s.1.taken in
+    transported P a packet arrival b t.1 (take 64 (drop (64 * block) b.table)) t.2 got known
 
 -- the top -------------------------------------------------------------------------------------
 
@@ -179,12 +180,12 @@ state_wished s t number (Some w) e h some =
 
 -- what became of a port
 pub record Became (port new : Port) (has : Bool) (payload : List ℕ) : Type 0 where
-  pub lid_fits : number_in base_lid payload ≤ 0xBFFF
+  pub lid_fits : number_in base_lid payload ≤ max_unicast_lid
   pub lid : has ≡ true → new.base_lid ≡ number_in base_lid payload
   pub state : bits_in port_state payload ≢ 0 → number_of_state new.state ≡ bits_in port_state payload
 
 module _ (port new : Port) (has : Bool) (payload : List ℕ) where
-  became_with : (t : PortState) → number_in base_lid payload ≤ 0xBFFF → (bits_in port_state payload ≢ 0 → number_of_state t ≡ bits_in port_state payload)
+  became_with : (t : PortState) → number_in base_lid payload ≤ max_unicast_lid → (bits_in port_state payload ≢ 0 → number_of_state t ≡ bits_in port_state payload)
       → Became port (port_with port has payload t) has payload
   became_with t small state =
       record {
@@ -193,7 +194,7 @@ module _ (port new : Port) (has : Bool) (payload : List ℕ) where
         state = state;
       }
 
-  became_by : (b : Bool) (m : Option PortState) → (b ≡ false → number_in base_lid payload ≤ 0xBFFF)
+  became_by : (b : Bool) (m : Option PortState) → (b ≡ false → number_in base_lid payload ≤ max_unicast_lid)
       → ((t : PortState) → m ≡ Some t → bits_in port_state payload ≢ 0 → number_of_state t ≡ bits_in port_state payload)
       → (if b then None else option_map (port_with port has payload) m) ≡ Some new → Became port new has payload
   became_by true m small state h = cc
@@ -241,7 +242,8 @@ sets_port : (a : Agent) (port arrival : ℕ) (payload : List ℕ) (new : Port) �
     → SetsPort a (with_port a port new) port payload (port_info_of (port_at (with_port a port new) port) arrival)
 sets_port a port arrival payload new there is =
     let here : port_at (with_port a port new) port ≡ new = get_or-set_same a.ports port new (port_in Down) there in
-    let lid : has_lid a port ≡ true → base_lid_at (with_port a port new) port ≡ number_in base_lid payload = λ h. ap (λ (p : Port). p.base_lid) here ∙ is.lid h in
+    let lid : has_lid a port ≡ true → base_lid_at (with_port a port new) port ≡ number_in base_lid payload =
+    λ h. ap (λ (p : Port). p.base_lid) here ∙ is.lid h in
     record {
       lid = lid;
       lid_told = λ h. let fits = is.lid_fits in let same = lid h in told_lid (port_at (with_port a port new) port) arrival (omega arith) ∙ lid h;

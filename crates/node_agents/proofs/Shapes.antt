@@ -89,13 +89,22 @@ port_taken a b (Some changed) steps h =
 pub keeps-set_port_info : (a b : Agent) (modifier arrival : ℕ) (payload : List ℕ) → set_port_info a modifier arrival payload ≡ Some b → Keeps a b
 keeps-set_port_info a b modifier arrival payload h = port_taken a b _ (λ changed. steps_changed a payload changed modifier arrival) h
 
-top_taken : (a b : Agent) (top : ℕ) (fits : Bool) → (fits ≡ true → top < a.node.cap) → (if fits then Some (record a { top = top }) else None) ≡ Some b → Keeps a b
+top_taken : (a b : Agent) (top : ℕ) (fits : Bool) → (fits ≡ true → top < a.node.cap)
+    → (if fits then Some (record a { top = top }) else None) ≡ Some b → Keeps a b
 top_taken a b top false fits h = cc
 top_taken a b top true fits h =
     let e : record a { top = top } ≡ b = cc in
     let kept : Keeps a (record a { top = top }) = record {
       shape = same_ports a a.table top;
-      is_agent = λ is. record { node = is.node; description = is.description; count = is.count; ports = is.ports; port_zero = is.port_zero; table = is.table; top = inr (fits refl) };
+      is_agent = λ is. record {
+        node = is.node;
+        description = is.description;
+        count = is.count;
+        ports = is.ports;
+        port_zero = is.port_zero;
+        table = is.table;
+        top = inr (fits refl);
+      };
     } in
     subst (Keeps a) e kept
 

@@ -88,7 +88,8 @@ get_of-alike a p q arrival same =
     ∙ ap (λ n. get_attribute a (number_in attribute_id p) n arrival) same.modifier
 
 -- something is told after each Set that is taken
-pub something_told : (a b : Agent) (packet : List ℕ) (arrival : ℕ) → set_of a packet arrival ≡ Ok b → (payload : List ℕ) × (get_of b packet arrival ≡ Ok payload)
+pub something_told : (a b : Agent) (packet : List ℕ) (arrival : ℕ) → set_of a packet arrival ≡ Ok b
+    → (payload : List ℕ) × (get_of b packet arrival ≡ Ok payload)
 something_told a b packet arrival h = by_kind (what_is_set a b packet arrival h)
   where
     by_kind : SetsPortInfo a b packet arrival ⊎ (SetsSwitchInfo a b packet arrival ⊎ SetsABlock a b packet arrival)
@@ -97,7 +98,10 @@ something_told a b packet arrival h = by_kind (what_is_set a b packet arrival h)
         let t = port_taken a b (number_in attribute_modifier packet) arrival (bytes_in attribute_data packet) s.taken in
         (port_info_of (port_at b t.0) arrival, get_after_port a b packet arrival t.0 t.1 (bytes_in attribute_data packet) s.attribute t.2)
     by_kind (inr (inl s)) = (get_switch_info b, get_after_top a b packet arrival (bytes_in attribute_data packet) s.0 s.1.attribute s.1.taken)
-    by_kind (inr (inr s)) = (take 64 (drop (64 * number_in attribute_modifier packet) b.table), get_after_block a b packet arrival (bytes_in attribute_data packet) s.0 s.1.attribute s.1.taken)
+    by_kind (inr (inr s)) = (
+      take 64 (drop (64 * number_in attribute_modifier packet) b.table),
+      get_after_block a b packet arrival (bytes_in attribute_data packet) s.0 s.1.attribute s.1.taken,
+    )
 
 pub answered-agent : (a : Agent) (packet : List ℕ) (arrival : ℕ) → (answered a packet arrival).agent ≡ (met a packet arrival).agent
 unfolding answered
@@ -133,7 +137,8 @@ kept-both a false x y h k = k
 kept-same : (a : Agent) (told : Result (List ℕ) Refusal) → KeepsIfRefused a (record { told = told; agent = a })
 kept-same a told = record { agent = λ refusal e. refl }
 
-kept-set : (a : Agent) (after : Result Agent Refusal) (packet : List ℕ) (arrival : ℕ) → after ≡ set_of a packet arrival → KeepsIfRefused a (met_set a after packet arrival)
+kept-set : (a : Agent) (after : Result Agent Refusal) (packet : List ℕ) (arrival : ℕ) → after ≡ set_of a packet arrival
+    → KeepsIfRefused a (met_set a after packet arrival)
 kept-set a (Ok b) packet arrival e =
     let told = something_told a b packet arrival (sym e) in
     record { agent = λ refusal h. let clash : ◌≡◌ {A = Result (List ℕ) Refusal} (Ok told.0) (Err refusal) = sym told.1 ∙ h in cc }
@@ -141,7 +146,8 @@ kept-set a (Err refusal) packet arrival e = kept-same a (Err refusal)
 
 kept-met : (a : Agent) (packet : List ℕ) (arrival : ℕ) → KeepsIfRefused a (met a packet arrival)
 kept-met a packet arrival =
-    kept-both a _ _ _ (kept-same a (get_of a packet arrival)) (kept-both a _ _ _ (kept-set a (set_of a packet arrival) packet arrival refl) (kept-same a (Err Method)))
+    kept-both a _ _ _ (kept-same a (get_of a packet arrival))
+    (kept-both a _ _ _ (kept-set a (set_of a packet arrival) packet arrival refl) (kept-same a (Err Method)))
 
 by_told : (a : Agent) (m : Met) (told : Result (List ℕ) Refusal) → m.told ≡ told → KeepsIfRefused a m → status_told told ≢ done → m.agent ≡ a
 by_told a m (Ok payload) e kept other = absurd (other refl)

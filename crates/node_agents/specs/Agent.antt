@@ -38,9 +38,13 @@ base_lid_at a port = (port_at a port).base_lid
 abbrev pub has_seat : Agent → ℕ → Bool
 has_seat a port = (port_at a port).is_sm
 
--- the port by which the switch forwards to a LID; 255, which is none, where the table has no such entry
+-- the number in a table that is none of a port
+abbrev pub no_port : ℕ
+no_port = 255
+
+-- the port by which the switch forwards to a LID; none where the table has no such entry
 abbrev pub entry_at : Agent → ℕ → ℕ
-entry_at a lid = slice_index_or a.table lid 255
+entry_at a lid = slice_index_or a.table lid no_port
 
 -- the GUID of a port: a switch has one GUID, an adapter's ports have those after its own
 abbrev pub port_guid : AgentNode → ℕ → ℕ
@@ -76,7 +80,7 @@ fresh_agent node =
     record {
       node = node;
       ports = port_in (if types.is_switch node.kind then Active else Down) ∷ replicate node.ports (port_in Down);
-      table = replicate (64 * block_count node.cap) 255;
+      table = replicate (64 * block_count node.cap) no_port;
       top = 0;
     }
 
@@ -87,10 +91,14 @@ pub record IsAgentNode (node : AgentNode) : Type 0 where
   pub no_table : types.is_switch node.kind ≡ false → node.cap ≡ 0
   pub port_guids : types.is_switch node.kind ≡ false → node.guid + node.ports < 2 ^ 64
 
+-- the greatest LID that a port may have
+abbrev pub max_unicast_lid : ℕ
+max_unicast_lid = 0xBFFF
+
 -- what holds of each port that an agent has: a state, a LID that a port may have, and no subnet manager at a switch
 pub record IsPort (kind : NodeType) (port : Port) : Type 0 where
   pub state : port.state ≢ NoChange
-  pub base_lid : port.base_lid ≤ 0xBFFF
+  pub base_lid : port.base_lid ≤ max_unicast_lid
   pub is_sm : types.is_switch kind ≡ true → port.is_sm ≡ false
 
 -- what holds of each agent

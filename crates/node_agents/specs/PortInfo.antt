@@ -7,7 +7,7 @@ use Rattle.attr_codec.specs.Image.{image}
 use Rattle.attr_codec.specs.PortInfo.{base_lid, master_sm_lid, local_port_num, port_state, is_sm_bit, number_of_state, state_of_number}
 use Rattle.attr_codec.specs.declared.port_state.PortState.{PortState}
 use Rattle.node_agents.specs.declared.port.Port.{Port}
-use Rattle.node_agents.specs.Agent.{Agent, is_switch, port_at, with_port}
+use Rattle.node_agents.specs.Agent.{Agent, is_switch, port_at, with_port, max_unicast_lid}
 
 -- any port of a switch, 0 among them; of an adapter the one that the request came to, by its number or by 0
 abbrev pub port_meant : Agent → ℕ → ℕ → Option ℕ
@@ -29,10 +29,6 @@ abbrev pub get_port_info : Agent → ℕ → ℕ → Option (List ℕ)
 get_port_info a modifier arrival = option_map (λ port. port_info_of (port_at a port) arrival) (port_meant a modifier arrival)
 
 -- Set ---------------------------------------------------------------------------------
-
--- the greatest LID that a port may have
-abbrev pub max_unicast_lid : ℕ
-max_unicast_lid = 0xBFFF
 
 -- each port of an adapter has a LID, and of a switch port 0 alone
 abbrev pub has_lid : Agent → ℕ → Bool

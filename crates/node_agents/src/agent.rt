@@ -3,12 +3,16 @@ ghost use Rattle.node_agents.specs.Agent.{IsAgentNode, fresh_agent, is_switch, p
 ghost use Rattle.node_agents.specs.Answers.{answered};
 
 use crate::agent_node::AgentNode;
+use crate::forwarding_block::BLOCK;
 use crate::port::Port;
 use crate::request::meet;
 use attr_codec::PortState;
 use smp_bytes::{Guid, Lid, NodeType, PortNum, Smp, Status};
 use std::alloc::{AllocError, Global};
 use std::marker::Model;
+
+/// The number in a table that is none of a port.
+const NO_PORT: u8 = 255;
 
 /// The subnet management agent of a node. Contracts see the node, its ports, its forwarding table and the table's top.
 #[derive(Drop)]
@@ -45,8 +49,8 @@ impl Agent {
         if node.is_switch() {
             ports[0] = Port::in_state(PortState::Active);
         }
-        let entries = usize::from(node.cap).div_ceil(64) * 64;
-        let table = vec![in alloc; 255; entries]?;
+        let entries = usize::from(node.cap).div_ceil(BLOCK) * BLOCK;
+        let table = vec![in alloc; NO_PORT; entries]?;
         Ok(Agent {
             node,
             ports,
@@ -105,7 +109,7 @@ impl Agent {
     {
         match self.table.get(usize::from(lid.number())) {
             Some(port) => PortNum::new(*port),
-            None => PortNum::new(255),
+            None => PortNum::new(NO_PORT),
         }
     }
 

@@ -7,7 +7,7 @@ use crate::agent::Agent;
 use smp_bytes::wire::put_bytes;
 
 /// How many entries a block has.
-const BLOCK: usize = 64;
+pub(crate) const BLOCK: usize = 64;
 
 /// The last block of unicast LIDs.
 const LAST_BLOCK: u32 = 767;

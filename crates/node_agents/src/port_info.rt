@@ -16,7 +16,7 @@ pub(crate) fn get(agent: &Agent, modifier: u32, arrival: PortNum) -> Option<[u8;
     ensures { result ≡ get_port_info agent.now modifier arrival }
 {
     let port = port_meant(agent, modifier, arrival)?;
-    Some(told(agent.port(port), arrival))
+    Some(info_of(agent.port(port), arrival))
 }
 
 /// Takes the LIDs, at an end port, and the state, where it takes both; whether that is so.
@@ -67,7 +67,7 @@ fn port_meant(agent: &Agent, modifier: u32, arrival: PortNum) -> Option<PortNum>
 }
 
 /// What is told of a port to a request that came by this or another one.
-fn told(port: Port, arrival: PortNum) -> [u8; 64]
+fn info_of(port: Port, arrival: PortNum) -> [u8; 64]
     ensures { result ≡ port_info_of port arrival }
 {
     let mut info = PortInfo::decode(&[0; 64]);
