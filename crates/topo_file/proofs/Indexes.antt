@@ -1,12 +1,12 @@
 -- A node and a link more, and the indexes by which they are found.
-use Rattle.std.proofs.Common.{◌≡◌, ◌<◌, ℕ, suc, List, [], ◌∷◌, ◌++◌, refl, sym, ap, ◌∙◌, Bool, true, false, cond, length, ◌&&◌, arith}
+use Rattle.std.proofs.Common.{◌≡◌, ◌≢◌, ◌<◌, ℕ, suc, List, [], ◌∷◌, ◌++◌, refl, sym, ap, ◌∙◌, Bool, true, false, cond, length, ◌&&◌, arith, subst}
 use Rattle.std.proofs.lemmas.Bool.{eqb-true}
 use Rattle.std.proofs.lemmas.Map.Text.{is_eq-slice_cmp}
 use Rattle.std.proofs.lemmas.Slice.Eq.{bytes_eq-Decides}
 use Rattle.std.specs.Prelude.{Option, None, Some, option_map, is_some, All}
 use Rattle.std.specs.List.{AllByRecursion}
 use Rattle.std.proofs.Common.{length-append}
-use Rattle.std.proofs.lemmas.List.Elements.{recursion_from_All}
+use Rattle.std.proofs.lemmas.List.Elements.{recursion_from_All, All-cons}
 use Rattle.std.specs.declared.cmp.Ordering.{Ordering}
 use Rattle.std.specs.declared.cmp.Ordering.TheVariants.{Less, Equal, Greater}
 use Rattle.std.specs.Ordering.{is_eq, nat_cmp, ordering_then}
@@ -18,7 +18,7 @@ use Rattle.smp_bytes.specs.declared.cable.Cable.{Cable}
 use Rattle.smp_bytes.specs.declared.cable.NodePort.{NodePort}
 use Rattle.topo_file.specs.declared.node.Node.{Node}
 use Rattle.topo_file.specs.NodeName.{is_name, name_in}
-use Rattle.topo_file.specs.Topology.{IsNode, place_of, is_port, other_end}
+use Rattle.topo_file.specs.Topology.{IsNode, IsFound, place_of, is_port, other_end}
 use Rattle.topo_file.specs.Places.{HasPlaces, HasEnds, port_cmp}
 use Rattle.topo_file.proofs.Names.{both}
 
@@ -138,3 +138,20 @@ ends_indexed links across middle new link one other has u v p =
 pub nowhere : (o : Option ℕ) → false ≡ is_some o → o ≡ None
 nowhere None e = refl
 nowhere (Some n) e = cc
+
+-- the place of a name, one further on
+found_later : (m : Node) (nodes : List Node) (name : List ℕ) (o : Option ℕ) → m.name ≢ name → IsFound nodes name o → IsFound (m ∷ nodes) name (option_map suc o)
+found_later m nodes name None apart h = All-cons (λ node. node.name ≢ name) m nodes apart h
+found_later m nodes name (Some place) apart h = h
+
+-- the place of a name is that of its node
+pub found_is : (nodes : List Node) (name : List ℕ) → IsFound nodes name (place_of nodes name)
+found_is [] name = λ k d h. absurd (omega arith)
+found_is (m ∷ nodes) name =
+    elim (bytes_eq m.name name) as (λ t. bytes_eq m.name name ≡ t → IsFound (m ∷ nodes) name (cond t (Some 0) (option_map suc (place_of nodes name)))) [
+      | true ↦ λ e. (m, refl, same_bytes m.name name e)
+      | false ↦ λ e. found_later m nodes name (place_of nodes name) (λ same. let f : bytes_eq m.name name ≡ true = (bytes_eq-Decides m.name name).1 same in cc) (found_is nodes name)
+    ] refl
+
+pub found_at : (nodes : List Node) (name : List ℕ) (o : Option ℕ) → o ≡ place_of nodes name → IsFound nodes name o
+found_at nodes name o e = subst (λ (p : Option ℕ). IsFound nodes name p) (sym e) (found_is nodes name)
