@@ -7,7 +7,8 @@ use Rattle.topo_file.proofs.topology.Topology.find.Goals as goal
 
 pub returns-in_err-new : goal.returns-in_err-new
 returns-in_err-new c =
-    let none = unnamed c.self.inside.nodes c.args.name.now c.self.invariant.0.nodes (ap name_in (sym c.as_bytes.ensures.value) ∙ sym c.new.ensures ∙ c.in_err-new.was) in
+    let none = unnamed c.self.inside.nodes c.args.name.now c.self.invariant.0.nodes
+    (ap name_in (sym c.as_bytes.ensures.value) ∙ sym c.new.ensures ∙ c.in_err-new.was) in
     let same = c.from_residual.ensures ∙ sym (ap (λ t. place_of t.nodes c.args.name.now) (sym c.self.view_is) ∙ none) in
     record { place = same; found = found_at c.args.self.now.nodes c.args.name.now c.from_residual.result same }
 
