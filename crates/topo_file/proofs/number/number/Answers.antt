@@ -6,7 +6,8 @@ use Rattle.topo_file.proofs.number.number.Goals as goal
 
 pub loop-byte-preserved : goal.loop-byte-preserved
 loop-byte-preserved c = record {
-  number = held_more (2 ^ 64 - 1) c.args.base c.args.word.now c.loop-byte.byte-index c.loop-byte.number c.saturating_mul.result c.from-in-loop-byte-2.result c.saturating_add-number.result
+  number = held_more (2 ^ 64 - 1) c.args.base c.args.word.now c.loop-byte.byte-index c.loop-byte.number
+      c.saturating_mul.result c.from-in-loop-byte-2.result c.saturating_add-number.result
       (omega arith) c.loop-byte-test.true c.loop-byte.invariant.number
       (c.saturating_mul.ensures ∙ ap (λ n. min (c.loop-byte.number * n) (2 ^ 64 - 1)) c.from-in-loop-byte.ensures)
       (c.from-in-loop-byte-2.ensures ∙ c.in_ok-digit.ensures.value.1 ∙ ap digit_value c.from.ensures)
