@@ -5,7 +5,8 @@ use Rattle.topo_file.specs.declared.fault.TopoFault.TheVariants.{Syntax, Name, P
 use Rattle.topo_file.specs.TopoFault.{IsRefused}
 use Rattle.topo_file.specs.Reading.{◌>>=◌}
 
-pub refused_then : {A B : Type 0} (fault : TopoFault) (told : Result A TopoFault) (next : A → Result B TopoFault) → IsRefused fault told → IsRefused fault (told >>= next)
+pub refused_then : {A B : Type 0} (fault : TopoFault) (told : Result A TopoFault) (next : A → Result B TopoFault) → IsRefused fault told
+    → IsRefused fault (told >>= next)
 refused_then Memory told next h = tt
 refused_then (Syntax line) told next h = ap (λ r. r >>= next) h
 refused_then (Name line) told next h = ap (λ r. r >>= next) h

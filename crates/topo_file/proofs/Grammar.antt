@@ -1,5 +1,6 @@
 -- What lines tell is in its ranges.
-use Rattle.std.proofs.Common.{◌≡◌, ℕ, ◌<◌, ◌≤◌, ◌^◌, Bool, true, false, cond, ◌&&◌, leb, List, [], ◌∷◌, length, Option, None, Some, refl, sym, arith, take, drop, lit<}
+use Rattle.std.proofs.Common.{◌≡◌, ℕ, ◌<◌, ◌≤◌, ◌^◌, Bool, true, false, cond, ◌&&◌, leb, List, [], ◌∷◌, length, Option, None, Some, refl, sym, arith, take}
+use Rattle.std.proofs.Common.{drop, lit<}
 use Rattle.std.specs.Prelude.{IfSome, IsTrue, option_map, option_and_then, codes}
 use Rattle.std.specs.Char.{is_digit}
 use Rattle.std.specs.List.{list_all}
@@ -23,7 +24,8 @@ use Rattle.topo_file.proofs.Names.{both}
 use Rattle.topo_file.proofs.Numbers.{all_digits}
 
 -- what holds of what may be there
-then_some : {A B : Type 0} (P : A → Type 0) (Q : B → Type 0) (o : Option A) (f : A → Option B) → IfSome o P → ((x : A) → P x → IfSome (f x) Q) → IfSome (option_and_then f o) Q
+then_some : {A B : Type 0} (P : A → Type 0) (Q : B → Type 0) (o : Option A) (f : A → Option B) → IfSome o P → ((x : A) → P x → IfSome (f x) Q)
+    → IfSome (option_and_then f o) Q
 then_some P Q None f h g = tt
 then_some P Q (Some x) f h g = g x h
 
@@ -98,7 +100,8 @@ quoted_range : (word : List ℕ) → IfSome (quoted_name word) (λ n. IsTrue (is
 quoted_range word = then_some (λ x. Unit {0}) (λ n. IsTrue (is_name n)) (option_and_then alone (enclosed 34 34 word)) name_in (always _) (λ x _. name_range x)
 
 bracketed_range : (word : List ℕ) → IfSome (bracketed_port word) (IsWithin 254)
-bracketed_range word = then_some (λ x. Unit {0}) (IsWithin 254) (option_and_then alone (enclosed 91 93 word)) (count_of 254) (always _) (λ x _. count_range 254 x)
+bracketed_range word = then_some (λ x. Unit {0}) (IsWithin 254) (option_and_then alone (enclosed 91 93 word)) (count_of 254) (always _)
+    (λ x _. count_range 254 x)
 
 node_range : (kind : NodeType) (words : List (List ℕ)) → IfSome (node_line kind words) IsNodeLine
 node_range kind [] = tt
@@ -119,7 +122,8 @@ link_range (port ∷ end ∷ []) =
     then_some (IsWithin 254) IsLinkLine (bracketed_port port) _ (bracketed_range port) (λ p ps.
     then_some (λ x. Unit {0}) IsLinkLine (enclosed 34 34 end) _ (always _) (λ x _.
     then_some (λ n. Unit {0}) IsLinkLine (name_in x.0) _ (always _) (λ n _.
-    mapped (IsWithin 254) IsLinkLine (bracketed_port x.1) _ (bracketed_range x.1) (λ q qs. record { port = λ k e. (ps k e).0; peer_port = λ k e. (qs k e).0 }))))
+    mapped (IsWithin 254) IsLinkLine (bracketed_port x.1) _ (bracketed_range x.1)
+    (λ q qs. record { port = λ k e. (ps k e).0; peer_port = λ k e. (qs k e).0 }))))
 link_range (a ∷ b ∷ c ∷ rest) = tt
 
 abbrev pub IsLine : Line → Type 0

@@ -1,5 +1,6 @@
 -- Whether GUIDs differ, node by node.
-use Rattle.std.proofs.Common.{◌≡◌, ◌≢◌, ℕ, suc, ◌<◌, Bool, true, false, cond, ◌||◌, not, ◌==◌, List, [], ◌∷◌, ◌++◌, length, get_or, take, refl, sym, ap, ◌∙◌, subst, arith}
+use Rattle.std.proofs.Common.{◌≡◌, ◌≢◌, ℕ, suc, ◌<◌, Bool, true, false, cond, ◌||◌, not, ◌==◌, List, [], ◌∷◌, ◌++◌, length, get_or, take, refl, sym, ap, ◌∙◌}
+use Rattle.std.proofs.Common.{subst, arith}
 use Rattle.std.specs.List.{list_any}
 use Rattle.std.specs.Ordering.{nat_cmp}
 use Rattle.std.specs.Cmp.{unsigned_ties}
@@ -28,7 +29,8 @@ either_way true false = refl
 either_way false true = refl
 either_way false false = refl
 
-module _ (nodes : List Node) (held : BTreeSet ℕ) (i : ℕ) (node : Node) (h : i < length nodes) (is : node ≡ get_or nodes i node) (has : HaveSeen nodes held i) where
+module _ (nodes : List Node) (held : BTreeSet ℕ) (i : ℕ) (node : Node) (h : i < length nodes) (is : node ≡ get_or nodes i node)
+    (has : HaveSeen nodes held i) where
   -- a GUID that was seen is not the only one
   pub seen_before : contains nat_cmp held node.guid ≡ true → GuidsDiffer nodes → false ≡ true
   seen_before e differ =
@@ -36,7 +38,8 @@ module _ (nodes : List Node) (held : BTreeSet ℕ) (i : ℕ) (node : Node) (h : 
       let long : length front ≡ i = length-take-le i nodes (omega arith) in
       let apart : (k : ℕ) → k < length front → ((get_or front k node).guid == node.guid) ≡ false = λ k l.
       differs _ _ (λ same. differ k i node (omega arith) h (ap (λ n. n.guid) (sym (get_or-take i nodes k node (omega arith))) ∙ same ∙ ap (λ n. n.guid) is)) in
-      let none : false ≡ has_guid front node.guid = or_is (λ ns. has_guid ns node.guid) (λ n. n.guid == node.guid) refl (λ _ _. refl) front node false (λ f. absurd (cc)) (λ _. apart) in
+      let none : false ≡ has_guid front node.guid = or_is (λ ns. has_guid ns node.guid) (λ n. n.guid == node.guid) refl (λ _ _. refl) front node false
+      (λ f. absurd (cc)) (λ _. apart) in
       none ∙ sym (has.seen node.guid) ∙ e
 
   -- another one is one more
@@ -47,10 +50,12 @@ module _ (nodes : List Node) (held : BTreeSet ℕ) (i : ℕ) (node : Node) (h : 
       let none : has_guid front node.guid ≡ false = sym (has.seen node.guid) ∙ e in
       let Differ : List Node → Type 0 = λ ns. GuidsDiffer ns in
       record {
-        seen = λ guid. u.0 guid ∙ (λ j. cond (sym (unsigned_ties node.guid guid) j) true (has.seen guid j)) ∙ either_way (node.guid == guid) (has_guid front guid)
+        seen = λ guid. u.0 guid ∙ (λ j. cond (sym (unsigned_ties node.guid guid) j) true (has.seen guid j))
+            ∙ either_way (node.guid == guid) (has_guid front guid)
             ∙ sym (ap (λ ns. has_guid ns guid) longer ∙ or_push (λ ns. has_guid ns guid) (λ n. n.guid == guid) refl (λ _ _. refl) front node);
         differ = subst Differ (sym longer) (all_pairs_push (λ x y. x.guid ≢ y.guid) front node has.differ (λ k d l same.
-            let found : has_guid front node.guid ≡ true = or_at (λ ns. has_guid ns node.guid) (λ n. n.guid == node.guid) refl (λ _ _. refl) front k d l (eq-eqb _ _ same) in cc));
+            let found : has_guid front node.guid ≡ true = or_at (λ ns. has_guid ns node.guid) (λ n. n.guid == node.guid) refl (λ _ _. refl) front k d l
+            (eq-eqb _ _ same) in cc));
       }
 
 pub denied : (t : Bool) → not t ≡ false → t ≡ true

@@ -1,12 +1,12 @@
 -- A node and a link more, and the indexes by which they are found.
-use Rattle.std.proofs.Common.{◌≡◌, ◌<◌, ℕ, suc, List, [], ◌∷◌, ◌++◌, refl, sym, ap, ◌∙◌, Bool, true, false, cond, length, ◌&&◌, arith}
+use Rattle.std.proofs.Common.{◌≡◌, ◌≢◌, ◌<◌, ℕ, suc, List, [], ◌∷◌, ◌++◌, refl, sym, ap, ◌∙◌, Bool, true, false, cond, length, ◌&&◌, arith, subst}
 use Rattle.std.proofs.lemmas.Bool.{eqb-true}
 use Rattle.std.proofs.lemmas.Map.Text.{is_eq-slice_cmp}
 use Rattle.std.proofs.lemmas.Slice.Eq.{bytes_eq-Decides}
 use Rattle.std.specs.Prelude.{Option, None, Some, option_map, is_some, All}
 use Rattle.std.specs.List.{AllByRecursion}
 use Rattle.std.proofs.Common.{length-append}
-use Rattle.std.proofs.lemmas.List.Elements.{recursion_from_All}
+use Rattle.std.proofs.lemmas.List.Elements.{recursion_from_All, All-cons}
 use Rattle.std.specs.declared.cmp.Ordering.{Ordering}
 use Rattle.std.specs.declared.cmp.Ordering.TheVariants.{Less, Equal, Greater}
 use Rattle.std.specs.Ordering.{is_eq, nat_cmp, ordering_then}
@@ -18,7 +18,7 @@ use Rattle.smp_bytes.specs.declared.cable.Cable.{Cable}
 use Rattle.smp_bytes.specs.declared.cable.NodePort.{NodePort}
 use Rattle.topo_file.specs.declared.node.Node.{Node}
 use Rattle.topo_file.specs.NodeName.{is_name, name_in}
-use Rattle.topo_file.specs.Topology.{IsNode, place_of, is_port, other_end}
+use Rattle.topo_file.specs.Topology.{IsNode, IsFound, place_of, is_port, other_end}
 use Rattle.topo_file.specs.Places.{HasPlaces, HasEnds, port_cmp}
 use Rattle.topo_file.proofs.Names.{both}
 
@@ -33,7 +33,8 @@ none_before false None e = (refl, refl)
 none_before false (Some n) e = cc
 
 -- a node at the end is found by its name, and the others as before
-found_before : (s t : Bool) (n : ℕ) (o : Option ℕ) → (s ≡ true → t ≡ false) → cond t (Some 0) (option_map suc (cond s (Some n) o)) ≡ cond s (Some (suc n)) (cond t (Some 0) (option_map suc o))
+found_before : (s t : Bool) (n : ℕ) (o : Option ℕ) → (s ≡ true → t ≡ false)
+    → cond t (Some 0) (option_map suc (cond s (Some n) o)) ≡ cond s (Some (suc n)) (cond t (Some 0) (option_map suc o))
 found_before true true n o apart = absurd (let e : true ≡ false = apart refl in cc)
 found_before true false n o apart = refl
 found_before false t n o apart = refl
@@ -48,7 +49,8 @@ place_more (m ∷ nodes) node name e =
     ∙ found_before (bytes_eq node.name name) (bytes_eq m.name name) (length nodes) (place_of nodes name) apart
 
 -- the index with a node more
-pub places_more : (nodes : List Node) (places new : BTreeMap (List ℕ) ℕ) (node : Node) → length nodes < 1024 → place_of nodes node.name ≡ None → HasPlaces nodes places
+pub places_more : (nodes : List Node) (places new : BTreeMap (List ℕ) ℕ) (node : Node) → length nodes < 1024 → place_of nodes node.name ≡ None
+    → HasPlaces nodes places
     → Updates (slice_cmp nat_cmp) places new node.name (Some (length nodes)) → HasPlaces (nodes ++ node ∷ []) new
 places_more nodes places new node room none has u = record {
   few = omega (arith, length-append nodes (node ∷ []), room);
@@ -61,7 +63,8 @@ nameless [] name all none = refl
 nameless (node ∷ nodes) name all none =
     let apart : bytes_eq node.name name ≡ false =
     elim (bytes_eq node.name name) as (λ t. bytes_eq node.name name ≡ t → bytes_eq node.name name ≡ false) [
-      | true ↦ λ e. let named : is_name name ≡ true = ap is_name (sym (same_bytes node.name name e)) ∙ all.0.named in absurd (let f : true ≡ false = sym named ∙ none in cc)
+      | true ↦ λ e. let named : is_name name ≡ true = ap is_name (sym (same_bytes node.name name e)) ∙ all.0.named in
+          absurd (let f : true ≡ false = sym named ∙ none in cc)
       | false ↦ λ e. e
     ] refl in
     let later : place_of nodes name ≡ None = nameless nodes name all.1 none in
@@ -76,7 +79,8 @@ unnamed nodes name all none = nameless nodes name (recursion_from_All IsNode nod
 
 -- ports that are equal
 pub same_port : (p q : NodePort) → is_port p q ≡ true → p ≡ q
-same_port p q e = let h = both _ _ e in let n : p.node ≡ q.node = eqb-true _ _ h.0 in let m : p.port ≡ q.port = eqb-true _ _ h.1 in λ i. record { node = n i; port = m i }
+same_port p q e = let h = both _ _ e in let n : p.node ≡ q.node = eqb-true _ _ h.0 in let m : p.port ≡ q.port = eqb-true _ _ h.1 in
+    λ i. record { node = n i; port = m i }
 
 pub none_there : (s t : Bool) (a b : NodePort) (o : Option NodePort) → cond s (Some a) (cond t (Some b) o) ≡ None → (s ≡ false) × (t ≡ false) × (o ≡ None)
 none_there true t a b o e = cc
@@ -92,7 +96,8 @@ after_all (x ∷ links) link p e =
     ap (λ t. cond t (Some x.other) (cond (is_port x.other p) (Some x.one) (other_end (links ++ link ∷ []) p))) h.0
     ∙ ap (λ t. cond t (Some x.one) (other_end (links ++ link ∷ []) p)) h.1 ∙ later
 
-kept : (links : List Cable) (link : Cable) (p : NodePort) → is_port link.one p ≡ false → is_port link.other p ≡ false → other_end (links ++ link ∷ []) p ≡ other_end links p
+kept : (links : List Cable) (link : Cable) (p : NodePort) → is_port link.one p ≡ false → is_port link.other p ≡ false
+    → other_end (links ++ link ∷ []) p ≡ other_end links p
 kept [] link p e f = ap (λ t. cond t (Some link.other) (cond (is_port link.other p) (Some link.one) None)) e ∙ ap (λ t. cond t (Some link.one) None) f
 kept (x ∷ links) link p e f = ap (λ o. cond (is_port x.one p) (Some x.other) (cond (is_port x.other p) (Some x.one) o)) (kept links link p e f)
 
@@ -105,7 +110,8 @@ two_ways false false a b e = refl
 ends_more : (links : List Cable) (link : Cable) (p : NodePort) → other_end links link.one ≡ None → other_end links link.other ≡ None
     → other_end (links ++ link ∷ []) p ≡ cond (is_port link.other p) (Some link.one) (cond (is_port link.one p) (Some link.other) (other_end links p))
 ends_more links link p one other =
-    let Wanted : Type 0 = other_end (links ++ link ∷ []) p ≡ cond (is_port link.other p) (Some link.one) (cond (is_port link.one p) (Some link.other) (other_end links p)) in
+    let Wanted : Type 0 = other_end (links ++ link ∷ []) p ≡ cond (is_port link.other p) (Some link.one)
+    (cond (is_port link.one p) (Some link.other) (other_end links p)) in
     let found : other_end links p ≡ None → Wanted = λ none. after_all links link p none
     ∙ two_ways (is_port link.one p) (is_port link.other p) link.other link.one (λ s t. same_port link.other p t ∙ sym (same_port link.one p s))
     ∙ ap (λ o. cond (is_port link.other p) (Some link.one) (cond (is_port link.one p) (Some link.other) o)) (sym none) in
@@ -114,7 +120,8 @@ ends_more links link p one other =
       | false ↦ λ s. (elim (is_port link.other p) as (λ t. is_port link.other p ≡ t → Wanted) [
         | true ↦ λ t. found (ap (other_end links) (sym (same_port link.other p t)) ∙ other)
         | false ↦ λ t. kept links link p s t
-            ∙ sym (ap (λ b. cond b (Some link.one) (cond (is_port link.one p) (Some link.other) (other_end links p))) t ∙ ap (λ b. cond b (Some link.other) (other_end links p)) s)
+            ∙ sym (ap (λ b. cond b (Some link.one) (cond (is_port link.one p) (Some link.other) (other_end links p))) t
+            ∙ ap (λ b. cond b (Some link.other) (other_end links p)) s)
       ] refl)
     ] refl
 
@@ -127,8 +134,10 @@ at_port : (q p : NodePort) → is_eq (port_cmp (q.node, q.port) (p.node, p.port)
 at_port q p = eq_then (nat_cmp q.node p.node) (nat_cmp q.port p.port) ∙ sym (λ i. unsigned_ties q.node p.node i && unsigned_ties q.port p.port i)
 
 -- the index with a link more
-pub ends_indexed : (links : List Cable) (across middle new : BTreeMap (ℕ × ℕ) NodePort) (link : Cable) → other_end links link.one ≡ None → other_end links link.other ≡ None → HasEnds links across
-    → Updates port_cmp across middle (link.one.node, link.one.port) (Some link.other) → Updates port_cmp middle new (link.other.node, link.other.port) (Some link.one)
+pub ends_indexed : (links : List Cable) (across middle new : BTreeMap (ℕ × ℕ) NodePort) (link : Cable) → other_end links link.one ≡ None
+    → other_end links link.other ≡ None → HasEnds links across
+    → Updates port_cmp across middle (link.one.node, link.one.port) (Some link.other)
+    → Updates port_cmp middle new (link.other.node, link.other.port) (Some link.one)
     → HasEnds (links ++ link ∷ []) new
 ends_indexed links across middle new link one other has u v p =
     v.0 (p.node, p.port) ∙ (λ i. cond (at_port link.other p i) (Some link.one) (u.0 (p.node, p.port) i))
@@ -138,3 +147,22 @@ ends_indexed links across middle new link one other has u v p =
 pub nowhere : (o : Option ℕ) → false ≡ is_some o → o ≡ None
 nowhere None e = refl
 nowhere (Some n) e = cc
+
+-- the place of a name, one further on
+found_later : (m : Node) (nodes : List Node) (name : List ℕ) (o : Option ℕ) → m.name ≢ name → IsFound nodes name o
+    → IsFound (m ∷ nodes) name (option_map suc o)
+found_later m nodes name None apart h = All-cons (λ node. node.name ≢ name) m nodes apart h
+found_later m nodes name (Some place) apart h = h
+
+-- the place of a name is that of its node
+pub found_is : (nodes : List Node) (name : List ℕ) → IsFound nodes name (place_of nodes name)
+found_is [] name = λ k d h. absurd (omega arith)
+found_is (m ∷ nodes) name =
+    elim (bytes_eq m.name name) as (λ t. bytes_eq m.name name ≡ t → IsFound (m ∷ nodes) name (cond t (Some 0) (option_map suc (place_of nodes name)))) [
+      | true ↦ λ e. (m, refl, same_bytes m.name name e)
+      | false ↦ λ e. found_later m nodes name (place_of nodes name)
+          (λ same. let f : bytes_eq m.name name ≡ true = (bytes_eq-Decides m.name name).1 same in cc) (found_is nodes name)
+    ] refl
+
+pub found_at : (nodes : List Node) (name : List ℕ) (o : Option ℕ) → o ≡ place_of nodes name → IsFound nodes name o
+found_at nodes name o e = subst (λ (p : Option ℕ). IsFound nodes name p) (sym e) (found_is nodes name)

@@ -1,5 +1,6 @@
 -- Numbers that stop at the greatest of a word.
-use Rattle.std.proofs.Common.{◌≡◌, ℕ, ◌+◌, ◌-◌, ◌*◌, ◌^◌, ◌<◌, ◌≤◌, inl, inr, true, false, ◌&&◌, cond, leb, ltb, List, [], ◌∷◌, length, get_or, take, None, Some, refl, sym, ap, ◌∙◌, arith, min, drop, lit<}
+use Rattle.std.proofs.Common.{◌≡◌, ℕ, ◌+◌, ◌-◌, ◌*◌, ◌^◌, ◌<◌, ◌≤◌, inl, inr, true, false, ◌&&◌, cond, leb, ltb, List, [], ◌∷◌, length, get_or, take, None}
+use Rattle.std.proofs.Common.{Some, refl, sym, ap, ◌∙◌, arith, min, drop, lit<}
 use borrow.Author.Count.{below_more}
 use Rattle.std.specs.Prelude.{option_map, codes}
 use Rattle.std.specs.Char.{is_digit, digit_value}
@@ -29,22 +30,27 @@ held_step most n base digit h =
 
 -- a test that fails
 pub not_within : (n most : ℕ) → most < n → leb n most ≡ false
-not_within n most h = elim (leb n most) as (λ t. leb n most ≡ t → leb n most ≡ false) [ true ↦ λ e. absurd (omega (arith, leb-true n most e)) | false ↦ λ e. e ] refl
+not_within n most h = elim (leb n most) as (λ t. leb n most ≡ t
+    → leb n most ≡ false) [ true ↦ λ e. absurd (omega (arith, leb-true n most e)) | false ↦ λ e. e ] refl
 
 pub is_within : (n most : ℕ) → n ≤ most → leb n most ≡ true
-is_within n most h = elim (leb n most) as (λ t. leb n most ≡ t → leb n most ≡ true) [ true ↦ λ e. e | false ↦ λ e. absurd (omega (arith, leb-false n most e)) ] refl
+is_within n most h = elim (leb n most) as (λ t. leb n most ≡ t
+    → leb n most ≡ true) [ true ↦ λ e. e | false ↦ λ e. absurd (omega (arith, leb-false n most e)) ] refl
 
 -- the words whose bytes are digits have a number
-pub number_is : (base : ℕ) (word : List ℕ) → 1 ≤ length word → ((k : ℕ) → k < length word → is_digit (get_or word k 0) base ≡ true) → number_of base word ≡ Some (digits_value base word)
+pub number_is : (base : ℕ) (word : List ℕ) → 1 ≤ length word → ((k : ℕ) → k < length word → is_digit (get_or word k 0) base ≡ true)
+    → number_of base word ≡ Some (digits_value base word)
 number_is base word h each =
-    let all : list_all (λ b. is_digit b base) word ≡ true = and_from_places (list_all (λ b. is_digit b base)) (λ b. is_digit b base) refl (λ _ _. refl) word 0 each in
+    let all : list_all (λ b. is_digit b base) word ≡ true = and_from_places (list_all (λ b. is_digit b base)) (λ b. is_digit b base) refl
+    (λ _ _. refl) word 0 each in
     let some : leb 1 (length word) ≡ true = is_within 1 (length word) h in
     rw (some, all) refl
 
 -- and others have none
 pub no_number : (base : ℕ) (word : List ℕ) (k : ℕ) → k < length word → is_digit (get_or word k 0) base ≡ false → number_of base word ≡ None
 no_number base word k h e =
-    let fails : list_all (λ b. is_digit b base) word ≡ false = and_fails_at (list_all (λ b. is_digit b base)) (λ b. is_digit b base) refl (λ _ _. refl) word k 0 h e in
+    let fails : list_all (λ b. is_digit b base) word ≡ false =
+    and_fails_at (list_all (λ b. is_digit b base)) (λ b. is_digit b base) refl (λ _ _. refl) word k 0 h e in
     rw (fails, and-false) refl
 
 -- the range is below the greatest number
@@ -62,7 +68,8 @@ is_below : (m n : ℕ) → m < n → ltb m n ≡ true
 is_below m n h = elim (ltb m n) as (λ t. ltb m n ≡ t → ltb m n ≡ true) [ true ↦ λ e. e | false ↦ λ e. absurd (omega (arith, ltb-false m n e)) ] refl
 
 -- a digit more is held
-pub held_more : (most base : ℕ) (word : List ℕ) (i held product digit sum : ℕ) → 1 ≤ base → i < length word → held ≡ min most (digits_value base (take i word)) → product ≡ min (held * base) most
+pub held_more : (most base : ℕ) (word : List ℕ) (i held product digit sum : ℕ) → 1 ≤ base → i < length word
+    → held ≡ min most (digits_value base (take i word)) → product ≡ min (held * base) most
     → digit ≡ digit_value (get_or word i 0) → sum ≡ min (product + digit) most → sum ≡ min most (digits_value base (take (i + 1) word))
 held_more most base word i held product digit sum some h is_held is_product is_digit is_sum =
     let v = digits_value base (take i word) in
@@ -97,7 +104,8 @@ held_whole digits h =
       | false ↦ λ e. refl
     ] refl
 
-pub guid_is : (word digits : List ℕ) (n : ℕ) → bytes_eq (take 2 word) (codes "0x") ≡ true → digits ≡ drop 2 word → length digits + 2 ≡ length word → length digits ≤ 16
+pub guid_is : (word digits : List ℕ) (n : ℕ) → bytes_eq (take 2 word) (codes "0x") ≡ true → digits ≡ drop 2 word → length digits + 2 ≡ length word
+    → length digits ≤ 16
     → Some n ≡ option_map (min (2 ^ 64 - 1)) (number_of 16 digits) → Some n ≡ guid_of word
 guid_is word digits n front behind long few e =
     let short : leb (length word) 18 ≡ true = is_within (length word) 18 (omega arith) in

@@ -1,5 +1,6 @@
 -- Where bytes are split.
-use Rattle.std.proofs.Common.{◌≡◌, ℕ, zero, suc, ◌+◌, ◌-◌, ◌<◌, ◌≤◌, Bool, true, false, cond, ◌&&◌, List, [], ◌∷◌, ◌++◌, length, get_or, take, drop, None, Some, refl, sym, ap, ◌∙◌, arith, add-one}
+use Rattle.std.proofs.Common.{◌≡◌, ℕ, zero, suc, ◌+◌, ◌-◌, ◌<◌, ◌≤◌, Bool, true, false, cond, ◌&&◌, List, [], ◌∷◌, ◌++◌, length, get_or, take, drop, None}
+use Rattle.std.proofs.Common.{Some, refl, sym, ap, ◌∙◌, arith, add-one}
 use Rattle.std.specs.Prelude.{position, ◌==◌}
 use Rattle.std.specs.List.{position_or_len}
 use Rattle.std.proofs.Math.Bool.{and-false}
@@ -25,7 +26,8 @@ none_passes p xs e k h =
     fails_before_first p xs k 0 (omega arith)
 
 -- at the first such byte
-pub until_from : (close : ℕ) (bytes : List ℕ) (i : ℕ) → i < length bytes → (get_or bytes i 0 == close) ≡ true → ((k : ℕ) → k < i → (get_or bytes k 0 == close) ≡ false)
+pub until_from : (close : ℕ) (bytes : List ℕ) (i : ℕ) → i < length bytes → (get_or bytes i 0 == close) ≡ true
+    → ((k : ℕ) → k < i → (get_or bytes k 0 == close) ≡ false)
     → until close bytes ≡ Some (take i bytes, drop (suc i) bytes)
 until_from close [] i h e f = absurd (omega arith)
 until_from close (b ∷ bytes) zero h e f = rw e refl
@@ -34,7 +36,8 @@ until_from close (b ∷ bytes) (suc i) h e f =
     let later : until close bytes ≡ Some (take i bytes, drop (suc i) bytes) = until_from close bytes i (omega arith) e (λ k l. f (suc k) (omega arith)) in
     rw (here, later) refl
 
-pub until_at : (close : ℕ) (bytes : List ℕ) (i : ℕ) → position (λ b. b == close) bytes ≡ Some i → until close bytes ≡ Some (take i bytes, take (length bytes - (i + 1)) (drop (i + 1) bytes))
+pub until_at : (close : ℕ) (bytes : List ℕ) (i : ℕ) → position (λ b. b == close) bytes ≡ Some i
+    → until close bytes ≡ Some (take i bytes, take (length bytes - (i + 1)) (drop (i + 1) bytes))
 until_at close bytes i e =
     let at = position-Some (λ b. b == close) bytes i 0 e in
     rw (to_end (i + 1) bytes, add-one) (until_from close bytes i at.0 at.1 at.2)
@@ -67,10 +70,12 @@ lines_from (b ∷ c ∷ bytes) (suc zero) h e f =
 lines_from (b ∷ c ∷ bytes) (suc (suc i)) h e f =
     let here : (b == 10) ≡ false = f 0 (omega arith) in
     let next : (c == 10) ≡ false = f 1 (omega arith) in
-    let later : lines (c ∷ bytes) ≡ without_return (c ∷ take i bytes) ∷ lines (drop (suc i) bytes) = lines_from (c ∷ bytes) (suc i) (omega arith) e (λ k l. f (suc k) (omega arith)) in
+    let later : lines (c ∷ bytes) ≡ without_return (c ∷ take i bytes) ∷ lines (drop (suc i) bytes) =
+    lines_from (c ∷ bytes) (suc i) (omega arith) e (λ k l. f (suc k) (omega arith)) in
     rw (later, here, next, and-false) refl
 
-pub lines_at : (text : List ℕ) (i : ℕ) → position (λ b. b == 10) text ≡ Some i → lines text ≡ without_return (take i text) ∷ lines (take (length text - (i + 1)) (drop (i + 1) text))
+pub lines_at : (text : List ℕ) (i : ℕ) → position (λ b. b == 10) text ≡ Some i
+    → lines text ≡ without_return (take i text) ∷ lines (take (length text - (i + 1)) (drop (i + 1) text))
 lines_at text i e =
     let at = position-Some (λ b. b == 10) text i 0 e in
     rw (to_end (i + 1) text, add-one) (lines_from text i at.0 at.1 at.2)

@@ -1,5 +1,6 @@
 -- The words of a line, one after the other.
-use Rattle.std.proofs.Common.{◌≡◌, ℕ, zero, suc, ◌-◌, ◌<◌, ◌≤◌, Bool, true, false, ◌||◌, not, List, [], ◌∷◌, ◌++◌, length, get_or, take, drop, None, Some, refl, sym, ap, ◌∙◌, subst, arith, add-zero, append_assoc, append-nil, ◌⊎◌, inl, inr}
+use Rattle.std.proofs.Common.{◌≡◌, ℕ, zero, suc, ◌-◌, ◌<◌, ◌≤◌, Bool, true, false, ◌||◌, not, List, [], ◌∷◌, ◌++◌, length, get_or, take, drop, None, Some}
+use Rattle.std.proofs.Common.{refl, sym, ap, ◌∙◌, subst, arith, add-zero, append_assoc, append-nil, ◌⊎◌, inl, inr}
 use Rattle.std.specs.Prelude.{position, ◌==◌}
 use Rattle.std.proofs.Math.Seq.{take-suc, drop-cons, drop-length}
 use Rattle.std.proofs.lemmas.Bool.{eqb-true}
@@ -53,7 +54,8 @@ begun_more line i quoted later h step b =
     let x = get_or line i 0 in
     let rest = parts later (drop (suc i) line) in
     let at : parts quoted (drop i line) ≡ onto_word x rest = ap (parts quoted) (drop-cons line i 0 h) ∙ step in
-    let longer : take i line ++ x ∷ rest.0 ≡ take (suc i) line ++ rest.0 = sym (ap (λ front. front ++ rest.0) (take-suc line i 0 h) ∙ append_assoc (take i line) (x ∷ []) rest.0) in
+    let longer : take i line ++ x ∷ rest.0 ≡ take (suc i) line ++ rest.0 =
+    sym (ap (λ front. front ++ rest.0) (take-suc line i 0 h) ∙ append_assoc (take i line) (x ∷ []) rest.0) in
     record {
       word = b.word ∙ ap (λ p. take i line ++ p.0) at ∙ longer;
       behind = b.behind ∙ ap (λ p. p.1) at;
@@ -80,7 +82,8 @@ word_ended line i false h e b =
     (b.word ∙ ap (λ w. take i line ++ w) none ∙ append-nil (take i line), b.behind ∙ sym (all_behind (parts false (drop i line)) none))
 
 -- the line has ended
-pub line_ended : (line : List ℕ) (quoted : Bool) → IsBegun line quoted (length line) → ((parts false line).0 ≡ take (length line) line) × ((parts false line).1 ≡ words (drop (length line) line))
+pub line_ended : (line : List ℕ) (quoted : Bool) → IsBegun line quoted (length line)
+    → ((parts false line).0 ≡ take (length line) line) × ((parts false line).1 ≡ words (drop (length line) line))
 line_ended line quoted b =
     let none : drop (length line) line ≡ [] = drop-length line in (
       b.word ∙ ap (λ l. take (length line) line ++ (parts quoted l).0) none ∙ append-nil (take (length line) line),
@@ -92,7 +95,8 @@ begins : (p : List ℕ × List (List ℕ)) (b : ℕ) (word : List ℕ) → p.0 �
 begins ([], later) b word e = cc
 begins (c ∷ rest, later) b word e = refl
 
-some_word : (line : List ℕ) (n : ℕ) → 0 < length line → is_behind_word false (get_or line 0 0) ≡ false → (parts false line).0 ≡ take n line → (parts false line).1 ≡ words (drop n line)
+some_word : (line : List ℕ) (n : ℕ) → 0 < length line → is_behind_word false (get_or line 0 0) ≡ false → (parts false line).0 ≡ take n line
+    → (parts false line).1 ≡ words (drop n line)
     → words line ≡ take n line ∷ words (drop n line)
 some_word [] n h e word behind = absurd (omega arith)
 some_word (b ∷ bytes) n h e word behind =

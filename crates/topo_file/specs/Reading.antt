@@ -1,5 +1,6 @@
 -- What a text says: a topology, or its first fault.
-use Rattle.std.specs.Prelude.{ℕ, zero, suc, ◌+◌, ◌^◌, ◌||◌, Bool, false, List, [], ◌∷◌, ◌++◌, Option, None, Some, Result, Ok, Err, length, is_some, nat_le, nat_lt, option_and_then, slice_get, if◌then◌else◌}
+use Rattle.std.specs.Prelude.{ℕ, zero, suc, ◌+◌, ◌^◌, ◌||◌, Bool, false, List, [], ◌∷◌, ◌++◌, Option, None, Some, Result, Ok, Err, length, is_some, nat_le}
+use Rattle.std.specs.Prelude.{nat_lt, option_and_then, slice_get, if◌then◌else◌}
 use Rattle.std.specs.Option.{option_map_or}
 use Rattle.smp_bytes.specs.NodeType.{is_switch}
 use Rattle.smp_bytes.specs.declared.cable.Cable.{Cable}
@@ -70,7 +71,8 @@ with_lines number before (line ∷ later) = with_line number before (line_of lin
 -- the port of the node at a place, where the node has it
 abbrev pub port_at : List Node → ℕ → Option ℕ → Option NodePort
 port_at nodes place port =
-    option_and_then (λ p. option_and_then (λ node. if nat_le p node.ports then Some (record { node = place; port = p }) else None) (slice_get nodes place)) port
+    option_and_then (λ p. option_and_then (λ node. if nat_le p node.ports then Some (record { node = place; port = p }) else None)
+    (slice_get nodes place)) port
 
 abbrev pub link_between : ℕ → Option NodePort → Option NodePort → Result Cable TopoFault
 link_between number (Some one) (Some other) = Ok (record { one = one; other = other })

@@ -1,5 +1,5 @@
--- What a call answers that may refuse its text.
-use Rattle.std.specs.Prelude.{◌≡◌, Result, Ok, Err}
+-- What a call answers that may refuse its text, and what is said of a fault: its line, and a word.
+use Rattle.std.specs.Prelude.{◌≡◌, ℕ, List, Option, None, Some, Result, Ok, Err, codes}
 use Rattle.topo_file.specs.declared.fault.TopoFault.{TopoFault}
 use Rattle.topo_file.specs.declared.fault.TopoFault.TheVariants.{Syntax, Name, Ports, Peer, Port, Linked, GuidRange, TooManyNodes, Memory}
 
@@ -23,3 +23,27 @@ ReadsAs seen (Err fault) told = IsRefused fault told
 -- a call answers exactly what is told, a value or the first fault, unless memory was refused
 abbrev pub Reads : {T : Type 0} → Result T TopoFault → Result T TopoFault → Type 0
 Reads result told = ReadsAs (λ value. value) result told
+
+-- what is said of the fault
+abbrev pub fault_word : TopoFault → List ℕ
+fault_word (Syntax line) = codes "syntax"
+fault_word (Name line) = codes "name"
+fault_word (Ports line) = codes "ports"
+fault_word (Peer line) = codes "peer"
+fault_word (Port line) = codes "port"
+fault_word (Linked line) = codes "linked"
+fault_word (GuidRange line) = codes "guid"
+fault_word (TooManyNodes line) = codes "too many nodes"
+fault_word Memory = codes "out of memory"
+
+-- the line that has the fault, from 1; want of memory is no line's
+abbrev pub fault_line : TopoFault → Option ℕ
+fault_line (Syntax line) = Some line
+fault_line (Name line) = Some line
+fault_line (Ports line) = Some line
+fault_line (Peer line) = Some line
+fault_line (Port line) = Some line
+fault_line (Linked line) = Some line
+fault_line (GuidRange line) = Some line
+fault_line (TooManyNodes line) = Some line
+fault_line Memory = None

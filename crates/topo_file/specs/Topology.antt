@@ -1,5 +1,6 @@
 -- What a topology is.
-use Rattle.std.specs.Prelude.{◌≡◌, ◌≢◌, ℕ, suc, ◌+◌, ◌<◌, ◌≤◌, ◌^◌, ◌==◌, ◌&&◌, Bool, List, [], ◌∷◌, All, Option, None, Some, IsTrue, option_map, length, slice_get, if◌then◌else◌}
+use Rattle.std.specs.Prelude.{◌≡◌, ◌≢◌, ℕ, suc, ◌+◌, ◌<◌, ◌≤◌, ◌^◌, ◌==◌, ◌&&◌, Bool, List, [], ◌∷◌, All, Option, None, Some, IsTrue, option_map, length}
+use Rattle.std.specs.Prelude.{slice_get, if◌then◌else◌}
 use Rattle.std.specs.List.{AllPairs}
 use Rattle.std.specs.Str.{bytes_eq}
 use Rattle.smp_bytes.specs.declared.node_type.NodeType.{NodeType}
@@ -18,6 +19,11 @@ pub record Layout : Type 0 where
 abbrev pub place_of : List Node → List ℕ → Option ℕ
 place_of [] name = None
 place_of (node ∷ nodes) name = if bytes_eq node.name name then Some 0 else option_map suc (place_of nodes name)
+
+-- the place is that of the node that has the name, or no node has it
+abbrev pub IsFound : List Node → List ℕ → Option ℕ → Type 0
+IsFound nodes name None = All (λ node. node.name ≢ name) nodes
+IsFound nodes name (Some place) = (node : Node) × (slice_get nodes place ≡ Some node) × (node.name ≡ name)
 
 -- the port is this one
 abbrev pub is_port : NodePort → NodePort → Bool

@@ -1,3 +1,5 @@
+ghost use Rattle.std.specs.Prelude.{◌≡◌};
+
 use std::alloc::{AllocError, AllocFailed};
 use thiserror::Error;
 
@@ -32,6 +34,44 @@ pub enum TopoFault {
     /// Memory was refused.
     #[error("out of memory")]
     Memory,
+}
+
+impl TopoFault {
+    ghost use Rattle.topo_file.specs.TopoFault.{fault_word, fault_line};
+
+    /// What `{}` says of the line, and the whole of what it says where there is none.
+    pub fn word(self) -> &'static str
+        ensures { result.now ≡ fault_word self }
+    {
+        match self {
+            TopoFault::Syntax { .. } => "syntax",
+            TopoFault::Name { .. } => "name",
+            TopoFault::Ports { .. } => "ports",
+            TopoFault::Peer { .. } => "peer",
+            TopoFault::Port { .. } => "port",
+            TopoFault::Linked { .. } => "linked",
+            TopoFault::GuidRange { .. } => "guid",
+            TopoFault::TooManyNodes { .. } => "too many nodes",
+            TopoFault::Memory => "out of memory",
+        }
+    }
+
+    /// The line that has the fault, from 1. Want of memory is no line's.
+    pub fn line(self) -> Option<usize>
+        ensures { result ≡ fault_line self }
+    {
+        match self {
+            TopoFault::Syntax { line }
+            | TopoFault::Name { line }
+            | TopoFault::Ports { line }
+            | TopoFault::Peer { line }
+            | TopoFault::Port { line }
+            | TopoFault::Linked { line }
+            | TopoFault::GuidRange { line }
+            | TopoFault::TooManyNodes { line } => Some(line),
+            TopoFault::Memory => None,
+        }
+    }
 }
 
 impl From<AllocError> for TopoFault {

@@ -1,6 +1,6 @@
 ghost use Rattle.std.specs.Prelude.{◌≡◌, ◌↔◌, length, slice_get, IsTrue, IfOk, option_copied};
 ghost use Rattle.topo_file.specs.Text.{lines};
-ghost use Rattle.topo_file.specs.Topology.{place_of, IsTopology, GuidsDiffer};
+ghost use Rattle.topo_file.specs.Topology.{place_of, IsFound, IsTopology, GuidsDiffer};
 ghost use Rattle.topo_file.specs.Reading.{topology_of, topology_in, told_by};
 ghost use Rattle.topo_file.specs.ReadingLaws.{IsDraft};
 ghost use Rattle.topo_file.specs.TopoFault.{Reads};
@@ -69,7 +69,8 @@ impl Topology {
 
     /// The place of the node that has the name. A search.
     pub fn find(&self, name: &str) -> Option<usize>
-        ensures { result ≡ place_of self.now.nodes name.now }
+        ensures place { result ≡ place_of self.now.nodes name.now }
+        ensures found { IsFound self.now.nodes name.now result }
     {
         self.nodes.place(&NodeName::new(name.as_bytes())?)
     }

@@ -14,4 +14,5 @@ returns-then-line-eq35 c =
 pub returns-else-line-eq35 : goal.returns-else-line-eq35
 returns-else-line-eq35 c =
     rw (c.split_at-else-line-eq35.ensures.front, c.split_at-else-line-eq35.ensures.back)
-    (word_at c.args.line.now _ _ _ (sym c.word_start.ensures ∙ c.in_ok-word_start.was) c.split_at.ensures.back c.if-line-eq35.false c.word_len.ensures.word c.word_len.ensures.behind)
+    (word_at c.args.line.now _ _ _ (sym c.word_start.ensures ∙ c.in_ok-word_start.was) c.split_at.ensures.back
+    c.if-line-eq35.false c.word_len.ensures.word c.word_len.ensures.behind)

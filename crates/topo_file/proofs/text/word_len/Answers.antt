@@ -9,15 +9,18 @@ loop-place-init c = begun c.args.line.now
 pub loop-place-preserved : goal.loop-place-preserved
 loop-place-preserved c =
     rw (c.is_quoted_after-is_quoted.ensures, add-one)
-    (in_word c.args.line.now c.loop-place.place c.loop-place.is_quoted c.loop-place-test.true (sym c.is_behind_word.ensures ∙ c.if-is_behind_word.false) c.loop-place.invariant)
+    (in_word c.args.line.now c.loop-place.place c.loop-place.is_quoted c.loop-place-test.true
+    (sym c.is_behind_word.ensures ∙ c.if-is_behind_word.false) c.loop-place.invariant)
 
 pub returns-then-is_behind_word-clause-word : goal.returns-then-is_behind_word-clause-word
 returns-then-is_behind_word-clause-word c =
-    (word_ended c.args.line.now c.loop-place.place c.loop-place.is_quoted c.loop-place-test.true (sym c.is_behind_word.ensures ∙ c.if-is_behind_word.true) c.loop-place.invariant).0
+    (word_ended c.args.line.now c.loop-place.place c.loop-place.is_quoted c.loop-place-test.true
+    (sym c.is_behind_word.ensures ∙ c.if-is_behind_word.true) c.loop-place.invariant).0
 
 pub returns-then-is_behind_word-clause-behind : goal.returns-then-is_behind_word-clause-behind
 returns-then-is_behind_word-clause-behind c =
-    (word_ended c.args.line.now c.loop-place.place c.loop-place.is_quoted c.loop-place-test.true (sym c.is_behind_word.ensures ∙ c.if-is_behind_word.true) c.loop-place.invariant).1
+    (word_ended c.args.line.now c.loop-place.place c.loop-place.is_quoted c.loop-place-test.true
+    (sym c.is_behind_word.ensures ∙ c.if-is_behind_word.true) c.loop-place.invariant).1
 
 pub returns-clause-word : goal.returns-clause-word
 returns-clause-word c =

@@ -15,7 +15,8 @@ returns-then-not-branch c = (
 
 pub loop-node-preserved : goal.loop-node-preserved
 loop-node-preserved c =
-    rw add-one (seen_more c.args.nodes.now c.loop-node.seen c.loop-node.node-index c.node-item.result c.loop-node-test.true c.node-item.is c.loop-node.invariant c.insert.new.self
+    rw add-one (seen_more c.args.nodes.now c.loop-node.seen c.loop-node.node-index c.node-item.result c.loop-node-test.true
+    c.node-item.is c.loop-node.invariant c.insert.new.self
     (allowed _ (sym c.in_ok-insert.ensures.added ∙ c.if-not-branch.false)) c.in_ok-insert.ensures.updates)
 
 pub returns : goal.returns

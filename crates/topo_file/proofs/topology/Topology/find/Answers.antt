@@ -1,11 +1,18 @@
 -- What is no name is no node's.
-use Rattle.std.proofs.Common.{sym, ap, ◌∙◌}
+use Rattle.std.proofs.Common.{◌≡◌, None, rules, sym, ap, ◌∙◌}
 use Rattle.topo_file.specs.NodeName.{name_in}
 use Rattle.topo_file.specs.Topology.{place_of}
-use Rattle.topo_file.proofs.Indexes.{unnamed}
+use Rattle.topo_file.proofs.Indexes.{unnamed, found_at}
 use Rattle.topo_file.proofs.topology.Topology.find.Goals as goal
 
 pub returns-in_err-new : goal.returns-in_err-new
 returns-in_err-new c =
-    let none = unnamed c.self.inside.nodes c.args.name.now c.self.invariant.0.nodes (ap name_in (sym c.as_bytes.ensures.value) ∙ sym c.new.ensures ∙ c.in_err-new.was) in
-    c.from_residual.ensures ∙ sym (ap (λ t. place_of t.nodes c.args.name.now) (sym c.self.view_is) ∙ none)
+    let none = unnamed c.self.inside.nodes c.args.name.now c.self.invariant.0.nodes
+    (ap name_in (sym c.as_bytes.ensures.value) ∙ sym c.new.ensures ∙ c.in_err-new.was) in
+    let same = c.from_residual.ensures ∙ sym (ap (λ t. place_of t.nodes c.args.name.now) (sym c.self.view_is) ∙ none) in
+    record { place = same; found = found_at c.args.self.now.nodes c.args.name.now c.from_residual.result same }
+
+pub returns-clause-found : goal.returns-clause-found
+returns-clause-found c =
+    let same : c.place.result ≡ place_of c.args.self.now.nodes c.args.name.now = search rules in
+    found_at c.args.self.now.nodes c.args.name.now c.place.result same
