@@ -5,3 +5,4 @@ pub mod PortChanges
 pub mod Invariants
 pub mod Recabled
 pub mod Written
+pub mod PingSteps

@@ -10,6 +10,7 @@ mod fault;
 mod flight;
 mod flights;
 mod forward;
+pub mod laws;
 mod outcome;
 mod packet;
 mod peers;

@@ -1,5 +1,6 @@
-use Rattle.std.proofs.Common.{◌≡◌, true, sym, ◌∙◌, ap, subst, rules, length}
+use Rattle.std.proofs.Common.{◌≡◌, true, sym, ◌∙◌, ap, subst, arith, length}
 use Rattle.std.specs.Prelude.{Some}
+use Rattle.std.proofs.lemmas.Grind.{common_steps}
 use Rattle.fabric_sim.specs.Simulation.{Simulation, IsSimulation, HasPeerPlace, has_cable_port, across}
 use Rattle.fabric_sim.specs.Changes.{with_peer, joined}
 use Rattle.fabric_sim.proofs.Recabled.{place_of, joined_is}
@@ -18,7 +19,7 @@ set_peer-requires-2 c =
 
 pub returns : goal.returns
 unfolding joined
-returns c = search rules
+returns c = grind (arith, common_steps)
 
 pub invariant_of-self : goal.invariant_of-self
 invariant_of-self c =

@@ -1,6 +1,7 @@
-use Rattle.std.proofs.Common.{◌≡◌, true, false, sym, ◌∙◌, ap, subst, rules, length}
+use Rattle.std.proofs.Common.{◌≡◌, true, false, sym, ◌∙◌, ap, subst, arith, length}
 use Rattle.std.specs.Prelude.{Some, None}
 use Rattle.node_agents.specs.Agent.{wired}
+use Rattle.std.proofs.lemmas.Grind.{common_steps}
 use Rattle.fabric_sim.specs.Simulation.{Simulation, IsSimulation, HasPeerPlace, has_cable_port, across}
 use Rattle.fabric_sim.specs.Delivery.{with_changed}
 use Rattle.fabric_sim.specs.Changes.{with_peer, parted}
@@ -29,7 +30,7 @@ set_peer-requires-2 c =
 
 pub returns : goal.returns
 unfolding parted
-returns c = search rules
+returns c = grind (arith, common_steps)
 
 pub invariant_of-self : goal.invariant_of-self
 invariant_of-self c =
