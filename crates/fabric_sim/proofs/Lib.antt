@@ -1,10 +1,10 @@
-pub mod Serials
 pub mod AgentLists
-pub mod PeerLists
-pub mod PortChanges
 pub mod Invariants
+pub mod PeerLists
+pub mod PingSteps
+pub mod PortChanges
 pub mod Recabled
-pub mod Written
+pub mod Serials
 pub mod TripAdvances
 pub mod TripCalls
 pub mod TripEnds
@@ -12,3 +12,4 @@ pub mod TripFlights
 pub mod TripShapes
 pub mod TripsBack
 pub mod TripsOut
+pub mod Written

@@ -1,5 +1,13 @@
-//! What is so of packets over many calls.
+//! What is so of packets on their way.
+ghost use Rattle.fabric_sim.specs.Ping.{PingsTell};
 ghost use Rattle.fabric_sim.specs.ThereAndBack.{ThereAndBack};
+
+/// What a ping tells is so: a packet that reaches a port is delivered there over so many wires, and one that is lost at
+/// a node is lost there.
+#[tactic(auto, using(crate::proofs::PingSteps::pings_tell))]
+pub fn pings_tell()
+    ensures { PingsTell }
+{}
 
 /// A directed request over a path that has an end is answered there by the delivery after as many as the path has ports,
 /// and its answer is handed to the manager that sent it by the delivery after as many again, whatever else is called, as

@@ -2,8 +2,11 @@ use Rattle.std.proofs.Common.{◌≡◌, ◌<◌, ◌+◌, ◌^◌, Bool, true, 
 use Rattle.std.specs.Prelude.{remove, slice_get, slice_set, option_map, Some}
 use Rattle.fabric_sim.specs.declared.flight.Flight.{Flight}
 use Rattle.fabric_sim.specs.Simulation.{Simulation, IsFlightAt, next_serial, has_cable_port, port_of, answer_place}
-use Rattle.fabric_sim.specs.Delivery.{asked}
-use Rattle.fabric_sim.proofs.Written.{removed, next_after, waiting_at, asks, Asks, asked_now, asked_valid, asked_result}
+use Rattle.fabric_sim.specs.Delivery.{asked, refused, Called}
+use Rattle.fabric_sim.specs.declared.fault.FabricFault.TheVariants.{SerialsSpent}
+use Rattle.fabric_sim.specs.declared.delivered.Delivered.{Delivered}
+use Rattle.std.proofs.lemmas.Bool.{cond-false}
+use Rattle.fabric_sim.proofs.Written.{removed, next_after, waiting_at, asks, Asks, asked_now, asked_valid, is_left}
 use Rattle.fabric_sim.proofs.fabric.Fabric.ask.Goals as goal
 
 fits : (c : goal.After-self-2-1) → c.in-Some.serial < 2 ^ 64
@@ -40,4 +43,5 @@ invariant_of-self c =
     (subst (λ n. n < 2 ^ 64) (sym (ap next_serial c.in-Some.is)) (fits c)) (written c)
 
 pub returns-clause-fabric : goal.returns-clause-fabric
-returns-clause-fabric c = ap (λ s. s) (written c) ∙ ?
+returns-clause-fabric c =
+    written c ∙ sym (ap (λ (done : Called Delivered). done.fabric) (cond-false _ (refused c.args.self.now SerialsSpent) _ (is_left _ _ c.in-Some.serial c.self.view_is (ap next_serial c.in-Some.is) (fits c))))

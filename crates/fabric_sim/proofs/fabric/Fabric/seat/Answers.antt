@@ -26,4 +26,4 @@ invariant_of-self c = subst IsSimulation (sym (written c)) (seated_is c.args.sel
 
 pub returns-clause-fabric : goal.returns-clause-fabric
 unfolding manager_seated
-returns-clause-fabric c = written c ∙ ?
+returns-clause-fabric c = written c ∙ search rules
