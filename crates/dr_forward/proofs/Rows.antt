@@ -42,7 +42,8 @@ either-true : (a b : Bool) → (a ≡ true) ⊎ (b ≡ true) → (a || b) ≡ tr
 either-true a b (inl h) = grind (arith, common_steps)
 either-true a b (inr h) = grind (arith, common_steps)
 
-leaves : (here : Here) (port : ℕ) (packet after : List ℕ) → 1 ≤ port → port ≤ here.ports → leaves_by here port packet after ≡ record { packet = after; verdict = Out port }
+leaves : (here : Here) (port : ℕ) (packet after : List ℕ) → 1 ≤ port → port ≤ here.ports
+    → leaves_by here port packet after ≡ record { packet = after; verdict = Out port }
 leaves here port packet after some most = taken (is_port here port) _ _ (has-port here port some most)
 
 module _ (here : Here) (packet : List ℕ) where
@@ -84,10 +85,12 @@ module _ (here : Here) (packet : List ℕ) where
       ∙ passed _ _ _ _ sent
       (passed _ _ _ _ home
       (taken _ _ _ (either-true _ _ (may_pass passes))
-      ∙ leaves here (number_in (return_path (number_in hop_pointer packet - 1)) packet) packet (pointed (number_in hop_pointer packet - 1) packet) (omega (arith, by)) (omega (arith, by))
+      ∙ leaves here (number_in (return_path (number_in hop_pointer packet - 1)) packet) packet (pointed (number_in hop_pointer packet - 1) packet)
+      (omega (arith, by)) (omega (arith, by))
       ∙ (λ j. record { packet = pointed (before j) packet; verdict = Out (by j) })))
     where
-      may_pass : (number_in hop_count packet ≡ at) ⊎ (here.is_switch ≡ true) → (nat_lt (number_in hop_count packet) (number_in hop_pointer packet) ≡ true) ⊎ (here.is_switch ≡ true)
+      may_pass : (number_in hop_count packet ≡ at) ⊎ (here.is_switch ≡ true)
+          → (nat_lt (number_in hop_count packet) (number_in hop_pointer packet) ≡ true) ⊎ (here.is_switch ≡ true)
       may_pass (inl e) = inl (is-lt _ _ (omega (arith, e, pointer)))
       may_pass (inr e) = inr e
 
@@ -145,7 +148,8 @@ module _ (packet : List ℕ) (long : length packet ≡ 256) where
         count = length-with_number (return_path at) here.arrival first (omega (arith, moved.count, path)) ∙ moved.count;
         pointer_is = number_in-with_number_apart hop_pointer (return_path at) here.arrival first (omega (arith, moved.count, path)) (grind (arith, nat_tests))
             ∙ moved.pointer_is;
-        kept = λ place k. get_or-with_number (return_path at) here.arrival first place (omega (arith, moved.count, path)) (before_notes at place k) ∙ moved.kept place k;
+        kept = λ place k. get_or-with_number (return_path at) here.arrival first place (omega (arith, moved.count, path)) (before_notes at place k)
+            ∙ moved.kept place k;
         parses = λ parses within. path_parses (192 + at) here.arrival first moved.count (omega arith) (omega (arith, path)) (moved.parses parses within);
       }
 
@@ -172,14 +176,17 @@ module _ (packet : List ℕ) (long : length packet ≡ 256) where
       (omega (arith, moved.count, path)) small
 
   -- and what was noted at other places stays
-  pub moved_on_keeps_notes : (here : Here) (i : ℕ) → number_in hop_pointer packet < 64 → i < 64 → (i < number_in hop_pointer packet) ⊎ (number_in hop_pointer packet < i)
+  pub moved_on_keeps_notes : (here : Here) (i : ℕ) → number_in hop_pointer packet < 64 → i < 64
+      → (i < number_in hop_pointer packet) ⊎ (number_in hop_pointer packet < i)
       → number_in (return_path i) (moved_on here packet) ≡ number_in (return_path i) packet
   moved_on_keeps_notes here i path within apart =
       let at : ℕ = number_in hop_pointer packet in
       let moved = pointed_is (at + 1) (omega (arith, path)) in
-      elim (at == 0) as (λ t. number_in (return_path i) (if t then pointed 1 packet else noted at here (pointed (at + 1) packet)) ≡ number_in (return_path i) packet) [
+      elim (at == 0) as
+      (λ t. number_in (return_path i) (if t then pointed 1 packet else noted at here (pointed (at + 1) packet)) ≡ number_in (return_path i) packet) [
         | true ↦ pointed_keeps_notes 1 i within
         | false ↦
-            number_in-with_number_apart (return_path i) (return_path at) here.arrival (pointed (at + 1) packet) (omega (arith, moved.count, path)) (notes_apart at i apart)
+            number_in-with_number_apart (return_path i) (return_path at) here.arrival (pointed (at + 1) packet)
+            (omega (arith, moved.count, path)) (notes_apart at i apart)
             ∙ pointed_keeps_notes (at + 1) i within
       ]

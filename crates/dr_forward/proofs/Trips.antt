@@ -77,7 +77,8 @@ module _ {path request : List ℕ} (r : IsRequestOver path request) (noted : ℕ
         here_noted : 0 < k → number_in (return_path k) (moved_on here bytes) ≡ noted k
         here_noted some =
             subst (λ n. number_in (return_path n) (moved_on here bytes) ≡ here.arrival) o.pointer
-            (moved_on_notes bytes o.count here (omega (arith, o.pointer)) (omega (arith, o.pointer, within, r.short)) (omega (arith, arrives some, small k some within)))
+            (moved_on_notes bytes o.count here (omega (arith, o.pointer)) (omega (arith, o.pointer, within, r.short))
+            (omega (arith, arrives some, small k some within)))
             ∙ arrives some
 
         notes : (i : ℕ) → 0 < i → i < k + 1 → number_in (return_path i) (moved_on here bytes) ≡ noted i
@@ -147,7 +148,8 @@ pub record Turns (path : List ℕ) (noted : ℕ → ℕ) (answer : List ℕ) : T
   pub reads : IsAnswerBack (length path) answer
 
 module _ {path request : List ℕ} (r : IsRequestOver path request) (noted : ℕ → ℕ) (small : (i : ℕ) → 0 < i → i ≤ length path → noted i < 256)
-    {bytes : List ℕ} (o : IsOut request noted (length path + 1) bytes) (given : ℕ) (payload : List ℕ) (a : HoldsAnswer bytes (answer_packet bytes given payload) given payload) where
+    {bytes : List ℕ} (o : IsOut request noted (length path + 1) bytes) (given : ℕ) (payload : List ℕ)
+    (a : HoldsAnswer bytes (answer_packet bytes given payload) given payload) where
   same_field : (f : Field) → (128 ≤ f.at) ⊎ ((6 ≤ f.at) × (f.at + f.len ≤ 64)) → number_in f (answer_packet bytes given payload) ≡ number_in f bytes
   same_field f apart =
       number_in-alike f (answer_packet bytes given payload) bytes (λ place from less. a.kept place (kept_in_answer place (inside f place apart from less)))
@@ -197,7 +199,8 @@ module _ {hops : ℕ} {answer : List ℕ} (r : IsAnswerBack hops answer) (noted 
   goes_back here before is most passes some within =
       let new = pointed_is bytes b.count k (omega (arith, most, r.short)) in
       record {
-        step_is = back_row here bytes k (noted k) back_returning b.pointer (omega (arith, is)) (from_end passes) (b.notes k (omega (arith, is)) most) some within;
+        step_is = back_row here bytes k (noted k) back_returning b.pointer (omega (arith, is)) (from_end passes)
+            (b.notes k (omega (arith, is)) most) some within;
         then = record {
           count = new.count;
           parses = new.parses b.parses (omega (arith, most, back_hops));

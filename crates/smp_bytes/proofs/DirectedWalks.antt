@@ -45,6 +45,10 @@ crosses f out p q h = by_switch (is_switch_at f p.node) refl
     by_switch true e = (e, sym (ap (λ b. cond b (f.across (record { node = p.node; port = out })) None) e) ∙ h)
     by_switch false e = absurd (cc (sym (ap (λ b. cond b (f.across (record { node = p.node; port = out })) None) e) ∙ h))
 
+no_hop : (f : Fabric) (p end : NodePort) → p ≡ end → Stops f p [] end
+no_hop f p end same =
+    record { at = λ k. p; first = refl; last = same; wires = λ k less. absurd (omega arith); switches = λ k some less. absurd (omega arith) }
+
 -- a port in front of those of a walk
 abbrev in_front : NodePort → (ℕ → NodePort) → ℕ → NodePort
 in_front p at zero = p
@@ -72,7 +76,7 @@ record GoesOn (f : Fabric) (p : NodePort) (path : List ℕ) (end : NodePort) : T
 goes_on : (f : Fabric) (p : NodePort) (path : List ℕ) (end : NodePort) → walk_on f p path ≡ Some end → GoesOn f p path end
 goes_on f p [] end h =
     record {
-      stops = record { at = λ k. p; first = refl; last = same_Some p end h; wires = λ k less. absurd (omega arith); switches = λ k some less. absurd (omega arith) };
+      stops = no_hop f p end (same_Some p end h);
       passes = λ some. absurd (omega arith);
     }
 goes_on f p (out ∷ path) end h = by_port (λ q. goes_on f q path end) (on_by f out p) refl h
@@ -88,7 +92,7 @@ goes_on f p (out ∷ path) end h = by_port (λ q. goes_on f q path end) (on_by f
 -- a path that has an end leads there stop by stop
 pub stops_along : (f : Fabric) (origin : NodePort) (path : List ℕ) (end : NodePort) → directed_end f origin path ≡ Some end → Stops f origin path end
 stops_along f origin [] end h =
-    record { at = λ k. origin; first = refl; last = same_Some origin end h; wires = λ k less. absurd (omega arith); switches = λ k some less. absurd (omega arith) }
+    no_hop f origin end (same_Some origin end h)
 stops_along f origin (out ∷ path) end h = by_port (f.across (record { node = origin.node; port = out })) refl h
   where
     by_port : (m : Option NodePort) → f.across (record { node = origin.node; port = out }) ≡ m → option_and_then (λ q. walk_on f q path) m ≡ Some end
