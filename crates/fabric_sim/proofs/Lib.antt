@@ -6,3 +6,4 @@ pub mod Invariants
 pub mod Recabled
 pub mod Written
 pub mod PingSteps
+pub mod Built
