@@ -1,4 +1,5 @@
 pub mod AgentLists
+pub mod Built
 pub mod Invariants
 pub mod PeerLists
 pub mod PingSteps

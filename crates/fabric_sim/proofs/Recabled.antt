@@ -93,18 +93,18 @@ module _ (s : Simulation) (is : IsSimulation s) (p q : NodePort) (b : Bool) (at_
   pub q_port_then : has_cable_port (wired_at s.agents p b) q ≡ true
   q_port_then = cable_ports_stay s.agents (wired_at s.agents p b) (keeps_wired s.agents p b) q ∙ ends.q_port
 
-  across-q : across peers_now q ≡ at_q
-  across-q = across_here (with_peer s.peers p at_p) q at_q (has_place_after s.peers p q at_p (place_of s q is ends.q_port))
+  pub across_q : across peers_now q ≡ at_q
+  across_q = across_here (with_peer s.peers p at_p) q at_q (has_place_after s.peers p q at_p (place_of s q is ends.q_port))
 
-  across-p : across peers_now p ≡ at_p
-  across-p =
+  pub across_p : across peers_now p ≡ at_p
+  across_p =
       elim (same_or_apart p q) [
-        | inl e ↦ subst (λ r. across peers_now r ≡ at_p) (sym e) (across-q ∙ ends.loop e)
+        | inl e ↦ subst (λ r. across peers_now r ≡ at_p) (sym e) (across_q ∙ ends.loop e)
         | inr ne ↦ across_apart (with_peer s.peers p at_p) q p at_q (λ e. ne (sym e)) ∙ across_here s.peers p at_p (place_of s p is ends.p_port)
       ]
 
-  pub across-other : (r : NodePort) → p ≢ r → q ≢ r → across peers_now r ≡ across s.peers r
-  across-other r np nq = across_apart (with_peer s.peers p at_p) q r at_q nq ∙ across_apart s.peers p r at_p np
+  pub across_other : (r : NodePort) → p ≢ r → q ≢ r → across peers_now r ≡ across s.peers r
+  across_other r np nq = across_apart (with_peer s.peers p at_p) q r at_q nq ∙ across_apart s.peers p r at_p np
 
   state-q : state_of agents_now q ≡ state_by b
   state-q = state-here (wired_at s.agents p b) q b (all-wired s.agents p b ends.p_port is.agents) q_port_then
@@ -119,8 +119,8 @@ module _ (s : Simulation) (is : IsSimulation s) (p q : NodePort) (b : Bool) (at_
   state-other : (r : NodePort) → p ≢ r → q ≢ r → state_of agents_now r ≡ state_of s.agents r
   state-other r np nq = state-apart (wired_at s.agents p b) q r b nq ∙ state-apart s.agents p r b np
 
-  keeps-both : AllRelated KeepsSeats s.agents agents_now
-  keeps-both place = by (slice_get s.agents place) (slice_get (wired_at s.agents p b) place) (slice_get agents_now place) (keeps_wired s.agents p b place) (keeps_wired (wired_at s.agents p b) q b place)
+  pub keeps_both : AllRelated KeepsSeats s.agents agents_now
+  keeps_both place = by (slice_get s.agents place) (slice_get (wired_at s.agents p b) place) (slice_get agents_now place) (keeps_wired s.agents p b place) (keeps_wired (wired_at s.agents p b) q b place)
     where
       by : (l m n : Option Agent) → Related KeepsSeats l m → Related KeepsSeats m n → Related KeepsSeats l n
       by None None None h k = tt
@@ -142,10 +142,10 @@ module _ (s : Simulation) (is : IsSimulation s) (p q : NodePort) (b : Bool) (at_
   down-now : (r : NodePort) → has_cable_port s.agents r ≡ true → (state_of agents_now r ≡ Down) ↔ (across peers_now r ≡ None)
   down-now r port =
       elim (same_or_apart q r) [
-        | inl e ↦ subst (λ r. (state_of agents_now r ≡ Down) ↔ (across peers_now r ≡ None)) e (iff-by _ _ _ _ state-q across-q ends.down_q)
+        | inl e ↦ subst (λ r. (state_of agents_now r ≡ Down) ↔ (across peers_now r ≡ None)) e (iff-by _ _ _ _ state-q across_q ends.down_q)
         | inr nq ↦ elim (same_or_apart p r) [
-            | inl e ↦ subst (λ r. (state_of agents_now r ≡ Down) ↔ (across peers_now r ≡ None)) e (iff-by _ _ _ _ state-p across-p ends.down_p)
-            | inr np ↦ iff-by _ _ _ _ (state-other r np nq) (across-other r np nq) (down-before r port)
+            | inl e ↦ subst (λ r. (state_of agents_now r ≡ Down) ↔ (across peers_now r ≡ None)) e (iff-by _ _ _ _ state-p across_p ends.down_p)
+            | inr np ↦ iff-by _ _ _ _ (state-other r np nq) (across_other r np nq) (down-before r port)
           ]
       ]
 
@@ -156,7 +156,7 @@ module _ (s : Simulation) (is : IsSimulation s) (p q : NodePort) (b : Bool) (at_
         | inl f ↦ subst (λ r. has_cable_port s.agents r ≡ true) f ends.q_port
         | inr nq ↦ elim (same_or_apart p r) [
             | inl f ↦ subst (λ r. has_cable_port s.agents r ≡ true) f ends.p_port
-            | inr np ↦ is.cables.ends r t (sym (across-other r np nq) ∙ e)
+            | inr np ↦ is.cables.ends r t (sym (across_other r np nq) ∙ e)
           ]
       ]
 
@@ -165,13 +165,13 @@ module _ (s : Simulation) (is : IsSimulation s) (p q : NodePort) (b : Bool) (at_
       recabled s agents_now peers_now is
       (length-changed (wired_at s.agents p b) q.node (λ a. wired a q.port b) ∙ length-changed s.agents p.node (λ a. wired a p.port b))
       (all-wired (wired_at s.agents p b) q b q_port_then (all-wired s.agents p b ends.p_port is.agents))
-      keeps-both
+      keeps_both
       (λ r h. is.seats r (seats_before s.agents (wired_at s.agents p b) (no-new s.agents p b) r (seats_before (wired_at s.agents p b) agents_now (no-new (wired_at s.agents p b) q b) r h)))
       (length-with_peer (with_peer s.peers p at_p) q at_q ∙ length-with_peer s.peers p at_p)
       (λ place. length-row (with_peer s.peers p at_p) q at_q place ∙ length-row s.peers p at_p place)
       cabled-now back
       (λ r a e port.
-      let there : has_cable_port s.agents r ≡ true = sym (cable_ports_stay s.agents agents_now keeps-both r) ∙ port in
+      let there : has_cable_port s.agents r ≡ true = sym (cable_ports_stay s.agents agents_now keeps_both r) ∙ port in
       iff-by _ _ _ _ (sym (ap (λ m. option_map_or (λ a. state_at a r.port) m Down) e)) refl (down-now r there))
 
 -- plugged in ---------------------------------------------------------------------------------
@@ -179,18 +179,18 @@ module _ (s : Simulation) (is : IsSimulation s) (p q : NodePort) (b : Bool) (at_
 some-is : (q t : NodePort) → ◌≡◌ {A = Option NodePort} (Some q) (Some t) → q ≡ t
 some-is q t e = cc
 
-joined-ends : (s : Simulation) (p q : NodePort) → has_cable_port s.agents p ≡ true → has_cable_port s.agents q ≡ true → Ends s p q true (Some q) (Some p)
-joined-ends s p q hp hq =
+pub joined_ends : (s : Simulation) (p q : NodePort) → has_cable_port s.agents p ≡ true → has_cable_port s.agents q ≡ true → Ends s p q true (Some q) (Some p)
+joined_ends s p q hp hq =
     record { p_port = hp; q_port = hq; loop = λ e. cc; down_p = (λ d. cc, λ d. cc); down_q = (λ d. cc, λ d. cc) }
 
 pub joined_is : (s : Simulation) (p q : NodePort) → IsSimulation s → has_cable_port s.agents p ≡ true → has_cable_port s.agents q ≡ true → across s.peers p ≡ None → across s.peers q ≡ None → IsSimulation (joined s p q)
 unfolding joined
 joined_is s p q is hp hq free_p free_q =
-    let ends : Ends s p q true (Some q) (Some p) = joined-ends s p q hp hq in
+    let ends : Ends s p q true (Some q) (Some p) = joined_ends s p q hp hq in
     let peers : List (List (Option NodePort)) = with_peer (with_peer s.peers p (Some q)) q (Some p) in
-    let here_q : across peers q ≡ Some p = across-q s is p q true (Some q) (Some p) ends in
-    let here_p : across peers p ≡ Some q = across-p s is p q true (Some q) (Some p) ends in
-    let other : (r : NodePort) → p ≢ r → q ≢ r → across peers r ≡ across s.peers r = across-other s is p q true (Some q) (Some p) ends in
+    let here_q : across peers q ≡ Some p = across_q s is p q true (Some q) (Some p) ends in
+    let here_p : across peers p ≡ Some q = across_p s is p q true (Some q) (Some p) ends in
+    let other : (r : NodePort) → p ≢ r → q ≢ r → across peers r ≡ across s.peers r = across_other s is p q true (Some q) (Some p) ends in
     ends_written s is p q true (Some q) (Some p) ends (λ r t e.
     elim (same_or_apart q r) [
       | inl f ↦ let e' : across peers q ≡ Some t = subst (λ r. across peers r ≡ Some t) (sym f) e in
@@ -223,9 +223,9 @@ parted_is s p q is cable =
     let hq : has_cable_port s.agents q ≡ true = is.cables.ends q p cable_back in
     let ends : Ends s p q false None None = parted-ends s p q hp hq in
     let peers : List (List (Option NodePort)) = with_peer (with_peer s.peers p None) q None in
-    let here_q : across peers q ≡ None = across-q s is p q false None None ends in
-    let here_p : across peers p ≡ None = across-p s is p q false None None ends in
-    let other : (r : NodePort) → p ≢ r → q ≢ r → across peers r ≡ across s.peers r = across-other s is p q false None None ends in
+    let here_q : across peers q ≡ None = across_q s is p q false None None ends in
+    let here_p : across peers p ≡ None = across_p s is p q false None None ends in
+    let other : (r : NodePort) → p ≢ r → q ≢ r → across peers r ≡ across s.peers r = across_other s is p q false None None ends in
     ends_written s is p q false None None ends (λ r t e.
     elim (same_or_apart q r) [
       | inl f ↦ let e' : across peers q ≡ Some t = subst (λ r. across peers r ≡ Some t) (sym f) e in cc

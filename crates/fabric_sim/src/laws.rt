@@ -4,7 +4,6 @@ ghost use Rattle.fabric_sim.specs.ThereAndBack.{ThereAndBack};
 
 /// What a ping tells is so: a packet that reaches a port is delivered there over so many wires, and one that is lost at
 /// a node is lost there.
-#[tactic(auto, using(crate::proofs::PingSteps::pings_tell))]
 pub fn pings_tell()
     ensures { PingsTell }
 {}

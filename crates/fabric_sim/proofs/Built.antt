@@ -1,0 +1,228 @@
+-- The fabric of a topology: as its nodes are before any cable, and as its links are put in one after the other.
+use Rattle.std.proofs.Common.{◌≡◌, ◌≢◌, ℕ, zero, suc, ◌+◌, ◌-◌, ◌^◌, ◌<◌, ◌≤◌, ◌↔◌, ◌⊎◌, inl, inr, Bool, true, false, ◌&&◌, ◌==◌, List, [], ◌∷◌, ◌++◌, length, get_or, take, replicate, refl, arith, ap, sym, ◌∙◌, subst}
+use Rattle.std.specs.Prelude.{Option, Some, None, option_map, is_none, All, AllPairs, map, slice_get, nat_le, IsTrue, if◌then◌else◌}
+use Rattle.std.specs.Option.{option_map_or}
+use Rattle.std.proofs.lemmas.Bool.{and_parts, and_from, leb-true, le-leb, cond-true, cond-false}
+use Rattle.std.proofs.lemmas.Option.{slice_get-map, slice_get_within, get_or_from_slice_get}
+use Rattle.std.proofs.lemmas.List.{length-map, length-append, length-replicate, length-take-le, get_or-take, take_more}
+use Rattle.std.proofs.lemmas.List.Elements.{All-map, All-weaker}
+use Rattle.smp_bytes.specs.declared.node_type.NodeType.{NodeType}
+use Rattle.smp_bytes.specs.declared.node_type.NodeType.TheVariants.{ChannelAdapter, Switch, Router}
+use Rattle.smp_bytes.specs.NodeType as types
+use Rattle.smp_bytes.specs.declared.cable.NodePort.{NodePort}
+use Rattle.smp_bytes.specs.declared.cable.Cable.{Cable}
+use Rattle.smp_bytes.proofs.Cabled.{same_port-is, same_port-refl}
+use Rattle.attr_codec.specs.declared.port_state.PortState.{PortState}
+use Rattle.attr_codec.specs.declared.port_state.PortState.TheVariants.{Down}
+use Rattle.topo_file.specs.declared.node.Node.{Node}
+use Rattle.topo_file.specs.Topology.{Layout, IsTopology, IsNode, IsOfKind, IsPortIn, IsLinkIn, AreApart, other_end, is_port}
+use Rattle.node_agents.specs.declared.agent_node.AgentNode.{AgentNode}
+use Rattle.node_agents.specs.declared.port.Port.{Port}
+use Rattle.node_agents.specs.Agent.{Agent, IsAgent, IsAgentNode, fresh_agent, has_seat, state_at, port_in}
+use Rattle.node_agents.proofs.Made.{agents_are_made}
+use Rattle.fabric_sim.specs.Simulation.{Simulation, IsSimulation, across, has_cable_port}
+use Rattle.fabric_sim.specs.Changes.{joined}
+use Rattle.fabric_sim.specs.Build.{agent_node, new_agent, no_peers, uncabled, cabled}
+use Rattle.fabric_sim.proofs.AgentLists.{cable_ports_stay}
+use Rattle.fabric_sim.proofs.PeerLists.{same_or_apart}
+use Rattle.fabric_sim.proofs.Recabled.{Ends, joined_ends, across_q, across_p, across_other, keeps_both}
+
+-- one node -----------------------------------------------------------------------------
+
+of_kind : (kind : NodeType) (ports guid cap : ℕ) → IsOfKind kind ports guid cap → (cap ≤ 49152) × (types.is_switch kind ≡ false → cap ≡ 0) × (types.is_switch kind ≡ false → guid + ports < 2 ^ 64)
+of_kind Switch ports guid cap h = (h.1, λ e. cc, λ e. cc)
+of_kind ChannelAdapter ports guid cap h = (let n = h.0 in omega arith, λ e. h.0, λ e. h.1)
+of_kind Router ports guid cap h = absurd h
+
+pub is_agent_node : (node : Node) → IsNode node → IsAgentNode (agent_node node)
+is_agent_node node is =
+    let kinds = of_kind node.kind node.ports node.guid node.cap is.of_kind in
+    record { ports = (is.some_ports, is.port_range); cap = kinds.0; no_table = kinds.1; port_guids = kinds.2 }
+
+pub name_long : (node : Node) → IsNode node → length node.name ≤ 64
+name_long node is = leb-true _ _ (and_parts _ _ (and_parts _ _ is.named).0).1
+
+described : (node : Node) → IsNode node → length (agent_node node).description ≡ 64
+described node is =
+    let n = name_long node is in
+    length-append node.name (replicate (64 - length node.name) 0) ∙ (ap (λ k. length node.name + k) (length-replicate (64 - length node.name) 0) ∙ omega arith)
+
+pub new_agent_is : (node : Node) → IsNode node → IsAgent (new_agent node)
+new_agent_is node is = agents_are_made.fresh (agent_node node) (is_agent_node node is) (described node is)
+
+pub node_of_new : (node : Node) → (new_agent node).node ≡ agent_node node
+unfolding fresh_agent
+node_of_new node = refl
+
+-- the same element anywhere
+all-same : {X : Type 0} (n i : ℕ) (x : X) → get_or (replicate n x) i x ≡ x
+all-same zero i x = refl
+all-same (suc n) zero x = refl
+all-same (suc n) (suc i) x = all-same n i x
+
+nobody : (node : Node) (port : ℕ) → has_seat (new_agent node) port ≡ false
+unfolding fresh_agent
+nobody node zero = refl
+nobody node (suc port) = ap (λ p. p.is_sm) (all-same node.ports port (port_in Down))
+
+is_down : (node : Node) (port : ℕ) → 1 ≤ port → state_at (new_agent node) port ≡ Down
+unfolding fresh_agent
+is_down node zero h = absurd (omega arith)
+is_down node (suc port) h = ap (λ p. p.state) (all-same node.ports port (port_in Down))
+
+-- all of them ----------------------------------------------------------------------------
+
+pub across_none : (nodes : List Node) (p : NodePort) → across (map no_peers nodes) p ≡ None
+across_none nodes p = by nodes p.node
+  where
+    by : (nodes : List Node) (place : ℕ) → get_or (get_or (map no_peers nodes) place []) p.port None ≡ None
+    by [] place = refl
+    by (node ∷ nodes) zero = all-same (node.ports + 1) p.port None
+    by (node ∷ nodes) (suc place) = by nodes place
+
+-- the agent at a place is a node's
+pub record OfNode (nodes : List Node) (place : ℕ) (a : Agent) : Type 0 where
+  pub node : Node
+  pub there : slice_get nodes place ≡ Some node
+  pub agent : new_agent node ≡ a
+
+of_node : (nodes : List Node) (place : ℕ) (a : Agent) → slice_get (map new_agent nodes) place ≡ Some a → OfNode nodes place a
+of_node nodes place a e = by (slice_get nodes place) refl (sym (slice_get-map new_agent nodes place) ∙ e)
+  where
+    by : (m : Option Node) → slice_get nodes place ≡ m → option_map new_agent m ≡ Some a → OfNode nodes place a
+    by None f h = cc
+    by (Some node) f h = record { node = node; there = f; agent = cc }
+
+list-at : (nodes : List Node) (place : ℕ) (node : Node) → slice_get nodes place ≡ Some node → length (get_or (map no_peers nodes) place []) ≡ node.ports + 1
+list-at [] place node e = cc
+list-at (x ∷ xs) zero node e = let same : x ≡ node = cc in length-replicate (x.ports + 1) None ∙ ap (λ n. n.ports + 1) same
+list-at (x ∷ xs) (suc place) node e = list-at xs place node e
+
+pub uncabled_is : (nodes : List Node) (first : ℕ) → length nodes ≤ 1024 → All IsNode nodes → first < 2 ^ 64 → IsSimulation (uncabled nodes first)
+uncabled_is nodes first few all fits =
+    record {
+      few = subst (λ n. n ≤ 1024) (sym (length-map nodes new_agent)) few;
+      agents = All-map IsAgent new_agent nodes (All-weaker IsNode (λ node. IsAgent (new_agent node)) new_agent_is nodes all);
+      seats = λ p h. nobody-sits p h;
+      cables = record {
+        lists = length-map nodes no_peers ∙ sym (length-map nodes new_agent);
+        fit = λ place a e. let of = of_node nodes place a e in
+            list-at nodes place of.node of.there ∙ (sym (ap (λ n. n.ports + 1) (node_of_new of.node)) ∙ ap (λ a. a.node.ports + 1) of.agent);
+        ends = λ p q e. let none = across_none nodes p in cc;
+        lead_back = λ p q e. let none = across_none nodes p in cc;
+        down = λ p a e port. let of = of_node nodes p.node a e in
+            (λ h. across_none nodes p, λ h. sym (ap (λ a. state_at a p.port) of.agent) ∙ is_down of.node p.port (leb-true _ _ (and_parts _ _ port).0));
+      };
+      waiting = λ k d h. absurd (omega arith);
+      rising = λ i j d h k. absurd (omega arith);
+      next = omega arith;
+    }
+  where
+    sits : (p : NodePort) (m : Option Agent) → slice_get (map new_agent nodes) p.node ≡ m → option_map_or (λ a. has_seat a p.port) m false ≡ true → ⊥
+    sits p None e h = cc
+    sits p (Some a) e h = let of = of_node nodes p.node a e in let no : has_seat a p.port ≡ false = sym (ap (λ a. has_seat a p.port) of.agent) ∙ nobody of.node p.port in cc
+    nobody-sits : (p : NodePort) → option_map_or (λ a. has_seat a p.port) (slice_get (map new_agent nodes) p.node) false ≡ true → has_cable_port (map new_agent nodes) p ≡ true
+    nobody-sits p h = absurd (sits p (slice_get (map new_agent nodes) p.node) refl h)
+
+-- a port of a link is a cable port
+pub link_port : (nodes : List Node) (p : NodePort) → IsPortIn nodes p → has_cable_port (map new_agent nodes) p ≡ true
+link_port nodes p is =
+    let at : slice_get (map new_agent nodes) p.node ≡ Some (new_agent is.node) = slice_get-map new_agent nodes p.node ∙ ap (option_map new_agent) is.there in
+    let ports : (new_agent is.node).node.ports ≡ is.node.ports = ap (λ n. n.ports) (node_of_new is.node) in
+    let some = is.some in let within = is.within in
+    and_from _ _ (le-leb _ _ is.some) (ap (λ m. nat_le p.port (option_map_or (λ a. a.node.ports) m 0)) at ∙ le-leb _ _ (omega arith))
+
+-- one link more ---------------------------------------------------------------------------
+
+pub cabled-append : (links : List Cable) (link : Cable) (s : Simulation) → cabled (links ++ link ∷ []) s ≡ joined (cabled links s) link.one link.other
+cabled-append [] link s = refl
+cabled-append (l ∷ links) link s = cabled-append links link (joined s l.one l.other)
+
+-- no link is in a port from which each is apart
+pub free : (links : List Cable) (p : NodePort) → All (λ l. (l.one ≢ p) × (l.other ≢ p)) links → other_end links p ≡ None
+free [] p apart = refl
+free (l ∷ links) p apart =
+    let h = apart 0 l (omega arith) in
+    cond-false _ _ _ (not-port l.one p h.0) ∙ (cond-false _ _ _ (not-port l.other p h.1) ∙ free links p (λ k d n. apart (suc k) d (omega arith)))
+  where
+    not-port : (q p : NodePort) → q ≢ p → is_port q p ≡ false
+    not-port q p ne = by (is_port q p) refl
+      where
+        by : (b : Bool) → is_port q p ≡ b → b ≡ false
+        by true e = absurd (ne (same_port-is q p e))
+        by false e = refl
+
+-- with one more the earlier ones come first
+pub other_end-append : (links : List Cable) (link : Cable) (p : NodePort) (m : Option NodePort) → other_end links p ≡ m → other_end (links ++ link ∷ []) p ≡ (if is_none m then other_end (link ∷ []) p else m)
+other_end-append [] link p m e = subst (λ m. other_end (link ∷ []) p ≡ (if is_none m then other_end (link ∷ []) p else m)) e refl
+other_end-append (l ∷ links) link p m e = by (λ m e. other_end-append links link p m e) (is_port l.one p) refl (is_port l.other p) refl e
+  where
+    by : ((m : Option NodePort) → other_end links p ≡ m → other_end (links ++ link ∷ []) p ≡ (if is_none m then other_end (link ∷ []) p else m))
+        → (b : Bool) → is_port l.one p ≡ b → (c : Bool) → is_port l.other p ≡ c → (if b then Some l.other else if c then Some l.one else other_end links p) ≡ m
+        → (if is_port l.one p then Some l.other else if is_port l.other p then Some l.one else other_end (links ++ link ∷ []) p) ≡ (if is_none m then other_end (link ∷ []) p else m)
+    by rest true f c g h = cond-true _ _ _ f ∙ subst (λ m. Some l.other ≡ (if is_none m then other_end (link ∷ []) p else m)) h refl
+    by rest false f true g h = cond-false _ _ _ f ∙ (cond-true _ _ _ g ∙ subst (λ m. Some l.one ≡ (if is_none m then other_end (link ∷ []) p else m)) h refl)
+    by rest false f false g h = cond-false _ _ _ f ∙ (cond-false _ _ _ g ∙ rest m h)
+
+not_port : (q p : NodePort) → q ≢ p → is_port q p ≡ false
+not_port q p ne = by (is_port q p) refl
+  where
+    by : (b : Bool) → is_port q p ≡ b → b ≡ false
+    by true e = absurd (ne (same_port-is q p e))
+    by false e = refl
+
+keep : (m : Option NodePort) → (if is_none m then None else m) ≡ m
+keep None = refl
+keep (Some q) = refl
+
+-- the cables with a link more
+pub link_added : (links : List Cable) (link : Cable) (s : Simulation) → IsSimulation s → has_cable_port s.agents link.one ≡ true → has_cable_port s.agents link.other ≡ true
+    → other_end links link.one ≡ None → other_end links link.other ≡ None
+    → ((r : NodePort) → across s.peers r ≡ other_end links r) → (r : NodePort) → across (joined s link.one link.other).peers r ≡ other_end (links ++ link ∷ []) r
+unfolding joined
+link_added links link s is hp hq free_p free_q cables r =
+    let p : NodePort = link.one in
+    let q : NodePort = link.other in
+    let ends : Ends s p q true (Some q) (Some p) = joined_ends s p q hp hq in
+    elim (same_or_apart p r) [
+      | inl e ↦ subst (λ r. across (joined s p q).peers r ≡ other_end (links ++ link ∷ []) r) e
+          (across_p s is p q true (Some q) (Some p) ends
+          ∙ sym (other_end-append links link p None free_p ∙ cond-true _ _ _ (same_port-refl p)))
+      | inr np ↦ elim (same_or_apart q r) [
+          | inl e ↦ subst (λ r. p ≢ r → across (joined s p q).peers r ≡ other_end (links ++ link ∷ []) r) e
+              (λ np. across_q s is p q true (Some q) (Some p) ends
+              ∙ sym (other_end-append links link q None free_q ∙ (cond-false _ _ _ (not_port p q np) ∙ cond-true _ _ _ (same_port-refl q)))) np
+          | inr nq ↦ across_other s is p q true (Some q) (Some p) ends r np nq
+              ∙ (cables r ∙ sym (other_end-append links link r (other_end links r) refl
+              ∙ (ap (λ none. if is_none (other_end links r) then none else other_end links r) (cond-false _ _ _ (not_port p r np) ∙ cond-false _ _ _ (not_port q r nq)) ∙ keep (other_end links r))))
+        ]
+    ]
+
+-- the ports into which a cable can go stay
+pub joined_ports : (s : Simulation) (p q : NodePort) → IsSimulation s → has_cable_port s.agents p ≡ true → has_cable_port s.agents q ≡ true → (r : NodePort) → has_cable_port (joined s p q).agents r ≡ has_cable_port s.agents r
+unfolding joined
+joined_ports s p q is hp hq r = cable_ports_stay s.agents _ (keeps_both s is p q true (Some q) (Some p) (joined_ends s p q hp hq)) r
+
+-- a link of a topology is in ports that no earlier one is in
+pub record NextLink (t : Layout) (i : ℕ) (link : Cable) : Type 0 where
+  pub link_in : IsLinkIn t.nodes link
+  pub one_free : other_end (take i t.links) link.one ≡ None
+  pub other_free : other_end (take i t.links) link.other ≡ None
+  pub more : take (i + 1) t.links ≡ take i t.links ++ link ∷ []
+
+pub next_link : (t : Layout) (i : ℕ) (link : Cable) → IsTopology t → slice_get t.links i ≡ Some link → NextLink t i link
+next_link t i link is at =
+    let within : i < length t.links = slice_get_within t.links i link at in
+    let here : get_or t.links i link ≡ link = get_or_from_slice_get t.links i link link at in
+    let apart : (k : ℕ) (d : Cable) → k < length (take i t.links) → AreApart (get_or (take i t.links) k d) link = λ k d h.
+    let n : length (take i t.links) ≡ i = length-take-le i t.links (omega arith) in
+    let below : k < i = omega arith in
+    let long : k < length t.links = omega arith in
+    subst (λ x. AreApart x link) (sym (get_or-take i t.links k d below))
+    (subst (λ y. AreApart (get_or t.links k d) y) (get_or_from_slice_get t.links i link d at) (is.apart k i d below within)) in
+    record {
+      link_in = subst (IsLinkIn t.nodes) here (is.links i link within);
+      one_free = free (take i t.links) link.one (λ k d h. ((apart k d h).one_one, (apart k d h).other_one));
+      other_free = free (take i t.links) link.other (λ k d h. ((apart k d h).one_other, (apart k d h).other_other));
+      more = take_more t.links i link within ∙ ap (λ x. take i t.links ++ x ∷ []) here;
+    }

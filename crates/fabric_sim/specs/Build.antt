@@ -1,0 +1,32 @@
+-- The fabric of a topology: its nodes with agents to which nothing was written, and a cable for each of its links.
+use Rattle.std.specs.Prelude.{ℕ, ◌+◌, ◌-◌, ◌++◌, List, [], ◌∷◌, map, length, replicate, Option, None}
+use Rattle.smp_bytes.specs.declared.cable.NodePort.{NodePort}
+use Rattle.smp_bytes.specs.declared.cable.Cable.{Cable}
+use Rattle.topo_file.specs.declared.node.Node.{Node}
+use Rattle.topo_file.specs.Topology.{Layout}
+use Rattle.node_agents.specs.declared.agent_node.AgentNode.{AgentNode}
+use Rattle.node_agents.specs.Agent.{Agent, fresh_agent}
+use Rattle.fabric_sim.specs.Simulation.{Simulation}
+use Rattle.fabric_sim.specs.Changes.{joined}
+
+-- its description is the node's name, with zeros after it
+abbrev pub agent_node : Node → AgentNode
+agent_node node = record { guid = node.guid; kind = node.kind; ports = node.ports; cap = node.cap; description = node.name ++ replicate (64 - length node.name) 0 }
+
+abbrev pub new_agent : Node → Agent
+new_agent node = fresh_agent (agent_node node)
+
+abbrev pub no_peers : Node → List (Option NodePort)
+no_peers node = replicate (node.ports + 1) None
+
+-- the nodes, with no cable and nothing in flight
+abbrev pub uncabled : List Node → ℕ → Simulation
+uncabled nodes first = record { agents = map new_agent nodes; peers = map no_peers nodes; flights = []; next = first }
+
+-- with a cable for each link
+abbrev pub cabled : List Cable → Simulation → Simulation
+cabled [] s = s
+cabled (link ∷ links) s = cabled links (joined s link.one link.other)
+
+abbrev pub simulation_of : Layout → ℕ → Simulation
+simulation_of t first = cabled t.links (uncabled t.nodes first)
