@@ -194,16 +194,26 @@ fn links(alloc: Global, topology: &Topology) -> Result<String, Fail> {
     Ok(text)
 }
 
+/// The sample fabric.
+fn sample(alloc: Global) -> Result<Topology, Fail> {
+    let text = format!(in alloc; "{HEAD}{TAIL}")?;
+    Ok(parse(alloc, text.as_str())?)
+}
+
+/// The nodes, and then the links.
+fn listing(alloc: Global, topology: &Topology) -> Result<String, Fail> {
+    let mut all = nodes(alloc, topology)?;
+    all.push_str(links(alloc, topology)?.as_str())?;
+    Ok(all)
+}
+
 #[test]
 fn sample_fabric(rt: HostRuntime) -> Result<(), Fail> {
-    let text = format!(in rt.alloc(); "{HEAD}{TAIL}")?;
-    let topology = parse(rt.alloc(), text.as_str())?;
-    let all_nodes = "S1 switch 4 0000000000000010 1024\nS2 switch 4 0000000000000020 1024\n\
-        S3 switch 4 0000000000000030 1024\nH1 ca 1 0000000000000100 0\nH2 ca 1 0000000000000200 0\n";
-    assert!(rt; nodes(rt.alloc(), &topology)?.as_str() == all_nodes);
-    let all_links = "0/1 1/1\n0/2 2/1\n1/2 2/2\n1/3 3/1\n2/3 4/1\n";
-    assert!(rt; links(rt.alloc(), &topology)?.as_str() == all_links);
-    assert!(rt; topology.find("H1") == Some(3) && topology.find("h1").is_none());
+    let wanted = "S1 switch 4 0000000000000010 1024\nS2 switch 4 0000000000000020 1024\n\
+        S3 switch 4 0000000000000030 1024\nH1 ca 1 0000000000000100 0\nH2 ca 1 0000000000000200 0\n\
+        0/1 1/1\n0/2 2/1\n1/2 2/2\n1/3 3/1\n2/3 4/1\n";
+    let listing = listing(rt.alloc(), &sample(rt.alloc())?)?;
+    assert!(rt; listing.as_str() == wanted);
     Ok(())
 }
 
@@ -217,13 +227,19 @@ fn many(alloc: Global, count: usize) -> Result<String, Fail> {
     Ok(text)
 }
 
+/// The place of the last of so many nodes, and whether their GUIDs differ.
+fn last(alloc: Global, count: usize) -> Result<(Option<usize>, bool), Fail> {
+    let text = many(alloc, count)?;
+    let topology = parse(alloc, text.as_str())?;
+    Ok((topology.find("1023"), topology.guids_distinct()))
+}
+
 #[test]
 fn at_most_1024_nodes(rt: HostRuntime) -> Result<(), Fail> {
-    let most = many(rt.alloc(), 1024)?;
-    let topology = parse(rt.alloc(), most.as_str())?;
-    assert!(rt; topology.find("1023") == Some(1023) && !topology.guids_distinct());
-    let beyond = many(rt.alloc(), 1025)?;
-    let said = refusal(rt.alloc(), beyond.as_str())?;
+    let (place, is_distinct) = last(rt.alloc(), 1024)?;
+    assert!(rt; place == Some(1023) && !is_distinct);
+    let text = many(rt.alloc(), 1025)?;
+    let said = refusal(rt.alloc(), text.as_str())?;
     assert!(rt; said.as_str() == "line 1025: too many nodes");
     Ok(())
 }
