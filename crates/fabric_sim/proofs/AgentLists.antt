@@ -82,6 +82,7 @@ others_stay xs at place change ne = by (slice_get xs at)
     set-elsewhere (x ∷ xs) zero (suc place) new ne = refl
     set-elsewhere (x ∷ xs) (suc at) zero new ne = refl
     set-elsewhere (x ∷ xs) (suc at) (suc place) new ne = set-elsewhere xs at place new (λ e. ne (ap suc e))
+
     by : (m : Option Agent) → slice_get (option_map_or (λ a. slice_set xs at (change a)) m xs) place ≡ slice_get xs place
     by None = refl
     by (Some a) = set-elsewhere xs at place (change a) ne

@@ -1,10 +1,10 @@
 -- The fabric of a topology: as its nodes are before any cable, and as its links are put in one after the other.
-use Rattle.std.proofs.Common.{◌≡◌, ◌≢◌, ℕ, zero, suc, ◌+◌, ◌-◌, ◌^◌, ◌<◌, ◌≤◌, ◌↔◌, ◌⊎◌, inl, inr, Bool, true, false, ◌&&◌, ◌==◌, List, [], ◌∷◌, ◌++◌, length, get_or, take, replicate, refl, arith, ap, sym, ◌∙◌, subst}
+use Rattle.std.proofs.Common.{◌≡◌, ◌≢◌, ℕ, zero, suc, ◌+◌, ◌-◌, ◌^◌, ◌<◌, ◌≤◌, ◌↔◌, ◌⊎◌, inl, inr, Bool, true, false, ◌&&◌, ◌==◌, List, [], ◌∷◌, ◌++◌, length, get_or, take, drop, replicate, refl, arith, ap, sym, ◌∙◌, subst}
 use Rattle.std.specs.Prelude.{Option, Some, None, option_map, is_none, All, AllPairs, map, slice_get, nat_le, IsTrue, if◌then◌else◌}
 use Rattle.std.specs.Option.{option_map_or}
 use Rattle.std.proofs.lemmas.Bool.{and_parts, and_from, leb-true, le-leb, cond-true, cond-false}
 use Rattle.std.proofs.lemmas.Option.{slice_get-map, slice_get_within, get_or_from_slice_get}
-use Rattle.std.proofs.lemmas.List.{length-map, length-append, length-replicate, length-take-le, get_or-take, take_more}
+use Rattle.std.proofs.lemmas.List.{length-map, length-append, length-replicate, length-take-le, get_or-take, take_more, take_all, length_push, map-append}
 use Rattle.std.proofs.lemmas.List.Elements.{All-map, All-weaker}
 use Rattle.smp_bytes.specs.declared.node_type.NodeType.{NodeType}
 use Rattle.smp_bytes.specs.declared.node_type.NodeType.TheVariants.{ChannelAdapter, Switch, Router}
@@ -25,7 +25,7 @@ use Rattle.fabric_sim.specs.Changes.{joined}
 use Rattle.fabric_sim.specs.Build.{agent_node, new_agent, no_peers, uncabled, cabled}
 use Rattle.fabric_sim.proofs.AgentLists.{cable_ports_stay}
 use Rattle.fabric_sim.proofs.PeerLists.{same_or_apart}
-use Rattle.fabric_sim.proofs.Recabled.{Ends, joined_ends, across_q, across_p, across_other, keeps_both}
+use Rattle.fabric_sim.proofs.Recabled.{Ends, joined_ends, across_q, across_p, across_other, keeps_both, joined_is}
 
 -- one node -----------------------------------------------------------------------------
 
@@ -121,6 +121,7 @@ uncabled_is nodes first few all fits =
     sits : (p : NodePort) (m : Option Agent) → slice_get (map new_agent nodes) p.node ≡ m → option_map_or (λ a. has_seat a p.port) m false ≡ true → ⊥
     sits p None e h = cc
     sits p (Some a) e h = let of = of_node nodes p.node a e in let no : has_seat a p.port ≡ false = sym (ap (λ a. has_seat a p.port) of.agent) ∙ nobody of.node p.port in cc
+
     nobody-sits : (p : NodePort) → option_map_or (λ a. has_seat a p.port) (slice_get (map new_agent nodes) p.node) false ≡ true → has_cable_port (map new_agent nodes) p ≡ true
     nobody-sits p h = absurd (sits p (slice_get (map new_agent nodes) p.node) refl h)
 
@@ -189,13 +190,13 @@ link_added links link s is hp hq free_p free_q cables r =
           (across_p s is p q true (Some q) (Some p) ends
           ∙ sym (other_end-append links link p None free_p ∙ cond-true _ _ _ (same_port-refl p)))
       | inr np ↦ elim (same_or_apart q r) [
-          | inl e ↦ subst (λ r. p ≢ r → across (joined s p q).peers r ≡ other_end (links ++ link ∷ []) r) e
-              (λ np. across_q s is p q true (Some q) (Some p) ends
-              ∙ sym (other_end-append links link q None free_q ∙ (cond-false _ _ _ (not_port p q np) ∙ cond-true _ _ _ (same_port-refl q)))) np
-          | inr nq ↦ across_other s is p q true (Some q) (Some p) ends r np nq
-              ∙ (cables r ∙ sym (other_end-append links link r (other_end links r) refl
-              ∙ (ap (λ none. if is_none (other_end links r) then none else other_end links r) (cond-false _ _ _ (not_port p r np) ∙ cond-false _ _ _ (not_port q r nq)) ∙ keep (other_end links r))))
-        ]
+        | inl e ↦ subst (λ r. p ≢ r → across (joined s p q).peers r ≡ other_end (links ++ link ∷ []) r) e
+            (λ np. across_q s is p q true (Some q) (Some p) ends
+            ∙ sym (other_end-append links link q None free_q ∙ (cond-false _ _ _ (not_port p q np) ∙ cond-true _ _ _ (same_port-refl q)))) np
+        | inr nq ↦ across_other s is p q true (Some q) (Some p) ends r np nq
+            ∙ (cables r ∙ sym (other_end-append links link r (other_end links r) refl
+            ∙ (ap (λ none. if is_none (other_end links r) then none else other_end links r) (cond-false _ _ _ (not_port p r np) ∙ cond-false _ _ _ (not_port q r nq)) ∙ keep (other_end links r))))
+      ]
     ]
 
 -- the ports into which a cable can go stay
@@ -226,3 +227,107 @@ next_link t i link is at =
       other_free = free (take i t.links) link.other (λ k d h. ((apart k d h).one_other, (apart k d h).other_other));
       more = take_more t.links i link within ∙ ap (λ x. take i t.links ++ x ∷ []) here;
     }
+
+-- the links so far are in
+pub record LinksIn (t : Layout) (first i : ℕ) (s : Simulation) : Type 0 where
+  pub topology : IsTopology t
+  pub within : i ≤ length t.links
+  pub valid : IsSimulation s
+  pub built : s ≡ cabled (take i t.links) (uncabled t.nodes first)
+  pub ports : (p : NodePort) → has_cable_port s.agents p ≡ has_cable_port (map new_agent t.nodes) p
+  pub cables : (p : NodePort) → across s.peers p ≡ other_end (take i t.links) p
+
+pub links_in_start : (t : Layout) (first : ℕ) (s : Simulation) → IsTopology t → first < 2 ^ 64 → s ≡ uncabled t.nodes first → LinksIn t first 0 s
+links_in_start t first s is fits start =
+    record {
+      topology = is;
+      within = omega arith;
+      valid = subst IsSimulation (sym start) (uncabled_is t.nodes first is.few is.nodes fits);
+      built = start;
+      ports = λ p. ap (λ (s : Simulation). has_cable_port s.agents p) start;
+      cables = λ p. ap (λ (s : Simulation). across s.peers p) start ∙ across_none t.nodes p;
+    }
+
+module _ (t : Layout) (first i : ℕ) (s : Simulation) (link : Cable) (so_far : LinksIn t first i s) (at : Some link ≡ slice_get t.links i) where
+  next : NextLink t i link
+  next = next_link t i link so_far.topology (sym at)
+
+  pub one_port : has_cable_port s.agents link.one ≡ true
+  one_port = so_far.ports link.one ∙ link_port t.nodes link.one next.link_in.one
+
+  pub other_port : has_cable_port s.agents link.other ≡ true
+  other_port = so_far.ports link.other ∙ link_port t.nodes link.other next.link_in.other
+
+  pub one_free : across s.peers link.one ≡ None
+  one_free = so_far.cables link.one ∙ next.one_free
+
+  pub other_free : across s.peers link.other ≡ None
+  other_free = so_far.cables link.other ∙ next.other_free
+
+  pub one_left : i < length t.links
+  one_left = slice_get_within t.links i link (sym at)
+
+  pub links_in_more : (u : Simulation) → u ≡ joined s link.one link.other → LinksIn t first (i + 1) u
+  links_in_more u e =
+      let left : i < length t.links = one_left in
+      record {
+        topology = so_far.topology;
+        within = omega arith;
+        valid = subst IsSimulation (sym e) (joined_is s link.one link.other so_far.valid one_port other_port one_free other_free);
+        built = e ∙ (ap (λ w. joined w link.one link.other) so_far.built
+            ∙ (sym (cabled-append (take i t.links) link (uncabled t.nodes first)) ∙ ap (λ ls. cabled ls (uncabled t.nodes first)) (sym next.more)));
+        ports = λ p. ap (λ (w : Simulation). has_cable_port w.agents p) e ∙ (joined_ports s link.one link.other so_far.valid one_port other_port p ∙ so_far.ports p);
+        cables = λ p. ap (λ (w : Simulation). across w.peers p) e
+            ∙ (link_added (take i t.links) link s so_far.valid one_port other_port next.one_free next.other_free so_far.cables p ∙ ap (λ ls. other_end ls p) (sym next.more));
+      }
+
+pub no_link : (t : Layout) (i : ℕ) → None ≡ slice_get t.links i → i < length t.links → ⊥
+no_link t i none within = by t.links i (sym none) within
+  where
+    by : (links : List Cable) (i : ℕ) → slice_get links i ≡ None → i < length links → ⊥
+    by [] i e h = omega arith
+    by (l ∷ links) zero e h = cc
+    by (l ∷ links) (suc i) e h = by links i e (omega arith)
+
+-- the nodes so far have their agents and their lists
+pub record NodesIn (t : Layout) (agents : List Agent) (peers : List (List (Option NodePort))) : Type 0 where
+  pub topology : IsTopology t
+  pub within : length agents ≤ length t.nodes
+  pub made : agents ≡ map new_agent (take (length agents) t.nodes)
+  pub listed : peers ≡ map no_peers (take (length agents) t.nodes)
+
+pub nodes_in_more : (t : Layout) (agents now : List Agent) (peers listed : List (List (Option NodePort))) (node : Node) (agent : Agent) (row : List (Option NodePort)) → NodesIn t agents peers
+    → slice_get t.nodes (length agents) ≡ Some node → agent ≡ new_agent node → row ≡ no_peers node → now ≡ agents ++ agent ∷ [] → listed ≡ peers ++ row ∷ [] → NodesIn t now listed
+nodes_in_more t agents now peers listed node agent row so_far at is_agent is_row more_agents more_peers =
+    let within : length agents < length t.nodes = slice_get_within t.nodes (length agents) node at in
+    let count : length now ≡ length agents + 1 = ap length more_agents ∙ length_push agents agent in
+    let here : get_or t.nodes (length agents) node ≡ node = get_or_from_slice_get t.nodes (length agents) node node at in
+    let taken : take (length now) t.nodes ≡ take (length agents) t.nodes ++ node ∷ [] =
+    ap (λ n. take n t.nodes) count ∙ (take_more t.nodes (length agents) node within ∙ ap (λ x. take (length agents) t.nodes ++ x ∷ []) here) in
+    record {
+      topology = so_far.topology;
+      within = omega arith;
+      made = more_agents ∙ (ap (λ xs. xs ++ agent ∷ []) so_far.made ∙ (ap (λ x. map new_agent (take (length agents) t.nodes) ++ x ∷ []) is_agent
+          ∙ sym (ap (map new_agent) taken ∙ map-append new_agent (take (length agents) t.nodes) (node ∷ []))));
+      listed = more_peers ∙ (ap (λ xs. xs ++ row ∷ []) so_far.listed ∙ (ap (λ x. map no_peers (take (length agents) t.nodes) ++ x ∷ []) is_row
+          ∙ sym (ap (map no_peers) taken ∙ map-append no_peers (take (length agents) t.nodes) (node ∷ []))));
+    }
+
+-- all nodes are in
+pub all_nodes : (t : Layout) (agents : List Agent) (peers : List (List (Option NodePort))) (first : ℕ) → NodesIn t agents peers → slice_get t.nodes (length agents) ≡ None
+    → ◌≡◌ {A = Simulation} (record { agents = agents; peers = peers; flights = []; next = first }) (uncabled t.nodes first)
+all_nodes t agents peers first so_far none =
+    let past : length t.nodes ≤ length agents = by t.nodes (length agents) none in
+    let all : take (length agents) t.nodes ≡ t.nodes = take_all (length agents) t.nodes past in
+    ap (λ xs. record { agents = xs; peers = peers; flights = []; next = first }) (so_far.made ∙ ap (map new_agent) all)
+    ∙ ap (λ xs. record { agents = map new_agent t.nodes; peers = xs; flights = []; next = first }) (so_far.listed ∙ ap (map no_peers) all)
+  where
+    by : (nodes : List Node) (i : ℕ) → slice_get nodes i ≡ None → length nodes ≤ i
+    by [] i e = omega arith
+    by (x ∷ xs) zero e = cc
+    by (x ∷ xs) (suc i) e = let h = by xs i e in omega arith
+
+pub all_nodes_are : (t : Layout) (agents : List Agent) (peers : List (List (Option NodePort))) (first : ℕ) → NodesIn t agents peers → slice_get t.nodes (length agents) ≡ None → first < 2 ^ 64
+    → IsSimulation (record { agents = agents; peers = peers; flights = []; next = first })
+all_nodes_are t agents peers first so_far none fits =
+    subst IsSimulation (sym (all_nodes t agents peers first so_far none)) (uncabled_is t.nodes first so_far.topology.few so_far.topology.nodes fits)

@@ -103,8 +103,8 @@ with_flight_is s place packet is can left =
       seats = is.seats;
       cables = record { lists = is.cables.lists; fit = is.cables.fit; ends = is.cables.ends; lead_back = is.cables.lead_back; down = is.cables.down };
       waiting = All-push (IsWaiting t) s.flights flight
-      (All-weaker (IsWaiting s) (IsWaiting t) (λ f w. record { place = record { port = w.place.port; seat = w.place.seat }; given = let g = w.given in omega arith }) s.flights is.waiting)
-      (record { place = record { port = can.port; seat = can.seat }; given = omega arith });
+          (All-weaker (IsWaiting s) (IsWaiting t) (λ f w. record { place = record { port = w.place.port; seat = w.place.seat }; given = let g = w.given in omega arith }) s.flights is.waiting)
+          (record { place = record { port = can.port; seat = can.seat }; given = omega arith });
       rising = all_pairs_push (λ x y. x.serial < y.serial) s.flights flight is.rising (λ k d h. (is.waiting k d h).given);
       next = omega arith;
     }
@@ -119,13 +119,12 @@ without_is s serial is =
       seats = is.seats;
       cables = record { lists = is.cables.lists; fit = is.cables.fit; ends = is.cables.ends; lead_back = is.cables.lead_back; down = is.cables.down };
       waiting = All-filter (λ f. not (is_numbered serial f)) (IsWaiting t) s.flights
-      (All-weaker (IsWaiting s) (IsWaiting t) (λ f w. record { place = record { port = w.place.port; seat = w.place.seat }; given = w.given }) s.flights is.waiting);
+          (All-weaker (IsWaiting s) (IsWaiting t) (λ f w. record { place = record { port = w.place.port; seat = w.place.seat }; given = w.given }) s.flights is.waiting);
       rising = AllPairs-filter (λ x y. x.serial < y.serial) (λ f. not (is_numbered serial f)) s.flights is.rising;
       next = is.next;
     }
 
 -- the packet at another place
-
 
 moved-serial : (new f : Flight) → (if is_numbered new.serial f then new else f).serial ≡ f.serial
 moved-serial new f = by (is_numbered new.serial f) refl
@@ -141,6 +140,7 @@ waiting-moved s new (f ∷ fs) can all =
   where
     old : IsWaiting s f
     old = All-head (IsWaiting s) f fs all
+
     by : (b : Bool) → is_numbered new.serial f ≡ b → IsWaiting s (if b then new else f)
     by true e = let same : f.serial ≡ new.serial = eqb-true _ _ e in record { place = can; given = subst (λ n. n < s.next) same old.given }
     by false e = old
@@ -170,7 +170,7 @@ moved_to_is s serial place packet is can =
       seats = is.seats;
       cables = record { lists = is.cables.lists; fit = is.cables.fit; ends = is.cables.ends; lead_back = is.cables.lead_back; down = is.cables.down };
       waiting = All-weaker (IsWaiting s) (IsWaiting t) (λ f w. record { place = record { port = w.place.port; seat = w.place.seat }; given = w.given }) (with_moved s.flights new)
-      (waiting-moved s new s.flights can is.waiting);
+          (waiting-moved s new s.flights can is.waiting);
       rising = rising-moved new s.flights is.rising;
       next = is.next;
     }

@@ -12,9 +12,9 @@ pub same_or_apart : (p q : NodePort) → (p ≡ q) ⊎ (p ≢ q)
 same_or_apart p q =
     elim (cases_eq p.node q.node) [
       | inl n ↦ elim (cases_eq p.port q.port) [
-          | inl m ↦ inl (at p.node q.node n p.port q.port m)
-          | inr m ↦ inr (λ e. m (ap (λ r. r.port) e))
-        ]
+        | inl m ↦ inl (at p.node q.node n p.port q.port m)
+        | inr m ↦ inr (λ e. m (ap (λ r. r.port) e))
+      ]
       | inr n ↦ inr (λ e. n (ap (λ r. r.node) e))
     ]
   where
@@ -50,12 +50,12 @@ across_apart peers p q other ne =
     elim (cases_eq p.node q.node) [
       | inr n ↦ ap (λ xs. get_or xs q.port None) (get_or-set_other peers p.node q.node row [] (λ e. n (sym e)))
       | inl n ↦ elim (cases_lt p.node (length peers)) [
-          | inr past ↦ ap (λ all. get_or (get_or all q.node []) q.port None) (set_past peers p.node row past)
-          | inl lt ↦ let here : get_or (set peers p.node row) q.node [] ≡ row = subst (λ k. get_or (set peers p.node row) k [] ≡ row) n (get_or-set_same peers p.node row [] lt) in
-              let old : get_or peers p.node [] ≡ get_or peers q.node [] = ap (λ k. get_or peers k []) n in
-              ap (λ xs. get_or xs q.port None) here
-              ∙ (get_or-set_other (get_or peers p.node []) p.port q.port other None (λ e. ports_differ p q ne n (sym e)) ∙ ap (λ xs. get_or xs q.port None) old)
-        ]
+        | inr past ↦ ap (λ all. get_or (get_or all q.node []) q.port None) (set_past peers p.node row past)
+        | inl lt ↦ let here : get_or (set peers p.node row) q.node [] ≡ row = subst (λ k. get_or (set peers p.node row) k [] ≡ row) n (get_or-set_same peers p.node row [] lt) in
+            let old : get_or peers p.node [] ≡ get_or peers q.node [] = ap (λ k. get_or peers k []) n in
+            ap (λ xs. get_or xs q.port None) here
+            ∙ (get_or-set_other (get_or peers p.node []) p.port q.port other None (λ e. ports_differ p q ne n (sym e)) ∙ ap (λ xs. get_or xs q.port None) old)
+      ]
     ]
 
 -- each list is as long as it was
@@ -65,10 +65,10 @@ length-row peers p other node =
     elim (cases_eq p.node node) [
       | inr n ↦ ap length (get_or-set_other peers p.node node row [] (λ e. n (sym e)))
       | inl n ↦ elim (cases_lt p.node (length peers)) [
-          | inr past ↦ ap (λ all. length (get_or all node [])) (set_past peers p.node row past)
-          | inl lt ↦ let here : get_or (set peers p.node row) node [] ≡ row = subst (λ k. get_or (set peers p.node row) k [] ≡ row) n (get_or-set_same peers p.node row [] lt) in
-              ap length here ∙ (length-set (get_or peers p.node []) p.port other ∙ ap (λ k. length (get_or peers k [])) n)
-        ]
+        | inr past ↦ ap (λ all. length (get_or all node [])) (set_past peers p.node row past)
+        | inl lt ↦ let here : get_or (set peers p.node row) node [] ≡ row = subst (λ k. get_or (set peers p.node row) k [] ≡ row) n (get_or-set_same peers p.node row [] lt) in
+            ap length here ∙ (length-set (get_or peers p.node []) p.port other ∙ ap (λ k. length (get_or peers k [])) n)
+      ]
     ]
 
 -- and so is the list of them

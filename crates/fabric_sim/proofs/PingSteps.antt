@@ -108,13 +108,14 @@ module _ (f : Fabric) (lid : ℕ) where
   way_lost (suc left) hops s place h = lost_by left hops s place (λ into k. way_lost left (hops + 1) (arrived_at into) place k) (course f lid s) refl h
 
 pub pings_tell : PingsTell
-pings_tell f lid source =
-    (λ target count h.
-    let found = way_on f lid (wire_bound f) 0 (sent_from source) target count h in
-    let way = found.way in
-    let n : count ≡ 0 + found.more = found.count_is in
-    let long : length way.hops ≡ found.more = way.long in
-    record { hops = way.hops; length = omega arith; delivered = (way.end, way.goes, way.delivers) },
-    λ place h.
-    let way = way_lost f lid (wire_bound f) 0 (sent_from source) place h in
-    (way.hops, (way.end, way.goes, way.there, way.lost)))
+pings_tell f lid source = (
+  λ target count h.
+      let found = way_on f lid (wire_bound f) 0 (sent_from source) target count h in
+      let way = found.way in
+      let n : count ≡ 0 + found.more = found.count_is in
+      let long : length way.hops ≡ found.more = way.long in
+      record { hops = way.hops; length = omega arith; delivered = (way.end, way.goes, way.delivers) },
+  λ place h.
+      let way = way_lost f lid (wire_bound f) 0 (sent_from source) place h in
+      (way.hops, (way.end, way.goes, way.there, way.lost)),
+)

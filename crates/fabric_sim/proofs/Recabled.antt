@@ -144,9 +144,9 @@ module _ (s : Simulation) (is : IsSimulation s) (p q : NodePort) (b : Bool) (at_
       elim (same_or_apart q r) [
         | inl e ↦ subst (λ r. (state_of agents_now r ≡ Down) ↔ (across peers_now r ≡ None)) e (iff-by _ _ _ _ state-q across_q ends.down_q)
         | inr nq ↦ elim (same_or_apart p r) [
-            | inl e ↦ subst (λ r. (state_of agents_now r ≡ Down) ↔ (across peers_now r ≡ None)) e (iff-by _ _ _ _ state-p across_p ends.down_p)
-            | inr np ↦ iff-by _ _ _ _ (state-other r np nq) (across_other r np nq) (down-before r port)
-          ]
+          | inl e ↦ subst (λ r. (state_of agents_now r ≡ Down) ↔ (across peers_now r ≡ None)) e (iff-by _ _ _ _ state-p across_p ends.down_p)
+          | inr np ↦ iff-by _ _ _ _ (state-other r np nq) (across_other r np nq) (down-before r port)
+        ]
       ]
 
   -- the ports with cables are cable ports, where this is so of what was written
@@ -155,9 +155,9 @@ module _ (s : Simulation) (is : IsSimulation s) (p q : NodePort) (b : Bool) (at_
       elim (same_or_apart q r) [
         | inl f ↦ subst (λ r. has_cable_port s.agents r ≡ true) f ends.q_port
         | inr nq ↦ elim (same_or_apart p r) [
-            | inl f ↦ subst (λ r. has_cable_port s.agents r ≡ true) f ends.p_port
-            | inr np ↦ is.cables.ends r t (sym (across_other r np nq) ∙ e)
-          ]
+          | inl f ↦ subst (λ r. has_cable_port s.agents r ≡ true) f ends.p_port
+          | inr np ↦ is.cables.ends r t (sym (across_other r np nq) ∙ e)
+        ]
       ]
 
   pub ends_written : ((r t : NodePort) → across peers_now r ≡ Some t → across peers_now t ≡ Some r) → IsSimulation (record s { agents = agents_now; peers = peers_now })
@@ -197,13 +197,13 @@ joined_is s p q is hp hq free_p free_q =
           let to : p ≡ t = some-is p t (sym here_q ∙ e') in
           subst (λ t. across peers t ≡ Some r) to (here_p ∙ ap (λ x. Some x) f)
       | inr nq ↦ elim (same_or_apart p r) [
-          | inl f ↦ let e' : across peers p ≡ Some t = subst (λ r. across peers r ≡ Some t) (sym f) e in
-              let to : q ≡ t = some-is q t (sym here_p ∙ e') in
-              subst (λ t. across peers t ≡ Some r) to (here_q ∙ ap (λ x. Some x) f)
-          | inr np ↦ let old : across s.peers r ≡ Some t = sym (other r np nq) ∙ e in
-              let back : across s.peers t ≡ Some r = is.cables.lead_back r t old in
-              other t (λ f. taken p free_p t f r back) (λ f. taken q free_q t f r back) ∙ back
-        ]
+        | inl f ↦ let e' : across peers p ≡ Some t = subst (λ r. across peers r ≡ Some t) (sym f) e in
+            let to : q ≡ t = some-is q t (sym here_p ∙ e') in
+            subst (λ t. across peers t ≡ Some r) to (here_q ∙ ap (λ x. Some x) f)
+        | inr np ↦ let old : across s.peers r ≡ Some t = sym (other r np nq) ∙ e in
+            let back : across s.peers t ≡ Some r = is.cables.lead_back r t old in
+            other t (λ f. taken p free_p t f r back) (λ f. taken q free_q t f r back) ∙ back
+      ]
     ])
   where
     taken : (x : NodePort) → across s.peers x ≡ None → (t : NodePort) → x ≡ t → (r : NodePort) → across s.peers t ≡ Some r → ⊥
@@ -230,12 +230,12 @@ parted_is s p q is cable =
     elim (same_or_apart q r) [
       | inl f ↦ let e' : across peers q ≡ Some t = subst (λ r. across peers r ≡ Some t) (sym f) e in cc
       | inr nq ↦ elim (same_or_apart p r) [
-          | inl f ↦ let e' : across peers p ≡ Some t = subst (λ r. across peers r ≡ Some t) (sym f) e in cc
-          | inr np ↦ let old : across s.peers r ≡ Some t = sym (other r np nq) ∙ e in
-              let back : across s.peers t ≡ Some r = is.cables.lead_back r t old in
-              other t
-              (λ f. let e' : across s.peers p ≡ Some r = subst (λ t. across s.peers t ≡ Some r) (sym f) back in nq (some-is q r (sym cable ∙ e')))
-              (λ f. let e' : across s.peers q ≡ Some r = subst (λ t. across s.peers t ≡ Some r) (sym f) back in np (some-is p r (sym cable_back ∙ e')))
-              ∙ back
-        ]
+        | inl f ↦ let e' : across peers p ≡ Some t = subst (λ r. across peers r ≡ Some t) (sym f) e in cc
+        | inr np ↦ let old : across s.peers r ≡ Some t = sym (other r np nq) ∙ e in
+            let back : across s.peers t ≡ Some r = is.cables.lead_back r t old in
+            other t
+            (λ f. let e' : across s.peers p ≡ Some r = subst (λ t. across s.peers t ≡ Some r) (sym f) back in nq (some-is q r (sym cable ∙ e')))
+            (λ f. let e' : across s.peers q ≡ Some r = subst (λ t. across s.peers t ≡ Some r) (sym f) back in np (some-is p r (sym cable_back ∙ e')))
+            ∙ back
+      ]
     ])

@@ -11,6 +11,7 @@ use smp_bytes::{Lid, NodePort};
 
 /// The place of MgmtClass in a packet, and its value where switches forward the packet by LIDs.
 const MGMT_CLASS: usize = 1;
+
 const LID_ROUTED: u8 = 0x01;
 
 impl Fabric {

@@ -132,7 +132,13 @@ impl Fabric {
             dlid: packet.dlid,
         };
         match verdict {
-            Verdict::Out(port) => self.leaving(&NodePort { node: at.node, port }, &packet),
+            Verdict::Out(port) => self.leaving(
+                &NodePort {
+                    node: at.node,
+                    port,
+                },
+                &packet,
+            ),
             Verdict::ToAgent => self.at_agent(at, smp, &packet),
             Verdict::ToManager => Outcome::HandsUp(packet),
             Verdict::Discard(reason) => Outcome::Drops(Reason::from(reason)),

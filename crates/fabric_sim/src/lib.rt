@@ -1,6 +1,7 @@
 //! A simulated fabric: nodes, the cables between them, and the packets on their way.
 #![tactic(auto)]
 
+mod build;
 mod cables;
 mod changes;
 mod deliver;
@@ -22,3 +23,6 @@ pub use fault::FabricFault;
 pub use flight::{Flight, Place};
 pub use packet::Packet;
 pub use ping::Ping;
+
+#[cfg(test)]
+mod tests;

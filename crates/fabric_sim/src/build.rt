@@ -1,0 +1,85 @@
+ghost use Rattle.std.specs.Prelude.{◌≡◌, ◌≤◌, ◌-◌, ◌++◌, length, replicate, IfOk};
+ghost use Rattle.node_agents.specs.Agent.{IsAgentNode};
+ghost use Rattle.topo_file.specs.Topology.{IsTopology, IsNode, other_end};
+ghost use Rattle.smp_bytes.specs.declared.cable.NodePort.{NodePort};
+ghost use Rattle.fabric_sim.specs.Simulation.{across};
+ghost use Rattle.fabric_sim.specs.Build.{agent_node, uncabled, simulation_of};
+
+use crate::fabric::Fabric;
+use crate::peers::Peers;
+use attr_codec::{Attribute, NodeDescription};
+use node_agents::{Agent, AgentNode};
+use std::alloc::{AllocError, Global};
+use std::collections::VecDeque;
+use topo_file::{Node, Topology};
+
+impl Fabric {
+    /// The fabric of a topology: an agent for each of its nodes, to which nothing was written, and a cable for each of
+    /// its links. Nothing is in flight, and serial numbers are given from `first_serial` on. Takes a step for each port
+    /// of each node. Refused for want of memory alone.
+    pub fn of(alloc: Global, topology: &Topology, first_serial: u64) -> Result<Fabric, AllocError>
+        ensures fabric { IfOk result (λ fabric.
+            fabric ≡ simulation_of topology.now first_serial) }
+        ensures cables { IfOk result (λ fabric.
+            (port : NodePort) → across fabric.peers port ≡ other_end topology.now.links port) }
+    {
+        let mut fabric = uncabled(alloc, topology, first_serial)?;
+        for i in 0..topology.link_count() {
+            if let Some(link) = topology.link(i) {
+                fabric.join(&link.one, &link.other);
+            }
+        }
+        Ok(fabric)
+    }
+}
+
+/// The fabric of the topology's nodes, with no cable.
+fn uncabled(alloc: Global, topology: &Topology, first_serial: u64) -> Result<Fabric, AllocError>
+    ensures fabric { IfOk result (λ fabric. fabric ≡ uncabled topology.now.nodes first_serial) }
+    ensures is_topology { IsTopology topology.now }
+{
+    let mut agents = Vec::with_capacity(alloc, topology.count())?;
+    let mut peers = Vec::with_capacity(alloc, topology.count())?;
+    while let Some(node) = topology.node(agents.len()) {
+        agents.push(Agent::new(alloc, agent_node(node))?)?;
+        peers.push(Peers::new(alloc, node.ports)?)?;
+    }
+    Ok(Fabric {
+        agents,
+        peers,
+        flights: VecDeque::new(alloc),
+        next: Some(first_serial),
+    })
+}
+
+/// What the agent of a node is made of. Its description is the node's name.
+fn agent_node(node: &Node) -> AgentNode
+    requires { length node.now.name ≤ 64 }
+    ensures { result ≡ agent_node node.now }
+{
+    AgentNode {
+        guid: node.guid,
+        kind: node.kind,
+        ports: node.ports,
+        cap: node.cap,
+        description: description(node.name.as_str().as_bytes()),
+    }
+}
+
+/// A name with zeros after it.
+fn description(name: &[u8]) -> NodeDescription
+    requires { length name.now ≤ 64 }
+    ensures { result ≡ name.now ++ replicate (64 - length name.now) 0 }
+{
+    NodeDescription::decode(&padded(name))
+}
+
+/// The same as bytes.
+fn padded(name: &[u8]) -> [u8; 64]
+    requires { length name.now ≤ 64 }
+    ensures { result ≡ name.now ++ replicate (64 - length name.now) 0 }
+{
+    let mut bytes = [0; 64];
+    bytes[..name.len()].copy_from_slice(name);
+    bytes
+}

@@ -1,0 +1,332 @@
+//! Requests there and their answers back, each refusal, each reason to discard a packet, and pings.
+use super::*;
+use smp_bytes::{AttributeId, Lid, Method, NodePort, Path, PortNum, Smp};
+use std::alloc::Global;
+use std::test::Fail;
+use topo_file::parse;
+
+/// Three switches in a ring, at the places 0 to 2, and an adapter at two of them, at 3 and 4.
+const RING: &str = r#"Switch 4 "S1" guid 0x10
+[1] "S2"[1]
+[2] "S3"[1]
+Switch 4 "S2" guid 0x20
+[2] "S3"[2]
+[3] "H1"[1]
+Switch 4 "S3" guid 0x30
+[3] "H2"[1]
+Hca 1 "H1" guid 0x100
+Hca 1 "H2" guid 0x200
+"#;
+
+fn ring(alloc: Global, first_serial: u64) -> Result<Fabric, Fail> {
+    let topology = parse(alloc, RING)?;
+    let mut fabric = Fabric::of(alloc, &topology, first_serial)?;
+    fabric.seat(at(3, 1))?;
+    Ok(fabric)
+}
+
+fn at(node: usize, port: u8) -> NodePort {
+    NodePort {
+        node,
+        port: PortNum::new(port),
+    }
+}
+
+/// A directed request over at most three ports, 0 for none.
+fn directed(
+    method: Method,
+    attribute: AttributeId,
+    modifier: u32,
+    ports: [u8; 3],
+    data: &[u8; 64],
+) -> Packet {
+    let mut path = Path::<63>::new();
+    for port in ports {
+        if port != 0 && !path.is_full() {
+            path.push(PortNum::new(port));
+        }
+    }
+    let smp = Smp::directed(method, attribute, modifier, 0x1_0000_0002, &path, data);
+    Packet {
+        bytes: *smp.bytes(),
+        slid: Lid::new(0xFFFF),
+        dlid: Lid::new(0xFFFF),
+    }
+}
+
+fn get_node_info(ports: [u8; 3]) -> Packet {
+    directed(Method::GET, AttributeId::NODE_INFO, 0, ports, &[0; 64])
+}
+
+/// What a delivery did, in a word and a number.
+fn said(delivered: Result<Delivered, FabricFault>) -> (&'static str, u64) {
+    match delivered {
+        Ok(Delivered::Moved(serial)) => ("moved", serial),
+        Ok(Delivered::Answered(serial)) => ("answered", serial),
+        Ok(Delivered::ToManager(port, _)) => ("manager", port.node as u64),
+        Ok(Delivered::Discarded(reason)) => match reason {
+            Reason::Course => ("course", 0),
+            Reason::Transit => ("transit", 0),
+            Reason::OutPort => ("out port", 0),
+            Reason::Down => ("down", 0),
+            Reason::Unreadable => ("unreadable", 0),
+            Reason::NoRoute => ("no route", 0),
+        },
+        Err(fault) => (fault_name(fault), 0),
+    }
+}
+
+fn fault_name(fault: FabricFault) -> &'static str {
+    match fault {
+        FabricFault::NoSuchPacket => "NoSuchPacket",
+        FabricFault::NoSuchPort => "NoSuchPort",
+        FabricFault::PortTaken => "PortTaken",
+        FabricFault::Memory => "Memory",
+        FabricFault::SerialsSpent => "SerialsSpent",
+    }
+}
+
+fn refusal<T: Drop>(answer: Result<T, FabricFault>) -> &'static str {
+    match answer {
+        Ok(_) => "",
+        Err(fault) => fault_name(fault),
+    }
+}
+
+/// Delivers the packet, and then its answer, until neither moves on, at most 16 times.
+fn carried(fabric: &mut Fabric, mut serial: u64) -> (&'static str, u64) {
+    let mut last = ("moved", 0);
+    for _ in 0..16 {
+        last = said(fabric.deliver(serial));
+        match last {
+            ("moved", _) => {}
+            ("answered", answer) => serial = answer,
+            _ => return last,
+        }
+    }
+    last
+}
+
+#[test]
+fn a_request_comes_and_its_answer_goes_home(rt: HostRuntime) -> Result<(), Fail> {
+    let mut fabric = ring(rt.alloc(), 7)?;
+    let serial = fabric.inject(at(3, 1), get_node_info([1, 0, 0]))?;
+    // The serial number that is delivered, what that does; then the first bytes, the path's first port, the port
+    // noted for the way back, and the local port of the node information, of the packet that waits.
+    let start = [
+        0x01, 0x81, 0x01, 0x01, 0, 0, 0, 1, 0, 0, 0, 1, 0, 0, 0, 2, 0, 0x11, 0, 0, 0, 0, 0, 0,
+    ];
+    for (number, wanted, method, status, pointer, noted, local) in [
+        (serial, ("moved", 7), 0x01, 0x00, 1, 0, 0),
+        (serial, ("answered", 8), 0x81, 0x80, 2, 3, 3),
+        (8, ("moved", 8), 0x81, 0x80, 1, 3, 3),
+        (8, ("manager", 3), 0, 0, 0, 0, 0),
+    ] {
+        let result = said(fabric.deliver(number));
+        assert!(rt; result == wanted, "{result:?}");
+        if let Some(flight) = fabric.in_flight(0) {
+            let bytes = &flight.packet.bytes;
+            let seen = (
+                bytes[3], bytes[4], bytes[6], bytes[129], bytes[193], bytes[100],
+            );
+            assert!(rt;
+                seen == (method, status, pointer, 1, noted, local),
+                "{seen:?}"
+            );
+            assert!(rt; bytes[7..24] == start[7..24], "{bytes:?}");
+        }
+    }
+    Ok(())
+}
+
+#[test]
+fn each_packet_that_is_discarded(rt: HostRuntime) -> Result<(), Fail> {
+    let mut unreadable = get_node_info([0, 0, 0]);
+    unreadable.bytes[0] = 2;
+    let mut off_course = get_node_info([0, 0, 0]);
+    off_course.bytes[6] = 1;
+    let mut response = get_node_info([0, 0, 0]);
+    response.bytes[3] = 0x81;
+    let mut unrouted = Packet {
+        bytes: *Smp::lid_routed(Method::GET, AttributeId::NODE_INFO, 0, 1, &[0; 64]).bytes(),
+        slid: Lid::new(0),
+        dlid: Lid::new(5),
+    };
+    let routed = unrouted;
+    unrouted.dlid = Lid::new(0);
+    // What is sent from the first adapter, and what becomes of it. The adapter has no LID, so its own is 0.
+    for (packet, wanted) in [
+        (unreadable, ("unreadable", 0)),
+        (off_course, ("course", 0)),
+        (response, ("course", 0)),
+        (get_node_info([2, 0, 0]), ("out port", 0)),
+        (get_node_info([1, 4, 0]), ("down", 0)),
+        (get_node_info([1, 5, 0]), ("out port", 0)),
+        (get_node_info([1, 3, 1]), ("transit", 0)),
+        (get_node_info([1, 3, 0]), ("manager", 3)),
+        (get_node_info([0, 0, 0]), ("manager", 3)),
+        (
+            directed(Method::GET, AttributeId::SM_INFO, 0, [0; 3], &[0; 64]),
+            ("manager", 3),
+        ),
+        (routed, ("no route", 0)),
+        (unrouted, ("manager", 3)),
+    ] {
+        let mut fabric = ring(rt.alloc(), 0)?;
+        let serial = fabric.inject(at(3, 1), packet)?;
+        let comes = carried(&mut fabric, serial);
+        assert!(rt; comes == wanted, "{comes:?} {wanted:?}");
+    }
+    Ok(())
+}
+
+#[test]
+fn each_refusal(rt: HostRuntime) -> Result<(), Fail> {
+    let mut fabric = ring(rt.alloc(), u64::MAX)?;
+    let packet = get_node_info([0; 3]);
+    let last = fabric.inject(at(3, 1), packet)?;
+    for (refused, wanted) in [
+        (refusal(fabric.deliver(0)), "NoSuchPacket"),
+        (refusal(fabric.lose(0)), "NoSuchPacket"),
+        (refusal(fabric.repeat(0)), "NoSuchPacket"),
+        (refusal(fabric.deliver(last)), "SerialsSpent"),
+        (refusal(fabric.repeat(last)), "SerialsSpent"),
+        (refusal(fabric.inject(at(3, 1), packet)), "SerialsSpent"),
+        (refusal(fabric.inject(at(4, 1), packet)), "NoSuchPort"),
+        (refusal(fabric.seat(at(3, 1))), "PortTaken"),
+        (refusal(fabric.seat(at(0, 1))), "NoSuchPort"),
+        (refusal(fabric.seat(at(4, 2))), "NoSuchPort"),
+        (refusal(fabric.seat(at(4, 0))), "NoSuchPort"),
+        (refusal(fabric.plug(at(0, 3), at(0, 0))), "NoSuchPort"),
+        (refusal(fabric.plug(at(5, 1), at(0, 3))), "NoSuchPort"),
+        (refusal(fabric.plug(at(0, 3), at(0, 1))), "PortTaken"),
+        (refusal(fabric.cut(at(0, 3))), "NoSuchPort"),
+        (refusal(fabric.cut(at(0, 5))), "NoSuchPort"),
+        (refusal(fabric.ping(at(3, 0), Lid::new(1))), "NoSuchPort"),
+        (refusal(fabric.ping(at(0, 5), Lid::new(1))), "NoSuchPort"),
+        (refusal(fabric.ping(at(0, 0), Lid::new(1))), ""),
+        (refusal(fabric.lose(last)), ""),
+    ] {
+        assert!(rt; refused == wanted, "{refused} {wanted}");
+    }
+    Ok(())
+}
+
+/// Where a ping comes to: the node, the port, and how many wires, or 99 for a node where it is lost.
+fn pinged(fabric: &Fabric, lid: u16) -> (usize, u8, usize) {
+    match fabric.ping(at(3, 1), Lid::new(lid)) {
+        Ok(Ping::Reached(port, hops)) => (port.node, port.port.number(), hops),
+        Ok(Ping::Lost(node)) => (node, 0, 99),
+        Err(_) => (99, 99, 99),
+    }
+}
+
+#[test]
+fn packets_that_tables_route(rt: HostRuntime) -> Result<(), Fail> {
+    let mut fabric = ring(rt.alloc(), 0)?;
+    let fresh = pinged(&fabric, 5);
+    assert!(rt; fresh == (1, 0, 99), "{fresh:?}");
+    let mut block = [0xFF; 64];
+    block[1..6].copy_from_slice(&[1, 0, 2, 3, 2]);
+    let mut back = [0xFF; 64];
+    back[3] = 2;
+    let mut top = [0; 64];
+    top[7] = 5;
+    let mut lid = [0; 64];
+    lid[17] = 4;
+    let table = AttributeId::LINEAR_FORWARDING_TABLE;
+    // A Set, and then where pings for three LIDs come to.
+    for (attribute, path, data, wanted) in [
+        (
+            table,
+            [1, 0, 0],
+            &block,
+            [(1, 0, 99), (1, 0, 99), (1, 0, 99)],
+        ),
+        (
+            AttributeId::SWITCH_INFO,
+            [1, 0, 0],
+            &top,
+            [(1, 0, 1), (2, 0, 99), (2, 0, 99)],
+        ),
+        (table, [1, 2, 0], &back, [(1, 0, 1), (2, 0, 99), (2, 0, 99)]),
+        (
+            AttributeId::SWITCH_INFO,
+            [1, 2, 0],
+            &top,
+            [(1, 0, 1), (2, 0, 99), (2, 0, 99)],
+        ),
+        (
+            AttributeId::PORT_INFO,
+            [0; 3],
+            &lid,
+            [(1, 0, 1), (2, 0, 99), (2, 0, 99)],
+        ),
+    ] {
+        let set = directed(Method::SET, attribute, 0, path, data);
+        let serial = fabric.inject(at(3, 1), set)?;
+        let comes = carried(&mut fabric, serial);
+        let seen = [pinged(&fabric, 2), pinged(&fabric, 3), pinged(&fabric, 5)];
+        assert!(rt;
+            comes == ("manager", 3) && seen == wanted,
+            "{comes:?} {seen:?}"
+        );
+    }
+    let own = pinged(&fabric, 4);
+    assert!(rt; own == (3, 1, 0), "{own:?}");
+    let get = Packet {
+        bytes: *Smp::lid_routed(Method::GET, AttributeId::NODE_INFO, 0, 1, &[0; 64]).bytes(),
+        slid: Lid::new(0),
+        dlid: Lid::new(2),
+    };
+    let serial = fabric.inject(at(3, 1), get)?;
+    for (number, wanted, slid, dlid) in [
+        (serial, ("moved", 10), 4, 2),
+        (serial, ("answered", 11), 2, 4),
+        (11, ("moved", 11), 2, 4),
+        (11, ("manager", 3), 0, 0),
+    ] {
+        let comes = said(fabric.deliver(number));
+        assert!(rt; comes == wanted, "{comes:?}");
+        if let Some(flight) = fabric.in_flight(0) {
+            let seen = (flight.packet.slid.number(), flight.packet.dlid.number());
+            assert!(rt; seen == (slid, dlid), "{seen:?}");
+        }
+    }
+    Ok(())
+}
+
+#[test]
+fn copies_losses_and_cables(rt: HostRuntime) -> Result<(), Fail> {
+    let mut fabric = ring(rt.alloc(), 0)?;
+    let serial = fabric.inject(at(3, 1), get_node_info([1, 0, 0]))?;
+    let copy = fabric.repeat(serial)?;
+    let other = fabric.repeat(copy)?;
+    fabric.lose(copy)?;
+    let all = (fabric.flight_count(), copy, other, fabric.node_count());
+    assert!(rt; all == (2, 1, 2, 5), "{all:?}");
+    for number in [serial, other] {
+        let comes = carried(&mut fabric, number);
+        assert!(rt; comes == ("manager", 3), "{comes:?}");
+    }
+    // A packet that came by a wire is discarded once the cable is cut, and one that waits at its seat is not.
+    let came = fabric.inject(at(3, 1), get_node_info([1, 0, 0]))?;
+    let moved = said(fabric.deliver(came));
+    let waits = fabric.inject(at(3, 1), get_node_info([0; 3]))?;
+    fabric.cut(at(1, 3))?;
+    for (comes, wanted) in [
+        (moved, ("moved", came)),
+        (carried(&mut fabric, waits), ("manager", 3)),
+        (carried(&mut fabric, came), ("down", 0)),
+    ] {
+        assert!(rt; comes == wanted, "{comes:?}");
+    }
+    fabric.plug(at(1, 3), at(1, 3))?;
+    let ends = (
+        fabric.across(&at(1, 3)),
+        fabric.across(&at(3, 1)),
+        fabric.is_seat(&at(3, 1)),
+    );
+    assert!(rt; ends == (Some(at(1, 3)), None, true), "{ends:?}");
+    Ok(())
+}
