@@ -1,6 +1,6 @@
 -- Requests that ask an agent the same are answered the same, wherever on its way a packet is.
-use Rattle.std.proofs.Common.{◌≡◌, ℕ, Bool, true, false, cond, ◌==◌, List, length, refl, sym, ap, ◌∙◌}
-use Rattle.std.specs.Prelude.{Result, Ok, Err, None}
+use Rattle.std.proofs.Common.{◌≡◌, ℕ, cond, ◌==◌, List, refl, sym, ap, ◌∙◌}
+use Rattle.std.specs.Prelude.{Result, Ok, Err}
 use Rattle.smp_bytes.specs.Header.{get, set}
 use Rattle.smp_bytes.specs.Field.{number_in, bytes_in}
 use Rattle.smp_bytes.specs.Packet.{method, attribute_id, attribute_modifier, attribute_data, status}
@@ -58,11 +58,13 @@ pub record ToldSame (x y : List ℕ) : Type 0 where
   pub status_is : status x ≡ status y
   pub data_is : bytes_in attribute_data x ≡ bytes_in attribute_data y
 
-payload_same : (told : Result (List ℕ) Refusal) (p q : List ℕ) → bytes_in attribute_data p ≡ bytes_in attribute_data q → payload_told told p ≡ payload_told told q
+payload_same : (told : Result (List ℕ) Refusal) (p q : List ℕ) → bytes_in attribute_data p ≡ bytes_in attribute_data q
+    → payload_told told p ≡ payload_told told q
 payload_same (Ok payload) p q e = refl
 payload_same (Err refusal) p q e = e
 
-pub told_same : (a : Agent) (p q : List ℕ) (arrival : ℕ) → IsAgent a → IsPacket p → IsPacket q → AskSame p q → ToldSame (answered a p arrival).packet (answered a q arrival).packet
+pub told_same : (a : Agent) (p q : List ℕ) (arrival : ℕ) → IsAgent a → IsPacket p → IsPacket q → AskSame p q
+    → ToldSame (answered a p arrival).packet (answered a q arrival).packet
 told_same a p q arrival is whole its same =
     let x = answers_hold a p arrival is whole in
     let y = answers_hold a q arrival is its in
