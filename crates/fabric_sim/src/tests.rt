@@ -40,15 +40,23 @@ fn directed(
     ports: [u8; 3],
     data: &[u8; 64],
 ) -> Packet {
-    let mut path = Path::<63>::new();
-    for port in ports {
-        if port != 0 && !path.is_full() {
-            path.push(PortNum::new(port));
+    let smp = Smp::directed(
+        method,
+        attribute,
+        modifier,
+        0x1_0000_0002,
+        &Path::<63>::new(),
+        data,
+    );
+    let mut bytes = *smp.bytes();
+    for (i, port) in ports.into_iter().enumerate() {
+        bytes[129 + i] = port;
+        if port != 0 {
+            bytes[7] = i as u8 + 1;
         }
     }
-    let smp = Smp::directed(method, attribute, modifier, 0x1_0000_0002, &path, data);
     Packet {
-        bytes: *smp.bytes(),
+        bytes,
         slid: Lid::new(0xFFFF),
         dlid: Lid::new(0xFFFF),
     }
@@ -72,24 +80,7 @@ fn said(delivered: Result<Delivered, FabricFault>) -> (&'static str, u64) {
             Reason::Unreadable => ("unreadable", 0),
             Reason::NoRoute => ("no route", 0),
         },
-        Err(fault) => (fault_name(fault), 0),
-    }
-}
-
-fn fault_name(fault: FabricFault) -> &'static str {
-    match fault {
-        FabricFault::NoSuchPacket => "NoSuchPacket",
-        FabricFault::NoSuchPort => "NoSuchPort",
-        FabricFault::PortTaken => "PortTaken",
-        FabricFault::Memory => "Memory",
-        FabricFault::SerialsSpent => "SerialsSpent",
-    }
-}
-
-fn refusal<T: Drop>(answer: Result<T, FabricFault>) -> &'static str {
-    match answer {
-        Ok(_) => "",
-        Err(fault) => fault_name(fault),
+        Err(_) => ("refused", 0),
     }
 }
 
@@ -183,31 +174,51 @@ fn each_packet_that_is_discarded(rt: HostRuntime) -> Result<(), Fail> {
 #[test]
 fn each_refusal(rt: HostRuntime) -> Result<(), Fail> {
     let mut fabric = ring(rt.alloc(), u64::MAX)?;
-    let packet = get_node_info([0; 3]);
-    let last = fabric.inject(at(3, 1), packet)?;
+    let last = fabric.inject(at(3, 1), get_node_info([0; 3]))?;
     for (refused, wanted) in [
-        (refusal(fabric.deliver(0)), "NoSuchPacket"),
-        (refusal(fabric.lose(0)), "NoSuchPacket"),
-        (refusal(fabric.repeat(0)), "NoSuchPacket"),
-        (refusal(fabric.deliver(last)), "SerialsSpent"),
-        (refusal(fabric.repeat(last)), "SerialsSpent"),
-        (refusal(fabric.inject(at(3, 1), packet)), "SerialsSpent"),
-        (refusal(fabric.inject(at(4, 1), packet)), "NoSuchPort"),
-        (refusal(fabric.seat(at(3, 1))), "PortTaken"),
-        (refusal(fabric.seat(at(0, 1))), "NoSuchPort"),
-        (refusal(fabric.seat(at(4, 2))), "NoSuchPort"),
-        (refusal(fabric.seat(at(4, 0))), "NoSuchPort"),
-        (refusal(fabric.plug(at(0, 3), at(0, 0))), "NoSuchPort"),
-        (refusal(fabric.plug(at(5, 1), at(0, 3))), "NoSuchPort"),
-        (refusal(fabric.plug(at(0, 3), at(0, 1))), "PortTaken"),
-        (refusal(fabric.cut(at(0, 3))), "NoSuchPort"),
-        (refusal(fabric.cut(at(0, 5))), "NoSuchPort"),
-        (refusal(fabric.ping(at(3, 0), Lid::new(1))), "NoSuchPort"),
-        (refusal(fabric.ping(at(0, 5), Lid::new(1))), "NoSuchPort"),
-        (refusal(fabric.ping(at(0, 0), Lid::new(1))), ""),
-        (refusal(fabric.lose(last)), ""),
+        (fabric.deliver(0).err(), Some(FabricFault::NoSuchPacket)),
+        (fabric.lose(0).err(), Some(FabricFault::NoSuchPacket)),
+        (fabric.repeat(0).err(), Some(FabricFault::NoSuchPacket)),
+        (fabric.deliver(last).err(), Some(FabricFault::SerialsSpent)),
+        (fabric.repeat(last).err(), Some(FabricFault::SerialsSpent)),
+        (
+            fabric.inject(at(3, 1), get_node_info([0; 3])).err(),
+            Some(FabricFault::SerialsSpent),
+        ),
+        (
+            fabric.inject(at(4, 1), get_node_info([0; 3])).err(),
+            Some(FabricFault::NoSuchPort),
+        ),
+        (fabric.seat(at(3, 1)).err(), Some(FabricFault::PortTaken)),
+        (fabric.seat(at(0, 1)).err(), Some(FabricFault::NoSuchPort)),
+        (fabric.seat(at(4, 2)).err(), Some(FabricFault::NoSuchPort)),
+        (fabric.seat(at(4, 0)).err(), Some(FabricFault::NoSuchPort)),
+        (
+            fabric.plug(at(0, 3), at(0, 0)).err(),
+            Some(FabricFault::NoSuchPort),
+        ),
+        (
+            fabric.plug(at(5, 1), at(0, 3)).err(),
+            Some(FabricFault::NoSuchPort),
+        ),
+        (
+            fabric.plug(at(0, 3), at(0, 1)).err(),
+            Some(FabricFault::PortTaken),
+        ),
+        (fabric.cut(at(0, 3)).err(), Some(FabricFault::NoSuchPort)),
+        (fabric.cut(at(0, 5)).err(), Some(FabricFault::NoSuchPort)),
+        (
+            fabric.ping(at(3, 0), Lid::new(1)).err(),
+            Some(FabricFault::NoSuchPort),
+        ),
+        (
+            fabric.ping(at(0, 5), Lid::new(1)).err(),
+            Some(FabricFault::NoSuchPort),
+        ),
+        (fabric.ping(at(0, 0), Lid::new(1)).err(), None),
+        (fabric.lose(last).err(), None),
     ] {
-        assert!(rt; refused == wanted, "{refused} {wanted}");
+        assert!(rt; refused == wanted, "{refused:?} {wanted:?}");
     }
     Ok(())
 }
