@@ -59,7 +59,7 @@ module _ {path request : List ℕ} (r : IsRequestOver path request) (noted : ℕ
     pub out_asks : is_response bytes ≡ false
     out_asks = ap (λ b. b / 2 ^ 7 % 2 ^ 1 == 1) (o.kept 3 (inl (omega arith))) ∙ r.asks
 
-    out_hops : number_in hop_count bytes ≡ length path
+    pub out_hops : number_in hop_count bytes ≡ length path
     out_hops = field_kept hop_count request bytes (inr (omega arith, omega arith)) o.kept ∙ r.hops
 
     moves : (here : Here) → k ≤ length path → (0 < k → here.arrival ≡ noted k) → IsOut request noted (k + 1) (moved_on here bytes)
@@ -183,10 +183,10 @@ module _ {hops : ℕ} {answer : List ℕ} (r : IsAnswerBack hops answer) (noted 
   pub back_directed : is_directed bytes ≡ true
   back_directed = ap (λ n. n == 0x81) (field_kept (record { at = 1; len = 1 }) answer bytes (inl (omega arith)) b.kept) ∙ r.directed
 
-  back_returning : is_returning bytes ≡ true
+  pub back_returning : is_returning bytes ≡ true
   back_returning = ap (λ n. n / 2 ^ 7 % 2 ^ 1 == 1) (b.kept 4 (inl (omega arith))) ∙ r.returning
 
-  back_hops : number_in hop_count bytes ≡ hops
+  pub back_hops : number_in hop_count bytes ≡ hops
   back_hops = field_kept hop_count answer bytes (inr (omega arith, omega arith)) b.kept ∙ r.hops_are
 
   -- it goes on by the port that was noted
@@ -219,6 +219,7 @@ module _ {hops : ℕ} {answer : List ℕ} (r : IsAnswerBack hops answer) (noted 
     pub step_is : step here bytes ≡ record { packet = pointed 0 bytes; verdict = ToManager }
     pub kept : IsKeptFrom answer (pointed 0 bytes)
     pub count : length (pointed 0 bytes) ≡ 256
+    pub parses : fault_of (pointed 0 bytes) ≡ None
     pub pointer : number_in hop_pointer (pointed 0 bytes) ≡ 0
 
   pub is_home : (here : Here) → k ≡ 0 → IsHome here
@@ -228,5 +229,6 @@ module _ {hops : ℕ} {answer : List ℕ} (r : IsAnswerBack hops answer) (noted 
         step_is = home_row here bytes back_returning (b.pointer ∙ ap (λ n. n + 1) first);
         kept = λ place h. new.kept place h ∙ b.kept place h;
         count = new.count;
+        parses = new.parses b.parses (omega arith);
         pointer = new.pointer_is;
       }

@@ -1,6 +1,10 @@
 pub mod AgentLists
 pub mod Built
+pub mod Carried
+pub mod Carries
+pub mod Courses
 pub mod Invariants
+pub mod Kept
 pub mod PeerLists
 pub mod PingSteps
 pub mod PortChanges
@@ -13,4 +17,5 @@ pub mod TripFlights
 pub mod TripShapes
 pub mod TripsBack
 pub mod TripsOut
+pub mod Walks
 pub mod Written

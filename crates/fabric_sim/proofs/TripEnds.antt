@@ -45,7 +45,7 @@ use Rattle.fabric_sim.proofs.TripAdvances.{Advances, advanced}
 use Rattle.fabric_sim.proofs.TripsOut.{Trip, IsOutThere, noted, noted_small, stop_in_port, at_stop, here, arrives, outcome_here, deliver_out}
 use Rattle.fabric_sim.proofs.TripsBack.{IsBackThere, HandedUp, deliver_back, deliver_home}
 
-keep : KeepAgents
+pub keep : KeepAgents
 keep =
     record {
       answered_node = λ a packet arrival. (answered_keeps_shape a packet arrival).node;
@@ -65,7 +65,7 @@ word_of_bytes packet = omega (arith, get_or-drop 4 packet 0 0, get_or-drop 4 pac
 
 module _ {method attribute modifier tid : ℕ} {path payload : List ℕ} (fits : FitsRequest method attribute modifier tid payload)
     (low : method < 2 ^ 7) (short : length path ≤ 63) where
-  request_over : IsRequestOver path (directed method attribute modifier tid path payload)
+  pub request_over : IsRequestOver path (directed method attribute modifier tid path payload)
   request_over =
       let request = directed method attribute modifier tid path payload in
       let (holds, along) = directed_reads_back method attribute modifier tid path payload fits short in
@@ -81,18 +81,18 @@ module _ {method attribute modifier tid : ℕ} {path payload : List ℕ} (fits :
 
 -- what holds at the start ------------------------------------------------------------------------
 
-agents_of : (agents : List Agent) → All IsAgent agents → AreAgents agents
+pub agents_of : (agents : List Agent) → All IsAgent agents → AreAgents agents
 agents_of [] all = tt
 agents_of (a ∷ agents) all = (All-head IsAgent a agents all, agents_of agents (All-tail IsAgent a agents all))
 
-given_of : (s : Simulation) (flights : List Flight) → All (IsWaiting s) flights → AreGiven s.next flights
+pub given_of : (s : Simulation) (flights : List Flight) → All (IsWaiting s) flights → AreGiven s.next flights
 given_of s [] all = tt
 given_of s (f ∷ flights) all = ((All-head (IsWaiting s) f flights all).given, given_of s flights (All-tail (IsWaiting s) f flights all))
 
-along_itself : (s : Simulation) → IsSimulation s → IsAlong s s
+pub along_itself : (s : Simulation) → IsSimulation s → IsAlong s s
 along_itself s is = record { nodes = refl; peers = refl; agents = agents_of s.agents is.agents; given = given_of s s.flights is.waiting; next = omega arith }
 
-few_ports : (s : Simulation) → AreAgents s.agents → (place : ℕ) → port_count s place ≤ 254
+pub few_ports : (s : Simulation) → AreAgents s.agents → (place : ℕ) → port_count s place ≤ 254
 few_ports s all place = by_agent (slice_get s.agents place) refl
   where
     by_agent : (o : Option Agent) → slice_get s.agents place ≡ o → option_map_or (λ (a : Agent). a.node.ports) o 0 ≤ 254
@@ -115,7 +115,7 @@ asks_as_sent request bytes long count kept =
 -- the turn -----------------------------------------------------------------------------------------
 
 -- an agent is where a port is
-agent_by_port : (s : Simulation) (place : ℕ) → 1 ≤ port_count s place → (a : Agent) × (agent_at s place ≡ Some a)
+pub agent_by_port : (s : Simulation) (place : ℕ) → 1 ≤ port_count s place → (a : Agent) × (agent_at s place ≡ Some a)
 agent_by_port s place some = by_agent (slice_get s.agents place) refl
   where
     by_agent : (o : Option Agent) → slice_get s.agents place ≡ o → (a : Agent) × (agent_at s place ≡ Some a)
@@ -138,7 +138,7 @@ set_there [] place a to h = absurd (cc)
 set_there (x ∷ agents) zero a to h = refl
 set_there (x ∷ agents) (suc place) a to h = set_there agents place a to h
 
-changed_there : (agents : List Agent) (place : ℕ) (a : Agent) (change : Agent → Agent) → slice_get agents place ≡ Some a
+pub changed_there : (agents : List Agent) (place : ℕ) (a : Agent) (change : Agent → Agent) → slice_get agents place ≡ Some a
     → slice_get (with_changed agents place change) place ≡ Some (change a)
 changed_there agents place a change h =
     ap (λ o. slice_get (option_map_or (λ x. slice_set agents place (change x)) o agents) place) h ∙ set_there agents place a (change a) h

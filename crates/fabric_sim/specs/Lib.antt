@@ -5,3 +5,4 @@ pub mod Build
 pub mod Calls
 pub mod ThereAndBack
 pub mod Ping
+pub mod Tells

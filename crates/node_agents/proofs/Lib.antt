@@ -6,3 +6,4 @@ pub mod Sets
 pub mod Shapes
 pub mod Told
 pub mod SameRequests
+pub mod Says

@@ -231,7 +231,7 @@ module _ (port : Port) (arrival : ℕ) where
   state_small Armed = omega arith
   state_small Active = omega arith
 
-  told_state : bits_in port_state (port_info_of port arrival) ≡ number_of_state port.state
+  pub told_state : bits_in port_state (port_info_of port arrival) ≡ number_of_state port.state
   told_state =
       let marked = length-port_marked port arrival in
       let empty = blank in

@@ -28,7 +28,7 @@ pub record Keeps (a b : Agent) : Type 0 where
   pub shape : KeepsShape a b
   pub is_agent : IsAgent a → IsAgent b
 
-keeps_same : (a : Agent) → Keeps a a
+pub keeps_same : (a : Agent) → Keeps a a
 keeps_same a = record { shape = record { node = refl; down = λ port. (λ h. h, λ h. h); seats = λ port. refl }; is_agent = λ h. h }
 
 -- an agent with the same node and ports has the same shape

@@ -1,14 +1,17 @@
 -- What an answer is, what it leaves of the agent, and what a Set that is taken does.
-use Rattle.std.specs.Prelude.{◌≡◌, ◌≢◌, ◌↔◌, ◌⊎◌, ℕ, ◌+◌, ◌*◌, ◌<◌, ◌≤◌, Bool, true, false, List, length, slice_index, None, Some}
-use Rattle.smp_bytes.specs.Header.{get, set, done, switch_info, port_info, linear_forwarding_table}
+use Rattle.std.specs.Prelude.{◌≡◌, ◌≢◌, ◌↔◌, ◌⊎◌, ℕ, ◌+◌, ◌*◌, ◌^◌, ◌<◌, ◌≤◌, Bool, true, false, List, length, slice_index, None, Some}
+use Rattle.smp_bytes.specs.Header.{get, set, done, node_info, switch_info, port_info, linear_forwarding_table}
 use Rattle.smp_bytes.specs.Field.{number_in, bytes_in, bits_in}
 use Rattle.smp_bytes.specs.Packet.{method, attribute_id, attribute_modifier, attribute_data, status, fault_of}
 use Rattle.smp_bytes.specs.ReadBack.{HoldsAnswer}
-use Rattle.attr_codec.specs.PortInfo.{base_lid, port_state}
-use Rattle.attr_codec.specs.SwitchInfo.{linear_fdb_top}
-use Rattle.attr_codec.specs.declared.port_state.PortState.TheVariants.{Down}
+use Rattle.attr_codec.specs.NodeInfo.{node_info_in}
+use Rattle.attr_codec.specs.PortInfo.{base_lid, port_state, number_of_state}
+use Rattle.attr_codec.specs.SwitchInfo.{linear_fdb_cap, linear_fdb_top}
+use Rattle.attr_codec.specs.declared.port_state.PortState.{PortState}
+use Rattle.attr_codec.specs.declared.port_state.PortState.TheVariants.{NoChange, Down}
 use Rattle.node_agents.specs.declared.agent_node.AgentNode.{AgentNode}
 use Rattle.node_agents.specs.Agent.{Agent, IsAgent, IsAgentNode, is_switch, state_at, has_seat, port_at, base_lid_at, entry_at, fresh_agent, wired, seated}
+use Rattle.node_agents.specs.NodeInfo.{node_info_of}
 use Rattle.node_agents.specs.PortInfo.{has_lid, port_meant}
 use Rattle.node_agents.specs.Answers.{met, status_told, payload_told, answered}
 
@@ -50,6 +53,35 @@ abbrev pub RefusalsChangeNothing : Type 0
 RefusalsChangeNothing =
     (a : Agent) (packet : List ℕ) (arrival : ℕ) → IsAgent a → IsPacket packet → status (answered a packet arrival).packet ≢ done
     → (answered a packet arrival).agent ≡ a
+
+-- what is said ------------------------------------------------------------------------------
+
+-- of a port: which one it is, and its state, which is Down exactly where the port is
+pub record SaysPort (a : Agent) (modifier arrival number : ℕ) : Type 0 where
+  pub port : ℕ
+  pub meant : port_meant a modifier arrival ≡ Some port
+  pub state : PortState
+  pub number_is : number ≡ number_of_state state
+  pub known : state ≢ NoChange
+  pub down : (state ≡ Down) ↔ (state_at a port ≡ Down)
+
+-- of a switch: how many entries its forwarding table has room for
+pub record SaysSwitch (a : Agent) (cap : ℕ) : Type 0 where
+  pub kind : is_switch a ≡ true
+  pub cap_is : cap ≡ a.node.cap
+
+-- by its attribute, of the agent that gave it to a request that came to one of its ports
+pub record Says (a : Agent) (arrival : ℕ) (answer : List ℕ) : Type 0 where
+  pub node : number_in attribute_id answer ≡ node_info → node_info_in (bytes_in attribute_data answer) ≡ node_info_of a.node arrival
+  pub port : number_in attribute_id answer ≡ port_info
+      → SaysPort a (number_in attribute_modifier answer) arrival (bits_in port_state (bytes_in attribute_data answer))
+  pub switch : number_in attribute_id answer ≡ switch_info → SaysSwitch a (number_in linear_fdb_cap (bytes_in attribute_data answer))
+
+-- an answer with status 0, to a Get or a Set, says what is so of the node, but for LIDs and tables
+abbrev pub AnswersSay : Type 0
+AnswersSay =
+    (a : Agent) (packet : List ℕ) (arrival : ℕ) → IsAgent a → IsPacket packet → a.node.guid < 2 ^ 64 → arrival ≤ a.node.ports
+    → status (answered a packet arrival).packet ≡ done → Says a arrival (answered a packet arrival).packet
 
 -- Sets ------------------------------------------------------------------------------------
 

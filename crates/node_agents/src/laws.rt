@@ -1,5 +1,5 @@
 //! The laws of agents: what no request changes, what an answer is, and what a Set does.
-ghost use Rattle.node_agents.specs.AnswerLaws.{AgentsAreMade, AnsweredIsAgent, AnsweredKeepsShape, AnswersHold, GetsChangeNothing, RefusalsChangeNothing, GetsTellAsSets, BlocksAreSet, TopsAreSet, PortsAreSet};
+ghost use Rattle.node_agents.specs.AnswerLaws.{AgentsAreMade, AnsweredIsAgent, AnsweredKeepsShape, AnswersHold, AnswersSay, GetsChangeNothing, RefusalsChangeNothing, GetsTellAsSets, BlocksAreSet, TopsAreSet, PortsAreSet};
 
 /// What is made, wired and given a subnet manager is an agent.
 #[tactic(auto, using(crate::proofs::Made::agents_are_made))]
@@ -22,6 +22,13 @@ pub fn answered_keeps_shape()
 /// An answer is a packet with the status and the attribute that are told, and for the rest as the request was.
 pub fn answers_hold()
     ensures { AnswersHold }
+{}
+
+/// An answer with status 0, to a Get or a Set, says what is so of the node: what it is, whether a port is down, and how
+/// many entries its forwarding table has room for.
+#[tactic(auto, using(crate::proofs::Says::answers_say))]
+pub fn answers_say()
+    ensures { AnswersSay }
 {}
 
 /// A Get leaves the agent as it was.

@@ -1,0 +1,137 @@
+-- A simulated fabric stays one, whatever is delivered, lost, copied or sent.
+use Rattle.std.proofs.Common.{◌≡◌, ℕ, ◌^◌, ◌<◌, Bool, true, false, cond, List, [], ◌∷◌, refl, subst, arith}
+use Rattle.std.proofs.lemmas.Bool.{eqb-false}
+use Rattle.std.proofs.lemmas.List.Elements.{All-head, All-tail}
+use Rattle.std.specs.Prelude.{Option, Some, None, All, is_none, is_some, not, ◌==◌, ◌&&◌, ◌||◌, Ok}
+use Rattle.std.specs.Option.{option_map_or}
+use Rattle.smp_bytes.specs.declared.cable.NodePort.{NodePort}
+use Rattle.smp_bytes.specs.declared.course.Course.{Course}
+use Rattle.smp_bytes.specs.declared.course.Course.TheVariants as course_is
+use Rattle.smp_bytes.specs.Packet.{fault_of, is_directed, is_response}
+use Rattle.smp_bytes.specs.Forwarding.{course}
+use Rattle.dr_forward.specs.declared.verdict.Verdict.{Verdict}
+use Rattle.dr_forward.specs.declared.verdict.Verdict.TheVariants.{Out, ToAgent, ToManager, Discard}
+use Rattle.dr_forward.specs.Step.{step}
+use Rattle.fabric_sim.specs.declared.packet.Packet.{Packet}
+use Rattle.fabric_sim.specs.declared.flight.Place.{Place}
+use Rattle.fabric_sim.specs.declared.flight.Place.TheVariants.{Seat, Arrived}
+use Rattle.fabric_sim.specs.declared.flight.Flight.{Flight}
+use Rattle.fabric_sim.specs.declared.fault.FabricFault.TheVariants.{NoSuchPacket, NoSuchPort, SerialsSpent}
+use Rattle.fabric_sim.specs.declared.delivered.Delivered.TheVariants.{Answered}
+use Rattle.fabric_sim.specs.declared.delivered.Reason.TheVariants.{Down, Unreadable, Course as OffCourse}
+use Rattle.fabric_sim.specs.declared.outcome.Outcome.{Outcome}
+use Rattle.fabric_sim.specs.declared.outcome.Outcome.TheVariants.{Moves, Asks, HandsUp, Drops}
+use Rattle.fabric_sim.specs.Simulation.{Simulation, IsSimulation, IsWaiting, CanWait, across, is_seat_at, fabric_of, port_of, is_at_seat, is_by_wire, is_numbered, flight_with}
+use Rattle.fabric_sim.specs.Delivery.{CanFare, carrying, leaving, is_for_manager, here_at, at_agent, by_verdict, directed_outcome, by_course, lid_routed_outcome, outcome_of, refused, with_flight, without, asked, launched, brought, delivered_flight, delivered}
+use Rattle.fabric_sim.specs.Changes.{addressed, injected, copied, repeated, lost}
+use Rattle.fabric_sim.proofs.Invariants.{with_flight_is, without_is, moved_to_is, asked_is}
+
+-- where a packet goes it can wait -------------------------------------------------------------
+
+module _ (s : Simulation) (is : IsSimulation s) where
+  both : (b : Bool) (x y : Outcome) → CanFare s x → CanFare s y → CanFare s (cond b x y)
+  both true x y h k = h
+  both false x y h k = k
+
+  leaves : (out : NodePort) (packet : Packet) → CanFare s (leaving s out packet)
+  leaves out packet = by_cable (across s.peers out) refl
+    where
+      by_cable : (m : Option NodePort) → across s.peers out ≡ m → CanFare s (option_map_or (λ into. Moves (Arrived into) packet) m (Drops Down))
+      by_cable None e = tt
+      by_cable (Some into) e = record { port = is.cables.ends into out (is.cables.lead_back out into e); seat = λ h. cc }
+
+  asks : (p : NodePort) (packet : Packet) → CanFare s (at_agent s p packet)
+  asks p packet =
+      both (is_response packet.bytes) (Drops OffCourse) _ tt
+      (both (is_for_manager s p packet.bytes) (HandsUp packet) (Asks packet.bytes packet.slid packet.dlid) tt tt)
+
+  fares_by_verdict : (p : NodePort) (packet : Packet) (v : Verdict) → CanFare s (by_verdict s p packet v)
+  fares_by_verdict p packet (Out port) = leaves (record { node = p.node; port = port }) packet
+  fares_by_verdict p packet ToAgent = asks p packet
+  fares_by_verdict p packet ToManager = tt
+  fares_by_verdict p packet (Discard reason) = tt
+
+  fares_by_course : (p : NodePort) (packet : Packet) (c : Course) → CanFare s (by_course s p packet c)
+  fares_by_course p packet (course_is.Delivers q) =
+      both (is_response packet.bytes || is_for_manager s p packet.bytes) (HandsUp packet) (Asks packet.bytes packet.dlid packet.slid) tt tt
+  fares_by_course p packet (course_is.LeavesBy out) = leaves out packet
+  fares_by_course p packet course_is.Drops = tt
+
+  pub fares : (place : Place) (packet : Packet) → CanFare s (outcome_of s place packet)
+  unfolding outcome_of
+  fares place packet =
+      let p = port_of place in
+      let stepped = step (here_at s p) packet.bytes in
+      both (is_some (fault_of packet.bytes)) (Drops Unreadable) _ tt
+      (both (not (is_at_seat place) && is_none (across s.peers p)) (Drops Down) _ tt
+      (both (is_directed packet.bytes) (directed_outcome s p packet) (lid_routed_outcome s place packet)
+      (fares_by_verdict p (carrying packet stepped.packet) stepped.verdict)
+      (fares_by_course p packet (course (fabric_of s) packet.dlid (record { place = p; by_wire = is_by_wire place })))))
+
+-- calls ---------------------------------------------------------------------------------------
+
+pub found_waits : (s : Simulation) (flights : List Flight) (n : ℕ) (f : Flight) → All (IsWaiting s) flights → flight_with flights n ≡ Some f → IsWaiting s f
+found_waits s [] n f all h = absurd (cc)
+found_waits s (x ∷ flights) n f all h =
+    by_first (is_numbered n x) h (λ k. found_waits s flights n f (All-tail (IsWaiting s) x flights all) k)
+  where
+    by_first : (b : Bool) → cond b (Some x) (flight_with flights n) ≡ Some f → (flight_with flights n ≡ Some f → IsWaiting s f) → IsWaiting s f
+    by_first true e later = let same : x ≡ f = cc in subst (IsWaiting s) same (All-head (IsWaiting s) x flights all)
+    by_first false e later = later e
+
+module _ (s : Simulation) (is : IsSimulation s) where
+  left : (s.next == 2 ^ 64) ≡ false → s.next < 2 ^ 64
+  left e = omega (arith, is.next, eqb-false s.next (2 ^ 64) e)
+
+  brought_is : (flight : Flight) (o : Outcome) → CanWait s flight.place → CanFare s o → IsSimulation (brought s flight o).fabric
+  brought_is flight (Moves place packet) waits can = moved_to_is s flight.serial place packet is can
+  brought_is flight (Asks request slid dlid) waits can = by_serial (s.next == 2 ^ 64) refl
+    where
+      by_serial : (b : Bool) → (s.next == 2 ^ 64) ≡ b
+          → IsSimulation (cond b (refused s SerialsSpent) (record { fabric = asked s flight request slid dlid; result = Ok (Answered s.next) })).fabric
+      by_serial true e = is
+      by_serial false e = asked_is s flight request slid dlid is waits (left e)
+  brought_is flight (HandsUp packet) waits can = without_is s flight.serial is
+  brought_is flight (Drops reason) waits can = without_is s flight.serial is
+
+  pub delivered_is : (serial : ℕ) → IsSimulation (delivered s serial).fabric
+  unfolding delivered
+  delivered_is serial = by_flight (flight_with s.flights serial) refl
+    where
+      by_flight : (o : Option Flight) → flight_with s.flights serial ≡ o → IsSimulation (delivered_flight s o).fabric
+      by_flight None e = is
+      by_flight (Some flight) e =
+          brought_is flight (outcome_of s flight.place flight.packet) (found_waits s s.flights serial flight is.waiting e).place
+          (fares s is flight.place flight.packet)
+
+  launched_is : (place : Place) (packet : Packet) → CanWait s place → IsSimulation (launched s place packet).fabric
+  launched_is place packet can = by_serial (s.next == 2 ^ 64) refl
+    where
+      by_serial : (b : Bool) → (s.next == 2 ^ 64) ≡ b
+          → IsSimulation (cond b (refused s SerialsSpent) (record { fabric = with_flight s place packet; result = Ok s.next })).fabric
+      by_serial true e = is
+      by_serial false e = with_flight_is s place packet is can (left e)
+
+  pub injected_is : (p : NodePort) (packet : Packet) → IsSimulation (injected s p packet).fabric
+  unfolding injected
+  injected_is p packet = by_seat (is_seat_at s p) refl
+    where
+      by_seat : (b : Bool) → is_seat_at s p ≡ b → IsSimulation (cond (not b) (refused s NoSuchPort) (launched s (Seat p) (addressed s p packet))).fabric
+      by_seat false e = is
+      by_seat true e = launched_is (Seat p) (addressed s p packet) (record { port = is.seats p e; seat = λ h. e })
+
+  pub repeated_is : (serial : ℕ) → IsSimulation (repeated s serial).fabric
+  unfolding repeated
+  repeated_is serial = by_flight (flight_with s.flights serial) refl
+    where
+      by_flight : (o : Option Flight) → flight_with s.flights serial ≡ o → IsSimulation (copied s o).fabric
+      by_flight None e = is
+      by_flight (Some flight) e = launched_is flight.place flight.packet (found_waits s s.flights serial flight is.waiting e).place
+
+  pub lost_is : (serial : ℕ) → IsSimulation (lost s serial).fabric
+  unfolding lost
+  lost_is serial = by_flight (is_none (flight_with s.flights serial))
+    where
+      by_flight : (b : Bool) → IsSimulation (cond b (refused {R = Unit {0}} s NoSuchPacket) (record { fabric = without s serial; result = Ok tt })).fabric
+      by_flight true = is
+      by_flight false = without_is s serial is

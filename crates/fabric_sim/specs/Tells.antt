@@ -1,0 +1,65 @@
+-- What a packet that came back over a directed route says of the node at the end of its path.
+-- InfiniBand Architecture Specification, Volume 1: subnet management, NodeInfo, PortInfo and SwitchInfo; directed route SMPs.
+use Rattle.std.specs.Prelude.{◌≡◌, ◌↔◌, ◌⊎◌, ℕ, ◌≤◌, true, List, Some, if◌then◌else◌}
+use Rattle.smp_bytes.specs.declared.cable.NodePort.{NodePort}
+use Rattle.smp_bytes.specs.Header.{node_info, switch_info, port_info, done}
+use Rattle.smp_bytes.specs.Field.{number_in, bits_in, bytes_in}
+use Rattle.smp_bytes.specs.Packet.{attribute_id, attribute_modifier, attribute_data, hop_count, status}
+use Rattle.smp_bytes.specs.NodeType.{is_switch}
+use Rattle.smp_bytes.specs.Fabric.{Node, Fabric, IsNodeAt}
+use Rattle.smp_bytes.specs.DirectedWalk.{directed_end}
+use Rattle.attr_codec.specs.declared.node_info.NodeInfo.{NodeInfo}
+use Rattle.attr_codec.specs.NodeInfo.{node_info_in}
+use Rattle.attr_codec.specs.NodeTypeNumber.{number_of_type}
+use Rattle.attr_codec.specs.PortInfo.{port_state}
+use Rattle.attr_codec.specs.SwitchInfo.{linear_fdb_cap}
+
+-- the ports of a directed packet's path
+abbrev pub path_of : List ℕ → List ℕ
+path_of packet = bytes_in (record { at = 129; len = number_in hop_count packet }) packet
+
+-- a node, as seen by one of its ports
+pub record SaysNode (node : Node) (port : ℕ) (info : NodeInfo) : Type 0 where
+  pub guid : info.node_guid ≡ node.guid
+  pub kind : info.node_type ≡ number_of_type node.kind
+  pub ports : info.num_ports ≡ node.ports
+  pub port_guid : info.port_guid ≡ node.port_guid port
+  pub local_port : info.local_port_num ≡ port
+
+-- a port is up where a cable is in it; a switch's port 0 always is
+abbrev pub IsUp : Fabric → ℕ → Node → ℕ → Type 0
+IsUp f place node port = ((is_switch node.kind ≡ true) × (port ≡ 0)) ⊎ ((far : NodePort) × (f.across (record { node = place; port = port }) ≡ Some far))
+
+-- the number of a port state that is up: Initialize, Armed or Active
+abbrev pub IsUpState : ℕ → Type 0
+IsUpState state = (2 ≤ state) × (state ≤ 4)
+
+-- the port that port information is about: of a switch the one that was asked for, of an adapter the one by which the
+-- request came
+abbrev pub port_asked : Node → ℕ → ℕ → ℕ
+port_asked node modifier arrival = if is_switch node.kind then modifier else arrival
+
+-- a port of the node that is up exactly where its state says so
+pub record SaysPort (f : Fabric) (place : ℕ) (node : Node) (port state : ℕ) : Type 0 where
+  pub within : port ≤ node.ports
+  pub up : IsUpState state ↔ IsUp f place node port
+
+-- a switch, and the entries that its forwarding table has room for
+pub record SaysSwitch (node : Node) (entries : ℕ) : Type 0 where
+  pub kind : is_switch node.kind ≡ true
+  pub cap : entries ≡ node.cap
+
+-- by its attribute, of the node that its request came to by a port
+pub record SaysOf (f : Fabric) (at : NodePort) (packet : List ℕ) : Type 0 where
+  pub node : Node
+  pub there : IsNodeAt f at.node node
+  pub node_info : number_in attribute_id packet ≡ node_info → SaysNode node at.port (node_info_in (bytes_in attribute_data packet))
+  pub port_info : number_in attribute_id packet ≡ port_info
+      → SaysPort f at.node node (port_asked node (number_in attribute_modifier packet) at.port) (bits_in port_state (bytes_in attribute_data packet))
+  pub switch_info : number_in attribute_id packet ≡ switch_info → SaysSwitch node (number_in linear_fdb_cap (bytes_in attribute_data packet))
+
+-- handed up at a port: its path leads somewhere from there, and what it says with status 0 is so at the end of it
+pub record TellsOfEnd (f : Fabric) (at : NodePort) (packet : List ℕ) : Type 0 where
+  pub end : NodePort
+  pub leads : directed_end f at (path_of packet) ≡ Some end
+  pub says : status packet ≡ done → SaysOf f end packet

@@ -1,0 +1,284 @@
+-- Whatever happens, each directed packet that comes back tells of the end of its path.
+use Rattle.std.proofs.Common.{◌≡◌, ◌⊎◌, inl, inr, ℕ, zero, suc, ◌+◌, ◌/◌, ◌%◌, ◌^◌, ◌<◌, ◌≤◌, Bool, true, false, cond, List, [], ◌∷◌, ◌++◌, length, get_or, refl, sym, ap, ◌∙◌, subst, arith}
+use Rattle.std.proofs.lemmas.Bool.{cond_both, and_parts, eqb-true, leb-true}
+use Rattle.std.proofs.lemmas.Option.{slice_get-map}
+use Rattle.std.proofs.lemmas.List.{ext_get_or, get_or-drop, get_or-take, length-drop, length-take-le}
+use Rattle.std.proofs.lemmas.List.Elements.{All-nil, All-head, All-tail, All-cons}
+use Rattle.std.specs.Prelude.{Option, Some, None, Result, Ok, Err, All, option_map, slice_get, slice_index, take, drop, nat_le, not, ◌==◌, ◌&&◌}
+use Rattle.smp_bytes.specs.declared.cable.NodePort.{NodePort}
+use Rattle.smp_bytes.specs.Cables.{is_same_port}
+use Rattle.smp_bytes.specs.Header.{sm_info, node_info, port_info, switch_info}
+use Rattle.smp_bytes.specs.Field.{Field, number_in, bits_in, bytes_in}
+use Rattle.smp_bytes.specs.Packet.{mgmt_class, attribute_id, attribute_modifier, attribute_data, hop_count, status_word, is_directed, is_response, status}
+use Rattle.smp_bytes.specs.Requests.{directed, answer_packet}
+use Rattle.smp_bytes.specs.ReadBack.{FitsRequest, HoldsAnswer}
+use Rattle.smp_bytes.specs.DirectedWalk.{directed_end}
+use Rattle.smp_bytes.proofs.Answered.{answer_reads_back}
+use Rattle.smp_bytes.proofs.BitLaws.{byte-number_in}
+use Rattle.smp_bytes.proofs.Made.{directed_reads_back}
+use Rattle.smp_bytes.proofs.FieldLaws.{number_in-alike}
+use Rattle.smp_bytes.proofs.PlaceLaws.{bytes_in-alike}
+use Rattle.node_agents.specs.Agent.{Agent, node_of}
+use Rattle.dr_forward.proofs.Trips.{field_kept}
+use Rattle.fabric_sim.specs.declared.packet.Packet.{Packet}
+use Rattle.fabric_sim.specs.declared.delivered.Delivered.{Delivered}
+use Rattle.fabric_sim.specs.declared.delivered.Delivered.TheVariants.{Moved, Answered, ToManager, Discarded}
+use Rattle.fabric_sim.specs.declared.fault.FabricFault.{FabricFault}
+use Rattle.fabric_sim.specs.Simulation.{Simulation, AreCables, port_count, is_seat_at, fabric_of}
+use Rattle.fabric_sim.specs.Delivery.{delivered}
+use Rattle.fabric_sim.specs.ThereAndBack.{BeginsWith}
+use Rattle.attr_codec.specs.NodeInfo.{node_info_in}
+use Rattle.attr_codec.specs.PortInfo.{port_state}
+use Rattle.attr_codec.specs.SwitchInfo.{linear_fdb_cap}
+use Rattle.fabric_sim.specs.Tells.{path_of, port_asked, SaysNode, SaysPort, SaysSwitch, SaysOf, TellsOfEnd}
+use Rattle.fabric_sim.proofs.Carried.{HaveGuids, turned}
+use Rattle.fabric_sim.proofs.Carries.{AreOnCourse, Carries, HandsUpOnCourse, deliveries_carry, deliveries_hand_up, injections_carry, copies_carry, losses_carry}
+use Rattle.fabric_sim.proofs.Courses.{IsAnswerFor, IsOnCourse, IsForManager}
+use Rattle.fabric_sim.proofs.TripEnds.{request_over, few_ports, along_itself, agent_by_port}
+use Rattle.fabric_sim.proofs.TripShapes.{port_count_stays}
+use Rattle.fabric_sim.proofs.TripsOut.{IsPortOf}
+use Rattle.sm_laws.specs.Scene.{Handed, Scene, ByLid, ByPath, Answer, Event, Deliver, Lose, Repeat, Send, CanHappen, handed_by, sent_from, asks_manager, answer_to, answered_from, after_event, after_events}
+use Rattle.sm_laws.specs.AnswersTell.{IsBack, AnswersTell}
+
+-- what came back tells -----------------------------------------------------------------------------
+
+module _ (start : Simulation) (at : NodePort) (bytes : List ℕ) (r : IsAnswerFor start at bytes) where
+  -- fields that no step writes
+  same : (f : Field) → (f.at + f.len ≤ 6) ⊎ ((7 ≤ f.at) × (f.at + f.len ≤ 192)) → number_in f bytes ≡ number_in f r.answer
+  same f apart = field_kept f r.answer bytes apart r.kept
+
+  same_data : bytes_in attribute_data bytes ≡ bytes_in attribute_data r.answer
+  same_data = bytes_in-alike attribute_data bytes r.answer (omega (arith, r.count)) (omega (arith, r.is.count)) (λ place from less. r.kept place (inr (omega (arith, from), omega (arith, less))))
+
+  same_status : status bytes ≡ status r.answer
+  same_status =
+      let class = same mgmt_class (inl (omega arith)) in
+      let word = same status_word (inl (omega arith)) in
+      (λ j. cond (class j == 0x81) (word j % 2 ^ 15) (word j))
+
+  path_byte : (i : ℕ) → i < length r.path → get_or bytes (129 + i) 0 ≡ slice_index r.path i
+  path_byte i less =
+      r.kept (129 + i) (inr (omega arith, omega (arith, less, r.is.reads.short)))
+      ∙ ap (λ n. get_or r.answer n 0) (omega arith)
+      ∙ sym (byte-number_in (128 + (i + 1)) r.answer)
+      ∙ r.is.ports i less
+
+  path_is : path_of bytes ≡ r.path
+  path_is =
+      let hops : number_in hop_count bytes ≡ length r.path = same hop_count (inr (omega arith, omega arith)) ∙ r.is.reads.hops_are in
+      let size : length (take (length r.path) (drop 129 bytes)) ≡ length r.path =
+      length-take-le (length r.path) (drop 129 bytes) (omega (arith, r.is.reads.short, r.count, length-drop 129 bytes)) in
+      ap (λ n. take n (drop 129 bytes)) hops
+      ∙ ext_get_or 0 _ r.path size (λ i less.
+      get_or-take (length r.path) (drop 129 bytes) i 0 (omega (arith, less, size)) ∙ get_or-drop 129 bytes i 0 ∙ path_byte i (omega (arith, less, size)))
+
+  pub tells : TellsOfEnd (fabric_of start) at bytes
+  tells =
+      record {
+        end = r.is.end;
+        leads = ap (directed_end (fabric_of start) at) path_is ∙ r.is.leads;
+        says = λ e. let said = r.is.says (sym same_status ∙ e) in
+            let attribute = same attribute_id (inr (omega arith, omega arith)) in
+            let modifier = same attribute_modifier (inr (omega arith, omega arith)) in
+            said_same said attribute modifier;
+      }
+    where
+      said_same : SaysOf (fabric_of start) r.is.end r.answer → number_in attribute_id bytes ≡ number_in attribute_id r.answer
+          → number_in attribute_modifier bytes ≡ number_in attribute_modifier r.answer → SaysOf (fabric_of start) r.is.end bytes
+      said_same said attribute modifier =
+          record {
+            node = said.node;
+            there = said.there;
+            node_info = λ e. subst (λ d. SaysNode said.node r.is.end.port (node_info_in d)) (sym same_data) (said.node_info (sym attribute ∙ e));
+            port_info = λ e.
+                subst (λ d. SaysPort (fabric_of start) r.is.end.node said.node
+                (port_asked said.node (number_in attribute_modifier bytes) r.is.end.port) (bits_in port_state d)) (sym same_data)
+                (subst (λ m. SaysPort (fabric_of start) r.is.end.node said.node (port_asked said.node m r.is.end.port)
+                (bits_in port_state (bytes_in attribute_data r.answer))) (sym modifier) (said.port_info (sym attribute ∙ e)));
+            switch_info = λ e. subst (λ d. SaysSwitch said.node (number_in linear_fdb_cap d)) (sym same_data) (said.switch_info (sym attribute ∙ e));
+          }
+
+-- scenes ---------------------------------------------------------------------------------------------
+
+-- all that was handed up was on its course
+abbrev pub WereOnCourse : Simulation → List Handed → Type 0
+WereOnCourse start [] = Unit {0}
+WereOnCourse start (h ∷ handed) = IsForManager start h.at h.packet.bytes × WereOnCourse start handed
+
+-- what is so of a scene after events
+pub record Continues (start : Simulation) (s : Scene) : Type 0 where
+  pub fabric : Carries start s.fabric
+  pub handed : WereOnCourse start s.handed
+
+were_more : (start : Simulation) (handed more : List Handed) → WereOnCourse start handed → WereOnCourse start more → WereOnCourse start (handed ++ more)
+were_more start [] more all also = also
+were_more start (h ∷ handed) more all also = (all.0, were_more start handed more all.1 also)
+
+was_there : (start : Simulation) (handed : List Handed) (which : ℕ) (h : Handed) → WereOnCourse start handed → slice_get handed which ≡ Some h
+    → IsForManager start h.at h.packet.bytes
+was_there start [] which h all e = absurd (cc)
+was_there start (x ∷ handed) zero h all e = let same : x ≡ h = cc in subst (λ (y : Handed). IsForManager start y.at y.packet.bytes) same all.0
+was_there start (x ∷ handed) (suc which) h all e = was_there start handed which h all.1 e
+
+were_by : (start : Simulation) (result : Result Delivered FabricFault) → HandsUpOnCourse start result → WereOnCourse start (handed_by result)
+were_by start (Ok (ToManager at packet)) up = (up at packet refl, tt)
+were_by start (Ok (Moved serial)) up = tt
+were_by start (Ok (Answered serial)) up = tt
+were_by start (Ok (Discarded reason)) up = tt
+were_by start (Err fault) up = tt
+
+-- a request is on its course where it is sent
+sent_on : (start : Simulation) (seat : NodePort) (method attribute modifier tid : ℕ) (path payload : List ℕ)
+    → FitsRequest method attribute modifier tid payload → method < 2 ^ 7 → length path ≤ 63 → BeginsWith seat.port path → IsPortOf start seat
+    → IsOnCourse start seat (directed method attribute modifier tid path payload)
+sent_on start seat method attribute modifier tid path payload fits low short own within =
+    let (holds, along) = directed_reads_back method attribute modifier tid path payload fits short in
+    record {
+      count = holds.count;
+      course = λ _. (
+        zero,
+        inl (record {
+          origin = seat;
+          path = path;
+          request = directed method attribute modifier tid path payload;
+          over = request_over fits low short;
+          own = own;
+          most = omega arith;
+          there = refl;
+          within = within;
+          bytes_are = record {
+            count = holds.count;
+            parses = holds.parses;
+            kept = λ place h. refl;
+            pointer = along.hop_pointer;
+            notes = λ i some less. absurd (omega (arith, some, less));
+          };
+        }),
+      );
+    }
+
+-- a packet that is not directed is on its course
+other_on : (start : Simulation) (seat : NodePort) (bytes : List ℕ) → length bytes ≡ 256 → is_directed bytes ≡ false → IsOnCourse start seat bytes
+other_on start seat bytes count other = record { count = count; course = λ directed. absurd (cc (sym directed ∙ other)) }
+
+-- the answer that a manager gives ------------------------------------------------------------------
+
+no_attribute : (start : Simulation) (p : NodePort) (within : IsPortOf start p) (answer : List ℕ) → number_in attribute_id answer ≡ sm_info
+    → SaysOf (fabric_of start) p answer
+no_attribute start p within answer is_sm_info =
+    let (a, there) = agent_by_port start p.node (omega (arith, within.some, within.most)) in
+    record {
+      node = node_of a;
+      there = slice_get-map node_of start.agents p.node ∙ ap (option_map node_of) there;
+      node_info = λ e. let clash : sm_info ≡ node_info = sym is_sm_info ∙ e in absurd (omega (arith, clash));
+      port_info = λ e. let clash : sm_info ≡ port_info = sym is_sm_info ∙ e in absurd (omega (arith, clash));
+      switch_info = λ e. let clash : sm_info ≡ switch_info = sym is_sm_info ∙ e in absurd (omega (arith, clash));
+    }
+
+module _ {start : Simulation} (cables : AreCables start) (counts : (place : ℕ) → port_count start place ≤ 254) (guids : HaveGuids start) where
+  manager_answers : (h : Handed) (seat : NodePort) (given : ℕ) (payload : List ℕ) → IsForManager start h.at h.packet.bytes → given < 2 ^ 15 → length payload ≡ 64
+      → asks_manager seat h ≡ true → IsOnCourse start seat (answer_packet h.packet.bytes given payload)
+  manager_answers h seat given payload is small whole asks = by_class (is_directed request) refl
+    where
+      request : List ℕ
+      request = h.packet.bytes
+
+      holds : HoldsAnswer h.packet.bytes (answer_packet h.packet.bytes given payload) given payload
+      holds = answer_reads_back h.packet.bytes given payload is.whole.count is.whole.parses whole (omega (arith, small)) (λ _. small)
+
+      parts : ((is_same_port h.at seat && not (is_response h.packet.bytes)) ≡ true) × ((number_in attribute_id h.packet.bytes == sm_info) ≡ true)
+      parts = and_parts _ _ asks
+
+      before : (is_same_port h.at seat ≡ true) × (not (is_response h.packet.bytes) ≡ true)
+      before = and_parts _ _ parts.0
+
+      same_seat : h.at ≡ seat
+      same_seat =
+          let ends = and_parts (h.at.node == seat.node) (h.at.port == seat.port) before.0 in
+          let node = eqb-true _ _ ends.0 in
+          let port = eqb-true _ _ ends.1 in
+          (λ j. record { node = node j; port = port j })
+
+      attribute : number_in attribute_id (answer_packet h.packet.bytes given payload) ≡ sm_info
+      attribute =
+          number_in-alike attribute_id (answer_packet h.packet.bytes given payload) h.packet.bytes (λ place from less. holds.kept place (inr (inl (omega (arith, from), omega (arith, less)))))
+          ∙ eqb-true _ _ parts.1
+
+      by_class : (b : Bool) → is_directed h.packet.bytes ≡ b → IsOnCourse start seat (answer_packet h.packet.bytes given payload)
+      by_class false e = other_on start seat (answer_packet h.packet.bytes given payload) holds.count (holds.class ∙ e)
+      by_class true e = elim (is.course e) [
+        | inl r ↦ subst (λ p. IsOnCourse start p (answer_packet h.packet.bytes given payload)) same_seat
+            (turned start cables counts h.at h.packet.bytes given payload r holds (λ _. no_attribute start h.at r.within (answer_packet h.packet.bytes given payload) attribute))
+        | inr r ↦ absurd (cc (sym (ap not (is_answer r)) ∙ before.1))
+      ]
+        where
+          is_answer : IsAnswerFor start h.at h.packet.bytes → is_response h.packet.bytes ≡ true
+          is_answer r = ap (λ b. b / 2 ^ 7 % 2 ^ 1 == 1) (r.kept 3 (inl (omega arith))) ∙ r.is.response
+
+  -- events ----------------------------------------------------------------------------------------------
+
+  seat_in_port : (s : Simulation) → Carries start s → (seat : NodePort) → is_seat_at s seat ≡ true → IsPortOf start seat
+  seat_in_port s c seat there =
+      let parts = and_parts (nat_le 1 seat.port) (nat_le seat.port (port_count s seat.node)) (c.is.seats seat there) in
+      let to_count : seat.port ≤ port_count s seat.node = leb-true _ _ parts.1 in
+      record { some = leb-true _ _ parts.0; most = omega (arith, to_count, port_count_stays c.along seat.node) }
+
+  sends : (s : Scene) (seat : NodePort) (packet : Packet) → Continues start s → (is_seat_at s.fabric seat ≡ true → IsOnCourse start seat packet.bytes)
+      → Continues start (sent_from s seat packet)
+  sends s seat packet c on = record { fabric = injections_carry cables counts guids s.fabric c.fabric seat packet on; handed = c.handed }
+
+  answers : (s : Scene) (seat : NodePort) (given : ℕ) (payload : List ℕ) (m : Option Handed) → Continues start s → given < 2 ^ 15 → length payload ≡ 64
+      → ((h : Handed) → m ≡ Some h → IsForManager start h.at h.packet.bytes) → Continues start (answered_from s seat given payload m)
+  answers s seat given payload None c small whole was = c
+  answers s seat given payload (Some h) c small whole was =
+      cond_both (asks_manager seat h) _ _ (Continues start)
+      (λ asks. sends s seat (answer_to h.packet given payload) c (λ _. manager_answers h seat given payload (was h refl) small whole asks))
+      (λ _. c)
+
+  continued : (s : Scene) (event : Event) → Continues start s → CanHappen event → Continues start (after_event s event)
+  continued s (Deliver serial) c can =
+      record {
+        fabric = deliveries_carry cables counts guids s.fabric c.fabric serial;
+        handed = were_more start s.handed _ c.handed
+            (were_by start (delivered s.fabric serial).result (deliveries_hand_up cables counts guids s.fabric c.fabric serial));
+      }
+  continued s (Lose serial) c can = record { fabric = losses_carry cables counts guids s.fabric c.fabric serial; handed = c.handed }
+  continued s (Repeat serial) c can = record { fabric = copies_carry cables counts guids s.fabric c.fabric serial; handed = c.handed }
+  continued s (Send seat (ByLid packet)) c can = sends s seat packet c (λ _. other_on start seat packet.bytes can.0 can.1)
+  continued s (Send seat (ByPath method attribute modifier tid path payload)) c (fits, low, short, own) =
+      sends s seat _ c (λ there. sent_on start seat method attribute modifier tid path payload fits low short own (seat_in_port s.fabric c.fabric seat there))
+  continued s (Send seat (Answer which given payload)) c (small, whole) =
+      answers s seat given payload (slice_get s.handed which) c small whole (λ h e. was_there start s.handed which h c.handed e)
+
+  all_continue : (events : List Event) (s : Scene) → Continues start s → All CanHappen events → Continues start (after_events events s)
+  all_continue [] s c all = c
+  all_continue (event ∷ events) s c all =
+      all_continue events (after_event s event) (continued s event c (All-head CanHappen event events all)) (All-tail CanHappen event events all)
+
+-- the law --------------------------------------------------------------------------------------------
+
+is_told : (start : Simulation) (h : Handed) → IsForManager start h.at h.packet.bytes → IsBack h → TellsOfEnd (fabric_of start) h.at h.packet.bytes
+is_told start h is (directed, back) = elim (is.course directed) [
+  | inl r ↦ absurd (cc (sym (ap (λ b. b / 2 ^ 7 % 2 ^ 1 == 1) (r.bytes_are.kept 4 (inl (omega arith))) ∙ r.over.outgoing) ∙ back))
+  | inr r ↦ tells start h.at h.packet.bytes r
+]
+
+all_told : (start : Simulation) (handed : List Handed) → WereOnCourse start handed → All (λ h. IsBack h → TellsOfEnd (fabric_of start) h.at h.packet.bytes) handed
+all_told start [] all = All-nil (λ h. IsBack h → TellsOfEnd (fabric_of start) h.at h.packet.bytes)
+all_told start (h ∷ handed) all = All-cons (λ x. IsBack x → TellsOfEnd (fabric_of start) x.at x.packet.bytes) h handed (is_told start h all.0) (all_told start handed all.1)
+
+guids_of : (agents : List Agent) → All (λ a. a.node.guid < 2 ^ 64) agents → (place : ℕ) (a : Agent) → slice_get agents place ≡ Some a → a.node.guid < 2 ^ 64
+guids_of [] all place a there = absurd (cc)
+guids_of (x ∷ agents) all zero a there =
+    let same : x ≡ a = cc in subst (λ (y : Agent). y.node.guid < 2 ^ 64) same (All-head (λ y. y.node.guid < 2 ^ 64) x agents all)
+guids_of (x ∷ agents) all (suc place) a there = guids_of agents (All-tail (λ y. y.node.guid < 2 ^ 64) x agents all) place a there
+
+pub answers_tell : AnswersTell
+answers_tell s events quiet all =
+    let start = s.fabric in
+    let along = along_itself start quiet.fabric in
+    let at_start : Continues start s = record {
+      fabric = record { along = along; is = quiet.fabric; flights = subst (AreOnCourse start) (sym quiet.flights) tt };
+      handed = subst (WereOnCourse start) (sym quiet.handed) tt;
+    } in
+    all_told start _ (all_continue quiet.fabric.cables (few_ports start along.agents) (guids_of start.agents quiet.guids) events s at_start all).handed

@@ -1,0 +1,2 @@
+pub mod AnswersTell
+pub mod Scene
