@@ -5,16 +5,13 @@ mod draft;
 mod fault;
 mod line;
 mod links;
-mod name;
 mod node;
 mod nodes;
-mod number;
-mod text;
 mod topology;
 
 pub use fault::TopoFault;
-pub use name::NodeName;
 pub use node::Node;
+pub use text_words::NodeName;
 pub use topology::{Topology, parse};
 
 #[cfg(test)]

@@ -1,5 +1,5 @@
 use Rattle.std.proofs.Common.{◌≡◌, take}
-use Rattle.topo_file.proofs.name.text.Given as goal
+use Rattle.text_words.proofs.name.text.Given as goal
 
 -- the characters seen
 abbrev pub invariant-loop-byte : goal.invariant-loop-byte

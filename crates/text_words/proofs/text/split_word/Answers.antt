@@ -1,7 +1,7 @@
 -- The first word, or none.
 use Rattle.std.proofs.Common.{sym, ◌∙◌}
-use Rattle.topo_file.proofs.Words.{words_none, comment_at, word_at}
-use Rattle.topo_file.proofs.text.split_word.Goals as goal
+use Rattle.text_words.proofs.Words.{words_none, comment_at, word_at}
+use Rattle.text_words.proofs.text.split_word.Goals as goal
 
 pub returns-in_err-word_start : goal.returns-in_err-word_start
 returns-in_err-word_start c =

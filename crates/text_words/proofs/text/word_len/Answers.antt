@@ -1,7 +1,7 @@
 -- A byte more of the word, and its end.
 use Rattle.std.proofs.Common.{◌≡◌, ℕ, length, sym, subst, add-one, ◌∙◌, arith}
-use Rattle.topo_file.proofs.Words.{IsBegun, begun, in_word, word_ended, line_ended}
-use Rattle.topo_file.proofs.text.word_len.Goals as goal
+use Rattle.text_words.proofs.Words.{IsBegun, begun, in_word, word_ended, line_ended}
+use Rattle.text_words.proofs.text.word_len.Goals as goal
 
 pub loop-place-init : goal.loop-place-init
 loop-place-init c = begun c.args.line.now

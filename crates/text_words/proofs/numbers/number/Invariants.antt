@@ -1,7 +1,7 @@
 use Rattle.std.proofs.Common.{◌≡◌, ◌-◌, ◌^◌, ◌<◌, ℕ, true, min, take, get_or, List}
 use Rattle.std.specs.Char.{is_digit}
 use Rattle.std.specs.Str.Parse.{digits_value}
-use Rattle.topo_file.proofs.number.number.Given as goal
+use Rattle.text_words.proofs.numbers.number.Given as goal
 
 -- the number of the digits seen
 pub record HasRead (base : ℕ) (word : List ℕ) (i n : ℕ) : Type 0 where

@@ -6,8 +6,8 @@ use Rattle.std.proofs.Math.Seq.{take-suc, drop-cons, drop-length}
 use Rattle.std.proofs.lemmas.Bool.{eqb-true}
 use Rattle.std.proofs.lemmas.List.{get_or-drop, length-drop}
 use Rattle.std.proofs.lemmas.List.Quantifiers.{position-Some}
-use Rattle.topo_file.specs.Text.{words, words_in, parts, onto_word, is_blank, is_behind_word, is_quoted_after}
-use Rattle.topo_file.proofs.Splits.{none_passes, differs}
+use Rattle.text_words.specs.Text.{words, words_in, parts, onto_word, is_blank, is_behind_word, is_quoted_after}
+use Rattle.text_words.proofs.Splits.{none_passes, differs}
 
 either : (s t : Bool) → (s || t) ≡ true → (s ≡ true) ⊎ (t ≡ true)
 either true t e = inl refl

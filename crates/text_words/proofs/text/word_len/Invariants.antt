@@ -1,5 +1,5 @@
-use Rattle.topo_file.proofs.Words.{IsBegun}
-use Rattle.topo_file.proofs.text.word_len.Given as goal
+use Rattle.text_words.proofs.Words.{IsBegun}
+use Rattle.text_words.proofs.text.word_len.Given as goal
 
 -- the bytes seen are in the word
 abbrev pub invariant-loop-place : goal.invariant-loop-place

@@ -1,5 +1,5 @@
 -- Numbers that stop at the greatest of a word.
-use Rattle.std.proofs.Common.{◌≡◌, ℕ, ◌+◌, ◌-◌, ◌*◌, ◌^◌, ◌<◌, ◌≤◌, inl, inr, true, false, ◌&&◌, cond, leb, ltb, List, [], ◌∷◌, length, get_or, take, None}
+use Rattle.std.proofs.Common.{◌≡◌, ℕ, ◌+◌, ◌-◌, ◌*◌, ◌^◌, ◌<◌, ◌≤◌, inl, inr, Bool, true, false, ◌&&◌, cond, leb, ltb, List, [], ◌∷◌, length, get_or, take, None}
 use Rattle.std.proofs.Common.{Some, refl, sym, ap, ◌∙◌, arith, min, drop, lit<}
 use borrow.Author.Count.{below_more}
 use Rattle.std.specs.Prelude.{option_map, codes}
@@ -14,19 +14,22 @@ use Rattle.std.proofs.lemmas.Nat.{mul-le}
 use Rattle.std.proofs.lemmas.List.{take_all}
 use Rattle.std.proofs.lemmas.Int.Digits.{digits_value_more, digits_value-lt}
 use Rattle.std.proofs.Math.Nat.{pow-le-pow_right}
-use Rattle.topo_file.specs.Number.{number_of, up_to, guid_of}
-use Rattle.topo_file.proofs.Names.{both}
+use Rattle.text_words.specs.Number.{digit_of, number_of, up_to, guid_of}
+use Rattle.text_words.proofs.Names.{both}
 
 -- a digit more
-pub held_step : (most n base digit : ℕ) → 1 ≤ base → min (min (min most n * base) most + digit) most ≡ min most (n * base + digit)
+pub held_step : (most n base digit : ℕ) → 1 ≤ base → min most (min most n * base + digit) ≡ min most (n * base + digit)
 held_step most n base digit h =
     elim (cases_lt most n) [
       | inl p ↦ let held : min most n ≡ most = omega arith in
           let more : most * 1 ≤ most * base = mul-le most 1 most base (omega arith) h in
           let more_n : n * 1 ≤ n * base = mul-le n 1 n base (omega arith) h in
           rw held (omega arith)
-      | inr p ↦ let held : min most n ≡ n = omega arith in rw held (omega arith)
+      | inr p ↦ let held : min most n ≡ n = omega arith in rw held refl
     ]
+
+pub saturated : (most product digit : ℕ) → min (min product most + digit) most ≡ min most (product + digit)
+saturated most product digit = omega arith
 
 -- a test that fails
 pub not_within : (n most : ℕ) → most < n → leb n most ≡ false
@@ -67,19 +70,39 @@ up_to_held most held n h =
 is_below : (m n : ℕ) → m < n → ltb m n ≡ true
 is_below m n h = elim (ltb m n) as (λ t. ltb m n ≡ t → ltb m n ≡ true) [ true ↦ λ e. e | false ↦ λ e. absurd (omega (arith, ltb-false m n e)) ] refl
 
--- a digit more is held
-pub held_more : (most base : ℕ) (word : List ℕ) (i held product digit sum : ℕ) → 1 ≤ base → i < length word
-    → held ≡ min most (digits_value base (take i word)) → product ≡ min (held * base) most
-    → digit ≡ digit_value (get_or word i 0) → sum ≡ min (product + digit) most → sum ≡ min most (digits_value base (take (i + 1) word))
-held_more most base word i held product digit sum some h is_held is_product is_digit is_sum =
-    let v = digits_value base (take i word) in
-    let step : min (min (min most v * base) most + digit) most ≡ min most (v * base + digit) = held_step most v base digit some in
-    is_sum ∙ ap (λ n. min (n + digit) most) (is_product ∙ ap (λ n. min (n * base) most) is_held) ∙ step ∙ ap (λ n. min most (v * base + n)) is_digit
-    ∙ sym (ap (λ n. min most n) (digits_value_more base word i h))
+-- a byte that is a digit, and one that is none
+tested_digit : (t : Bool) (value d : ℕ) → cond t (Some value) None ≡ Some d → (t ≡ true) × (d ≡ value)
+tested_digit true value d e = let same : value ≡ d = cc in (refl, sym same)
+tested_digit false value d e = cc
 
-pub digits_more : (base : ℕ) (word : List ℕ) (i : ℕ) → ((k : ℕ) → k < i → is_digit (get_or word k 0) base ≡ true) → digit_value (get_or word i 0) < base
+pub digit_there : (base b d : ℕ) → digit_of base b ≡ Some d → (is_digit b base ≡ true) × (d ≡ digit_value b)
+digit_there base b d e = tested_digit (is_digit b base) (digit_value b) d e
+
+pub no_digit : (base b : ℕ) → digit_of base b ≡ None → is_digit b base ≡ false
+no_digit base b e = elim (is_digit b base) as (λ t. cond t (Some (digit_value b)) None ≡ None → t ≡ false) [ true ↦ λ f. cc | false ↦ λ f. refl ] e
+
+pub digit_is : (base b : ℕ) → digit_value b < base → digit_of base b ≡ Some (digit_value b)
+digit_is base b h = rw (is_below (digit_value b) base h) refl
+
+pub digit_is_none : (base b : ℕ) → (digit_value b < base → ⊥) → digit_of base b ≡ None
+digit_is_none base b h =
+    elim (is_digit b base) as (λ t. is_digit b base ≡ t → cond t (Some (digit_value b)) None ≡ None) [
+      | true ↦ λ e. absurd (h (ltb-true _ _ e))
+      | false ↦ λ e. refl
+    ] refl
+
+-- a digit more is held
+pub held_more : (most base : ℕ) (word : List ℕ) (i held digit sum : ℕ) → 1 ≤ base → i < length word
+    → held ≡ min most (digits_value base (take i word)) → digit ≡ digit_value (get_or word i 0)
+    → sum ≡ min most (held * base + digit) → sum ≡ min most (digits_value base (take (i + 1) word))
+held_more most base word i held digit sum some h is_held is_digit is_sum =
+    let v = digits_value base (take i word) in
+    is_sum ∙ ap (λ n. min most (n * base + digit)) is_held ∙ held_step most v base digit some
+    ∙ ap (λ n. min most (v * base + n)) is_digit ∙ sym (ap (λ n. min most n) (digits_value_more base word i h))
+
+pub digits_more : (base : ℕ) (word : List ℕ) (i : ℕ) → ((k : ℕ) → k < i → is_digit (get_or word k 0) base ≡ true) → is_digit (get_or word i 0) base ≡ true
     → (k : ℕ) → k < i + 1 → is_digit (get_or word k 0) base ≡ true
-digits_more base word i before here = below_more (λ k. is_digit (get_or word k 0) base ≡ true) i before (is_below (digit_value (get_or word i 0)) base here)
+digits_more base word i before here = below_more (λ k. is_digit (get_or word k 0) base ≡ true) i before here
 
 -- the number of all digits
 pub held_all : (most base : ℕ) (word : List ℕ) (i held : ℕ) → i ≡ length word → (length word ≡ 0 → ⊥) → held ≡ min most (digits_value base (take i word))

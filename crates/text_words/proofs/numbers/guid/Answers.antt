@@ -1,7 +1,7 @@
 -- Sixteen digits and no more.
 use Rattle.std.proofs.Common.{Some, arith, sym, ap, ◌∙◌}
-use Rattle.topo_file.proofs.Numbers.{guid_is}
-use Rattle.topo_file.proofs.number.guid.Goals as goal
+use Rattle.text_words.proofs.Digits.{guid_is}
+use Rattle.text_words.proofs.numbers.guid.Goals as goal
 
 pub returns : goal.returns
 returns c =

@@ -1,9 +1,9 @@
 ghost use Rattle.std.specs.Prelude.{◌≡◌, ◌<◌, ◌≤◌, ◌∷◌, ◌==◌, [], false, not, length, take, drop, position, MatchOption};
-ghost use Rattle.topo_file.specs.Text.{lines, words, is_blank, parts, is_behind_word, is_quoted_after, without_return};
+ghost use Rattle.text_words.specs.Text.{lines, words, is_blank, parts, is_behind_word, is_quoted_after, without_return};
 
 #[tactic(auto, using(crate::proofs::Splits::lines_at, crate::proofs::Splits::lines_none))]
 /// The first line of a text without its end, and the text behind it; or `None` where the text is empty.
-pub(crate) fn split_line(text: &[u8]) -> Option<(&[u8], &[u8])>
+pub fn split_line(text: &[u8]) -> Option<(&[u8], &[u8])>
     ensures line { MatchOption result (lines text.now ≡ [])
         (λ x. lines text.now ≡ x.0.now ∷ lines x.1.now) }
     ensures shorter { MatchOption result (text.now ≡ []) (λ x. length x.1.now < length text.now) }
@@ -29,7 +29,7 @@ fn without_return(line: &[u8]) -> &[u8]
 }
 
 /// The first word of a line, and what stands behind it; or `None` where there is none.
-pub(crate) fn split_word(line: &[u8]) -> Option<(&[u8], &[u8])>
+pub fn split_word(line: &[u8]) -> Option<(&[u8], &[u8])>
     ensures { MatchOption result (words line.now ≡ [])
         (λ x. words line.now ≡ x.0.now ∷ words x.1.now) }
 {

@@ -3,7 +3,7 @@ ghost use Rattle.std.specs.List.{list_all};
 ghost use Rattle.std.specs.Ordering.{nat_cmp};
 ghost use Rattle.std.specs.Cmp.{partial_equiv_from_equiv};
 ghost use Rattle.std.specs.Cmp.Lexicographic.{pointwise, slice_cmp, nat_list_eq_equiv, nat_list_cmp_total, texts_po, texts_ties};
-ghost use Rattle.topo_file.specs.NodeName.{is_name_byte, is_name, name_in};
+ghost use Rattle.text_words.specs.NodeName.{is_name_byte, is_name, name_in};
 
 use arrayvec::ArrayString;
 use std::cmp::Ordering;
@@ -17,7 +17,7 @@ pub struct NodeName {
 
 impl Model for NodeName {
     ghost use Rattle.std.specs.Prelude.{ℕ, List, IsTrue};
-    ghost use Rattle.topo_file.specs.NodeName.{is_name};
+    ghost use Rattle.text_words.specs.NodeName.{is_name};
 
     ghost Value = { List ℕ };
 
@@ -38,6 +38,7 @@ impl NodeName {
         }
     }
 
+    /// The name as text.
     pub fn as_str(&self) -> &str
         ensures name { result.now ≡ self.now }
         ensures is_name { IsTrue (is_name self.now) }
@@ -46,7 +47,7 @@ impl NodeName {
     }
 
     /// The same name once more.
-    pub(crate) fn copied(&self) -> Self
+    pub fn copied(&self) -> Self
         ensures { result ≡ self.now }
     {
         NodeName { text: self.text }

@@ -8,8 +8,8 @@ use Rattle.std.proofs.lemmas.Bool.{ltb-false, eqb-true}
 use Rattle.std.proofs.lemmas.List.{take_all, length-drop}
 use Rattle.std.proofs.lemmas.List.Quantifiers.{position-Some}
 use Rattle.std.proofs.lemmas.List.Sums.{fails_before_first}
-use Rattle.topo_file.specs.Line.{until}
-use Rattle.topo_file.specs.Text.{lines, without_return}
+use Rattle.text_words.specs.Quoted.{until}
+use Rattle.text_words.specs.Text.{lines, without_return}
 
 -- what a range up to the end takes
 pub to_end : (n : ℕ) (xs : List ℕ) → take (length xs - n) (drop n xs) ≡ drop n xs

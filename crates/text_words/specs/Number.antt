@@ -1,9 +1,13 @@
--- The numbers of a line.
+-- Numbers that words write.
 use Rattle.std.specs.Prelude.{ℕ, List, Option, None, Some, length, take, drop, codes, option_map, ◌&&◌, nat_le, if◌then◌else◌}
-use Rattle.std.specs.Char.{is_digit}
+use Rattle.std.specs.Char.{is_digit, digit_value}
 use Rattle.std.specs.List.{list_all}
 use Rattle.std.specs.Str.{bytes_eq}
 use Rattle.std.specs.Str.Parse.{digits_value}
+
+-- the value of a digit in this base
+abbrev pub digit_of : ℕ → ℕ → Option ℕ
+digit_of base b = if is_digit b base then Some (digit_value b) else None
 
 -- the number that a word writes in this base: digits, however many, and nothing else
 abbrev pub number_of : ℕ → List ℕ → Option ℕ

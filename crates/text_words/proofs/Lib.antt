@@ -1,0 +1,5 @@
+pub mod Names
+pub mod Digits
+pub mod Ranges
+pub mod Splits
+pub mod Words

@@ -1,0 +1,4 @@
+pub mod NodeName
+pub mod Number
+pub mod Quoted
+pub mod Text
