@@ -67,7 +67,7 @@ up_to_held most held n h =
       | inr p ↦ let same : min held n ≡ held = omega arith in rw same (up_to_past most held h ∙ sym (up_to_past most n (omega arith)))
     ]
 
-is_below : (m n : ℕ) → m < n → ltb m n ≡ true
+pub is_below : (m n : ℕ) → m < n → ltb m n ≡ true
 is_below m n h = elim (ltb m n) as (λ t. ltb m n ≡ t → ltb m n ≡ true) [ true ↦ λ e. e | false ↦ λ e. absurd (omega (arith, ltb-false m n e)) ] refl
 
 -- a byte that is a digit, and one that is none

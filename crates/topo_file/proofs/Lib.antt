@@ -3,4 +3,3 @@ pub mod Grammar
 pub mod Guids
 pub mod Indexes
 pub mod WellFormed
-

@@ -52,25 +52,11 @@ impl Topology {
         self.nodes.get(place)
     }
 
-    /// How many links there are.
-    pub fn link_count(&self) -> usize
-        ensures { result ≡ length self.now.links }
-    {
-        self.links.as_slice().len()
-    }
-
     /// The links, each once, in the order of their first lines.
     pub fn links(&self) -> &[Cable]
         ensures { result.now ≡ self.now.links }
     {
         self.links.as_slice()
-    }
-
-    /// The link at a place, from 0: each once, in the order of their first lines. Takes one step.
-    pub fn link(&self, place: usize) -> Option<Cable>
-        ensures { result ≡ slice_get self.now.links place }
-    {
-        self.links.as_slice().get(place).copied()
     }
 
     /// The place of the node that has the name. A search.
