@@ -84,7 +84,7 @@ none_there false true a b o e = cc
 none_there false false a b o e = (refl, refl, e)
 
 -- a link at the end, where none before is in the port, and where it is not
-after_all : (links : List Cable) (link : Cable) (p : NodePort) → other_end links p ≡ None → other_end (links ++ link ∷ []) p ≡ other_end (link ∷ []) p
+pub after_all : (links : List Cable) (link : Cable) (p : NodePort) → other_end links p ≡ None → other_end (links ++ link ∷ []) p ≡ other_end (link ∷ []) p
 after_all [] link p e = refl
 after_all (x ∷ links) link p e =
     let h = none_there (is_same_port x.one p) (is_same_port x.other p) x.other x.one (other_end links p) e in

@@ -2,4 +2,5 @@ pub mod Folds
 pub mod Grammar
 pub mod Guids
 pub mod Indexes
+pub mod Printed
 pub mod WellFormed

@@ -1,5 +1,6 @@
 pub mod Line
 pub mod Places
+pub mod Printed
 pub mod Reading
 pub mod ReadingLaws
 pub mod TopoFault

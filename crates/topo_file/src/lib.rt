@@ -3,6 +3,7 @@
 
 mod draft;
 mod fault;
+pub mod laws;
 mod line;
 mod links;
 mod node;
