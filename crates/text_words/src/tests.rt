@@ -1,106 +1,66 @@
 //! Lines, words, and what words tell.
 use super::*;
-use std::alloc::Global;
 use std::test::Fail;
 
-/// The words of a text, each with `|` behind it, and `/` behind each line.
-fn words(alloc: Global, text: &[u8]) -> Result<Vec<u8>, Fail> {
-    let mut told = Vec::new(alloc);
+/// The line of a text at a place, from 0.
+fn line(text: &[u8], place: usize) -> Option<&[u8]> {
     let mut rest = text;
-    while let Some((line, later)) = split_line(rest) {
-        let mut line = line;
-        while let Some((word, behind)) = split_word(line) {
-            told.extend_from_slice(word)?;
-            told.push(b'|')?;
-            line = behind;
-        }
-        told.push(b'/')?;
-        rest = later;
+    for _ in 0..place {
+        rest = split_line(rest)?.1;
     }
-    Ok(told)
+    Some(split_line(rest)?.0)
+}
+
+/// The word of a line at a place, from 0.
+fn word(line: &[u8], place: usize) -> Option<&[u8]> {
+    let mut rest = line;
+    for _ in 0..place {
+        rest = split_word(rest)?.1;
+    }
+    Some(split_word(rest)?.0)
+}
+
+/// A word of a line of a text, by their places.
+fn word_of(text: &[u8], line_place: usize, place: usize) -> Option<&[u8]> {
+    word(line(text, line_place)?, place)
 }
 
 #[test]
 fn words_of_lines(rt: HostRuntime) -> Result<(), Fail> {
-    for (text, wanted) in [
-        (b"".as_slice(), b"".as_slice()),
-        (b"\n\r\n\r", b"//\r|/"),
-        (b"a b", b"a|b|/"),
-        (b" a\t\tb \n", b"a|b|/"),
-        (b"a\r\nb\n", b"a|/b|/"),
-        (b"a\rb\r\r\n", b"a\rb\r|/"),
-        (b"a#b\n#c\nd # e", b"a|//d|/"),
-        (b"\"a b#\"c d\"\t\"", b"\"a b#\"c|d\"\t\"|/"),
-        (b"\"a # b\nc", b"\"a # b|/c|/"),
-        (b"a\xA0b\x0B", b"a\xA0b\x0B|/"),
+    for (text, line, place, wanted) in [
+        (b"".as_slice(), 0, 0, None),
+        (b"\n\r\na", 0, 0, None),
+        (b"\n\r\na", 1, 0, None),
+        (b"\n\r\na", 2, 0, Some(b"a".as_slice())),
+        (b"\n\r\na", 3, 0, None),
+        (b"a b\r\nc\n", 0, 1, Some(b"b")),
+        (b"a b\r\nc\n", 1, 0, Some(b"c")),
+        (b"a b\r\nc\n", 2, 0, None),
+        (b"a\rb\r\r\n", 0, 0, Some(b"a\rb\r")),
+        (b"a\r", 0, 0, Some(b"a\r")),
+        (b" \t", 0, 0, None),
+        (b" a\t\tb ", 0, 0, Some(b"a")),
+        (b" a\t\tb ", 0, 1, Some(b"b")),
+        (b" a\t\tb ", 0, 2, None),
+        (b"a#b", 0, 0, Some(b"a")),
+        (b"a#b", 0, 1, None),
+        (b" # a", 0, 0, None),
+        (b"\"a b#\"c d\"\t\"", 0, 0, Some(b"\"a b#\"c")),
+        (b"\"a b#\"c d\"\t\"", 0, 1, Some(b"d\"\t\"")),
+        (b"\"a # b\nc", 0, 0, Some(b"\"a # b")),
+        (b"a\xA0b\x0B", 0, 0, Some(b"a\xA0b\x0B")),
     ] {
-        assert!(rt; words(rt.alloc(), text)?.as_slice() == wanted);
+        assert!(rt; word_of(text, line, place) == wanted);
     }
     Ok(())
 }
 
-/// The port of a word in brackets: 300 where it is none of the range, and 400 where the word is none.
-fn port(told: Option<Option<u8>>) -> u16 {
-    match told {
-        Some(Some(port)) => u16::from(port),
-        Some(None) => 300,
-        None => 400,
-    }
-}
-
-#[test]
-fn ports_in_brackets(rt: HostRuntime) -> Result<(), Fail> {
-    for (word, wanted) in [
-        (b"[1]".as_slice(), 1),
-        (b"[0254]", 254),
-        (b"[0]", 300),
-        (b"[255]", 300),
-        (b"[18446744073709551617]", 300),
-        (b"[]", 400),
-        (b"[-1]", 400),
-        (b"[+1]", 400),
-        (b"[1a]", 400),
-        (b"[1", 400),
-        (b"1]", 400),
-        (b"[1]]", 400),
-        (b"", 400),
-    ] {
-        assert!(rt; port(bracketed_port(word)) == wanted);
-    }
-    Ok(())
-}
-
-/// The number of a GUID's word, and 0 where it is none.
-fn guid_number(word: &[u8]) -> u64 {
-    match guid(word) {
-        Some(guid) => guid.number(),
-        None => 0,
-    }
-}
-
-#[test]
-fn guids(rt: HostRuntime) -> Result<(), Fail> {
-    for (word, wanted) in [
-        (b"0x1".as_slice(), 1),
-        (b"0xFfffffffFFFFFFFf", u64::MAX),
-        (b"0x0000000000000aBc", 0xabc),
-        (b"0x00000000000000001", 0),
-        (b"0x", 0),
-        (b"0xg", 0),
-        (b"0X1", 0),
-        (b"1", 0),
-        (b"0x-1", 0),
-        (b"", 0),
-    ] {
-        assert!(rt; guid_number(word) == wanted);
-    }
-    Ok(())
-}
-
-/// How long the name in quotes is, and the port behind it; 0 where the word is none.
-fn named(word: &[u8]) -> (usize, u16) {
+/// How long the name in quotes is, and the port behind it, which is 0 where it is none;
+/// both are 0 where the word is none.
+fn named(word: &[u8]) -> (usize, u8) {
     match named_port(word) {
-        Some((name, told)) => (name.as_str().len(), port(Some(told))),
+        Some((name, None)) => (name.as_str().len(), 0),
+        Some((name, Some(port))) => (name.as_str().len(), port),
         None => (0, 0),
     }
 }
@@ -109,7 +69,24 @@ fn named(word: &[u8]) -> (usize, u16) {
 fn names_and_their_ports(rt: HostRuntime) -> Result<(), Fail> {
     for (word, wanted) in [
         (b"\"A\"[1]".as_slice(), (1, 1)),
-        (b"\"A b#~\"[300]", (5, 300)),
+        (b"\"A b#~\"[300]", (5, 0)),
+        (
+            b"\"AAAAAAAABBBBBBBBCCCCCCCCDDDDDDDDEEEEEEEEFFFFFFFFGGGGGGGGHHHHHHHH\"[9]",
+            (64, 9),
+        ),
+        (
+            b"\"AAAAAAAABBBBBBBBCCCCCCCCDDDDDDDDEEEEEEEEFFFFFFFFGGGGGGGGHHHHHHHHI\"[9]",
+            (0, 0),
+        ),
+        (b"\"A\"[0]", (1, 0)),
+        (b"\"A\"[0254]", (1, 254)),
+        (b"\"A\"[255]", (1, 0)),
+        (b"\"A\"[18446744073709551617]", (1, 0)),
+        (b"\"A\"[]", (0, 0)),
+        (b"\"A\"[+1]", (0, 0)),
+        (b"\"A\"[1a]", (0, 0)),
+        (b"\"A\"[1", (0, 0)),
+        (b"\"A\"[1]]", (0, 0)),
         (b"\"\"[1]", (0, 0)),
         (b"\"A\tB\"[1]", (0, 0)),
         (b"\"\xC3\xA9\"[1]", (0, 0)),
@@ -121,7 +98,5 @@ fn names_and_their_ports(rt: HostRuntime) -> Result<(), Fail> {
     ] {
         assert!(rt; named(word) == wanted);
     }
-    let name = [b'A'; 65];
-    assert!(rt; NodeName::new(&name).is_none() && NodeName::new(&name[1..]).is_some());
     Ok(())
 }
