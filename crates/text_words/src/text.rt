@@ -1,4 +1,5 @@
 ghost use Rattle.std.specs.Prelude.{◌≡◌, ◌<◌, ◌≤◌, ◌∷◌, ◌==◌, [], false, not, length, take, drop, position, MatchOption};
+ghost use Rattle.std.specs.Str.{bytes_eq};
 ghost use Rattle.text_words.specs.Text.{lines, words, is_blank, parts, is_behind_word, is_quoted_after, without_return};
 
 #[tactic(auto, using(crate::proofs::Splits::lines_at, crate::proofs::Splits::lines_none))]
@@ -76,6 +77,13 @@ fn is_quoted_after(is_quoted: bool, byte: u8) -> bool
     ensures { result ≡ is_quoted_after is_quoted byte }
 {
     if byte == b'"' { !is_quoted } else { is_quoted }
+}
+
+/// Whether the word is this one.
+pub fn is_word(word: &[u8], wanted: &str) -> bool
+    ensures { result ≡ bytes_eq word.now wanted.now }
+{
+    word == wanted.as_bytes()
 }
 
 /// The place of the first such byte.

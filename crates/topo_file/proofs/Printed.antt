@@ -75,8 +75,12 @@ made name kind ports guid cap = record { name = name; kind = kind; ports = ports
 node_in : (name : List ℕ) (kind : NodeType) (ports guid cap : ℕ) → IsNode (made name kind ports guid cap)
     → line_in (node_words (made name kind ports guid cap)) ≡ Some (line.Node (node_line_of (made name kind ports guid cap)))
 node_in name Switch ports guid cap is =
-    rw (count_is_read 254 ports (omega arith) is.some_ports is.port_range, quoted_is_read name is.named, guid_is_read guid is.guid_range,
-    count_is_read 0xC000 cap (omega arith) is.of_kind.0 is.of_kind.1) refl
+    rw (
+      count_is_read 254 ports (omega arith) is.some_ports is.port_range,
+      quoted_is_read name is.named,
+      guid_is_read guid is.guid_range,
+      count_is_read 0xC000 cap (omega arith) is.of_kind.0 is.of_kind.1,
+    ) refl
 node_in name ChannelAdapter ports guid cap is =
     rw (count_is_read 254 ports (omega arith) is.some_ports is.port_range, quoted_is_read name is.named, guid_is_read guid is.guid_range)
     (ap (λ n. Some (line.Node (record { kind = ChannelAdapter; ports = Some ports; name = name; guid = guid; cap = Some n }))) (sym is.of_kind.0))
@@ -130,8 +134,10 @@ link_is_read : (nodes : List Node) (link : Cable) → Fits nodes link → line_o
 unfolding line_of
 link_is_read nodes link fits =
     ap line_in (words_are_read (link_words nodes link) (words_of_link nodes link fits))
-    ∙ rw (bracketed_is_read link.one.port fits.link_in.one.some fits.one_high,
-    named_is_read (name_at nodes link.other.node) link.other.port fits.named fits.link_in.other.some fits.other_high) refl
+    ∙ rw (
+      bracketed_is_read link.one.port fits.link_in.one.some fits.one_high,
+      named_is_read (name_at nodes link.other.node) link.other.port fits.named fits.link_in.other.some fits.other_high,
+    ) refl
 
 -- names lead to their nodes
 names_apart : (xs ys : List ℕ) → xs ≢ ys → bytes_eq xs ys ≡ false

@@ -4,7 +4,8 @@ ghost use Rattle.topo_file.specs.Line.{line_of, kind_of, node_line, cap_of, link
 
 use smp_bytes::{Guid, NodeType};
 use text_words::{
-    NodeName, bracketed_port, count, guid, named_port, port_number, quoted_name, split_word,
+    NodeName, bracketed_port, count, guid, is_word, named_port, port_number, quoted_name,
+    split_word,
 };
 
 /// What a line says.
@@ -53,9 +54,9 @@ pub(crate) fn read_line(line: &[u8]) -> Option<Line>
 fn kind(word: &[u8]) -> Option<NodeType>
     ensures { result ≡ kind_of word.now }
 {
-    if word == b"Switch".as_slice() {
+    if is_word(word, "Switch") {
         Some(NodeType::Switch)
-    } else if word == b"Hca".as_slice() || word == b"Ca".as_slice() {
+    } else if is_word(word, "Hca") || is_word(word, "Ca") {
         Some(NodeType::ChannelAdapter)
     } else {
         None
@@ -70,7 +71,7 @@ fn node_line(kind: NodeType, line: &[u8]) -> Option<NodeLine>
     let (name, line) = split_word(line)?;
     let (word, line) = split_word(line)?;
     let (number, line) = split_word(line)?;
-    if word != b"guid".as_slice() {
+    if !is_word(word, "guid") {
         return None;
     }
     Some(NodeLine {
@@ -100,10 +101,14 @@ fn given_cap(word: &[u8], line: &[u8]) -> Option<Option<u16>>
     ensures { result ≡ cap_of NodeType.Switch (word.now ∷ words line.now) }
 {
     let (number, line) = split_word(line)?;
-    if word != b"cap".as_slice() || split_word(line).is_some() {
+    if split_word(line).is_some() {
         return None;
     }
-    count(number, 0xC000)
+    if is_word(word, "cap") {
+        count(number, 0xC000)
+    } else {
+        None
+    }
 }
 
 /// A link, by the first word of its line and what follows it.
