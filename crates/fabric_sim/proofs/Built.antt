@@ -3,7 +3,7 @@ use Rattle.std.proofs.Common.{◌≡◌, ◌≢◌, ℕ, zero, suc, ◌+◌, ◌
 use Rattle.std.specs.Prelude.{Option, Some, None, option_map, is_none, All, AllPairs, map, slice_get, nat_le, IsTrue, if◌then◌else◌}
 use Rattle.std.specs.Option.{option_map_or}
 use Rattle.std.proofs.lemmas.Bool.{and_parts, and_from, leb-true, le-leb, cond-true, cond-false}
-use Rattle.std.proofs.lemmas.Option.{slice_get-map, slice_get_within, get_or_from_slice_get}
+use Rattle.std.proofs.lemmas.Option.{slice_get-map, slice_get_within, slice_get_read, get_or_from_slice_get}
 use Rattle.std.proofs.lemmas.List.{length-map, length-append, length-replicate, length-take-le, get_or-take, take_more, take_all, length_push, map-append}
 use Rattle.std.proofs.lemmas.List.Elements.{All-map, All-weaker}
 use Rattle.smp_bytes.specs.declared.node_type.NodeType.{NodeType}
@@ -11,11 +11,12 @@ use Rattle.smp_bytes.specs.declared.node_type.NodeType.TheVariants.{ChannelAdapt
 use Rattle.smp_bytes.specs.NodeType as types
 use Rattle.smp_bytes.specs.declared.cable.NodePort.{NodePort}
 use Rattle.smp_bytes.specs.declared.cable.Cable.{Cable}
+use Rattle.smp_bytes.specs.Cables.{is_same_port, other_end}
 use Rattle.smp_bytes.proofs.Cabled.{same_port-is, same_port-refl}
 use Rattle.attr_codec.specs.declared.port_state.PortState.{PortState}
 use Rattle.attr_codec.specs.declared.port_state.PortState.TheVariants.{Down}
 use Rattle.topo_file.specs.declared.node.Node.{Node}
-use Rattle.topo_file.specs.Topology.{Layout, IsTopology, IsNode, IsOfKind, IsPortIn, IsLinkIn, AreApart, other_end, is_port}
+use Rattle.topo_file.specs.Topology.{Layout, IsTopology, IsNode, IsOfKind, IsPortIn, IsLinkIn, AreApart}
 use Rattle.node_agents.specs.declared.agent_node.AgentNode.{AgentNode}
 use Rattle.node_agents.specs.declared.port.Port.{Port}
 use Rattle.node_agents.specs.Agent.{Agent, IsAgent, IsAgentNode, fresh_agent, has_seat, state_at, port_in}
@@ -146,29 +147,29 @@ free (l ∷ links) p apart =
     let h = apart 0 l (omega arith) in
     cond-false _ _ _ (not-port l.one p h.0) ∙ (cond-false _ _ _ (not-port l.other p h.1) ∙ free links p (λ k d n. apart (suc k) d (omega arith)))
   where
-    not-port : (q p : NodePort) → q ≢ p → is_port q p ≡ false
-    not-port q p ne = by (is_port q p) refl
+    not-port : (q p : NodePort) → q ≢ p → is_same_port q p ≡ false
+    not-port q p ne = by (is_same_port q p) refl
       where
-        by : (b : Bool) → is_port q p ≡ b → b ≡ false
+        by : (b : Bool) → is_same_port q p ≡ b → b ≡ false
         by true e = absurd (ne (same_port-is q p e))
         by false e = refl
 
 -- with one more the earlier ones come first
 pub other_end-append : (links : List Cable) (link : Cable) (p : NodePort) (m : Option NodePort) → other_end links p ≡ m → other_end (links ++ link ∷ []) p ≡ (if is_none m then other_end (link ∷ []) p else m)
 other_end-append [] link p m e = subst (λ m. other_end (link ∷ []) p ≡ (if is_none m then other_end (link ∷ []) p else m)) e refl
-other_end-append (l ∷ links) link p m e = by (λ m e. other_end-append links link p m e) (is_port l.one p) refl (is_port l.other p) refl e
+other_end-append (l ∷ links) link p m e = by (λ m e. other_end-append links link p m e) (is_same_port l.one p) refl (is_same_port l.other p) refl e
   where
     by : ((m : Option NodePort) → other_end links p ≡ m → other_end (links ++ link ∷ []) p ≡ (if is_none m then other_end (link ∷ []) p else m))
-        → (b : Bool) → is_port l.one p ≡ b → (c : Bool) → is_port l.other p ≡ c → (if b then Some l.other else if c then Some l.one else other_end links p) ≡ m
-        → (if is_port l.one p then Some l.other else if is_port l.other p then Some l.one else other_end (links ++ link ∷ []) p) ≡ (if is_none m then other_end (link ∷ []) p else m)
+        → (b : Bool) → is_same_port l.one p ≡ b → (c : Bool) → is_same_port l.other p ≡ c → (if b then Some l.other else if c then Some l.one else other_end links p) ≡ m
+        → (if is_same_port l.one p then Some l.other else if is_same_port l.other p then Some l.one else other_end (links ++ link ∷ []) p) ≡ (if is_none m then other_end (link ∷ []) p else m)
     by rest true f c g h = cond-true _ _ _ f ∙ subst (λ m. Some l.other ≡ (if is_none m then other_end (link ∷ []) p else m)) h refl
     by rest false f true g h = cond-false _ _ _ f ∙ (cond-true _ _ _ g ∙ subst (λ m. Some l.one ≡ (if is_none m then other_end (link ∷ []) p else m)) h refl)
     by rest false f false g h = cond-false _ _ _ f ∙ (cond-false _ _ _ g ∙ rest m h)
 
-not_port : (q p : NodePort) → q ≢ p → is_port q p ≡ false
-not_port q p ne = by (is_port q p) refl
+not_port : (q p : NodePort) → q ≢ p → is_same_port q p ≡ false
+not_port q p ne = by (is_same_port q p) refl
   where
-    by : (b : Bool) → is_port q p ≡ b → b ≡ false
+    by : (b : Bool) → is_same_port q p ≡ b → b ≡ false
     by true e = absurd (ne (same_port-is q p e))
     by false e = refl
 
@@ -228,6 +229,10 @@ next_link t i link is at =
       more = take_more t.links i link within ∙ ap (λ x. take i t.links ++ x ∷ []) here;
     }
 
+-- a link of a walk over the links
+pub link_at : (t : Layout) (links : List Cable) (i : ℕ) (link : Cable) → links ≡ t.links → i < length links → link ≡ get_or links i link → Some link ≡ slice_get t.links i
+link_at t links i link same within is = sym (ap (λ ls. slice_get ls i) (sym same) ∙ slice_get_read links (length links) i link refl within is)
+
 -- the links so far are in
 pub record LinksIn (t : Layout) (first i : ℕ) (s : Simulation) : Type 0 where
   pub topology : IsTopology t
@@ -280,14 +285,6 @@ module _ (t : Layout) (first i : ℕ) (s : Simulation) (link : Cable) (so_far : 
         cables = λ p. ap (λ (w : Simulation). across w.peers p) e
             ∙ (link_added (take i t.links) link s so_far.valid one_port other_port next.one_free next.other_free so_far.cables p ∙ ap (λ ls. other_end ls p) (sym next.more));
       }
-
-pub no_link : (t : Layout) (i : ℕ) → None ≡ slice_get t.links i → i < length t.links → ⊥
-no_link t i none within = by t.links i (sym none) within
-  where
-    by : (links : List Cable) (i : ℕ) → slice_get links i ≡ None → i < length links → ⊥
-    by [] i e h = omega arith
-    by (l ∷ links) zero e h = cc
-    by (l ∷ links) (suc i) e h = by links i e (omega arith)
 
 -- the nodes so far have their agents and their lists
 pub record NodesIn (t : Layout) (agents : List Agent) (peers : List (List (Option NodePort))) : Type 0 where

@@ -1,6 +1,7 @@
 ghost use Rattle.std.specs.Prelude.{◌≡◌, ◌≤◌, ◌-◌, ◌++◌, length, replicate, IfOk};
 ghost use Rattle.node_agents.specs.Agent.{IsAgentNode};
-ghost use Rattle.topo_file.specs.Topology.{IsTopology, IsNode, other_end};
+ghost use Rattle.topo_file.specs.Topology.{IsTopology, IsNode};
+ghost use Rattle.smp_bytes.specs.Cables.{other_end};
 ghost use Rattle.smp_bytes.specs.declared.cable.NodePort.{NodePort};
 ghost use Rattle.fabric_sim.specs.Simulation.{across};
 ghost use Rattle.fabric_sim.specs.Build.{agent_node, uncabled, simulation_of};
@@ -24,10 +25,8 @@ impl Fabric {
             (port : NodePort) → across fabric.peers port ≡ other_end topology.now.links port) }
     {
         let mut fabric = uncabled(alloc, topology, first_serial)?;
-        for i in 0..topology.link_count() {
-            if let Some(link) = topology.link(i) {
-                fabric.join(&link.one, &link.other);
-            }
+        for link in topology.links() {
+            fabric.join(&link.one, &link.other);
         }
         Ok(fabric)
     }

@@ -12,7 +12,7 @@ use Rattle.std.proofs.lemmas.List.Quantifiers.{all_pairs_push}
 use Rattle.std.proofs.lemmas.List.Recursion.{or_push, or_is, or_at}
 use Rattle.topo_file.specs.declared.node.Node.{Node}
 use Rattle.topo_file.specs.Topology.{GuidsDiffer}
-use Rattle.topo_file.proofs.Splits.{differs}
+use Rattle.text_words.proofs.Splits.{differs}
 
 -- a node has the GUID
 abbrev pub has_guid : List Node → ℕ → Bool

@@ -1,6 +1,5 @@
 -- A node and a link more, and the indexes by which they are found.
 use Rattle.std.proofs.Common.{◌≡◌, ◌≢◌, ◌<◌, ℕ, suc, List, [], ◌∷◌, ◌++◌, refl, sym, ap, ◌∙◌, Bool, true, false, cond, length, ◌&&◌, arith, subst}
-use Rattle.std.proofs.lemmas.Bool.{eqb-true}
 use Rattle.std.proofs.lemmas.Map.Text.{is_eq-slice_cmp}
 use Rattle.std.proofs.lemmas.Slice.Eq.{bytes_eq-Decides}
 use Rattle.std.specs.Prelude.{Option, None, Some, option_map, is_some, All}
@@ -16,11 +15,12 @@ use Rattle.std.specs.BTreeMap.{BTreeMap, Updates}
 use Rattle.std.specs.Str.{bytes_eq}
 use Rattle.smp_bytes.specs.declared.cable.Cable.{Cable}
 use Rattle.smp_bytes.specs.declared.cable.NodePort.{NodePort}
+use Rattle.smp_bytes.proofs.Cabled.{same_port-is}
 use Rattle.topo_file.specs.declared.node.Node.{Node}
-use Rattle.topo_file.specs.NodeName.{is_name, name_in}
-use Rattle.topo_file.specs.Topology.{IsNode, IsFound, place_of, is_port, other_end}
+use Rattle.text_words.specs.NodeName.{is_name, name_in}
+use Rattle.smp_bytes.specs.Cables.{is_same_port, other_end}
+use Rattle.topo_file.specs.Topology.{IsNode, IsFound, place_of}
 use Rattle.topo_file.specs.Places.{HasPlaces, HasEnds, port_cmp}
-use Rattle.topo_file.proofs.Names.{both}
 
 -- texts that are equal
 pub same_bytes : (xs ys : List ℕ) → bytes_eq xs ys ≡ true → xs ≡ ys
@@ -77,29 +77,25 @@ no_name false name e = refl
 pub unnamed : (nodes : List Node) (name : List ℕ) → All IsNode nodes → name_in name ≡ None → place_of nodes name ≡ None
 unnamed nodes name all none = nameless nodes name (recursion_from_All IsNode nodes all) (no_name (is_name name) name none)
 
--- ports that are equal
-pub same_port : (p q : NodePort) → is_port p q ≡ true → p ≡ q
-same_port p q e = let h = both _ _ e in let n : p.node ≡ q.node = eqb-true _ _ h.0 in let m : p.port ≡ q.port = eqb-true _ _ h.1 in
-    λ i. record { node = n i; port = m i }
-
+-- no other end is found where neither end of the first link is the port and the later links have none
 pub none_there : (s t : Bool) (a b : NodePort) (o : Option NodePort) → cond s (Some a) (cond t (Some b) o) ≡ None → (s ≡ false) × (t ≡ false) × (o ≡ None)
 none_there true t a b o e = cc
 none_there false true a b o e = cc
 none_there false false a b o e = (refl, refl, e)
 
 -- a link at the end, where none before is in the port, and where it is not
-after_all : (links : List Cable) (link : Cable) (p : NodePort) → other_end links p ≡ None → other_end (links ++ link ∷ []) p ≡ other_end (link ∷ []) p
+pub after_all : (links : List Cable) (link : Cable) (p : NodePort) → other_end links p ≡ None → other_end (links ++ link ∷ []) p ≡ other_end (link ∷ []) p
 after_all [] link p e = refl
 after_all (x ∷ links) link p e =
-    let h = none_there (is_port x.one p) (is_port x.other p) x.other x.one (other_end links p) e in
+    let h = none_there (is_same_port x.one p) (is_same_port x.other p) x.other x.one (other_end links p) e in
     let later : other_end (links ++ link ∷ []) p ≡ other_end (link ∷ []) p = after_all links link p h.2 in
-    ap (λ t. cond t (Some x.other) (cond (is_port x.other p) (Some x.one) (other_end (links ++ link ∷ []) p))) h.0
+    ap (λ t. cond t (Some x.other) (cond (is_same_port x.other p) (Some x.one) (other_end (links ++ link ∷ []) p))) h.0
     ∙ ap (λ t. cond t (Some x.one) (other_end (links ++ link ∷ []) p)) h.1 ∙ later
 
-kept : (links : List Cable) (link : Cable) (p : NodePort) → is_port link.one p ≡ false → is_port link.other p ≡ false
+kept : (links : List Cable) (link : Cable) (p : NodePort) → is_same_port link.one p ≡ false → is_same_port link.other p ≡ false
     → other_end (links ++ link ∷ []) p ≡ other_end links p
-kept [] link p e f = ap (λ t. cond t (Some link.other) (cond (is_port link.other p) (Some link.one) None)) e ∙ ap (λ t. cond t (Some link.one) None) f
-kept (x ∷ links) link p e f = ap (λ o. cond (is_port x.one p) (Some x.other) (cond (is_port x.other p) (Some x.one) o)) (kept links link p e f)
+kept [] link p e f = ap (λ t. cond t (Some link.other) (cond (is_same_port link.other p) (Some link.one) None)) e ∙ ap (λ t. cond t (Some link.one) None) f
+kept (x ∷ links) link p e f = ap (λ o. cond (is_same_port x.one p) (Some x.other) (cond (is_same_port x.other p) (Some x.one) o)) (kept links link p e f)
 
 two_ways : (s t : Bool) (a b : NodePort) → (s ≡ true → t ≡ true → a ≡ b) → cond s (Some a) (cond t (Some b) None) ≡ cond t (Some b) (cond s (Some a) None)
 two_ways true true a b e = ap Some (e refl refl)
@@ -108,19 +104,19 @@ two_ways false true a b e = refl
 two_ways false false a b e = refl
 
 ends_more : (links : List Cable) (link : Cable) (p : NodePort) → other_end links link.one ≡ None → other_end links link.other ≡ None
-    → other_end (links ++ link ∷ []) p ≡ cond (is_port link.other p) (Some link.one) (cond (is_port link.one p) (Some link.other) (other_end links p))
+    → other_end (links ++ link ∷ []) p ≡ cond (is_same_port link.other p) (Some link.one) (cond (is_same_port link.one p) (Some link.other) (other_end links p))
 ends_more links link p one other =
-    let Wanted : Type 0 = other_end (links ++ link ∷ []) p ≡ cond (is_port link.other p) (Some link.one)
-    (cond (is_port link.one p) (Some link.other) (other_end links p)) in
+    let Wanted : Type 0 = other_end (links ++ link ∷ []) p ≡ cond (is_same_port link.other p) (Some link.one)
+    (cond (is_same_port link.one p) (Some link.other) (other_end links p)) in
     let found : other_end links p ≡ None → Wanted = λ none. after_all links link p none
-    ∙ two_ways (is_port link.one p) (is_port link.other p) link.other link.one (λ s t. same_port link.other p t ∙ sym (same_port link.one p s))
-    ∙ ap (λ o. cond (is_port link.other p) (Some link.one) (cond (is_port link.one p) (Some link.other) o)) (sym none) in
-    elim (is_port link.one p) as (λ s. is_port link.one p ≡ s → Wanted) [
-      | true ↦ λ s. found (ap (other_end links) (sym (same_port link.one p s)) ∙ one)
-      | false ↦ λ s. (elim (is_port link.other p) as (λ t. is_port link.other p ≡ t → Wanted) [
-        | true ↦ λ t. found (ap (other_end links) (sym (same_port link.other p t)) ∙ other)
+    ∙ two_ways (is_same_port link.one p) (is_same_port link.other p) link.other link.one (λ s t. same_port-is link.other p t ∙ sym (same_port-is link.one p s))
+    ∙ ap (λ o. cond (is_same_port link.other p) (Some link.one) (cond (is_same_port link.one p) (Some link.other) o)) (sym none) in
+    elim (is_same_port link.one p) as (λ s. is_same_port link.one p ≡ s → Wanted) [
+      | true ↦ λ s. found (ap (other_end links) (sym (same_port-is link.one p s)) ∙ one)
+      | false ↦ λ s. (elim (is_same_port link.other p) as (λ t. is_same_port link.other p ≡ t → Wanted) [
+        | true ↦ λ t. found (ap (other_end links) (sym (same_port-is link.other p t)) ∙ other)
         | false ↦ λ t. kept links link p s t
-            ∙ sym (ap (λ b. cond b (Some link.one) (cond (is_port link.one p) (Some link.other) (other_end links p))) t
+            ∙ sym (ap (λ b. cond b (Some link.one) (cond (is_same_port link.one p) (Some link.other) (other_end links p))) t
             ∙ ap (λ b. cond b (Some link.other) (other_end links p)) s)
       ] refl)
     ] refl
@@ -130,7 +126,7 @@ eq_then Less y = refl
 eq_then Equal y = refl
 eq_then Greater y = refl
 
-at_port : (q p : NodePort) → is_eq (port_cmp (q.node, q.port) (p.node, p.port)) ≡ is_port q p
+at_port : (q p : NodePort) → is_eq (port_cmp (q.node, q.port) (p.node, p.port)) ≡ is_same_port q p
 at_port q p = eq_then (nat_cmp q.node p.node) (nat_cmp q.port p.port) ∙ sym (λ i. unsigned_ties q.node p.node i && unsigned_ties q.port p.port i)
 
 -- the index with a link more
@@ -141,7 +137,7 @@ pub ends_indexed : (links : List Cable) (across middle new : BTreeMap (ℕ × �
     → HasEnds (links ++ link ∷ []) new
 ends_indexed links across middle new link one other has u v p =
     v.0 (p.node, p.port) ∙ (λ i. cond (at_port link.other p i) (Some link.one) (u.0 (p.node, p.port) i))
-    ∙ (λ i. cond (is_port link.other p) (Some link.one) (cond (at_port link.one p i) (Some link.other) (has p i)))
+    ∙ (λ i. cond (is_same_port link.other p) (Some link.one) (cond (at_port link.one p i) (Some link.other) (has p i)))
     ∙ sym (ends_more links link p one other)
 
 pub nowhere : (o : Option ℕ) → false ≡ is_some o → o ≡ None

@@ -2,8 +2,5 @@ pub mod Folds
 pub mod Grammar
 pub mod Guids
 pub mod Indexes
-pub mod Names
-pub mod Numbers
-pub mod Splits
+pub mod Printed
 pub mod WellFormed
-pub mod Words

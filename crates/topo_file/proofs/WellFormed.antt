@@ -1,9 +1,9 @@
 -- What lines tell is a topology.
 use Rattle.std.proofs.Common.{◌≡◌, ◌≢◌, ℕ, zero, suc, ◌+◌, ◌<◌, ◌≤◌, ◌^◌, Bool, true, false, cond, leb, ltb, List, [], ◌∷◌, ◌++◌, length, get_or, Option}
 use Rattle.std.proofs.Common.{None, Some, Result, Ok, Err, refl, sym, ap, ◌∙◌, arith, length-append}
-use Rattle.std.specs.Prelude.{IfSome, IfOk, is_some, slice_get, option_and_then, All, ◌||◌, ◌&&◌}
+use Rattle.std.specs.Prelude.{IfSome, IfOk, is_some, slice_get, option_and_then, All, ◌||◌}
 use Rattle.std.specs.List.{AllPairs, AllByRecursion}
-use Rattle.std.proofs.lemmas.Bool.{leb-true, leb-false, ltb-true, eq-eqb}
+use Rattle.std.proofs.lemmas.Bool.{leb-true, leb-false, ltb-true}
 use Rattle.std.proofs.lemmas.Result.{IfOk-at_ok}
 use Rattle.std.proofs.lemmas.List.Elements.{All-push}
 use Rattle.std.proofs.lemmas.List.Quantifiers.{all_pairs_push}
@@ -14,6 +14,7 @@ use Rattle.smp_bytes.specs.declared.node_type.NodeType.{NodeType}
 use Rattle.smp_bytes.specs.declared.node_type.NodeType.TheVariants.{ChannelAdapter, Switch, Router}
 use Rattle.smp_bytes.specs.declared.cable.Cable.{Cable}
 use Rattle.smp_bytes.specs.declared.cable.NodePort.{NodePort}
+use Rattle.smp_bytes.proofs.Cabled.{same_port-refl}
 use Rattle.topo_file.specs.declared.fault.TopoFault.{TopoFault}
 use Rattle.topo_file.specs.declared.fault.TopoFault.TheVariants.{Name, GuidRange, TooManyNodes, Linked}
 use Rattle.topo_file.specs.declared.line.Line.{Line}
@@ -23,11 +24,13 @@ use Rattle.topo_file.specs.declared.line.LinkLine.{LinkLine}
 use Rattle.topo_file.specs.declared.draft.LinkAt.{LinkAt}
 use Rattle.topo_file.specs.declared.node.Node.{Node}
 use Rattle.topo_file.specs.Line.{line_of}
-use Rattle.topo_file.specs.Topology.{place_of, is_port, other_end, IsOfKind, IsNode, IsPortIn, IsLinkIn, AreApart, IsTopology}
+use Rattle.smp_bytes.specs.Cables.{is_same_port, other_end}
+use Rattle.topo_file.specs.Topology.{place_of, IsOfKind, IsNode, IsPortIn, IsLinkIn, AreApart, IsTopology}
 use Rattle.topo_file.specs.Reading.{◌>>=◌, Lines, is_beyond, node_with, node_of, with_node, with_link_line, with_line, with_lines, port_at, link_between}
 use Rattle.topo_file.specs.Reading.{link_to, link_of, is_end, with_link, with_links, told_by}
 use Rattle.topo_file.specs.ReadingLaws.{AreNodes, IsLinkLine, IsDraft}
-use Rattle.topo_file.proofs.Grammar.{tested, HasRoom, IsNodeLine, IsLine, line_fits}
+use Rattle.text_words.proofs.Ranges.{tested}
+use Rattle.topo_file.proofs.Grammar.{HasRoom, IsNodeLine, IsLine, line_fits}
 use Rattle.topo_file.proofs.Indexes.{nowhere, none_before, none_there}
 
 -- what holds of what is read
@@ -136,18 +139,15 @@ link_fits_to nodes at (Some place) is =
     between nodes at.line _ _ (port_fits nodes at.node at.link.port is.port) (port_fits nodes place at.link.peer_port is.peer_port)
 
 -- no link before is in the port
-itself : (p : NodePort) → is_port p p ≡ true
-itself p = (λ i. eq-eqb p.node p.node refl i && eq-eqb p.port p.port refl i)
-
-apart_from : (p q : NodePort) → is_port p q ≡ false → p ≢ q
-apart_from p q e same = let f : is_port p q ≡ true = ap (is_port p) (sym same) ∙ itself p in cc
+apart_from : (p q : NodePort) → is_same_port p q ≡ false → p ≢ q
+apart_from p q e same = let f : is_same_port p q ≡ true = ap (is_same_port p) (sym same) ∙ same_port-refl p in cc
 
 unlinked : (links : List Cable) (p : NodePort) → other_end links p ≡ None → (k : ℕ) (d : Cable) → k < length links
     → ((get_or links k d).one ≢ p) × ((get_or links k d).other ≢ p)
 unlinked [] p e k d h = absurd (omega arith)
-unlinked (x ∷ links) p e zero d h = let n = none_there (is_port x.one p) (is_port x.other p) x.other x.one (other_end links p) e in
+unlinked (x ∷ links) p e zero d h = let n = none_there (is_same_port x.one p) (is_same_port x.other p) x.other x.one (other_end links p) e in
     (apart_from x.one p n.0, apart_from x.other p n.1)
-unlinked (x ∷ links) p e (suc k) d h = unlinked links p (none_there (is_port x.one p) (is_port x.other p) x.other x.one (other_end links p) e).2 k d
+unlinked (x ∷ links) p e (suc k) d h = unlinked links p (none_there (is_same_port x.one p) (is_same_port x.other p) x.other x.one (other_end links p) e).2 k d
     (omega arith)
 
 record AreLinks (nodes : List Node) (all : List Cable) : Type 0 where

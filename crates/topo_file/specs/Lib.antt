@@ -1,9 +1,7 @@
 pub mod Line
-pub mod NodeName
-pub mod Number
 pub mod Places
+pub mod Printed
 pub mod Reading
 pub mod ReadingLaws
-pub mod Text
 pub mod TopoFault
 pub mod Topology

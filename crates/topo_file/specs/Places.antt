@@ -7,7 +7,8 @@ use Rattle.std.specs.Ordering.{nat_cmp, ordering_then}
 use Rattle.smp_bytes.specs.declared.cable.Cable.{Cable}
 use Rattle.smp_bytes.specs.declared.cable.NodePort.{NodePort}
 use Rattle.topo_file.specs.declared.node.Node.{Node}
-use Rattle.topo_file.specs.Topology.{place_of, other_end}
+use Rattle.smp_bytes.specs.Cables.{other_end}
+use Rattle.topo_file.specs.Topology.{place_of}
 
 -- the index has at each name the place of its node
 pub record HasPlaces (nodes : List Node) (places : BTreeMap (List ℕ) ℕ) : Type 0 where

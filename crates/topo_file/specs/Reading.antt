@@ -13,9 +13,10 @@ use Rattle.topo_file.specs.declared.line.NodeLine.{NodeLine}
 use Rattle.topo_file.specs.declared.line.LinkLine.{LinkLine}
 use Rattle.topo_file.specs.declared.draft.LinkAt.{LinkAt}
 use Rattle.topo_file.specs.declared.node.Node.{Node}
-use Rattle.topo_file.specs.Text.{lines}
+use Rattle.text_words.specs.Text.{lines}
 use Rattle.topo_file.specs.Line.{line_of}
-use Rattle.topo_file.specs.Topology.{Layout, place_of, is_port, other_end}
+use Rattle.smp_bytes.specs.Cables.{is_same_port, other_end}
+use Rattle.topo_file.specs.Topology.{Layout, place_of}
 
 -- what may follow a value, or its fault
 infixl 10 ◌>>=◌
@@ -89,7 +90,7 @@ link_of nodes at = link_to nodes at (place_of nodes at.link.peer)
 
 -- the port is there, and this one
 abbrev pub is_end : NodePort → Option NodePort → Bool
-is_end p found = option_map_or (is_port p) found false
+is_end p found = option_map_or (is_same_port p) found false
 
 -- the links with one more, which may be there already
 abbrev pub with_link : ℕ → List Cable → Cable → Result (List Cable) TopoFault

@@ -1,5 +1,5 @@
 -- What a call answers that may refuse its text, and what is said of a fault: its line, and a word.
-use Rattle.std.specs.Prelude.{◌≡◌, ℕ, List, Option, None, Some, Result, Ok, Err, codes}
+use Rattle.std.specs.Prelude.{◌≡◌, ℕ, List, Option, None, Some, Result, Ok, Err, ◌++◌, codes, decimal}
 use Rattle.topo_file.specs.declared.fault.TopoFault.{TopoFault}
 use Rattle.topo_file.specs.declared.fault.TopoFault.TheVariants.{Syntax, Name, Ports, Peer, Port, Linked, GuidRange, TooManyNodes, Memory}
 
@@ -47,3 +47,11 @@ fault_line (Linked line) = Some line
 fault_line (GuidRange line) = Some line
 fault_line (TooManyNodes line) = Some line
 fault_line Memory = None
+
+-- what `{}` writes of a fault: its line, where it has one, and the word
+abbrev pub said_at : Option ℕ → List ℕ → List ℕ
+said_at None word = word
+said_at (Some line) word = codes "line " ++ decimal line ++ codes ": " ++ word
+
+abbrev pub fault_text : TopoFault → List ℕ
+fault_text fault = said_at (fault_line fault) (fault_word fault)

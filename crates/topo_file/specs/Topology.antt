@@ -1,5 +1,5 @@
 -- What a topology is.
-use Rattle.std.specs.Prelude.{◌≡◌, ◌≢◌, ℕ, suc, ◌+◌, ◌<◌, ◌≤◌, ◌^◌, ◌==◌, ◌&&◌, Bool, List, [], ◌∷◌, All, Option, None, Some, IsTrue, option_map, length}
+use Rattle.std.specs.Prelude.{◌≡◌, ◌≢◌, ℕ, suc, ◌+◌, ◌<◌, ◌≤◌, ◌^◌, List, [], ◌∷◌, All, Option, None, Some, IsTrue, option_map, length}
 use Rattle.std.specs.Prelude.{slice_get, if◌then◌else◌}
 use Rattle.std.specs.List.{AllPairs}
 use Rattle.std.specs.Str.{bytes_eq}
@@ -8,7 +8,7 @@ use Rattle.smp_bytes.specs.declared.node_type.NodeType.TheVariants.{ChannelAdapt
 use Rattle.smp_bytes.specs.declared.cable.Cable.{Cable}
 use Rattle.smp_bytes.specs.declared.cable.NodePort.{NodePort}
 use Rattle.topo_file.specs.declared.node.Node.{Node}
-use Rattle.topo_file.specs.NodeName.{is_name}
+use Rattle.text_words.specs.NodeName.{is_name}
 
 -- nodes, and the links between their ports
 pub record Layout : Type 0 where
@@ -24,16 +24,6 @@ place_of (node ∷ nodes) name = if bytes_eq node.name name then Some 0 else opt
 abbrev pub IsFound : List Node → List ℕ → Option ℕ → Type 0
 IsFound nodes name None = All (λ node. node.name ≢ name) nodes
 IsFound nodes name (Some place) = (node : Node) × (slice_get nodes place ≡ Some node) × (node.name ≡ name)
-
--- the port is this one
-abbrev pub is_port : NodePort → NodePort → Bool
-is_port p q = p.node == q.node && p.port == q.port
-
--- the port at the other end of the link in a port
-abbrev pub other_end : List Cable → NodePort → Option NodePort
-other_end [] p = None
-other_end (link ∷ links) p =
-    if is_port link.one p then Some link.other else (if is_port link.other p then Some link.one else other_end links p)
 
 -- the entries that a node's forwarding table may have, and the GUIDs that its ports may need
 abbrev pub IsOfKind : NodeType → ℕ → ℕ → ℕ → Type 0

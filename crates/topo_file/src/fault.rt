@@ -1,38 +1,30 @@
 ghost use Rattle.std.specs.Prelude.{◌≡◌};
 
 use std::alloc::{AllocError, AllocFailed};
-use thiserror::Error;
+use std::error::Error;
+use std::fmt;
 
 /// Why a text is no topology, in the order in which it is judged: first each line in turn, then each link in
 /// turn. Lines count from 1.
-#[derive(Clone, Copy, Debug, PartialEq, Eq, Error)]
+#[derive(Clone, Copy, Debug, PartialEq, Eq)]
 pub enum TopoFault {
     /// The line is none of the grammar's, or a link above all nodes.
-    #[error("line {line}: syntax")]
     Syntax { line: usize },
     /// Another node has the name.
-    #[error("line {line}: name")]
     Name { line: usize },
     /// A port count outside 1 to 254, or a forwarding table's room outside 1 to 49,152.
-    #[error("line {line}: ports")]
     Ports { line: usize },
     /// A link to a name that no node has.
-    #[error("line {line}: peer")]
     Peer { line: usize },
     /// A link's port is 0 or over its node's count.
-    #[error("line {line}: port")]
     Port { line: usize },
     /// A port is linked in two ways.
-    #[error("line {line}: linked")]
     Linked { line: usize },
     /// The GUID of an adapter's last port does not fit 64 bits.
-    #[error("line {line}: guid")]
     GuidRange { line: usize },
     /// The node is the 1,025th.
-    #[error("line {line}: too many nodes")]
     TooManyNodes { line: usize },
     /// Memory was refused.
-    #[error("out of memory")]
     Memory,
 }
 
@@ -73,6 +65,24 @@ impl TopoFault {
         }
     }
 }
+
+/// The line and the word, as in `line 3: port`; or that memory is out.
+impl fmt::Display for TopoFault {
+    ghost use Rattle.std.specs.Prelude.{Some};
+    ghost use Rattle.topo_file.specs.TopoFault.{fault_text};
+
+    ghost output = { λ fault. Some (fault_text fault) };
+
+    fn fmt<W: fmt::Write>(&self, f: &mut fmt::Formatter<W>) -> fmt::Result {
+        let word = self.word();
+        match self.line() {
+            Some(line) => write!(f, "line {line}: {word}"),
+            None => f.write_str(word),
+        }
+    }
+}
+
+impl Error for TopoFault {}
 
 impl From<AllocError> for TopoFault {
     ghost use Rattle.std.specs.Prelude.{◌≡◌};

@@ -3,18 +3,16 @@
 
 mod draft;
 mod fault;
+pub mod laws;
 mod line;
 mod links;
-mod name;
 mod node;
 mod nodes;
-mod number;
-mod text;
 mod topology;
 
 pub use fault::TopoFault;
-pub use name::NodeName;
 pub use node::Node;
+pub use text_words::NodeName;
 pub use topology::{Topology, parse};
 
 #[cfg(test)]

@@ -1,11 +1,12 @@
-ghost use Rattle.std.specs.Prelude.{◌≡◌, ◌∷◌, option_map};
-ghost use Rattle.topo_file.specs.Text.{words};
-ghost use Rattle.topo_file.specs.Line.{line_of, kind_of, node_line, cap_of, link_line, quoted_name, bracketed_port, enclosed, until};
+ghost use Rattle.std.specs.Prelude.{◌≡◌, ◌∷◌};
+ghost use Rattle.text_words.specs.Text.{words};
+ghost use Rattle.topo_file.specs.Line.{line_of, kind_of, node_line, cap_of, link_line};
 
-use crate::name::NodeName;
-use crate::number::{guid, port_number, table_room};
-use crate::text::{place_of, split_word};
 use smp_bytes::{Guid, NodeType};
+use text_words::{
+    NodeName, bracketed_port, count, guid, is_word, named_port, port_number, quoted_name,
+    split_word,
+};
 
 /// What a line says.
 #[derive(Drop)]
@@ -53,9 +54,9 @@ pub(crate) fn read_line(line: &[u8]) -> Option<Line>
 fn kind(word: &[u8]) -> Option<NodeType>
     ensures { result ≡ kind_of word.now }
 {
-    if word == b"Switch".as_slice() {
+    if is_word(word, "Switch") {
         Some(NodeType::Switch)
-    } else if word == b"Hca".as_slice() || word == b"Ca".as_slice() {
+    } else if is_word(word, "Hca") || is_word(word, "Ca") {
         Some(NodeType::ChannelAdapter)
     } else {
         None
@@ -70,7 +71,7 @@ fn node_line(kind: NodeType, line: &[u8]) -> Option<NodeLine>
     let (name, line) = split_word(line)?;
     let (word, line) = split_word(line)?;
     let (number, line) = split_word(line)?;
-    if word != b"guid".as_slice() {
+    if !is_word(word, "guid") {
         return None;
     }
     Some(NodeLine {
@@ -100,10 +101,14 @@ fn given_cap(word: &[u8], line: &[u8]) -> Option<Option<u16>>
     ensures { result ≡ cap_of NodeType.Switch (word.now ∷ words line.now) }
 {
     let (number, line) = split_word(line)?;
-    if word != b"cap".as_slice() || split_word(line).is_some() {
+    if split_word(line).is_some() {
         return None;
     }
-    table_room(number)
+    if is_word(word, "cap") {
+        count(number, 0xC000)
+    } else {
+        None
+    }
 }
 
 /// A link, by the first word of its line and what follows it.
@@ -115,52 +120,10 @@ fn link_line(port: &[u8], line: &[u8]) -> Option<LinkLine>
         return None;
     }
     let port = bracketed_port(port)?;
-    let (peer, peer_port) = enclosed(end, b'"', b'"')?;
+    let (peer, peer_port) = named_port(end)?;
     Some(LinkLine {
         port,
-        peer: NodeName::new(peer)?,
-        peer_port: bracketed_port(peer_port)?,
+        peer,
+        peer_port,
     })
-}
-
-/// A name in quotes.
-fn quoted_name(word: &[u8]) -> Option<NodeName>
-    ensures { result ≡ quoted_name word.now }
-{
-    let (name, rest) = enclosed(word, b'"', b'"')?;
-    if !rest.is_empty() {
-        return None;
-    }
-    NodeName::new(name)
-}
-
-/// A port in brackets.
-fn bracketed_port(word: &[u8]) -> Option<Option<u8>>
-    ensures { result ≡ bracketed_port word.now }
-{
-    let (port, rest) = enclosed(word, b'[', b']')?;
-    if !rest.is_empty() {
-        return None;
-    }
-    port_number(port)
-}
-
-/// What stands between the byte `first`, which the word begins with, and the next `close`, and what stands behind that one.
-fn enclosed(word: &[u8], first: u8, close: u8) -> Option<(&[u8], &[u8])>
-    ensures { option_map (λ x. (x.0.now, x.1.now)) result ≡ enclosed first close word.now }
-{
-    let (byte, rest) = word.split_first()?;
-    if *byte != first {
-        return None;
-    }
-    until(rest, close)
-}
-
-#[tactic(auto, using(crate::proofs::Splits::until_at, crate::proofs::Splits::until_none))]
-/// What stands before the first `close`, and what stands behind it.
-fn until(bytes: &[u8], close: u8) -> Option<(&[u8], &[u8])>
-    ensures { option_map (λ x. (x.0.now, x.1.now)) result ≡ until close bytes.now }
-{
-    let len = place_of(bytes, close)?;
-    Some((&bytes[..len], &bytes[len + 1..]))
 }

@@ -1,5 +1,5 @@
 ghost use Rattle.std.specs.Prelude.{◌≡◌, [], ◌∷◌, ◌++◌};
-ghost use Rattle.topo_file.specs.Topology.{other_end};
+ghost use Rattle.smp_bytes.specs.Cables.{other_end};
 ghost use Rattle.topo_file.specs.Reading.{with_link, with_links, link_of};
 ghost use Rattle.topo_file.specs.TopoFault.{Reads};
 

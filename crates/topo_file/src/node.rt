@@ -1,5 +1,5 @@
-use crate::name::NodeName;
 use smp_bytes::{Guid, NodeType};
+use text_words::NodeName;
 
 /// A node of a topology.
 #[derive(Debug, Drop)]

@@ -4,12 +4,12 @@ ghost use Rattle.topo_file.specs.Reading.{with_node, port_at};
 ghost use Rattle.topo_file.specs.TopoFault.{Reads};
 
 use crate::fault::TopoFault;
-use crate::name::NodeName;
 use crate::node::Node;
 use smp_bytes::{NodePort, PortNum};
 use std::alloc::Global;
 use std::collections::BTreeMap;
 use std::marker::Model;
+use text_words::NodeName;
 
 /// The most nodes that a topology may have.
 const MAX_NODES: usize = 1024;

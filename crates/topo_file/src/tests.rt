@@ -1,6 +1,6 @@
 //! Texts of topologies, and what is wrong with others.
 use super::*;
-use smp_bytes::Cable;
+use smp_bytes::{Cable, NodeType};
 use std::alloc::Global;
 use std::test::Fail;
 
@@ -20,12 +20,9 @@ Hca 1 "H1" guid 0x100
 Hca 1 "H2" guid 0x200
 "#;
 
-/// What is said of a text that is no topology.
-fn refusal(alloc: Global, text: &str) -> Result<String, Fail> {
-    match parse(alloc, text) {
-        Ok(_) => Ok(String::new(alloc)),
-        Err(fault) => Ok(format!(in alloc; "{fault}")?),
-    }
+/// Why a text is no topology.
+fn fault(alloc: Global, text: &str) -> Option<TopoFault> {
+    parse(alloc, text).err()
 }
 
 #[test]
@@ -62,7 +59,7 @@ fn lines_of_no_grammar(rt: HostRuntime) -> Result<(), Fail> {
         "Hca",
     ] {
         assert!(rt;
-            refusal(rt.alloc(), text)?.as_str() == "line 1: syntax",
+            fault(rt.alloc(), text) == Some(TopoFault::Syntax { line: 1 }),
             "{text}"
         );
     }
@@ -72,70 +69,101 @@ fn lines_of_no_grammar(rt: HostRuntime) -> Result<(), Fail> {
 #[test]
 fn faults_with_their_lines(rt: HostRuntime) -> Result<(), Fail> {
     for (text, wanted) in [
-        ("Hca 0 \"A\" guid 0x1", "line 1: ports"),
-        ("Hca 255 \"A\" guid 0x1", "line 1: ports"),
+        ("Hca 0 \"A\" guid 0x1", TopoFault::Ports { line: 1 }),
+        ("Hca 255 \"A\" guid 0x1", TopoFault::Ports { line: 1 }),
         (
             "Hca 99999999999999999999999 \"A\" guid 0x1",
-            "line 1: ports",
+            TopoFault::Ports { line: 1 },
         ),
-        ("\nSwitch 1 \"A\" guid 0x1 cap 0", "line 2: ports"),
-        ("\nSwitch 1 \"A\" guid 0x1 cap 49153", "line 2: ports"),
-        ("Ca 2 \"A\" guid 0xFFFFfffffffffffe", "line 1: guid"),
+        (
+            "\nSwitch 1 \"A\" guid 0x1 cap 0",
+            TopoFault::Ports { line: 2 },
+        ),
+        (
+            "\nSwitch 1 \"A\" guid 0x1 cap 49153",
+            TopoFault::Ports { line: 2 },
+        ),
+        (
+            "Ca 2 \"A\" guid 0xFFFFfffffffffffe",
+            TopoFault::GuidRange { line: 1 },
+        ),
         (
             "Ca 1 \"A\" guid 0x1\r\nCa 1 \"A\" guid 0x2\r\nCa 0 \"B\" guid 0x1",
-            "line 2: name",
+            TopoFault::Name { line: 2 },
         ),
         (
             "Ca 1 \"A\" guid 0x1\nx\nCa 1 \"A\" guid 0x1",
-            "line 2: syntax",
+            TopoFault::Syntax { line: 2 },
         ),
-        ("Ca 1 \"A\" guid 0x1\n[1]\"A\"[3]", "line 2: syntax"),
-        ("Ca 1 \"A\" guid 0x1\n[1] \"A\" [3]", "line 2: syntax"),
-        ("Ca 1 \"A\" guid 0x1\n[1] \"A\"[3] 5", "line 2: syntax"),
-        ("Ca 1 \"A\" guid 0x1\n[] \"A\"[-1]", "line 2: syntax"),
+        (
+            "Ca 1 \"A\" guid 0x1\n[1]\"A\"[3]",
+            TopoFault::Syntax { line: 2 },
+        ),
+        (
+            "Ca 1 \"A\" guid 0x1\n[1] \"A\" [3]",
+            TopoFault::Syntax { line: 2 },
+        ),
+        (
+            "Ca 1 \"A\" guid 0x1\n[1] \"A\"[3] 5",
+            TopoFault::Syntax { line: 2 },
+        ),
+        (
+            "Ca 1 \"A\" guid 0x1\n[] \"A\"[-1]",
+            TopoFault::Syntax { line: 2 },
+        ),
         (
             "Ca 1 \"A\" guid 0x1\n[1] \"B\"[1]\nCa 0 \"B\" guid 0x1",
-            "line 3: ports",
+            TopoFault::Ports { line: 3 },
         ),
         (
             "Ca 1 \"A\" guid 0x1\n[9] \"B\"[1]\n[9] \"A\"[1]",
-            "line 2: peer",
+            TopoFault::Peer { line: 2 },
         ),
-        ("Ca 1 \"A\" guid 0x1\n[1] \"A\"[2]", "line 2: port"),
-        ("Ca 1 \"A\" guid 0x1\n[1] \"A\"[0]", "line 2: port"),
+        (
+            "Ca 1 \"A\" guid 0x1\n[1] \"A\"[2]",
+            TopoFault::Port { line: 2 },
+        ),
+        (
+            "Ca 1 \"A\" guid 0x1\n[1] \"A\"[0]",
+            TopoFault::Port { line: 2 },
+        ),
         (
             "Ca 1 \"A\" guid 0x1\n[99999999999999999999] \"A\"[1]",
-            "line 2: port",
+            TopoFault::Port { line: 2 },
         ),
         (
             "Ca 3 \"A\" guid 0x1\n[1] \"A\"[2]\n[3] \"A\"[2]",
-            "line 3: linked",
+            TopoFault::Linked { line: 3 },
         ),
         (
             "Ca 3 \"A\" guid 0x1\n[1] \"A\"[1]\n[1] \"A\"[2]",
-            "line 3: linked",
+            TopoFault::Linked { line: 3 },
         ),
     ] {
-        assert!(rt; refusal(rt.alloc(), text)?.as_str() == wanted, "{text}");
+        assert!(rt; fault(rt.alloc(), text) == Some(wanted), "{text}");
     }
     Ok(())
+}
+
+/// The sample with a line more behind the links of its first switch.
+fn with_line(alloc: Global, line: &str) -> Result<String, Fail> {
+    Ok(format!(in alloc; "{HEAD}{line}\n{TAIL}")?)
+}
+
+/// Why the sample with a line more is no topology.
+fn fault_with(alloc: Global, line: &str) -> Result<Option<TopoFault>, Fail> {
+    Ok(fault(alloc, with_line(alloc, line)?.as_str()))
 }
 
 #[test]
 fn faults_of_the_sample_with_a_line_more(rt: HostRuntime) -> Result<(), Fail> {
     for (line, wanted) in [
-        ("[5] \"H2\"[1]", "line 4: port"),
-        ("[3] \"X\"[1]", "line 4: peer"),
-        ("[2] \"S3\"[4]", "line 4: linked"),
+        ("[5] \"H2\"[1]", TopoFault::Port { line: 4 }),
+        ("[3] \"X\"[1]", TopoFault::Peer { line: 4 }),
+        ("[2] \"S3\"[4]", TopoFault::Linked { line: 4 }),
     ] {
-        let text = format!(in rt.alloc(); "{HEAD}{line}\n{TAIL}")?;
-        assert!(rt;
-            refusal(rt.alloc(), text.as_str())?.as_str() == wanted,
-            "{line}"
-        );
+        assert!(rt; fault_with(rt.alloc(), line)? == Some(wanted), "{line}");
     }
-    let memory = format!(in rt.alloc(); "{}", TopoFault::Memory)?;
-    assert!(rt; memory.as_str() == "out of memory");
     Ok(())
 }
 
@@ -163,57 +191,65 @@ fn texts_of_topologies(rt: HostRuntime) -> Result<(), Fail> {
     ] {
         let topology = parse(rt.alloc(), text)?;
         assert!(rt;
-            topology.count() == nodes && topology.link_count() == links,
+            topology.count() == nodes && topology.links().len() == links,
             "{text}"
         );
     }
     Ok(())
 }
 
-/// The nodes, a line each: name, type, ports, GUID and the forwarding table's entries.
-fn nodes(alloc: Global, topology: &Topology) -> Result<String, Fail> {
+/// The line of a node.
+fn node_text(alloc: Global, node: &Node) -> Result<String, Fail> {
+    let (name, ports, guid) = (node.name.as_str(), node.ports, node.guid);
+    Ok(match node.kind {
+        NodeType::Switch => {
+            format!(in alloc;
+                "Switch {ports} \"{name}\" guid 0x{guid} cap {}\n",
+                node.cap
+            )?
+        }
+        _ => format!(in alloc; "Hca {ports} \"{name}\" guid 0x{guid}\n")?,
+    })
+}
+
+/// The line of a link, below its first end's node.
+fn link_text(alloc: Global, topology: &Topology, link: &Cable) -> Result<String, Fail> {
+    let peer = topology.node(link.other.node).ok_or("no node")?;
+    let name = peer.name.as_str();
+    let (port, peer_port) = (link.one.port, link.other.port);
+    Ok(format!(in alloc; "[{port}] \"{name}\"[{peer_port}]\n")?)
+}
+
+/// The text of a topology: each node, and below it the links whose first end is there.
+fn printed(alloc: Global, topology: &Topology) -> Result<String, Fail> {
     let mut text = String::new(alloc);
     for place in 0..topology.count() {
         let node = topology.node(place).ok_or("no node")?;
-        let name = node.name.as_str();
-        let sizes = format!(in alloc; "{} {} {}", node.ports, node.guid, node.cap)?;
-        text.push_str(format!(in alloc; "{name} {} {sizes}\n", node.kind)?.as_str())?;
+        text.push_str(node_text(alloc, node)?.as_str())?;
+        for link in topology.links() {
+            if link.one.node == place {
+                text.push_str(link_text(alloc, topology, link)?.as_str())?;
+            }
+        }
     }
     Ok(text)
 }
 
-/// The links, a line each: the place and the port of one end, and of the other.
-fn links(alloc: Global, topology: &Topology) -> Result<String, Fail> {
-    let mut text = String::new(alloc);
-    for place in 0..topology.link_count() {
-        let Cable { one, other } = topology.link(place).ok_or("no link")?;
-        let one = format!(in alloc; "{}/{}", one.node, one.port)?;
-        let other = format!(in alloc; "{}/{}", other.node, other.port)?;
-        text.push_str(format!(in alloc; "{one} {other}\n")?.as_str())?;
-    }
-    Ok(text)
-}
-
-/// The sample fabric.
-fn sample(alloc: Global) -> Result<Topology, Fail> {
-    let text = format!(in alloc; "{HEAD}{TAIL}")?;
-    Ok(parse(alloc, text.as_str())?)
-}
-
-/// The nodes, and then the links.
-fn listing(alloc: Global, topology: &Topology) -> Result<String, Fail> {
-    let mut all = nodes(alloc, topology)?;
-    all.push_str(links(alloc, topology)?.as_str())?;
-    Ok(all)
+/// What is printed of what is read.
+fn printed_again(alloc: Global, text: &str) -> Result<String, Fail> {
+    printed(alloc, &parse(alloc, text)?)
 }
 
 #[test]
-fn sample_fabric(rt: HostRuntime) -> Result<(), Fail> {
-    let wanted = "S1 switch 4 0000000000000010 1024\nS2 switch 4 0000000000000020 1024\n\
-        S3 switch 4 0000000000000030 1024\nH1 ca 1 0000000000000100 0\nH2 ca 1 0000000000000200 0\n\
-        0/1 1/1\n0/2 2/1\n1/2 2/2\n1/3 3/1\n2/3 4/1\n";
-    let listing = listing(rt.alloc(), &sample(rt.alloc())?)?;
-    assert!(rt; listing.as_str() == wanted);
+fn printed_text_is_read_as_it_is(rt: HostRuntime) -> Result<(), Fail> {
+    let sample = format!(in rt.alloc(); "{HEAD}{TAIL}")?;
+    let wanted = "Switch 4 \"S1\" guid 0x0000000000000010 cap 1024\n[1] \"S2\"[1]\n[2] \"S3\"[1]\n\
+        Switch 4 \"S2\" guid 0x0000000000000020 cap 1024\n[2] \"S3\"[2]\n[3] \"H1\"[1]\n\
+        Switch 4 \"S3\" guid 0x0000000000000030 cap 1024\n[3] \"H2\"[1]\n\
+        Hca 1 \"H1\" guid 0x0000000000000100\nHca 1 \"H2\" guid 0x0000000000000200\n";
+    for text in [sample.as_str(), wanted] {
+        assert!(rt; printed_again(rt.alloc(), text)?.as_str() == wanted);
+    }
     Ok(())
 }
 
@@ -239,7 +275,7 @@ fn at_most_1024_nodes(rt: HostRuntime) -> Result<(), Fail> {
     let (place, is_distinct) = last(rt.alloc(), 1024)?;
     assert!(rt; place == Some(1023) && !is_distinct);
     let text = many(rt.alloc(), 1025)?;
-    let said = refusal(rt.alloc(), text.as_str())?;
-    assert!(rt; said.as_str() == "line 1025: too many nodes");
+    let wanted = Some(TopoFault::TooManyNodes { line: 1025 });
+    assert!(rt; fault(rt.alloc(), text.as_str()) == wanted);
     Ok(())
 }

@@ -1,5 +1,5 @@
 ghost use Rattle.std.specs.Prelude.{◌≡◌, ◌↔◌, length, slice_get, IsTrue, IfOk, option_copied};
-ghost use Rattle.topo_file.specs.Text.{lines};
+ghost use Rattle.text_words.specs.Text.{lines};
 ghost use Rattle.topo_file.specs.Topology.{place_of, IsFound, IsTopology, GuidsDiffer};
 ghost use Rattle.topo_file.specs.Reading.{topology_of, topology_in, told_by};
 ghost use Rattle.topo_file.specs.ReadingLaws.{IsDraft};
@@ -8,14 +8,13 @@ ghost use Rattle.topo_file.specs.TopoFault.{Reads};
 use crate::draft::Draft;
 use crate::fault::TopoFault;
 use crate::links::Links;
-use crate::name::NodeName;
 use crate::node::Node;
 use crate::nodes::Nodes;
-use crate::text::split_line;
 use smp_bytes::Cable;
 use std::alloc::{AllocError, Global};
 use std::collections::BTreeSet;
 use std::marker::Model;
+use text_words::{NodeName, split_line};
 
 /// The nodes of a simulated fabric, and the links between their ports.
 #[derive(Drop)]
@@ -53,18 +52,11 @@ impl Topology {
         self.nodes.get(place)
     }
 
-    /// How many links there are.
-    pub fn link_count(&self) -> usize
-        ensures { result ≡ length self.now.links }
+    /// The links, each once, in the order of their first lines.
+    pub fn links(&self) -> &[Cable]
+        ensures { result.now ≡ self.now.links }
     {
-        self.links.as_slice().len()
-    }
-
-    /// The link at a place, from 0: each once, in the order of their first lines. Takes one step.
-    pub fn link(&self, place: usize) -> Option<Cable>
-        ensures { result ≡ slice_get self.now.links place }
-    {
-        self.links.as_slice().get(place).copied()
+        self.links.as_slice()
     }
 
     /// The place of the node that has the name. A search.

@@ -1,6 +1,6 @@
 -- What the lines tell, and what they are read as.
 use Rattle.std.proofs.lemmas.Result.{err_from_is_err_and}
-use Rattle.topo_file.specs.Text.{lines}
+use Rattle.text_words.specs.Text.{lines}
 use Rattle.topo_file.specs.Reading.{topology_of, topology_in, told_by}
 use Rattle.topo_file.proofs.Folds.{refused_then}
 use Rattle.topo_file.proofs.WellFormed.{told_fits}

@@ -1,5 +1,5 @@
 use Rattle.std.proofs.Common.{◌≡◌, ◌+◌, ◌≤◌, ℕ, List, length}
-use Rattle.topo_file.specs.Text.{lines}
+use Rattle.text_words.specs.Text.{lines}
 use Rattle.topo_file.specs.Reading.{Lines, with_lines, told_by}
 use Rattle.topo_file.proofs.topology.read_lines.Given as goal
 

@@ -1,5 +1,5 @@
 use Rattle.fabric_sim.proofs.Built.{LinksIn}
 use Rattle.fabric_sim.proofs.fabric.Fabric.of.Given as goal
 
-abbrev pub invariant-loop-i : goal.invariant-loop-i
-invariant-loop-i l = LinksIn l.topology l.first_serial l.i l.fabric
+abbrev pub invariant-loop-link : goal.invariant-loop-link
+invariant-loop-link l = LinksIn l.topology l.first_serial l.link-index l.fabric

@@ -1,6 +1,6 @@
 -- What is no name is no node's.
-use Rattle.std.proofs.Common.{◌≡◌, None, rules, sym, ap, ◌∙◌}
-use Rattle.topo_file.specs.NodeName.{name_in}
+use Rattle.std.proofs.Common.{◌≡◌, rules, sym, ap, ◌∙◌}
+use Rattle.text_words.specs.NodeName.{name_in}
 use Rattle.topo_file.specs.Topology.{place_of}
 use Rattle.topo_file.proofs.Indexes.{unnamed, found_at}
 use Rattle.topo_file.proofs.topology.Topology.find.Goals as goal

@@ -1,0 +1,5 @@
+pub mod NodeName
+pub mod Number
+pub mod Printed
+pub mod Quoted
+pub mod Text

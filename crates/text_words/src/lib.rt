@@ -1,0 +1,15 @@
+//! The words of a text: its lines, the words of a line, and the numbers, the names and the ports that words tell.
+#![tactic(auto)]
+
+mod name;
+mod numbers;
+mod quoted;
+mod text;
+
+pub use name::NodeName;
+pub use numbers::{count, guid, number, port_number};
+pub use quoted::{bracketed_port, named_port, quoted_name};
+pub use text::{is_word, split_line, split_word};
+
+#[cfg(test)]
+mod tests;

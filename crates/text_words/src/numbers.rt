@@ -1,0 +1,70 @@
+ghost use Rattle.std.specs.Prelude.{◌≡◌, ◌^◌, ◌-◌, ◌+◌, ◌*◌, ◌<◌, ◌≤◌, min, option_map};
+ghost use Rattle.text_words.specs.Number.{digit_of, number_of, count_of, guid_of};
+
+use smp_bytes::Guid;
+
+/// The number that a word of digits writes in a base from 2 to 36. One over `u64::MAX` reads as that. Takes a step for
+/// each digit.
+pub fn number(word: &[u8], base: u32) -> Option<u64>
+    requires { 2 ≤ base × base ≤ 36 }
+    ensures { result ≡ option_map (min (2 ^ 64 - 1)) (number_of base word.now) }
+{
+    if word.is_empty() {
+        return None;
+    }
+    let mut number = 0;
+    for byte in word {
+        number = with_digit(number, base, digit(*byte, base)?);
+    }
+    Some(number)
+}
+
+/// The value of a digit.
+fn digit(byte: u8, base: u32) -> Option<u32>
+    requires { 2 ≤ base × base ≤ 36 }
+    ensures { result ≡ digit_of base byte }
+{
+    char::from(byte).to_digit(base)
+}
+
+/// The number with a digit more behind it.
+fn with_digit(number: u64, base: u32, digit: u32) -> u64
+    requires { 1 ≤ base }
+    ensures { result ≡ min (2 ^ 64 - 1) (number * base + digit) }
+{
+    number
+        .saturating_mul(u64::from(base))
+        .saturating_add(u64::from(digit))
+}
+
+/// The number from 1 to `most` that a word of decimal digits writes; inside it is `None` where it is another.
+pub fn count(word: &[u8], most: u16) -> Option<Option<u16>>
+    ensures { result ≡ count_of most word.now }
+{
+    let number = number(word, 10)?;
+    let is_within = 1 <= number && number <= u64::from(most);
+    Some(if is_within { Some(number as u16) } else { None })
+}
+
+/// The number from 1 to 254 that a word of decimal digits writes; inside it is `None` where it is another.
+pub fn port_number(word: &[u8]) -> Option<Option<u8>>
+    ensures { result ≡ count_of 254 word.now }
+{
+    let number = number(word, 10)?;
+    Some(if matches!(number, 1..=254) {
+        Some(number as u8)
+    } else {
+        None
+    })
+}
+
+/// The GUID that a word writes: `0x` and 1 to 16 hex digits.
+pub fn guid(word: &[u8]) -> Option<Guid>
+    ensures { result ≡ guid_of word.now }
+{
+    let digits = word.strip_prefix(b"0x")?;
+    if digits.len() > 16 {
+        return None;
+    }
+    Some(Guid::new(number(digits, 16)?))
+}

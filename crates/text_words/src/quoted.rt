@@ -1,0 +1,58 @@
+ghost use Rattle.std.specs.Prelude.{◌≡◌, option_map};
+ghost use Rattle.text_words.specs.Quoted.{until, enclosed, quoted_name, bracketed_port, named_port};
+
+use crate::name::NodeName;
+use crate::numbers::port_number;
+use crate::text::place_of;
+
+/// A name in quotes, `"name"`. Takes a step for each byte.
+pub fn quoted_name(word: &[u8]) -> Option<NodeName>
+    ensures { result ≡ quoted_name word.now }
+{
+    let (name, rest) = enclosed(word, b'"', b'"')?;
+    if !rest.is_empty() {
+        return None;
+    }
+    NodeName::new(name)
+}
+
+/// A port in brackets, `[port]`; inside it is `None` where it is not from 1 to 254. Takes a step for each byte.
+pub fn bracketed_port(word: &[u8]) -> Option<Option<u8>>
+    ensures { result ≡ bracketed_port word.now }
+{
+    let (port, rest) = enclosed(word, b'[', b']')?;
+    if !rest.is_empty() {
+        return None;
+    }
+    port_number(port)
+}
+
+/// A name in quotes and at once behind it a port in brackets, `"name"[port]`. The port is `None` where it is not from 1
+/// to 254. Takes a step for each byte.
+pub fn named_port(word: &[u8]) -> Option<(NodeName, Option<u8>)>
+    ensures { result ≡ named_port word.now }
+{
+    let (name, port) = enclosed(word, b'"', b'"')?;
+    let name = NodeName::new(name)?;
+    Some((name, bracketed_port(port)?))
+}
+
+/// What stands between the byte `first`, which the word begins with, and the next `close`, and what stands behind that one.
+fn enclosed(word: &[u8], first: u8, close: u8) -> Option<(&[u8], &[u8])>
+    ensures { option_map (λ x. (x.0.now, x.1.now)) result ≡ enclosed first close word.now }
+{
+    let (byte, rest) = word.split_first()?;
+    if *byte != first {
+        return None;
+    }
+    until(rest, close)
+}
+
+#[tactic(auto, using(crate::proofs::Splits::until_at, crate::proofs::Splits::until_none))]
+/// What stands before the first `close`, and what stands behind it.
+fn until(bytes: &[u8], close: u8) -> Option<(&[u8], &[u8])>
+    ensures { option_map (λ x. (x.0.now, x.1.now)) result ≡ until close bytes.now }
+{
+    let len = place_of(bytes, close)?;
+    Some((&bytes[..len], &bytes[len + 1..]))
+}

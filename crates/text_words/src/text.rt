@@ -1,0 +1,101 @@
+ghost use Rattle.std.specs.Prelude.{◌≡◌, ◌<◌, ◌≤◌, ◌∷◌, ◌==◌, [], false, not, length, take, drop, position, MatchOption};
+ghost use Rattle.std.specs.Str.{bytes_eq};
+ghost use Rattle.text_words.specs.Text.{lines, words, is_blank, parts, is_behind_word, is_quoted_after, without_return};
+
+#[tactic(auto, using(crate::proofs::Splits::lines_at, crate::proofs::Splits::lines_none))]
+/// The first line of a text without its end, and the text behind it; or `None` where the text is empty.
+pub fn split_line(text: &[u8]) -> Option<(&[u8], &[u8])>
+    ensures line { MatchOption result (lines text.now ≡ [])
+        (λ x. lines text.now ≡ x.0.now ∷ lines x.1.now) }
+    ensures shorter { MatchOption result (text.now ≡ []) (λ x. length x.1.now < length text.now) }
+{
+    if text.is_empty() {
+        return None;
+    }
+    match place_of(text, b'\n') {
+        Some(end) => Some((without_return(&text[..end]), &text[end + 1..])),
+        None => Some((text, &[])),
+    }
+}
+
+#[tactic(auto, using(crate::proofs::Splits::return_at_end, crate::proofs::Splits::no_return_at_end))]
+/// The line without the carriage return that it may end with.
+fn without_return(line: &[u8]) -> &[u8]
+    ensures { result.now ≡ without_return line.now }
+{
+    let Some((last, rest)) = line.split_last() else {
+        return line;
+    };
+    if *last == b'\r' { rest } else { line }
+}
+
+/// The first word of a line, and what stands behind it; or `None` where there is none.
+pub fn split_word(line: &[u8]) -> Option<(&[u8], &[u8])>
+    ensures { MatchOption result (words line.now ≡ [])
+        (λ x. words line.now ≡ x.0.now ∷ words x.1.now) }
+{
+    let (_, line) = line.split_at(word_start(line)?);
+    if line[0] == b'#' {
+        None
+    } else {
+        Some(line.split_at(word_len(line)))
+    }
+}
+
+/// The place of the first byte that is none that separates words.
+fn word_start(line: &[u8]) -> Option<usize>
+    ensures { result ≡ position (λ b. not (is_blank b)) line.now }
+{
+    line.iter().position(|byte| !is_blank(*byte))
+}
+
+/// How long the word is that the line begins with.
+fn word_len(line: &[u8]) -> usize
+    ensures within { result ≤ length line.now }
+    ensures word { (parts false line.now).0 ≡ take result line.now }
+    ensures behind { (parts false line.now).1 ≡ words (drop result line.now) }
+{
+    let mut is_quoted = false;
+    for (place, byte) in line.iter().enumerate() {
+        if is_behind_word(is_quoted, *byte) {
+            return place;
+        }
+        is_quoted = is_quoted_after(is_quoted, *byte);
+    }
+    line.len()
+}
+
+/// Whether a word, within quotes or not, ends before the byte.
+fn is_behind_word(is_quoted: bool, byte: u8) -> bool
+    ensures { result ≡ is_behind_word is_quoted byte }
+{
+    !is_quoted && (byte == b'#' || is_blank(byte))
+}
+
+/// Whether a word is within quotes behind the byte.
+fn is_quoted_after(is_quoted: bool, byte: u8) -> bool
+    ensures { result ≡ is_quoted_after is_quoted byte }
+{
+    if byte == b'"' { !is_quoted } else { is_quoted }
+}
+
+/// Whether the word is this one.
+pub fn is_word(word: &[u8], wanted: &str) -> bool
+    ensures { result ≡ bytes_eq word.now wanted.now }
+{
+    word == wanted.as_bytes()
+}
+
+/// The place of the first such byte.
+pub(crate) fn place_of(bytes: &[u8], byte: u8) -> Option<usize>
+    ensures { result ≡ position (λ b. b == byte) bytes.now }
+{
+    bytes.iter().position(|b| *b == byte)
+}
+
+/// Whether the byte separates words.
+fn is_blank(byte: u8) -> bool
+    ensures { result ≡ is_blank byte }
+{
+    byte == b' ' || byte == b'\t'
+}

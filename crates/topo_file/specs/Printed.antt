@@ -1,0 +1,46 @@
+-- The text of a topology.
+use Rattle.std.specs.Prelude.{ℕ, suc, ◌≡◌, ◌≤◌, ◌==◌, List, [], ◌∷◌, ◌++◌, Ok, codes, decimal, filter, map, slice_get, if◌then◌else◌}
+use Rattle.std.specs.List.{AllPairs}
+use Rattle.std.specs.Option.{option_map_or}
+use Rattle.smp_bytes.specs.NodeType.{is_switch}
+use Rattle.smp_bytes.specs.Text.{guid_text}
+use Rattle.smp_bytes.specs.declared.cable.Cable.{Cable}
+use Rattle.text_words.specs.Printed.{lines_text, quoted_text, bracketed_text, named_text}
+use Rattle.topo_file.specs.declared.node.Node.{Node}
+use Rattle.topo_file.specs.Topology.{Layout, IsTopology}
+use Rattle.topo_file.specs.Reading.{topology_of}
+
+-- the words of a node's line: its type, port count, name and GUID, and the room of a switch's forwarding table
+abbrev pub node_words : Node → List (List ℕ)
+node_words node =
+    (if is_switch node.kind then codes "Switch" else codes "Hca") ∷ decimal node.ports ∷ quoted_text node.name
+    ∷ codes "guid" ∷ (codes "0x" ++ guid_text node.guid) ∷ (if is_switch node.kind then codes "cap" ∷ decimal node.cap ∷ [] else [])
+
+-- the name of the node at a place
+abbrev pub name_at : List Node → ℕ → List ℕ
+name_at nodes place = option_map_or (λ node. node.name) (slice_get nodes place) []
+
+-- the words of a link's line, below the node of its first end
+abbrev pub link_words : List Node → Cable → List (List ℕ)
+link_words nodes link = bracketed_text link.one.port ∷ named_text (name_at nodes link.other.node) link.other.port ∷ []
+
+-- the links whose first end is at the node of a place
+abbrev pub links_at : List Cable → ℕ → List Cable
+links_at links place = filter (λ link. link.one.node == place) links
+
+-- the lines of the nodes from a place on, each with its links below it
+abbrev pub lines_from : Layout → ℕ → List Node → List (List (List ℕ))
+lines_from t place [] = []
+lines_from t place (node ∷ later) = node_words node ∷ (map (link_words t.nodes) (links_at t.links place) ++ lines_from t (suc place) later)
+
+-- the text of a topology: each node in its order, and below it the links whose first end is there
+abbrev pub topology_text : Layout → List ℕ
+topology_text t = lines_text (lines_from t 0 t.nodes)
+
+-- the links stand in the order of their first ends' nodes
+abbrev pub IsInOrder : List Cable → Type 0
+IsInOrder links = AllPairs (λ x y. x.one.node ≤ y.one.node) links
+
+-- a topology whose links are in this order is read from its text as it is
+abbrev pub PrintedTopologiesAreRead : Type 0
+PrintedTopologiesAreRead = (t : Layout) → IsTopology t → IsInOrder t.links → topology_of (topology_text t) ≡ Ok t
