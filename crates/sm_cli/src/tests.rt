@@ -102,17 +102,27 @@ fn tell<W: Sink>(sink: &mut W, fault: Fault) -> Result<(), Fail> {
     Ok(())
 }
 
-/// What a run over files writes and, where it ends early, how.
-fn ended(alloc: Global, command: Command, files: &[&[u8]]) -> Result<ToRoom, Fail> {
+/// What a run over files writes into a sink with room for so many bytes and, where it ends early, how.
+fn ended_within(
+    alloc: Global,
+    room: usize,
+    command: Command,
+    files: &[&[u8]],
+) -> Result<ToRoom, Fail> {
     let mut sources = Vec::new(alloc);
     for file in files {
         sources.push(FromBytes::new(file))?;
     }
-    let mut sink = ToRoom::new(alloc, 4096)?;
+    let mut sink = ToRoom::new(alloc, room)?;
     if let Err(fault) = run_files(alloc, &mut sources, command, &mut sink) {
         tell(&mut sink, fault)?;
     }
     Ok(sink)
+}
+
+/// The same with room for 4,096.
+fn ended(alloc: Global, command: Command, files: &[&[u8]]) -> Result<ToRoom, Fail> {
+    ended_within(alloc, 4096, command, files)
 }
 
 /// A run over files writes this and ends so.

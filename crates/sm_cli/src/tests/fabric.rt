@@ -90,15 +90,15 @@ pub(super) fn fabric_files(alloc: Global) -> Result<(Vec<u8>, Vec<u8>), AllocErr
 
 #[test]
 fn neither_order_nor_repetition_counts(rt: HostRuntime) -> Result<(), Fail> {
-    let (in_order, reversed) = fabric_files(rt.alloc())?;
-    assert!(rt; in_order.len() == 7352);
-    assert!(rt; in_order.as_slice().starts_with(&adapter_file()));
-    for files in [
-        [in_order.as_slice(), in_order.as_slice()],
-        [&reversed, b"IBSMREP1"],
-        [&in_order, &reversed],
+    let files = fabric_files(rt.alloc())?;
+    let is_adapters = files.0.as_slice().starts_with(&adapter_file());
+    assert!(rt; is_adapters && files.0.len() == 7352);
+    for pair in [
+        [files.0.as_slice(), files.0.as_slice()],
+        [&files.1, b"IBSMREP1"],
+        [&files.0, &files.1],
     ] {
-        check(&rt, rt.alloc(), Command::Facts, &files, FABRIC_FACTS)?;
+        check(&rt, rt.alloc(), Command::Facts, &pair, FABRIC_FACTS)?;
     }
     Ok(())
 }
@@ -108,30 +108,54 @@ fn joined(alloc: Global, files: &[&[u8]]) -> Result<Vec<u8>, Fail> {
     Ok(Vec::from_slice(alloc, ended(alloc, Command::Join, files)?.bytes())?)
 }
 
-/// The third parts of the fabric's file.
-fn parts(alloc: Global) -> Result<[Vec<u8>; 3], AllocError> {
+/// The store file of the fabric's file.
+fn whole(alloc: Global) -> Result<Vec<u8>, Fail> {
+    let file = file_of(alloc, &reports(alloc)?)?;
+    joined(alloc, &[&file])
+}
+
+/// A third part of the fabric's file, by its number.
+fn part(alloc: Global, number: usize) -> Result<Vec<u8>, AllocError> {
     let reports = reports(alloc)?;
-    Ok([
-        file_of(alloc, reports.as_slice().get(..9).unwrap_or(&[]))?,
-        file_of(alloc, reports.as_slice().get(9..18).unwrap_or(&[]))?,
-        file_of(alloc, reports.as_slice().get(18..).unwrap_or(&[]))?,
-    ])
+    let nine = reports.as_slice().chunks(9).nth(number);
+    file_of(alloc, nine.unwrap_or(&[]))
+}
+
+/// The store file that two such parts that follow each other are joined into, by the number of the first.
+fn both(alloc: Global, first: usize) -> Result<Vec<u8>, Fail> {
+    let parts = (part(alloc, first)?, part(alloc, first.wrapping_add(1))?);
+    joined(alloc, &[&parts.0, &parts.1])
+}
+
+/// A file of the parts from a number to another: that part, or the store file of two.
+fn piece(alloc: Global, first: usize, last: usize) -> Result<Vec<u8>, Fail> {
+    if first == last {
+        Ok(part(alloc, first)?)
+    } else {
+        both(alloc, first)
+    }
 }
 
 #[test]
 fn files_are_joined_in_any_grouping(rt: HostRuntime) -> Result<(), Fail> {
-    let (in_order, _reversed) = fabric_files(rt.alloc())?;
-    let whole = joined(rt.alloc(), &[&in_order])?;
+    let whole = whole(rt.alloc())?;
     assert!(rt; whole.len() == 1832);
-    let [first, second, third] = parts(rt.alloc())?;
-    let front = joined(rt.alloc(), &[&first, &second])?;
-    let back = joined(rt.alloc(), &[&second, &third])?;
-    for files in [
-        [front.as_slice(), third.as_slice()],
-        [&first, &back],
-        [&back, &front],
+    for [(first, last), (other_first, other_last)] in [
+        [(0, 1), (2, 2)],
+        [(0, 0), (1, 2)],
+        [(1, 2), (0, 1)],
     ] {
-        check(&rt, rt.alloc(), Command::Join, &files, &whole)?;
+        let pieces = (
+            piece(rt.alloc(), first, last)?,
+            piece(rt.alloc(), other_first, other_last)?,
+        );
+        check(
+            &rt,
+            rt.alloc(),
+            Command::Join,
+            &[&pieces.0, &pieces.1],
+            &whole,
+        )?;
     }
     check(&rt, rt.alloc(), Command::Facts, &[&whole], FABRIC_FACTS)
 }
