@@ -63,18 +63,25 @@ cap 0000000000000020 1024 @1
 cap 0000000000000030 1024 @1
 ";
 
-/// The file of reports: the magic, and for each its generation, context, port, two zero bytes, GUID and reply.
+/// What stands before a report's reply in a file: its generation, context, port, two zero bytes and GUID.
+fn head_of(report: &Report) -> [u8; 16] {
+    let (context, port, guid) = match report.context {
+        Context::Start => (0, 0, 0),
+        Context::Via(node, port) => (1, port.number(), node.number()),
+        Context::About(node) => (2, 0, node.number()),
+    };
+    let [g0, g1, g2, g3] = report.generation.to_be_bytes();
+    let [n0, n1, n2, n3, n4, n5, n6, n7] = guid.to_be_bytes();
+    [
+        g0, g1, g2, g3, context, port, 0, 0, n0, n1, n2, n3, n4, n5, n6, n7,
+    ]
+}
+
+/// The file of reports: the magic, and the head and reply of each.
 fn file_of(alloc: Global, reports: &[Report]) -> Result<Vec<u8>, AllocError> {
     let mut file = Vec::from_slice(alloc, b"IBSMREP1")?;
     for report in reports {
-        let (context, port, guid) = match report.context {
-            Context::Start => (0, 0, 0),
-            Context::Via(node, port) => (1, port.number(), node.number()),
-            Context::About(node) => (2, 0, node.number()),
-        };
-        file.extend_from_slice(&report.generation.to_be_bytes())?;
-        file.extend_from_slice(&[context, port, 0, 0])?;
-        file.extend_from_slice(&guid.to_be_bytes())?;
+        file.extend_from_slice(&head_of(report))?;
         file.extend_from_slice(&report.bytes)?;
     }
     Ok(file)
@@ -161,7 +168,7 @@ fn files_are_joined_in_any_grouping(rt: HostRuntime) -> Result<(), Fail> {
 }
 
 /// The file of one answer: SwitchInfo of the switch 0x10, told at a generation, with room for so many LIDs.
-fn room_file(alloc: Global, generation: u32, room: u16) -> Result<Vec<u8>, Fail> {
+fn room_file(alloc: Global, (generation, room): (u32, u16)) -> Result<Vec<u8>, Fail> {
     let reports = reports(alloc)?;
     let mut report = *reports.get(7).ok_or("no SwitchInfo")?;
     report.generation = generation;
@@ -169,23 +176,31 @@ fn room_file(alloc: Global, generation: u32, room: u16) -> Result<Vec<u8>, Fail>
     Ok(file_of(alloc, &[report])?)
 }
 
+/// Such a file of each.
+fn room_files(alloc: Global, rooms: [(u32, u16); 3]) -> Result<[Vec<u8>; 3], Fail> {
+    let [first, second, third] = rooms;
+    Ok([
+        room_file(alloc, first)?,
+        room_file(alloc, second)?,
+        room_file(alloc, third)?,
+    ])
+}
+
 #[test]
 fn a_newer_generation_settles_a_dispute(rt: HostRuntime) -> Result<(), Fail> {
-    let first = room_file(rt.alloc(), 1, 1024)?;
-    let other = room_file(rt.alloc(), 1, 2048)?;
-    let newer = room_file(rt.alloc(), 2, 4096)?;
+    let (first, other, newer) = ((1, 1024), (1, 2048), (2, 4096));
+    let told: &[u8] = b"cap 0000000000000010 1024 @1\n";
     let disputed: &[u8] = b"cap 0000000000000010 disputed @1\n";
     let settled: &[u8] = b"cap 0000000000000010 4096 @2\n";
-    for (files, text) in [
-        (
-            [first.as_slice(), &first, &first],
-            b"cap 0000000000000010 1024 @1\n".as_slice(),
-        ),
-        ([&first, &other, &first], disputed),
-        ([&other, &first, &other], disputed),
-        ([&first, &other, &newer], settled),
-        ([&newer, &other, &first], settled),
+    for (rooms, text) in [
+        ([first, first, first], told),
+        ([first, other, first], disputed),
+        ([other, first, other], disputed),
+        ([first, other, newer], settled),
+        ([newer, other, first], settled),
     ] {
+        let files = room_files(rt.alloc(), rooms)?;
+        let files = [files[0].as_slice(), &files[1], &files[2]];
         check(&rt, rt.alloc(), Command::Facts, &files, text)?;
     }
     Ok(())

@@ -72,7 +72,7 @@ const SAMPLE: Row = Row {
 };
 
 /// What becomes of the sample fabric.
-const CHANGED: [Row; 8] = [
+const CHANGED: &[Row] = &[
     SAMPLE,
     // A cable that two switches name as theirs is no wire, until one of them alone does.
     Row {
@@ -155,7 +155,7 @@ lid 5 0000000000000100/1
 ];
 
 /// Subnets of other forms.
-const OTHERS: [Row; 4] = [
+const OTHERS: &[Row] = &[
     Row {
         name: "three wires down or two over the root",
         switches: &[0x10, 0x20, 0x30, 0x40, 0x50],
@@ -388,13 +388,23 @@ fn the_sample_fabric_is_planned(rt: HostRuntime) -> Result<(), Fail> {
     Ok(())
 }
 
-#[test]
-fn small_subnets_are_planned(rt: HostRuntime) -> Result<(), Fail> {
-    for row in CHANGED.iter().chain(&OTHERS) {
-        let plan = planned(rt.alloc(), row, 4096)?;
+/// Each subnet has its plan.
+fn check_plans(rt: &impl Abort, alloc: Global, rows: &[Row]) -> Result<(), Fail> {
+    for row in rows {
+        let plan = planned(alloc, row, 4096)?;
         assert!(rt; is_plan(plan.bytes(), row.lids, row.tables), "{}", row.name);
     }
     Ok(())
+}
+
+#[test]
+fn news_and_claims_and_rooms_count(rt: HostRuntime) -> Result<(), Fail> {
+    check_plans(&rt, rt.alloc(), CHANGED)
+}
+
+#[test]
+fn subnets_of_other_forms(rt: HostRuntime) -> Result<(), Fail> {
+    check_plans(&rt, rt.alloc(), OTHERS)
 }
 
 /// The sample fabric with the largest tables, where the first adapter claims the greatest LID.
