@@ -159,7 +159,8 @@ fn routed(dlid: u16) -> Packet {
 #[test]
 fn each_packet_that_is_discarded(rt: HostRuntime) -> Result<(), Fail> {
     let get_sm_info = directed(Method::GET, AttributeId::SM_INFO, 0, [0; 3], &[0; 64]);
-    // The adapter has no LID, so its own is 0. Byte 0 is the base version, byte 3 the method and byte 6 the hop pointer.
+    // The adapter has no LID, so its own is 0. Byte 0 is the base version, byte 3 the method and
+    // byte 6 the hop pointer.
     for (packet, wanted) in [
         (turned(0, 2), ("unreadable", 0)),
         (turned(6, 1), ("course", 0)),
@@ -180,7 +181,8 @@ fn each_packet_that_is_discarded(rt: HostRuntime) -> Result<(), Fail> {
     Ok(())
 }
 
-/// Each refusal where packets are concerned, of a fabric with one packet in flight and no serial number left.
+/// Each refusal where packets are concerned, of a fabric with one packet in flight and no serial
+/// number left.
 fn packet_refusals(fabric: &mut Fabric, last: u64) -> [(Option<FabricFault>, FabricFault); 7] {
     [
         (fabric.deliver(0).err(), FabricFault::NoSuchPacket),
@@ -348,7 +350,8 @@ fn check_copies(rt: &impl Abort, fabric: &mut Fabric) -> Result<(), Fail> {
     Ok(())
 }
 
-/// A packet that came by a wire is discarded once the cable is cut, and one that waits at its seat is not.
+/// A packet that came by a wire is discarded once the cable is cut, and one that waits at its seat
+/// is not.
 fn check_cut(rt: &impl Abort, fabric: &mut Fabric) -> Result<(), Fail> {
     let came = fabric.inject(at(3, 1), get_node_info([1, 0, 0]))?;
     let moved = said(fabric.deliver(came));

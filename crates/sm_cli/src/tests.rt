@@ -102,7 +102,8 @@ fn tell<W: Sink>(sink: &mut W, fault: Fault) -> Result<(), Fail> {
     Ok(())
 }
 
-/// What a run over files writes into a sink with room for so many bytes and, where it ends early, how.
+/// What a run over files writes into a sink with room for so many bytes and, where it ends early,
+/// how.
 fn ended_within(
     alloc: Global,
     room: usize,

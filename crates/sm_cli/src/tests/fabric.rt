@@ -63,7 +63,8 @@ cap 0000000000000020 1024 @1
 cap 0000000000000030 1024 @1
 ";
 
-/// What stands before a report's reply in a file: its generation, context, port, two zero bytes and GUID.
+/// What stands before a report's reply in a file: its generation, context, port, two zero bytes and
+/// GUID.
 fn head_of(report: &Report) -> [u8; 16] {
     let (context, port, guid) = match report.context {
         Context::Start => (0, 0, 0),
@@ -128,7 +129,8 @@ fn part(alloc: Global, number: usize) -> Result<Vec<u8>, AllocError> {
     file_of(alloc, nine.unwrap_or(&[]))
 }
 
-/// The store file that two such parts that follow each other are joined into, by the number of the first.
+/// The store file that two such parts that follow each other are joined into, by the number of the
+/// first.
 fn both(alloc: Global, first: usize) -> Result<Vec<u8>, Fail> {
     let parts = (part(alloc, first)?, part(alloc, first.wrapping_add(1))?);
     joined(alloc, &[&parts.0, &parts.1])

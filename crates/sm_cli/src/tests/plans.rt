@@ -20,10 +20,12 @@ enum News {
     Rooms([u16; 3]),
 }
 
-/// A switch's line of a plan with one block, and the entries of the block, in hex, until there is no way from there on.
+/// A switch's line of a plan with one block, and the entries of the block, in hex, until there is
+/// no way from there on.
 type Table = (&'static [u8], &'static [u8]);
 
-/// What is told of a subnet at generation 1, what is news, and its plan: the lines of the LIDs, and the tables.
+/// What is told of a subnet at generation 1, what is news, and its plan: the lines of the LIDs, and
+/// the tables.
 #[derive(Clone, Copy)]
 struct Row {
     name: &'static str,
@@ -345,8 +347,8 @@ fn planned(alloc: Global, row: &Row, room: usize) -> Result<ToRoom, Fail> {
     ended_within(alloc, room, Command::Plan, &[file.bytes()])
 }
 
-/// What follows the line of a block in a text, if it begins with that line: these words, and 128 hex digits, of which the
-/// first and the last are these and all others say that there is no way.
+/// What follows the line of a block in a text, if it begins with that line: these words, and 128
+/// hex digits, of which the first and the last are these and all others say that there is no way.
 fn after_block<'a>(text: &'a [u8], words: &[u8], first: &[u8], last: &[u8]) -> Option<&'a [u8]> {
     let rest = text.strip_prefix(words)?.strip_prefix(first)?;
     let others = 128usize.saturating_sub(first.len().saturating_add(last.len()));
@@ -364,7 +366,8 @@ fn after_table<'a>(text: &'a [u8], table: &Table) -> Option<&'a [u8]> {
     after_block(text.strip_prefix(*line)?, b"block 0 ", entries, b"")
 }
 
-/// Whether a text is that of a plan of one block: the lines of the LIDs, and each switch with its block.
+/// Whether a text is that of a plan of one block: the lines of the LIDs, and each switch with its
+/// block.
 fn is_plan(text: &[u8], lids: &[u8], tables: &[Table]) -> bool {
     let mut rest = text.strip_prefix(lids);
     for table in tables {
