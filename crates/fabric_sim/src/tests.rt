@@ -2,6 +2,7 @@
 use super::*;
 use smp_bytes::{AttributeId, Lid, Method, NodePort, Path, PortNum, Smp};
 use std::alloc::Global;
+use std::process::Abort;
 use std::test::Fail;
 use topo_file::parse;
 
@@ -130,96 +131,115 @@ fn a_request_comes_and_its_answer_goes_home(rt: HostRuntime) -> Result<(), Fail>
     Ok(())
 }
 
-#[test]
-fn each_packet_that_is_discarded(rt: HostRuntime) -> Result<(), Fail> {
-    let mut unreadable = get_node_info([0, 0, 0]);
-    unreadable.bytes[0] = 2;
-    let mut off_course = get_node_info([0, 0, 0]);
-    off_course.bytes[6] = 1;
-    let mut response = get_node_info([0, 0, 0]);
-    response.bytes[3] = 0x81;
-    let mut unrouted = Packet {
+/// What becomes of a packet that is sent from the first adapter.
+fn fate_of(alloc: Global, packet: Packet) -> Result<(&'static str, u64), Fail> {
+    let mut fabric = ring(alloc, 0)?;
+    let serial = fabric.inject(at(3, 1), packet)?;
+    Ok(carried(&mut fabric, serial))
+}
+
+/// A request for NodeInfo over no hop, with another byte at a place.
+fn turned(place: usize, byte: u8) -> Packet {
+    let mut packet = get_node_info([0; 3]);
+    if let Some(turned) = packet.bytes.get_mut(place) {
+        *turned = byte;
+    }
+    packet
+}
+
+/// A LID-routed request for NodeInfo.
+fn routed(dlid: u16) -> Packet {
+    Packet {
         bytes: *Smp::lid_routed(Method::GET, AttributeId::NODE_INFO, 0, 1, &[0; 64]).bytes(),
         slid: Lid::new(0),
-        dlid: Lid::new(5),
-    };
-    let routed = unrouted;
-    unrouted.dlid = Lid::new(0);
-    // What is sent from the first adapter, and what becomes of it. The adapter has no LID, so its own is 0.
+        dlid: Lid::new(dlid),
+    }
+}
+
+#[test]
+fn each_packet_that_is_discarded(rt: HostRuntime) -> Result<(), Fail> {
+    let get_sm_info = directed(Method::GET, AttributeId::SM_INFO, 0, [0; 3], &[0; 64]);
+    // The adapter has no LID, so its own is 0. Byte 0 is the base version, byte 3 the method and
+    // byte 6 the hop pointer.
     for (packet, wanted) in [
-        (unreadable, ("unreadable", 0)),
-        (off_course, ("course", 0)),
-        (response, ("course", 0)),
+        (turned(0, 2), ("unreadable", 0)),
+        (turned(6, 1), ("course", 0)),
+        (turned(3, 0x81), ("course", 0)),
         (get_node_info([2, 0, 0]), ("out port", 0)),
         (get_node_info([1, 4, 0]), ("down", 0)),
         (get_node_info([1, 5, 0]), ("out port", 0)),
         (get_node_info([1, 3, 1]), ("transit", 0)),
         (get_node_info([1, 3, 0]), ("manager", 3)),
         (get_node_info([0, 0, 0]), ("manager", 3)),
-        (
-            directed(Method::GET, AttributeId::SM_INFO, 0, [0; 3], &[0; 64]),
-            ("manager", 3),
-        ),
-        (routed, ("no route", 0)),
-        (unrouted, ("manager", 3)),
+        (get_sm_info, ("manager", 3)),
+        (routed(5), ("no route", 0)),
+        (routed(0), ("manager", 3)),
     ] {
-        let mut fabric = ring(rt.alloc(), 0)?;
-        let serial = fabric.inject(at(3, 1), packet)?;
-        let comes = carried(&mut fabric, serial);
+        let comes = fate_of(rt.alloc(), packet)?;
         assert!(rt; comes == wanted, "{comes:?} {wanted:?}");
     }
     Ok(())
+}
+
+/// Each refusal where packets are concerned, of a fabric with one packet in flight and no serial
+/// number left.
+fn packet_refusals(fabric: &mut Fabric, last: u64) -> [(Option<FabricFault>, FabricFault); 7] {
+    [
+        (fabric.deliver(0).err(), FabricFault::NoSuchPacket),
+        (fabric.lose(0).err(), FabricFault::NoSuchPacket),
+        (fabric.repeat(0).err(), FabricFault::NoSuchPacket),
+        (fabric.deliver(last).err(), FabricFault::SerialsSpent),
+        (fabric.repeat(last).err(), FabricFault::SerialsSpent),
+        (
+            fabric.inject(at(3, 1), get_node_info([0; 3])).err(),
+            FabricFault::SerialsSpent,
+        ),
+        (
+            fabric.inject(at(4, 1), get_node_info([0; 3])).err(),
+            FabricFault::NoSuchPort,
+        ),
+    ]
+}
+
+/// Each refusal where ports are concerned.
+fn port_refusals(fabric: &mut Fabric) -> [(Option<FabricFault>, FabricFault); 11] {
+    let lid = Lid::new(1);
+    [
+        (fabric.seat(at(3, 1)).err(), FabricFault::PortTaken),
+        (fabric.seat(at(0, 1)).err(), FabricFault::NoSuchPort),
+        (fabric.seat(at(4, 2)).err(), FabricFault::NoSuchPort),
+        (fabric.seat(at(4, 0)).err(), FabricFault::NoSuchPort),
+        (
+            fabric.plug(at(0, 3), at(0, 0)).err(),
+            FabricFault::NoSuchPort,
+        ),
+        (
+            fabric.plug(at(5, 1), at(0, 3)).err(),
+            FabricFault::NoSuchPort,
+        ),
+        (
+            fabric.plug(at(0, 3), at(0, 1)).err(),
+            FabricFault::PortTaken,
+        ),
+        (fabric.cut(at(0, 3)).err(), FabricFault::NoSuchPort),
+        (fabric.cut(at(0, 5)).err(), FabricFault::NoSuchPort),
+        (fabric.ping(at(3, 0), lid).err(), FabricFault::NoSuchPort),
+        (fabric.ping(at(0, 5), lid).err(), FabricFault::NoSuchPort),
+    ]
 }
 
 #[test]
 fn each_refusal(rt: HostRuntime) -> Result<(), Fail> {
     let mut fabric = ring(rt.alloc(), u64::MAX)?;
     let last = fabric.inject(at(3, 1), get_node_info([0; 3]))?;
-    for (refused, wanted) in [
-        (fabric.deliver(0).err(), Some(FabricFault::NoSuchPacket)),
-        (fabric.lose(0).err(), Some(FabricFault::NoSuchPacket)),
-        (fabric.repeat(0).err(), Some(FabricFault::NoSuchPacket)),
-        (fabric.deliver(last).err(), Some(FabricFault::SerialsSpent)),
-        (fabric.repeat(last).err(), Some(FabricFault::SerialsSpent)),
-        (
-            fabric.inject(at(3, 1), get_node_info([0; 3])).err(),
-            Some(FabricFault::SerialsSpent),
-        ),
-        (
-            fabric.inject(at(4, 1), get_node_info([0; 3])).err(),
-            Some(FabricFault::NoSuchPort),
-        ),
-        (fabric.seat(at(3, 1)).err(), Some(FabricFault::PortTaken)),
-        (fabric.seat(at(0, 1)).err(), Some(FabricFault::NoSuchPort)),
-        (fabric.seat(at(4, 2)).err(), Some(FabricFault::NoSuchPort)),
-        (fabric.seat(at(4, 0)).err(), Some(FabricFault::NoSuchPort)),
-        (
-            fabric.plug(at(0, 3), at(0, 0)).err(),
-            Some(FabricFault::NoSuchPort),
-        ),
-        (
-            fabric.plug(at(5, 1), at(0, 3)).err(),
-            Some(FabricFault::NoSuchPort),
-        ),
-        (
-            fabric.plug(at(0, 3), at(0, 1)).err(),
-            Some(FabricFault::PortTaken),
-        ),
-        (fabric.cut(at(0, 3)).err(), Some(FabricFault::NoSuchPort)),
-        (fabric.cut(at(0, 5)).err(), Some(FabricFault::NoSuchPort)),
-        (
-            fabric.ping(at(3, 0), Lid::new(1)).err(),
-            Some(FabricFault::NoSuchPort),
-        ),
-        (
-            fabric.ping(at(0, 5), Lid::new(1)).err(),
-            Some(FabricFault::NoSuchPort),
-        ),
-        (fabric.ping(at(0, 0), Lid::new(1)).err(), None),
-        (fabric.lose(last).err(), None),
-    ] {
-        assert!(rt; refused == wanted, "{refused:?} {wanted:?}");
+    for (refused, wanted) in packet_refusals(&mut fabric, last) {
+        assert!(rt; refused == Some(wanted), "{refused:?} {wanted:?}");
     }
+    for (refused, wanted) in port_refusals(&mut fabric) {
+        assert!(rt; refused == Some(wanted), "{refused:?} {wanted:?}");
+    }
+    let is_taken = fabric.ping(at(0, 0), Lid::new(1)).is_ok() && fabric.lose(last).is_ok();
+    assert!(rt; is_taken);
     Ok(())
 }
 
@@ -232,11 +252,29 @@ fn pinged(fabric: &Fabric, lid: u16) -> (usize, u8, usize) {
     }
 }
 
-#[test]
-fn packets_that_tables_route(rt: HostRuntime) -> Result<(), Fail> {
-    let mut fabric = ring(rt.alloc(), 0)?;
-    let fresh = pinged(&fabric, 5);
-    assert!(rt; fresh == (1, 0, 99), "{fresh:?}");
+/// Where pings for the LIDs 2, 3 and 5 come to.
+fn three_pings(fabric: &Fabric) -> [(usize, u8, usize); 3] {
+    [2, 3, 5].map(|lid| pinged(fabric, lid))
+}
+
+/// What becomes of a Set over a path.
+fn set_over(
+    fabric: &mut Fabric,
+    attribute: AttributeId,
+    path: [u8; 3],
+    data: &[u8; 64],
+) -> Result<(&'static str, u64), FabricFault> {
+    let set = directed(Method::SET, attribute, 0, path, data);
+    let serial = fabric.inject(at(3, 1), set)?;
+    Ok(carried(fabric, serial))
+}
+
+/// Tables and a LID are set, and pings go further after each Set.
+fn check_sets(rt: &impl Abort, fabric: &mut Fabric) -> Result<(), Fail> {
+    let (table, switch_info) = (
+        AttributeId::LINEAR_FORWARDING_TABLE,
+        AttributeId::SWITCH_INFO,
+    );
     let mut block = [0xFF; 64];
     block[1..6].copy_from_slice(&[1, 0, 2, 3, 2]);
     let mut back = [0xFF; 64];
@@ -245,71 +283,60 @@ fn packets_that_tables_route(rt: HostRuntime) -> Result<(), Fail> {
     top[7] = 5;
     let mut lid = [0; 64];
     lid[17] = 4;
-    let table = AttributeId::LINEAR_FORWARDING_TABLE;
-    // A Set, and then where pings for three LIDs come to.
+    let at_first = [(1, 0, 99), (1, 0, 99), (1, 0, 99)];
+    let then = [(1, 0, 1), (2, 0, 99), (2, 0, 99)];
     for (attribute, path, data, wanted) in [
-        (
-            table,
-            [1, 0, 0],
-            &block,
-            [(1, 0, 99), (1, 0, 99), (1, 0, 99)],
-        ),
-        (
-            AttributeId::SWITCH_INFO,
-            [1, 0, 0],
-            &top,
-            [(1, 0, 1), (2, 0, 99), (2, 0, 99)],
-        ),
-        (table, [1, 2, 0], &back, [(1, 0, 1), (2, 0, 99), (2, 0, 99)]),
-        (
-            AttributeId::SWITCH_INFO,
-            [1, 2, 0],
-            &top,
-            [(1, 0, 1), (2, 0, 99), (2, 0, 99)],
-        ),
-        (
-            AttributeId::PORT_INFO,
-            [0; 3],
-            &lid,
-            [(1, 0, 1), (2, 0, 99), (2, 0, 99)],
-        ),
+        (table, [1, 0, 0], &block, at_first),
+        (switch_info, [1, 0, 0], &top, then),
+        (table, [1, 2, 0], &back, then),
+        (switch_info, [1, 2, 0], &top, then),
+        (AttributeId::PORT_INFO, [0; 3], &lid, then),
     ] {
-        let set = directed(Method::SET, attribute, 0, path, data);
-        let serial = fabric.inject(at(3, 1), set)?;
-        let comes = carried(&mut fabric, serial);
-        let seen = [pinged(&fabric, 2), pinged(&fabric, 3), pinged(&fabric, 5)];
+        let comes = set_over(fabric, attribute, path, data)?;
+        let seen = three_pings(fabric);
         assert!(rt;
             comes == ("manager", 3) && seen == wanted,
             "{comes:?} {seen:?}"
         );
     }
-    let own = pinged(&fabric, 4);
-    assert!(rt; own == (3, 1, 0), "{own:?}");
-    let get = Packet {
-        bytes: *Smp::lid_routed(Method::GET, AttributeId::NODE_INFO, 0, 1, &[0; 64]).bytes(),
-        slid: Lid::new(0),
-        dlid: Lid::new(2),
-    };
-    let serial = fabric.inject(at(3, 1), get)?;
-    for (number, wanted, slid, dlid) in [
-        (serial, ("moved", 10), 4, 2),
-        (serial, ("answered", 11), 2, 4),
-        (11, ("moved", 11), 2, 4),
-        (11, ("manager", 3), 0, 0),
+    Ok(())
+}
+
+/// The LIDs from and to which the packet goes that waits, if one does.
+fn waiting(fabric: &Fabric) -> Option<(u16, u16)> {
+    let flight = fabric.in_flight(0)?;
+    Some((flight.packet.slid.number(), flight.packet.dlid.number()))
+}
+
+/// A request to a LID comes there by the tables, and its answer back.
+fn check_routed(rt: &impl Abort, fabric: &mut Fabric) -> Result<(), Fail> {
+    let serial = fabric.inject(at(3, 1), routed(2))?;
+    for (number, wanted, waits) in [
+        (serial, ("moved", 10), Some((4, 2))),
+        (serial, ("answered", 11), Some((2, 4))),
+        (11, ("moved", 11), Some((2, 4))),
+        (11, ("manager", 3), None),
     ] {
         let comes = said(fabric.deliver(number));
-        assert!(rt; comes == wanted, "{comes:?}");
-        if let Some(flight) = fabric.in_flight(0) {
-            let seen = (flight.packet.slid.number(), flight.packet.dlid.number());
-            assert!(rt; seen == (slid, dlid), "{seen:?}");
-        }
+        let is_right = comes == wanted && waiting(fabric) == waits;
+        assert!(rt; is_right, "{comes:?}");
     }
     Ok(())
 }
 
 #[test]
-fn copies_losses_and_cables(rt: HostRuntime) -> Result<(), Fail> {
+fn packets_that_tables_route(rt: HostRuntime) -> Result<(), Fail> {
     let mut fabric = ring(rt.alloc(), 0)?;
+    let fresh = pinged(&fabric, 5);
+    assert!(rt; fresh == (1, 0, 99), "{fresh:?}");
+    check_sets(&rt, &mut fabric)?;
+    let own = pinged(&fabric, 4);
+    assert!(rt; own == (3, 1, 0), "{own:?}");
+    check_routed(&rt, &mut fabric)
+}
+
+/// A request for NodeInfo of the first switch is repeated twice, and the first copy is lost.
+fn check_copies(rt: &impl Abort, fabric: &mut Fabric) -> Result<(), Fail> {
     let serial = fabric.inject(at(3, 1), get_node_info([1, 0, 0]))?;
     let copy = fabric.repeat(serial)?;
     let other = fabric.repeat(copy)?;
@@ -317,27 +344,33 @@ fn copies_losses_and_cables(rt: HostRuntime) -> Result<(), Fail> {
     let all = (fabric.flight_count(), copy, other, fabric.node_count());
     assert!(rt; all == (2, 1, 2, 5), "{all:?}");
     for number in [serial, other] {
-        let comes = carried(&mut fabric, number);
+        let comes = carried(fabric, number);
         assert!(rt; comes == ("manager", 3), "{comes:?}");
     }
-    // A packet that came by a wire is discarded once the cable is cut, and one that waits at its seat is not.
+    Ok(())
+}
+
+/// A packet that came by a wire is discarded once the cable is cut, and one that waits at its seat
+/// is not.
+fn check_cut(rt: &impl Abort, fabric: &mut Fabric) -> Result<(), Fail> {
     let came = fabric.inject(at(3, 1), get_node_info([1, 0, 0]))?;
     let moved = said(fabric.deliver(came));
     let waits = fabric.inject(at(3, 1), get_node_info([0; 3]))?;
     fabric.cut(at(1, 3))?;
-    for (comes, wanted) in [
-        (moved, ("moved", came)),
-        (carried(&mut fabric, waits), ("manager", 3)),
-        (carried(&mut fabric, came), ("down", 0)),
-    ] {
-        assert!(rt; comes == wanted, "{comes:?}");
-    }
+    let seen = [moved, carried(fabric, waits), carried(fabric, came)];
+    let wanted = [("moved", came), ("manager", 3), ("down", 0)];
+    assert!(rt; seen == wanted, "{seen:?}");
+    Ok(())
+}
+
+#[test]
+fn copies_losses_and_cables(rt: HostRuntime) -> Result<(), Fail> {
+    let mut fabric = ring(rt.alloc(), 0)?;
+    check_copies(&rt, &mut fabric)?;
+    check_cut(&rt, &mut fabric)?;
     fabric.plug(at(1, 3), at(1, 3))?;
-    let ends = (
-        fabric.across(&at(1, 3)),
-        fabric.across(&at(3, 1)),
-        fabric.is_seat(&at(3, 1)),
-    );
-    assert!(rt; ends == (Some(at(1, 3)), None, true), "{ends:?}");
+    let across = (fabric.across(&at(1, 3)), fabric.across(&at(3, 1)));
+    let is_seat = fabric.is_seat(&at(3, 1));
+    assert!(rt; is_seat && across == (Some(at(1, 3)), None));
     Ok(())
 }

@@ -102,17 +102,28 @@ fn tell<W: Sink>(sink: &mut W, fault: Fault) -> Result<(), Fail> {
     Ok(())
 }
 
-/// What a run over files writes and, where it ends early, how.
-fn ended(alloc: Global, command: Command, files: &[&[u8]]) -> Result<ToRoom, Fail> {
+/// What a run over files writes into a sink with room for so many bytes and, where it ends early,
+/// how.
+fn ended_within(
+    alloc: Global,
+    room: usize,
+    command: Command,
+    files: &[&[u8]],
+) -> Result<ToRoom, Fail> {
     let mut sources = Vec::new(alloc);
     for file in files {
         sources.push(FromBytes::new(file))?;
     }
-    let mut sink = ToRoom::new(alloc, 4096)?;
+    let mut sink = ToRoom::new(alloc, room)?;
     if let Err(fault) = run_files(alloc, &mut sources, command, &mut sink) {
         tell(&mut sink, fault)?;
     }
     Ok(sink)
+}
+
+/// The same with room for 4,096.
+fn ended(alloc: Global, command: Command, files: &[&[u8]]) -> Result<ToRoom, Fail> {
+    ended_within(alloc, 4096, command, files)
 }
 
 /// A run over files writes this and ends so.
@@ -186,25 +197,52 @@ fn the_first_refused_file_is_named(rt: HostRuntime) -> Result<(), Fail> {
     check_rows(&rt, rt.alloc(), Command::Join, &rows)
 }
 
-#[test]
-fn each_cut_and_damage_is_told(rt: HostRuntime) -> Result<(), Fail> {
-    for (file, size, whole) in [
-        (adapter_file().as_slice(), 272, ADAPTER_FACTS),
-        (&adapter_store(), 32, ADAPTER_FACTS),
-    ] {
-        for length in 0..=file.len() {
-            let cut = first_of(file, length);
-            let wanted: &[u8] = match length {
-                0..=7 => b"3 ibsm: FILE: bad magic\n",
-                8 => b"",
-                40 if size == 32 => b"node 0000000000000100 ca 1 @1\n",
-                72 | 280 if length == file.len() => whole,
-                41..=71 if size == 32 => b"3 ibsm: FILE: truncated at 40\n",
-                _ => b"3 ibsm: FILE: truncated at 8\n",
-            };
-            check(&rt, rt.alloc(), Command::Facts, &[cut], wanted)?;
-        }
+/// How a run ends over the first bytes of the adapter's report file.
+fn cut_report(length: usize) -> &'static [u8] {
+    match length {
+        0..=7 => b"3 ibsm: FILE: bad magic\n",
+        8 => b"",
+        280 => ADAPTER_FACTS,
+        _ => b"3 ibsm: FILE: truncated at 8\n",
     }
+}
+
+/// How a run ends over the first bytes of the adapter's store file.
+fn cut_store(length: usize) -> &'static [u8] {
+    match length {
+        40 => b"node 0000000000000100 ca 1 @1\n",
+        41..=71 => b"3 ibsm: FILE: truncated at 40\n",
+        72 => ADAPTER_FACTS,
+        _ => cut_report(length),
+    }
+}
+
+#[test]
+fn each_cut_is_told(rt: HostRuntime) -> Result<(), Fail> {
+    let (reports, store) = (adapter_file(), adapter_store());
+    for length in 0..=280 {
+        let cut = [first_of(&reports, length)];
+        check(&rt, rt.alloc(), Command::Facts, &cut, cut_report(length))?;
+    }
+    for length in 0..=72 {
+        let cut = [first_of(&store, length)];
+        check(&rt, rt.alloc(), Command::Facts, &cut, cut_store(length))?;
+    }
+    Ok(())
+}
+
+/// The adapter's store file with another byte at a place.
+fn damaged_store(place: usize, byte: u8) -> [u8; 72] {
+    let mut store = adapter_store();
+    if let Some(damaged) = store.get_mut(place) {
+        *damaged = byte;
+    }
+    store
+}
+
+#[test]
+fn each_damage_is_told(rt: HostRuntime) -> Result<(), Fail> {
+    let wanted = b"3 ibsm: FILE: bad cell 0\n";
     // State 2 with the value kept, and then kind, state, generation, node type, ports, the key's port, the fourth byte and
     // the last value byte.
     for (place, byte) in [
@@ -218,17 +256,8 @@ fn each_cut_and_damage_is_told(rt: HostRuntime) -> Result<(), Fail> {
         (11, 1),
         (39, 1),
     ] {
-        let mut store = adapter_store();
-        if let Some(damaged) = store.get_mut(place) {
-            *damaged = byte;
-        }
-        check(
-            &rt,
-            rt.alloc(),
-            Command::Facts,
-            &[&store],
-            b"3 ibsm: FILE: bad cell 0\n",
-        )?;
+        let store = damaged_store(place, byte);
+        check(&rt, rt.alloc(), Command::Facts, &[&store], wanted)?;
     }
     Ok(())
 }
@@ -274,22 +303,23 @@ fn fault_lines() -> [(Fault, &'static str); 13] {
     ]
 }
 
+/// The line of a fault, with the exit status.
+fn line_of(alloc: Global, fault: Fault) -> Result<ToRoom, Fail> {
+    let mut sink = ToRoom::new(alloc, 64)?;
+    tell(&mut sink, fault)?;
+    Ok(sink)
+}
+
 #[test]
 fn each_fault_has_its_line_and_status(rt: HostRuntime) -> Result<(), Fail> {
     for (fault, wanted) in fault_lines() {
-        let mut sink = ToRoom::new(rt.alloc(), 64)?;
-        tell(&mut sink, fault)?;
-        assert!(rt; sink.bytes() == wanted.as_bytes(), "{fault:?}");
+        let line = line_of(rt.alloc(), fault)?;
         // `{}` has the same words, without the file's name.
         let text = format!(in rt.alloc(); "{fault}\n")?;
-        assert!(rt;
-            text.len() > 1 && wanted.ends_with(text.as_str()),
-            "{fault}"
-        );
+        let has_words = text.len() > 1 && wanted.ends_with(text.as_str());
+        assert!(rt; has_words && line.bytes() == wanted.as_bytes(), "{wanted}");
     }
-    for (status, code) in [(ExitStatus::Done, 0), (ExitStatus::Usage, 2)] {
-        assert!(rt; status.code() == code, "{status:?}");
-    }
+    assert!(rt; ExitStatus::Done.code() == 0 && ExitStatus::Usage.code() == 2);
     Ok(())
 }
 
@@ -333,18 +363,16 @@ fn a_reader_or_writer_may_fail_at_any_call(rt: HostRuntime) -> Result<(), Fail> 
         } else {
             ADAPTER_FACTS
         };
-        assert!(rt;
-            read_failing(rt.alloc(), fails_at)?.bytes() == wanted,
-            "at call {fails_at}"
-        );
+        let text = read_failing(rt.alloc(), fails_at)?;
+        assert!(rt; text.bytes() == wanted, "at call {fails_at}");
     }
     // A writer is asked for each of 78 bytes, and to flush, which is when they go out.
     for fails_at in 1..=80 {
         let (outcome, out) = write_failing(rt.alloc(), fails_at)?;
         let is_done = fails_at == 80;
-        assert!(rt; outcome.is_ok() == is_done, "at call {fails_at}");
+        let is_whole = out.as_slice() == ADAPTER_FACTS;
         assert!(rt;
-            (out.as_slice() == ADAPTER_FACTS) == is_done,
+            outcome.is_ok() == is_done && is_whole == is_done,
             "at call {fails_at}"
         );
     }

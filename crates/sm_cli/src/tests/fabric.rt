@@ -63,18 +63,26 @@ cap 0000000000000020 1024 @1
 cap 0000000000000030 1024 @1
 ";
 
-/// The file of reports: the magic, and for each its generation, context, port, two zero bytes, GUID and reply.
+/// What stands before a report's reply in a file: its generation, context, port, two zero bytes and
+/// GUID.
+fn head_of(report: &Report) -> [u8; 16] {
+    let (context, port, guid) = match report.context {
+        Context::Start => (0, 0, 0),
+        Context::Via(node, port) => (1, port.number(), node.number()),
+        Context::About(node) => (2, 0, node.number()),
+    };
+    let [g0, g1, g2, g3] = report.generation.to_be_bytes();
+    let [n0, n1, n2, n3, n4, n5, n6, n7] = guid.to_be_bytes();
+    [
+        g0, g1, g2, g3, context, port, 0, 0, n0, n1, n2, n3, n4, n5, n6, n7,
+    ]
+}
+
+/// The file of reports: the magic, and the head and reply of each.
 fn file_of(alloc: Global, reports: &[Report]) -> Result<Vec<u8>, AllocError> {
     let mut file = Vec::from_slice(alloc, b"IBSMREP1")?;
     for report in reports {
-        let (context, port, guid) = match report.context {
-            Context::Start => (0, 0, 0),
-            Context::Via(node, port) => (1, port.number(), node.number()),
-            Context::About(node) => (2, 0, node.number()),
-        };
-        file.extend_from_slice(&report.generation.to_be_bytes())?;
-        file.extend_from_slice(&[context, port, 0, 0])?;
-        file.extend_from_slice(&guid.to_be_bytes())?;
+        file.extend_from_slice(&head_of(report))?;
         file.extend_from_slice(&report.bytes)?;
     }
     Ok(file)
@@ -90,15 +98,15 @@ pub(super) fn fabric_files(alloc: Global) -> Result<(Vec<u8>, Vec<u8>), AllocErr
 
 #[test]
 fn neither_order_nor_repetition_counts(rt: HostRuntime) -> Result<(), Fail> {
-    let (in_order, reversed) = fabric_files(rt.alloc())?;
-    assert!(rt; in_order.len() == 7352);
-    assert!(rt; in_order.as_slice().starts_with(&adapter_file()));
-    for files in [
-        [in_order.as_slice(), in_order.as_slice()],
-        [&reversed, b"IBSMREP1"],
-        [&in_order, &reversed],
+    let files = fabric_files(rt.alloc())?;
+    let is_adapters = files.0.as_slice().starts_with(&adapter_file());
+    assert!(rt; is_adapters && files.0.len() == 7352);
+    for pair in [
+        [files.0.as_slice(), files.0.as_slice()],
+        [&files.1, b"IBSMREP1"],
+        [&files.0, &files.1],
     ] {
-        check(&rt, rt.alloc(), Command::Facts, &files, FABRIC_FACTS)?;
+        check(&rt, rt.alloc(), Command::Facts, &pair, FABRIC_FACTS)?;
     }
     Ok(())
 }
@@ -108,36 +116,61 @@ fn joined(alloc: Global, files: &[&[u8]]) -> Result<Vec<u8>, Fail> {
     Ok(Vec::from_slice(alloc, ended(alloc, Command::Join, files)?.bytes())?)
 }
 
-/// The third parts of the fabric's file.
-fn parts(alloc: Global) -> Result<[Vec<u8>; 3], AllocError> {
+/// The store file of the fabric's file.
+fn whole(alloc: Global) -> Result<Vec<u8>, Fail> {
+    let file = file_of(alloc, &reports(alloc)?)?;
+    joined(alloc, &[&file])
+}
+
+/// A third part of the fabric's file, by its number.
+fn part(alloc: Global, number: usize) -> Result<Vec<u8>, AllocError> {
     let reports = reports(alloc)?;
-    Ok([
-        file_of(alloc, reports.as_slice().get(..9).unwrap_or(&[]))?,
-        file_of(alloc, reports.as_slice().get(9..18).unwrap_or(&[]))?,
-        file_of(alloc, reports.as_slice().get(18..).unwrap_or(&[]))?,
-    ])
+    let nine = reports.as_slice().chunks(9).nth(number);
+    file_of(alloc, nine.unwrap_or(&[]))
+}
+
+/// The store file that two such parts that follow each other are joined into, by the number of the
+/// first.
+fn both(alloc: Global, first: usize) -> Result<Vec<u8>, Fail> {
+    let parts = (part(alloc, first)?, part(alloc, first.wrapping_add(1))?);
+    joined(alloc, &[&parts.0, &parts.1])
+}
+
+/// A file of the parts from a number to another: that part, or the store file of two.
+fn piece(alloc: Global, first: usize, last: usize) -> Result<Vec<u8>, Fail> {
+    if first == last {
+        Ok(part(alloc, first)?)
+    } else {
+        both(alloc, first)
+    }
 }
 
 #[test]
 fn files_are_joined_in_any_grouping(rt: HostRuntime) -> Result<(), Fail> {
-    let (in_order, _reversed) = fabric_files(rt.alloc())?;
-    let whole = joined(rt.alloc(), &[&in_order])?;
+    let whole = whole(rt.alloc())?;
     assert!(rt; whole.len() == 1832);
-    let [first, second, third] = parts(rt.alloc())?;
-    let front = joined(rt.alloc(), &[&first, &second])?;
-    let back = joined(rt.alloc(), &[&second, &third])?;
-    for files in [
-        [front.as_slice(), third.as_slice()],
-        [&first, &back],
-        [&back, &front],
+    for [(first, last), (other_first, other_last)] in [
+        [(0, 1), (2, 2)],
+        [(0, 0), (1, 2)],
+        [(1, 2), (0, 1)],
     ] {
-        check(&rt, rt.alloc(), Command::Join, &files, &whole)?;
+        let pieces = (
+            piece(rt.alloc(), first, last)?,
+            piece(rt.alloc(), other_first, other_last)?,
+        );
+        check(
+            &rt,
+            rt.alloc(),
+            Command::Join,
+            &[&pieces.0, &pieces.1],
+            &whole,
+        )?;
     }
     check(&rt, rt.alloc(), Command::Facts, &[&whole], FABRIC_FACTS)
 }
 
 /// The file of one answer: SwitchInfo of the switch 0x10, told at a generation, with room for so many LIDs.
-fn room_file(alloc: Global, generation: u32, room: u16) -> Result<Vec<u8>, Fail> {
+fn room_file(alloc: Global, (generation, room): (u32, u16)) -> Result<Vec<u8>, Fail> {
     let reports = reports(alloc)?;
     let mut report = *reports.get(7).ok_or("no SwitchInfo")?;
     report.generation = generation;
@@ -145,23 +178,31 @@ fn room_file(alloc: Global, generation: u32, room: u16) -> Result<Vec<u8>, Fail>
     Ok(file_of(alloc, &[report])?)
 }
 
+/// Such a file of each.
+fn room_files(alloc: Global, rooms: [(u32, u16); 3]) -> Result<[Vec<u8>; 3], Fail> {
+    let [first, second, third] = rooms;
+    Ok([
+        room_file(alloc, first)?,
+        room_file(alloc, second)?,
+        room_file(alloc, third)?,
+    ])
+}
+
 #[test]
 fn a_newer_generation_settles_a_dispute(rt: HostRuntime) -> Result<(), Fail> {
-    let first = room_file(rt.alloc(), 1, 1024)?;
-    let other = room_file(rt.alloc(), 1, 2048)?;
-    let newer = room_file(rt.alloc(), 2, 4096)?;
+    let (first, other, newer) = ((1, 1024), (1, 2048), (2, 4096));
+    let told: &[u8] = b"cap 0000000000000010 1024 @1\n";
     let disputed: &[u8] = b"cap 0000000000000010 disputed @1\n";
     let settled: &[u8] = b"cap 0000000000000010 4096 @2\n";
-    for (files, text) in [
-        (
-            [first.as_slice(), &first, &first],
-            b"cap 0000000000000010 1024 @1\n".as_slice(),
-        ),
-        ([&first, &other, &first], disputed),
-        ([&other, &first, &other], disputed),
-        ([&first, &other, &newer], settled),
-        ([&newer, &other, &first], settled),
+    for (rooms, text) in [
+        ([first, first, first], told),
+        ([first, other, first], disputed),
+        ([other, first, other], disputed),
+        ([first, other, newer], settled),
+        ([newer, other, first], settled),
     ] {
+        let files = room_files(rt.alloc(), rooms)?;
+        let files = [files[0].as_slice(), &files[1], &files[2]];
         check(&rt, rt.alloc(), Command::Facts, &files, text)?;
     }
     Ok(())

@@ -7,6 +7,36 @@ use smp_bytes::{Generation, Guid, Lid, NodeType, PortNum};
 /// A wire: the node and port at its ends.
 type Wire = (u64, u8, u64, u8);
 
+/// What is told of a subnet besides its switches, adapters and wires.
+#[derive(Clone, Copy)]
+enum News {
+    /// A wire, at a generation.
+    Wire(u32, Wire),
+    /// An adapter, at generation 2.
+    Adapter(u64),
+    /// The LID that the port of an adapter claims, at generation 2.
+    Claim(u64, u16),
+    /// How many LIDs the switches 0x10, 0x20 and 0x30 have room for, at generation 2.
+    Rooms([u16; 3]),
+}
+
+/// A switch's line of a plan with one block, and the entries of the block, in hex, until there is
+/// no way from there on.
+type Table = (&'static [u8], &'static [u8]);
+
+/// What is told of a subnet at generation 1, what is news, and its plan: the lines of the LIDs, and
+/// the tables.
+#[derive(Clone, Copy)]
+struct Row {
+    name: &'static str,
+    switches: &'static [u64],
+    adapters: &'static [u64],
+    wires: &'static [Wire],
+    news: &'static [News],
+    lids: &'static [u8],
+    tables: &'static [Table],
+}
+
 /// The wires of the sample fabric: switches 0x10, 0x20 and 0x30 in a triangle, and adapters 0x100 and 0x200.
 const TRIANGLE: [Wire; 5] = [
     (0x10, 1, 0x20, 1),
@@ -16,324 +46,431 @@ const TRIANGLE: [Wire; 5] = [
     (0x30, 3, 0x200, 1),
 ];
 
-/// A fact of a generation is told to the store.
-fn tell_fact(store: &mut Store, generation: u32, key: Key, value: Value) -> Result<(), Fail> {
-    let generation = Generation::new(generation).ok_or("0")?;
-    let sighting = Sighting::new(key, Cell::Known(generation, value)).ok_or("no sighting")?;
-    store.add(sighting)?;
-    Ok(())
-}
-
-/// One end of a wire is told to the store.
-fn tell_end(
-    store: &mut Store,
-    generation: u32,
-    end: (u64, u8),
-    peer: (u64, u8),
-) -> Result<(), Fail> {
-    let (node, port) = (Guid::new(end.0), PortNum::new(end.1));
-    let far = Value::Peer(Guid::new(peer.0), PortNum::new(peer.1));
-    tell_fact(store, generation, Key::Link(node, port), far)?;
-    tell_fact(store, generation, Key::Port(node, port), Value::Up(true))
-}
-
-/// A node is told to the store: a switch of four ports with room for so many LIDs, or an adapter of one port.
-fn tell_node(store: &mut Store, generation: u32, guid: u64, room: Option<u16>) -> Result<(), Fail> {
-    let node = Guid::new(guid);
-    let (kind, ports, own, own_guid) = match room {
-        Some(_) => (NodeType::Switch, 4, 0, guid),
-        None => (NodeType::ChannelAdapter, 1, 1, guid.wrapping_add(1)),
-    };
-    tell_fact(store, generation, Key::Node(node), Value::Kind(kind, ports))?;
-    let port_guid = Value::Guid(Guid::new(own_guid));
-    tell_fact(
-        store,
-        generation,
-        Key::PortGuid(node, PortNum::new(own)),
-        port_guid,
-    )?;
-    match room {
-        Some(room) => tell_fact(store, generation, Key::Cap(node), Value::Count(room)),
-        None => Ok(()),
-    }
-}
-
-/// What is told at generation 1 of these switches, adapters and wires.
-fn subnet(
-    alloc: Global,
-    switches: &[u64],
-    adapters: &[u64],
-    wires: &[Wire],
-) -> Result<Store, Fail> {
-    let mut store = Store::new(alloc);
-    for guid in switches {
-        tell_node(&mut store, 1, *guid, Some(1024))?;
-    }
-    for guid in adapters {
-        tell_node(&mut store, 1, *guid, None)?;
-    }
-    for (near, near_port, far, far_port) in wires {
-        tell_end(&mut store, 1, (*near, *near_port), (*far, *far_port))?;
-        tell_end(&mut store, 1, (*far, *far_port), (*near, *near_port))?;
-    }
-    Ok(store)
-}
-
-/// What is told of the sample fabric.
-fn triangle(alloc: Global) -> Result<Store, Fail> {
-    subnet(alloc, &[0x10, 0x20, 0x30], &[0x100, 0x200], &TRIANGLE)
-}
-
-/// What a run that plans over the store's file writes and how it ends.
-fn planned(alloc: Global, store: &Store, room: usize) -> Result<ToRoom, Fail> {
-    let mut file = ToRoom::new(alloc, 8192)?;
-    write_store(&mut file, store)?;
-    let mut sources = Vec::new(alloc);
-    sources.push(FromBytes::new(file.bytes()))?;
-    let mut sink = ToRoom::new(alloc, room)?;
-    if let Err(fault) = run_files(alloc, &mut sources, Command::Plan, &mut sink) {
-        tell(&mut sink, fault)?;
-    }
-    Ok(sink)
-}
-
-/// The line of a block with these entries, in hex, and no way from there on.
-fn block_line(
-    alloc: Global,
-    text: &mut Vec<u8>,
-    number: usize,
-    entries: &str,
-) -> Result<(), AllocError> {
-    let line = format!(in alloc; "block {number} {entries}")?;
-    text.extend_from_slice(line.as_bytes())?;
-    for _ in entries.len()..128 {
-        text.push(b'f')?;
-    }
-    text.push(b'\n')?;
-    Ok(())
-}
-
-/// The text of a plan of one block: each LID with the end port that has it, and each switch with the block's entries.
-fn plan_text(
-    alloc: Global,
-    lids: &[(u16, u64, u8)],
-    tables: &[(u64, &str)],
-) -> Result<Vec<u8>, AllocError> {
-    let mut text = Vec::new(alloc);
-    let mut top = 0;
-    for (lid, node, port) in lids {
-        let line = format!(in alloc; "lid {lid} {node:016x}/{port}\n")?;
-        text.extend_from_slice(line.as_bytes())?;
-        top = *lid;
-    }
-    for (guid, entries) in tables {
-        let line = format!(in alloc; "switch {guid:016x} top {top}\n")?;
-        text.extend_from_slice(line.as_bytes())?;
-        block_line(alloc, &mut text, 0, entries)?;
-    }
-    Ok(text)
-}
-
-/// The store's plan is this.
-fn check_plan(
-    rt: &impl Abort,
-    alloc: Global,
-    store: &Store,
-    lids: &[(u16, u64, u8)],
-    tables: &[(u64, &str)],
-) -> Result<(), Fail> {
-    let wanted = plan_text(alloc, lids, tables)?;
-    assert_eq!(rt; planned(alloc, store, 4096)?.bytes(), wanted.as_slice());
-    Ok(())
-}
-
 /// The LIDs of the sample fabric.
-const LIDS: [(u16, u64, u8); 5] = [
-    (1, 0x10, 0),
-    (2, 0x20, 0),
-    (3, 0x30, 0),
-    (4, 0x100, 1),
-    (5, 0x200, 1),
+const LIDS: &[u8] = b"\
+lid 1 0000000000000010/0
+lid 2 0000000000000020/0
+lid 3 0000000000000030/0
+lid 4 0000000000000100/1
+lid 5 0000000000000200/1
+";
+
+/// Its tables.
+const TABLES: [Table; 3] = [
+    (b"switch 0000000000000010 top 5\n", b"ff0001020102"),
+    (b"switch 0000000000000020 top 5\n", b"ff0100020302"),
+    (b"switch 0000000000000030 top 5\n", b"ff0102000203"),
 ];
 
-/// Its blocks.
-const TABLES: [(u64, &str); 3] = [
-    (0x10, "ff0001020102"),
-    (0x20, "ff0100020302"),
-    (0x30, "ff0102000203"),
+/// The sample fabric with its plan.
+const SAMPLE: Row = Row {
+    name: "the sample fabric",
+    switches: &[0x10, 0x20, 0x30],
+    adapters: &[0x100, 0x200],
+    wires: &TRIANGLE,
+    news: &[],
+    lids: LIDS,
+    tables: &TABLES,
+};
+
+/// What becomes of the sample fabric.
+const CHANGED: &[Row] = &[
+    SAMPLE,
+    // A cable that two switches name as theirs is no wire, until one of them alone does.
+    Row {
+        name: "a cable that two switches name",
+        news: &[
+            News::Wire(2, (0x10, 1, 0x20, 1)),
+            News::Wire(2, (0x10, 1, 0x30, 4)),
+        ],
+        tables: &[
+            (b"switch 0000000000000010 top 5\n", b"ff0002020202"),
+            (b"switch 0000000000000020 top 5\n", b"ff0200020302"),
+            (b"switch 0000000000000030 top 5\n", b"ff0102000203"),
+        ],
+        ..SAMPLE
+    },
+    Row {
+        name: "that cable once one of them alone names it",
+        news: &[
+            News::Wire(2, (0x10, 1, 0x20, 1)),
+            News::Wire(2, (0x10, 1, 0x30, 4)),
+            News::Wire(3, (0x10, 1, 0x20, 1)),
+        ],
+        ..SAMPLE
+    },
+    // The old one keeps its LID and has no wire.
+    Row {
+        name: "an adapter in the place of another",
+        news: &[News::Adapter(0x300), News::Wire(2, (0x300, 1, 0x20, 3))],
+        lids: b"\
+lid 1 0000000000000010/0
+lid 2 0000000000000020/0
+lid 3 0000000000000030/0
+lid 4 0000000000000100/1
+lid 5 0000000000000200/1
+lid 6 0000000000000300/1
+",
+        tables: &[
+            (b"switch 0000000000000010 top 6\n", b"ff000102ff0201"),
+            (b"switch 0000000000000020 top 6\n", b"ff010002ff0203"),
+            (b"switch 0000000000000030 top 6\n", b"ff010200ff0302"),
+        ],
+        ..SAMPLE
+    },
+    Row {
+        name: "two claims of one LID",
+        news: &[News::Claim(0x100, 5), News::Claim(0x200, 5)],
+        lids: b"\
+lid 1 0000000000000010/0
+lid 2 0000000000000020/0
+lid 3 0000000000000030/0
+lid 4 0000000000000200/1
+lid 5 0000000000000100/1
+",
+        tables: &[
+            (b"switch 0000000000000010 top 5\n", b"ff0001020201"),
+            (b"switch 0000000000000020 top 5\n", b"ff0100020203"),
+            (b"switch 0000000000000030 top 5\n", b"ff0102000302"),
+        ],
+        ..SAMPLE
+    },
+    Row {
+        name: "just room enough",
+        news: &[News::Rooms([1024, 6, 1024])],
+        ..SAMPLE
+    },
+    Row {
+        name: "no room in one table",
+        news: &[News::Rooms([1024, 5, 1024])],
+        lids: b"3 ibsm: no room: 5 end ports, room 5\n",
+        tables: &[],
+        ..SAMPLE
+    },
+    Row {
+        name: "no room in any table",
+        news: &[News::Rooms([1, 1, 1])],
+        lids: b"3 ibsm: no room: 5 end ports, room 1\n",
+        tables: &[],
+        ..SAMPLE
+    },
 ];
+
+/// Subnets of other forms.
+const OTHERS: &[Row] = &[
+    Row {
+        name: "three wires down or two over the root",
+        switches: &[0x10, 0x20, 0x30, 0x40, 0x50],
+        adapters: &[],
+        wires: &[
+            (0x10, 1, 0x20, 1),
+            (0x10, 2, 0x30, 1),
+            (0x10, 3, 0x40, 1),
+            (0x10, 4, 0x50, 1),
+            (0x20, 2, 0x30, 2),
+            (0x30, 3, 0x40, 2),
+            (0x40, 3, 0x50, 2),
+        ],
+        news: &[],
+        lids: b"\
+lid 1 0000000000000010/0
+lid 2 0000000000000020/0
+lid 3 0000000000000030/0
+lid 4 0000000000000040/0
+lid 5 0000000000000050/0
+",
+        tables: &[
+            (b"switch 0000000000000010 top 5\n", b"ff0001020304"),
+            (b"switch 0000000000000020 top 5\n", b"ff0100020202"),
+            (b"switch 0000000000000030 top 5\n", b"ff0102000303"),
+            (b"switch 0000000000000040 top 5\n", b"ff0101020003"),
+            (b"switch 0000000000000050 top 5\n", b"ff0101010200"),
+        ],
+    },
+    Row {
+        name: "two adapters",
+        switches: &[],
+        adapters: &[0x100, 0x200],
+        wires: &[(0x100, 1, 0x200, 1)],
+        news: &[],
+        lids: b"\
+lid 1 0000000000000100/1
+lid 2 0000000000000200/1
+",
+        tables: &[],
+    },
+    // Two switches with two wires between them, one cabled to itself, and another with an adapter.
+    Row {
+        name: "two components",
+        switches: &[0x10, 0x20, 0x30],
+        adapters: &[0x100],
+        wires: &[
+            (0x10, 3, 0x20, 4),
+            (0x10, 2, 0x20, 1),
+            (0x20, 2, 0x20, 3),
+            (0x30, 1, 0x100, 1),
+        ],
+        news: &[],
+        lids: FOUR_LIDS,
+        tables: &[
+            (b"switch 0000000000000010 top 4\n", b"ff0002ffff"),
+            (b"switch 0000000000000020 top 4\n", b"ff0100ffff"),
+            (b"switch 0000000000000030 top 4\n", b"ffffff0001"),
+        ],
+    },
+    Row {
+        name: "two adapters of one GUID",
+        switches: &[0x10, 0x20, 0x30],
+        adapters: &[0x100],
+        wires: &[
+            (0x10, 1, 0x20, 1),
+            (0x10, 2, 0x30, 1),
+            (0x20, 2, 0x30, 2),
+            (0x20, 3, 0x100, 1),
+            (0x30, 3, 0x100, 1),
+        ],
+        news: &[],
+        lids: FOUR_LIDS,
+        tables: &[
+            (b"switch 0000000000000010 top 4\n", b"ff000102"),
+            (b"switch 0000000000000020 top 4\n", b"ff010002"),
+            (b"switch 0000000000000030 top 4\n", b"ff010200"),
+        ],
+    },
+];
+
+/// The LIDs of three switches and one adapter.
+const FOUR_LIDS: &[u8] = b"\
+lid 1 0000000000000010/0
+lid 2 0000000000000020/0
+lid 3 0000000000000030/0
+lid 4 0000000000000100/1
+";
+
+/// Facts of a generation are told to the store.
+fn tell_facts(store: &mut Store, generation: u32, facts: &[(Key, Value)]) -> Result<(), Fail> {
+    let generation = Generation::new(generation).ok_or("0")?;
+    for (key, value) in facts {
+        let sighting = Sighting::new(*key, Cell::Known(generation, *value)).ok_or("no sighting")?;
+        store.add(sighting)?;
+    }
+    Ok(())
+}
+
+/// That a port is wired to another, and up.
+fn end(node: u64, port: u8, far: u64, far_port: u8) -> [(Key, Value); 2] {
+    let (node, port) = (Guid::new(node), PortNum::new(port));
+    let peer = Value::Peer(Guid::new(far), PortNum::new(far_port));
+    [
+        (Key::Link(node, port), peer),
+        (Key::Port(node, port), Value::Up(true)),
+    ]
+}
+
+/// Both ends of a wire are told to the store.
+fn tell_wire(store: &mut Store, generation: u32, wire: &Wire) -> Result<(), Fail> {
+    let (near, near_port, far, far_port) = *wire;
+    tell_facts(store, generation, &end(near, near_port, far, far_port))?;
+    tell_facts(store, generation, &end(far, far_port, near, near_port))
+}
+
+/// How many LIDs a switch has room for.
+fn cap(guid: u64, room: u16) -> (Key, Value) {
+    (Key::Cap(Guid::new(guid)), Value::Count(room))
+}
+
+/// A switch of four ports, with room for 1,024 LIDs.
+fn switch(guid: u64) -> [(Key, Value); 3] {
+    let node = Guid::new(guid);
+    [
+        (Key::Node(node), Value::Kind(NodeType::Switch, 4)),
+        (Key::PortGuid(node, PortNum::new(0)), Value::Guid(node)),
+        cap(guid, 1024),
+    ]
+}
+
+/// An adapter of one port.
+fn adapter(guid: u64) -> [(Key, Value); 2] {
+    let node = Guid::new(guid);
+    let port_guid = Guid::new(guid.wrapping_add(1));
+    [
+        (Key::Node(node), Value::Kind(NodeType::ChannelAdapter, 1)),
+        (Key::PortGuid(node, PortNum::new(1)), Value::Guid(port_guid)),
+    ]
+}
+
+/// What is news is told to the store.
+fn tell_news(store: &mut Store, news: &News) -> Result<(), Fail> {
+    match news {
+        News::Wire(generation, wire) => tell_wire(store, *generation, wire),
+        News::Adapter(guid) => tell_facts(store, 2, &adapter(*guid)),
+        News::Claim(guid, lid) => {
+            let key = Key::Claim(Guid::new(*guid), PortNum::new(1));
+            tell_facts(store, 2, &[(key, Value::Lid(Lid::new(*lid)))])
+        }
+        News::Rooms([first, second, third]) => {
+            let caps = [cap(0x10, *first), cap(0x20, *second), cap(0x30, *third)];
+            tell_facts(store, 2, &caps)
+        }
+    }
+}
+
+/// All that is told of a subnet is told to the store.
+fn tell_subnet(store: &mut Store, row: &Row) -> Result<(), Fail> {
+    for guid in row.switches {
+        tell_facts(store, 1, &switch(*guid))?;
+    }
+    for guid in row.adapters {
+        tell_facts(store, 1, &adapter(*guid))?;
+    }
+    for wire in row.wires {
+        tell_wire(store, 1, wire)?;
+    }
+    for news in row.news {
+        tell_news(store, news)?;
+    }
+    Ok(())
+}
+
+/// The store file of all that is told of a subnet.
+fn subnet_file(alloc: Global, row: &Row) -> Result<ToRoom, Fail> {
+    let mut store = Store::new(alloc);
+    tell_subnet(&mut store, row)?;
+    let mut file = ToRoom::new(alloc, 8192)?;
+    write_store(&mut file, &store)?;
+    Ok(file)
+}
+
+/// What a run that plans a subnet writes and how it ends.
+fn planned(alloc: Global, row: &Row, room: usize) -> Result<ToRoom, Fail> {
+    let file = subnet_file(alloc, row)?;
+    ended_within(alloc, room, Command::Plan, &[file.bytes()])
+}
+
+/// What follows the line of a block in a text, if it begins with that line: these words, and 128
+/// hex digits, of which the first and the last are these and all others say that there is no way.
+fn after_block<'a>(text: &'a [u8], words: &[u8], first: &[u8], last: &[u8]) -> Option<&'a [u8]> {
+    let rest = text.strip_prefix(words)?.strip_prefix(first)?;
+    let others = 128usize.saturating_sub(first.len().saturating_add(last.len()));
+    let (others, rest) = rest.split_at_checked(others)?;
+    if others.iter().all(|digit| *digit == b'f') {
+        rest.strip_prefix(last)?.strip_prefix(b"\n")
+    } else {
+        None
+    }
+}
+
+/// What follows a switch's line and its block 0, if a text begins with them.
+fn after_table<'a>(text: &'a [u8], table: &Table) -> Option<&'a [u8]> {
+    let (line, entries) = table;
+    after_block(text.strip_prefix(*line)?, b"block 0 ", entries, b"")
+}
+
+/// Whether a text is that of a plan of one block: the lines of the LIDs, and each switch with its
+/// block.
+fn is_plan(text: &[u8], lids: &[u8], tables: &[Table]) -> bool {
+    let mut rest = text.strip_prefix(lids);
+    for table in tables {
+        if let Some(text) = rest {
+            rest = after_table(text, table);
+        }
+    }
+    rest == Some(b"".as_slice())
+}
 
 #[test]
 fn the_sample_fabric_is_planned(rt: HostRuntime) -> Result<(), Fail> {
-    let alloc = rt.alloc();
-    let wanted = plan_text(alloc, &LIDS, &TABLES)?;
-    let (in_order, reversed) = fabric::fabric_files(alloc)?;
-    for files in [[in_order.as_slice(), b"IBSMREP1"], [&reversed, &in_order]] {
-        check(&rt, alloc, Command::Plan, &files, &wanted)?;
+    let files = fabric::fabric_files(rt.alloc())?;
+    for pair in [[files.0.as_slice(), b"IBSMREP1"], [&files.1, &files.0]] {
+        let plan = ended(rt.alloc(), Command::Plan, &pair)?;
+        assert!(rt; is_plan(plan.bytes(), LIDS, &TABLES));
     }
-    check(&rt, alloc, Command::Plan, &[b"IBSMREP1"], b"")?;
-    check(&rt, alloc, Command::Plan, &[&greatest_store()], b"")?;
-    check_plan(&rt, alloc, &triangle(alloc)?, &LIDS, &TABLES)
-}
-
-#[test]
-fn news_change_the_plan(rt: HostRuntime) -> Result<(), Fail> {
-    let alloc = rt.alloc();
-    // A cable that two switches name as theirs is no wire, until one of them alone does.
-    let mut disputed = triangle(alloc)?;
-    for far in [(0x20, 1), (0x30, 4)] {
-        tell_end(&mut disputed, 2, (0x10, 1), far)?;
-        tell_end(&mut disputed, 2, far, (0x10, 1))?;
+    for file in [b"IBSMREP1".as_slice(), &greatest_store()] {
+        check(&rt, rt.alloc(), Command::Plan, &[file], b"")?;
     }
-    let tables = [
-        (0x10, "ff0002020202"),
-        (0x20, "ff0200020302"),
-        (0x30, "ff0102000203"),
-    ];
-    check_plan(&rt, alloc, &disputed, &LIDS, &tables)?;
-    tell_end(&mut disputed, 3, (0x10, 1), (0x20, 1))?;
-    tell_end(&mut disputed, 3, (0x20, 1), (0x10, 1))?;
-    check_plan(&rt, alloc, &disputed, &LIDS, &TABLES)?;
-    // An adapter took the place of another, which keeps its LID and has no wire.
-    let mut moved = triangle(alloc)?;
-    tell_node(&mut moved, 2, 0x300, None)?;
-    tell_end(&mut moved, 2, (0x300, 1), (0x20, 3))?;
-    tell_end(&mut moved, 2, (0x20, 3), (0x300, 1))?;
-    let lids = [LIDS[0], LIDS[1], LIDS[2], LIDS[3], LIDS[4], (6, 0x300, 1)];
-    let tables = [
-        (0x10, "ff000102ff0201"),
-        (0x20, "ff010002ff0203"),
-        (0x30, "ff010200ff0302"),
-    ];
-    check_plan(&rt, alloc, &moved, &lids, &tables)
+    Ok(())
 }
 
-/// A claim of the adapter port with this GUID is told to the store.
-fn tell_claim(store: &mut Store, guid: u64, lid: u16) -> Result<(), Fail> {
-    let key = Key::Claim(Guid::new(guid), PortNum::new(1));
-    tell_fact(store, 2, key, Value::Lid(Lid::new(lid)))
-}
-
-/// The rooms of the three switches are told to the store.
-fn tell_rooms(store: &mut Store, rooms: [u16; 3]) -> Result<(), Fail> {
-    for (guid, room) in [0x10, 0x20, 0x30].into_iter().zip(rooms) {
-        tell_fact(store, 2, Key::Cap(Guid::new(guid)), Value::Count(room))?;
+/// Each subnet has its plan.
+fn check_plans(rt: &impl Abort, alloc: Global, rows: &[Row]) -> Result<(), Fail> {
+    for row in rows {
+        let plan = planned(alloc, row, 4096)?;
+        assert!(rt; is_plan(plan.bytes(), row.lids, row.tables), "{}", row.name);
     }
     Ok(())
 }
 
 #[test]
-fn claims_and_rooms_count(rt: HostRuntime) -> Result<(), Fail> {
-    let alloc = rt.alloc();
-    let mut twice = triangle(alloc)?;
-    tell_claim(&mut twice, 0x100, 5)?;
-    tell_claim(&mut twice, 0x200, 5)?;
-    let lids = [LIDS[0], LIDS[1], LIDS[2], (4, 0x200, 1), (5, 0x100, 1)];
-    let tables = [
-        (0x10, "ff0001020201"),
-        (0x20, "ff0100020203"),
-        (0x30, "ff0102000302"),
-    ];
-    check_plan(&rt, alloc, &twice, &lids, &tables)?;
-    for (rooms, wanted) in [
-        ([1024, 5, 1024], "3 ibsm: no room: 5 end ports, room 5\n"),
-        ([1, 1, 1], "3 ibsm: no room: 5 end ports, room 1\n"),
-    ] {
-        let mut narrow = triangle(alloc)?;
-        tell_rooms(&mut narrow, rooms)?;
-        assert_eq!(rt; planned(alloc, &narrow, 64)?.bytes(), wanted.as_bytes());
-    }
-    let mut just = triangle(alloc)?;
-    tell_rooms(&mut just, [1024, 6, 1024])?;
-    check_plan(&rt, alloc, &just, &LIDS, &TABLES)
-}
-
-/// The text of the plan of the largest tables, where the first adapter claims the greatest LID.
-fn large_plan(alloc: Global) -> Result<Vec<u8>, AllocError> {
-    let mut text = plan_text(alloc, &[LIDS[0], LIDS[1], LIDS[2], (4, 0x200, 1)], &[])?;
-    text.extend_from_slice(b"lid 49151 0000000000000100/1\n")?;
-    for (guid, first, last) in [
-        (0x10, "ff00010202", "01"),
-        (0x20, "ff01000202", "03"),
-        (0x30, "ff01020003", "02"),
-    ] {
-        let line = format!(in alloc; "switch {guid:016x} top 49151\n")?;
-        text.extend_from_slice(line.as_bytes())?;
-        block_line(alloc, &mut text, 0, first)?;
-        for number in 1..767 {
-            block_line(alloc, &mut text, number, "")?;
-        }
-        text.extend_from_slice(b"block 767 ")?;
-        for _ in 0..126 {
-            text.push(b'f')?;
-        }
-        text.extend_from_slice(last.as_bytes())?;
-        text.push(b'\n')?;
-    }
-    Ok(text)
-}
-
-#[test]
-fn tables_may_be_as_large_as_they_can(rt: HostRuntime) -> Result<(), Fail> {
-    let alloc = rt.alloc();
-    let mut store = triangle(alloc)?;
-    tell_rooms(&mut store, [49152; 3])?;
-    tell_claim(&mut store, 0x100, 49151)?;
-    let plan = planned(alloc, &store, 400_000)?;
-    assert!(rt; plan.bytes() == large_plan(alloc)?.as_slice());
-    Ok(())
+fn news_and_claims_and_rooms_count(rt: HostRuntime) -> Result<(), Fail> {
+    check_plans(&rt, rt.alloc(), CHANGED)
 }
 
 #[test]
 fn subnets_of_other_forms(rt: HostRuntime) -> Result<(), Fail> {
-    let alloc = rt.alloc();
-    // From 0x20 three wires down lead to 0x50, and two over the root.
-    let switches = [0x10, 0x20, 0x30, 0x40, 0x50];
-    let wires = [
-        (0x10, 1, 0x20, 1),
-        (0x10, 2, 0x30, 1),
-        (0x10, 3, 0x40, 1),
-        (0x10, 4, 0x50, 1),
-        (0x20, 2, 0x30, 2),
-        (0x30, 3, 0x40, 2),
-        (0x40, 3, 0x50, 2),
-    ];
-    let star = subnet(alloc, &switches, &[], &wires)?;
-    let lids = [
-        (1, 0x10, 0),
-        (2, 0x20, 0),
-        (3, 0x30, 0),
-        (4, 0x40, 0),
-        (5, 0x50, 0),
-    ];
-    let tables = [
-        (0x10, "ff0001020304"),
-        (0x20, "ff0100020202"),
-        (0x30, "ff0102000303"),
-        (0x40, "ff0101020003"),
-        (0x50, "ff0101010200"),
-    ];
-    check_plan(&rt, alloc, &star, &lids, &tables)?;
-    let adapters = subnet(alloc, &[], &[0x100, 0x200], &[(0x100, 1, 0x200, 1)])?;
-    check_plan(&rt, alloc, &adapters, &[(1, 0x100, 1), (2, 0x200, 1)], &[])?;
-    // Two switches with two wires between them, one cabled to itself, and another with an adapter.
-    let wires = [
-        (0x10, 3, 0x20, 4),
-        (0x10, 2, 0x20, 1),
-        (0x20, 2, 0x20, 3),
-        (0x30, 1, 0x100, 1),
-    ];
-    let parts = subnet(alloc, &[0x10, 0x20, 0x30], &[0x100], &wires)?;
-    let tables = [
-        (0x10, "ff0002ffff"),
-        (0x20, "ff0100ffff"),
-        (0x30, "ffffff0001"),
-    ];
-    check_plan(&rt, alloc, &parts, &LIDS[..4], &tables)?;
-    // Two adapters of one GUID.
-    let mut twins = subnet(alloc, &[0x10, 0x20, 0x30], &[0x100], &TRIANGLE[..4])?;
-    tell_end(&mut twins, 1, (0x30, 3), (0x100, 1))?;
-    tell_end(&mut twins, 1, (0x100, 1), (0x30, 3))?;
-    let tables = [(0x10, "ff000102"), (0x20, "ff010002"), (0x30, "ff010200")];
-    check_plan(&rt, alloc, &twins, &LIDS[..4], &tables)
+    check_plans(&rt, rt.alloc(), OTHERS)
+}
+
+/// The sample fabric with the largest tables, where the first adapter claims the greatest LID.
+const LARGE: Row = Row {
+    name: "the largest tables",
+    news: &[News::Rooms([49152; 3]), News::Claim(0x100, 49151)],
+    lids: b"\
+lid 1 0000000000000010/0
+lid 2 0000000000000020/0
+lid 3 0000000000000030/0
+lid 4 0000000000000200/1
+lid 49151 0000000000000100/1
+",
+    tables: &[
+        (b"switch 0000000000000010 top 49151\n", b"ff00010202"),
+        (b"switch 0000000000000020 top 49151\n", b"ff01000202"),
+        (b"switch 0000000000000030 top 49151\n", b"ff01020003"),
+    ],
+    ..SAMPLE
+};
+
+/// The last entry of each of its tables.
+const LAST: [&[u8]; 3] = [b"01", b"03", b"02"];
+
+/// What follows the line of a block with no way in it, if a text begins with that.
+fn after_empty(alloc: Global, text: &[u8], number: usize) -> Result<Option<&[u8]>, AllocError> {
+    let words = format!(in alloc; "block {number} ")?;
+    Ok(after_block(text, words.as_bytes(), b"", b""))
+}
+
+/// What follows a table of 768 blocks, of which all but the first and last have no way in them.
+fn after_large<'a>(
+    alloc: Global,
+    text: &'a [u8],
+    table: &Table,
+    last: &[u8],
+) -> Result<Option<&'a [u8]>, AllocError> {
+    let mut rest = after_table(text, table);
+    for number in 1..767 {
+        if let Some(text) = rest {
+            rest = after_empty(alloc, text, number)?;
+        }
+    }
+    match rest {
+        Some(text) => Ok(after_block(text, b"block 767 ", b"", last)),
+        None => Ok(None),
+    }
+}
+
+/// Whether a text is that of the plan of the largest tables.
+fn is_large_plan(alloc: Global, text: &[u8]) -> Result<bool, AllocError> {
+    let mut rest = text.strip_prefix(LARGE.lids);
+    for (table, last) in LARGE.tables.iter().zip(&LAST) {
+        if let Some(text) = rest {
+            rest = after_large(alloc, text, table, last)?;
+        }
+    }
+    Ok(rest == Some(b"".as_slice()))
+}
+
+#[test]
+fn tables_may_be_as_large_as_they_can(rt: HostRuntime) -> Result<(), Fail> {
+    let plan = planned(rt.alloc(), &LARGE, 400_000)?;
+    assert!(rt; is_large_plan(rt.alloc(), plan.bytes())?);
+    Ok(())
 }
