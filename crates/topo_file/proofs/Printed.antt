@@ -36,11 +36,11 @@ use Rattle.topo_file.specs.Printed.{node_words, name_at, link_words, links_at, l
 use Rattle.topo_file.proofs.Indexes.{same_bytes, place_more, after_all}
 
 -- of each element and each later one, by recursion
-abbrev Pairs : {X : Type 0} → (X → X → Type 0) → List X → Type 0
+abbrev pub Pairs : {X : Type 0} → (X → X → Type 0) → List X → Type 0
 Pairs R [] = Unit {0}
 Pairs R (x ∷ xs) = AllByRecursion (R x) xs × Pairs R xs
 
-pairs : {X : Type 0} (R : X → X → Type 0) (xs : List X) → AllPairs R xs → Pairs R xs
+pub pairs : {X : Type 0} (R : X → X → Type 0) (xs : List X) → AllPairs R xs → Pairs R xs
 pairs R [] h = tt
 pairs R (x ∷ xs) h = (
   recursion_from_All (R x) xs (λ k d l. h 0 (suc k) d (omega arith) (omega arith)),
@@ -284,7 +284,7 @@ none_at (link ∷ links) place all =
     let here : (link.one.node == place) ≡ false = differs link.one.node place (λ same. omega arith) in
     rw here (none_at links place all.1)
 
-all_weaker : {X : Type 0} (P Q : X → Type 0) (xs : List X) → ((x : X) → P x → Q x) → AllByRecursion P xs → AllByRecursion Q xs
+pub all_weaker : {X : Type 0} (P Q : X → Type 0) (xs : List X) → ((x : X) → P x → Q x) → AllByRecursion P xs → AllByRecursion Q xs
 all_weaker P Q [] f h = tt
 all_weaker P Q (x ∷ xs) f h = (f x h.0, all_weaker P Q xs f h.1)
 
