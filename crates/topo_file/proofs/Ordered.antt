@@ -1,5 +1,6 @@
 -- What is read stands in the order of its lines: the links, by their first ends' nodes.
-use Rattle.std.proofs.Common.{◌≡◌, ℕ, zero, suc, ◌+◌, ◌<◌, ◌≤◌, List, [], ◌∷◌, ◌++◌, length, get_or, Option, None, Some, Result, Ok, Err, refl, arith, cond, leb, ltb, length-append}
+use Rattle.std.proofs.Common.{◌≡◌, ℕ, zero, suc, ◌+◌, ◌<◌, ◌≤◌, List, [], ◌∷◌, ◌++◌, length, Option, None, Some, Result, Ok, Err, refl, arith}
+use Rattle.std.proofs.Common.{cond, leb, ltb, length-append}
 use Rattle.std.specs.Prelude.{IfOk, IfSome, All, is_some, slice_get, option_and_then, ◌||◌}
 use Rattle.std.specs.List.{AllPairs, AllByRecursion}
 use Rattle.std.proofs.lemmas.Result.{IfOk-at_ok}
@@ -78,7 +79,8 @@ port_is : (nodes : List Node) (place : ℕ) (port : Option ℕ) → IfSome (port
 port_is nodes place None = tt
 port_is nodes place (Some p) = port_here nodes place p (slice_get nodes place)
 
-between : (number place : ℕ) (one other : Option NodePort) → IfSome one (λ q. q.node ≡ place) → IfOk (link_between number one other) (λ link. link.one.node ≡ place)
+between : (number place : ℕ) (one other : Option NodePort) → IfSome one (λ q. q.node ≡ place)
+    → IfOk (link_between number one other) (λ link. link.one.node ≡ place)
 between number place (Some one) (Some other) is = is
 between number place (Some one) None is = tt
 between number place None other is = tt
