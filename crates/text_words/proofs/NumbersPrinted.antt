@@ -1,18 +1,18 @@
 -- Numbers are read from their digits.
-use Rattle.std.proofs.Common.{◌≡◌, ℕ, zero, suc, ◌+◌, ◌*◌, ◌/◌, ◌%◌, ◌^◌, ◌<◌, ◌≤◌, Bool, true, false, ◌&&◌, cond, leb, List, [], ◌∷◌, ◌++◌, length, refl, sym, ap, ◌∙◌, arith, subst}
-use Rattle.std.proofs.Common.{Some, None}
+use Rattle.std.proofs.Common.{◌≡◌, ℕ, zero, suc, ◌+◌, ◌*◌, ◌/◌, ◌%◌, ◌^◌, ◌<◌, ◌≤◌, true, false, leb, List, [], ◌∷◌, ◌++◌, length, refl}
+use Rattle.std.proofs.Common.{sym, ap, ◌∙◌, arith, subst}
+use Rattle.std.proofs.Common.{Some}
 use Rattle.std.specs.Prelude.{codes, decimal}
 use Rattle.std.specs.Char.{is_digit, digit_value}
 use Rattle.std.specs.Fmt.{digit_glyph}
 use Rattle.std.specs.List.{list_all}
 use Rattle.std.specs.Str.Parse.{digits_value, AllDigits}
-use Rattle.std.proofs.lemmas.Bool.{cases_lt}
 use Rattle.std.proofs.lemmas.Grind.{common_steps}
 use Rattle.std.proofs.lemmas.Fmt.{decimal_is_IsNumeral}
 use Rattle.std.proofs.lemmas.Int.Digits.{digits_value_push, digits_push}
 use Rattle.smp_bytes.specs.Text.{hex_text, guid_text}
 use Rattle.smp_bytes.proofs.HexText.{length-hex_text}
-use Rattle.text_words.specs.Number.{number_of, up_to, count_of, guid_of}
+use Rattle.text_words.specs.Number.{number_of, count_of, guid_of}
 use Rattle.text_words.proofs.Digits.{is_within, is_below}
 
 -- what all digits pass
@@ -51,7 +51,8 @@ unfolding hex_text
 hex_digits zero n = tt
 hex_digits (suc k) n =
     let small : n % 16 < 16 = omega arith in
-    digits_push 16 (hex_text k (n / 16)) (digit_glyph false (n % 16)) (hex_digits k (n / 16)) (subst (λ (d : ℕ). d < 16) (sym (glyph_value (n % 16) small)) small)
+    digits_push 16 (hex_text k (n / 16)) (digit_glyph false (n % 16)) (hex_digits k (n / 16))
+    (subst (λ (d : ℕ). d < 16) (sym (glyph_value (n % 16) small)) small)
 
 hex_value : (k n : ℕ) → n < 16 ^ k → digits_value 16 (hex_text k n) ≡ n
 unfolding hex_text
@@ -65,6 +66,7 @@ hex_value (suc k) n h =
 pub guid_is_read : (n : ℕ) → n < 2 ^ 64 → guid_of (codes "0x" ++ guid_text n) ≡ Some n
 guid_is_read n h =
     let long : length (hex_text 16 n) ≡ 16 = length-hex_text 16 n in
-    let read : number_of 16 (hex_text 16 n) ≡ Some n = number_from 16 (hex_text 16 n) (omega arith) (hex_digits 16 n) ∙ ap Some (hex_value 16 n (omega arith)) in
+    let read : number_of 16 (hex_text 16 n) ≡ Some n = number_from 16 (hex_text 16 n) (omega arith) (hex_digits 16 n)
+    ∙ ap Some (hex_value 16 n (omega arith)) in
     let short : leb (length (codes "0x" ++ hex_text 16 n)) 18 ≡ true = is_within (length (codes "0x" ++ hex_text 16 n)) 18 (omega (arith, long)) in
     rw (short, read) refl

@@ -1,14 +1,15 @@
 -- Printed words and lines are read as they are.
-use Rattle.std.proofs.Common.{◌≡◌, ℕ, zero, suc, ◌<◌, ◌≤◌, ◌^◌, Bool, true, false, ◌&&◌, not, cond, List, [], ◌∷◌, ◌++◌, length, Some, None, refl, sym, ap, ◌∙◌, arith, subst, eq-eqb, leb}
-use Rattle.std.specs.Prelude.{◌==◌, codes, decimal, IsTrue, option_map, option_and_then}
-use Rattle.std.specs.Char.{is_digit, digit_value}
+use Rattle.std.proofs.Common.{◌≡◌, ℕ, ◌<◌, ◌≤◌, ◌^◌, Bool, true, false, ◌&&◌, not, List, [], ◌∷◌, ◌++◌, length, Some, refl, ap}
+use Rattle.std.proofs.Common.{◌∙◌, arith, eq-eqb}
+use Rattle.std.specs.Prelude.{◌==◌, codes, decimal, IsTrue}
+use Rattle.std.specs.Char.{digit_value}
 use Rattle.std.specs.List.{list_all, AllByRecursion}
 use Rattle.std.specs.Str.Parse.{AllDigits}
 use Rattle.std.proofs.lemmas.Bool.{leb-true}
 use Rattle.smp_bytes.specs.Text.{guid_text}
-use Rattle.text_words.specs.Text.{lines, words, words_in, parts, onto_first, is_blank, is_behind_word, is_quoted_after}
+use Rattle.text_words.specs.Text.{lines, words, words_in, parts, is_behind_word, is_quoted_after}
 use Rattle.text_words.specs.NodeName.{is_name, is_name_byte, name_in}
-use Rattle.text_words.specs.Quoted.{until, enclosed, quoted_name, bracketed_port, named_port}
+use Rattle.text_words.specs.Quoted.{until, quoted_name, bracketed_port, named_port}
 use Rattle.text_words.specs.Printed.{line_text, lines_text, quoted_text, bracketed_text, named_text}
 use Rattle.text_words.proofs.Names.{both}
 use Rattle.text_words.proofs.Splits.{differs}
@@ -90,7 +91,8 @@ printed (line ∷ later) = line_text line ∷ printed later
 
 pub lines_are_read : (all : List (List (List ℕ))) → AllByRecursion (AllByRecursion IsWord) all → lines (lines_text all) ≡ printed all
 lines_are_read [] h = refl
-lines_are_read (line ∷ later) h = line_then (line_text line) (lines_text later) (line_plain line h.0) ∙ ap (λ ls. line_text line ∷ ls) (lines_are_read later h.1)
+lines_are_read (line ∷ later) h =
+    line_then (line_text line) (lines_text later) (line_plain line h.0) ∙ ap (λ ls. line_text line ∷ ls) (lines_are_read later h.1)
 
 -- bytes of a word that are neither blanks nor quotes nor a comment's nor a line's end
 abbrev pub is_bare : ℕ → Bool
@@ -191,7 +193,9 @@ bracketed_on : (port : ℕ) → port < 2 ^ 64 → goes_on false (bracketed_text 
 bracketed_on port h = bare_then (decimal port) (93 ∷ []) (digits_all 10 is_bare (decimal port) (omega arith) digit_bare (decimal_digits port h)) refl
 
 bracketed_plain : (port : ℕ) → port < 2 ^ 64 → list_all is_plain (bracketed_text port) ≡ true
-bracketed_plain port h = all_append is_plain (decimal port) (93 ∷ []) (digits_all 10 is_plain (decimal port) (omega arith) digit_plain (decimal_digits port h)) refl
+bracketed_plain port h =
+    all_append is_plain (decimal port) (93 ∷ [])
+    (digits_all 10 is_plain (decimal port) (omega arith) digit_plain (decimal_digits port h)) refl
 
 pub bracketed_word : (port : ℕ) → port < 2 ^ 64 → IsWord (bracketed_text port)
 bracketed_word port h = record { some = omega arith; on = bracketed_on port h; plain = bracketed_plain port h }

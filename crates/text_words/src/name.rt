@@ -9,7 +9,8 @@ use arrayvec::ArrayString;
 use std::cmp::Ordering;
 use std::marker::Model;
 
-/// The name of a node: 1 to 64 characters that ASCII prints, the blank among them and the quote not.
+/// The name of a node: 1 to 64 characters that ASCII prints, the blank among them and the quote
+/// not.
 #[derive(Debug, Drop)]
 pub struct NodeName {
     text: ArrayString<64>,

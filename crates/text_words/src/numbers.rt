@@ -3,8 +3,8 @@ ghost use Rattle.text_words.specs.Number.{digit_of, number_of, count_of, guid_of
 
 use smp_bytes::Guid;
 
-/// The number that a word of digits writes in a base from 2 to 36. One over `u64::MAX` reads as that. Takes a step for
-/// each digit.
+/// The number that a word of digits writes in a base from 2 to 36. One over `u64::MAX` reads as
+/// that. Takes a step for each digit.
 pub fn number(word: &[u8], base: u32) -> Option<u64>
     requires { 2 ≤ base × base ≤ 36 }
     ensures { result ≡ option_map (min (2 ^ 64 - 1)) (number_of base word.now) }
@@ -37,7 +37,8 @@ fn with_digit(number: u64, base: u32, digit: u32) -> u64
         .saturating_add(u64::from(digit))
 }
 
-/// The number from 1 to `most` that a word of decimal digits writes; inside it is `None` where it is another.
+/// The number from 1 to `most` that a word of decimal digits writes; inside it is `None` where it
+/// is another.
 pub fn count(word: &[u8], most: u16) -> Option<Option<u16>>
     ensures { result ≡ count_of most word.now }
 {
@@ -46,7 +47,8 @@ pub fn count(word: &[u8], most: u16) -> Option<Option<u16>>
     Some(if is_within { Some(number as u16) } else { None })
 }
 
-/// The number from 1 to 254 that a word of decimal digits writes; inside it is `None` where it is another.
+/// The number from 1 to 254 that a word of decimal digits writes; inside it is `None` where it is
+/// another.
 pub fn port_number(word: &[u8]) -> Option<Option<u8>>
     ensures { result ≡ count_of 254 word.now }
 {

@@ -16,7 +16,8 @@ pub fn quoted_name(word: &[u8]) -> Option<NodeName>
     NodeName::new(name)
 }
 
-/// A port in brackets, `[port]`; inside it is `None` where it is not from 1 to 254. Takes a step for each byte.
+/// A port in brackets, `[port]`; inside it is `None` where it is not from 1 to 254. Takes a step
+/// for each byte.
 pub fn bracketed_port(word: &[u8]) -> Option<Option<u8>>
     ensures { result ≡ bracketed_port word.now }
 {
@@ -27,8 +28,8 @@ pub fn bracketed_port(word: &[u8]) -> Option<Option<u8>>
     port_number(port)
 }
 
-/// A name in quotes and at once behind it a port in brackets, `"name"[port]`. The port is `None` where it is not from 1
-/// to 254. Takes a step for each byte.
+/// A name in quotes and at once behind it a port in brackets, `"name"[port]`. The port is `None`
+/// where it is not from 1 to 254. Takes a step for each byte.
 pub fn named_port(word: &[u8]) -> Option<(NodeName, Option<u8>)>
     ensures { result ≡ named_port word.now }
 {
@@ -37,7 +38,8 @@ pub fn named_port(word: &[u8]) -> Option<(NodeName, Option<u8>)>
     Some((name, bracketed_port(port)?))
 }
 
-/// What stands between the byte `first`, which the word begins with, and the next `close`, and what stands behind that one.
+/// What stands between the byte `first`, which the word begins with, and the next `close`, and what
+/// stands behind that one.
 fn enclosed(word: &[u8], first: u8, close: u8) -> Option<(&[u8], &[u8])>
     ensures { option_map (λ x. (x.0.now, x.1.now)) result ≡ enclosed first close word.now }
 {

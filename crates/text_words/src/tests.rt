@@ -59,8 +59,7 @@ fn words_of_lines(rt: HostRuntime) -> Result<(), Fail> {
 /// both are 0 where the word is none.
 fn named(word: &[u8]) -> (usize, u8) {
     match named_port(word) {
-        Some((name, None)) => (name.as_str().len(), 0),
-        Some((name, Some(port))) => (name.as_str().len(), port),
+        Some((name, port)) => (name.as_str().len(), port.unwrap_or(0)),
         None => (0, 0),
     }
 }

@@ -3,7 +3,8 @@ ghost use Rattle.std.specs.Str.{bytes_eq};
 ghost use Rattle.text_words.specs.Text.{lines, words, is_blank, parts, is_behind_word, is_quoted_after, without_return};
 
 #[tactic(auto, using(crate::proofs::Splits::lines_at, crate::proofs::Splits::lines_none))]
-/// The first line of a text without its end, and the text behind it; or `None` where the text is empty.
+/// The first line of a text without its end, and the text behind it; or `None` where the text is
+/// empty.
 pub fn split_line(text: &[u8]) -> Option<(&[u8], &[u8])>
     ensures line { MatchOption result (lines text.now ≡ [])
         (λ x. lines text.now ≡ x.0.now ∷ lines x.1.now) }

@@ -1,6 +1,7 @@
 -- A printed topology is read as it is: its lines, the nodes and link lines that they tell, and the links of these.
-use Rattle.std.proofs.Common.{◌≡◌, ◌≢◌, ℕ, zero, suc, ◌+◌, ◌<◌, ◌≤◌, ◌^◌, Bool, true, false, cond, leb, ltb, List, [], ◌∷◌, ◌++◌, length, Option, None, Some, Result, Ok, refl, sym, ap, ◌∙◌, arith, subst, append_assoc, append-nil, length-append, eq-eqb, inl, inr}
-use Rattle.std.specs.Prelude.{IsTrue, codes, decimal, map, slice_get, All, ◌==◌}
+use Rattle.std.proofs.Common.{◌≡◌, ◌≢◌, ℕ, zero, suc, ◌+◌, ◌<◌, ◌≤◌, ◌^◌, Bool, true, false, cond, leb, ltb, List, [], ◌∷◌, ◌++◌, length, None}
+use Rattle.std.proofs.Common.{Some, Ok, refl, sym, ap, ◌∙◌, arith, subst, append_assoc, append-nil, length-append, eq-eqb, inl, inr}
+use Rattle.std.specs.Prelude.{IsTrue, codes, map, slice_get, ◌==◌}
 use Rattle.std.specs.List.{AllPairs, AllByRecursion}
 use Rattle.std.proofs.lemmas.Bool.{cases_lt, eqb-true}
 use Rattle.std.proofs.lemmas.Option.{slice_get_within}
@@ -9,38 +10,34 @@ use Rattle.std.proofs.lemmas.Slice.Eq.{bytes_eq-Decides}
 use Rattle.std.specs.Str.{bytes_eq}
 use Rattle.smp_bytes.specs.Cables.{is_same_port, other_end}
 use Rattle.smp_bytes.proofs.Cabled.{same_port-is}
-use Rattle.smp_bytes.specs.Text.{guid_text}
 use Rattle.smp_bytes.specs.declared.node_type.NodeType.{NodeType}
 use Rattle.smp_bytes.specs.declared.node_type.NodeType.TheVariants.{ChannelAdapter, Switch, Router}
 use Rattle.smp_bytes.specs.declared.cable.Cable.{Cable}
 use Rattle.smp_bytes.specs.declared.cable.NodePort.{NodePort}
 use Rattle.text_words.specs.NodeName.{is_name}
-use Rattle.text_words.specs.Text.{lines, words}
-use Rattle.text_words.specs.Printed.{line_text, lines_text}
+use Rattle.text_words.specs.Printed.{line_text}
 use Rattle.text_words.proofs.Digits.{is_within, is_below, not_within}
 use Rattle.text_words.proofs.Splits.{differs}
 use Rattle.text_words.proofs.NumbersPrinted.{count_is_read, guid_is_read}
 use Rattle.text_words.proofs.Printed.{IsWord, words_are_read, lines_are_read, printed, decimal_word, guid_word, quoted_word, bracketed_word, named_word}
 use Rattle.text_words.proofs.Printed.{quoted_is_read, bracketed_is_read, named_is_read}
-use Rattle.topo_file.specs.declared.fault.TopoFault.{TopoFault}
-use Rattle.topo_file.specs.declared.line.Line.{Line}
 use Rattle.topo_file.specs.declared.line.Line.TheVariants as line
 use Rattle.topo_file.specs.declared.line.NodeLine.{NodeLine}
 use Rattle.topo_file.specs.declared.line.LinkLine.{LinkLine}
 use Rattle.topo_file.specs.declared.draft.LinkAt.{LinkAt}
 use Rattle.topo_file.specs.declared.node.Node.{Node}
 use Rattle.topo_file.specs.Line.{line_in, line_of}
-use Rattle.topo_file.specs.Topology.{Layout, place_of, IsNode, IsPortIn, IsLinkIn, AreApart, IsTopology}
-use Rattle.topo_file.specs.Reading.{◌>>=◌, Lines, node_of, with_node, with_lines, port_at, link_of, with_link, with_links, topology_in, told_by, topology_of}
-use Rattle.topo_file.specs.Printed.{node_words, name_at, link_words, links_at, lines_from, topology_text, IsInOrder, PrintedTopologiesAreRead}
+use Rattle.topo_file.specs.Topology.{Layout, place_of, IsNode, IsLinkIn, AreApart}
+use Rattle.topo_file.specs.Reading.{◌>>=◌, node_of, with_lines, link_of, with_link, with_links, topology_in, told_by, topology_of}
+use Rattle.topo_file.specs.Printed.{node_words, name_at, link_words, links_at, lines_from, PrintedTopologiesAreRead}
 use Rattle.topo_file.proofs.Indexes.{same_bytes, place_more, after_all}
 
 -- of each element and each later one, by recursion
-abbrev Pairs : {X : Type 0} → (X → X → Type 0) → List X → Type 0
+abbrev pub Pairs : {X : Type 0} → (X → X → Type 0) → List X → Type 0
 Pairs R [] = Unit {0}
 Pairs R (x ∷ xs) = AllByRecursion (R x) xs × Pairs R xs
 
-pairs : {X : Type 0} (R : X → X → Type 0) (xs : List X) → AllPairs R xs → Pairs R xs
+pub pairs : {X : Type 0} (R : X → X → Type 0) (xs : List X) → AllPairs R xs → Pairs R xs
 pairs R [] h = tt
 pairs R (x ∷ xs) h = (
   recursion_from_All (R x) xs (λ k d l. h 0 (suc k) d (omega arith) (omega arith)),
@@ -86,15 +83,29 @@ node_in name ChannelAdapter ports guid cap is =
     (ap (λ n. Some (line.Node (record { kind = ChannelAdapter; ports = Some ports; name = name; guid = guid; cap = Some n }))) (sym is.of_kind.0))
 node_in name Router ports guid cap is = absurd is.of_kind
 
+-- a word of the grammar
+switch_word : IsWord (codes "Switch")
+switch_word = record { some = omega arith; on = refl; plain = refl }
+
+hca_word : IsWord (codes "Hca")
+hca_word = record { some = omega arith; on = refl; plain = refl }
+
+guid_is_word : IsWord (codes "guid")
+guid_is_word = record { some = omega arith; on = refl; plain = refl }
+
+cap_word : IsWord (codes "cap")
+cap_word = record { some = omega arith; on = refl; plain = refl }
+
 node_are_words : (name : List ℕ) (kind : NodeType) (ports guid cap : ℕ) → IsNode (made name kind ports guid cap)
     → AllByRecursion IsWord (node_words (made name kind ports guid cap))
 node_are_words name Switch ports guid cap is =
     let high = is.port_range in
     let room = is.of_kind.1 in
-    (record { some = omega arith; on = refl; plain = refl }, (decimal_word ports (omega arith), (quoted_word name is.named, (record { some = omega arith; on = refl; plain = refl }, (guid_word guid, (record { some = omega arith; on = refl; plain = refl }, (decimal_word cap (omega arith), tt)))))))
+    let ports_word = decimal_word ports (omega arith) in
+    (switch_word, (ports_word, (quoted_word name is.named, (guid_is_word, (guid_word guid, (cap_word, (decimal_word cap (omega arith), tt)))))))
 node_are_words name ChannelAdapter ports guid cap is =
     let high = is.port_range in
-    (record { some = omega arith; on = refl; plain = refl }, (decimal_word ports (omega arith), (quoted_word name is.named, (record { some = omega arith; on = refl; plain = refl }, (guid_word guid, tt)))))
+    (hca_word, (decimal_word ports (omega arith), (quoted_word name is.named, (guid_is_word, (guid_word guid, tt)))))
 node_are_words name Router ports guid cap is = absurd is.of_kind
 
 words_of_node : (node : Node) → IsNode node → AllByRecursion IsWord (node_words node)
@@ -284,7 +295,7 @@ none_at (link ∷ links) place all =
     let here : (link.one.node == place) ≡ false = differs link.one.node place (λ same. omega arith) in
     rw here (none_at links place all.1)
 
-all_weaker : {X : Type 0} (P Q : X → Type 0) (xs : List X) → ((x : X) → P x → Q x) → AllByRecursion P xs → AllByRecursion Q xs
+pub all_weaker : {X : Type 0} (P Q : X → Type 0) (xs : List X) → ((x : X) → P x → Q x) → AllByRecursion P xs → AllByRecursion Q xs
 all_weaker P Q [] f h = tt
 all_weaker P Q (x ∷ xs) f h = (f x h.0, all_weaker P Q xs f h.1)
 
@@ -399,7 +410,8 @@ printed_is_read t is order =
     let nodes : AllByRecursion IsNode t.nodes = recursion_from_All IsNode t.nodes is.nodes in
     let names : Pairs (λ x y. x.name ≢ y.name) t.nodes = pairs (λ x y. x.name ≢ y.name) t.nodes is.names in
     let links : AllByRecursion (IsLinkIn t.nodes) t.links = recursion_from_All (IsLinkIn t.nodes) t.links is.links in
-    let fits : AllByRecursion (Fits t.nodes) t.links = all_weaker (IsLinkIn t.nodes) (Fits t.nodes) t.links (λ link h. fits_in t.nodes link nodes names h) links in
+    let fits : AllByRecursion (Fits t.nodes) t.links =
+    all_weaker (IsLinkIn t.nodes) (Fits t.nodes) t.links (λ link h. fits_in t.nodes link nodes names h) links in
     let are : AreLinks t = record { fits = fits; free = all_free t.links; apart = pairs AreApart t.links is.apart } in
     let within : AllByRecursion (λ x. x.one.node < length t.nodes) t.links =
     all_weaker (IsLinkIn t.nodes) (λ (x : Cable). x.one.node < length t.nodes) t.links

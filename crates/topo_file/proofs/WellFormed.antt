@@ -34,16 +34,16 @@ use Rattle.topo_file.proofs.Grammar.{HasRoom, IsNodeLine, IsLine, line_fits}
 use Rattle.topo_file.proofs.Indexes.{nowhere, none_before, none_there}
 
 -- what holds of what is read
-read_then : {A B : Type 0} (P : A → Type 0) (Q : B → Type 0) (r : Result A TopoFault) (f : A → Result B TopoFault) → IfOk r P
+pub read_then : {A B : Type 0} (P : A → Type 0) (Q : B → Type 0) (r : Result A TopoFault) (f : A → Result B TopoFault) → IfOk r P
     → ((x : A) → P x → IfOk (f x) Q) → IfOk (r >>= f) Q
 read_then P Q (Ok x) f h g = g x h
 read_then P Q (Err fault) f h g = tt
 
-unless : {A : Type 0} (Q : A → Type 0) (b : Bool) (fault : TopoFault) (r : Result A TopoFault) → (b ≡ false → IfOk r Q) → IfOk (cond b (Err fault) r) Q
+pub unless : {A : Type 0} (Q : A → Type 0) (b : Bool) (fault : TopoFault) (r : Result A TopoFault) → (b ≡ false → IfOk r Q) → IfOk (cond b (Err fault) r) Q
 unless Q true fault r h = tt
 unless Q false fault r h = h refl
 
-where_true : {A : Type 0} (Q : A → Type 0) (b : Bool) (fault : TopoFault) (r : Result A TopoFault) → (b ≡ true → IfOk r Q) → IfOk (cond b r (Err fault)) Q
+pub where_true : {A : Type 0} (Q : A → Type 0) (b : Bool) (fault : TopoFault) (r : Result A TopoFault) → (b ≡ true → IfOk r Q) → IfOk (cond b r (Err fault)) Q
 where_true Q true fault r h = h refl
 where_true Q false fault r h = tt
 
@@ -158,7 +158,7 @@ neither : (s t : Bool) → (s || t) ≡ false → (s ≡ false) × (t ≡ false)
 neither true t e = cc
 neither false t e = (refl, e)
 
-kept_or : {A : Type 0} (Q : A → Type 0) (b : Bool) (r s : Result A TopoFault) → IfOk r Q → IfOk s Q → IfOk (cond b r s) Q
+pub kept_or : {A : Type 0} (Q : A → Type 0) (b : Bool) (r s : Result A TopoFault) → IfOk r Q → IfOk s Q → IfOk (cond b r s) Q
 kept_or Q true r s h g = h
 kept_or Q false r s h g = g
 

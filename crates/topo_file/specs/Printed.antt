@@ -44,3 +44,7 @@ IsInOrder links = AllPairs (λ x y. x.one.node ≤ y.one.node) links
 -- a topology whose links are in this order is read from its text as it is
 abbrev pub PrintedTopologiesAreRead : Type 0
 PrintedTopologiesAreRead = (t : Layout) → IsTopology t → IsInOrder t.links → topology_of (topology_text t) ≡ Ok t
+
+-- the links of each topology that is read are in this order
+abbrev pub ReadTopologiesAreInOrder : Type 0
+ReadTopologiesAreInOrder = (text : List ℕ) (t : Layout) → topology_of text ≡ Ok t → IsInOrder t.links

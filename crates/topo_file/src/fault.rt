@@ -4,8 +4,8 @@ use std::alloc::{AllocError, AllocFailed};
 use std::error::Error;
 use std::fmt;
 
-/// Why a text is no topology, in the order in which it is judged: first each line in turn, then each link in
-/// turn. Lines count from 1.
+/// Why a text is no topology, in the order in which it is judged: first each line in turn, then
+/// each link in turn. Lines count from 1.
 #[derive(Clone, Copy, Debug, PartialEq, Eq)]
 pub enum TopoFault {
     /// The line is none of the grammar's, or a link above all nodes.

@@ -1,7 +1,13 @@
-//! The law of printed topologies.
-ghost use Rattle.topo_file.specs.Printed.{PrintedTopologiesAreRead};
+//! The laws of printed topologies.
+ghost use Rattle.topo_file.specs.Printed.{PrintedTopologiesAreRead, ReadTopologiesAreInOrder};
 
-/// A topology whose links stand in the order of their first ends' nodes is read from its text as it is.
+/// A topology whose links stand in the order of their first ends' nodes is read from its text as it
+/// is.
 pub fn printed_topologies_are_read()
     ensures law { PrintedTopologiesAreRead }
+{}
+
+/// The links of each topology that is read stand in the order of their first ends' nodes.
+pub fn read_topologies_are_in_order()
+    ensures law { ReadTopologiesAreInOrder }
 {}

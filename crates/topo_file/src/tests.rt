@@ -1,17 +1,14 @@
 //! Texts of topologies, and what is wrong with others.
 use super::*;
-use smp_bytes::{Cable, NodeType};
+use smp_bytes::NodeType;
 use std::alloc::Global;
 use std::test::Fail;
 
-/// The first switch of a fabric of three switches and two adapters, with its links.
-const HEAD: &str = r#"Switch 4 "S1" guid 0x10
+/// A fabric of three switches and two adapters.
+const SAMPLE: &str = r#"Switch 4 "S1" guid 0x10
 [1] "S2"[1]
 [2] "S3"[1]
-"#;
-
-/// The rest of the fabric.
-const TAIL: &str = r#"Switch 4 "S2" guid 0x20
+Switch 4 "S2" guid 0x20 cap 7
 [2] "S3"[2]
 [3] "H1"[1]
 Switch 4 "S3" guid 0x30
@@ -45,10 +42,6 @@ fn lines_of_no_grammar(rt: HostRuntime) -> Result<(), Fail> {
         r#"Hca 1"A" guid 0x1"#,
         r#"Hca 1 "A guid 0x1"#,
         r#"Hca 1 A guid 0x1"#,
-        r#"Hca 1 "" guid 0x1"#,
-        r#"Hca 1 "AAAAAAAAAAAAAAAABBBBBBBBBBBBBBBBCCCCCCCCCCCCCCCCDDDDDDDDDDDDDDDDE" guid 0x1"#,
-        "Hca 1 \"A\tB\" guid 0x1",
-        "Hca 1 \"A\u{e9}\" guid 0x1",
         "Hca 1 \"A\" guid 0x1\r",
         "Hca 1 \"A\" guid\r0x1\n",
         "Hca 1 \"A\" guid 0x1\r\r\n",
@@ -58,10 +51,7 @@ fn lines_of_no_grammar(rt: HostRuntime) -> Result<(), Fail> {
         r#"[1] "A"[1]"#,
         "Hca",
     ] {
-        assert!(rt;
-            fault(rt.alloc(), text) == Some(TopoFault::Syntax { line: 1 }),
-            "{text}"
-        );
+        assert!(rt; fault(rt.alloc(), text) == Some(TopoFault::Syntax { line: 1 }));
     }
     Ok(())
 }
@@ -140,31 +130,15 @@ fn faults_with_their_lines(rt: HostRuntime) -> Result<(), Fail> {
             TopoFault::Linked { line: 3 },
         ),
     ] {
-        assert!(rt; fault(rt.alloc(), text) == Some(wanted), "{text}");
+        assert!(rt; fault(rt.alloc(), text) == Some(wanted));
     }
     Ok(())
 }
 
-/// The sample with a line more behind the links of its first switch.
-fn with_line(alloc: Global, line: &str) -> Result<String, Fail> {
-    Ok(format!(in alloc; "{HEAD}{line}\n{TAIL}")?)
-}
-
-/// Why the sample with a line more is no topology.
-fn fault_with(alloc: Global, line: &str) -> Result<Option<TopoFault>, Fail> {
-    Ok(fault(alloc, with_line(alloc, line)?.as_str()))
-}
-
-#[test]
-fn faults_of_the_sample_with_a_line_more(rt: HostRuntime) -> Result<(), Fail> {
-    for (line, wanted) in [
-        ("[5] \"H2\"[1]", TopoFault::Port { line: 4 }),
-        ("[3] \"X\"[1]", TopoFault::Peer { line: 4 }),
-        ("[2] \"S3\"[4]", TopoFault::Linked { line: 4 }),
-    ] {
-        assert!(rt; fault_with(rt.alloc(), line)? == Some(wanted), "{line}");
-    }
-    Ok(())
+/// How many nodes and links the topology of a text has.
+fn counts(alloc: Global, text: &str) -> Option<(usize, usize)> {
+    let topology = parse(alloc, text).ok()?;
+    Some((topology.count(), topology.links().len()))
 }
 
 #[test]
@@ -189,67 +163,72 @@ fn texts_of_topologies(rt: HostRuntime) -> Result<(), Fail> {
             2,
         ),
     ] {
-        let topology = parse(rt.alloc(), text)?;
-        assert!(rt;
-            topology.count() == nodes && topology.links().len() == links,
-            "{text}"
-        );
+        assert!(rt; counts(rt.alloc(), text) == Some((nodes, links)));
     }
     Ok(())
 }
 
-/// The line of a node.
-fn node_text(alloc: Global, node: &Node) -> Result<String, Fail> {
-    let (name, ports, guid) = (node.name.as_str(), node.ports, node.guid);
-    Ok(match node.kind {
-        NodeType::Switch => {
-            format!(in alloc;
-                "Switch {ports} \"{name}\" guid 0x{guid} cap {}\n",
-                node.cap
-            )?
-        }
-        _ => format!(in alloc; "Hca {ports} \"{name}\" guid 0x{guid}\n")?,
-    })
+/// Whether the node at a place is this switch, or this adapter, which has no table.
+fn is_node(topology: &Topology, place: usize, name: &str, guid: u64, cap: u16) -> bool {
+    let Some(node) = topology.node(place) else {
+        return false;
+    };
+    let is_switch = node.kind == NodeType::Switch;
+    let ports = if is_switch { 4 } else { 1 };
+    let is_kind = is_switch == (cap > 0) && node.ports == ports && node.cap == cap;
+    is_kind && node.name.as_str() == name && node.guid.number() == guid
 }
 
-/// The line of a link, below its first end's node.
-fn link_text(alloc: Global, topology: &Topology, link: &Cable) -> Result<String, Fail> {
-    let peer = topology.node(link.other.node).ok_or("no node")?;
-    let name = peer.name.as_str();
-    let (port, peer_port) = (link.one.port, link.other.port);
-    Ok(format!(in alloc; "[{port}] \"{name}\"[{peer_port}]\n")?)
+/// The place and the port of one end of the link at a place, and of the other.
+fn link(topology: &Topology, place: usize) -> Option<(usize, u8, usize, u8)> {
+    let link = topology.links().get(place)?;
+    let (one, other) = (link.one, link.other);
+    Some((one.node, one.port.number(), other.node, other.port.number()))
 }
 
-/// The text of a topology: each node, and below it the links whose first end is there.
-fn printed(alloc: Global, topology: &Topology) -> Result<String, Fail> {
-    let mut text = String::new(alloc);
-    for place in 0..topology.count() {
-        let node = topology.node(place).ok_or("no node")?;
-        text.push_str(node_text(alloc, node)?.as_str())?;
-        for link in topology.links() {
-            if link.one.node == place {
-                text.push_str(link_text(alloc, topology, link)?.as_str())?;
-            }
+/// Whether the nodes are those of the sample.
+fn are_nodes(topology: &Topology) -> bool {
+    for (place, name, guid, cap) in [
+        (0, "S1", 0x10, 1024),
+        (1, "S2", 0x20, 7),
+        (2, "S3", 0x30, 1024),
+        (3, "H1", 0x100, 0),
+        (4, "H2", 0x200, 0),
+    ] {
+        if !is_node(topology, place, name, guid, cap) {
+            return false;
         }
     }
-    Ok(text)
+    topology.count() == 5
 }
 
-/// What is printed of what is read.
-fn printed_again(alloc: Global, text: &str) -> Result<String, Fail> {
-    printed(alloc, &parse(alloc, text)?)
+/// Whether the links are those of the sample.
+fn are_links(topology: &Topology) -> bool {
+    for (place, wanted) in [
+        (0, (0, 1, 1, 1)),
+        (1, (0, 2, 2, 1)),
+        (2, (1, 2, 2, 2)),
+        (3, (1, 3, 3, 1)),
+        (4, (2, 3, 4, 1)),
+    ] {
+        if link(topology, place) != Some(wanted) {
+            return false;
+        }
+    }
+    topology.links().len() == 5
+}
+
+/// Whether the sample's text is read as the sample.
+fn is_sample(alloc: Global) -> bool {
+    match parse(alloc, SAMPLE) {
+        Ok(topology) => are_nodes(&topology) && are_links(&topology),
+        Err(_) => false,
+    }
 }
 
 #[test]
-fn printed_text_is_read_as_it_is(rt: HostRuntime) -> Result<(), Fail> {
-    let sample = format!(in rt.alloc(); "{HEAD}{TAIL}")?;
-    let wanted = "Switch 4 \"S1\" guid 0x0000000000000010 cap 1024\n[1] \"S2\"[1]\n[2] \"S3\"[1]\n\
-        Switch 4 \"S2\" guid 0x0000000000000020 cap 1024\n[2] \"S3\"[2]\n[3] \"H1\"[1]\n\
-        Switch 4 \"S3\" guid 0x0000000000000030 cap 1024\n[3] \"H2\"[1]\n\
-        Hca 1 \"H1\" guid 0x0000000000000100\nHca 1 \"H2\" guid 0x0000000000000200\n";
-    for text in [sample.as_str(), wanted] {
-        assert!(rt; printed_again(rt.alloc(), text)?.as_str() == wanted);
-    }
+fn sample_fabric(rt: HostRuntime) -> Result<(), Fail> {
+    assert!(rt; is_sample(rt.alloc()));
     Ok(())
 }
 

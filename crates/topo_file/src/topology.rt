@@ -75,8 +75,8 @@ impl Topology {
     }
 }
 
-/// Reads the text of a topology. Each line, which ends with LF or CR LF, is empty, a node or a link of the node
-/// above it, and `#` outside quotes begins a comment:
+/// Reads the text of a topology. Each line, which ends with LF or CR LF, is empty, a node or a link
+/// of the node above it, and `#` outside quotes begins a comment:
 ///
 /// ```text
 /// Switch 4 "S1" guid 0x10 cap 1024
@@ -84,8 +84,9 @@ impl Topology {
 /// Hca 1 "H1" guid 0x100
 /// ```
 ///
-/// A node has a port count, a name and a GUID, and a switch may have the room of its forwarding table. A link has a
-/// port, and its peer's name and port. Takes a search for each node and each link.
+/// A node has a port count, a name and a GUID, and a switch may have the room of its forwarding
+/// table. A link has a port, and its peer's name and port. Takes a search for each node and each
+/// link.
 pub fn parse(alloc: Global, text: &str) -> Result<Topology, TopoFault>
     ensures { Reads result (topology_of text.now) }
 {

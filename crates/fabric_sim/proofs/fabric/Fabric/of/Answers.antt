@@ -11,27 +11,32 @@ loop-link-init c = links_in_start c.args.topology.now c.args.first_serial _ c.in
 pub join-requires-clause-one : goal.join-requires-clause-one
 join-requires-clause-one c =
     one_port c.args.topology.now c.args.first_serial c.loop-link.link-index _ c.link-item.result c.loop-link.invariant
-    (link_at c.args.topology.now c.links-link-items.result.now c.loop-link.link-index c.link-item.result c.links-link-items.ensures c.loop-link-test.true c.link-item.is)
+    (link_at c.args.topology.now c.links-link-items.result.now c.loop-link.link-index c.link-item.result
+    c.links-link-items.ensures c.loop-link-test.true c.link-item.is)
 
 pub join-requires-clause-other : goal.join-requires-clause-other
 join-requires-clause-other c =
     other_port c.args.topology.now c.args.first_serial c.loop-link.link-index _ c.link-item.result c.loop-link.invariant
-    (link_at c.args.topology.now c.links-link-items.result.now c.loop-link.link-index c.link-item.result c.links-link-items.ensures c.loop-link-test.true c.link-item.is)
+    (link_at c.args.topology.now c.links-link-items.result.now c.loop-link.link-index c.link-item.result
+    c.links-link-items.ensures c.loop-link-test.true c.link-item.is)
 
 pub join-requires-clause-one_free : goal.join-requires-clause-one_free
 join-requires-clause-one_free c =
     one_free c.args.topology.now c.args.first_serial c.loop-link.link-index _ c.link-item.result c.loop-link.invariant
-    (link_at c.args.topology.now c.links-link-items.result.now c.loop-link.link-index c.link-item.result c.links-link-items.ensures c.loop-link-test.true c.link-item.is)
+    (link_at c.args.topology.now c.links-link-items.result.now c.loop-link.link-index c.link-item.result
+    c.links-link-items.ensures c.loop-link-test.true c.link-item.is)
 
 pub join-requires-clause-other_free : goal.join-requires-clause-other_free
 join-requires-clause-other_free c =
     other_free c.args.topology.now c.args.first_serial c.loop-link.link-index _ c.link-item.result c.loop-link.invariant
-    (link_at c.args.topology.now c.links-link-items.result.now c.loop-link.link-index c.link-item.result c.links-link-items.ensures c.loop-link-test.true c.link-item.is)
+    (link_at c.args.topology.now c.links-link-items.result.now c.loop-link.link-index c.link-item.result
+    c.links-link-items.ensures c.loop-link-test.true c.link-item.is)
 
 pub loop-link-preserved : goal.loop-link-preserved
 loop-link-preserved c =
     links_in_more c.args.topology.now c.args.first_serial c.loop-link.link-index _ c.link-item.result c.loop-link.invariant
-    (link_at c.args.topology.now c.links-link-items.result.now c.loop-link.link-index c.link-item.result c.links-link-items.ensures c.loop-link-test.true c.link-item.is)
+    (link_at c.args.topology.now c.links-link-items.result.now c.loop-link.link-index c.link-item.result
+    c.links-link-items.ensures c.loop-link-test.true c.link-item.is)
     _ c.join.ensures
 
 -- all links are in
