@@ -1,13 +1,27 @@
--- Lists in the order of GUIDs and ports.
-use Rattle.std.specs.Prelude.{◌≡◌, ℕ, Bool, true, ◌&&◌, ◌||◌, List, [], ◌∷◌, AllPairs, find, nat_lt, ◌==◌, if◌then◌else◌, Option}
+-- Lists in an order, and the place of an item in it.
+use Rattle.std.specs.Prelude.{◌≡◌, ℕ, ◌≤◌, Bool, true, false, ◌&&◌, ◌||◌, List, [], ◌∷◌, length, find, nat_lt, ◌==◌, if◌then◌else◌, Option}
+use Rattle.std.specs.List.{AllByRecursion}
+use Rattle.std.specs.List.Sorted.{IsPartitionPoint}
+
+-- each is related to all that come later
+abbrev pub AreOrdered : {T : Type 0} → (T → T → Type 0) → List T → Type 0
+AreOrdered R [] = Unit {0}
+AreOrdered R (x ∷ xs) = AllByRecursion (R x) xs × AreOrdered R xs
+
+-- the test holds of all before the place, and of none from it on
+pub record IsPlace {T : Type 0} (test : T → Bool) (items : List T) (place : ℕ) : Type 0 where
+  pub within : place ≤ length items
+  pub parts : IsPartitionPoint (λ x. test x ≡ true) (λ x. test x ≡ false) items place
+
+-- by GUID and port -----------------------------------------------------------------------------
 
 -- by GUID, and under one GUID by port
 abbrev pub is_before : ℕ × ℕ → ℕ × ℕ → Bool
 is_before a b = nat_lt a.0 b.0 || (a.0 == b.0 && nat_lt a.1 b.1)
 
--- each is before the next
+-- each is before all that come later
 abbrev pub AreInOrder : {T : Type 0} → (T → ℕ × ℕ) → List T → Type 0
-AreInOrder key items = AllPairs (λ a b. is_before (key a) (key b) ≡ true) items
+AreInOrder key items = AreOrdered (λ a b. is_before (key a) (key b) ≡ true) items
 
 -- with one put in at its place; where there is one with its GUID and port, that one stays
 abbrev pub placed : {T : Type 0} → (T → ℕ × ℕ) → T → List T → List T
@@ -20,3 +34,7 @@ placed key x (y ∷ ys) =
 -- the one with this GUID and port
 abbrev pub found_at : {T : Type 0} → (T → ℕ × ℕ) → ℕ → ℕ → List T → Option T
 found_at key guid port items = find (λ x. (key x).0 == guid && (key x).1 == port) items
+
+-- where the one with this GUID and port is, or would be
+abbrev pub IsPlaceFor : {T : Type 0} → (T → ℕ × ℕ) → ℕ × ℕ → List T → ℕ → Type 0
+IsPlaceFor key at items place = IsPlace (λ x. is_before (key x) at) items place

@@ -1,6 +1,6 @@
 -- A sweep: what it has asked, what it waits for, and what it has found.
 -- InfiniBand Architecture Specification, Volume 1: subnet management, topology discovery; directed route SMPs.
-use Rattle.std.specs.Prelude.{◌≡◌, ℕ, ◌+◌, ◌*◌, ◌^◌, ◌<◌, ◌≤◌, Bool, true, false, ◌&&◌, not, List, [], ◌∷◌, ◌++◌, length, find, filter, replicate, All, AllPairs, ◌==◌, if◌then◌else◌, Option, Some, None, option_map, is_some}
+use Rattle.std.specs.Prelude.{◌≡◌, ℕ, ◌+◌, ◌*◌, ◌^◌, ◌<◌, ◌≤◌, Bool, true, false, ◌&&◌, not, List, [], ◌∷◌, ◌++◌, length, find, filter, replicate, ◌==◌, if◌then◌else◌, Option, Some, None, option_map, is_some}
 use Rattle.smp_bytes.specs.Header.{get, node_info, switch_info, port_info}
 use Rattle.smp_bytes.specs.Requests.{directed}
 use Rattle.attr_codec.specs.declared.port_state.PortState.{PortState}
@@ -164,18 +164,15 @@ seen_state s guid port = state_at s.states guid port
 
 -- what holds of each sweep ---------------------------------------------------------------------
 
--- numbers rise
-abbrev pub AreRising : List Request → Type 0
-AreRising requests = AllPairs (λ before after. before.number < after.number) requests
-
-abbrev pub AreBelow : ℕ → List Request → Type 0
-AreBelow number requests = All (λ r. r.number < number) requests
+-- the numbers of requests rise, from the least on, and stay below the next
+abbrev pub AreRising : ℕ → List Request → ℕ → Type 0
+AreRising least [] next = least ≤ next
+AreRising least (r ∷ requests) next = (least ≤ r.number) × AreRising (r.number + 1) requests next
 
 -- No number is used twice, since those of the requests that wait and then of the queue rise, and the next is above all;
 -- what was found is in order; and each request counts once.
 pub record IsSweep (s : Sweep) : Type 0 where
-  pub rising : AreRising (s.outstanding ++ s.queued)
-  pub given : AreBelow s.next (s.outstanding ++ s.queued)
+  pub rising : AreRising 0 (s.outstanding ++ s.queued) s.next
   pub next : s.next ≤ 2 ^ 32
   pub reached : AreInOrder vertex_key s.reached
   pub states : AreInOrder state_key s.states

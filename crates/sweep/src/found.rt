@@ -1,8 +1,8 @@
 ghost use Rattle.std.specs.Prelude.{◌≡◌, ◌+◌, ◌<◌, ◌≤◌, ◌^◌, [], length, option_copied, OnOk, true};
 ghost use Rattle.sweep.specs.Finding.{too_far_by, with_reached, with_state};
 ghost use Rattle.std.specs.Vec.{vec_capacity, vec_len};
-ghost use Rattle.sweep.specs.Found.{Found, IsPlaceFor};
-ghost use Rattle.sweep.specs.Order.{AreInOrder, is_before, placed};
+ghost use Rattle.sweep.specs.Found.{Found};
+ghost use Rattle.sweep.specs.Order.{AreInOrder, IsPlaceFor, is_before, placed};
 ghost use Rattle.sweep.specs.Sweep.{reached_at, reached_first, state_at, state_key, vertex_key};
 
 use crate::finding::{Finding, Onward};

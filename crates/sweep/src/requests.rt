@@ -3,7 +3,8 @@ ghost use Rattle.fact_store.specs.declared.report.Context.TheVariants.{About};
 ghost use Rattle.sweep.specs.declared.finding.Onward.TheVariants.{Leads};
 ghost use Rattle.sweep.specs.Finding.{port_questions, vertex_questions, onward_questions};
 ghost use Rattle.sweep.specs.Taking.{CanTake, HasTaken};
-ghost use Rattle.sweep.specs.Requests.{Requests, IsPlaceOf, HasAsked};
+ghost use Rattle.sweep.specs.Order.{IsPlace};
+ghost use Rattle.sweep.specs.Requests.{Requests, IsPlaceOf, HasAsked, is_below};
 ghost use Rattle.sweep.specs.Sweep.{AreRising, is_none_left, without_number};
 
 use crate::finding::{Finding, Onward};
@@ -108,24 +109,32 @@ impl Requests {
         }
     }
 
-    /// The place of the one that waits under a TransactionID. Halves the places at each step.
+    /// How many have a lower TransactionID. Halves the places at each step.
+    fn count_below(&self, generation: Generation, transaction: u64) -> usize
+        requires { AreRising 0 (self.now.outstanding ++ self.now.queued) self.now.next }
+        ensures { IsPlace (is_below generation transaction) (self.now.outstanding ++ self.now.queued) result }
+    {
+        self.all
+            .partition_point(|request| transaction_of(generation, request.number) < transaction)
+    }
+
+    /// The place of the one that waits under a TransactionID. Takes a search.
     pub(crate) fn place_of(&self, generation: Generation, transaction: u64) -> Option<usize>
-        requires { AreRising (self.now.outstanding ++ self.now.queued) }
+        requires { AreRising 0 (self.now.outstanding ++ self.now.queued) self.now.next }
         ensures { IsPlaceOf generation transaction self.now.outstanding result }
     {
-        let place = self
-            .all
-            .binary_search_by_key(
-                &transaction,
-                |request| transaction_of(generation, request.number),
-            )
-            .ok()?;
-        if place < self.sent { Some(place) } else { None }
+        let place = self.count_below(generation, transaction);
+        let request = self.get(place)?;
+        if transaction_of(generation, request.number) == transaction {
+            Some(place)
+        } else {
+            None
+        }
     }
 
     /// One that waits has ended. Moves the requests on one side of it.
     pub(crate) fn end(&mut self, place: usize) -> Request
-        requires rising { AreRising (self.old.outstanding ++ self.old.queued) }
+        requires rising { AreRising 0 (self.old.outstanding ++ self.old.queued) self.old.next }
         requires place { place < length self.old.outstanding }
         ensures request { Some result ≡ slice_get self.old.outstanding place }
         ensures next { self.new.next ≡ self.old.next }
@@ -200,7 +209,7 @@ impl Requests {
 
     /// The request of a place has ended, and what its reply brings up is asked. Takes no memory.
     pub(crate) fn take(&mut self, place: usize, finding: &Finding)
-        requires rising { AreRising (self.old.outstanding ++ self.old.queued) }
+        requires rising { AreRising 0 (self.old.outstanding ++ self.old.queued) self.old.next }
         requires fits { CanTake self.old place finding.now }
         ensures { HasTaken place finding.now self.old self.new }
     {
