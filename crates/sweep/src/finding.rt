@@ -53,7 +53,7 @@ impl Reached {
         ensures count { result ≡ length (vertex_questions self.now) }
         ensures within { result ≤ 257 }
     {
-        if self.kind == NodeType::Switch {
+        if self.is_switch() {
             u64::from(self.ports) + 2
         } else {
             1
@@ -92,7 +92,7 @@ impl Sweep {
                 None => Finding::Nothing,
             };
         };
-        let is_known = first.kind == NodeType::Switch
+        let is_known = first.is_switch()
             || self
                 .found
                 .vertex(info.node_guid, info.local_port_num)
@@ -137,7 +137,7 @@ impl Sweep {
         }
         match self.found.first_of(guid) {
             Some(first) => {
-                first.kind == NodeType::Switch && port.number() != 0 && port != first.arrival
+                first.is_switch() && port.number() != 0 && port != first.arrival
             }
             None => false,
         }
