@@ -143,9 +143,7 @@ impl Sweep {
             return true;
         }
         match self.found.first_of(guid) {
-            Some(first) => {
-                first.is_switch() && port.number() != 0 && port != first.arrival
-            }
+            Some(first) => { first.is_switch() && port.number() != 0 && port != first.arrival }
             None => false,
         }
     }

@@ -16,3 +16,6 @@ pub use fault::SweepFault;
 pub use reached::{Reached, SeenState};
 pub use request::{Question, Request};
 pub use sweep::Sweep;
+
+#[cfg(test)]
+mod tests;

@@ -114,8 +114,7 @@ impl Requests {
         requires { AreRising 0 (self.now.outstanding ++ self.now.queued) self.now.next }
         ensures { IsPlace (is_below generation transaction) (self.now.outstanding ++ self.now.queued) result }
     {
-        self.all
-            .partition_point(|request| transaction_of(generation, request.number) < transaction)
+        self.all.partition_point(|request| transaction_of(generation, request.number) < transaction)
     }
 
     /// The place of the one that waits under a TransactionID. Takes a search.
