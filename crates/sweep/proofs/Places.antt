@@ -7,7 +7,7 @@ use Rattle.std.specs.List.Sorted.{IsPartitionedBy}
 use Rattle.std.proofs.lemmas.Bool.{and_parts, cond-true, cond-false, cases_lt, eqb-true}
 use Rattle.std.proofs.lemmas.Option.{slice_get-get_or, slice_get_within}
 use Rattle.sweep.specs.Order.{AreOrdered, AreInOrder, IsPlace, IsPlaceFor, found_at, has_key, is_before, passes_at, placed}
-use Rattle.sweep.proofs.Tests.{before_trans, first_later, first_other, level_same, not_before_same, same_key, other_key, later_key}
+use Rattle.sweep.proofs.Keys.{before_trans, first_later, first_other, level_same, not_before_same, same_key, other_key, later_key}
 
 pub some_is : {T : Type 0} (a b : T) → Some a ≡ Some b → a ≡ b
 some_is a b e = cc

@@ -5,6 +5,7 @@ mod answer;
 mod fault;
 mod finding;
 mod found;
+pub mod laws;
 mod reached;
 mod replies;
 mod request;
