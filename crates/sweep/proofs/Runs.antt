@@ -25,9 +25,10 @@ sends : (s : Sweep) (least : ℕ) (events : List Event) (q : List Request) → s
 sends s least events [] e rising rest = rest s least rising
 sends s least events (r ∷ q) e rising rest =
     let split : AreRising least (r ∷ q) s.next = subst (λ (l : List Request). AreRising least l s.next) e rising in
-    let later = rest (sent_of s (r ∷ q)).sweep (r.number + 1) split.1 in
-    ( (split.0, all_map (λ n. r.number + 1 ≤ n) (λ n. least ≤ n) (λ n h. omega (arith, h, split.0)) (numbers_sent (sent_of s (r ∷ q)).sweep events) later.0)
-    , (all_map (λ n. r.number + 1 ≤ n) (λ n. r.number < n) (λ n h. omega (arith, h)) (numbers_sent (sent_of s (r ∷ q)).sweep events) later.0, later.1))
+    let later = rest (sent_of s (r ∷ q)).sweep (r.number + 1) split.1 in (
+      (split.0, all_map (λ n. r.number + 1 ≤ n) (λ n. least ≤ n) (λ n h. omega (arith, h, split.0)) (numbers_sent (sent_of s (r ∷ q)).sweep events) later.0),
+      (all_map (λ n. r.number + 1 ≤ n) (λ n. r.number < n) (λ n h. omega (arith, h)) (numbers_sent (sent_of s (r ∷ q)).sweep events) later.0, later.1),
+    )
 
 replied_rises : (s : Sweep) (packet : List ℕ) (least : ℕ) (o : Option Request) → Rises least s → Rises least (replied_to s packet o)
 replied_rises s packet least None rising = rising

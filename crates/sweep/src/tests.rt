@@ -21,8 +21,8 @@ fn node_info(guid: u64, kind: NodeType, ports: u8) -> [u8; 64] {
     info.encode()
 }
 
-/// What the node says that is so many hops away: an adapter at the start, switches in a row behind it, whose ports 1 and 2
-/// are cabled, and another adapter behind them.
+/// What the node says that is so many hops away: an adapter at the start, switches in a row behind
+/// it, whose ports 1 and 2 are cabled, and another adapter behind them.
 fn told(attribute: AttributeId, hops: u8, switches: u8) -> [u8; 64] {
     let guid = 0x100 + u64::from(hops);
     if attribute == AttributeId::NODE_INFO {
@@ -47,8 +47,16 @@ fn answer(smp: &Smp, switches: u8) -> Smp {
     )
 }
 
+/// Why a reply was refused, if it was.
+fn refusal(answered: Result<Answer, SweepFault>) -> Option<SweepFault> {
+    match answered {
+        Ok(Answer::Facts(_)) => None,
+        Err(fault) => Some(fault),
+    }
+}
+
 /// The number, attribute, modifier and hops of each request over a row of one switch.
-fn requests() -> [(u64, u16, u32, u8); 9] {
+fn requests() -> [(u32, u16, u32, u8); 9] {
     [
         (7, 0x11, 0, 0),
         (8, 0x15, 1, 0),
@@ -72,11 +80,11 @@ fn asks_in_order(rt: HostRuntime) -> Result<(), Fail> {
         let asked = (tid, smp.attribute_id().0, smp.attribute_modifier());
         let held = sweep.outstanding(0) == Some(tid) && smp.hop_count() == hops;
         assert!(rt;
-            held && asked == (0x1_0000_0000 + number, attribute, modifier),
+            held && asked == (0x1_0000_0000 + u64::from(number), attribute, modifier),
             "{number}"
         );
-        let taken = sweep.on_reply_into(answer(&smp, 1).bytes(), &mut store);
-        assert!(rt; taken.is_ok(), "{number}");
+        let refused = refusal(sweep.on_reply_into(answer(&smp, 1).bytes(), &mut store));
+        assert!(rt; refused == None, "{number}");
     }
     let far = sweep
         .path_to(Guid::new(0x102), PortNum::new(1))
@@ -87,12 +95,13 @@ fn asks_in_order(rt: HostRuntime) -> Result<(), Fail> {
     Ok(())
 }
 
-/// A sweep that sits at a switch of ten ports, after its first request was answered and ten more went out, and that answer.
+/// A sweep that sits at a switch of ten ports, after its first request was answered and ten more
+/// went out, and that answer.
 fn after_ten_more(alloc: Global) -> Result<(Sweep, Smp), Fail> {
     let mut sweep = start(alloc, 1)?;
     let first = sweep.next_request().ok_or("no request")?;
     let reply = first.answer(Status::DONE, &node_info(0x100, NodeType::Switch, 10));
-    sweep.on_reply(reply.bytes())?;
+    let _ = refusal(sweep.on_reply(reply.bytes()));
     for _ in 0..10 {
         sweep.next_request().ok_or("no more")?;
     }
@@ -102,7 +111,7 @@ fn after_ten_more(alloc: Global) -> Result<(Sweep, Smp), Fail> {
 #[test]
 fn takes_a_reply_once(rt: HostRuntime) -> Result<(), Fail> {
     let (mut sweep, reply) = after_ten_more(rt.alloc())?;
-    let again = sweep.on_reply(reply.bytes()).err();
+    let again = refusal(sweep.on_reply(reply.bytes()));
     assert!(rt; again == Some(SweepFault::NotOutstanding));
     let waits = sweep.outstanding(9).is_some() && sweep.outstanding(10).is_none();
     assert!(rt; waits && sweep.next_request().is_some() && sweep.next_request().is_some());
@@ -137,12 +146,14 @@ fn refuses_in_order(rt: HostRuntime) -> Result<(), Fail> {
     let reply = answer(&first, 1);
     for (place, value, fault) in spoilt() {
         let mut bytes = *reply.bytes();
-        bytes[place] = value;
-        let judged = sweep.judge(&bytes).err();
-        let refused = sweep.on_reply(&bytes).err();
+        if let Some(byte) = bytes.get_mut(place) {
+            *byte = value;
+        }
+        let judged = refusal(sweep.judge(&bytes));
+        let refused = refusal(sweep.on_reply(&bytes));
         assert!(rt; judged == Some(fault) && refused == Some(fault), "{place}");
     }
-    assert!(rt; sweep.on_reply(reply.bytes()).is_ok());
+    assert!(rt; refusal(sweep.on_reply(reply.bytes())) == None);
     Ok(())
 }
 
@@ -150,7 +161,7 @@ fn refuses_in_order(rt: HostRuntime) -> Result<(), Fail> {
 fn numbers_are_spent(rt: HostRuntime) -> Result<(), Fail> {
     let mut sweep = start(rt.alloc(), u32::MAX)?;
     let first = sweep.next_request().ok_or("no request")?;
-    let refused = sweep.on_reply(answer(&first, 1).bytes()).err();
+    let refused = refusal(sweep.on_reply(answer(&first, 1).bytes()));
     assert!(rt; refused == Some(SweepFault::SequenceSpent));
     assert!(rt; sweep.outstanding(0) == Some(0x1_ffff_ffff) && sweep.next_request().is_none());
     Ok(())
@@ -162,7 +173,7 @@ fn a_path_has_63_hops(rt: HostRuntime) -> Result<(), Fail> {
         let mut sweep = start(rt.alloc(), 1)?;
         for _ in 0..400 {
             if let Some(smp) = sweep.next_request() {
-                sweep.on_reply(answer(&smp, switches).bytes())?;
+                let _ = refusal(sweep.on_reply(answer(&smp, switches).bytes()));
             }
         }
         let far = sweep.too_far() == too_far && sweep.is_done();
@@ -179,6 +190,7 @@ fn a_request_times_out_once(rt: HostRuntime) -> Result<(), Fail> {
     let smp = sweep.next_request().ok_or("no request")?;
     assert!(rt; sweep.on_timeout(id).is_ok() && sweep.on_timeout(id).is_err());
     assert!(rt; sweep.is_done() && sweep.unanswered() == 1);
-    assert!(rt; sweep.on_reply(answer(&smp, 1).bytes()).is_err());
+    let late = refusal(sweep.on_reply(answer(&smp, 1).bytes()));
+    assert!(rt; late == Some(SweepFault::NotOutstanding));
     Ok(())
 }
