@@ -8,3 +8,4 @@ pub mod Few
 pub mod Judged
 pub mod Taken
 pub mod Runs
+pub mod Counts

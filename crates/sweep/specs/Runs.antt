@@ -1,5 +1,5 @@
 -- Runs of a sweep: requests go out, replies come, and requests time out, in any order.
-use Rattle.std.specs.Prelude.{ℕ, ◌<◌, List, [], ◌∷◌, ◌++◌, Result, Ok, Err}
+use Rattle.std.specs.Prelude.{◌≡◌, ℕ, ◌+◌, ◌<◌, List, [], ◌∷◌, ◌++◌, length, Result, Ok, Err}
 use Rattle.sweep.specs.declared.answer.Answer.{Answer}
 use Rattle.sweep.specs.declared.fault.SweepFault.{SweepFault}
 use Rattle.sweep.specs.declared.request.Request.{Request}
@@ -41,3 +41,33 @@ numbers_sent s (e ∷ events) = number_sent s e ++ numbers_sent (step s e) event
 -- they rise, so no number is used twice
 abbrev pub NumbersRise : Type 0
 NumbersRise = (origin generation first : ℕ) (events : List Event) → AreOrdered (λ a b. a < b) (numbers_sent (started origin generation first) events)
+
+-- how many replies are taken
+abbrev pub taken_by : Result Answer SweepFault → ℕ
+taken_by (Ok answer) = 1
+taken_by (Err fault) = 0
+
+abbrev pub reply_taken : Sweep → Event → ℕ
+reply_taken s Sends = 0
+reply_taken s (Hears packet) = taken_by (judged s packet)
+reply_taken s (TimesOut transaction) = 0
+
+abbrev pub replies_taken : Sweep → List Event → ℕ
+replies_taken s [] = 0
+replies_taken s (e ∷ events) = reply_taken s e + replies_taken (step s e) events
+
+-- the sweep after a run
+abbrev pub after : Sweep → List Event → Sweep
+after s [] = s
+after s (e ∷ events) = after (step s e) events
+
+-- the requests that have not been answered: they timed out, wait, or are to be sent
+abbrev pub unended : Sweep → ℕ
+unended s = s.unanswered + (length s.outstanding + length s.queued)
+
+-- each number from the first on is that of a request that was answered or was not, so in a sweep that is done each was
+-- answered or counts as unanswered
+abbrev pub EachCounts : Type 0
+EachCounts =
+    (origin generation first : ℕ) (events : List Event) →
+    first + replies_taken (started origin generation first) events + unended (after (started origin generation first) events) ≡ (after (started origin generation first) events).next
