@@ -1,5 +1,5 @@
 -- Each number that was given is that of a request that was answered, timed out, waits or is to be sent.
-use Rattle.std.proofs.Common.{◌≡◌, ℕ, zero, suc, ◌+◌, ◌<◌, ◌≤◌, Bool, true, false, List, [], ◌∷◌, ◌++◌, length, refl, arith, ap, sym, ◌∙◌, subst, append_assoc, length-append}
+use Rattle.std.proofs.Common.{◌≡◌, ℕ, suc, ◌+◌, ◌<◌, Bool, true, false, List, [], ◌∷◌, ◌++◌, length, refl, arith, ap, sym, ◌∙◌, subst, append_assoc, length-append}
 use Rattle.std.specs.Prelude.{Option, Some, None, Result, Ok, Err, find, remove, slice_get, ◌==◌}
 use Rattle.std.proofs.lemmas.Bool.{cond-true, cond-false}
 use Rattle.std.proofs.lemmas.List.Edits.{length-remove, remove-append_left}
@@ -15,7 +15,6 @@ use Rattle.sweep.specs.Runs.{EachCounts, Event, Hears, Sends, TimesOut, after, h
 use Rattle.sweep.specs.Sweep.{AreRising, Sweep, first_question, numbered, request_with, sent_of, started, timed_out_of, transaction_of, without_number}
 use Rattle.sweep.proofs.Asked.{length_numbered}
 use Rattle.sweep.proofs.Numbers.{ordered_first, rising_asked, rising_ordered, rising_without, without_at}
-use Rattle.sweep.proofs.Places.{some_is}
 
 abbrev Rises : Sweep → Type 0
 Rises s = AreRising 0 (s.outstanding ++ s.queued) s.next
