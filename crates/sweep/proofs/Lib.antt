@@ -1,0 +1,11 @@
+pub mod Keys
+pub mod Places
+pub mod Numbers
+pub mod Asked
+pub mod Valid
+pub mod Belonging
+pub mod Few
+pub mod Judged
+pub mod Taken
+pub mod Runs
+pub mod Counts

@@ -1,0 +1,163 @@
+-- What a reply brings up: what is new, and what is asked next.
+-- InfiniBand Architecture Specification, Volume 1: subnet management, NodeInfo and PortInfo; topology discovery.
+use Rattle.std.specs.Prelude.{◌≡◌, ℕ, zero, suc, ◌+◌, ◌<◌, Bool, true, false, ◌&&◌, ◌||◌, not, List, [], ◌∷◌, ◌++◌, length, nat_lt, ◌==◌, if◌then◌else◌, Option, Some, None, is_some}
+use Rattle.std.specs.Option.{option_map_or}
+use Rattle.smp_bytes.specs.declared.node_type.NodeType.{NodeType}
+use Rattle.smp_bytes.specs.NodeType.{is_switch}
+use Rattle.smp_bytes.specs.Field.{bits_in}
+use Rattle.smp_bytes.specs.Packet.{max_hops}
+use Rattle.attr_codec.specs.declared.node_info.NodeInfo.{NodeInfo}
+use Rattle.attr_codec.specs.declared.port_state.PortState.{PortState}
+use Rattle.attr_codec.specs.NodeTypeNumber.{type_of_number}
+use Rattle.attr_codec.specs.PortInfo.{port_state, number_of_state, state_of_number}
+use Rattle.fact_store.specs.declared.report.Context.{Context}
+use Rattle.fact_store.specs.declared.report.Context.TheVariants.{Via, About}
+use Rattle.fact_store.specs.Report.{about_of, guid_port, is_up_state, node_info_of, payload_of}
+use Rattle.sweep.specs.declared.request.Question.{Question}
+use Rattle.sweep.specs.declared.request.Question.TheVariants as ask
+use Rattle.sweep.specs.declared.request.Request.{Request}
+use Rattle.sweep.specs.declared.reached.Reached.{Reached}
+use Rattle.sweep.specs.declared.reached.SeenState.{SeenState}
+use Rattle.sweep.specs.declared.finding.Finding.{Finding}
+use Rattle.sweep.specs.declared.finding.Finding.TheVariants.{Nothing, Vertex, Port}
+use Rattle.sweep.specs.declared.finding.Onward.{Onward}
+use Rattle.sweep.specs.declared.finding.Onward.TheVariants.{Stays, Leads, TooFar}
+use Rattle.sweep.specs.Order.{placed}
+use Rattle.sweep.specs.Sweep.{Sweep, Asking, asking, reached_first, reached_at, vertex_key, state_key}
+
+-- by NodeInfo ---------------------------------------------------------------------------------
+
+-- a switch is one vertex, under port 0, and an adapter one for each port that is reached
+abbrev pub vertex_of : List ℕ → NodeInfo → NodeType → ℕ → Reached
+vertex_of path info kind ports =
+    record {
+      guid = info.node_guid;
+      port = guid_port kind info.local_port_num;
+      kind = kind;
+      ports = ports;
+      arrival = info.local_port_num;
+      path = path;
+    }
+
+-- a node of a GUID that is new to the sweep
+abbrev pub found_anew : List ℕ → NodeInfo → Option NodeType → Finding
+found_anew path info None = Nothing
+found_anew path info (Some kind) = Vertex (vertex_of path info kind info.num_ports)
+
+-- a node that is known: it is what its first reply said, and at most a port of an adapter is new
+abbrev pub found_again : Sweep → List ℕ → NodeInfo → Reached → Finding
+found_again s path info first =
+    if is_switch first.kind || is_some (reached_at s.reached info.node_guid info.local_port_num) then Nothing
+    else Vertex (vertex_of path info first.kind first.ports)
+
+abbrev pub node_found_of : Sweep → List ℕ → NodeInfo → Option Reached → Finding
+node_found_of s path info None = found_anew path info (type_of_number info.node_type)
+node_found_of s path info (Some first) = found_again s path info first
+
+abbrev pub node_found : Sweep → List ℕ → NodeInfo → Finding
+node_found s path info = node_found_of s path info (reached_first s.reached info.node_guid)
+
+-- by PortInfo -----------------------------------------------------------------------------------
+
+abbrev pub is_start : List ℕ → Bool
+is_start [] = true
+is_start (port ∷ path) = false
+
+-- a port of a switch, but not its management port, nor the one that leads back
+abbrev pub is_way_on : Sweep → ℕ → ℕ → Bool
+is_way_on s guid port =
+    option_map_or (λ first. is_switch first.kind && (not (port == 0) && not (port == first.arrival))) (reached_first s.reached guid) false
+
+-- the port that the sweep goes out by, or one of a switch
+abbrev pub goes_by : Sweep → List ℕ → ℕ → ℕ → Bool
+goes_by s path guid port = (is_start path && port == s.origin) || is_way_on s guid port
+
+-- by a port that is up and leads on, as far as a path can be
+abbrev pub onward : Sweep → List ℕ → ℕ → ℕ → PortState → Onward
+onward s path guid port state =
+    if not (is_up_state (number_of_state state) && goes_by s path guid port) then Stays
+    else if nat_lt (length path) max_hops then Leads
+    else TooFar
+
+-- a reserved number is no state
+abbrev pub port_found_of : Sweep → List ℕ → ℕ → ℕ → Option PortState → Finding
+port_found_of s path guid port None = Nothing
+port_found_of s path guid port (Some state) = Port (record { guid = guid; port = port; state = state }) (onward s path guid port state)
+
+abbrev pub port_found_at : Sweep → List ℕ → Option ℕ → ℕ → Option PortState → Finding
+port_found_at s path None port state = Nothing
+port_found_at s path (Some guid) port state = port_found_of s path guid port state
+
+-- a port of the node that the request was about
+abbrev pub port_found : Sweep → List ℕ → Context → ℕ → List ℕ → Finding
+port_found s path context port packet = port_found_at s path (about_of context) port (state_of_number (bits_in port_state (payload_of packet)))
+
+-- by any reply -----------------------------------------------------------------------------------
+
+abbrev pub finding_of : Sweep → Request → List ℕ → Question → Finding
+finding_of s r packet ask.Node = node_found s r.path (node_info_of packet)
+finding_of s r packet ask.Switch = Nothing
+finding_of s r packet (ask.Port port) = port_found s r.path r.context port packet
+
+-- what the reply to a request brings up
+abbrev pub finding : Sweep → Request → List ℕ → Finding
+finding s r packet = finding_of s r packet r.question
+
+-- what is asked next --------------------------------------------------------------------------------
+
+-- so many ports, one after the other
+abbrev pub port_questions : ℕ → ℕ → List ℕ → Context → List Asking
+port_questions port zero path context = []
+port_questions port (suc more) path context =
+    record { question = ask.Port port; path = path; context = context } ∷ port_questions (port + 1) more path context
+
+-- of a switch its table and all its ports, the management port among them; of an adapter the port that was reached
+abbrev pub vertex_questions : Reached → List Asking
+vertex_questions v =
+    if is_switch v.kind
+    then record { question = ask.Switch; path = v.path; context = About v.guid } ∷ port_questions 0 (v.ports + 1) v.path (About v.guid)
+    else record { question = ask.Port v.port; path = v.path; context = About v.guid } ∷ []
+
+-- the node across the port, over the path with the port at its end
+abbrev pub onward_questions : List ℕ → SeenState → Onward → List Asking
+onward_questions path seen Stays = []
+onward_questions path seen Leads = record { question = ask.Node; path = path ++ seen.port ∷ []; context = Via seen.guid seen.port } ∷ []
+onward_questions path seen TooFar = []
+
+abbrev pub questions : List ℕ → Finding → List Asking
+questions path Nothing = []
+questions path (Vertex v) = vertex_questions v
+questions path (Port seen onward) = onward_questions path seen onward
+
+-- what the sweep has then ----------------------------------------------------------------------------
+
+abbrev pub with_reached : Finding → List Reached → List Reached
+with_reached Nothing reached = reached
+with_reached (Vertex v) reached = placed vertex_key v reached
+with_reached (Port seen onward) reached = reached
+
+abbrev pub with_state : Finding → List SeenState → List SeenState
+with_state Nothing states = states
+with_state (Vertex v) states = states
+with_state (Port seen onward) states = placed state_key seen states
+
+abbrev pub one_too_far : Onward → ℕ
+one_too_far Stays = 0
+one_too_far Leads = 0
+one_too_far TooFar = 1
+
+abbrev pub too_far_by : Finding → ℕ
+too_far_by Nothing = 0
+too_far_by (Vertex v) = 0
+too_far_by (Port seen onward) = one_too_far onward
+
+-- with what was found, and the questions that it brings up
+abbrev pub with_finding : Sweep → List ℕ → Finding → Sweep
+with_finding s path found =
+    record (asking s (questions path found)) { reached = with_reached found s.reached; states = with_state found s.states; too_far = s.too_far + too_far_by found }
+
+-- a path goes on only where it is not at its greatest length
+abbrev pub IsWithinReach : List ℕ → Finding → Type 0
+IsWithinReach path Nothing = Unit {0}
+IsWithinReach path (Vertex v) = Unit {0}
+IsWithinReach path (Port seen onward) = onward ≡ Leads → length path < max_hops

@@ -1,0 +1,49 @@
+-- Lists in an order, and the place of an item in it.
+use Rattle.std.specs.Prelude.{◌≡◌, ℕ, ◌≤◌, Bool, true, false, ◌&&◌, ◌||◌, List, [], ◌∷◌, length, find, nat_lt, slice_get, ◌==◌, if◌then◌else◌, Option}
+use Rattle.std.specs.Option.{option_map_or}
+use Rattle.std.specs.List.{AllByRecursion}
+use Rattle.std.specs.List.Sorted.{IsPartitionPoint}
+
+-- each is related to all that come later
+abbrev pub AreOrdered : {T : Type 0} → (T → T → Type 0) → List T → Type 0
+AreOrdered R [] = Unit {0}
+AreOrdered R (x ∷ xs) = AllByRecursion (R x) xs × AreOrdered R xs
+
+-- the test holds of all before the place, and of none from it on
+pub record IsPlace {T : Type 0} (test : T → Bool) (items : List T) (place : ℕ) : Type 0 where
+  pub within : place ≤ length items
+  pub parts : IsPartitionPoint (λ x. test x ≡ true) (λ x. test x ≡ false) items place
+
+-- the item at a place passes the test
+abbrev pub passes_at : {T : Type 0} → (T → Bool) → List T → ℕ → Bool
+passes_at test items place = option_map_or test (slice_get items place) false
+
+-- by GUID and port -----------------------------------------------------------------------------
+
+-- by GUID, and under one GUID by port
+abbrev pub is_before : ℕ × ℕ → ℕ × ℕ → Bool
+is_before a b = nat_lt a.0 b.0 || (a.0 == b.0 && nat_lt a.1 b.1)
+
+-- each is before all that come later
+abbrev pub AreInOrder : {T : Type 0} → (T → ℕ × ℕ) → List T → Type 0
+AreInOrder key items = AreOrdered (λ a b. is_before (key a) (key b) ≡ true) items
+
+-- with one put in at its place; where there is one with its GUID and port, that one stays
+abbrev pub placed : {T : Type 0} → (T → ℕ × ℕ) → T → List T → List T
+placed key x [] = x ∷ []
+placed key x (y ∷ ys) =
+    if is_before (key y) (key x) then y ∷ placed key x ys
+    else if is_before (key x) (key y) then x ∷ (y ∷ ys)
+    else y ∷ ys
+
+-- it has this GUID and port
+abbrev pub has_key : {T : Type 0} → (T → ℕ × ℕ) → ℕ → ℕ → T → Bool
+has_key key guid port x = (key x).0 == guid && (key x).1 == port
+
+-- the one with this GUID and port
+abbrev pub found_at : {T : Type 0} → (T → ℕ × ℕ) → ℕ → ℕ → List T → Option T
+found_at key guid port items = find (has_key key guid port) items
+
+-- where the one with this GUID and port is, or would be
+abbrev pub IsPlaceFor : {T : Type 0} → (T → ℕ × ℕ) → ℕ × ℕ → List T → ℕ → Type 0
+IsPlaceFor key at items place = IsPlace (λ x. is_before (key x) at) items place

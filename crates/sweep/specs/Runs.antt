@@ -1,0 +1,73 @@
+-- Runs of a sweep: requests go out, replies come, and requests time out, in any order.
+use Rattle.std.specs.Prelude.{◌≡◌, ℕ, ◌+◌, ◌<◌, List, [], ◌∷◌, ◌++◌, length, Result, Ok, Err}
+use Rattle.sweep.specs.declared.answer.Answer.{Answer}
+use Rattle.sweep.specs.declared.fault.SweepFault.{SweepFault}
+use Rattle.sweep.specs.declared.request.Request.{Request}
+use Rattle.sweep.specs.Order.{AreOrdered}
+use Rattle.sweep.specs.Replies.{judged, replied}
+use Rattle.sweep.specs.Sweep.{Sweep, sent, started, timed_out}
+
+-- the next request goes out; these bytes come; a TransactionID times out
+pub data Event : Type 0 where
+  Sends : Event
+  Hears : List ℕ → Event
+  TimesOut : ℕ → Event
+
+-- a reply that is refused leaves everything as it is
+abbrev pub heard : Sweep → List ℕ → Result Answer SweepFault → Sweep
+heard s packet (Ok answer) = replied s packet
+heard s packet (Err fault) = s
+
+abbrev pub step : Sweep → Event → Sweep
+step s Sends = (sent s).sweep
+step s (Hears packet) = heard s packet (judged s packet)
+step s (TimesOut transaction) = timed_out s transaction
+
+abbrev pub first_number : List Request → List ℕ
+first_number [] = []
+first_number (r ∷ queued) = r.number ∷ []
+
+-- the number of the request that goes out, if one does
+abbrev pub number_sent : Sweep → Event → List ℕ
+number_sent s Sends = first_number s.queued
+number_sent s (Hears packet) = []
+number_sent s (TimesOut transaction) = []
+
+-- the numbers of all requests that go out
+abbrev pub numbers_sent : Sweep → List Event → List ℕ
+numbers_sent s [] = []
+numbers_sent s (e ∷ events) = number_sent s e ++ numbers_sent (step s e) events
+
+-- they rise, so no number is used twice
+abbrev pub NumbersRise : Type 0
+NumbersRise = (origin generation first : ℕ) (events : List Event) → AreOrdered (λ a b. a < b) (numbers_sent (started origin generation first) events)
+
+-- how many replies are taken
+abbrev pub taken_by : Result Answer SweepFault → ℕ
+taken_by (Ok answer) = 1
+taken_by (Err fault) = 0
+
+abbrev pub reply_taken : Sweep → Event → ℕ
+reply_taken s Sends = 0
+reply_taken s (Hears packet) = taken_by (judged s packet)
+reply_taken s (TimesOut transaction) = 0
+
+abbrev pub replies_taken : Sweep → List Event → ℕ
+replies_taken s [] = 0
+replies_taken s (e ∷ events) = reply_taken s e + replies_taken (step s e) events
+
+-- the sweep after a run
+abbrev pub after : Sweep → List Event → Sweep
+after s [] = s
+after s (e ∷ events) = after (step s e) events
+
+-- the requests that have not been answered: they timed out, wait, or are to be sent
+abbrev pub unended : Sweep → ℕ
+unended s = s.unanswered + (length s.outstanding + length s.queued)
+
+-- each number from the first on is that of a request that was answered or was not, so in a sweep that is done each was
+-- answered or counts as unanswered
+abbrev pub EachCounts : Type 0
+EachCounts =
+    (origin generation first : ℕ) (events : List Event) →
+    first + replies_taken (started origin generation first) events + unended (after (started origin generation first) events) ≡ (after (started origin generation first) events).next

@@ -1,0 +1,183 @@
+-- A sweep: what it has asked, what it waits for, and what it has found.
+-- InfiniBand Architecture Specification, Volume 1: subnet management, topology discovery; directed route SMPs.
+use Rattle.std.specs.Prelude.{ℕ, ◌+◌, ◌*◌, ◌^◌, ◌≤◌, Bool, true, false, ◌&&◌, not, List, [], ◌∷◌, ◌++◌, length, find, filter, replicate, ◌==◌, if◌then◌else◌, Option, Some, None, option_map, is_some, slice_get}
+use Rattle.smp_bytes.specs.Header.{get, node_info, switch_info, port_info}
+use Rattle.smp_bytes.specs.Requests.{directed}
+use Rattle.attr_codec.specs.declared.port_state.PortState.{PortState}
+use Rattle.fact_store.specs.declared.report.Context.{Context}
+use Rattle.fact_store.specs.declared.report.Context.TheVariants.{Start}
+use Rattle.sweep.specs.declared.fault.SweepFault.{SweepFault}
+use Rattle.sweep.specs.declared.fault.SweepFault.TheVariants.{NotOutstanding}
+use Rattle.sweep.specs.declared.request.Question.{Question}
+use Rattle.sweep.specs.declared.request.Question.TheVariants as ask
+use Rattle.sweep.specs.declared.request.Request.{Request}
+use Rattle.sweep.specs.declared.reached.Reached.{Reached}
+use Rattle.sweep.specs.declared.reached.SeenState.{SeenState}
+use Rattle.sweep.specs.Order.{AreInOrder, found_at}
+
+-- The port that it goes out by and its generation; the number of the next request; the requests that are to be sent and
+-- those that wait for a reply, both first in, first out; the vertices that were reached and the states of ports that were
+-- seen, in the order of GUIDs and ports; how many requests were not answered, and how many ports lead further than a path.
+pub record Sweep : Type 0 where
+  pub origin : ℕ
+  pub generation : ℕ
+  pub next : ℕ
+  pub queued : List Request
+  pub outstanding : List Request
+  pub reached : List Reached
+  pub states : List SeenState
+  pub unanswered : ℕ
+  pub too_far : ℕ
+
+-- requests as packets ---------------------------------------------------------------------
+
+abbrev pub attribute_asked : Question → ℕ
+attribute_asked ask.Node = node_info
+attribute_asked ask.Switch = switch_info
+attribute_asked (ask.Port port) = port_info
+
+abbrev pub modifier_asked : Question → ℕ
+modifier_asked ask.Node = 0
+modifier_asked ask.Switch = 0
+modifier_asked (ask.Port port) = port
+
+-- the generation in the high half, the sequence number in the low half
+abbrev pub transaction_of : ℕ → ℕ → ℕ
+transaction_of generation number = generation * 2 ^ 32 + number
+
+-- a Get over the request's path, with no data
+abbrev pub packet_of : ℕ → Request → List ℕ
+packet_of generation r =
+    directed get (attribute_asked r.question) (modifier_asked r.question) (transaction_of generation r.number) r.path (replicate 64 0)
+
+-- what comes up is asked ----------------------------------------------------------------
+
+-- a question that is to be asked, before it has a number
+pub record Asking : Type 0 where
+  pub question : Question
+  pub path : List ℕ
+  pub context : Context
+
+-- the questions as requests, by rising numbers
+abbrev pub numbered : ℕ → List Asking → List Request
+numbered number [] = []
+numbered number (a ∷ asked) = record { number = number; question = a.question; path = a.path; context = a.context } ∷ numbered (number + 1) asked
+
+-- with these questions at the end of the queue, numbered on from the last
+abbrev pub asking : Sweep → List Asking → Sweep
+asking s asked = record s { next = s.next + length asked; queued = s.queued ++ numbered s.next asked }
+
+-- a sweep that has asked nothing
+abbrev pub empty_sweep : ℕ → ℕ → ℕ → Sweep
+empty_sweep origin generation first =
+    record {
+      origin = origin;
+      generation = generation;
+      next = first;
+      queued = [];
+      outstanding = [];
+      reached = [];
+      states = [];
+      unanswered = 0;
+      too_far = 0;
+    }
+
+-- a sweep begins with what it is that it sits at
+abbrev pub first_question : Asking
+first_question = record { question = ask.Node; path = []; context = Start }
+
+abbrev pub started : ℕ → ℕ → ℕ → Sweep
+started origin generation first = asking (empty_sweep origin generation first) (first_question ∷ [])
+
+-- sending and waiting ----------------------------------------------------------------------
+
+-- the sweep after its next request went out, and that request
+pub record Sent : Type 0 where
+  pub sweep : Sweep
+  pub packet : Option (List ℕ)
+
+abbrev pub sent_of : Sweep → List Request → Sent
+sent_of s [] = record { sweep = s; packet = None }
+sent_of s (r ∷ queued) =
+    record { sweep = record s { queued = queued; outstanding = s.outstanding ++ r ∷ [] }; packet = Some (packet_of s.generation r) }
+
+-- the first of the queue goes out, and waits for its reply from then on
+abbrev pub sent : Sweep → Sent
+sent s = sent_of s s.queued
+
+abbrev pub is_numbered : ℕ → Request → Bool
+is_numbered number r = r.number == number
+
+-- without the request of a number
+abbrev pub without_number : ℕ → List Request → List Request
+without_number number requests = filter (λ r. not (is_numbered number r)) requests
+
+-- the request with this TransactionID
+abbrev pub request_with : ℕ → ℕ → List Request → Option Request
+request_with generation transaction requests = find (λ r. transaction_of generation r.number == transaction) requests
+
+-- only a request that waits can time out
+abbrev pub timeout_fault : Sweep → ℕ → Option SweepFault
+timeout_fault s transaction = if is_some (request_with s.generation transaction s.outstanding) then None else Some NotOutstanding
+
+abbrev pub timed_out_of : Sweep → Option Request → Sweep
+timed_out_of s None = s
+timed_out_of s (Some r) = record s { outstanding = without_number r.number s.outstanding; unanswered = s.unanswered + 1 }
+
+-- a request that timed out waits no more, and counts as one that was not answered
+abbrev pub timed_out : Sweep → ℕ → Sweep
+timed_out s transaction = timed_out_of s (request_with s.generation transaction s.outstanding)
+
+-- the TransactionID of the i-th request that waits
+abbrev pub outstanding_at : Sweep → ℕ → Option ℕ
+outstanding_at s i = option_map (λ r. transaction_of s.generation r.number) (slice_get s.outstanding i)
+
+abbrev pub is_none_left : List Request → Bool
+is_none_left [] = true
+is_none_left (r ∷ requests) = false
+
+-- nothing is to be sent, and nothing waits
+abbrev pub is_done : Sweep → Bool
+is_done s = is_none_left s.queued && is_none_left s.outstanding
+
+-- what was found -----------------------------------------------------------------------------
+
+abbrev pub vertex_key : Reached → ℕ × ℕ
+vertex_key r = (r.guid, r.port)
+
+abbrev pub state_key : SeenState → ℕ × ℕ
+state_key p = (p.guid, p.port)
+
+-- the first vertex of a node, which says what the node is
+abbrev pub reached_first : List Reached → ℕ → Option Reached
+reached_first reached guid = find (λ r. r.guid == guid) reached
+
+abbrev pub reached_at : List Reached → ℕ → ℕ → Option Reached
+reached_at reached guid port = found_at vertex_key guid port reached
+
+abbrev pub state_at : List SeenState → ℕ → ℕ → Option PortState
+state_at states guid port = option_map (λ p. p.state) (found_at state_key guid port states)
+
+-- the path that first reached a switch, by port 0, or an adapter's port
+abbrev pub path_to : Sweep → ℕ → ℕ → Option (List ℕ)
+path_to s guid port = option_map (λ r. r.path) (reached_at s.reached guid port)
+
+-- the state that the first reply said
+abbrev pub seen_state : Sweep → ℕ → ℕ → Option PortState
+seen_state s guid port = state_at s.states guid port
+
+-- what holds of each sweep ---------------------------------------------------------------------
+
+-- the numbers of requests rise, from the least on, and stay below the next
+abbrev pub AreRising : ℕ → List Request → ℕ → Type 0
+AreRising least [] next = least ≤ next
+AreRising least (r ∷ requests) next = (least ≤ r.number) × AreRising (r.number + 1) requests next
+
+-- No number is used twice, since those of the requests that wait and then of the queue rise, and the next is above all;
+-- what was found is in order; and each request counts once.
+pub record IsSweep (s : Sweep) : Type 0 where
+  pub rising : AreRising 0 (s.outstanding ++ s.queued) s.next
+  pub next : s.next ≤ 2 ^ 32
+  pub reached : AreInOrder vertex_key s.reached
+  pub states : AreInOrder state_key s.states
+  pub counted : s.unanswered + s.too_far + length (s.outstanding ++ s.queued) ≤ s.next

@@ -1,0 +1,31 @@
+use fact_store::ReportFault;
+use std::alloc::AllocError;
+use thiserror::Error;
+
+/// Why a sweep refuses what it is told. It is then as it was.
+#[derive(Clone, Copy, Debug, PartialEq, Eq, Error)]
+pub enum SweepFault {
+    /// No request that waits for a reply is the one that this answers.
+    #[error("NotOutstanding")]
+    NotOutstanding,
+    /// The bytes are no packet, or no answer from which facts are read.
+    #[error("{0}")]
+    Bad(ReportFault),
+    /// A request that the reply brings up needs a number over 4294967295.
+    #[error("SequenceSpent")]
+    SequenceSpent,
+    /// The memory that the call needs was refused.
+    #[error("Memory")]
+    Memory,
+}
+
+impl From<AllocError> for SweepFault {
+    ghost use Rattle.std.specs.Prelude.{◌≡◌};
+    ghost use Rattle.sweep.specs.declared.fault.SweepFault.TheVariants.{Memory};
+
+    ghost from_gives = { λ _ fault. fault ≡ Memory };
+
+    fn from(_: AllocError) -> Self {
+        SweepFault::Memory
+    }
+}

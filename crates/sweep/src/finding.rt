@@ -1,0 +1,182 @@
+ghost use Rattle.std.specs.Prelude.{◌≡◌, ◌&&◌, ◌≤◌, ℕ, List, length};
+ghost use Rattle.smp_bytes.specs.Field.{bits_in};
+ghost use Rattle.attr_codec.specs.PortInfo.{number_of_state, port_state, state_of_number};
+ghost use Rattle.fact_store.specs.Report.{is_up_state};
+ghost use Rattle.sweep.specs.Finding.{finding, goes_by, node_found, onward, port_found_of, questions, vertex_of, vertex_questions};
+
+use crate::reached::{Reached, SeenState};
+use crate::request::{Question, Request, copied};
+use crate::sweep::Sweep;
+use attr_codec::{Attribute, NodeInfo, PortInfo, PortState};
+use fact_store::Context;
+use smp_bytes::{Guid, NodeType, Path, PortNum, Smp};
+
+/// What a reply brings up.
+#[derive(Debug, Drop)]
+pub(crate) enum Finding {
+    /// Nothing that is new.
+    Nothing,
+    /// A node, or another port of an adapter.
+    Vertex(Reached),
+    /// A port's state, and whether the sweep goes on by the port.
+    Port(SeenState, Onward),
+}
+
+/// Whether a sweep goes on by a port.
+#[derive(Clone, Copy, Debug, PartialEq, Eq)]
+pub(crate) enum Onward {
+    /// It is down, or leads back, or is no port of a switch.
+    Stays,
+    /// The node across it is asked.
+    Leads,
+    /// The node across it is further than a path goes.
+    TooFar,
+}
+
+impl Finding {
+    /// How many requests it brings up.
+    pub(crate) fn question_count(&self) -> u64
+        ensures count { (path : List ℕ) → result ≡ length (questions path self.now) }
+        ensures within { result ≤ 257 }
+    {
+        match self {
+            Finding::Vertex(vertex) => vertex.question_count(),
+            Finding::Port(_, Onward::Leads) => 1,
+            Finding::Port(..) | Finding::Nothing => 0,
+        }
+    }
+}
+
+impl Reached {
+    /// How many requests a new vertex brings up.
+    fn question_count(&self) -> u64
+        ensures count { result ≡ length (vertex_questions self.now) }
+        ensures within { result ≤ 257 }
+    {
+        if self.is_switch() {
+            u64::from(self.ports) + 2
+        } else {
+            1
+        }
+    }
+}
+
+impl Sweep {
+    /// What the reply to a request brings up.
+    pub(crate) fn finding(&self, request: &Request, smp: &Smp) -> Finding
+        ensures { result ≡ finding self.now request.now smp.now }
+    {
+        let data = smp.attribute_data();
+        match request.question {
+            Question::Node => self.node_found(&request.path, &NodeInfo::decode(&data)),
+            Question::Switch => Finding::Nothing,
+            Question::Port(port) => match request.context {
+                Context::About(guid) => self.port_found(
+                    &request.path,
+                    guid,
+                    port,
+                    &PortInfo::decode(&data),
+                ),
+                Context::Start | Context::Via(..) => Finding::Nothing,
+            },
+        }
+    }
+
+    /// What NodeInfo brings up: a node that is new, or a port of an adapter.
+    fn node_found(&self, path: &Path<63>, info: &NodeInfo) -> Finding
+        ensures { result ≡ node_found self.now path.now info.now }
+    {
+        let Some(first) = self.found.first_of(info.node_guid) else {
+            return match info.node_type.node_type() {
+                Some(kind) => Finding::Vertex(vertex_of(path, info, kind, info.num_ports)),
+                None => Finding::Nothing,
+            };
+        };
+        let is_known = first.is_switch()
+            || self
+                .found
+                .vertex(info.node_guid, info.local_port_num)
+                .is_some();
+        if is_known {
+            return Finding::Nothing;
+        }
+        Finding::Vertex(vertex_of(path, info, first.kind, first.ports))
+    }
+
+    /// What PortInfo brings up: the port's state, and whether the sweep goes on by the port.
+    fn port_found(&self, path: &Path<63>, guid: Guid, port: PortNum, info: &PortInfo) -> Finding
+        ensures { result
+            ≡ port_found_of self.now path.now guid port (state_of_number (bits_in port_state info.now)) }
+    {
+        match info.port_state() {
+            Some(state) => {
+                let onward = self.onward(path, guid, port, state);
+                Finding::Port(SeenState { guid, port, state }, onward)
+            }
+            None => Finding::Nothing,
+        }
+    }
+
+    fn onward(&self, path: &Path<63>, guid: Guid, port: PortNum, state: PortState) -> Onward
+        ensures { result ≡ onward self.now path.now guid port state }
+    {
+        if !self.leads_on(path, guid, port, state) {
+            Onward::Stays
+        } else if path.len() < 63 {
+            Onward::Leads
+        } else {
+            Onward::TooFar
+        }
+    }
+
+    /// Whether a port is up and the sweep goes on by it.
+    fn leads_on(&self, path: &Path<63>, guid: Guid, port: PortNum, state: PortState) -> bool
+        ensures { result
+            ≡ is_up_state (number_of_state state) && goes_by self.now path.now guid port }
+    {
+        is_up(state) && self.goes_by(path, guid, port)
+    }
+
+    /// Whether the sweep goes on by a port: the one that it goes out by, or one of a switch that
+    /// does not lead back.
+    fn goes_by(&self, path: &Path<63>, guid: Guid, port: PortNum) -> bool
+        ensures { result ≡ goes_by self.now path.now guid port }
+    {
+        if path.is_empty() && port == self.origin {
+            return true;
+        }
+        match self.found.first_of(guid) {
+            Some(first) => { first.is_switch() && port.number() != 0 && port != first.arrival }
+            None => false,
+        }
+    }
+}
+
+/// A port in one of these states is up.
+fn is_up(state: PortState) -> bool
+    ensures { result ≡ is_up_state (number_of_state state) }
+{
+    match state {
+        PortState::Initialize | PortState::Armed | PortState::Active => true,
+        PortState::NoChange | PortState::Down => false,
+    }
+}
+
+/// The vertex of a node that answered: of a switch its management port, of an adapter the port that
+/// was asked.
+fn vertex_of(path: &Path<63>, info: &NodeInfo, kind: NodeType, ports: u8) -> Reached
+    ensures { result ≡ vertex_of path.now info.now kind ports }
+{
+    let port = match kind {
+        NodeType::Switch => PortNum::new(0),
+        NodeType::ChannelAdapter | NodeType::Router => info.local_port_num,
+    };
+    Reached {
+        guid: info.node_guid,
+        port,
+        kind,
+        ports,
+        arrival: info.local_port_num,
+        path: copied(path),
+    }
+}

@@ -1,0 +1,14 @@
+//! What holds of every run of a sweep.
+ghost use Rattle.sweep.specs.Runs.{EachCounts, NumbersRise};
+
+/// Whatever comes to a sweep, and in whatever order, the numbers of the requests that go out rise:
+/// none is used twice.
+pub fn numbers_rise()
+    ensures { NumbersRise }
+{}
+
+/// Each number that was given is that of a request that was answered, timed out, waits or is to be
+/// sent; so when nothing waits or is to be sent, each was answered or counts as unanswered.
+pub fn each_request_counts()
+    ensures { EachCounts }
+{}

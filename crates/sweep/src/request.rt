@@ -1,0 +1,85 @@
+ghost use Rattle.std.specs.Prelude.{◌≡◌, ◌<◌, ◌^◌};
+ghost use Rattle.sweep.specs.Sweep.{attribute_asked, modifier_asked, packet_of, transaction_of};
+
+use fact_store::Context;
+use smp_bytes::{AttributeId, Generation, Method, Path, PortNum, Smp};
+
+/// What a request asks of a node.
+#[derive(Clone, Copy, Debug, PartialEq, Eq)]
+pub enum Question {
+    /// NodeInfo: what it is.
+    Node,
+    /// SwitchInfo: how large its forwarding table is.
+    Switch,
+    /// PortInfo of one of its ports.
+    Port(PortNum),
+}
+
+/// A Get that a sweep makes over a directed route.
+#[derive(Debug, Drop)]
+pub struct Request {
+    /// Its sequence number, the low half of its TransactionID.
+    pub number: u32,
+    pub question: Question,
+    /// The ports that lead to the node.
+    pub path: Path<63>,
+    /// What the report of the reply will say beside it.
+    pub context: Context,
+}
+
+/// The TransactionID of a number: the generation is its high half.
+pub(crate) fn transaction_of(generation: Generation, number: u32) -> u64
+    ensures { result ≡ transaction_of generation number }
+{
+    u64::from(generation.number()) * 0x1_0000_0000 + u64::from(number)
+}
+
+impl Question {
+    /// The attribute that it asks for.
+    pub(crate) fn attribute(self) -> AttributeId
+        ensures { result.0 ≡ attribute_asked self }
+    {
+        match self {
+            Question::Node => AttributeId::NODE_INFO,
+            Question::Switch => AttributeId::SWITCH_INFO,
+            Question::Port(_) => AttributeId::PORT_INFO,
+        }
+    }
+
+    /// The attribute modifier: the port for PortInfo.
+    pub(crate) fn modifier(self) -> u32
+        ensures { result ≡ modifier_asked self }
+    {
+        match self {
+            Question::Node | Question::Switch => 0,
+            Question::Port(port) => u32::from(port.number()),
+        }
+    }
+}
+
+impl Request {
+    /// The packet that it goes out as.
+    pub(crate) fn packet(&self, generation: Generation) -> Smp
+        ensures { result ≡ packet_of generation self.now }
+    {
+        Smp::directed(
+            Method::GET,
+            self.question.attribute(),
+            self.question.modifier(),
+            transaction_of(generation, self.number),
+            &self.path,
+            &[0; 64],
+        )
+    }
+}
+
+/// A path of its own with the same ports.
+pub(crate) fn copied(path: &Path<63>) -> Path<63>
+    ensures { result ≡ path.now }
+{
+    let mut copy = Path::new();
+    for i in 0..path.len() {
+        copy.push(path.get(i).unwrap());
+    }
+    copy
+}

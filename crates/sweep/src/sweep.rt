@@ -1,0 +1,147 @@
+ghost use Rattle.std.specs.Prelude.{◌≡◌, IfOk, OnOk, OnErr, option_copied};
+ghost use Rattle.smp_bytes.specs.Judges.{Judges};
+ghost use Rattle.sweep.specs.Sweep.{is_done, outstanding_at, path_to, seen_state, sent, started, timed_out, timeout_fault};
+
+use crate::fault::SweepFault;
+use crate::found::Found;
+use crate::reached::Reached;
+use crate::request::{Question, transaction_of};
+use crate::requests::Requests;
+use attr_codec::PortState;
+use fact_store::Context;
+use smp_bytes::{Generation, Guid, Path, PortNum, Smp};
+use std::alloc::{AllocError, Global};
+use std::marker::Model;
+
+/// A sweep over a subnet: what it has asked, what it waits for, and what it has found (subnet
+/// management, topology discovery). Contracts see each part.
+#[derive(Drop)]
+pub struct Sweep {
+    /// The port of its own node that it goes out by.
+    pub(crate) origin: PortNum,
+    pub(crate) generation: Generation,
+    pub(crate) requests: Requests,
+    pub(crate) found: Found,
+    pub(crate) unanswered: u64,
+}
+
+impl Model for Sweep {
+    ghost use Rattle.sweep.specs.Sweep.{Sweep, IsSweep};
+
+    ghost Value = { Sweep };
+
+    ghost view = { λ a. record { origin = a.origin; generation = a.generation; next = a.requests.next; queued = a.requests.queued; outstanding = a.requests.outstanding; reached = a.found.reached; states = a.found.states; unanswered = a.unanswered; too_far = a.found.too_far } };
+
+    ghost invariant = { λ a. IsSweep (record { origin = a.origin; generation = a.generation; next = a.requests.next; queued = a.requests.queued; outstanding = a.requests.outstanding; reached = a.found.reached; states = a.found.states; unanswered = a.unanswered; too_far = a.found.too_far }) };
+}
+
+impl Sweep {
+    /// A sweep that goes out by a port of its own node. Its first request asks what that node is,
+    /// and has the first sequence number.
+    pub fn start(
+        alloc: Global,
+        origin: PortNum,
+        generation: Generation,
+        first_sequence: u32,
+    ) -> Result<Sweep, AllocError>
+        ensures { IfOk result (λ sweep. sweep ≡ started origin generation first_sequence) }
+    {
+        let mut requests = Requests::new(alloc, first_sequence);
+        requests.reserve()?;
+        requests.ask(Question::Node, Path::new(), Context::Start);
+        Ok(Sweep {
+            origin,
+            generation,
+            requests,
+            found: Found::new(alloc),
+            unanswered: 0,
+        })
+    }
+
+    /// The next request as a packet, first in, first out; from now on it waits for its reply. Takes
+    /// one step.
+    pub fn next_request(&mut self) -> Option<Smp>
+        ensures packet { result ≡ (sent self.old).packet }
+        ensures sweep { self.new ≡ (sent self.old).sweep }
+    {
+        let request = self.requests.first()?;
+        let packet = request.packet(self.generation);
+        self.requests.send();
+        Some(packet)
+    }
+
+    /// Gives up on the reply to the request that waits under a TransactionID. Takes a search, and
+    /// moves the requests on one side of it.
+    pub fn on_timeout(&mut self, transaction: u64) -> Result<(), SweepFault>
+        ensures judged { Judges result (timeout_fault self.old transaction) }
+        ensures ok { OnOk result (self.new ≡ timed_out self.old transaction) }
+        ensures err { OnErr result (self.new ≡ self.old) }
+    {
+        let Some(place) = self.requests.place_of(self.generation, transaction) else {
+            return Err(SweepFault::NotOutstanding);
+        };
+        self.requests.end(place);
+        self.unanswered += 1;
+        Ok(())
+    }
+
+    /// Whether nothing is to be sent and nothing waits for a reply.
+    pub fn is_done(&self) -> bool
+        ensures { result ≡ is_done self.now }
+    {
+        self.requests.is_empty()
+    }
+
+    /// The generation of its facts.
+    pub fn generation(&self) -> Generation
+        ensures { result ≡ self.now.generation }
+    {
+        self.generation
+    }
+
+    /// The TransactionID of the request at place `i` of those that wait for a reply, by rising
+    /// TransactionIDs from 0 on.
+    pub fn outstanding(&self, i: usize) -> Option<u64>
+        ensures { result ≡ outstanding_at self.now i }
+    {
+        let request = self.requests.get(i)?;
+        Some(transaction_of(self.generation, request.number))
+    }
+
+    /// How many requests timed out.
+    pub fn unanswered(&self) -> u64
+        ensures { result ≡ self.now.unanswered }
+    {
+        self.unanswered
+    }
+
+    /// How many ports lead to a node that is more than 63 hops away, which was not asked.
+    pub fn too_far(&self) -> u64
+        ensures { result ≡ self.now.too_far }
+    {
+        self.found.too_far()
+    }
+
+    /// The vertices that were reached, by rising GUIDs and ports: a switch under port 0, an adapter
+    /// under each port that was reached.
+    pub fn reached(&self) -> &[Reached]
+        ensures { result.now ≡ self.now.reached }
+    {
+        self.found.vertices()
+    }
+
+    /// The path that first reached a switch, by port 0, or an adapter's port. Takes a search.
+    pub fn path_to(&self, guid: Guid, port: PortNum) -> Option<&Path<63>>
+        ensures { option_copied result ≡ path_to self.now guid port }
+    {
+        let vertex = self.found.vertex(guid, port)?;
+        Some(&vertex.path)
+    }
+
+    /// The state of a port, as its reply said it. Takes a search.
+    pub fn seen_state(&self, guid: Guid, port: PortNum) -> Option<PortState>
+        ensures { result ≡ seen_state self.now guid port }
+    {
+        self.found.state(guid, port)
+    }
+}
