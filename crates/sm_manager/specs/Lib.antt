@@ -1,0 +1,4 @@
+pub mod Manager
+pub mod Packets
+pub mod Plans
+pub mod Steps

@@ -1,0 +1,98 @@
+ghost use Rattle.std.specs.Prelude.{◌≡◌, ◌+◌, ◌≤◌, ◌++◌, [], length, IfSome, IsNone, OnOk, OnErr};
+ghost use Rattle.sm_manager.specs.Manager.{is_running, newest_held};
+ghost use Rattle.sm_manager.specs.Packets.{JudgesCall, gave_up, is_for_sweep, took};
+
+use crate::fault::ManagerFault;
+use crate::manager::Manager;
+use crate::outgoing::send_queued;
+use fact_store::ReportFault;
+use smp_bytes::{Generation, Method, Smp, SmpClass};
+use sweep::SweepFault;
+
+/// How many requests a reply brings up at most: one for a switch's table and one for each of its 255 ports.
+const MOST: usize = 256;
+
+impl Manager {
+    /// Takes a packet that came to the manager's port. A reply that its sweep waits for tells facts, which are taken in, and
+    /// what it brings up goes out. The work does not grow with what is known, but for the searches.
+    ///
+    /// # Errors
+    ///
+    /// `Sweep` with what is wrong with bytes that are no packet; `Unasked` for what answers nothing, requests among them;
+    /// `Sweep` for a reply that the sweep refuses; `Memory`.
+    pub fn on_packet(&mut self, bytes: &[u8; 256]) -> Result<(), ManagerFault>
+        ensures judged { JudgesCall result (took self.old bytes.now).fault }
+        ensures ok { OnOk result (self.new ≡ (took self.old bytes.now).manager) }
+        ensures err { OnErr result (self.new ≡ self.old) }
+    {
+        let smp = match Smp::parse(bytes) {
+            Ok(smp) => smp,
+            Err(fault) => {
+                return Err(ManagerFault::Sweep(SweepFault::Bad(ReportFault::Smp(fault))));
+            }
+        };
+        if !is_for_sweep(&smp) {
+            return Err(ManagerFault::Unasked);
+        }
+        self.outgoing.reserve(MOST)?;
+        let Some(sweep) = &mut self.sweep else {
+            return Err(ManagerFault::Unasked);
+        };
+        match sweep.on_reply_into(bytes, &mut self.store) {
+            Ok(_) => {
+                send_queued(sweep, &mut self.outgoing);
+                Ok(())
+            }
+            Err(SweepFault::Memory) => Err(ManagerFault::Memory),
+            Err(fault) => Err(ManagerFault::Sweep(fault)),
+        }
+    }
+
+    /// A request was not answered in time, and waits no more. Takes no memory.
+    ///
+    /// # Errors
+    ///
+    /// `Unasked`: no request of this TransactionID waits.
+    pub fn on_timeout(&mut self, transaction: u64) -> Result<(), ManagerFault>
+        ensures judged { JudgesCall result (gave_up self.old transaction).fault }
+        ensures manager { self.new ≡ (gave_up self.old transaction).manager }
+    {
+        let Some(sweep) = &mut self.sweep else {
+            return Err(ManagerFault::Unasked);
+        };
+        match sweep.on_timeout(transaction) {
+            Ok(()) => Ok(()),
+            Err(_) => Err(ManagerFault::Unasked),
+        }
+    }
+
+    /// Whether a sweep was begun and is not done.
+    pub(crate) fn is_running(&self) -> bool
+        ensures { result ≡ is_running self.now.sweep }
+    {
+        match &self.sweep {
+            None => false,
+            Some(sweep) => !sweep.is_done(),
+        }
+    }
+
+    /// The generation after the newest that is held.
+    pub(crate) fn next_generation(&self) -> Option<Generation>
+        ensures some { IfSome result (λ next. next ≡ newest_held self.now.store + 1) }
+        ensures none { IsNone result → newest_held self.now.store ≡ 2 ^ 32 - 1 }
+    {
+        match self.store.newest() {
+            None => Generation::new(1),
+            Some(newest) => Generation::new(newest.number().checked_add(1)?),
+        }
+    }
+}
+
+/// Whether a packet answers a request of a sweep: over a directed route, with a generation in its TransactionID.
+fn is_for_sweep(smp: &Smp) -> bool
+    ensures { result ≡ is_for_sweep smp.now }
+{
+    smp.method() == Method::GET_RESP
+        && smp.class() == SmpClass::DirectedRoute
+        && smp.transaction_id() > 0xFFFF_FFFF
+}
