@@ -4,9 +4,13 @@ use Rattle.std.specs.Prelude.{Option, Some, None, slice_get, ◌==◌}
 use Rattle.smp_bytes.specs.Field.{number_in}
 use Rattle.smp_bytes.specs.Packet.{initial_path}
 use Rattle.fact_store.specs.declared.report.Context.{Context}
+use Rattle.fact_store.specs.declared.report.Context.TheVariants.{About}
+use Rattle.smp_bytes.specs.NodeType.{is_switch}
+use Rattle.std.proofs.lemmas.Bool.{cond-true, cond-false}
 use Rattle.sweep.specs.declared.request.Question.TheVariants as ask
 use Rattle.sweep.specs.declared.request.Request.{Request}
-use Rattle.sweep.specs.Finding.{port_questions}
+use Rattle.sweep.specs.declared.reached.Reached.{Reached}
+use Rattle.sweep.specs.Finding.{port_questions, vertex_questions}
 use Rattle.sweep.specs.Replies.{has_ports}
 use Rattle.sweep.specs.Requests.{HasAsked, Requests}
 use Rattle.sweep.specs.Sweep.{Asking, numbered}
@@ -101,3 +105,16 @@ ports_more n path context =
 pub length_ports : (port n : ℕ) (path : List ℕ) (context : Context) → length (port_questions port n path context) ≡ n
 length_ports port zero path context = refl
 length_ports port (suc n) path context = ap suc (length_ports (port + 1) n path context)
+
+-- a new vertex ----------------------------------------------------------------------------------
+
+pub switch_questions : (v : Reached) → is_switch v.kind ≡ true → vertex_questions v ≡ record { question = ask.Switch; path = v.path; context = About v.guid } ∷ port_questions 0 (v.ports + 1) v.path (About v.guid)
+switch_questions v e = cond-true _ _ _ e
+
+pub length_switch : (v : Reached) → is_switch v.kind ≡ true → length (vertex_questions v) ≡ v.ports + 2
+length_switch v e =
+    let long = length_ports 0 (v.ports + 1) v.path (About v.guid) in
+    ap length (switch_questions v e) ∙ omega (arith, long)
+
+pub length_adapter : (v : Reached) → is_switch v.kind ≡ false → length (vertex_questions v) ≡ 1
+length_adapter v e = ap length (cond-false _ _ _ e)

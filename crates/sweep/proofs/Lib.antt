@@ -2,3 +2,8 @@ pub mod Tests
 pub mod Places
 pub mod Numbers
 pub mod Asked
+pub mod Valid
+pub mod Belonging
+pub mod Few
+pub mod Judged
+pub mod Taken

@@ -1,12 +1,13 @@
 -- An item's place in an ordered list: what is found there, and how one is put in.
 use Rattle.std.proofs.Common.{cond, ◌≡◌, ◌≢◌, ℕ, zero, suc, ◌+◌, ◌<◌, ◌≤◌, Bool, true, false, ◌&&◌, List, [], ◌∷◌, ◌++◌, ◌⊎◌, inl, inr, length, take, drop, get_or, append-nil, refl, arith, ap, sym, ◌∙◌, subst}
 use Rattle.std.specs.Prelude.{Option, Some, None, find, insert, slice_get, slice_index_or, if◌then◌else◌, ◌==◌}
+use Rattle.std.specs.Option.{option_map_or}
 use Rattle.std.specs.List.{AllByRecursion, AllWithin}
 use Rattle.std.specs.List.Sorted.{IsPartitionedBy}
-use Rattle.std.proofs.lemmas.Bool.{cond-true, cond-false, cases_lt}
+use Rattle.std.proofs.lemmas.Bool.{and_parts, cond-true, cond-false, cases_lt, eqb-true}
 use Rattle.std.proofs.lemmas.Option.{slice_get-get_or, slice_get_within}
-use Rattle.sweep.specs.Order.{AreOrdered, AreInOrder, IsPlace, IsPlaceFor, found_at, is_before, placed}
-use Rattle.sweep.proofs.Tests.{before_trans, level_same, not_before_same, same_key, other_key, later_key}
+use Rattle.sweep.specs.Order.{AreOrdered, AreInOrder, IsPlace, IsPlaceFor, found_at, has_key, is_before, passes_at, placed}
+use Rattle.sweep.proofs.Tests.{before_trans, first_later, first_other, level_same, not_before_same, same_key, other_key, later_key}
 
 pub some_is : {T : Type 0} (a b : T) → Some a ≡ Some b → a ≡ b
 some_is a b e = cc
@@ -76,9 +77,9 @@ found_in_place R test p before behind xs i ordered place =
 
 -- by GUID and port ------------------------------------------------------------------------------
 
-pub found_at_place : {T : Type 0} (key : T → ℕ × ℕ) (guid port : ℕ) (xs : List T) (i : ℕ) → AreInOrder key xs → IsPlaceFor key (guid, port) xs i → found_at key guid port xs ≡ if_passes (λ x. (key x).0 == guid && (key x).1 == port) (slice_get xs i)
+pub found_at_place : {T : Type 0} (key : T → ℕ × ℕ) (guid port : ℕ) (xs : List T) (i : ℕ) → AreInOrder key xs → IsPlaceFor key (guid, port) xs i → found_at key guid port xs ≡ if_passes (has_key key guid port) (slice_get xs i)
 found_at_place {T} key guid port xs i ordered place =
-    found_in_place (λ x y. is_before (key x) (key y) ≡ true) (λ x. is_before (key x) (guid, port)) (λ x. (key x).0 == guid && (key x).1 == port) (λ x e. other_key (key x) guid port e) behind xs i ordered place
+    found_in_place (λ x y. is_before (key x) (key y) ≡ true) (λ x. is_before (key x) (guid, port)) (has_key key guid port) (λ x e. other_key (key x) guid port e) behind xs i ordered place
   where
     by : (x y : T) → is_before (key x) (guid, port) ≡ false → (b : Bool) → is_before (guid, port) (key x) ≡ b → ((key x).0 == guid && (key x).1 == port) ≡ false → is_before (key x) (key y) ≡ true → ((key y).0 == guid && (key y).1 == port) ≡ false
     by x y e true l f r = later_key (key y) guid port (before_trans (guid, port) (key x) (key y) l r)
@@ -117,6 +118,43 @@ placed_anew key x (z ∷ zs) zero place other =
 placed_anew key x (z ∷ zs) (suc i) place other =
     cond-true _ _ _ (place_head (λ w. is_before (key w) (key x)) z zs i place)
     ∙ ap (λ rest. z ∷ rest) (placed_anew key x zs i (place_tail (λ w. is_before (key w) (key x)) z zs i place) other)
+
+-- by the test of what stands at the place ---------------------------------------------------------
+
+pub some_passes : {T : Type 0} (p : T → Bool) (found o : Option T) → found ≡ if_passes p o → option_map_or p o false ≡ true → found ≡ o
+some_passes p found None e t = e
+some_passes p found (Some x) e t = e ∙ cond-true _ _ _ t
+
+pub none_passes : {T : Type 0} (p : T → Bool) (found o : Option T) → found ≡ if_passes p o → option_map_or p o false ≡ false → found ≡ None
+none_passes p found None e t = e
+none_passes p found (Some x) e t = e ∙ cond-false _ _ _ t
+
+module _ {T : Type 0} (key : T → ℕ × ℕ) (guid port : ℕ) (xs : List T) (i : ℕ) (ordered : AreInOrder key xs) (place : IsPlaceFor key (guid, port) xs i) where
+  pub found_there : passes_at (has_key key guid port) xs i ≡ true → found_at key guid port xs ≡ slice_get xs i
+  found_there t = some_passes (has_key key guid port) (found_at key guid port xs) (slice_get xs i) (found_at_place key guid port xs i ordered place) t
+
+  pub found_lost : passes_at (has_key key guid port) xs i ≡ false → found_at key guid port xs ≡ None
+  found_lost t = none_passes (has_key key guid port) (found_at key guid port xs) (slice_get xs i) (found_at_place key guid port xs i ordered place) t
+
+module _ {T : Type 0} (key : T → ℕ × ℕ) (x : T) (xs : List T) (i : ℕ) (place : IsPlaceFor key (key x) xs i) where
+  pub placed_as_is : AreInOrder key xs → passes_at (has_key key (key x).0 (key x).1) xs i ≡ true → placed key x xs ≡ xs
+  placed_as_is ordered t = by (slice_get xs i) refl t
+    where
+      by : (o : Option T) → slice_get xs i ≡ o → option_map_or (has_key key (key x).0 (key x).1) o false ≡ true → placed key x xs ≡ xs
+      by None e h = absurd (cc)
+      by (Some y) e h =
+          let p = and_parts _ _ h in
+          placed_there key x y xs i ordered place e (eqb-true _ _ p.0) (eqb-true _ _ p.1)
+
+  pub placed_in : passes_at (has_key key (key x).0 (key x).1) xs i ≡ false → placed key x xs ≡ insert xs i x
+  placed_in t = placed_anew key x xs i place (λ y e. ap (λ o. option_map_or (has_key key (key x).0 (key x).1) o false) (sym e) ∙ t)
+
+-- a node's first vertex ------------------------------------------------------------------------
+
+-- the place of its least port is that of its first vertex
+pub first_place : {T : Type 0} (key : T → ℕ × ℕ) (guid : ℕ) (xs : List T) (i : ℕ) → AreInOrder key xs → IsPlaceFor key (guid, 0) xs i → find (λ x. (key x).0 == guid) xs ≡ if_passes (λ x. (key x).0 == guid) (slice_get xs i)
+first_place {T} key guid xs i ordered place =
+    found_in_place (λ x y. is_before (key x) (key y) ≡ true) (λ x. is_before (key x) (guid, 0)) (λ x. (key x).0 == guid) (λ x e. first_other (key x) guid e) (λ x y e f r. first_later (key x) (key y) guid e f r) xs i ordered place
 
 -- the order stays
 placed_later : {T : Type 0} (key : T → ℕ × ℕ) (x z : T) (zs : List T) → is_before (key z) (key x) ≡ true → AllByRecursion (λ y. is_before (key z) (key y) ≡ true) zs → AllByRecursion (λ y. is_before (key z) (key y) ≡ true) (placed key x zs)

@@ -1,7 +1,7 @@
 -- The order of GUIDs and ports, as facts on numbers.
 use Rattle.std.proofs.Common.{cond, ◌≡◌, ◌≢◌, ℕ, ◌+◌, ◌<◌, ◌≤◌, Bool, true, false, ◌&&◌, ◌||◌, ◌⊎◌, inl, inr, refl, arith, ap, sym, ◌∙◌, subst}
 use Rattle.std.specs.Prelude.{nat_lt, ◌==◌}
-use Rattle.std.proofs.lemmas.Bool.{cond-true, cond-false, eq-eqb, ne_eqb, eqb-true, cases_lt, cases_eq, and_parts}
+use Rattle.std.proofs.lemmas.Bool.{cond-true, cond-false, eq-eqb, ne_eqb, eqb-true, eqb-false, cases_lt, cases_eq, and_parts}
 use Rattle.std.proofs.lemmas.Bool.Decides.{nat_tests}
 use Rattle.sweep.specs.Order.{is_before}
 
@@ -82,4 +82,23 @@ later_key a guid port e =
     elim (before_parts (guid, port) a e) [
       | inl x ↦ grind (arith, nat_tests)
       | inr x ↦ grind (arith, nat_tests)
+    ]
+
+-- below a GUID's least port are lesser GUIDs alone
+pub first_other : (a : ℕ × ℕ) (guid : ℕ) → is_before a (guid, 0) ≡ true → (a.0 == guid) ≡ false
+first_other a guid e =
+    elim (before_parts a (guid, 0) e) [
+      | inl x ↦ ne_eqb _ _ (λ n. omega (arith, x, n))
+      | inr x ↦ absurd (omega (arith, x))
+    ]
+
+-- and behind a greater GUID there are greater ones alone
+pub first_later : (a b : ℕ × ℕ) (guid : ℕ) → is_before a (guid, 0) ≡ false → (a.0 == guid) ≡ false → is_before a b ≡ true → (b.0 == guid) ≡ false
+first_later a b guid e f r =
+    elim (not_before_parts a (guid, 0) e) [
+      | inl x ↦ elim (before_parts a b r) [
+          | inl y ↦ ne_eqb _ _ (λ n. omega (arith, x, y, n))
+          | inr y ↦ ne_eqb _ _ (λ n. omega (arith, x, y, n))
+        ]
+      | inr x ↦ absurd (eqb-false _ _ f x.0)
     ]

@@ -1,5 +1,6 @@
 -- Lists in an order, and the place of an item in it.
-use Rattle.std.specs.Prelude.{◌≡◌, ℕ, ◌≤◌, Bool, true, false, ◌&&◌, ◌||◌, List, [], ◌∷◌, length, find, nat_lt, ◌==◌, if◌then◌else◌, Option}
+use Rattle.std.specs.Prelude.{◌≡◌, ℕ, ◌≤◌, Bool, true, false, ◌&&◌, ◌||◌, List, [], ◌∷◌, length, find, nat_lt, slice_get, ◌==◌, if◌then◌else◌, Option}
+use Rattle.std.specs.Option.{option_map_or}
 use Rattle.std.specs.List.{AllByRecursion}
 use Rattle.std.specs.List.Sorted.{IsPartitionPoint}
 
@@ -12,6 +13,10 @@ AreOrdered R (x ∷ xs) = AllByRecursion (R x) xs × AreOrdered R xs
 pub record IsPlace {T : Type 0} (test : T → Bool) (items : List T) (place : ℕ) : Type 0 where
   pub within : place ≤ length items
   pub parts : IsPartitionPoint (λ x. test x ≡ true) (λ x. test x ≡ false) items place
+
+-- the item at a place passes the test
+abbrev pub passes_at : {T : Type 0} → (T → Bool) → List T → ℕ → Bool
+passes_at test items place = option_map_or test (slice_get items place) false
 
 -- by GUID and port -----------------------------------------------------------------------------
 
@@ -31,9 +36,13 @@ placed key x (y ∷ ys) =
     else if is_before (key x) (key y) then x ∷ (y ∷ ys)
     else y ∷ ys
 
+-- it has this GUID and port
+abbrev pub has_key : {T : Type 0} → (T → ℕ × ℕ) → ℕ → ℕ → T → Bool
+has_key key guid port x = (key x).0 == guid && (key x).1 == port
+
 -- the one with this GUID and port
 abbrev pub found_at : {T : Type 0} → (T → ℕ × ℕ) → ℕ → ℕ → List T → Option T
-found_at key guid port items = find (λ x. (key x).0 == guid && (key x).1 == port) items
+found_at key guid port items = find (has_key key guid port) items
 
 -- where the one with this GUID and port is, or would be
 abbrev pub IsPlaceFor : {T : Type 0} → (T → ℕ × ℕ) → ℕ × ℕ → List T → ℕ → Type 0

@@ -31,7 +31,7 @@ is_for packet r =
 
 -- and so is the TransactionID
 abbrev pub belongs : ℕ → List ℕ → Request → Bool
-belongs generation packet r = number_in transaction_id packet == transaction_of generation r.number && is_for packet r
+belongs generation packet r = transaction_of generation r.number == number_in transaction_id packet && is_for packet r
 
 -- the request that waits for this reply
 abbrev pub request_of : Sweep → List ℕ → Option Request

@@ -176,4 +176,4 @@ pub record IsSweep (s : Sweep) : Type 0 where
   pub next : s.next ≤ 2 ^ 32
   pub reached : AreInOrder vertex_key s.reached
   pub states : AreInOrder state_key s.states
-  pub counted : s.unanswered + s.too_far + length s.outstanding + length s.queued ≤ s.next
+  pub counted : s.unanswered + s.too_far + length (s.outstanding ++ s.queued) ≤ s.next

@@ -1,4 +1,4 @@
-ghost use Rattle.std.specs.Prelude.{◌≡◌, ◌≤◌, ℕ, List, length};
+ghost use Rattle.std.specs.Prelude.{◌≡◌, ◌&&◌, ◌≤◌, ℕ, List, length};
 ghost use Rattle.smp_bytes.specs.Field.{bits_in};
 ghost use Rattle.attr_codec.specs.PortInfo.{number_of_state, port_state, state_of_number};
 ghost use Rattle.fact_store.specs.Report.{is_up_state};
@@ -53,7 +53,7 @@ impl Reached {
         ensures count { result ≡ length (vertex_questions self.now) }
         ensures within { result ≤ 257 }
     {
-        if self.kind == NodeType::Switch {
+        if self.is_switch() {
             u64::from(self.ports) + 2
         } else {
             1
@@ -92,7 +92,7 @@ impl Sweep {
                 None => Finding::Nothing,
             };
         };
-        let is_known = first.kind == NodeType::Switch
+        let is_known = first.is_switch()
             || self
                 .found
                 .vertex(info.node_guid, info.local_port_num)
@@ -119,13 +119,20 @@ impl Sweep {
     fn onward(&self, path: &Path<63>, guid: Guid, port: PortNum, state: PortState) -> Onward
         ensures { result ≡ onward self.now path.now guid port state }
     {
-        if !is_up(state) || !self.goes_by(path, guid, port) {
+        if !self.leads_on(path, guid, port, state) {
             Onward::Stays
-        } else if path.is_full() {
-            Onward::TooFar
-        } else {
+        } else if path.len() < 63 {
             Onward::Leads
+        } else {
+            Onward::TooFar
         }
+    }
+
+    /// Whether a port is up and the sweep goes on by it.
+    fn leads_on(&self, path: &Path<63>, guid: Guid, port: PortNum, state: PortState) -> bool
+        ensures { result ≡ is_up_state (number_of_state state) && goes_by self.now path.now guid port }
+    {
+        is_up(state) && self.goes_by(path, guid, port)
     }
 
     /// Whether the sweep goes on by a port: the one that it goes out by, or one of a switch that does not lead back.
@@ -137,7 +144,7 @@ impl Sweep {
         }
         match self.found.first_of(guid) {
             Some(first) => {
-                first.kind == NodeType::Switch && port.number() != 0 && port != first.arrival
+                first.is_switch() && port.number() != 0 && port != first.arrival
             }
             None => false,
         }

@@ -1,8 +1,8 @@
-ghost use Rattle.std.specs.Prelude.{◌≡◌, ◌+◌, ◌<◌, ◌≤◌, ◌^◌, [], length, option_copied, OnOk, true};
+ghost use Rattle.std.specs.Prelude.{◌≡◌, ◌==◌, ◌+◌, ◌<◌, ◌≤◌, ◌^◌, [], length, slice_get, option_copied, option_map, OnOk, true};
 ghost use Rattle.sweep.specs.Finding.{too_far_by, with_reached, with_state};
 ghost use Rattle.std.specs.Vec.{vec_capacity, vec_len};
 ghost use Rattle.sweep.specs.Found.{Found};
-ghost use Rattle.sweep.specs.Order.{AreInOrder, IsPlaceFor, is_before, placed};
+ghost use Rattle.sweep.specs.Order.{AreInOrder, IsPlaceFor, has_key, is_before, passes_at, placed};
 ghost use Rattle.sweep.specs.Sweep.{reached_at, reached_first, state_at, state_key, vertex_key};
 
 use crate::finding::{Finding, Onward};
@@ -67,6 +67,87 @@ fn state_place(seen: &PageList<SeenState>, guid: Guid, port: PortNum) -> usize
     low
 }
 
+fn vertex_in(vertices: &[Reached], place: usize) -> Option<&Reached>
+    ensures { option_copied result ≡ slice_get vertices.now place }
+{
+    vertices.get(place)
+}
+
+fn state_of(seen: Option<SeenState>) -> Option<PortState>
+    ensures { result ≡ option_map (λ p. p.state) seen }
+{
+    match seen {
+        Some(seen) => Some(seen.state),
+        None => None,
+    }
+}
+
+/// Whether the vertex at a place has this GUID and port.
+fn is_vertex(vertices: &[Reached], place: usize, guid: Guid, port: PortNum) -> bool
+    ensures { result ≡ passes_at (has_key vertex_key guid port) vertices.now place }
+{
+    match vertices.get(place) {
+        Some(vertex) => vertex.guid == guid && vertex.port == port,
+        None => false,
+    }
+}
+
+/// Whether the vertex at a place has this GUID.
+fn is_vertex_of(vertices: &[Reached], place: usize, guid: Guid) -> bool
+    ensures { result ≡ passes_at (λ r. r.guid == guid) vertices.now place }
+{
+    match vertices.get(place) {
+        Some(vertex) => vertex.guid == guid,
+        None => false,
+    }
+}
+
+/// Whether the state at a place has this GUID and port.
+fn is_state(seen: &PageList<SeenState>, place: usize, guid: Guid, port: PortNum) -> bool
+    ensures { result ≡ passes_at (has_key state_key guid port) seen.now.items place }
+{
+    match seen.get(place) {
+        Some(state) => state.guid == guid && state.port == port,
+        None => false,
+    }
+}
+
+fn first_of(vertices: &[Reached], guid: Guid) -> Option<&Reached>
+    requires { AreInOrder vertex_key vertices.now }
+    ensures { option_copied result ≡ reached_first vertices.now guid }
+{
+    let place = vertex_place(vertices, guid, PortNum::new(0));
+    if is_vertex_of(vertices, place, guid) {
+        vertex_in(vertices, place)
+    } else {
+        None
+    }
+}
+
+fn vertex_at(vertices: &[Reached], guid: Guid, port: PortNum) -> Option<&Reached>
+    requires { AreInOrder vertex_key vertices.now }
+    ensures { option_copied result ≡ reached_at vertices.now guid port }
+{
+    let place = vertex_place(vertices, guid, port);
+    if is_vertex(vertices, place, guid, port) {
+        vertex_in(vertices, place)
+    } else {
+        None
+    }
+}
+
+fn state_at(seen: &PageList<SeenState>, guid: Guid, port: PortNum) -> Option<PortState>
+    requires { AreInOrder state_key seen.now.items }
+    ensures { result ≡ state_at seen.now.items guid port }
+{
+    let place = state_place(seen, guid, port);
+    if is_state(seen, place, guid, port) {
+        state_of(seen.get(place))
+    } else {
+        None
+    }
+}
+
 impl Found {
     /// Nothing yet. Takes no memory.
     pub(crate) fn new(alloc: Global) -> Self
@@ -110,13 +191,7 @@ impl Found {
         requires { AreInOrder vertex_key self.now.reached }
         ensures { option_copied result ≡ reached_first self.now.reached guid }
     {
-        let place = vertex_place(&self.vertices, guid, PortNum::new(0));
-        let vertex = self.vertices.get(place)?;
-        if vertex.guid == guid {
-            Some(vertex)
-        } else {
-            None
-        }
+        first_of(&self.vertices, guid)
     }
 
     /// The vertex of a GUID and a port. Takes a search.
@@ -124,13 +199,7 @@ impl Found {
         requires { AreInOrder vertex_key self.now.reached }
         ensures { option_copied result ≡ reached_at self.now.reached guid port }
     {
-        let place = vertex_place(&self.vertices, guid, port);
-        let vertex = self.vertices.get(place)?;
-        if vertex.guid == guid && vertex.port == port {
-            Some(vertex)
-        } else {
-            None
-        }
+        vertex_at(&self.vertices, guid, port)
     }
 
     /// The state of a port. Takes a search.
@@ -138,13 +207,7 @@ impl Found {
         requires { AreInOrder state_key self.now.states }
         ensures { result ≡ state_at self.now.states guid port }
     {
-        let place = state_place(&self.seen, guid, port);
-        let seen = self.seen.get(place)?;
-        if seen.guid == guid && seen.port == port {
-            Some(seen.state)
-        } else {
-            None
-        }
+        state_at(&self.seen, guid, port)
     }
 
     /// Puts in what a reply brings up, unless it is there. Takes no memory.
@@ -178,10 +241,8 @@ fn put_vertex(vertices: &mut Vec<Reached>, vertex: Reached)
     ensures { vertices.new.items ≡ placed vertex_key vertex vertices.old.items }
 {
     let place = vertex_place(vertices, vertex.guid, vertex.port);
-    if let Some(there) = vertices.get(place) {
-        if there.guid == vertex.guid && there.port == vertex.port {
-            return;
-        }
+    if is_vertex(vertices, place, vertex.guid, vertex.port) {
+        return;
     }
     match vertices.insert(place, vertex) {
         Ok(()) => {}
@@ -196,10 +257,7 @@ fn put_state(states: &mut PageList<SeenState>, seen: SeenState)
     ensures { states.new.items ≡ placed state_key seen states.old.items }
 {
     let place = state_place(states, seen.guid, seen.port);
-    if let Some(there) = states.get(place) {
-        if there.guid == seen.guid && there.port == seen.port {
-            return;
-        }
+    if !is_state(states, place, seen.guid, seen.port) {
+        states.insert(place, seen);
     }
-    states.insert(place, seen);
 }

@@ -1,3 +1,6 @@
+ghost use Rattle.std.specs.Prelude.{◌≡◌};
+ghost use Rattle.smp_bytes.specs.NodeType.{is_switch};
+
 use attr_codec::PortState;
 use smp_bytes::{Guid, NodeType, Path, PortNum};
 
@@ -14,6 +17,14 @@ pub struct Reached {
     pub arrival: PortNum,
     /// The ports that lead there.
     pub path: Path<63>,
+}
+
+impl Reached {
+    pub(crate) fn is_switch(&self) -> bool
+        ensures { result ≡ is_switch self.now.kind }
+    {
+        self.kind == NodeType::Switch
+    }
 }
 
 /// The state of a port as a reply said it.

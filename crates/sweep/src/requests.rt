@@ -11,7 +11,7 @@ use crate::finding::{Finding, Onward};
 use crate::reached::{Reached, SeenState};
 use crate::request::{Question, Request, copied, transaction_of};
 use fact_store::Context;
-use smp_bytes::{Generation, NodeType, Path, PortNum};
+use smp_bytes::{Generation, Path, PortNum};
 use std::alloc::{AllocError, Global};
 use std::collections::VecDeque;
 use std::marker::Model;
@@ -187,7 +187,7 @@ impl Requests {
         ensures { HasAsked (vertex_questions vertex.now) self.old self.new }
     {
         let context = Context::About(vertex.guid);
-        if vertex.kind == NodeType::Switch {
+        if vertex.is_switch() {
             self.ask(Question::Switch, copied(&vertex.path), context);
             self.ask_ports(vertex);
         } else {

@@ -1,0 +1,152 @@
+-- How many questions a reply brings up, and that a path goes on only where it can.
+use Rattle.std.proofs.Common.{cond, ◌≡◌, ℕ, ◌+◌, ◌<◌, ◌≤◌, Bool, true, false, ◌&&◌, ◌||◌, not, List, [], ◌∷◌, length, refl, arith, ap, sym, ◌∙◌, subst}
+use Rattle.std.specs.Prelude.{Option, Some, None, nat_le, nat_lt, ◌==◌, if◌then◌else◌, is_some}
+use Rattle.std.proofs.lemmas.Bool.{and_parts, cond-true, cond-false, leb-true, ltb-true}
+use Rattle.smp_bytes.specs.declared.node_type.NodeType.{NodeType}
+use Rattle.smp_bytes.specs.Field.{bits_in, number_in}
+use Rattle.smp_bytes.specs.Header.{node_info}
+use Rattle.smp_bytes.specs.NodeType.{is_switch}
+use Rattle.smp_bytes.specs.Packet.{attribute_id, hop_count, max_hops}
+use Rattle.attr_codec.specs.declared.node_info.NodeInfo.{NodeInfo}
+use Rattle.attr_codec.specs.declared.port_state.PortState.{PortState}
+use Rattle.attr_codec.specs.NodeTypeNumber.{type_of_number}
+use Rattle.attr_codec.specs.PortInfo.{number_of_state, port_state, state_of_number}
+use Rattle.fact_store.specs.declared.report.Context.{Context}
+use Rattle.fact_store.specs.declared.report_fault.ReportFault.{ReportFault}
+use Rattle.fact_store.specs.declared.report_fault.ReportFault.TheVariants as fault
+use Rattle.fact_store.specs.Report.{about_of, are_ports_in_range, attribute_fault, fits_node_info, kind_fault, may_be_asked_by, node_info_fault, is_up_state, node_info_of, or_else, payload_of, packet_fault, report_fault}
+use Rattle.fact_store.specs.Sighting.{is_cabled_port}
+use Rattle.sweep.specs.declared.reached.Reached.{Reached}
+use Rattle.sweep.specs.declared.request.Question.{Question}
+use Rattle.sweep.specs.declared.request.Question.TheVariants as ask
+use Rattle.sweep.specs.declared.request.Request.{Request}
+use Rattle.sweep.specs.declared.reached.SeenState.{SeenState}
+use Rattle.sweep.specs.declared.finding.Finding.{Finding}
+use Rattle.sweep.specs.declared.finding.Finding.TheVariants.{Nothing, Vertex, Port}
+use Rattle.sweep.specs.declared.finding.Onward.{Onward}
+use Rattle.sweep.specs.declared.finding.Onward.TheVariants.{Stays, Leads, TooFar}
+use Rattle.sweep.specs.Finding.{IsWithinReach, finding, finding_of, found_again, found_anew, goes_by, node_found_of, onward, onward_questions, port_found_at, port_found_of, questions, vertex_of, vertex_questions}
+use Rattle.sweep.specs.Replies.{is_for, report_for}
+use Rattle.sweep.specs.Sweep.{Sweep, attribute_asked, reached_at, reached_first}
+use Rattle.sweep.proofs.Asked.{length_adapter, length_switch}
+
+-- faults ---------------------------------------------------------------------------------------
+
+or_else_none : (a b : Option ReportFault) → or_else a b ≡ None → b ≡ None
+or_else_none None b e = e
+or_else_none (Some f) b e = absurd (cc)
+
+-- where a test would have been a fault, it is false
+no_fault : (b : Bool) (f : ReportFault) (rest : Option ReportFault) → (if b then Some f else rest) ≡ None → rest ≡ None
+no_fault true f rest e = absurd (cc)
+no_fault false f rest e = e
+
+passed : (b : Bool) (f : ReportFault) → (if b then None else Some f) ≡ None → b ≡ true
+passed true f e = refl
+passed false f e = absurd (cc)
+
+kind_in_range : (context : Context) (info : NodeInfo) (kind : NodeType) → kind_fault context info (Some kind) ≡ None → info.num_ports ≤ 254
+kind_in_range context info kind e =
+    let all : are_ports_in_range context kind info ≡ true = passed (are_ports_in_range context kind info) fault.Port e in
+    let first = and_parts (is_cabled_port info.num_ports && nat_le info.local_port_num info.num_ports) (may_be_asked_by context kind info.local_port_num) all in
+    let cabled : is_cabled_port info.num_ports ≡ true = (and_parts (is_cabled_port info.num_ports) (nat_le info.local_port_num info.num_ports) first.0).0 in
+    leb-true _ _ (and_parts (nat_le 1 info.num_ports) (nat_le info.num_ports 254) cabled).1
+
+-- what NodeInfo brings up ----------------------------------------------------------------------
+
+vertex_few : (v : Reached) → (is_switch v.kind ≡ true → v.ports ≤ 254) → length (vertex_questions v) ≤ 256
+vertex_few v ports = by (is_switch v.kind) refl
+  where
+    by : (b : Bool) → is_switch v.kind ≡ b → length (vertex_questions v) ≤ 256
+    by true e = let long = length_switch v e in let most = ports e in omega (arith, long, most)
+    by false e = let long = length_adapter v e in omega (arith, long)
+
+vertex_if : (path : List ℕ) (v : Reached) (t : Bool) → (t ≡ false → length (vertex_questions v) ≤ 256) → length (questions path (if t then Nothing else Vertex v)) ≤ 256
+vertex_if path v true few = omega arith
+vertex_if path v false few = few refl
+
+first_half : (a b : Bool) → (a || b) ≡ false → a ≡ false
+first_half false b e = refl
+first_half true b e = absurd (cc)
+
+again_few : (s : Sweep) (path : List ℕ) (info : NodeInfo) (first : Reached) → length (questions path (found_again s path info first)) ≤ 256
+again_few s path info first =
+    let known : Bool = is_some (reached_at s.reached info.node_guid info.local_port_num) in
+    vertex_if path (vertex_of path info first.kind first.ports) (is_switch first.kind || known)
+    (λ e. vertex_few (vertex_of path info first.kind first.ports) (λ t. absurd (cc (first_half (is_switch first.kind) known e, t))))
+
+anew_few : (context : Context) (path : List ℕ) (info : NodeInfo) (k : Option NodeType) → kind_fault context info k ≡ None → length (questions path (found_anew path info k)) ≤ 256
+anew_few context path info None e = absurd (cc)
+anew_few context path info (Some kind) e = vertex_few (vertex_of path info kind info.num_ports) (λ t. kind_in_range context info kind e)
+
+node_few : (s : Sweep) (context : Context) (path : List ℕ) (info : NodeInfo) (first : Option Reached) → kind_fault context info (type_of_number info.node_type) ≡ None → length (questions path (node_found_of s path info first)) ≤ 256
+node_few s context path info None e = anew_few context path info (type_of_number info.node_type) e
+node_few s context path info (Some first) e = again_few s path info first
+
+-- what PortInfo brings up ----------------------------------------------------------------------
+
+onward_few : (path : List ℕ) (seen : SeenState) (way : Onward) → length (onward_questions path seen way) ≤ 256
+onward_few path seen Stays = omega arith
+onward_few path seen Leads = omega arith
+onward_few path seen TooFar = omega arith
+
+state_few : (s : Sweep) (path : List ℕ) (guid port : ℕ) (state : Option PortState) → length (questions path (port_found_of s path guid port state)) ≤ 256
+state_few s path guid port None = omega arith
+state_few s path guid port (Some state) = onward_few path (record { guid = guid; port = port; state = state }) (onward s path guid port state)
+
+port_few : (s : Sweep) (path : List ℕ) (about : Option ℕ) (port : ℕ) (state : Option PortState) → length (questions path (port_found_at s path about port state)) ≤ 256
+port_few s path None port state = omega arith
+port_few s path (Some guid) port state = state_few s path guid port state
+
+-- what any reply brings up ---------------------------------------------------------------------
+
+node_kind_fault : (context : Context) (packet : List ℕ) → (number_in attribute_id packet == node_info) ≡ true → attribute_fault context packet ≡ None → kind_fault context (node_info_of packet) (type_of_number (node_info_of packet).node_type) ≡ None
+node_kind_fault context packet e f =
+    no_fault (not (fits_node_info context (number_in hop_count packet))) fault.Context _ (sym (cond-true (number_in attribute_id packet == node_info) _ _ e) ∙ f)
+
+few_of : (s : Sweep) (r : Request) (packet : List ℕ) (q : Question) → (number_in attribute_id packet == attribute_asked q) ≡ true → attribute_fault r.context packet ≡ None → length (questions r.path (finding_of s r packet q)) ≤ 256
+few_of s r packet ask.Node e f =
+    node_few s r.context r.path (node_info_of packet) (reached_first s.reached (node_info_of packet).node_guid) (node_kind_fault r.context packet e f)
+few_of s r packet ask.Switch e f = omega arith
+few_of s r packet (ask.Port port) e f = port_few s r.path (about_of r.context) port (state_of_number (bits_in port_state (payload_of packet)))
+
+-- of a reply without a fault
+pub few_questions : (s : Sweep) (r : Request) (packet : List ℕ) → is_for packet r ≡ true → report_fault (report_for s r packet) ≡ None → length (questions r.path (finding s r packet)) ≤ 256
+few_questions s r packet e f =
+    few_of s r packet r.question (and_parts _ _ e).0 (or_else_none (packet_fault packet) (attribute_fault r.context packet) (no_fault (s.generation == 0) fault.Generation _ f))
+
+-- a path goes on only where it can --------------------------------------------------------------
+
+leads_within : (t u : Bool) → (if not t then Stays else if u then Leads else TooFar) ≡ Leads → u ≡ true
+leads_within true true e = refl
+leads_within true false e = absurd (cc)
+leads_within false u e = absurd (cc)
+
+reach_if : (path : List ℕ) (v : Reached) (t : Bool) → IsWithinReach path (if t then Nothing else Vertex v)
+reach_if path v true = tt
+reach_if path v false = tt
+
+reach_anew : (path : List ℕ) (info : NodeInfo) (k : Option NodeType) → IsWithinReach path (found_anew path info k)
+reach_anew path info None = tt
+reach_anew path info (Some kind) = tt
+
+reach_node : (s : Sweep) (path : List ℕ) (info : NodeInfo) (first : Option Reached) → IsWithinReach path (node_found_of s path info first)
+reach_node s path info None = reach_anew path info (type_of_number info.node_type)
+reach_node s path info (Some first) = reach_if path (vertex_of path info first.kind first.ports) (is_switch first.kind || is_some (reached_at s.reached info.node_guid info.local_port_num))
+
+reach_state : (s : Sweep) (path : List ℕ) (guid port : ℕ) (state : Option PortState) → IsWithinReach path (port_found_of s path guid port state)
+reach_state s path guid port None = tt
+reach_state s path guid port (Some state) =
+    λ e. ltb-true _ _ (leads_within (is_up_state (number_of_state state) && goes_by s path guid port) (nat_lt (length path) max_hops) e)
+
+reach_port : (s : Sweep) (path : List ℕ) (about : Option ℕ) (port : ℕ) (state : Option PortState) → IsWithinReach path (port_found_at s path about port state)
+reach_port s path None port state = tt
+reach_port s path (Some guid) port state = reach_state s path guid port state
+
+reach_of : (s : Sweep) (r : Request) (packet : List ℕ) (q : Question) → IsWithinReach r.path (finding_of s r packet q)
+reach_of s r packet ask.Node = reach_node s r.path (node_info_of packet) (reached_first s.reached (node_info_of packet).node_guid)
+reach_of s r packet ask.Switch = tt
+reach_of s r packet (ask.Port port) = reach_port s r.path (about_of r.context) port (state_of_number (bits_in port_state (payload_of packet)))
+
+pub within_reach : (s : Sweep) (r : Request) (packet : List ℕ) → IsWithinReach r.path (finding s r packet)
+within_reach s r packet = reach_of s r packet r.question

@@ -1,0 +1,40 @@
+-- What is answered to a reply without a fault.
+use Rattle.std.proofs.Common.{cond, ◌≡◌, ℕ, ◌+◌, ◌^◌, ◌<◌, ◌≤◌, Bool, true, false, ◌&&◌, List, [], ◌∷◌, length, refl, arith, ap, sym, ◌∙◌, subst}
+use Rattle.std.specs.Prelude.{Option, Some, None, Ok, Err, find, ◌==◌}
+use Rattle.std.proofs.lemmas.Bool.{and_parts, cond-true, cond-false, le-ltb, lt-ltb}
+use Rattle.smp_bytes.specs.Field.{number_in}
+use Rattle.smp_bytes.specs.Packet.{fault_of, transaction_id}
+use Rattle.fact_store.specs.Report.{report_fault}
+use Rattle.sweep.specs.declared.answer.Answer.TheVariants.{Facts}
+use Rattle.sweep.specs.declared.fault.SweepFault.TheVariants.{SequenceSpent}
+use Rattle.sweep.specs.declared.request.Request.{Request}
+use Rattle.sweep.specs.Finding.{finding, questions}
+use Rattle.sweep.specs.Replies.{belongs, is_for, is_spent, judged, judged_as, judged_by, judged_for, report_for, request_of}
+use Rattle.sweep.specs.Sweep.{Sweep, transaction_of}
+use Rattle.sweep.proofs.Few.{few_questions}
+use Rattle.sweep.proofs.Places.{some_is}
+
+-- what is found passes the test
+found_passes : {T : Type 0} (p : T → Bool) (xs : List T) (x : T) → find p xs ≡ Some x → p x ≡ true
+found_passes p [] x e = absurd (cc)
+found_passes {T} p (y ∷ ys) x e = by (p y) refl (found_passes p ys x)
+  where
+    by : (b : Bool) → p y ≡ b → (find p ys ≡ Some x → p x ≡ true) → p x ≡ true
+    by true f rest = subst (λ (z : T). p z ≡ true) (some_is y x (sym (cond-true _ _ _ f) ∙ e)) f
+    by false f rest = rest (sym (cond-false _ _ _ f) ∙ e)
+
+module _ (s : Sweep) (packet : List ℕ) (r : Request) (waits : request_of s packet ≡ Some r) (taken : report_fault (report_for s r packet) ≡ None) where
+  pub few_asked : length (questions r.path (finding s r packet)) ≤ 256
+  few_asked =
+      let all : belongs s.generation packet r ≡ true = found_passes (belongs s.generation packet) s.outstanding r waits in
+      few_questions s r packet (and_parts (transaction_of s.generation r.number == number_in transaction_id packet) (is_for packet r) all).1 taken
+
+  pub judged_ok : fault_of packet ≡ None → s.next + length (questions r.path (finding s r packet)) ≤ 2 ^ 32 → judged s packet ≡ Ok (Facts (report_for s r packet))
+  judged_ok parses fits =
+      ap (judged_as s packet) parses ∙ ap (judged_for s packet) waits ∙ ap (judged_by s r packet) taken
+      ∙ cond-false (is_spent s r packet) _ _ (le-ltb (2 ^ 32) (s.next + length (questions r.path (finding s r packet))) fits)
+
+  pub judged_spent : fault_of packet ≡ None → 2 ^ 32 < s.next + length (questions r.path (finding s r packet)) → judged s packet ≡ Err SequenceSpent
+  judged_spent parses over =
+      ap (judged_as s packet) parses ∙ ap (judged_for s packet) waits ∙ ap (judged_by s r packet) taken
+      ∙ cond-true (is_spent s r packet) _ _ (lt-ltb (2 ^ 32) (s.next + length (questions r.path (finding s r packet))) over)

@@ -1,0 +1,134 @@
+-- A reply that is taken: the requests and what was found afterwards, and that a sweep stays one.
+use Rattle.std.proofs.Common.{cond, ◌≡◌, ℕ, ◌+◌, ◌^◌, ◌<◌, ◌≤◌, Bool, true, false, List, [], ◌∷◌, ◌++◌, length, refl, arith, ap, sym, ◌∙◌, subst, length-append}
+use Rattle.std.specs.Prelude.{Option, Some, None, Ok, Err, Result, slice_get}
+use Rattle.std.proofs.lemmas.Bool.{cond-true, cond-false}
+use Rattle.smp_bytes.specs.declared.smp_fault.SmpFault.{SmpFault}
+use Rattle.smp_bytes.specs.Packet.{fault_of}
+use Rattle.fact_store.specs.declared.report_fault.ReportFault.{ReportFault}
+use Rattle.fact_store.specs.Report.{report_fault}
+use Rattle.sweep.specs.declared.answer.Answer.TheVariants.{Facts}
+use Rattle.sweep.specs.declared.fault.SweepFault.{SweepFault}
+use Rattle.sweep.specs.declared.fault.SweepFault.TheVariants.{NotOutstanding, Bad, SequenceSpent, Memory}
+use Rattle.sweep.specs.declared.finding.Finding.{Finding}
+use Rattle.sweep.specs.declared.finding.Finding.TheVariants.{Nothing, Vertex, Port}
+use Rattle.sweep.specs.declared.finding.Onward.{Onward}
+use Rattle.sweep.specs.declared.finding.Onward.TheVariants.{Stays, Leads, TooFar}
+use Rattle.sweep.specs.declared.reached.Reached.{Reached}
+use Rattle.sweep.specs.declared.reached.SeenState.{SeenState}
+use Rattle.sweep.specs.declared.replies.Accepted.{Accepted}
+use Rattle.sweep.specs.declared.request.Request.{Request}
+use Rattle.sweep.specs.Accepting.{IsAccepted}
+use Rattle.sweep.specs.Finding.{one_too_far, questions, too_far_by, with_reached, with_state}
+use Rattle.sweep.specs.Found.{Found}
+use Rattle.sweep.specs.Order.{AreInOrder}
+use Rattle.sweep.specs.Replies.{JudgesReply, is_spent, judged, judged_as, judged_by, judged_for, report_for, request_of}
+use Rattle.sweep.specs.Requests.{Requests}
+use Rattle.sweep.specs.Sweep.{Asking, IsSweep, Sweep, numbered, state_key, vertex_key, without_number}
+use Rattle.sweep.specs.Taking.{HasTaken}
+use Rattle.sweep.proofs.Asked.{length_numbered}
+use Rattle.sweep.proofs.Places.{placed_ordered, some_is}
+use Rattle.sweep.proofs.Valid.{HasEnded, valid_ended}
+
+-- want of memory is no judgement ---------------------------------------------------------------
+
+never_by : (s : Sweep) (r : Request) (packet : List ℕ) (o : Option ReportFault) → judged_by s r packet o ≡ Err Memory → ⊥
+never_by s r packet (Some why) e = cc
+never_by s r packet None e = by (is_spent s r packet) refl
+  where
+    by : (b : Bool) → is_spent s r packet ≡ b → ⊥
+    by true f = cc (e, cond-true (is_spent s r packet) (Err SequenceSpent) (Ok (Facts (report_for s r packet))) f)
+    by false f = cc (e, cond-false (is_spent s r packet) (Err SequenceSpent) (Ok (Facts (report_for s r packet))) f)
+
+never_for : (s : Sweep) (packet : List ℕ) (o : Option Request) → judged_for s packet o ≡ Err Memory → ⊥
+never_for s packet None e = cc
+never_for s packet (Some r) e = never_by s r packet (report_fault (report_for s r packet)) e
+
+never_as : (s : Sweep) (packet : List ℕ) (o : Option SmpFault) → judged_as s packet o ≡ Err Memory → ⊥
+never_as s packet (Some why) e = cc
+never_as s packet None e = never_for s packet (request_of s packet) e
+
+pub judges_err : (s : Sweep) (packet : List ℕ) (why : SweepFault) → judged s packet ≡ Err why → JudgesReply (Err why) (judged s packet)
+judges_err s packet NotOutstanding e = e
+judges_err s packet (Bad why) e = e
+judges_err s packet SequenceSpent e = e
+judges_err s packet Memory e = absurd (never_as s packet (fault_of packet) e)
+
+-- what was found -----------------------------------------------------------------------------
+
+pub reached_ordered : (f : Finding) (reached : List Reached) → AreInOrder vertex_key reached → AreInOrder vertex_key (with_reached f reached)
+reached_ordered Nothing reached ordered = ordered
+reached_ordered (Vertex v) reached ordered = placed_ordered vertex_key v reached ordered
+reached_ordered (Port seen onward) reached ordered = ordered
+
+pub states_ordered : (f : Finding) (states : List SeenState) → AreInOrder state_key states → AreInOrder state_key (with_state f states)
+states_ordered Nothing states ordered = ordered
+states_ordered (Vertex v) states ordered = ordered
+states_ordered (Port seen onward) states ordered = placed_ordered state_key seen states ordered
+
+one_at_most : (onward : Onward) → one_too_far onward ≤ 1
+one_at_most Stays = omega arith
+one_at_most Leads = omega arith
+one_at_most TooFar = omega arith
+
+pub too_far_once : (f : Finding) → too_far_by f ≤ 1
+too_far_once Nothing = omega arith
+too_far_once (Vertex v) = omega arith
+too_far_once (Port seen onward) = one_at_most onward
+
+-- the requests -----------------------------------------------------------------------------------
+
+-- a sweep's requests, with room for more
+pub record IsReady (s : Sweep) (requests : Requests) (found : Found) : Type 0 where
+  pub next : requests.next ≡ s.next
+  pub outstanding : requests.outstanding ≡ s.outstanding
+  pub queued : requests.queued ≡ s.queued
+  pub reached : found.reached ≡ s.reached
+  pub states : found.states ≡ s.states
+  pub too_far : found.too_far ≡ s.too_far
+
+-- and as the finding is put among what was found
+pub record HasPut (f : Finding) (old new : Found) : Type 0 where
+  pub reached : new.reached ≡ with_reached f old.reached
+  pub states : new.states ≡ with_state f old.states
+  pub too_far : new.too_far ≡ old.too_far + too_far_by f
+
+module _ (s : Sweep) (packet : List ℕ) (accepted : Accepted) (ok : IsAccepted s packet accepted) (mid new : Requests) (before after : Found) (ready : IsReady s mid before) (taken : HasTaken accepted.place accepted.finding mid new) where
+  same_request : taken.request ≡ ok.request
+  same_request = some_is taken.request ok.request (sym taken.waited ∙ ap (λ l. slice_get l accepted.place) ready.outstanding ∙ ok.waits)
+
+  pub next_then : new.next ≡ s.next + length (questions ok.request.path accepted.finding)
+  next_then =
+      let e = ap (λ (r : Request). length (questions r.path accepted.finding)) same_request in
+      omega (arith, taken.next, e, ready.next)
+
+  pub queued_then : new.queued ≡ s.queued ++ numbered s.next (questions ok.request.path accepted.finding)
+  queued_then =
+      taken.queued
+      ∙ ap (λ (r : Request). mid.queued ++ numbered mid.next (questions r.path accepted.finding)) same_request
+      ∙ ap (λ n. mid.queued ++ numbered n (questions ok.request.path accepted.finding)) ready.next
+      ∙ ap (λ q. q ++ numbered s.next (questions ok.request.path accepted.finding)) ready.queued
+
+  pub outstanding_then : new.outstanding ≡ without_number ok.request.number s.outstanding
+  outstanding_then =
+      taken.outstanding ∙ ap (λ (r : Request). without_number r.number mid.outstanding) same_request ∙ ap (without_number ok.request.number) ready.outstanding
+
+  pub few_then : length new.queued ≤ length s.queued + 256
+  few_then =
+      let count = length_numbered s.next (questions ok.request.path accepted.finding) in
+      let both = length-append s.queued (numbered s.next (questions ok.request.path accepted.finding)) in
+      omega (arith, ap length queued_then, count, both, ok.few)
+
+  pub valid_then : IsSweep s → HasPut accepted.finding before after
+      → IsSweep (record s { next = new.next; queued = new.queued; outstanding = new.outstanding; reached = after.reached; states = after.states; too_far = after.too_far })
+  valid_then valid put =
+      valid_ended s (record s { next = new.next; queued = new.queued; outstanding = new.outstanding; reached = after.reached; states = after.states; too_far = after.too_far }) accepted.place ok.request (questions ok.request.path accepted.finding) valid
+      (record {
+        waited = ok.waits;
+        next = next_then;
+        fits = omega (arith, next_then, ok.number);
+        outstanding = outstanding_then;
+        queued = queued_then;
+        reached = subst (AreInOrder vertex_key) (sym (put.reached ∙ ap (with_reached accepted.finding) ready.reached)) (reached_ordered accepted.finding s.reached valid.reached);
+        states = subst (AreInOrder state_key) (sym (put.states ∙ ap (with_state accepted.finding) ready.states)) (states_ordered accepted.finding s.states valid.states);
+        counted = let once = too_far_once accepted.finding in omega (arith, put.too_far, ready.too_far, once);
+      })
