@@ -1,3 +1,4 @@
+pub mod Coded
 pub mod Manager
 pub mod Packets
 pub mod Plans

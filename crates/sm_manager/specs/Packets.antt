@@ -80,3 +80,8 @@ JudgesCall (Err (fault.NoRoom endports room)) why = why ≡ Some (fault.NoRoom e
 JudgesCall (Err (fault.Sweep given)) why = why ≡ Some (fault.Sweep given)
 JudgesCall (Err fault.Unasked) why = why ≡ Some fault.Unasked
 JudgesCall (Err fault.Memory) why = why ≡ None
+
+-- where there is no room for what a reply may bring up, it is refused as it would be, or else memory is wanting
+abbrev pub IsFaultWithoutRoom : Result Answer SweepFault → ManagerFault → Type 0
+IsFaultWithoutRoom (Ok answer) given = given ≡ fault.Memory
+IsFaultWithoutRoom (Err why) given = given ≡ fault.Sweep why

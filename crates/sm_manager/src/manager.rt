@@ -33,8 +33,11 @@ pub struct Manager {
 
 impl Model for Manager {
     ghost use Rattle.sm_manager.specs.Manager.{Manager, IsSentWhole};
+    ghost use Rattle.sm_manager.specs.Coded.{manager_code};
 
     ghost Value = { Manager };
+
+    ghost coded = { manager_code };
 
     ghost view = { λ a. record { port_guid = a.port_guid; port = a.port; priority = a.priority; store = a.store; sweep = a.sweep; outgoing = a.outgoing.items } };
 

@@ -1,13 +1,14 @@
-ghost use Rattle.std.specs.Prelude.{◌≡◌, ◌+◌, ◌≤◌, ◌++◌, [], length, IfSome, IsNone, OnOk, OnErr};
+ghost use Rattle.std.specs.Prelude.{◌≡◌, ◌+◌, ◌-◌, ◌^◌, IfSome, IsNone, OnOk, OnErr};
 ghost use Rattle.sm_manager.specs.Manager.{is_running, newest_held};
-ghost use Rattle.sm_manager.specs.Packets.{JudgesCall, gave_up, is_for_sweep, took};
+ghost use Rattle.sm_manager.specs.Packets.{IsFaultWithoutRoom, JudgesCall, gave_up, is_for_sweep, took};
+ghost use Rattle.sweep.specs.Replies.{judged};
 
 use crate::fault::ManagerFault;
 use crate::manager::Manager;
 use crate::outgoing::send_queued;
 use fact_store::ReportFault;
 use smp_bytes::{Generation, Method, Smp, SmpClass};
-use sweep::SweepFault;
+use sweep::{Sweep, SweepFault};
 
 /// How many requests a reply brings up at most: one for a switch's table and one for each of its 255 ports.
 const MOST: usize = 256;
@@ -34,10 +35,12 @@ impl Manager {
         if !is_for_sweep(&smp) {
             return Err(ManagerFault::Unasked);
         }
-        self.outgoing.reserve(MOST)?;
         let Some(sweep) = &mut self.sweep else {
             return Err(ManagerFault::Unasked);
         };
+        if self.outgoing.reserve(MOST).is_err() {
+            return Err(fault_without_room(sweep, bytes));
+        }
         match sweep.on_reply_into(bytes, &mut self.store) {
             Ok(_) => {
                 send_queued(sweep, &mut self.outgoing);
@@ -76,15 +79,38 @@ impl Manager {
         }
     }
 
-    /// The generation after the newest that is held.
+    /// The newest generation that is held, 0 where there is none.
+    fn newest_held(&self) -> u32
+        ensures { result ≡ newest_held self.now.store }
+    {
+        match self.store.newest() {
+            None => 0,
+            Some(newest) => newest.number(),
+        }
+    }
+
+    /// The generation after the newest that is held; none comes after the greatest.
     pub(crate) fn next_generation(&self) -> Option<Generation>
         ensures some { IfSome result (λ next. next ≡ newest_held self.now.store + 1) }
         ensures none { IsNone result → newest_held self.now.store ≡ 2 ^ 32 - 1 }
+        ensures last { newest_held self.now.store ≡ 2 ^ 32 - 1 → IsNone result }
     {
-        match self.store.newest() {
-            None => Generation::new(1),
-            Some(newest) => Generation::new(newest.number().checked_add(1)?),
+        let newest = self.newest_held();
+        if newest == u32::MAX {
+            None
+        } else {
+            Generation::new(newest + 1)
         }
+    }
+}
+
+/// Why a reply is not taken where there is no room for what it may bring up: memory is wanting only if it is not refused.
+fn fault_without_room(sweep: &Sweep, bytes: &[u8; 256]) -> ManagerFault
+    ensures { IsFaultWithoutRoom (judged sweep.now bytes.now) result }
+{
+    match sweep.judge(bytes) {
+        Ok(_) => ManagerFault::Memory,
+        Err(fault) => ManagerFault::Sweep(fault),
     }
 }
 
