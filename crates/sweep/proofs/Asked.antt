@@ -1,6 +1,6 @@
 -- Questions that come up, one after the other, at the end of the queue.
-use Rattle.std.proofs.Common.{◌≡◌, ℕ, zero, suc, ◌+◌, ◌<◌, ◌≤◌, Bool, true, false, ◌&&◌, List, [], ◌∷◌, ◌++◌, length, take, drop, refl, arith, ap, sym, ◌∙◌, subst, append_assoc, length-append}
-use Rattle.std.specs.Prelude.{Option, Some, None, slice_get, ◌==◌}
+use Rattle.std.proofs.Common.{◌≡◌, ℕ, zero, suc, ◌+◌, true, false, ◌&&◌, List, [], ◌∷◌, ◌++◌, length, take, drop, refl, arith, ap, sym, ◌∙◌, append_assoc, length-append}
+use Rattle.std.specs.Prelude.{Some, slice_get, ◌==◌}
 use Rattle.smp_bytes.specs.Field.{number_in}
 use Rattle.smp_bytes.specs.Packet.{initial_path}
 use Rattle.fact_store.specs.declared.report.Context.{Context}
@@ -8,7 +8,6 @@ use Rattle.fact_store.specs.declared.report.Context.TheVariants.{About}
 use Rattle.smp_bytes.specs.NodeType.{is_switch}
 use Rattle.std.proofs.lemmas.Bool.{cond-true, cond-false}
 use Rattle.sweep.specs.declared.request.Question.TheVariants as ask
-use Rattle.sweep.specs.declared.request.Request.{Request}
 use Rattle.sweep.specs.declared.reached.Reached.{Reached}
 use Rattle.sweep.specs.Finding.{port_questions, vertex_questions}
 use Rattle.sweep.specs.Replies.{has_ports}
@@ -73,11 +72,11 @@ asked_both first later old mid new a b =
       next = omega (arith, a.next, b.next, long);
       outstanding = b.outstanding ∙ a.outstanding;
       queued =
-        b.queued
-        ∙ ap (λ q. q ++ numbered mid.next later) a.queued
-        ∙ ap (λ n. (old.queued ++ numbered old.next first) ++ numbered n later) a.next
-        ∙ append_assoc old.queued (numbered old.next first) (numbered (old.next + length first) later)
-        ∙ ap (λ q. old.queued ++ q) (sym (numbered_both old.next first later));
+          b.queued
+          ∙ ap (λ q. q ++ numbered mid.next later) a.queued
+          ∙ ap (λ n. (old.queued ++ numbered old.next first) ++ numbered n later) a.next
+          ∙ append_assoc old.queued (numbered old.next first) (numbered (old.next + length first) later)
+          ∙ ap (λ q. old.queued ++ q) (sym (numbered_both old.next first later));
       room = omega (arith, a.room, b.room, long);
     }
 

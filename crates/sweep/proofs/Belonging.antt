@@ -1,6 +1,6 @@
 -- The request that waits for a packet is the one with its TransactionID, if that one is for it.
-use Rattle.std.proofs.Common.{cond, ◌≡◌, ◌≢◌, ℕ, ◌+◌, ◌*◌, ◌^◌, ◌<◌, ◌≤◌, Bool, true, false, ◌&&◌, List, [], ◌∷◌, ◌++◌, length, refl, arith, ap, sym, ◌∙◌, subst}
-use Rattle.std.specs.Prelude.{Option, Some, None, find, slice_get, ◌==◌}
+use Rattle.std.proofs.Common.{◌≡◌, ℕ, ◌<◌, Bool, true, false, ◌&&◌, List, [], ◌∷◌, ◌++◌, refl, arith, ap, sym, ◌∙◌}
+use Rattle.std.specs.Prelude.{Some, None, find, slice_get, ◌==◌}
 use Rattle.std.specs.List.{AllByRecursion}
 use Rattle.std.proofs.lemmas.Bool.{cond-true, cond-false, eqb-true, ne_eqb}
 use Rattle.smp_bytes.specs.Field.{number_in}
@@ -29,6 +29,7 @@ belongs_one generation packet (r ∷ rs) ordered = by (transaction_of generation
     later e =
         all_map (λ q. r.number < q.number) (λ q. belongs generation packet q ≡ false)
         (λ q up. and_false _ (is_for packet q) (ne_eqb _ _ (λ n. let same : transaction_of generation r.number ≡ number_in transaction_id packet = eqb-true _ _ e in omega (arith, up, n, same)))) rs ordered.0
+
     by : (a : Bool) → (transaction_of generation r.number == number_in transaction_id packet) ≡ a → (b : Bool) → is_for packet r ≡ b
         → find (belongs generation packet) rs ≡ if_passes (is_for packet) (request_with generation (number_in transaction_id packet) rs)
         → find (belongs generation packet) (r ∷ rs) ≡ if_passes (is_for packet) (request_with generation (number_in transaction_id packet) (r ∷ rs))

@@ -1,7 +1,7 @@
 -- How many questions a reply brings up, and that a path goes on only where it can.
-use Rattle.std.proofs.Common.{cond, ◌≡◌, ℕ, ◌+◌, ◌<◌, ◌≤◌, Bool, true, false, ◌&&◌, ◌||◌, not, List, [], ◌∷◌, length, refl, arith, ap, sym, ◌∙◌, subst}
+use Rattle.std.proofs.Common.{◌≡◌, ℕ, ◌≤◌, Bool, true, false, ◌&&◌, ◌||◌, not, List, length, refl, arith, sym, ◌∙◌}
 use Rattle.std.specs.Prelude.{Option, Some, None, nat_le, nat_lt, ◌==◌, if◌then◌else◌, is_some}
-use Rattle.std.proofs.lemmas.Bool.{and_parts, cond-true, cond-false, leb-true, ltb-true}
+use Rattle.std.proofs.lemmas.Bool.{and_parts, cond-true, leb-true, ltb-true}
 use Rattle.smp_bytes.specs.declared.node_type.NodeType.{NodeType}
 use Rattle.smp_bytes.specs.Field.{bits_in, number_in}
 use Rattle.smp_bytes.specs.Header.{node_info}
@@ -14,15 +14,14 @@ use Rattle.attr_codec.specs.PortInfo.{number_of_state, port_state, state_of_numb
 use Rattle.fact_store.specs.declared.report.Context.{Context}
 use Rattle.fact_store.specs.declared.report_fault.ReportFault.{ReportFault}
 use Rattle.fact_store.specs.declared.report_fault.ReportFault.TheVariants as fault
-use Rattle.fact_store.specs.Report.{about_of, are_ports_in_range, attribute_fault, fits_node_info, kind_fault, may_be_asked_by, node_info_fault, is_up_state, node_info_of, or_else, payload_of, packet_fault, report_fault}
+use Rattle.fact_store.specs.Report.{about_of, are_ports_in_range, attribute_fault, fits_node_info, kind_fault, may_be_asked_by, is_up_state, node_info_of, or_else, payload_of, packet_fault, report_fault}
 use Rattle.fact_store.specs.Sighting.{is_cabled_port}
 use Rattle.sweep.specs.declared.reached.Reached.{Reached}
 use Rattle.sweep.specs.declared.request.Question.{Question}
 use Rattle.sweep.specs.declared.request.Question.TheVariants as ask
 use Rattle.sweep.specs.declared.request.Request.{Request}
 use Rattle.sweep.specs.declared.reached.SeenState.{SeenState}
-use Rattle.sweep.specs.declared.finding.Finding.{Finding}
-use Rattle.sweep.specs.declared.finding.Finding.TheVariants.{Nothing, Vertex, Port}
+use Rattle.sweep.specs.declared.finding.Finding.TheVariants.{Nothing, Vertex}
 use Rattle.sweep.specs.declared.finding.Onward.{Onward}
 use Rattle.sweep.specs.declared.finding.Onward.TheVariants.{Stays, Leads, TooFar}
 use Rattle.sweep.specs.Finding.{IsWithinReach, finding, finding_of, found_again, found_anew, goes_by, node_found_of, onward, onward_questions, port_found_at, port_found_of, questions, vertex_of, vertex_questions}

@@ -1,6 +1,6 @@
 -- What is answered to a reply without a fault.
-use Rattle.std.proofs.Common.{cond, ◌≡◌, ℕ, ◌+◌, ◌^◌, ◌<◌, ◌≤◌, Bool, true, false, ◌&&◌, List, [], ◌∷◌, length, refl, arith, ap, sym, ◌∙◌, subst}
-use Rattle.std.specs.Prelude.{Option, Some, None, Ok, Err, find, ◌==◌}
+use Rattle.std.proofs.Common.{◌≡◌, ℕ, ◌+◌, ◌^◌, ◌<◌, ◌≤◌, Bool, true, false, List, [], ◌∷◌, length, refl, ap, sym, ◌∙◌, subst}
+use Rattle.std.specs.Prelude.{Some, None, Ok, Err, find, ◌==◌}
 use Rattle.std.proofs.lemmas.Bool.{and_parts, cond-true, cond-false, le-ltb, lt-ltb}
 use Rattle.smp_bytes.specs.Field.{number_in}
 use Rattle.smp_bytes.specs.Packet.{fault_of, transaction_id}

@@ -1,4 +1,4 @@
-pub mod Tests
+pub mod Keys
 pub mod Places
 pub mod Numbers
 pub mod Asked
@@ -7,3 +7,4 @@ pub mod Belonging
 pub mod Few
 pub mod Judged
 pub mod Taken
+pub mod Runs

@@ -1,10 +1,9 @@
 -- Requests by rising numbers: the place of one by its number, and what is left without it.
-use Rattle.std.proofs.Common.{cond, ◌≡◌, ◌≢◌, ℕ, zero, suc, ◌+◌, ◌*◌, ◌-◌, ◌^◌, ◌<◌, ◌≤◌, Bool, true, false, not, List, [], ◌∷◌, ◌++◌, ◌⊎◌, inl, inr, length, take, drop, get_or, refl, arith, ap, sym, ◌∙◌, subst, min, length-append, length-take, length-drop}
-use Rattle.std.specs.Prelude.{Option, Some, None, find, filter, remove, slice_get, slice_index_or, nat_lt, if◌then◌else◌, ◌==◌}
+use Rattle.std.proofs.Common.{◌≡◌, ◌≢◌, ℕ, zero, suc, ◌+◌, ◌-◌, ◌<◌, ◌≤◌, true, false, List, [], ◌∷◌, ◌++◌, inl, inr, length, take, drop, get_or, refl, arith, ap, sym, ◌∙◌, subst, length-append, length-take}
+use Rattle.std.specs.Prelude.{Some, None, remove, slice_get, nat_lt, ◌==◌}
 use Rattle.std.specs.List.{AllByRecursion}
 use Rattle.std.specs.List.Sorted.{IsPartitionedBy}
 use Rattle.std.proofs.lemmas.Bool.{cond-true, cond-false, not_from_true, not_from_false, eq-eqb, ne_eqb, cases_lt, lt-ltb, ltb-true, ltb-false, eqb-false}
-use Rattle.std.proofs.lemmas.Bool.Decides.{nat_tests}
 use Rattle.std.proofs.lemmas.List.{take-append-drop}
 use Rattle.std.proofs.Math.Seq.{take-append_seam, drop-append_seam}
 use Rattle.std.proofs.lemmas.List.Edits.{length-remove, remove-append_left}
@@ -70,7 +69,7 @@ pub transactions_part : (generation transaction least : ℕ) (rs : List Request)
 transactions_part generation transaction least rs next rising i j d le within before =
     elim (cases_lt i j) [
       | inl lt ↦ let up : (get_or rs i d).number < (get_or rs j d).number =
-            ordered_at (λ a b. a.number < b.number) rs i j (get_or rs i d) (get_or rs j d) (rising_ordered least rs next rising) lt (slice_get-get_or rs i d (omega arith)) (slice_get-get_or rs j d within) in
+          ordered_at (λ a b. a.number < b.number) rs i j (get_or rs i d) (get_or rs j d) (rising_ordered least rs next rising) lt (slice_get-get_or rs i d (omega arith)) (slice_get-get_or rs j d within) in
           let low : transaction_of generation (get_or rs j d).number < transaction = ltb-true _ _ before in
           lt-ltb _ _ (omega (arith, up, low))
       | inr ge ↦ let n : i ≡ j = omega arith in subst (λ (k : ℕ). nat_lt (transaction_of generation (get_or rs k d).number) transaction ≡ true) (sym n) before

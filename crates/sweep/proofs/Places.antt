@@ -1,13 +1,13 @@
 -- An item's place in an ordered list: what is found there, and how one is put in.
-use Rattle.std.proofs.Common.{cond, ◌≡◌, ◌≢◌, ℕ, zero, suc, ◌+◌, ◌<◌, ◌≤◌, Bool, true, false, ◌&&◌, List, [], ◌∷◌, ◌++◌, ◌⊎◌, inl, inr, length, take, drop, get_or, append-nil, refl, arith, ap, sym, ◌∙◌, subst}
-use Rattle.std.specs.Prelude.{Option, Some, None, find, insert, slice_get, slice_index_or, if◌then◌else◌, ◌==◌}
+use Rattle.std.proofs.Common.{◌≡◌, ℕ, zero, suc, ◌+◌, ◌<◌, ◌≤◌, Bool, true, false, ◌&&◌, List, [], ◌∷◌, ◌++◌, inl, inr, length, get_or, append-nil, refl, arith, ap, sym, ◌∙◌, subst}
+use Rattle.std.specs.Prelude.{Option, Some, None, find, insert, slice_get, if◌then◌else◌, ◌==◌}
 use Rattle.std.specs.Option.{option_map_or}
 use Rattle.std.specs.List.{AllByRecursion, AllWithin}
 use Rattle.std.specs.List.Sorted.{IsPartitionedBy}
 use Rattle.std.proofs.lemmas.Bool.{and_parts, cond-true, cond-false, cases_lt, eqb-true}
 use Rattle.std.proofs.lemmas.Option.{slice_get-get_or, slice_get_within}
 use Rattle.sweep.specs.Order.{AreOrdered, AreInOrder, IsPlace, IsPlaceFor, found_at, has_key, is_before, passes_at, placed}
-use Rattle.sweep.proofs.Tests.{before_trans, first_later, first_other, level_same, not_before_same, same_key, other_key, later_key}
+use Rattle.sweep.proofs.Keys.{before_trans, first_later, first_other, level_same, not_before_same, same_key, other_key, later_key}
 
 pub some_is : {T : Type 0} (a b : T) → Some a ≡ Some b → a ≡ b
 some_is a b e = cc
@@ -86,6 +86,7 @@ found_at_place {T} key guid port xs i ordered place =
     by x y e false l f r =
         let same = level_same (key x) (guid, port) e l in
         absurd (cc (same_key (key x) guid port same.0 same.1, f))
+
     behind : (x y : T) → is_before (key x) (guid, port) ≡ false → ((key x).0 == guid && (key x).1 == port) ≡ false → is_before (key x) (key y) ≡ true → ((key y).0 == guid && (key y).1 == port) ≡ false
     behind x y e f r = by x y e (is_before (guid, port) (key x)) refl f r
 
@@ -172,6 +173,7 @@ placed_ordered key x (y ∷ ys) ordered = by (is_before (key y) (key x)) (is_bef
   where
     all_later : is_before (key x) (key y) ≡ true → AllByRecursion (λ w. is_before (key x) (key w) ≡ true) ys
     all_later e = all_map (λ w. is_before (key y) (key w) ≡ true) (λ w. is_before (key x) (key w) ≡ true) (λ w r. before_trans (key x) (key y) (key w) e r) ys ordered.0
+
     by : (b c : Bool) → is_before (key y) (key x) ≡ b → is_before (key x) (key y) ≡ c → AreInOrder key (placed key x ys) → AreInOrder key (placed key x (y ∷ ys))
     by true c p q rest = subst (AreInOrder key) (sym (cond-true _ _ _ p)) (placed_later key x y ys p ordered.0, rest)
     by false true p q rest = subst (AreInOrder key) (sym (cond-false _ _ _ p ∙ cond-true _ _ _ q)) ((q, all_later q), ordered)

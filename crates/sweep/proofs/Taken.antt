@@ -1,6 +1,6 @@
 -- A reply that is taken: the requests and what was found afterwards, and that a sweep stays one.
-use Rattle.std.proofs.Common.{cond, ◌≡◌, ℕ, ◌+◌, ◌^◌, ◌<◌, ◌≤◌, Bool, true, false, List, [], ◌∷◌, ◌++◌, length, refl, arith, ap, sym, ◌∙◌, subst, length-append}
-use Rattle.std.specs.Prelude.{Option, Some, None, Ok, Err, Result, slice_get}
+use Rattle.std.proofs.Common.{◌≡◌, ℕ, ◌+◌, ◌≤◌, Bool, true, false, List, ◌++◌, length, refl, arith, ap, sym, ◌∙◌, subst, length-append}
+use Rattle.std.specs.Prelude.{Option, Some, None, Ok, Err, slice_get}
 use Rattle.std.proofs.lemmas.Bool.{cond-true, cond-false}
 use Rattle.smp_bytes.specs.declared.smp_fault.SmpFault.{SmpFault}
 use Rattle.smp_bytes.specs.Packet.{fault_of}
@@ -23,11 +23,11 @@ use Rattle.sweep.specs.Found.{Found}
 use Rattle.sweep.specs.Order.{AreInOrder}
 use Rattle.sweep.specs.Replies.{JudgesReply, is_spent, judged, judged_as, judged_by, judged_for, report_for, request_of}
 use Rattle.sweep.specs.Requests.{Requests}
-use Rattle.sweep.specs.Sweep.{Asking, IsSweep, Sweep, numbered, state_key, vertex_key, without_number}
+use Rattle.sweep.specs.Sweep.{IsSweep, Sweep, numbered, state_key, vertex_key, without_number}
 use Rattle.sweep.specs.Taking.{HasTaken}
 use Rattle.sweep.proofs.Asked.{length_numbered}
 use Rattle.sweep.proofs.Places.{placed_ordered, some_is}
-use Rattle.sweep.proofs.Valid.{HasEnded, valid_ended}
+use Rattle.sweep.proofs.Valid.{valid_ended}
 
 -- want of memory is no judgement ---------------------------------------------------------------
 

@@ -1,6 +1,6 @@
 -- What holds of each sweep stays: as a request goes out, and as one has ended.
-use Rattle.std.proofs.Common.{◌≡◌, ℕ, ◌+◌, ◌^◌, ◌<◌, ◌≤◌, List, [], ◌∷◌, ◌++◌, length, take, drop, refl, arith, ap, sym, ◌∙◌, subst, append_assoc, append-nil, length-append}
-use Rattle.std.specs.Prelude.{Option, Some, None, remove, slice_get}
+use Rattle.std.proofs.Common.{◌≡◌, ℕ, ◌+◌, ◌^◌, ◌<◌, ◌≤◌, List, ◌++◌, length, take, drop, arith, ap, sym, ◌∙◌, subst, append_assoc, length-append}
+use Rattle.std.specs.Prelude.{Some, remove, slice_get}
 use Rattle.std.proofs.lemmas.List.{take-append-drop}
 use Rattle.std.proofs.lemmas.List.Edits.{length-remove, remove-append_left}
 use Rattle.std.proofs.lemmas.Option.{slice_get_within}
@@ -23,12 +23,12 @@ pub record IsMoved (s t : Sweep) : Type 0 where
 pub valid_moved : (s t : Sweep) → IsSweep s → IsMoved s t → IsSweep t
 valid_moved s t valid moved =
     let same : t.outstanding ++ t.queued ≡ s.outstanding ++ s.queued =
-      ap (λ l. l ++ t.queued) moved.outstanding ∙ ap (λ l. (s.outstanding ++ take 1 s.queued) ++ l) moved.queued
-      ∙ append_assoc s.outstanding (take 1 s.queued) (drop 1 s.queued) ∙ ap (λ l. s.outstanding ++ l) (take-append-drop 1 s.queued) in
+    ap (λ l. l ++ t.queued) moved.outstanding ∙ ap (λ l. (s.outstanding ++ take 1 s.queued) ++ l) moved.queued
+    ∙ append_assoc s.outstanding (take 1 s.queued) (drop 1 s.queued) ∙ ap (λ l. s.outstanding ++ l) (take-append-drop 1 s.queued) in
     record {
       rising =
-        subst (λ (n : ℕ). AreRising 0 (t.outstanding ++ t.queued) n) (sym moved.next)
-        (subst (λ (l : List Request). AreRising 0 l s.next) (sym same) valid.rising);
+          subst (λ (n : ℕ). AreRising 0 (t.outstanding ++ t.queued) n) (sym moved.next)
+          (subst (λ (l : List Request). AreRising 0 l s.next) (sym same) valid.rising);
       next = omega (arith, moved.next, valid.next);
       reached = subst (AreInOrder vertex_key) (sym moved.reached) valid.reached;
       states = subst (AreInOrder state_key) (sym moved.states) valid.states;
@@ -53,18 +53,18 @@ valid_ended s t place r asked valid ended =
     let gone : without_number r.number s.outstanding ≡ remove s.outstanding place = without_at s.outstanding place r ordered ended.waited in
     let left : remove (s.outstanding ++ s.queued) place ≡ remove s.outstanding place ++ s.queued = remove-append_left s.outstanding s.queued place within in
     let all : t.outstanding ++ t.queued ≡ remove (s.outstanding ++ s.queued) place ++ numbered s.next asked =
-      ap (λ l. l ++ t.queued) (ended.outstanding ∙ gone) ∙ ap (λ l. remove s.outstanding place ++ l) ended.queued
-      ∙ sym (append_assoc (remove s.outstanding place) s.queued (numbered s.next asked)) ∙ ap (λ l. l ++ numbered s.next asked) (sym left) in
+    ap (λ l. l ++ t.queued) (ended.outstanding ∙ gone) ∙ ap (λ l. remove s.outstanding place ++ l) ended.queued
+    ∙ sym (append_assoc (remove s.outstanding place) s.queued (numbered s.next asked)) ∙ ap (λ l. l ++ numbered s.next asked) (sym left) in
     let rising : AreRising 0 (remove (s.outstanding ++ s.queued) place ++ numbered s.next asked) (s.next + length asked) =
-      rising_asked 0 (remove (s.outstanding ++ s.queued) place) s.next asked (rising_without 0 (s.outstanding ++ s.queued) s.next place valid.rising) in
+    rising_asked 0 (remove (s.outstanding ++ s.queued) place) s.next asked (rising_without 0 (s.outstanding ++ s.queued) s.next place valid.rising) in
     let both = length-append s.outstanding s.queued in
     let less = length-remove (s.outstanding ++ s.queued) place (omega (arith, within, both)) in
     let more = length-append (remove (s.outstanding ++ s.queued) place) (numbered s.next asked) in
     let count = length_numbered s.next asked in
     record {
       rising =
-        subst (λ (n : ℕ). AreRising 0 (t.outstanding ++ t.queued) n) (sym ended.next)
-        (subst (λ (l : List Request). AreRising 0 l (s.next + length asked)) (sym all) rising);
+          subst (λ (n : ℕ). AreRising 0 (t.outstanding ++ t.queued) n) (sym ended.next)
+          (subst (λ (l : List Request). AreRising 0 l (s.next + length asked)) (sym all) rising);
       next = ended.fits;
       reached = ended.reached;
       states = ended.states;

@@ -6,3 +6,4 @@ pub mod Finding
 pub mod Replies
 pub mod Taking
 pub mod Accepting
+pub mod Runs

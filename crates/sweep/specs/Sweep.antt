@@ -1,6 +1,6 @@
 -- A sweep: what it has asked, what it waits for, and what it has found.
 -- InfiniBand Architecture Specification, Volume 1: subnet management, topology discovery; directed route SMPs.
-use Rattle.std.specs.Prelude.{◌≡◌, ℕ, ◌+◌, ◌*◌, ◌^◌, ◌<◌, ◌≤◌, Bool, true, false, ◌&&◌, not, List, [], ◌∷◌, ◌++◌, length, find, filter, replicate, ◌==◌, if◌then◌else◌, Option, Some, None, option_map, is_some}
+use Rattle.std.specs.Prelude.{ℕ, ◌+◌, ◌*◌, ◌^◌, ◌≤◌, Bool, true, false, ◌&&◌, not, List, [], ◌∷◌, ◌++◌, length, find, filter, replicate, ◌==◌, if◌then◌else◌, Option, Some, None, option_map, is_some, slice_get}
 use Rattle.smp_bytes.specs.Header.{get, node_info, switch_info, port_info}
 use Rattle.smp_bytes.specs.Requests.{directed}
 use Rattle.attr_codec.specs.declared.port_state.PortState.{PortState}
@@ -127,6 +127,10 @@ timed_out_of s (Some r) = record s { outstanding = without_number r.number s.out
 -- a request that timed out waits no more, and counts as one that was not answered
 abbrev pub timed_out : Sweep → ℕ → Sweep
 timed_out s transaction = timed_out_of s (request_with s.generation transaction s.outstanding)
+
+-- the TransactionID of the i-th request that waits
+abbrev pub outstanding_at : Sweep → ℕ → Option ℕ
+outstanding_at s i = option_map (λ r. transaction_of s.generation r.number) (slice_get s.outstanding i)
 
 abbrev pub is_none_left : List Request → Bool
 is_none_left [] = true

@@ -105,7 +105,8 @@ impl Sweep {
 
     /// What PortInfo brings up: the port's state, and whether the sweep goes on by the port.
     fn port_found(&self, path: &Path<63>, guid: Guid, port: PortNum, info: &PortInfo) -> Finding
-        ensures { result ≡ port_found_of self.now path.now guid port (state_of_number (bits_in port_state info.now)) }
+        ensures { result
+            ≡ port_found_of self.now path.now guid port (state_of_number (bits_in port_state info.now)) }
     {
         match info.port_state() {
             Some(state) => {
@@ -130,12 +131,14 @@ impl Sweep {
 
     /// Whether a port is up and the sweep goes on by it.
     fn leads_on(&self, path: &Path<63>, guid: Guid, port: PortNum, state: PortState) -> bool
-        ensures { result ≡ is_up_state (number_of_state state) && goes_by self.now path.now guid port }
+        ensures { result
+            ≡ is_up_state (number_of_state state) && goes_by self.now path.now guid port }
     {
         is_up(state) && self.goes_by(path, guid, port)
     }
 
-    /// Whether the sweep goes on by a port: the one that it goes out by, or one of a switch that does not lead back.
+    /// Whether the sweep goes on by a port: the one that it goes out by, or one of a switch that
+    /// does not lead back.
     fn goes_by(&self, path: &Path<63>, guid: Guid, port: PortNum) -> bool
         ensures { result ≡ goes_by self.now path.now guid port }
     {
@@ -143,9 +146,7 @@ impl Sweep {
             return true;
         }
         match self.found.first_of(guid) {
-            Some(first) => {
-                first.is_switch() && port.number() != 0 && port != first.arrival
-            }
+            Some(first) => { first.is_switch() && port.number() != 0 && port != first.arrival }
             None => false,
         }
     }
@@ -161,7 +162,8 @@ fn is_up(state: PortState) -> bool
     }
 }
 
-/// The vertex of a node that answered: of a switch its management port, of an adapter the port that was asked.
+/// The vertex of a node that answered: of a switch its management port, of an adapter the port that
+/// was asked.
 fn vertex_of(path: &Path<63>, info: &NodeInfo, kind: NodeType, ports: u8) -> Reached
     ensures { result ≡ vertex_of path.now info.now kind ports }
 {

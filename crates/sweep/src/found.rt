@@ -13,8 +13,8 @@ use smp_bytes::{Guid, PortNum};
 use std::alloc::{AllocError, Global};
 use std::marker::Model;
 
-/// What a sweep has found. Contracts see the vertices, the states of ports, how many ports lead too far, and for how many
-/// more there is memory.
+/// What a sweep has found. Contracts see the vertices, the states of ports, how many ports lead too
+/// far, and for how many more there is memory.
 #[derive(Drop)]
 pub(crate) struct Found {
     /// In the order of GUIDs and ports, as are the states.

@@ -1,10 +1,12 @@
-//! Discovery of a subnet as a state machine: it is asked what to send and told what came back, and does no input or output.
+//! Discovery of a subnet as a state machine: it is asked what to send and told what came back, and
+//! does no input or output.
 #![tactic(auto)]
 
 mod answer;
 mod fault;
 mod finding;
 mod found;
+pub mod laws;
 mod reached;
 mod replies;
 mod request;
@@ -16,3 +18,6 @@ pub use fault::SweepFault;
 pub use reached::{Reached, SeenState};
 pub use request::{Question, Request};
 pub use sweep::Sweep;
+
+#[cfg(test)]
+mod tests;

@@ -4,7 +4,8 @@ ghost use Rattle.smp_bytes.specs.NodeType.{is_switch};
 use attr_codec::PortState;
 use smp_bytes::{Guid, NodeType, Path, PortNum};
 
-/// A vertex that a reply came from: a switch under port 0, or an adapter under the port that was reached.
+/// A vertex that a reply came from: a switch under port 0, or an adapter under the port that was
+/// reached.
 #[derive(Debug, Drop)]
 pub struct Reached {
     pub guid: Guid,

@@ -13,7 +13,8 @@ use crate::sweep::Sweep;
 use fact_store::{Report, ReportFault, Store, sightings};
 use smp_bytes::{Path, Smp};
 
-/// A reply that is taken: the place of its request among those that wait, the report of it, and what it brings up.
+/// A reply that is taken: the place of its request among those that wait, the report of it, and
+/// what it brings up.
 #[derive(Drop)]
 pub(crate) struct Accepted {
     pub(crate) place: usize,
@@ -32,9 +33,10 @@ impl Sweep {
         }
     }
 
-    /// Takes the reply to a request that waits for it, and queues what it brings up: of a new node its ports, and of a port
-    /// that leads on the node across it. Refused are, in this order: bytes that are no packet; what no request waits for; a
-    /// reply from which facts are not read; one that brings up a request for which no number is left; and want of memory.
+    /// Takes the reply to a request that waits for it, and queues what it brings up: of a new node
+    /// its ports, and of a port that leads on the node across it. Refused are, in this order: bytes
+    /// that are no packet; what no request waits for; a reply from which facts are not read; one
+    /// that brings up a request for which no number is left; and want of memory.
     pub fn on_reply(&mut self, bytes: &[u8; 256]) -> Result<Answer, SweepFault>
         ensures judged { JudgesReply result (judged self.old bytes.now) }
         ensures ok { OnOk result (self.new ≡ replied self.old bytes.now) }
@@ -49,7 +51,8 @@ impl Sweep {
         Ok(Answer::Facts(accepted.report))
     }
 
-    /// The same, and the store takes in the facts that the reply tells; where it is refused, the store stays as it is too.
+    /// The same, and the store takes in the facts that the reply tells; where it is refused, the
+    /// store stays as it is too.
     pub fn on_reply_into(
         &mut self,
         bytes: &[u8; 256],
@@ -59,7 +62,8 @@ impl Sweep {
         ensures ok { OnOk result (self.new ≡ replied self.old bytes.now) }
         ensures few { OnOk result (length self.new.queued ≤ length self.old.queued + 256) }
         ensures err { OnErr result (self.new ≡ self.old) }
-        ensures facts { IfOk result (λ answer. store.new ≡ merge store.old (view (told_by answer))) }
+        ensures facts { IfOk result
+            (λ answer. store.new ≡ merge store.old (view (told_by answer))) }
         ensures no_facts { OnErr result (store.new ≡ store.old) }
     {
         let accepted = self.accept(bytes)?;

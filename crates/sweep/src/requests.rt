@@ -16,11 +16,12 @@ use std::alloc::{AllocError, Global};
 use std::collections::VecDeque;
 use std::marker::Model;
 
-/// A reply brings up no more requests than this: a switch has 254 ports, its management port and a table.
+/// A reply brings up no more requests than this: a switch has 254 ports, its management port and a
+/// table.
 pub(crate) const MOST: usize = 256;
 
-/// The requests of a sweep. Contracts see those that wait for a reply, those to be sent, the number of the next one,
-/// and for how many more there is memory.
+/// The requests of a sweep. Contracts see those that wait for a reply, those to be sent, the number
+/// of the next one, and for how many more there is memory.
 #[derive(Drop)]
 pub(crate) struct Requests {
     /// The number of the next one.
@@ -92,7 +93,8 @@ impl Requests {
     pub(crate) fn send(&mut self)
         requires { 0 < length self.old.queued }
         ensures next { self.new.next ≡ self.old.next }
-        ensures outstanding { self.new.outstanding ≡ self.old.outstanding ++ take 1 self.old.queued }
+        ensures outstanding { self.new.outstanding
+            ≡ self.old.outstanding ++ take 1 self.old.queued }
         ensures queued { self.new.queued ≡ drop 1 self.old.queued }
     {
         self.sent += 1;
@@ -112,10 +114,10 @@ impl Requests {
     /// How many have a lower TransactionID. Halves the places at each step.
     fn count_below(&self, generation: Generation, transaction: u64) -> usize
         requires { AreRising 0 (self.now.outstanding ++ self.now.queued) self.now.next }
-        ensures { IsPlace (is_below generation transaction) (self.now.outstanding ++ self.now.queued) result }
+        ensures { IsPlace (is_below generation transaction)
+            (self.now.outstanding ++ self.now.queued) result }
     {
-        self.all
-            .partition_point(|request| transaction_of(generation, request.number) < transaction)
+        self.all.partition_point(|request| transaction_of(generation, request.number) < transaction)
     }
 
     /// The place of the one that waits under a TransactionID. Takes a search.
@@ -138,7 +140,8 @@ impl Requests {
         requires place { place < length self.old.outstanding }
         ensures request { Some result ≡ slice_get self.old.outstanding place }
         ensures next { self.new.next ≡ self.old.next }
-        ensures outstanding { self.new.outstanding ≡ without_number result.number self.old.outstanding }
+        ensures outstanding { self.new.outstanding
+            ≡ without_number result.number self.old.outstanding }
         ensures queued { self.new.queued ≡ self.old.queued }
         ensures room { self.old.room ≤ self.new.room }
     {
@@ -150,7 +153,8 @@ impl Requests {
     pub(crate) fn ask(&mut self, question: Question, path: Path<63>, context: Context)
         requires room { 0 < self.old.room }
         requires number { self.old.next < 2 ^ 32 }
-        ensures { HasAsked (record { question = question; path = path; context = context } ∷ []) self.old self.new }
+        ensures { HasAsked (record { question = question; path = path; context = context } ∷ [])
+            self.old self.new }
     {
         let number = self.next as u32;
         self.all.push_back_reserved(Request {
@@ -167,7 +171,9 @@ impl Requests {
         requires room { vertex.now.ports + 1 ≤ self.old.room }
         requires number { self.old.next + (vertex.now.ports + 1) ≤ 2 ^ 32 }
         requires ports { vertex.now.ports < 255 }
-        ensures { HasAsked (port_questions 0 (vertex.now.ports + 1) vertex.now.path (About vertex.now.guid)) self.old self.new }
+        ensures { HasAsked
+            (port_questions 0 (vertex.now.ports + 1) vertex.now.path (About vertex.now.guid))
+            self.old self.new }
     {
         for port in 0..vertex.ports + 1 {
             let context = Context::About(vertex.guid);

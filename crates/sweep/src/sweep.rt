@@ -1,6 +1,6 @@
-ghost use Rattle.std.specs.Prelude.{◌≡◌, IfOk, OnOk, OnErr, option_copied, option_map, slice_get};
+ghost use Rattle.std.specs.Prelude.{◌≡◌, IfOk, OnOk, OnErr, option_copied};
 ghost use Rattle.smp_bytes.specs.Judges.{Judges};
-ghost use Rattle.sweep.specs.Sweep.{is_done, path_to, seen_state, sent, started, timed_out, timeout_fault, transaction_of};
+ghost use Rattle.sweep.specs.Sweep.{is_done, outstanding_at, path_to, seen_state, sent, started, timed_out, timeout_fault};
 
 use crate::fault::SweepFault;
 use crate::found::Found;
@@ -13,8 +13,8 @@ use smp_bytes::{Generation, Guid, Path, PortNum, Smp};
 use std::alloc::{AllocError, Global};
 use std::marker::Model;
 
-/// A sweep over a subnet: what it has asked, what it waits for, and what it has found (subnet management, topology
-/// discovery). Contracts see each part.
+/// A sweep over a subnet: what it has asked, what it waits for, and what it has found (subnet
+/// management, topology discovery). Contracts see each part.
 #[derive(Drop)]
 pub struct Sweep {
     /// The port of its own node that it goes out by.
@@ -36,8 +36,8 @@ impl Model for Sweep {
 }
 
 impl Sweep {
-    /// A sweep that goes out by a port of its own node. Its first request asks what that node is, and has the first
-    /// sequence number.
+    /// A sweep that goes out by a port of its own node. Its first request asks what that node is,
+    /// and has the first sequence number.
     pub fn start(
         alloc: Global,
         origin: PortNum,
@@ -58,7 +58,8 @@ impl Sweep {
         })
     }
 
-    /// The next request as a packet, first in, first out; from now on it waits for its reply. Takes one step.
+    /// The next request as a packet, first in, first out; from now on it waits for its reply. Takes
+    /// one step.
     pub fn next_request(&mut self) -> Option<Smp>
         ensures packet { result ≡ (sent self.old).packet }
         ensures sweep { self.new ≡ (sent self.old).sweep }
@@ -69,8 +70,8 @@ impl Sweep {
         Some(packet)
     }
 
-    /// Gives up on the reply to the request that waits under a TransactionID. Takes a search, and moves the requests on
-    /// one side of it.
+    /// Gives up on the reply to the request that waits under a TransactionID. Takes a search, and
+    /// moves the requests on one side of it.
     pub fn on_timeout(&mut self, transaction: u64) -> Result<(), SweepFault>
         ensures judged { Judges result (timeout_fault self.old transaction) }
         ensures ok { OnOk result (self.new ≡ timed_out self.old transaction) }
@@ -98,9 +99,10 @@ impl Sweep {
         self.generation
     }
 
-    /// The TransactionID of the request at place `i` of those that wait for a reply, by rising TransactionIDs from 0 on.
+    /// The TransactionID of the request at place `i` of those that wait for a reply, by rising
+    /// TransactionIDs from 0 on.
     pub fn outstanding(&self, i: usize) -> Option<u64>
-        ensures { result ≡ option_map (λ r. transaction_of self.now.generation r.number) (slice_get self.now.outstanding i) }
+        ensures { result ≡ outstanding_at self.now i }
     {
         let request = self.requests.get(i)?;
         Some(transaction_of(self.generation, request.number))
@@ -120,8 +122,8 @@ impl Sweep {
         self.found.too_far()
     }
 
-    /// The vertices that were reached, by rising GUIDs and ports: a switch under port 0, an adapter under each port that
-    /// was reached.
+    /// The vertices that were reached, by rising GUIDs and ports: a switch under port 0, an adapter
+    /// under each port that was reached.
     pub fn reached(&self) -> &[Reached]
         ensures { result.now ≡ self.now.reached }
     {

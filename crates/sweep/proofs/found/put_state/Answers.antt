@@ -1,4 +1,4 @@
-use Rattle.std.proofs.Common.{◌≡◌, Bool, true, false, not, refl, sym, ◌∙◌}
+use Rattle.std.proofs.Common.{sym, ◌∙◌}
 use Rattle.sweep.specs.Sweep.{state_key}
 use Rattle.sweep.proofs.Places.{placed_as_is, placed_in}
 use Rattle.sweep.proofs.found.put_state.Goals as goal

@@ -1,6 +1,5 @@
-use Rattle.std.proofs.Common.{◌≡◌, rules, ap, sym, ◌∙◌}
-use Rattle.std.specs.Prelude.{option_map, slice_get}
-use Rattle.sweep.specs.declared.reached.SeenState.{SeenState}
+use Rattle.std.proofs.Common.{ap, sym, ◌∙◌}
+use Rattle.std.specs.Prelude.{option_map}
 use Rattle.sweep.specs.Sweep.{state_key}
 use Rattle.sweep.proofs.Places.{found_lost, found_there}
 use Rattle.sweep.proofs.found.state_at.Goals as goal

@@ -1,5 +1,4 @@
-use Rattle.std.proofs.Common.{◌≡◌, rules, sym, ◌∙◌}
-use Rattle.std.specs.Prelude.{slice_get, option_copied}
+use Rattle.std.proofs.Common.{sym, ◌∙◌}
 use Rattle.sweep.specs.Sweep.{vertex_key}
 use Rattle.sweep.proofs.Places.{found_lost, found_there}
 use Rattle.sweep.proofs.found.vertex_at.Goals as goal

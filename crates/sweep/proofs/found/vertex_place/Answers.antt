@@ -1,5 +1,5 @@
 use Rattle.std.proofs.lemmas.Fn.{always_returns_same}
-use Rattle.std.proofs.Common.{◌≡◌, ℕ, Bool, rules, of_calls}
+use Rattle.std.proofs.Common.{◌≡◌, Bool, rules, of_calls}
 use Rattle.sweep.specs.declared.reached.Reached.{Reached}
 use Rattle.sweep.specs.Order.{is_before}
 use Rattle.sweep.specs.Sweep.{vertex_key}

@@ -1,6 +1,5 @@
 use Rattle.std.proofs.Common.{◌≡◌, ℕ, ◌+◌, Bool, true, false, ◌&&◌, not, List, drop, sym, ap, ◌∙◌, refl}
 use Rattle.std.specs.Prelude.{Some, slice_get, ◌==◌}
-use Rattle.std.proofs.lemmas.Bool.{eq-eqb, ne_eqb}
 use Rattle.smp_bytes.specs.Field.{number_in}
 use Rattle.smp_bytes.specs.Packet.{initial_path}
 use Rattle.sweep.specs.Replies.{has_ports}

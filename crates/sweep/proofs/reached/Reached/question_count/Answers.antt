@@ -1,4 +1,4 @@
-use Rattle.std.proofs.Common.{◌≡◌, sym, ◌∙◌, arith}
+use Rattle.std.proofs.Common.{sym, ◌∙◌, arith}
 use Rattle.sweep.proofs.Asked.{length_switch}
 use Rattle.sweep.proofs.reached.Reached.question_count.Goals as goal
 

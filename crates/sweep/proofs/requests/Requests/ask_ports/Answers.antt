@@ -1,4 +1,4 @@
-use Rattle.std.proofs.Common.{◌≡◌, ℕ, ◌+◌, ◌++◌, ◌∷◌, [], List, sym, subst, arith}
+use Rattle.std.proofs.Common.{ℕ, ◌∷◌, [], List, sym, subst, arith}
 use Rattle.fact_store.specs.declared.report.Context.TheVariants.{About}
 use Rattle.fact_store.specs.declared.report.Context.{Context}
 use Rattle.sweep.specs.declared.request.Question.TheVariants as ask
@@ -24,7 +24,7 @@ loop-port-preserved c =
     let context : Context = About c.args.vertex.now.guid in
     let question : ℕ → List ℕ → Asking = λ port ports. record { question = ask.Port port; path = ports; context = context } in
     let one : HasAsked (question c.loop-port.port path ∷ []) c.loop-port.self c.ask.new.self =
-      subst (λ (n : ℕ). HasAsked (question n path ∷ []) c.loop-port.self c.ask.new.self) c.new.ensures
-      (subst (λ (ports : List ℕ). HasAsked (question c.new.result ports ∷ []) c.loop-port.self c.ask.new.self) c.copied.ensures c.ask.ensures) in
+    subst (λ (n : ℕ). HasAsked (question n path ∷ []) c.loop-port.self c.ask.new.self) c.new.ensures
+    (subst (λ (ports : List ℕ). HasAsked (question c.new.result ports ∷ []) c.loop-port.self c.ask.new.self) c.copied.ensures c.ask.ensures) in
     subst (λ (asked : List Asking). HasAsked asked c.args.self.now c.ask.new.self) (sym (ports_more c.loop-port.port path context))
     (asked_both (port_questions 0 c.loop-port.port path context) (question c.loop-port.port path ∷ []) c.args.self.now c.loop-port.self c.ask.new.self c.loop-port.invariant one)

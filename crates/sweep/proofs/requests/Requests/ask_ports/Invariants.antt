@@ -1,5 +1,4 @@
 -- The ports so far are asked.
-use Rattle.std.proofs.Common.{◌≡◌, ◌≤◌, ◌+◌}
 use Rattle.fact_store.specs.declared.report.Context.TheVariants.{About}
 use Rattle.sweep.specs.Finding.{port_questions}
 use Rattle.sweep.specs.Requests.{HasAsked}

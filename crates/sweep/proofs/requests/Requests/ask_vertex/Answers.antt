@@ -1,5 +1,4 @@
-use Rattle.std.proofs.Common.{◌≡◌, ◌+◌, true, sym, ◌∙◌, arith}
-use Rattle.smp_bytes.specs.NodeType.{is_switch}
+use Rattle.std.proofs.Common.{sym, ◌∙◌, arith}
 use Rattle.sweep.proofs.Asked.{length_switch}
 use Rattle.sweep.proofs.requests.Requests.ask_vertex.Goals as goal
 

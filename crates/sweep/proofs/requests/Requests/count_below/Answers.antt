@@ -1,5 +1,5 @@
 use Rattle.std.proofs.lemmas.Fn.{always_returns_same}
-use Rattle.std.proofs.Common.{◌≡◌, ℕ, Bool, List, ◌++◌, take, drop, ap, sym, ◌∙◌, subst, rules, of_calls}
+use Rattle.std.proofs.Common.{◌≡◌, ℕ, Bool, List, ◌++◌, take, drop, sym, subst, rules, of_calls}
 use Rattle.std.proofs.lemmas.List.{take-append-drop}
 use Rattle.sweep.specs.declared.request.Request.{Request}
 use Rattle.sweep.specs.Order.{IsPlace}
@@ -18,8 +18,8 @@ returns c =
     let whole : take sent rs ++ drop sent rs ≡ rs = take-append-drop sent rs in
     let rising : AreRising 0 rs c.self.inside.next = subst (λ (l : List Request). AreRising 0 l c.self.inside.next) whole (subst Rising (sym c.self.view_is) c.requires) in
     let place : IsPlace test rs c.partition_point.result =
-      record {
-        within = search rules;
-        parts = c.partition_point.ensures.partitioned test (always_returns_same _ (λ a r. r ≡ test a.0.now) _ (λ a r f h. search (rules, of_calls))) (transactions_part c.args.generation c.args.transaction 0 rs c.self.inside.next rising);
-      } in
+    record {
+      within = search rules;
+      parts = c.partition_point.ensures.partitioned test (always_returns_same _ (λ a r. r ≡ test a.0.now) _ (λ a r f h. search (rules, of_calls))) (transactions_part c.args.generation c.args.transaction 0 rs c.self.inside.next rising);
+    } in
     subst Placed c.self.view_is (subst (λ (l : List Request). IsPlace test l c.partition_point.result) (sym whole) place)

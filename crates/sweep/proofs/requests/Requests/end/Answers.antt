@@ -1,4 +1,4 @@
-use Rattle.std.proofs.Common.{◌≡◌, ℕ, ◌-◌, ◌++◌, ◌<◌, ◌≤◌, List, length, take, drop, get_or, ap, sym, ◌∙◌, subst, arith, rules, length-take}
+use Rattle.std.proofs.Common.{◌≡◌, ℕ, ◌-◌, ◌++◌, ◌<◌, List, length, take, drop, get_or, ap, sym, ◌∙◌, subst, arith, rules, length-take}
 use Rattle.std.specs.Prelude.{Some, remove, slice_get}
 use Rattle.std.proofs.lemmas.List.{get_or-take}
 use Rattle.std.proofs.lemmas.Option.{slice_get-get_or}
@@ -19,9 +19,9 @@ left c =
     let within : c.args.place < sent = omega (arith, lt, long) in
     let there : c.remove.result ≡ Some (get_or rs c.args.place c.unwrap.result) = c.remove.ensures.succeeds c.unwrap.result (omega (arith, within, c.self.invariant, c.self.inside.all.ok)) in
     let at : slice_get (take sent rs) c.args.place ≡ Some c.unwrap.result =
-      slice_get-get_or (take sent rs) c.args.place c.unwrap.result lt
-      ∙ ap (λ x. Some x) (get_or-take sent rs c.args.place c.unwrap.result within)
-      ∙ sym there ∙ c.unwrap.ensures in
+    slice_get-get_or (take sent rs) c.args.place c.unwrap.result lt
+    ∙ ap (λ x. Some x) (get_or-take sent rs c.args.place c.unwrap.result within)
+    ∙ sym there ∙ c.unwrap.ensures in
     remains rs sent c.args.place c.self.inside.next c.unwrap.result (subst Rising (sym c.self.view_is) c.requires.rising) c.self.invariant at
 
 gone : (c : goal.After-unwrap) → c.remove.new.self.items ≡ remove c.self.inside.all.items c.args.place

@@ -1,5 +1,5 @@
 use Rattle.std.proofs.Common.{◌≡◌, sym, ◌∙◌, ap, subst}
-use Rattle.std.specs.Prelude.{Some, None, slice_get, option_copied}
+use Rattle.std.specs.Prelude.{None, slice_get, option_copied}
 use Rattle.sweep.specs.declared.request.Request.{Request}
 use Rattle.sweep.specs.Requests.{IsPlaceOf}
 use Rattle.sweep.proofs.Numbers.{located, place_none, place_other, place_found}

@@ -1,4 +1,4 @@
-use Rattle.std.proofs.Common.{◌≡◌, ◌++◌, take, drop, ap, ◌∙◌}
+use Rattle.std.proofs.Common.{◌++◌, take, drop, ap, ◌∙◌}
 use Rattle.sweep.specs.Requests.{Requests}
 use Rattle.sweep.proofs.Asked.{drop_next, take_next}
 use Rattle.sweep.proofs.requests.Requests.send.Goals as goal

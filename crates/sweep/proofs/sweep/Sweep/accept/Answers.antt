@@ -1,8 +1,7 @@
-use Rattle.std.proofs.Common.{◌≡◌, ℕ, ◌+◌, ◌^◌, ◌<◌, ◌≤◌, List, length, ap, sym, subst, ◌∙◌, arith}
-use Rattle.std.specs.Prelude.{Option, Some, None, Ok, option_copied, slice_get}
+use Rattle.std.proofs.Common.{◌≡◌, ℕ, ◌+◌, ◌^◌, ◌≤◌, List, length, ap, sym, subst, ◌∙◌, arith}
+use Rattle.std.specs.Prelude.{Some, None, Ok, option_copied, slice_get}
 use Rattle.fact_store.specs.declared.report.Report.{Report}
 use Rattle.fact_store.specs.Report.{report_fault}
-use Rattle.smp_bytes.specs.Packet.{fault_of}
 use Rattle.sweep.specs.declared.answer.Answer.TheVariants.{Facts}
 use Rattle.sweep.specs.declared.finding.Finding.{Finding}
 use Rattle.sweep.specs.declared.request.Request.{Request}
@@ -46,15 +45,15 @@ returns c =
     let told : report_for s r packet ≡ record { generation = c.number.result; context = r.context; bytes = packet } = ap (λ (g : ℕ). record { generation = g; context = r.context; bytes = packet }) (sym same) in
     record {
       ok =
-        record {
-          request = r;
-          waits = at;
-          belongs = waits;
-          finding = found;
-          reach = subst (IsWithinReach r.path) (sym found) (within_reach s r packet);
-          few = subst (λ (f : Finding). length (questions r.path f) ≤ 256) (sym found) (few_asked s packet r waits taken);
-          number = subst (λ (f : Finding). s.next + length (questions r.path f) ≤ 2 ^ 32) (sym found) fits;
-          answer = judged_ok s packet r waits taken c.in-Ok.ensures.judged fits ∙ ap (λ (t : Report). Ok (Facts t)) told;
-        };
+          record {
+            request = r;
+            waits = at;
+            belongs = waits;
+            finding = found;
+            reach = subst (IsWithinReach r.path) (sym found) (within_reach s r packet);
+            few = subst (λ (f : Finding). length (questions r.path f) ≤ 256) (sym found) (few_asked s packet r waits taken);
+            number = subst (λ (f : Finding). s.next + length (questions r.path f) ≤ 2 ^ 32) (sym found) fits;
+            answer = judged_ok s packet r waits taken c.in-Ok.ensures.judged fits ∙ ap (λ (t : Report). Ok (Facts t)) told;
+          };
       err = tt;
     }

@@ -1,4 +1,4 @@
-use Rattle.std.proofs.Common.{◌≡◌, ap, sym, ◌∙◌}
+use Rattle.std.proofs.Common.{ap, sym, ◌∙◌}
 use Rattle.attr_codec.specs.NodeInfo.{node_info_in}
 use Rattle.sweep.specs.Finding.{finding_of, node_found}
 use Rattle.sweep.proofs.sweep.Sweep.finding.Goals as goal

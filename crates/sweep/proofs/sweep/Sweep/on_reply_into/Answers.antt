@@ -1,7 +1,6 @@
-use Rattle.std.proofs.Common.{◌≡◌, ℕ, ap, sym, subst, ◌∙◌}
+use Rattle.std.proofs.Common.{ap, sym, subst, ◌∙◌}
 use Rattle.std.proofs.lemmas.Result.{err_from_is_err_and}
 use Rattle.sweep.specs.Accepting.{IsAccepted}
-use Rattle.sweep.specs.Replies.{JudgesReply, judged}
 use Rattle.sweep.specs.Sweep.{Sweep}
 use Rattle.sweep.proofs.Taken.{IsReady, few_then, judges_err, valid_then}
 use Rattle.sweep.proofs.sweep.Sweep.on_reply_into.Goals as goal

@@ -1,4 +1,4 @@
-use Rattle.std.proofs.Common.{◌≡◌, ◌+◌, [], sym, ◌∙◌, append-nil, arith}
+use Rattle.std.proofs.Common.{[], sym, ◌∙◌, append-nil, arith}
 use Rattle.sweep.proofs.Valid.{valid_ended}
 use Rattle.sweep.proofs.sweep.Sweep.on_timeout.Goals as goal
 

@@ -1,5 +1,5 @@
 use Rattle.std.proofs.Common.{◌≡◌, ℕ, sym, ◌∙◌, subst, ap}
-use Rattle.std.specs.Prelude.{Option, Some, None, option_copied, slice_get}
+use Rattle.std.specs.Prelude.{Some, None, option_copied, slice_get}
 use Rattle.sweep.specs.declared.request.Request.{Request}
 use Rattle.sweep.specs.Accepting.{IsPlaceOfReply}
 use Rattle.sweep.specs.Requests.{IsPlaceOf}

@@ -1,7 +1,7 @@
 -- The order of GUIDs and ports, as facts on numbers.
-use Rattle.std.proofs.Common.{cond, ◌≡◌, ◌≢◌, ℕ, ◌+◌, ◌<◌, ◌≤◌, Bool, true, false, ◌&&◌, ◌||◌, ◌⊎◌, inl, inr, refl, arith, ap, sym, ◌∙◌, subst}
-use Rattle.std.specs.Prelude.{nat_lt, ◌==◌}
-use Rattle.std.proofs.lemmas.Bool.{cond-true, cond-false, eq-eqb, ne_eqb, eqb-true, eqb-false, cases_lt, cases_eq, and_parts}
+use Rattle.std.proofs.Common.{◌≡◌, ℕ, ◌<◌, ◌≤◌, true, false, ◌&&◌, ◌⊎◌, inl, inr, arith}
+use Rattle.std.specs.Prelude.{◌==◌}
+use Rattle.std.proofs.lemmas.Bool.{ne_eqb, eqb-false, cases_lt}
 use Rattle.std.proofs.lemmas.Bool.Decides.{nat_tests}
 use Rattle.sweep.specs.Order.{is_before}
 
@@ -36,13 +36,13 @@ pub before_trans : (a b c : ℕ × ℕ) → is_before a b ≡ true → is_before
 before_trans a b c p q =
     elim (before_parts a b p) [
       | inl x ↦ elim (before_parts b c q) [
-          | inl y ↦ before_less a c (omega (arith, x, y))
-          | inr y ↦ before_less a c (omega (arith, x, y))
-        ]
+        | inl y ↦ before_less a c (omega (arith, x, y))
+        | inr y ↦ before_less a c (omega (arith, x, y))
+      ]
       | inr x ↦ elim (before_parts b c q) [
-          | inl y ↦ before_less a c (omega (arith, x, y))
-          | inr y ↦ before_port a c (omega (arith, x, y)) (omega (arith, x, y))
-        ]
+        | inl y ↦ before_less a c (omega (arith, x, y))
+        | inr y ↦ before_port a c (omega (arith, x, y)) (omega (arith, x, y))
+      ]
     ]
 
 -- neither is before the other
@@ -51,9 +51,9 @@ level_same a b p q =
     elim (not_before_parts a b p) [
       | inl x ↦ absurd (by_less x)
       | inr x ↦ elim (not_before_parts b a q) [
-          | inl y ↦ absurd (omega (arith, x, y))
-          | inr y ↦ (x.0, omega (arith, x, y))
-        ]
+        | inl y ↦ absurd (omega (arith, x, y))
+        | inr y ↦ (x.0, omega (arith, x, y))
+      ]
     ]
   where
     by_less : b.0 < a.0 → ⊥
@@ -97,8 +97,8 @@ pub first_later : (a b : ℕ × ℕ) (guid : ℕ) → is_before a (guid, 0) ≡ 
 first_later a b guid e f r =
     elim (not_before_parts a (guid, 0) e) [
       | inl x ↦ elim (before_parts a b r) [
-          | inl y ↦ ne_eqb _ _ (λ n. omega (arith, x, y, n))
-          | inr y ↦ ne_eqb _ _ (λ n. omega (arith, x, y, n))
-        ]
+        | inl y ↦ ne_eqb _ _ (λ n. omega (arith, x, y, n))
+        | inr y ↦ ne_eqb _ _ (λ n. omega (arith, x, y, n))
+      ]
       | inr x ↦ absurd (eqb-false _ _ f x.0)
     ]
