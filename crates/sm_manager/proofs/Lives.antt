@@ -13,13 +13,13 @@ use Rattle.fact_store.proofs.Merges.{merge_empty, merge_is_commutative}
 use Rattle.fact_store.proofs.Views.{members_decide_view, view_of_both}
 use Rattle.sweep.specs.declared.answer.Answer.{Answer}
 use Rattle.sweep.specs.declared.fault.SweepFault.{SweepFault}
-use Rattle.sweep.specs.Replies.{judged, told_by}
+use Rattle.sweep.specs.Replies.{judged}
 use Rattle.sweep.specs.Sweep.{Sweep, timeout_fault}
 use Rattle.lft_blocks.specs.Plan.{plan_of}
-use Rattle.sm_manager.specs.Manager.{Manager, new_manager, begin_fault, sweep_begun, taken_of, taken}
+use Rattle.sm_manager.specs.Manager.{Manager, new_manager, begin_fault, sweep_begun, taken_of}
 use Rattle.sm_manager.specs.declared.fault.ManagerFault.TheVariants.{Unasked}
 use Rattle.sm_manager.specs.declared.outgoing.Outgoing.{Outgoing}
-use Rattle.sm_manager.specs.Packets.{Called, refused, answered_by, sweep_answered, packet_taken, timeout_judged, timeout_of, is_for_sweep}
+use Rattle.sm_manager.specs.Packets.{refused, answered_by, sweep_answered, packet_taken, timeout_judged, timeout_of, is_for_sweep}
 use Rattle.sm_manager.specs.Steps.{Step, BeginSweep, Take, Packet, Timeout, Merge, after_step, after_steps, told_if, told_of_reply, told_of_packet, told_in, taken_in, KnowsWhatItTookIn, SameTakenInSamePlan}
 
 -- what a call takes in is merged with what was known -------------------------------------------

@@ -1,7 +1,7 @@
 -- The greatest generation of the facts that are held.
-use Rattle.std.proofs.Common.{◌≡◌, ◌↔◌, ℕ, ◌≤◌, List, [], ◌∷◌, map, refl, sym, ap, ◌∙◌, subst, arith}
+use Rattle.std.proofs.Common.{◌≡◌, ◌↔◌, ℕ, ◌≤◌, List, [], ◌∷◌, map, refl, sym, ap, ◌∙◌, arith}
 use Rattle.std.specs.Prelude.{Option, Some, None, Contains, IsNone, IfSome, unwrap_or}
-use Rattle.std.specs.FinMap.{empty, entries, get}
+use Rattle.std.specs.FinMap.{empty, entries}
 use Rattle.fact_join.specs.declared.cell.Cell.{Cell}
 use Rattle.fact_join.specs.Cell.{generation_of}
 use Rattle.fact_store.specs.declared.key.Key.{Key}

@@ -1,6 +1,6 @@
 -- A reply to the sweep, by how the sweep judges it.
 use Rattle.std.proofs.Common.{◌≡◌, ℕ, true, cond, List, refl, sym, ap, ◌∙◌, subst}
-use Rattle.std.specs.Prelude.{Option, Some, None, Result, Ok, Err, IsOk}
+use Rattle.std.specs.Prelude.{Some, None, Result, Ok, Err, IsOk}
 use Rattle.smp_bytes.specs.Packet.{fault_of}
 use Rattle.sweep.specs.declared.answer.Answer.{Answer}
 use Rattle.sweep.specs.declared.fault.SweepFault.{SweepFault}
@@ -9,7 +9,7 @@ use Rattle.sweep.specs.Sweep.{Sweep}
 use Rattle.sm_manager.specs.declared.fault.ManagerFault.{ManagerFault}
 use Rattle.sm_manager.specs.declared.fault.ManagerFault.TheVariants.{Unasked}
 use Rattle.sm_manager.specs.Manager.{Manager}
-use Rattle.sm_manager.specs.Packets.{Called, refused, answered_by, sweep_answered, packet_taken, took, is_for_sweep, JudgesCall, IsFaultWithoutRoom}
+use Rattle.sm_manager.specs.Packets.{refused, answered_by, sweep_answered, packet_taken, took, is_for_sweep, JudgesCall, IsFaultWithoutRoom}
 
 -- the sweep judges it
 pub by_sweep : (m : Manager) (packet : List ℕ) (s : Sweep) → fault_of packet ≡ None → is_for_sweep packet ≡ true → m.sweep ≡ Some s

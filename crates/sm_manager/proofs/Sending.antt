@@ -6,7 +6,6 @@ use Rattle.std.specs.Prelude.{Some, None}
 use Rattle.sweep.specs.declared.request.Request.{Request}
 use Rattle.sweep.specs.Sweep.{Sweep, packet_of, sent_of, sent}
 use Rattle.sm_manager.specs.Manager.{requests_out, with_all_sent}
-use Rattle.sm_manager.specs.declared.outgoing.Outgoing.{Outgoing}
 
 -- the first of the queue went out, and waits
 pub record HasSent (s : Sweep) (packet : List ℕ) (t : Sweep) : Type 0 where

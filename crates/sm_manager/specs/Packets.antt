@@ -1,6 +1,6 @@
 -- What a manager does with a packet that comes to its port, and with a timeout.
 -- InfiniBand Architecture Specification, Volume 1: subnet management methods; directed route SMPs.
-use Rattle.std.specs.Prelude.{◌≡◌, ℕ, ◌^◌, Bool, ◌&&◌, List, nat_le, ◌==◌, if◌then◌else◌, Option, Some, None, Result, Ok, Err, is_none}
+use Rattle.std.specs.Prelude.{◌≡◌, ℕ, ◌^◌, Bool, ◌&&◌, List, nat_le, ◌==◌, if◌then◌else◌, Option, Some, None, Result, Ok, Err}
 use Rattle.smp_bytes.specs.Header.{get_resp}
 use Rattle.smp_bytes.specs.Field.{number_in}
 use Rattle.smp_bytes.specs.Packet.{fault_of, method, transaction_id, is_directed}

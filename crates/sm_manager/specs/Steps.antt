@@ -2,7 +2,7 @@
 use Rattle.std.specs.Prelude.{◌≡◌, ℕ, List, [], ◌∷◌, ◌++◌, Option, Some, None, Result, Ok, Err, if◌then◌else◌, is_none}
 use Rattle.std.specs.FinMap.{entries}
 use Rattle.fact_store.specs.Report.{Told}
-use Rattle.fact_store.specs.View.{Facts, view, HaveSameMembers}
+use Rattle.fact_store.specs.View.{view, HaveSameMembers}
 use Rattle.smp_bytes.specs.Packet.{fault_of}
 use Rattle.smp_bytes.specs.declared.smp_fault.SmpFault.{SmpFault}
 use Rattle.sweep.specs.declared.answer.Answer.{Answer}
@@ -11,7 +11,7 @@ use Rattle.sweep.specs.Replies.{judged, told_by}
 use Rattle.sweep.specs.Sweep.{Sweep}
 use Rattle.lft_blocks.specs.Plan.{plan_of}
 use Rattle.sm_manager.specs.Manager.{Manager, new_manager, begin_fault, sweep_begun, merged, taken}
-use Rattle.sm_manager.specs.Packets.{Called, took, gave_up, is_for_sweep}
+use Rattle.sm_manager.specs.Packets.{took, gave_up, is_for_sweep}
 
 -- what may change a manager; a store that is merged is told by sightings that it is the view of
 pub data Step : Type 0 where

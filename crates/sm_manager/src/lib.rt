@@ -12,3 +12,6 @@ pub use fault::ManagerFault;
 pub use manager::Manager;
 pub use outgoing::Outgoing;
 pub use progress::Progress;
+
+#[cfg(test)]
+mod tests;

@@ -119,7 +119,10 @@ impl Manager {
     {
         match Plan::of(self.alloc, &self.store) {
             Ok(plan) => Ok(plan),
-            Err(LidFault::NoRoom { endports, room }) => Err(ManagerFault::NoRoom { endports, room }),
+            Err(LidFault::NoRoom { endports, room }) => Err(ManagerFault::NoRoom {
+                endports,
+                room,
+            }),
             Err(LidFault::Memory) => Err(ManagerFault::Memory),
         }
     }
@@ -151,9 +154,15 @@ impl Manager {
                 let unanswered = sweep.unanswered();
                 let too_far = sweep.too_far();
                 if sweep.is_done() {
-                    Progress::Done { unanswered, too_far }
+                    Progress::Done {
+                        unanswered,
+                        too_far,
+                    }
                 } else {
-                    Progress::Running { unanswered, too_far }
+                    Progress::Running {
+                        unanswered,
+                        too_far,
+                    }
                 }
             }
         }

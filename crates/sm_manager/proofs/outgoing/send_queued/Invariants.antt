@@ -1,5 +1,5 @@
 -- What went out so far and what is still queued are what was queued; each turn sends one.
-use Rattle.std.proofs.Common.{◌≡◌, ◌+◌, ◌≤◌, ◌++◌, length, ℕ}
+use Rattle.std.proofs.Common.{◌≡◌, ◌+◌, ◌≤◌, ◌++◌, length}
 use Rattle.std.specs.VecDeque.{deque_capacity, deque_len}
 use Rattle.sm_manager.specs.Manager.{requests_out, with_all_sent}
 use Rattle.sm_manager.proofs.outgoing.send_queued.Given as goal

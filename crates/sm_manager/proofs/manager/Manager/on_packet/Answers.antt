@@ -1,7 +1,6 @@
 -- A reply is judged by the sweep, also where there is no room for what it brings up.
 use Rattle.std.proofs.Common.{◌≡◌, true, sym, ap, ◌∙◌, subst}
 use Rattle.std.specs.Prelude.{Some, Err}
-use Rattle.sweep.specs.declared.fault.SweepFault.{SweepFault}
 use Rattle.sweep.specs.Replies.{judged, JudgesReply}
 use Rattle.sm_manager.specs.Manager.{Manager}
 use Rattle.sm_manager.specs.Packets.{Called, JudgesCall, is_for_sweep}
