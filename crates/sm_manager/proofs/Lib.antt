@@ -1,0 +1,4 @@
+pub mod Lives
+pub mod Newest
+pub mod Replies
+pub mod Sending

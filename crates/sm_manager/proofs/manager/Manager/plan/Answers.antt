@@ -1,0 +1,9 @@
+-- The plan is that of the store.
+use Rattle.std.proofs.Common.{ap, ◌∙◌}
+use Rattle.std.specs.FinMap.{entries}
+use Rattle.lft_blocks.specs.Plan.{plan_of}
+use Rattle.sm_manager.specs.Manager.{Manager}
+use Rattle.sm_manager.proofs.manager.Manager.plan.Goals as goal
+
+pub returns-in-Ok-clause-plan : goal.returns-in-Ok-clause-plan
+returns-in-Ok-clause-plan c = c.in-Ok.ensures.plan ∙ ap (λ (m : Manager). plan_of (entries m.store)) c.self.view_is

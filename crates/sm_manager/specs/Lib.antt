@@ -1,0 +1,5 @@
+pub mod Coded
+pub mod Manager
+pub mod Packets
+pub mod Plans
+pub mod Steps

@@ -1,0 +1,97 @@
+-- A subnet manager: what it knows, its last sweep, and what it is about to send; and what it is asked to do.
+-- InfiniBand Architecture Specification, Volume 1: subnet management, subnet manager; topology discovery.
+use Rattle.std.specs.Prelude.{◌≡◌, ℕ, ◌+◌, ◌-◌, ◌^◌, Bool, false, not, List, [], ◌∷◌, ◌++◌, map, slice_get, ◌==◌, if◌then◌else◌, Option, Some, None, option_map, option_and_then}
+use Rattle.std.specs.FinMap.{empty, entries}
+use Rattle.fact_store.specs.View.{Facts, newest_of}
+use Rattle.fact_store.specs.Merge.{merge}
+use Rattle.sweep.specs.declared.request.Request.{Request}
+use Rattle.sweep.specs.Sweep.{Sweep, started, is_done, packet_of, transaction_of}
+use Rattle.sm_manager.specs.declared.fault.ManagerFault.{ManagerFault}
+use Rattle.sm_manager.specs.declared.fault.ManagerFault.TheVariants.{GenerationsSpent, SweepRunning}
+use Rattle.sm_manager.specs.declared.outgoing.Outgoing.{Outgoing}
+use Rattle.sm_manager.specs.declared.progress.Progress.{Progress}
+use Rattle.sm_manager.specs.declared.progress.Progress.TheVariants.{Never, Running, Done}
+
+-- The GUID and the number of the port that it sits at, its priority, all facts that it took in, the last sweep that it
+-- began, and the packets that it is about to send, first in, first out.
+pub record Manager : Type 0 where
+  pub port_guid : ℕ
+  pub port : ℕ
+  pub priority : ℕ
+  pub store : Facts
+  pub sweep : Option Sweep
+  pub outgoing : List Outgoing
+
+-- one that knows nothing and has done nothing
+abbrev pub new_manager : ℕ → ℕ → ℕ → Manager
+new_manager port_guid port priority =
+    record { port_guid = port_guid; port = port; priority = priority; store = empty; sweep = None; outgoing = [] }
+
+-- what a sweep asks goes out -----------------------------------------------------------------
+
+-- requests go out by their paths
+abbrev pub requests_out : ℕ → List Request → List Outgoing
+requests_out generation requests = map (λ r. record { packet = packet_of generation r; to = None }) requests
+
+-- all that is queued waits for its replies
+abbrev pub with_all_sent : Sweep → Sweep
+with_all_sent s = record s { queued = []; outstanding = s.outstanding ++ s.queued }
+
+-- all that the sweep has queued is sent at once
+abbrev pub with_sweep : Manager → Sweep → Manager
+with_sweep m s =
+    record m {
+      sweep = Some (with_all_sent s);
+      outgoing = m.outgoing ++ requests_out s.generation s.queued;
+    }
+
+-- a sweep has nothing queued between the manager's calls
+abbrev pub IsSentWhole : Option Sweep → Type 0
+IsSentWhole None = Unit {0}
+IsSentWhole (Some s) = s.queued ≡ []
+
+-- beginning a sweep ------------------------------------------------------------------------------
+
+-- a sweep was begun and is not done
+abbrev pub is_running : Option Sweep → Bool
+is_running None = false
+is_running (Some s) = not (is_done s)
+
+-- the greatest generation of a fact, 0 where there is none
+abbrev pub newest_held : Facts → ℕ
+newest_held facts = newest_of (map (λ e. e.1) (entries facts))
+
+-- why no sweep begins: one runs, or the newest generation is the greatest that there is
+abbrev pub begin_fault : Manager → Option ManagerFault
+begin_fault m = if is_running m.sweep then Some SweepRunning else (if newest_held m.store == 2 ^ 32 - 1 then Some GenerationsSpent else None)
+
+-- a sweep by the manager's own port, of a generation after all that it knows
+abbrev pub sweep_begun : Manager → Manager
+sweep_begun m = with_sweep m (started m.port (newest_held m.store + 1) 1)
+
+-- other calls ------------------------------------------------------------------------------------
+
+-- the facts of another store are merged with its own
+abbrev pub merged : Manager → Facts → Manager
+merged m facts = record m { store = merge m.store facts }
+
+-- the manager after its first packet was taken to be sent, and that packet
+pub record Taken : Type 0 where
+  pub manager : Manager
+  pub packet : Option Outgoing
+
+abbrev pub taken_of : Manager → List Outgoing → Taken
+taken_of m [] = record { manager = m; packet = None }
+taken_of m (packet ∷ later) = record { manager = record m { outgoing = later }; packet = Some packet }
+
+abbrev pub taken : Manager → Taken
+taken m = taken_of m m.outgoing
+
+-- the TransactionIDs that it waits for, rising
+abbrev pub outstanding_at : Manager → ℕ → Option ℕ
+outstanding_at m i = option_and_then (λ s. option_map (λ r. transaction_of s.generation r.number) (slice_get s.outstanding i)) m.sweep
+
+-- how its last sweep goes
+abbrev pub progress_of : Option Sweep → Progress
+progress_of None = Never
+progress_of (Some s) = if is_done s then Done s.unanswered s.too_far else Running s.unanswered s.too_far

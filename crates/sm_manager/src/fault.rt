@@ -1,0 +1,43 @@
+use lid_assign::LidFault;
+use std::alloc::AllocError;
+use sweep::SweepFault;
+use thiserror::Error;
+
+/// Why a manager refuses a call. It is then as it was.
+#[derive(Clone, Copy, Debug, PartialEq, Eq, Error)]
+pub enum ManagerFault {
+    /// The newest generation held is the greatest that there is.
+    #[error("GenerationsSpent")]
+    GenerationsSpent,
+    /// A sweep was begun and is not done.
+    #[error("SweepRunning")]
+    SweepRunning,
+    /// There are end ports, and no fewer of them than the smallest forwarding table has room for LIDs, 0 among them.
+    #[error("NoRoom")]
+    NoRoom {
+        /// How many end ports there are.
+        endports: usize,
+        /// How many LIDs the table has room for, 0 among them.
+        room: u16,
+    },
+    /// The sweep refuses the reply, for another reason than want of memory.
+    #[error("{0}")]
+    Sweep(SweepFault),
+    /// The packet answers nothing that was asked, or the request that is to time out does not wait.
+    #[error("Unasked")]
+    Unasked,
+    /// The memory that the call needs was refused.
+    #[error("Memory")]
+    Memory,
+}
+
+impl From<AllocError> for ManagerFault {
+    ghost use Rattle.std.specs.Prelude.{◌≡◌};
+    ghost use Rattle.sm_manager.specs.declared.fault.ManagerFault.TheVariants.{Memory};
+
+    ghost from_gives = { λ _ fault. fault ≡ Memory };
+
+    fn from(_: AllocError) -> Self {
+        ManagerFault::Memory
+    }
+}

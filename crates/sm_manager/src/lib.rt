@@ -1,0 +1,17 @@
+//! A subnet manager as a state machine: it is asked what to send and told what came, and does no input or output.
+#![tactic(auto)]
+
+mod fault;
+pub mod laws;
+mod manager;
+mod outgoing;
+mod packets;
+mod progress;
+
+pub use fault::ManagerFault;
+pub use manager::Manager;
+pub use outgoing::Outgoing;
+pub use progress::Progress;
+
+#[cfg(test)]
+mod tests;

@@ -1,0 +1,170 @@
+ghost use Rattle.std.specs.Prelude.{◌≡◌, IfOk, OnOk, OnErr};
+ghost use Rattle.std.specs.FinMap.{entries};
+ghost use Rattle.lft_blocks.specs.Plan.{plan_of};
+ghost use Rattle.sm_manager.specs.Manager.{begin_fault, merged, new_manager, outstanding_at, progress_of, sweep_begun, taken};
+ghost use Rattle.sm_manager.specs.Packets.{JudgesCall};
+ghost use Rattle.sm_manager.specs.Plans.{JudgesPlan};
+
+use crate::fault::ManagerFault;
+use crate::outgoing::{Outgoing, send_queued};
+use crate::progress::Progress;
+use attr_codec::Priority;
+use fact_store::Store;
+use lft_blocks::Plan;
+use lid_assign::LidFault;
+use smp_bytes::{Generation, Guid, PortNum};
+use std::alloc::{AllocError, Global};
+use std::collections::VecDeque;
+use std::marker::Model;
+use sweep::Sweep;
+
+/// A subnet manager at an adapter's port: what it knows of the subnet, the last sweep that it began, and what it is about
+/// to send. Contracts see each part.
+#[derive(Drop)]
+pub struct Manager {
+    pub(crate) alloc: Global,
+    pub(crate) port_guid: Guid,
+    pub(crate) port: PortNum,
+    pub(crate) priority: Priority,
+    pub(crate) store: Store,
+    pub(crate) sweep: Option<Sweep>,
+    pub(crate) outgoing: VecDeque<Outgoing>,
+}
+
+impl Model for Manager {
+    ghost use Rattle.sm_manager.specs.Manager.{Manager, IsSentWhole};
+    ghost use Rattle.sm_manager.specs.Coded.{manager_code};
+
+    ghost Value = { Manager };
+
+    ghost coded = { manager_code };
+
+    ghost view = { λ a. record { port_guid = a.port_guid; port = a.port; priority = a.priority; store = a.store; sweep = a.sweep; outgoing = a.outgoing.items } };
+
+    ghost invariant = { λ a. IsSentWhole a.sweep };
+}
+
+impl Manager {
+    /// A manager that knows nothing, at the port of a GUID and a number. Takes no memory yet.
+    pub fn new(alloc: Global, port_guid: Guid, port: PortNum, priority: Priority) -> Self
+        ensures { result ≡ new_manager port_guid port priority }
+    {
+        Manager {
+            alloc,
+            port_guid,
+            port,
+            priority,
+            store: Store::new(alloc),
+            sweep: None,
+            outgoing: VecDeque::new(alloc),
+        }
+    }
+
+    /// Begins a sweep, of the generation after the newest that is held, or of the first; what it asks first goes out. Walks
+    /// the store once.
+    ///
+    /// # Errors
+    ///
+    /// `SweepRunning`, `GenerationsSpent` and `Memory`, in this order.
+    pub fn begin_sweep(&mut self) -> Result<(), ManagerFault>
+        ensures judged { JudgesCall result (begin_fault self.old) }
+        ensures ok { OnOk result (self.new ≡ sweep_begun self.old) }
+        ensures err { OnErr result (self.new ≡ self.old) }
+    {
+        if self.is_running() {
+            return Err(ManagerFault::SweepRunning);
+        }
+        let Some(generation) = self.next_generation() else {
+            return Err(ManagerFault::GenerationsSpent);
+        };
+        self.outgoing.reserve(1)?;
+        let mut sweep = Sweep::start(self.alloc, self.port, generation, 1)?;
+        send_queued(&mut sweep, &mut self.outgoing);
+        self.sweep = Some(sweep);
+        Ok(())
+    }
+
+    /// Takes the first packet that is to be sent. Takes no memory.
+    pub fn take_outgoing(&mut self) -> Option<Outgoing>
+        ensures packet { result ≡ (taken self.old).packet }
+        ensures manager { self.new ≡ (taken self.old).manager }
+    {
+        self.outgoing.pop_front()
+    }
+
+    /// Takes in what another store holds. Walks both stores.
+    ///
+    /// # Errors
+    ///
+    /// `Memory` alone.
+    pub fn merge_from(&mut self, other: &Store) -> Result<(), ManagerFault>
+        ensures ok { OnOk result (self.new ≡ merged self.old other.now) }
+        ensures err { OnErr result (self.new ≡ self.old) }
+        ensures memory { OnErr result (result ≡ Err ManagerFault.Memory) }
+    {
+        match self.store.merge(other) {
+            Ok(()) => Ok(()),
+            Err(_) => Err(ManagerFault::Memory),
+        }
+    }
+
+    /// The plan of what is known: the LID of each end port, and the forwarding blocks of each usable switch.
+    ///
+    /// # Errors
+    ///
+    /// `NoRoom` and `Memory`.
+    pub fn plan(&self) -> Result<Plan, ManagerFault>
+        ensures judged { JudgesPlan result (entries self.now.store) }
+        ensures plan { IfOk result (λ plan. plan ≡ plan_of (entries self.now.store)) }
+    {
+        match Plan::of(self.alloc, &self.store) {
+            Ok(plan) => Ok(plan),
+            Err(LidFault::NoRoom { endports, room }) => Err(ManagerFault::NoRoom {
+                endports,
+                room,
+            }),
+            Err(LidFault::Memory) => Err(ManagerFault::Memory),
+        }
+    }
+
+    /// The TransactionID of the `i`-th request that waits for its answer, by rising TransactionIDs from 0 on.
+    pub fn outstanding(&self, i: usize) -> Option<u64>
+        ensures { result ≡ outstanding_at self.now i }
+    {
+        match &self.sweep {
+            Some(sweep) => sweep.outstanding(i),
+            None => None,
+        }
+    }
+
+    /// All facts that were taken in.
+    pub fn store(&self) -> &Store
+        ensures { result.now ≡ self.now.store }
+    {
+        &self.store
+    }
+
+    /// How the last sweep goes.
+    pub fn progress(&self) -> Progress
+        ensures { result ≡ progress_of self.now.sweep }
+    {
+        match &self.sweep {
+            None => Progress::Never,
+            Some(sweep) => {
+                let unanswered = sweep.unanswered();
+                let too_far = sweep.too_far();
+                if sweep.is_done() {
+                    Progress::Done {
+                        unanswered,
+                        too_far,
+                    }
+                } else {
+                    Progress::Running {
+                        unanswered,
+                        too_far,
+                    }
+                }
+            }
+        }
+    }
+}

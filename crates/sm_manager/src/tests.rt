@@ -1,0 +1,162 @@
+//! A manager at a lone adapter, whose replies are made by hand.
+use super::*;
+use attr_codec::{Attribute, NodeInfo, NodeTypeNumber, PortInfo, PortState, Priority};
+use fact_join::Cell;
+use fact_store::{Key, ReportFault, Sighting, Store, Value};
+use smp_bytes::{AttributeId, Generation, Guid, NodeType, PortNum, Smp, SmpFault, Status};
+use std::alloc::Global;
+use std::test::Fail;
+use sweep::SweepFault;
+
+fn manager(alloc: Global) -> Result<Manager, Fail> {
+    let priority = Priority::new(3).ok_or("16")?;
+    Ok(Manager::new(alloc, Guid::new(0x101), PortNum::new(1), priority))
+}
+
+/// What the adapter says: one port, which is down.
+fn told(attribute: AttributeId) -> [u8; 64] {
+    if attribute == AttributeId::NODE_INFO {
+        let mut info = NodeInfo::decode(&[0; 64]);
+        info.node_type = NodeTypeNumber::from(NodeType::ChannelAdapter);
+        info.num_ports = 1;
+        info.node_guid = Guid::new(0x100);
+        info.port_guid = Guid::new(0x101);
+        info.local_port_num = PortNum::new(1);
+        return info.encode();
+    }
+    let mut info = PortInfo::decode(&[0; 64]);
+    info.set_port_state(PortState::Down);
+    info.encode()
+}
+
+fn answer(smp: &Smp) -> Smp {
+    smp.answer(Status::DONE, &told(smp.attribute_id()))
+}
+
+/// Takes the next packet and answers it; its TransactionID and what the answer came to.
+fn answered(manager: &mut Manager) -> Option<(u64, Option<ManagerFault>)> {
+    let out = manager.take_outgoing()?;
+    let fault = manager.on_packet(answer(&out.packet).bytes()).err();
+    Some((out.packet.transaction_id(), fault))
+}
+
+#[test]
+fn sweeps_again_and_again(rt: HostRuntime) -> Result<(), Fail> {
+    let mut manager = manager(rt.alloc())?;
+    assert!(rt; manager.progress() == Progress::Never && manager.outstanding(0) == None);
+    for round in 1..4u64 {
+        assert!(rt; manager.begin_sweep().is_ok(), "{round}");
+        let first = round * 0x1_0000_0000 + 1;
+        let waits = manager.outstanding(0) == Some(first) && manager.outstanding(1) == None;
+        assert!(rt;
+            waits && manager.begin_sweep() == Err(ManagerFault::SweepRunning),
+            "{round}"
+        );
+        let one = answered(&mut manager) == Some((first, None));
+        let two = answered(&mut manager) == Some((first + 1, None));
+        assert!(rt; one && two && manager.take_outgoing().is_none(), "{round}");
+        let done = Progress::Done {
+            unanswered: 0,
+            too_far: 0,
+        };
+        assert!(rt;
+            manager.progress() == done && manager.store().count() == 4,
+            "{round}"
+        );
+    }
+    let plan = manager.plan().ok().ok_or("no plan")?;
+    assert!(rt; plan.top().is_some());
+    Ok(())
+}
+
+/// A byte of the answer to the first request, another value, and the refusal that this brings.
+fn spoilt() -> [(usize, u8, ManagerFault); 7] {
+    let bad = |fault| ManagerFault::Sweep(SweepFault::Bad(fault));
+    [
+        (0, 2, bad(ReportFault::Smp(SmpFault::BaseVersion))),
+        (3, 0x01, ManagerFault::Unasked),
+        (3, 0x82, ManagerFault::Unasked),
+        (1, 0x01, ManagerFault::Unasked),
+        (11, 0, ManagerFault::Unasked),
+        (15, 9, ManagerFault::Sweep(SweepFault::NotOutstanding)),
+        (5, 0x1C, bad(ReportFault::Status)),
+    ]
+}
+
+#[test]
+fn refuses_in_order(rt: HostRuntime) -> Result<(), Fail> {
+    let mut manager = manager(rt.alloc())?;
+    manager.begin_sweep()?;
+    let first = manager.take_outgoing().ok_or("nothing")?;
+    let reply = answer(&first.packet);
+    for (place, value, fault) in spoilt() {
+        let mut bytes = *reply.bytes();
+        if let Some(byte) = bytes.get_mut(place) {
+            *byte = value;
+        }
+        assert!(rt; manager.on_packet(&bytes) == Err(fault), "{place}");
+    }
+    assert!(rt; manager.on_packet(reply.bytes()).is_ok() && manager.store().count() == 2);
+    assert!(rt;
+        manager.on_packet(reply.bytes()) == Err(ManagerFault::Sweep(SweepFault::NotOutstanding))
+    );
+    Ok(())
+}
+
+#[test]
+fn gives_up_once(rt: HostRuntime) -> Result<(), Fail> {
+    let mut manager = manager(rt.alloc())?;
+    let id = 0x1_0000_0001;
+    assert!(rt; manager.on_timeout(id) == Err(ManagerFault::Unasked));
+    manager.begin_sweep()?;
+    let other = manager.on_timeout(id + 1) == Err(ManagerFault::Unasked);
+    assert!(rt;
+        other
+            && manager.progress()
+                == Progress::Running {
+                    unanswered: 0,
+                    too_far: 0
+                }
+    );
+    assert!(rt;
+        manager.on_timeout(id).is_ok() && manager.on_timeout(id) == Err(ManagerFault::Unasked)
+    );
+    assert!(rt;
+        manager.progress()
+            == Progress::Done {
+                unanswered: 1,
+                too_far: 0
+            }
+    );
+    let late = answered(&mut manager);
+    assert!(rt; late == Some((id, Some(ManagerFault::Sweep(SweepFault::NotOutstanding)))));
+    Ok(())
+}
+
+/// A store that knows of one adapter, at a generation.
+fn store_at(alloc: Global, generation: u32) -> Result<Store, Fail> {
+    let at = Generation::new(generation).ok_or("0")?;
+    let cell = Cell::Known(at, Value::Kind(NodeType::ChannelAdapter, 1));
+    let mut store = Store::new(alloc);
+    store.add(Sighting::new(Key::Node(Guid::new(0x200)), cell).ok_or("out of range")?)?;
+    Ok(store)
+}
+
+#[test]
+fn begins_after_what_it_merged(rt: HostRuntime) -> Result<(), Fail> {
+    for (newest, next) in [
+        (1, Some(2)),
+        (41, Some(42)),
+        (u32::MAX - 1, Some(u32::MAX)),
+        (u32::MAX, None),
+    ] {
+        let mut manager = manager(rt.alloc())?;
+        manager.merge_from(&store_at(rt.alloc(), newest)?)?;
+        let begun = manager.begin_sweep();
+        let generation = manager.outstanding(0).map(|id| (id / 0x1_0000_0000) as u32);
+        let refused = begun == Err(ManagerFault::GenerationsSpent);
+        assert!(rt; generation == next && refused == next.is_none(), "{newest}");
+        assert!(rt; manager.plan().is_ok(), "{newest}");
+    }
+    Ok(())
+}
