@@ -108,6 +108,10 @@ abbrev pub with_lines : List Node → ℕ → Script → List (List ℕ) → Res
 with_lines nodes number before [] = Ok before
 with_lines nodes number before (line ∷ later) = with_line nodes number before (line_of line) >>= λ now. with_lines nodes (number + 1) now later
 
+-- what all lines tell
+abbrev pub told_by : List Node → List (List ℕ) → Result Script ScheduleFault
+told_by nodes lines = with_lines nodes 1 (record { seats = []; commands = [] }) lines
+
 -- what a text says of a fabric that has these nodes
 unfoldable pub schedule_of : List Node → List ℕ → Result Script ScheduleFault
-schedule_of nodes text = with_lines nodes 1 (record { seats = []; commands = [] }) (lines text)
+schedule_of nodes text = told_by nodes (lines text)

@@ -4,7 +4,7 @@ ghost use Rattle.schedule_file.specs.Command.{line_of, new_manager, number_up_to
 
 use crate::manager_name::ManagerName;
 use crate::numbers::number_up_to;
-use crate::spoken::{PortName, Spoken, pair, port_name, spoken};
+use crate::spoken::{PortName, Spoken, pair, port_name, read_command};
 use attr_codec::Priority;
 use text_words::{is_word, split_word};
 
@@ -35,7 +35,7 @@ pub(crate) fn read_line(line: &[u8]) -> Option<Line>
     if is_word(word, "manager") {
         Some(Line::Manager(new_manager(rest)?))
     } else {
-        Some(Line::Command(spoken(word, rest)?))
+        Some(Line::Command(read_command(word, rest)?))
     }
 }
 

@@ -1,7 +1,7 @@
 ghost use Rattle.std.specs.Prelude.{◌≡◌, [], Ok};
 ghost use Rattle.text_words.specs.Text.{lines};
 ghost use Rattle.schedule_file.specs.Command.{line_of};
-ghost use Rattle.schedule_file.specs.Schedule.{schedule_of, with_lines, with_line, with_command, new_seat, with_seat};
+ghost use Rattle.schedule_file.specs.Schedule.{schedule_of, told_by, with_line, with_command, new_seat, with_seat};
 ghost use Rattle.schedule_file.specs.ScheduleFault.{Reads};
 
 use crate::command::Command;
@@ -121,22 +121,20 @@ fn new_seat(
 ) -> Result<Seat, ScheduleFault>
     ensures { result ≡ new_seat topology.now.nodes seats.now line new }
 {
-    if seat(seats, &new.name).is_some() {
+    let NewManager { name, at, priority } = new;
+    if seat(seats, &name).is_some() {
         return Err(ScheduleFault::Name { line });
     }
-    let Some(at) = port(topology, &new.at) else {
+    let Some(at) = port(topology, &at) else {
         return Err(ScheduleFault::Name { line });
     };
     if !is_seat(topology, at) || is_taken(seats, at) {
         return Err(ScheduleFault::Seat { line });
     }
-    Ok(Seat {
-        name: new.name,
-        at,
-        priority: new.priority,
-    })
+    Ok(Seat { name, at, priority })
 }
 
+#[tactic(auto, unfolding(crate::specs::Schedule::schedule_of))]
 /// Reads the text of a schedule for a fabric. Each line, which ends with LF or CR LF, is empty or a command, and `#`
 /// outside quotes begins a comment:
 ///
@@ -162,9 +160,16 @@ fn new_seat(
 pub fn parse(alloc: Global, text: &str, topology: &Topology) -> Result<Schedule, ScheduleFault>
     ensures { Reads result (schedule_of topology.now.nodes text.now) }
 {
+    read_lines(alloc, text.as_bytes(), topology)
+}
+
+/// What a text's lines tell.
+fn read_lines(alloc: Global, text: &[u8], topology: &Topology) -> Result<Schedule, ScheduleFault>
+    ensures { Reads result (told_by topology.now.nodes (lines text.now)) }
+{
     let mut schedule = Schedule::new(alloc);
     let mut number = 0;
-    let mut rest = text.as_bytes();
+    let mut rest = text;
     while let Some((line, later)) = split_line(rest) {
         number += 1;
         schedule = schedule.with(topology, number, line)?;

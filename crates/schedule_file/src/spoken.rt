@@ -39,17 +39,17 @@ pub(crate) enum Spoken {
 }
 
 /// The command that a word and the rest of its line are.
-pub(crate) fn spoken(word: &[u8], line: &[u8]) -> Option<Spoken>
+pub(crate) fn read_command(word: &[u8], line: &[u8]) -> Option<Spoken>
     ensures { result ≡ spoken_of word.now (words line.now) }
 {
-    match verb(word) {
+    match read_verb(word) {
         Some(verb) => of_one(verb, line),
         None => other(word, line),
     }
 }
 
 /// A command to one manager, by its word.
-fn verb(word: &[u8]) -> Option<Verb>
+fn read_verb(word: &[u8]) -> Option<Verb>
     ensures { result ≡ verb_of word.now }
 {
     if is_word(word, "sweep") {
