@@ -1,6 +1,7 @@
 -- What a text says: a schedule, or its first fault.
-use Rattle.std.specs.Prelude.{ℕ, suc, ◌+◌, ◌&&◌, ◌||◌, not, Bool, true, false, List, [], ◌∷◌, ◌++◌, Option, None, Some, Result, Ok, Err, length, is_some, nat_le}
-use Rattle.std.specs.Prelude.{option_map, option_and_then, slice_get, if◌then◌else◌}
+use Rattle.std.specs.Prelude.{ℕ, ◌+◌, ◌&&◌, not, Bool, false, List, [], ◌∷◌, ◌++◌, Option, None, Some, Result, Ok, Err, length, is_some, nat_le}
+use Rattle.std.specs.Prelude.{option_map, option_and_then, position, slice_get, if◌then◌else◌}
+use Rattle.std.specs.List.{list_any}
 use Rattle.std.specs.Option.{option_map_or}
 use Rattle.std.specs.Str.{bytes_eq}
 use Rattle.smp_bytes.specs.Cables.{is_same_port}
@@ -37,13 +38,11 @@ abbrev pub ◌>>=◌ : {A B : Type 0} → Result A ScheduleFault → (A → Resu
 
 -- the place of the manager that has the name
 abbrev pub seat_of : List Seat → List ℕ → Option ℕ
-seat_of [] name = None
-seat_of (seat ∷ seats) name = if bytes_eq seat.name name then Some 0 else option_map suc (seat_of seats name)
+seat_of seats name = position (λ seat. bytes_eq seat.name name) seats
 
 -- a manager sits at the port
 abbrev pub is_taken : List Seat → NodePort → Bool
-is_taken [] p = false
-is_taken (seat ∷ seats) p = is_same_port seat.at p || is_taken seats p
+is_taken seats p = list_any (λ seat. is_same_port seat.at p) seats
 
 -- a manager may sit at a port that the node has, and that is no switch's
 abbrev pub may_seat : Node → ℕ → Bool

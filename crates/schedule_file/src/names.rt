@@ -45,12 +45,7 @@ fn of_verb(verb: Verb, seat: usize) -> Command
 pub(crate) fn seat(seats: &[Seat], name: &ManagerName) -> Option<usize>
     ensures { result ≡ seat_of seats.now name.now }
 {
-    for (place, seat) in seats.iter().enumerate() {
-        if seat.name.is(name) {
-            return Some(place);
-        }
-    }
-    None
+    seats.iter().position(|seat| seat.name.is(name))
 }
 
 /// The port that has the name. A search.
@@ -67,12 +62,7 @@ pub(crate) fn port(topology: &Topology, name: &PortName) -> Option<NodePort>
 pub(crate) fn is_taken(seats: &[Seat], port: NodePort) -> bool
     ensures { result ≡ is_taken seats.now port }
 {
-    for seat in seats {
-        if seat.at == port {
-            return true;
-        }
-    }
-    false
+    seats.iter().any(|seat| seat.at == port)
 }
 
 /// Whether a manager may sit at the port.
