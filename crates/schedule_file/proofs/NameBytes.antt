@@ -1,7 +1,8 @@
 -- The characters of managers' names.
 use Rattle.std.proofs.Common.{◌≡◌, ℕ, ◌<◌, ◌≤◌, Bool, true, false, ◌&&◌, leb, inl, inr, ◌⊎◌, List, length, get_or, refl, arith}
 use Rattle.std.specs.Prelude.{IsTrue, ◌||◌}
-use Rattle.std.specs.Char.{is_ascii_alphanumeric, is_in_range}
+use Rattle.std.specs.Char.{is_ascii_alphanumeric}
+use Rattle.std.specs.Int.{is_in_range}
 use Rattle.std.specs.List.{list_all}
 use Rattle.std.proofs.lemmas.Bool.{leb-true}
 use Rattle.std.proofs.lemmas.List.Recursion.{and_at}

@@ -52,6 +52,10 @@ may_seat node port = not (is_switch node.kind) && nat_le 1 port && nat_le port n
 abbrev pub is_seat : List Node → NodePort → Bool
 is_seat nodes p = option_map_or (λ node. may_seat node p.port) (slice_get nodes p.node) false
 
+-- a manager may sit at the port, and none sits there
+abbrev pub is_free : List Node → List Seat → NodePort → Bool
+is_free nodes seats p = is_seat nodes p && not (is_taken seats p)
+
 -- the port that has the name
 abbrev pub port_of : List Node → PortName → Option NodePort
 port_of nodes name = option_map (λ place. record { node = place; port = name.port }) (place_of nodes name.node)
@@ -81,7 +85,7 @@ with_command number before None = Err (fault.Name number)
 -- the seat at a port, where a manager may sit and none sits
 abbrev pub seat_at : List Node → List Seat → ℕ → NewManager → Option NodePort → Result Seat ScheduleFault
 seat_at nodes seats number new (Some p) =
-    if is_seat nodes p && not (is_taken seats p) then Ok (record { name = new.name; at = p; priority = new.priority })
+    if is_free nodes seats p then Ok (record { name = new.name; at = p; priority = new.priority })
     else Err (fault.Seat number)
 seat_at nodes seats number new None = Err (fault.Name number)
 

@@ -1,5 +1,5 @@
 ghost use Rattle.std.specs.Prelude.{◌≡◌};
-ghost use Rattle.schedule_file.specs.Schedule.{seat_of, is_taken, may_seat, is_seat, port_of, of_verb, command_of};
+ghost use Rattle.schedule_file.specs.Schedule.{seat_of, is_taken, may_seat, is_seat, is_free, port_of, of_verb, command_of};
 
 use crate::command::Command;
 use crate::manager_name::ManagerName;
@@ -58,16 +58,23 @@ pub(crate) fn port(topology: &Topology, name: &PortName) -> Option<NodePort>
     })
 }
 
-/// Whether a manager sits at the port. A walk over the seats.
-pub(crate) fn is_taken(seats: &[Seat], port: NodePort) -> bool
-    ensures { result ≡ is_taken seats.now port }
+/// Whether a manager may sit at the port, and none sits there. A walk over the seats.
+pub(crate) fn is_free(topology: &Topology, seats: &[Seat], port: &NodePort) -> bool
+    ensures { result ≡ is_free topology.now.nodes seats.now port.now }
 {
-    seats.iter().any(|seat| seat.at == port)
+    is_seat(topology, port) && !is_taken(seats, port)
+}
+
+/// Whether a manager sits at the port. A walk over the seats.
+fn is_taken(seats: &[Seat], port: &NodePort) -> bool
+    ensures { result ≡ is_taken seats.now port.now }
+{
+    seats.iter().any(|seat| seat.at == *port)
 }
 
 /// Whether a manager may sit at the port.
-pub(crate) fn is_seat(topology: &Topology, port: NodePort) -> bool
-    ensures { result ≡ is_seat topology.now.nodes port }
+fn is_seat(topology: &Topology, port: &NodePort) -> bool
+    ensures { result ≡ is_seat topology.now.nodes port.now }
 {
     match topology.node(port.node) {
         Some(node) => may_seat(node, port.port.number()),

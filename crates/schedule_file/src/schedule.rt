@@ -8,7 +8,7 @@ use crate::command::Command;
 use crate::fault::ScheduleFault;
 use crate::line::{Line, NewManager, read_line};
 use crate::manager_name::ManagerName;
-use crate::names::{command, is_seat, is_taken, port, seat};
+use crate::names::{command, is_free, port, seat};
 use attr_codec::Priority;
 use smp_bytes::NodePort;
 use std::alloc::Global;
@@ -128,7 +128,7 @@ fn new_seat(
     let Some(at) = port(topology, &at) else {
         return Err(ScheduleFault::Name { line });
     };
-    if !is_seat(topology, at) || is_taken(seats, at) {
+    if !is_free(topology, seats, &at) {
         return Err(ScheduleFault::Seat { line });
     }
     Ok(Seat { name, at, priority })

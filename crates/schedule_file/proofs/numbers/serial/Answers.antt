@@ -13,7 +13,7 @@ returns-in_err-tens c =
 pub returns : goal.returns
 returns c =
     let front = c.in_ok-last.front.now in
-    last_added c.args.word.now front c.from.result c.in_ok-digit.digit c.in_ok-number.field-0 c.in_ok-tens.tens c.checked_add.result
+    last_added c.args.word.now front c.from.result c.from-2.result c.in_ok-number.field-0 c.in_ok-tens.tens c.checked_add.result
     (c.in_ok-last.ensures.cases.0 ∙ ap (λ b. front ++ b ∷ []) (sym c.from.ensures))
-    (sym c.in_ok-number.was ∙ c.number.ensures) c.in_ok-digit.ensures.value.0 c.in_ok-digit.ensures.value.1
+    (sym c.in_ok-number.was ∙ c.number.ensures) c.in_ok-digit.ensures.value.0 (c.from-2.ensures ∙ c.in_ok-digit.ensures.value.1)
     c.in_ok-tens.ensures.1 c.in_ok-tens.ensures.0 c.checked_add.ensures
