@@ -59,9 +59,18 @@ fn commands_of_managers_and_ports(rt: HostRuntime) -> Result<(), Fail> {
         ("progress b2", Command::Progress(1)),
         ("manager c \"H1\"[2] 007", Command::Manager(2)),
         ("cut \"S 1\"[255]", Command::Cut(at(0, 255))),
-        ("plug \"S 1\"[0] \"H2\"[001]", Command::Plug(at(0, 0), at(2, 1))),
-        ("ping \"H1\"[2] 65535", Command::Ping(at(1, 2), Lid::new(65535))),
-        ("\tping\t\"H1\"[2] 0 # LID", Command::Ping(at(1, 2), Lid::new(0))),
+        (
+            "plug \"S 1\"[0] \"H2\"[001]",
+            Command::Plug(at(0, 0), at(2, 1)),
+        ),
+        (
+            "ping \"H1\"[2] 65535",
+            Command::Ping(at(1, 2), Lid::new(65535)),
+        ),
+        (
+            "\tping\t\"H1\"[2] 0 # LID",
+            Command::Ping(at(1, 2), Lid::new(0)),
+        ),
     ] {
         assert!(rt; last(rt.alloc(), line)? == (Some(wanted), 3), "{line}");
     }
@@ -75,7 +84,10 @@ fn commands_of_no_names(rt: HostRuntime) -> Result<(), Fail> {
         ("flight\r\n", Command::Flight),
         ("deliver last", Command::Deliver(Which::Last)),
         ("lose 0", Command::Lose(Which::Serial(0))),
-        ("repeat 0018446744073709551615", Command::Repeat(Which::Serial(u64::MAX))),
+        (
+            "repeat 0018446744073709551615",
+            Command::Repeat(Which::Serial(u64::MAX)),
+        ),
         ("drain 0", Command::Drain(0)),
         ("drain 001000000#", Command::Drain(1_000_000)),
     ] {
@@ -132,7 +144,10 @@ fn lines_of_no_grammar(rt: HostRuntime) -> Result<(), Fail> {
 fn faults_with_their_lines(rt: HostRuntime) -> Result<(), Fail> {
     for (line, wanted) in [
         ("sweep a", ScheduleFault::Name { line: 3 }),
-        ("\nsweep c\nmanager c \"H1\"[2] 0", ScheduleFault::Name { line: 4 }),
+        (
+            "\nsweep c\nmanager c \"H1\"[2] 0",
+            ScheduleFault::Name { line: 4 },
+        ),
         ("merge A c\nx", ScheduleFault::Name { line: 3 }),
         ("merge c A", ScheduleFault::Name { line: 3 }),
         ("cut \"S\"[1]", ScheduleFault::Name { line: 3 }),
@@ -143,11 +158,17 @@ fn faults_with_their_lines(rt: HostRuntime) -> Result<(), Fail> {
         ("manager A \"S 1\"[0] 16", ScheduleFault::Syntax { line: 3 }),
         ("manager A \"S 1\"[0] 0", ScheduleFault::Name { line: 3 }),
         ("manager c \"S\"[0] 0", ScheduleFault::Name { line: 3 }),
-        ("#\r\nmanager c \"S 1\"[1] 0", ScheduleFault::Seat { line: 4 }),
+        (
+            "#\r\nmanager c \"S 1\"[1] 0",
+            ScheduleFault::Seat { line: 4 },
+        ),
         ("manager c \"H1\"[0] 0", ScheduleFault::Seat { line: 3 }),
         ("manager c \"H1\"[3] 0", ScheduleFault::Seat { line: 3 }),
         ("manager c \"H1\"[1] 0", ScheduleFault::Seat { line: 3 }),
-        ("manager c \"H1\"[2] 0\nmanager d \"H1\"[2] 0", ScheduleFault::Seat { line: 4 }),
+        (
+            "manager c \"H1\"[2] 0\nmanager d \"H1\"[2] 0",
+            ScheduleFault::Seat { line: 4 },
+        ),
     ] {
         assert!(rt; fault_behind(rt.alloc(), line)? == Some(wanted), "{line}");
     }
