@@ -39,8 +39,8 @@ pub fn named_port(word: &[u8]) -> Option<(NodeName, Option<u8>)>
 }
 
 /// What stands between the byte `first`, which the word begins with, and the next `close`, and what
-/// stands behind that one.
-fn enclosed(word: &[u8], first: u8, close: u8) -> Option<(&[u8], &[u8])>
+/// stands behind that one. Takes a step for each byte.
+pub fn enclosed(word: &[u8], first: u8, close: u8) -> Option<(&[u8], &[u8])>
     ensures { option_map (λ x. (x.0.now, x.1.now)) result ≡ enclosed first close word.now }
 {
     let (byte, rest) = word.split_first()?;

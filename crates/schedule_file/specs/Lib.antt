@@ -1,0 +1,4 @@
+pub mod Command
+pub mod ManagerName
+pub mod Schedule
+pub mod ScheduleFault

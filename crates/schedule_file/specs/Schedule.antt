@@ -1,0 +1,120 @@
+-- What a text says: a schedule, or its first fault.
+use Rattle.std.specs.Prelude.{ℕ, ◌+◌, ◌&&◌, not, Bool, false, List, [], ◌∷◌, ◌++◌, Option, None, Some, Result, Ok, Err, length, is_some, nat_le}
+use Rattle.std.specs.Prelude.{option_map, option_and_then, position, slice_get, if◌then◌else◌}
+use Rattle.std.specs.List.{list_any}
+use Rattle.std.specs.Option.{option_map_or}
+use Rattle.std.specs.Str.{bytes_eq}
+use Rattle.smp_bytes.specs.Cables.{is_same_port}
+use Rattle.smp_bytes.specs.NodeType.{is_switch}
+use Rattle.smp_bytes.specs.declared.cable.NodePort.{NodePort}
+use Rattle.text_words.specs.Text.{lines}
+use Rattle.topo_file.specs.declared.node.Node.{Node}
+use Rattle.topo_file.specs.Topology.{place_of}
+use Rattle.schedule_file.specs.declared.command.Command.{Command}
+use Rattle.schedule_file.specs.declared.command.Command.TheVariants as command
+use Rattle.schedule_file.specs.declared.fault.ScheduleFault.{ScheduleFault}
+use Rattle.schedule_file.specs.declared.fault.ScheduleFault.TheVariants as fault
+use Rattle.schedule_file.specs.declared.line.Line.{Line}
+use Rattle.schedule_file.specs.declared.line.Line.TheVariants as line
+use Rattle.schedule_file.specs.declared.line.NewManager.{NewManager}
+use Rattle.schedule_file.specs.declared.schedule.Seat.{Seat}
+use Rattle.schedule_file.specs.declared.spoken.PortName.{PortName}
+use Rattle.schedule_file.specs.declared.spoken.Spoken.{Spoken}
+use Rattle.schedule_file.specs.declared.spoken.Spoken.TheVariants.{Plain, OfOne, Merge, Cut, Plug, Ping}
+use Rattle.schedule_file.specs.declared.spoken.Verb.{Verb}
+use Rattle.schedule_file.specs.declared.spoken.Verb.TheVariants.{Sweep, Timeout, Facts, Plan, Progress}
+use Rattle.schedule_file.specs.Command.{line_of}
+
+-- the managers and the commands
+pub record Script : Type 0 where
+  pub seats : List Seat
+  pub commands : List Command
+
+-- what may follow a value, or its fault
+infixl 10 ◌>>=◌
+abbrev pub ◌>>=◌ : {A B : Type 0} → Result A ScheduleFault → (A → Result B ScheduleFault) → Result B ScheduleFault
+(Ok value) >>= next = next value
+(Err fault) >>= next = Err fault
+
+-- the place of the manager that has the name
+abbrev pub seat_of : List Seat → List ℕ → Option ℕ
+seat_of seats name = position (λ seat. bytes_eq seat.name name) seats
+
+-- a manager sits at the port
+abbrev pub is_taken : List Seat → NodePort → Bool
+is_taken seats p = list_any (λ seat. is_same_port seat.at p) seats
+
+-- a manager may sit at a port that the node has, and that is no switch's
+abbrev pub may_seat : Node → ℕ → Bool
+may_seat node port = not (is_switch node.kind) && nat_le 1 port && nat_le port node.ports
+
+-- a manager may sit at the port
+abbrev pub is_seat : List Node → NodePort → Bool
+is_seat nodes p = option_map_or (λ node. may_seat node p.port) (slice_get nodes p.node) false
+
+-- a manager may sit at the port, and none sits there
+abbrev pub is_free : List Node → List Seat → NodePort → Bool
+is_free nodes seats p = is_seat nodes p && not (is_taken seats p)
+
+-- the port that has the name
+abbrev pub port_of : List Node → PortName → Option NodePort
+port_of nodes name = option_map (λ place. record { node = place; port = name.port }) (place_of nodes name.node)
+
+-- the command to the manager of a seat
+abbrev pub of_verb : Verb → ℕ → Command
+of_verb Sweep seat = command.Sweep seat
+of_verb Timeout seat = command.Timeout seat
+of_verb Facts seat = command.Facts seat
+of_verb Plan seat = command.Plan seat
+of_verb Progress seat = command.Progress seat
+
+-- the command, where all its names are known
+abbrev pub command_of : List Node → List Seat → Spoken → Option Command
+command_of nodes seats (Plain command) = Some command
+command_of nodes seats (OfOne verb name) = option_map (of_verb verb) (seat_of seats name)
+command_of nodes seats (Merge one other) = option_and_then (λ a. option_map (command.Merge a) (seat_of seats other)) (seat_of seats one)
+command_of nodes seats (Cut name) = option_map command.Cut (port_of nodes name)
+command_of nodes seats (Plug one other) = option_and_then (λ p. option_map (command.Plug p) (port_of nodes other)) (port_of nodes one)
+command_of nodes seats (Ping name lid) = option_map (λ p. command.Ping p lid) (port_of nodes name)
+
+-- a command more
+abbrev pub with_command : ℕ → Script → Option Command → Result Script ScheduleFault
+with_command number before (Some command) = Ok (record before { commands = before.commands ++ command ∷ [] })
+with_command number before None = Err (fault.Name number)
+
+-- the seat at a port, where a manager may sit and none sits
+abbrev pub seat_at : List Node → List Seat → ℕ → NewManager → Option NodePort → Result Seat ScheduleFault
+seat_at nodes seats number new (Some p) =
+    if is_free nodes seats p then Ok (record { name = new.name; at = p; priority = new.priority })
+    else Err (fault.Seat number)
+seat_at nodes seats number new None = Err (fault.Name number)
+
+-- the seat of a new manager
+abbrev pub new_seat : List Node → List Seat → ℕ → NewManager → Result Seat ScheduleFault
+new_seat nodes seats number new =
+    if is_some (seat_of seats new.name) then Err (fault.Name number)
+    else seat_at nodes seats number new (port_of nodes new.at)
+
+-- a manager more
+abbrev pub with_seat : Script → Seat → Script
+with_seat before seat = record { seats = before.seats ++ seat ∷ []; commands = before.commands ++ command.Manager (length before.seats) ∷ [] }
+
+-- what a line of this number adds to the lines before it
+abbrev pub with_line : List Node → ℕ → Script → Option Line → Result Script ScheduleFault
+with_line nodes number before None = Err (fault.Syntax number)
+with_line nodes number before (Some line.Empty) = Ok before
+with_line nodes number before (Some (line.Manager new)) = new_seat nodes before.seats number new >>= λ seat. Ok (with_seat before seat)
+with_line nodes number before (Some (line.Command spoken)) = with_command number before (command_of nodes before.seats spoken)
+
+-- what lines add that count from this number
+abbrev pub with_lines : List Node → ℕ → Script → List (List ℕ) → Result Script ScheduleFault
+with_lines nodes number before [] = Ok before
+with_lines nodes number before (line ∷ later) = with_line nodes number before (line_of line) >>= λ now. with_lines nodes (number + 1) now later
+
+-- what all lines tell
+abbrev pub told_by : List Node → List (List ℕ) → Result Script ScheduleFault
+told_by nodes lines = with_lines nodes 1 (record { seats = []; commands = [] }) lines
+
+-- what a text says of a fabric that has these nodes
+unfoldable pub schedule_of : List Node → List ℕ → Result Script ScheduleFault
+schedule_of nodes text = told_by nodes (lines text)

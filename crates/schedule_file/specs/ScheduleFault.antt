@@ -1,0 +1,38 @@
+-- What a call answers that may refuse its text, and what is said of a fault: its line, and a word.
+use Rattle.std.specs.Prelude.{◌≡◌, ℕ, List, Option, None, Some, Result, Ok, Err, ◌++◌, codes, decimal}
+use Rattle.schedule_file.specs.declared.fault.ScheduleFault.{ScheduleFault}
+use Rattle.schedule_file.specs.declared.fault.ScheduleFault.TheVariants.{Syntax, Name, Seat, Memory}
+
+-- the fault is the text's first one, or memory was refused
+abbrev pub IsRefused : {T : Type 0} → ScheduleFault → Result T ScheduleFault → Type 0
+IsRefused Memory told = Unit {0}
+IsRefused (Syntax line) told = told ≡ Err (Syntax line)
+IsRefused (Name line) told = told ≡ Err (Name line)
+IsRefused (Seat line) told = told ≡ Err (Seat line)
+
+-- a call answers exactly what is told, a value or the first fault, unless memory was refused
+abbrev pub Reads : {T : Type 0} → Result T ScheduleFault → Result T ScheduleFault → Type 0
+Reads (Ok value) told = told ≡ Ok value
+Reads (Err fault) told = IsRefused fault told
+
+-- what is said of the fault
+abbrev pub fault_word : ScheduleFault → List ℕ
+fault_word (Syntax line) = codes "syntax"
+fault_word (Name line) = codes "name"
+fault_word (Seat line) = codes "seat"
+fault_word Memory = codes "out of memory"
+
+-- the line that has the fault, from 1; want of memory is no line's
+abbrev pub fault_line : ScheduleFault → Option ℕ
+fault_line (Syntax line) = Some line
+fault_line (Name line) = Some line
+fault_line (Seat line) = Some line
+fault_line Memory = None
+
+-- what `{}` writes of a fault: its line, where it has one, and the word
+abbrev pub said_at : Option ℕ → List ℕ → List ℕ
+said_at None word = word
+said_at (Some line) word = codes "line " ++ decimal line ++ codes ": " ++ word
+
+abbrev pub fault_text : ScheduleFault → List ℕ
+fault_text fault = said_at (fault_line fault) (fault_word fault)

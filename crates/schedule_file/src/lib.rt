@@ -1,0 +1,20 @@
+//! The text of a schedule: the subnet managers of a simulated fabric, and the commands that are run in it.
+#![tactic(auto)]
+
+mod command;
+mod fault;
+mod line;
+mod manager_name;
+mod names;
+mod numbers;
+mod plain;
+mod schedule;
+mod spoken;
+
+pub use command::{Command, Which};
+pub use fault::ScheduleFault;
+pub use manager_name::ManagerName;
+pub use schedule::{Schedule, Seat, parse};
+
+#[cfg(test)]
+mod tests;

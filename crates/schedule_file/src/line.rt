@@ -1,0 +1,60 @@
+ghost use Rattle.std.specs.Prelude.{◌≡◌};
+ghost use Rattle.text_words.specs.Text.{words};
+ghost use Rattle.schedule_file.specs.Command.{line_of, new_manager, number_up_to};
+
+use crate::manager_name::ManagerName;
+use crate::numbers::number_up_to;
+use crate::spoken::{PortName, Spoken, pair, port_name, read_command};
+use attr_codec::Priority;
+use text_words::{is_word, split_word};
+
+/// What a line says.
+#[derive(Drop)]
+pub(crate) enum Line {
+    Empty,
+    Manager(NewManager),
+    Command(Spoken),
+}
+
+/// A new manager as its line tells it.
+#[derive(Drop)]
+pub(crate) struct NewManager {
+    pub(crate) name: ManagerName,
+    pub(crate) at: PortName,
+    pub(crate) priority: Priority,
+}
+
+#[tactic(auto, unfolding(crate::specs::Command::line_of))]
+/// What a line says; `None` is a line that is none of the grammar's.
+pub(crate) fn read_line(line: &[u8]) -> Option<Line>
+    ensures { result ≡ line_of line.now }
+{
+    let Some((word, rest)) = split_word(line) else {
+        return Some(Line::Empty);
+    };
+    if is_word(word, "manager") {
+        Some(Line::Manager(new_manager(rest)?))
+    } else {
+        Some(Line::Command(read_command(word, rest)?))
+    }
+}
+
+/// The rest of the line of a new manager.
+fn new_manager(line: &[u8]) -> Option<NewManager>
+    ensures { result ≡ new_manager (words line.now) }
+{
+    let (name, line) = split_word(line)?;
+    let (at, priority) = pair(line)?;
+    Some(NewManager {
+        name: ManagerName::new(name)?,
+        at: port_name(at)?,
+        priority: priority_of(priority)?,
+    })
+}
+
+/// A priority up to 15 in decimal.
+fn priority_of(word: &[u8]) -> Option<Priority>
+    ensures { result ≡ number_up_to 15 word.now }
+{
+    Priority::new(number_up_to(word, 15)? as u8)
+}

@@ -1,0 +1,29 @@
+ghost use Rattle.std.specs.Prelude.{◌≡◌, ◌^◌, ◌-◌};
+ghost use Rattle.schedule_file.specs.Command.{number_up_to};
+
+use text_words::number;
+
+/// The number up to `most` that a word of decimal digits writes. Takes a step for each digit.
+pub(crate) fn number_up_to(word: &[u8], most: u32) -> Option<u32>
+    ensures { result ≡ number_up_to most word.now }
+{
+    let number = number(word, 10)?;
+    if number <= u64::from(most) {
+        Some(number as u32)
+    } else {
+        None
+    }
+}
+
+/// The number of 64 bits that a word of decimal digits writes. Takes a step for each digit.
+pub(crate) fn serial(word: &[u8]) -> Option<u64>
+    ensures { result ≡ number_up_to (2 ^ 64 - 1) word.now }
+{
+    let (last, front) = word.split_last()?;
+    let digit = char::from(*last).to_digit(10)?;
+    if front.is_empty() {
+        return Some(u64::from(digit));
+    }
+    let tens = number(front, 10)?.checked_mul(10)?;
+    tens.checked_add(u64::from(digit))
+}

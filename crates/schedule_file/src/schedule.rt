@@ -1,0 +1,179 @@
+ghost use Rattle.std.specs.Prelude.{◌≡◌, [], Ok};
+ghost use Rattle.text_words.specs.Text.{lines};
+ghost use Rattle.schedule_file.specs.Command.{line_of};
+ghost use Rattle.schedule_file.specs.Schedule.{schedule_of, told_by, with_line, with_command, new_seat, with_seat};
+ghost use Rattle.schedule_file.specs.ScheduleFault.{Reads};
+
+use crate::command::Command;
+use crate::fault::ScheduleFault;
+use crate::line::{Line, NewManager, read_line};
+use crate::manager_name::ManagerName;
+use crate::names::{command, is_free, port, seat};
+use attr_codec::Priority;
+use smp_bytes::NodePort;
+use std::alloc::Global;
+use std::marker::Model;
+use text_words::split_line;
+use topo_file::Topology;
+
+/// A subnet manager of the fabric.
+#[derive(Debug, Drop)]
+pub struct Seat {
+    pub name: ManagerName,
+    /// The port at which it sits.
+    pub at: NodePort,
+    pub priority: Priority,
+}
+
+/// The subnet managers of a simulated fabric, and the commands that are run in it.
+#[derive(Drop)]
+pub struct Schedule {
+    seats: Vec<Seat>,
+    commands: Vec<Command>,
+}
+
+impl Model for Schedule {
+    ghost use Rattle.schedule_file.specs.Schedule.{Script};
+
+    ghost Value = { Script };
+
+    ghost view = { λ a. record { seats = a.seats.items; commands = a.commands.items } };
+}
+
+impl Schedule {
+    /// The managers, in the order of their lines.
+    pub fn seats(&self) -> &[Seat]
+        ensures { result.now ≡ self.now.seats }
+    {
+        &self.seats
+    }
+
+    /// The commands in their order.
+    pub fn commands(&self) -> &[Command]
+        ensures { result.now ≡ self.now.commands }
+    {
+        &self.commands
+    }
+
+    /// No lines.
+    fn new(alloc: Global) -> Self
+        ensures { result ≡ record { seats = []; commands = [] } }
+    {
+        Schedule {
+            seats: Vec::new(alloc),
+            commands: Vec::new(alloc),
+        }
+    }
+
+    /// These lines and the next one.
+    fn with(self, topology: &Topology, number: usize, line: &[u8]) -> Result<Self, ScheduleFault>
+        ensures { Reads result (with_line topology.now.nodes number self (line_of line.now)) }
+    {
+        match read_line(line) {
+            None => Err(ScheduleFault::Syntax { line: number }),
+            Some(Line::Empty) => Ok(self),
+            Some(Line::Manager(new)) => {
+                let seat = new_seat(topology, &self.seats, number, new)?;
+                self.with_seat(seat)
+            }
+            Some(Line::Command(spoken)) => {
+                let command = command(topology, &self.seats, spoken);
+                self.with_command(number, command)
+            }
+        }
+    }
+
+    /// A manager more, and that it is there.
+    fn with_seat(self, seat: Seat) -> Result<Self, ScheduleFault>
+        ensures { Reads result (Ok (with_seat self seat)) }
+    {
+        let Schedule {
+            mut seats,
+            mut commands,
+        } = self;
+        commands.push(Command::Manager(seats.len()))?;
+        seats.push(seat)?;
+        Ok(Schedule { seats, commands })
+    }
+
+    /// A command more, where its names are known.
+    fn with_command(self, line: usize, command: Option<Command>) -> Result<Self, ScheduleFault>
+        ensures { Reads result (with_command line self command) }
+    {
+        let Some(command) = command else {
+            return Err(ScheduleFault::Name { line });
+        };
+        let Schedule {
+            seats,
+            mut commands,
+        } = self;
+        commands.push(command)?;
+        Ok(Schedule { seats, commands })
+    }
+}
+
+/// The seat of a new manager. A search, and a walk over the seats.
+fn new_seat(
+    topology: &Topology,
+    seats: &[Seat],
+    line: usize,
+    new: NewManager,
+) -> Result<Seat, ScheduleFault>
+    ensures { result ≡ new_seat topology.now.nodes seats.now line new }
+{
+    let NewManager { name, at, priority } = new;
+    if seat(seats, &name).is_some() {
+        return Err(ScheduleFault::Name { line });
+    }
+    let Some(at) = port(topology, &at) else {
+        return Err(ScheduleFault::Name { line });
+    };
+    if !is_free(topology, seats, &at) {
+        return Err(ScheduleFault::Seat { line });
+    }
+    Ok(Seat { name, at, priority })
+}
+
+#[tactic(auto, unfolding(crate::specs::Schedule::schedule_of))]
+/// Reads the text of a schedule for a fabric. Each line, which ends with LF or CR LF, is empty or a command, and `#`
+/// outside quotes begins a comment:
+///
+/// ```text
+/// manager A "H1"[1] 5
+/// sweep A
+/// drain 100
+/// ```
+///
+/// | Command | Numbers |
+/// |---|---|
+/// | `manager NAME "node"[port] PRIORITY` | priority 0 to 15 |
+/// | `sweep NAME`, `timeout NAME`, `facts NAME`, `plan NAME`, `progress NAME` | |
+/// | `merge NAME NAME` | |
+/// | `deliver PACKET`, `lose PACKET`, `repeat PACKET` | `last`, or a serial number of 64 bits |
+/// | `drain COUNT` | 0 to 1,000,000 |
+/// | `cut "node"[port]`, `plug "node"[port] "node"[port]` | port 0 to 255 |
+/// | `ping "node"[port] LID` | LID 0 to 65,535 |
+/// | `tables`, `flight` | |
+///
+/// A manager sits at an adapter's port, and has a name of 1 to 16 ASCII letters and digits, known from its line on.
+/// Takes a search and a walk over the managers for each line.
+pub fn parse(alloc: Global, text: &str, topology: &Topology) -> Result<Schedule, ScheduleFault>
+    ensures { Reads result (schedule_of topology.now.nodes text.now) }
+{
+    read_lines(alloc, text.as_bytes(), topology)
+}
+
+/// What a text's lines tell.
+fn read_lines(alloc: Global, text: &[u8], topology: &Topology) -> Result<Schedule, ScheduleFault>
+    ensures { Reads result (told_by topology.now.nodes (lines text.now)) }
+{
+    let mut schedule = Schedule::new(alloc);
+    let mut number = 0;
+    let mut rest = text;
+    while let Some((line, later)) = split_line(rest) {
+        number += 1;
+        schedule = schedule.with(topology, number, line)?;
+        rest = later;
+    }
+    Ok(schedule)
+}
