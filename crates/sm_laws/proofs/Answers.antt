@@ -37,7 +37,7 @@ use Rattle.fabric_sim.proofs.Courses.{IsAnswerFor, IsOnCourse, IsForManager}
 use Rattle.fabric_sim.proofs.TripEnds.{request_over, few_ports, along_itself, agent_by_port}
 use Rattle.fabric_sim.proofs.TripShapes.{port_count_stays}
 use Rattle.fabric_sim.proofs.TripsOut.{IsPortOf}
-use Rattle.sm_laws.specs.Scene.{Handed, Scene, ByLid, ByPath, Answer, Event, Deliver, Lose, Repeat, Send, CanHappen, handed_by, sent_from, asks_manager, answer_to, answered_from, after_event, after_events}
+use Rattle.sm_laws.specs.Scene.{Handed, Scene, ByLid, ByPath, Answer, Event, Deliver, Lose, Repeat, Send, CanHappen, handed_by, sent_from, asks_manager, answer_to, answered_from, after_event, after_events, IsQuiet}
 use Rattle.sm_laws.specs.AnswersTell.{IsBack, AnswersTell}
 
 -- what came back tells -----------------------------------------------------------------------------
@@ -114,7 +114,7 @@ were_more : (start : Simulation) (handed more : List Handed) → WereOnCourse st
 were_more start [] more all also = also
 were_more start (h ∷ handed) more all also = (all.0, were_more start handed more all.1 also)
 
-was_there : (start : Simulation) (handed : List Handed) (which : ℕ) (h : Handed) → WereOnCourse start handed → slice_get handed which ≡ Some h
+pub was_there : (start : Simulation) (handed : List Handed) (which : ℕ) (h : Handed) → WereOnCourse start handed → slice_get handed which ≡ Some h
     → IsForManager start h.at h.packet.bytes
 was_there start [] which h all e = absurd (cc)
 was_there start (x ∷ handed) zero h all e = let same : x ≡ h = cc in subst (λ (y : Handed). IsForManager start y.at y.packet.bytes) same all.0
@@ -128,7 +128,7 @@ were_by start (Ok (Discarded reason)) up = tt
 were_by start (Err fault) up = tt
 
 -- a request is on its course where it is sent
-sent_on : (start : Simulation) (seat : NodePort) (method attribute modifier tid : ℕ) (path payload : List ℕ)
+pub sent_on : (start : Simulation) (seat : NodePort) (method attribute modifier tid : ℕ) (path payload : List ℕ)
     → FitsRequest method attribute modifier tid payload → method < 2 ^ 7 → length path ≤ 63 → BeginsWith seat.port path → IsPortOf start seat
     → IsOnCourse start seat (directed method attribute modifier tid path payload)
 sent_on start seat method attribute modifier tid path payload fits low short own within =
@@ -217,13 +217,13 @@ module _ {start : Simulation} (cables : AreCables start) (counts : (place : ℕ)
 
   -- events ----------------------------------------------------------------------------------------------
 
-  seat_in_port : (s : Simulation) → Carries start s → (seat : NodePort) → is_seat_at s seat ≡ true → IsPortOf start seat
+  pub seat_in_port : (s : Simulation) → Carries start s → (seat : NodePort) → is_seat_at s seat ≡ true → IsPortOf start seat
   seat_in_port s c seat there =
       let parts = and_parts (nat_le 1 seat.port) (nat_le seat.port (port_count s seat.node)) (c.is.seats seat there) in
       let to_count : seat.port ≤ port_count s seat.node = leb-true _ _ parts.1 in
       record { some = leb-true _ _ parts.0; most = omega (arith, to_count, port_count_stays c.along seat.node) }
 
-  sends : (s : Scene) (seat : NodePort) (packet : Packet) → Continues start s → (is_seat_at s.fabric seat ≡ true → IsOnCourse start seat packet.bytes)
+  pub sends : (s : Scene) (seat : NodePort) (packet : Packet) → Continues start s → (is_seat_at s.fabric seat ≡ true → IsOnCourse start seat packet.bytes)
       → Continues start (sent_from s seat packet)
   sends s seat packet c on = record { fabric = injections_carry cables counts guids s.fabric c.fabric seat packet on; handed = c.handed }
 
@@ -235,7 +235,7 @@ module _ {start : Simulation} (cables : AreCables start) (counts : (place : ℕ)
       (λ asks. sends s seat (answer_to h.packet given payload) c (λ _. manager_answers h seat given payload (was h refl) small whole asks))
       (λ _. c)
 
-  continued : (s : Scene) (event : Event) → Continues start s → CanHappen event → Continues start (after_event s event)
+  pub continued : (s : Scene) (event : Event) → Continues start s → CanHappen event → Continues start (after_event s event)
   continued s (Deliver serial) c can =
       record {
         fabric = deliveries_carry cables counts guids s.fabric c.fabric serial;
@@ -257,7 +257,7 @@ module _ {start : Simulation} (cables : AreCables start) (counts : (place : ℕ)
 
 -- the law --------------------------------------------------------------------------------------------
 
-is_told : (start : Simulation) (h : Handed) → IsForManager start h.at h.packet.bytes → IsBack h → TellsOfEnd (fabric_of start) h.at h.packet.bytes
+pub is_told : (start : Simulation) (h : Handed) → IsForManager start h.at h.packet.bytes → IsBack h → TellsOfEnd (fabric_of start) h.at h.packet.bytes
 is_told start h is (directed, back) = elim (is.course directed) [
   | inl r ↦ absurd (cc (sym (ap (λ b. b / 2 ^ 7 % 2 ^ 1 == 1) (r.bytes_are.kept 4 (inl (omega arith))) ∙ r.over.outgoing) ∙ back))
   | inr r ↦ tells start h.at h.packet.bytes r
@@ -267,18 +267,23 @@ all_told : (start : Simulation) (handed : List Handed) → WereOnCourse start ha
 all_told start [] all = All-nil (λ h. IsBack h → TellsOfEnd (fabric_of start) h.at h.packet.bytes)
 all_told start (h ∷ handed) all = All-cons (λ x. IsBack x → TellsOfEnd (fabric_of start) x.at x.packet.bytes) h handed (is_told start h all.0) (all_told start handed all.1)
 
-guids_of : (agents : List Agent) → All (λ a. a.node.guid < 2 ^ 64) agents → (place : ℕ) (a : Agent) → slice_get agents place ≡ Some a → a.node.guid < 2 ^ 64
+pub guids_of : (agents : List Agent) → All (λ a. a.node.guid < 2 ^ 64) agents → (place : ℕ) (a : Agent) → slice_get agents place ≡ Some a → a.node.guid < 2 ^ 64
 guids_of [] all place a there = absurd (cc)
 guids_of (x ∷ agents) all zero a there =
     let same : x ≡ a = cc in subst (λ (y : Agent). y.node.guid < 2 ^ 64) same (All-head (λ y. y.node.guid < 2 ^ 64) x agents all)
 guids_of (x ∷ agents) all (suc place) a there = guids_of agents (All-tail (λ y. y.node.guid < 2 ^ 64) x agents all) place a there
 
+-- at the beginning
+pub begun : (s : Scene) → IsQuiet s → Continues s.fabric s
+begun s quiet =
+    record {
+      fabric = record { along = along_itself s.fabric quiet.fabric; is = quiet.fabric; flights = subst (AreOnCourse s.fabric) (sym quiet.flights) tt };
+      handed = subst (WereOnCourse s.fabric) (sym quiet.handed) tt;
+    }
+
 pub answers_tell : AnswersTell
 answers_tell s events quiet all =
     let start = s.fabric in
     let along = along_itself start quiet.fabric in
-    let at_start : Continues start s = record {
-      fabric = record { along = along; is = quiet.fabric; flights = subst (AreOnCourse start) (sym quiet.flights) tt };
-      handed = subst (WereOnCourse start) (sym quiet.handed) tt;
-    } in
-    all_told start _ (all_continue quiet.fabric.cables (few_ports start along.agents) (guids_of start.agents quiet.guids) events s at_start all).handed
+    all_told start _
+    (all_continue quiet.fabric.cables (few_ports start along.agents) (guids_of start.agents quiet.guids) events s (begun s quiet) all).handed

@@ -1,1 +1,7 @@
+pub mod Accepted
 pub mod Answers
+pub mod Ends
+pub mod Replied
+pub mod Sound
+pub mod Swept
+pub mod TrueFacts

@@ -1,2 +1,4 @@
 pub mod AnswersTell
 pub mod Scene
+pub mod Sweeping
+pub mod Truth

@@ -1,0 +1,339 @@
+-- Whatever happens, each fact that a sweep accepts is true of the fabric.
+use Rattle.std.proofs.Common.{◌≡◌, ℕ, zero, suc, ◌+◌, ◌<◌, ◌≤◌, ◌^◌, Bool, true, false, cond, List, [], ◌∷◌, ◌++◌, replicate, refl, sym, ap, ◌∙◌, subst, arith}
+use Rattle.std.proofs.lemmas.Bool.{cond_both, and_parts, eqb-true}
+use Rattle.std.proofs.lemmas.List.{length-replicate}
+use Rattle.std.proofs.lemmas.List.Elements.{All-nil, All-head, All-tail, All-cons}
+use Rattle.std.proofs.lemmas.Option.{same_Some, slice_get-map}
+use Rattle.std.specs.Prelude.{Option, Some, None, Result, Ok, Err, All, option_map, slice_get, ◌==◌}
+use Rattle.std.specs.Option.{option_map_or}
+use Rattle.smp_bytes.specs.declared.cable.NodePort.{NodePort}
+use Rattle.smp_bytes.specs.Cables.{is_same_port}
+use Rattle.smp_bytes.specs.Header.{get}
+use Rattle.smp_bytes.specs.NodeType as types
+use Rattle.smp_bytes.specs.Fabric.{Node, IsNodeAt}
+use Rattle.smp_bytes.specs.ReadBack.{FitsRequest}
+use Rattle.smp_bytes.specs.DirectedWalk.{directed_end}
+use Rattle.fact_store.specs.declared.report.Report.{Report}
+use Rattle.fact_store.specs.Report.{sightings_of}
+use Rattle.node_agents.specs.Agent.{Agent, IsAgent, node_of, has_seat}
+use Rattle.node_agents.proofs.Shapes.{is_port_at}
+use Rattle.fabric_sim.specs.Simulation.{Simulation, IsSimulation, AreCables, agent_at, is_seat_at, port_count, fabric_of}
+use Rattle.fact_store.specs.declared.report.Context.TheVariants.{Start, Via, About}
+use Rattle.fabric_sim.specs.ThereAndBack.{BeginsWith, directed_packet}
+use Rattle.fabric_sim.specs.Tells.{SaysOf, TellsOfEnd}
+use Rattle.fabric_sim.proofs.Carried.{HaveGuids}
+use Rattle.fabric_sim.proofs.Courses.{IsForManager, IsOnCourse}
+use Rattle.fabric_sim.proofs.TripEnds.{few_ports, along_itself}
+use Rattle.fabric_sim.proofs.TripShapes.{agent_there}
+use Rattle.sweep.specs.declared.answer.Answer.{Answer}
+use Rattle.sweep.specs.declared.fault.SweepFault.{SweepFault}
+use Rattle.sweep.specs.declared.request.Question.{Question}
+use Rattle.sweep.specs.declared.request.Question.TheVariants as ask
+use Rattle.sweep.specs.declared.request.Request.{Request}
+use Rattle.sweep.specs.Sweep.{attribute_asked, modifier_asked, transaction_of, packet_of, request_with, sent_of, sent, started, timed_out_of, timed_out}
+use Rattle.sweep.specs.Replies.{belongs, judged, replied_to, replied}
+use Rattle.sm_laws.specs.Scene.{Handed}
+use Rattle.sm_laws.specs.Truth.{AreGuidsDistinct, IsTrueSighting}
+use Rattle.sm_laws.specs.Sweeping.{Sweeping, SweepEvent, Around, Ask, Send, Hear, TimeOut, CanBe, asking_more, sending, report_of, with_answer, hearing, after_sweep_event, after_sweep_events, AcceptedFactsAreTrue}
+use Rattle.sm_laws.proofs.Accepted.{IsAccepted, accepted, IsFor, is_for_it, path_is, good_node}
+use Rattle.sm_laws.proofs.Answers.{Continues, was_there, sent_on, seat_in_port, sends, continued, is_told, guids_of, begun}
+use Rattle.sm_laws.proofs.Replied.{sound_without, FoundSound, found_sound, ended}
+use Rattle.sm_laws.proofs.Replied as replies
+use Rattle.sm_laws.proofs.Sound.{CanBeSwept, IsSound, IsSoundRequest, AreSound, IsSoundSweep, sound_append}
+use Rattle.sm_laws.proofs.TrueFacts as facts
+use Rattle.sm_laws.proofs.TrueFacts.{IsCabled, AreTrue, all_true}
+
+-- the fabric that a simulation is ------------------------------------------------------------------
+
+module _ (start : Simulation) (is : IsSimulation start) where
+  node_is : (place : ℕ) (node : Node) → IsNodeAt (fabric_of start) place node → (a : Agent) × (agent_at start place ≡ Some a) × (node ≡ node_of a)
+  node_is place node there = by_agent (slice_get start.agents place) refl
+    where
+      by_agent : (m : Option Agent) → slice_get start.agents place ≡ m → (a : Agent) × (agent_at start place ≡ Some a) × (node ≡ node_of a)
+      by_agent None e = absurd (cc (sym (slice_get-map node_of start.agents place ∙ ap (option_map node_of) e) ∙ there))
+      by_agent (Some a) e = (a, e, sym (same_Some _ _ (sym (slice_get-map node_of start.agents place ∙ ap (option_map node_of) e) ∙ there)))
+
+  is_agent : (place : ℕ) (a : Agent) → agent_at start place ≡ Some a → IsAgent a
+  is_agent place a there = agent_there start.agents place a (along_itself start is).agents there
+
+  is_cabled : IsCabled (fabric_of start)
+  is_cabled =
+      record {
+        back = is.cables.lead_back;
+        one_guid = λ place node there switch port. let (a, at, same) = node_is place node there in
+            let of_switch : types.is_switch a.node.kind ≡ true = ap (λ (n : Node). types.is_switch n.kind) (sym same) ∙ switch in
+            ap (λ (n : Node). n.port_guid port) same
+            ∙ ap (λ b. cond b a.node.guid (a.node.guid + port)) of_switch
+            ∙ sym (ap (λ b. cond b a.node.guid (a.node.guid + 0)) of_switch)
+            ∙ sym (ap (λ (n : Node). n.port_guid 0) same);
+      }
+
+  can_be_swept : (seat : NodePort) → is_seat_at start seat ≡ true → AreGuidsDistinct (fabric_of start) → CanBeSwept (fabric_of start) seat
+  can_be_swept seat sits distinct =
+      record {
+        distinct = distinct;
+        counts = λ place node there. let (a, at, same) = node_is place node there in
+            let few = (is_agent place a at).node.ports.1 in
+            let ports = ap (λ (n : Node). n.ports) same in
+            omega (arith, few, ports);
+        adapter = λ node there. let (a, at, same) = node_is seat.node node there in
+            ap (λ (n : Node). types.is_switch n.kind) same ∙ no_switch a at (types.is_switch a.node.kind) refl;
+      }
+    where
+      no_switch : (a : Agent) → agent_at start seat.node ≡ Some a → (b : Bool) → types.is_switch a.node.kind ≡ b → b ≡ false
+      no_switch a at false e = refl
+      no_switch a at true e =
+          let sits_here : has_seat a seat.port ≡ true = sym (ap (λ o. option_map_or (λ (x : Agent). has_seat x seat.port) o false) at) ∙ sits in
+          absurd (cc (sym ((is_port_at a (is_agent seat.node a at) seat.port).is_sm e) ∙ sits_here))
+
+-- a sweep that goes on -----------------------------------------------------------------------------
+
+module _ {start : Simulation} {seat : NodePort} (cables : AreCables start) (counts : (place : ℕ) → port_count start place ≤ 254) (guids : HaveGuids start)
+    (can : CanBeSwept (fabric_of start) seat) (cabled : IsCabled (fabric_of start)) where
+  -- a request that was given out
+  pub record WasAsked (packet : List ℕ) : Type 0 where
+    pub generation : ℕ
+    pub few : generation < 2 ^ 32
+    pub request : Request
+    pub sound : IsSoundRequest (fabric_of start) seat request
+    pub is : packet ≡ packet_of generation request
+
+  abbrev WereAsked : List (List ℕ) → Type 0
+  WereAsked [] = Unit {0}
+  WereAsked (packet ∷ asked) = WasAsked packet × WereAsked asked
+
+  abbrev AreTrueReports : List Report → Type 0
+  AreTrueReports [] = Unit {0}
+  AreTrueReports (report ∷ reports) = AreTrue (fabric_of start) (sightings_of report) × AreTrueReports reports
+
+  pub record Goes (w : Sweeping) : Type 0 where
+    pub scene : Continues start w.scene
+    pub seat_is : w.seat ≡ seat
+    pub sound : IsSoundSweep (fabric_of start) seat w.sweep
+    pub asked : WereAsked w.asked
+    pub reports : AreTrueReports w.reports
+
+  -- what was given out is sent --------------------------------------------------------------------
+
+  asked_there : (asked : List (List ℕ)) (which : ℕ) (packet : List ℕ) → WereAsked asked → slice_get asked which ≡ Some packet → WasAsked packet
+  asked_there [] which packet all e = absurd (cc)
+  asked_there (x ∷ asked) zero packet all e = let same : x ≡ packet = cc in subst WasAsked same all.0
+  asked_there (x ∷ asked) (suc which) packet all e = asked_there asked which packet all.1 e
+
+  asked_more : (asked : List (List ℕ)) (packet : List ℕ) → WereAsked asked → WasAsked packet → WereAsked (asked ++ packet ∷ [])
+  asked_more [] packet all is = (is, tt)
+  asked_more (x ∷ asked) packet all is = (all.0, asked_more asked packet all.1 is)
+
+  reports_more : (reports : List Report) (report : Report) → AreTrueReports reports → AreTrue (fabric_of start) (sightings_of report)
+      → AreTrueReports (reports ++ report ∷ [])
+  reports_more [] report all is = (is, tt)
+  reports_more (x ∷ reports) report all is = (all.0, reports_more reports report all.1 is)
+
+  attribute_small : (q : Question) → attribute_asked q < 2 ^ 16
+  attribute_small ask.Node = omega arith
+  attribute_small ask.Switch = omega arith
+  attribute_small (ask.Port port) = omega arith
+
+  modifier_small : (r : Request) → IsSoundRequest (fabric_of start) seat r → modifier_asked r.question < 2 ^ 32
+  modifier_small r sound = by_question r.question r.context sound.sound
+    where
+      by_question : (q : Question) (context : _) → IsSound (fabric_of start) seat q r.path context → modifier_asked q < 2 ^ 32
+      by_question ask.Node context is = omega arith
+      by_question ask.Switch context is = omega arith
+      by_question (ask.Port port) Start is = absurd is.asks
+      by_question (ask.Port port) (Via guid via) is = absurd is.asks
+      by_question (ask.Port port) (About guid) is = let small = is.asks.small in omega (arith, small)
+
+  fits : (generation : ℕ) (r : Request) → generation < 2 ^ 32 → IsSoundRequest (fabric_of start) seat r
+      → FitsRequest get (attribute_asked r.question) (modifier_asked r.question) (transaction_of generation r.number) (replicate 64 0)
+  fits generation r few sound =
+      let number = sound.number in
+      record {
+        method = omega arith;
+        attribute_id = attribute_small r.question;
+        attribute_modifier = modifier_small r sound;
+        transaction_id = omega (arith, few, number);
+        attribute_data = length-replicate {A = ℕ} 64 0;
+      }
+
+  sending_goes : (w : Sweeping) (m : Option (List ℕ)) → Goes w → ((packet : List ℕ) → m ≡ Some packet → WasAsked packet) → Goes (sending w m)
+  sending_goes w None g were = g
+  sending_goes w (Some packet) g were =
+      let asked = were packet refl in
+      record {
+        scene = sends cables counts guids w.scene w.seat (directed_packet packet) g.scene
+            (λ there. subst (IsOnCourse start w.seat) (sym asked.is) (sent_on start w.seat get (attribute_asked asked.request.question) (modifier_asked asked.request.question)
+            (transaction_of asked.generation asked.request.number) asked.request.path (replicate 64 0) (fits asked.generation asked.request asked.few asked.sound)
+            (omega arith) asked.sound.sound.short (subst (λ (p : NodePort). BeginsWith p.port asked.request.path) (sym g.seat_is) asked.sound.sound.own)
+            (seat_in_port cables counts guids w.scene.fabric g.scene.fabric w.seat there)));
+        seat_is = g.seat_is;
+        sound = g.sound;
+        asked = g.asked;
+        reports = g.reports;
+      }
+
+  -- the next request is given out -----------------------------------------------------------------------
+
+  asking_goes : (w : Sweeping) → Goes w → Goes (asking_more w (sent w.sweep))
+  asking_goes w g = by_queue w.sweep.queued refl
+    where
+      by_queue : (queue : List Request) → w.sweep.queued ≡ queue → Goes (asking_more w (sent_of w.sweep queue))
+      by_queue [] e = g
+      by_queue (r ∷ queue) e =
+          let all : AreSound (fabric_of start) seat (r ∷ queue) = subst (AreSound (fabric_of start) seat) e g.sound.queued in
+          record {
+            scene = g.scene;
+            seat_is = g.seat_is;
+            sound = record {
+              origin = g.sound.origin;
+              generation = g.sound.generation;
+              next = g.sound.next;
+              queued = all.1;
+              outstanding = sound_append (fabric_of start) seat w.sweep.outstanding (r ∷ []) g.sound.outstanding (all.0, tt);
+              reached = g.sound.reached;
+            };
+            asked = asked_more w.asked (packet_of w.sweep.generation r) g.asked
+                (record { generation = w.sweep.generation; few = g.sound.generation.1; request = r; sound = all.0; is = refl });
+            reports = g.reports;
+          }
+
+  -- a request times out -----------------------------------------------------------------------------------
+
+  timeout_goes : (w : Sweeping) (transaction : ℕ) → Goes w → Goes (record w { sweep = timed_out w.sweep transaction })
+  timeout_goes w transaction g = by_request (request_with w.sweep.generation transaction w.sweep.outstanding)
+    where
+      by_request : (m : Option Request) → Goes (record w { sweep = timed_out_of w.sweep m })
+      by_request None = g
+      by_request (Some r) =
+          record {
+            scene = g.scene;
+            seat_is = g.seat_is;
+            sound = record {
+              origin = g.sound.origin;
+              generation = g.sound.generation;
+              next = g.sound.next;
+              queued = g.sound.queued;
+              outstanding = sound_without (fabric_of start) seat r.number w.sweep.outstanding g.sound.outstanding;
+              reached = g.sound.reached;
+            };
+            asked = g.asked;
+            reports = g.reports;
+          }
+
+  -- a reply comes ------------------------------------------------------------------------------------------
+
+  module _ (w : Sweeping) (g : Goes w) (bytes : List ℕ) (is : IsForManager start seat bytes) (answer : Answer) (taken : judged w.sweep bytes ≡ Ok answer) where
+    a : IsAccepted w.sweep bytes answer
+    a = accepted w.sweep bytes answer taken
+
+    found : FoundSound (fabric_of start) seat (belongs w.sweep.generation bytes) a.request
+    found = found_sound (fabric_of start) seat (belongs w.sweep.generation bytes) w.sweep.outstanding a.request g.sound.outstanding a.belongs
+
+    for : IsFor bytes a.request
+    for = is_for_it w.sweep.generation bytes a.request found.passes
+
+    told : TellsOfEnd (fabric_of start) seat bytes
+    told = is_told start (record { at = seat; packet = directed_packet bytes }) is (a.good.directed, a.good.returning)
+
+    leads : directed_end (fabric_of start) seat a.request.path ≡ Some told.end
+    leads = ap (directed_end (fabric_of start) seat) (sym (path_is bytes a.request for is.whole.count found.sound.sound.short)) ∙ told.leads
+
+    says : SaysOf (fabric_of start) told.end bytes
+    says = told.says a.good.done_is
+
+    reply_sound : IsSoundSweep (fabric_of start) seat (replied w.sweep bytes)
+    unfolding ended
+    reply_sound =
+        subst (λ m. IsSoundSweep (fabric_of start) seat (replied_to w.sweep bytes m)) (sym a.belongs)
+        (replies.by_question (fabric_of start) seat w.sweep g.sound a.request can bytes told.end leads says for found.sound a.request.question refl
+        a.request.context refl found.sound.sound a.room (λ attribute. good_node a.request.context bytes attribute a.attribute))
+
+    reply_true : AreTrue (fabric_of start) (sightings_of (report_of answer))
+    reply_true =
+        subst (λ x. AreTrue (fabric_of start) (sightings_of (report_of x))) (sym a.answer_is)
+        (facts.by_question (fabric_of start) seat cabled w.sweep.generation a.request bytes told.end leads says for
+        (λ attribute. good_node a.request.context bytes attribute a.attribute) a.request.question refl a.request.context refl found.sound.sound.asks)
+
+    reply_goes : Goes (record w { sweep = replied w.sweep bytes; reports = w.reports ++ report_of answer ∷ [] })
+    reply_goes =
+        record {
+          scene = g.scene;
+          seat_is = g.seat_is;
+          sound = reply_sound;
+          asked = g.asked;
+          reports = reports_more w.reports (report_of answer) g.reports reply_true;
+        }
+
+  hearing_goes : (w : Sweeping) (m : Option Handed) → Goes w → ((h : Handed) → m ≡ Some h → IsForManager start h.at h.packet.bytes) → Goes (hearing w m)
+  hearing_goes w None g were = g
+  hearing_goes w (Some h) g were =
+      cond_both (is_same_port h.at w.seat) _ _ Goes (λ same. judged_goes (at_seat same) (judged w.sweep h.packet.bytes) refl) (λ _. g)
+    where
+      at_seat : is_same_port h.at w.seat ≡ true → IsForManager start seat h.packet.bytes
+      at_seat same =
+          let parts = and_parts (h.at.node == w.seat.node) (h.at.port == w.seat.port) same in
+          let node = eqb-true _ _ parts.0 in
+          let port = eqb-true _ _ parts.1 in
+          let here : h.at ≡ w.seat = λ j. record { node = node j; port = port j } in
+          subst (λ p. IsForManager start p h.packet.bytes) (here ∙ g.seat_is) (were h refl)
+
+      judged_goes : IsForManager start seat h.packet.bytes → (r : Result Answer SweepFault) → judged w.sweep h.packet.bytes ≡ r
+          → Goes (with_answer w h.packet.bytes r)
+      judged_goes is (Ok answer) e = reply_goes w g h.packet.bytes is answer e
+      judged_goes is (Err why) e = g
+
+  -- any event -----------------------------------------------------------------------------------------------
+
+  goes_on : (w : Sweeping) (event : SweepEvent) → Goes w → CanBe event → Goes (after_sweep_event w event)
+  goes_on w (Around event) g can_be =
+      record {
+        scene = continued cables counts guids w.scene event g.scene can_be;
+        seat_is = g.seat_is;
+        sound = g.sound;
+        asked = g.asked;
+        reports = g.reports;
+      }
+  goes_on w Ask g can_be = asking_goes w g
+  goes_on w (Send which) g can_be = sending_goes w (slice_get w.asked which) g (λ packet e. asked_there w.asked which packet g.asked e)
+  goes_on w (Hear which) g can_be =
+      hearing_goes w (slice_get w.scene.handed which) g (λ h e. was_there start w.scene.handed which h g.scene.handed e)
+  goes_on w (TimeOut transaction) g can_be = timeout_goes w transaction g
+
+  all_go_on : (events : List SweepEvent) (w : Sweeping) → Goes w → All CanBe events → Goes (after_sweep_events events w)
+  all_go_on [] w g all = g
+  all_go_on (event ∷ events) w g all =
+      all_go_on events (after_sweep_event w event) (goes_on w event g (All-head CanBe event events all)) (All-tail CanBe event events all)
+
+  all_reports : (reports : List Report) → AreTrueReports reports
+      → All (λ report. All (IsTrueSighting (fabric_of start)) (sightings_of report)) reports
+  all_reports [] all = All-nil (λ report. All (IsTrueSighting (fabric_of start)) (sightings_of report))
+  all_reports (report ∷ reports) all =
+      All-cons (λ x. All (IsTrueSighting (fabric_of start)) (sightings_of x)) report reports
+      (all_true (fabric_of start) (sightings_of report) all.0) (all_reports reports all.1)
+
+-- the law ---------------------------------------------------------------------------------------------------
+
+pub accepted_facts_are_true : AcceptedFactsAreTrue
+accepted_facts_are_true w generation first events begins all =
+    let start = w.scene.fabric in
+    let is = begins.quiet.fabric in
+    let counts = few_ports start (along_itself start is).agents in
+    let guids = guids_of start.agents begins.quiet.guids in
+    let can = can_be_swept start is w.seat begins.seat begins.distinct in
+    let cabled = is_cabled start is in
+    let sweep : IsSoundSweep (fabric_of start) w.seat (started w.seat.port generation first) = record {
+      origin = refl;
+      generation = begins.generation;
+      next = let few = begins.first in omega (arith, few);
+      queued = (record { sound = record { own = tt; short = omega arith; asks = refl }; number = begins.first }, tt);
+      outstanding = tt;
+      reached = tt;
+    } in
+    let goes : Goes is.cables counts guids can cabled w = record {
+      scene = begun w.scene begins.quiet;
+      seat_is = refl;
+      sound = subst (IsSoundSweep (fabric_of start) w.seat) (sym begins.sweep) sweep;
+      asked = subst (WereAsked is.cables counts guids can cabled) (sym begins.asked) tt;
+      reports = subst (AreTrueReports is.cables counts guids can cabled) (sym begins.reports) tt;
+    } in
+    all_reports is.cables counts guids can cabled _ (all_go_on is.cables counts guids can cabled events w goes all).reports
