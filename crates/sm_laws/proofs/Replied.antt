@@ -111,10 +111,10 @@ module _ (f : Fabric) (seat : NodePort) where
           → s.next + length (questions r.path (port_found_of s r.path guid port m)) ≤ 2 ^ 32
           → IsSoundSweep f seat (with_finding ended r.path (port_found_of s r.path guid port m))
       unfolding ended
-      by_state guid port None to room = grown [] s.reached _ _ (record { questions = tt; reached = is.reached; room = room })
-      by_state guid port (Some state) to room =
+      by_state guid port None leads_there room = grown [] s.reached _ _ (record { questions = tt; reached = is.reached; room = room })
+      by_state guid port (Some state) leads_there room =
           grown _ s.reached _ _
-          (record { questions = sound_onward f seat can r.path sound.sound.own sound.sound.short s guid port state is to; reached = is.reached; room = room })
+          (record { questions = sound_onward f seat can r.path sound.sound.own sound.sound.short s guid port state is leads_there; reached = is.reached; room = room })
 
       pub by_question : (q : Question) → r.question ≡ q → (context : Context) → r.context ≡ context → IsSound f seat q r.path context
           → s.next + length (questions r.path (finding_of s (record r { context = context }) packet q)) ≤ 2 ^ 32
