@@ -11,7 +11,7 @@ use std::alloc::{AllocError, Global};
 pub(crate) const NO_WAY: u8 = 255;
 
 /// How many blocks there are, so that the last one has the greatest LID.
-pub(crate) fn block_count(top: Option<Lid>) -> usize
+pub fn block_count(top: Option<Lid>) -> usize
     ensures count { result ≡ block_count top }
     ensures few { result ≤ 1024 }
 {

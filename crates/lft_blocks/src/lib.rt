@@ -9,6 +9,7 @@ mod plan;
 mod plan_text;
 mod table;
 
+pub use block::block_count;
 pub use lid_assign::LidFault as PlanFault;
 pub use plan::Plan;
 pub use plan_text::write_plan;

@@ -16,7 +16,7 @@ pub(crate) fn node(store: &Store, node: Guid) -> Option<(NodeType, u8)>
 }
 
 /// The GUID of a port.
-pub(crate) fn port_guid(store: &Store, node: Guid, port: PortNum) -> Option<Guid>
+pub fn port_guid(store: &Store, node: Guid, port: PortNum) -> Option<Guid>
     ensures { result ≡ port_guid_of (entries store.now) node port }
 {
     store.port_guid(node, port)

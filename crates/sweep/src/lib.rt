@@ -16,7 +16,8 @@ mod sweep;
 pub use answer::Answer;
 pub use fault::SweepFault;
 pub use reached::{Reached, SeenState};
-pub use request::{Question, Request};
+pub use replies::has_ports;
+pub use request::{Question, Request, copied};
 pub use sweep::Sweep;
 
 #[cfg(test)]

@@ -136,7 +136,7 @@ fn is_for(smp: &Smp, request: &Request) -> bool
 }
 
 /// Whether the ports of a packet's path are these.
-fn has_ports(smp: &Smp, path: &Path<63>) -> bool
+pub fn has_ports(smp: &Smp, path: &Path<63>) -> bool
     ensures { result ≡ has_ports smp.now 1 path.now }
 {
     for i in 0..path.len() {

@@ -74,7 +74,7 @@ impl Request {
 }
 
 /// A path of its own with the same ports.
-pub(crate) fn copied(path: &Path<63>) -> Path<63>
+pub fn copied(path: &Path<63>) -> Path<63>
     ensures { result ≡ path.now }
 {
     let mut copy = Path::new();

@@ -1,0 +1,5 @@
+pub mod Step
+pub mod Lids
+pub mod Tables
+pub mod States
+pub mod Phases

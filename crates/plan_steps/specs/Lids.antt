@@ -1,0 +1,43 @@
+-- What a plan sets at end ports: their LIDs, and the LID of the manager.
+-- InfiniBand Architecture Specification, Volume 1: subnet management, PortInfo; addressing, unicast LIDs.
+use Rattle.std.specs.Prelude.{◌≡◌, ◌≤◌, ℕ, Bool, false, List, [], ◌∷◌, Contains, Option, None, Some, IsTrue, ◌==◌, ◌&&◌, option_map, option_and_then, unwrap_or, replicate}
+use Rattle.std.specs.Option.{option_map_or}
+use Rattle.std.specs.List.{filter_map, find}
+use Rattle.std.specs.FinMap.{entries}
+use Rattle.smp_bytes.specs.Field.{with_bits, with_number}
+use Rattle.smp_bytes.specs.Header.{port_info}
+use Rattle.attr_codec.specs.PortInfo.{base_lid, master_sm_lid, port_state, number_of_state}
+use Rattle.attr_codec.specs.declared.port_state.PortState.{PortState}
+use Rattle.attr_codec.specs.declared.port_state.PortState.TheVariants.{NoChange}
+use Rattle.fact_store.specs.View.{Facts}
+use Rattle.subnet_view.specs.declared.end_port.EndPort.{EndPort}
+use Rattle.subnet_view.specs.Reading.{Cells, port_guid_of}
+use Rattle.lid_assign.specs.Lids.{owner_of, rising_lids, lids}
+use Rattle.sweep.specs.Sweep.{Sweep}
+use Rattle.plan_steps.specs.declared.step.Step.{Step}
+use Rattle.plan_steps.specs.Step.{step_at}
+
+-- an end port of this number whose GUID is known to be this one
+abbrev pub is_own_port : Cells → ℕ → ℕ → EndPort → Bool
+is_own_port cells port_guid port e = e.port == port && option_map_or (λ guid. guid == port_guid) (port_guid_of cells e.node e.port) false
+
+-- the LID of the manager at the port of this GUID and number: that of the first such end port, and 0 where there is none
+abbrev pub own_lid : Cells → List (EndPort × ℕ) → ℕ → ℕ → ℕ
+own_lid cells given port_guid port = option_map_or (λ x. x.1) (find (λ x. is_own_port cells port_guid port x.0) given) 0
+
+-- PortInfo with a LID, the manager's LID and the state that is asked for, and 0 elsewhere
+abbrev pub port_data : ℕ → ℕ → PortState → List ℕ
+port_data lid master state =
+    with_bits port_state (number_of_state state) (with_number master_sm_lid master (with_number base_lid lid (replicate 64 0)))
+
+-- the LID of an end port, and the manager's
+abbrev pub lid_step : Sweep → ℕ → ℕ → EndPort → Option Step
+lid_step sweep master lid e = step_at sweep e.node e.port port_info e.port (port_data lid master NoChange)
+
+-- the step of the end port that has a LID
+abbrev pub owner_step : Sweep → ℕ → List (EndPort × ℕ) → ℕ → Option Step
+owner_step sweep master given lid = option_and_then (lid_step sweep master lid) (owner_of given lid)
+
+-- each end port that was reached gets its LID, by rising LIDs
+abbrev pub lid_steps : Sweep → ℕ → List (EndPort × ℕ) → List Step
+lid_steps sweep master given = filter_map (owner_step sweep master given) (rising_lids given)

@@ -1,0 +1,30 @@
+-- The phases in which a plan is written: each is sent as a whole, and the next follows once it has been answered.
+-- InfiniBand Architecture Specification, Volume 1: subnet management, initialization.
+use Rattle.std.specs.Prelude.{ℕ, Bool, true, false, List, [], ◌∷◌}
+use Rattle.attr_codec.specs.declared.port_state.PortState.TheVariants.{Armed, Active}
+use Rattle.subnet_view.specs.Reading.{Cells}
+use Rattle.lft_blocks.specs.Plan.{PlanValue}
+use Rattle.sweep.specs.Sweep.{Sweep}
+use Rattle.plan_steps.specs.declared.step.Step.{Step}
+use Rattle.plan_steps.specs.Lids.{own_lid, lid_steps}
+use Rattle.plan_steps.specs.Tables.{block_steps, top_steps}
+use Rattle.plan_steps.specs.States.{state_steps}
+
+-- whether the plan counts as written only where the steps were done, and the steps
+pub record Phase : Type 0 where
+  pub counts : Bool
+  pub steps : List Step
+
+-- LIDs, blocks and tops are the plan; the states of ports come last, so that no data moves before
+abbrev pub phases_by : PlanValue → Cells → Sweep → ℕ → List Phase
+phases_by plan cells sweep master =
+    record { counts = true; steps = lid_steps sweep master plan.given }
+    ∷ record { counts = true; steps = block_steps sweep plan }
+    ∷ record { counts = true; steps = top_steps sweep plan }
+    ∷ record { counts = false; steps = state_steps cells sweep plan.given master Armed }
+    ∷ record { counts = false; steps = state_steps cells sweep plan.given master Active }
+    ∷ []
+
+-- the phases of a plan that a manager at the port of this GUID and number writes, over the paths of its last sweep
+abbrev pub phases_of : PlanValue → Cells → Sweep → ℕ → ℕ → List Phase
+phases_of plan cells sweep port_guid port = phases_by plan cells sweep (own_lid cells plan.given port_guid port)

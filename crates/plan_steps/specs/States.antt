@@ -1,0 +1,69 @@
+-- What a plan sets at the ports on wires: the states in which they carry data.
+-- InfiniBand Architecture Specification, Volume 1: subnet management, PortInfo (PortState); link layer, link states.
+use Rattle.std.specs.Prelude.{◌≡◌, ◌↔◌, ℕ, Bool, true, false, List, Contains, Option, Some, None, IsSome, is_some, if◌then◌else◌}
+use Rattle.std.specs.Option.{option_map_or}
+use Rattle.std.specs.List.{filter_map, AllPairs}
+use Rattle.std.specs.FinMap.{entries}
+use Rattle.smp_bytes.specs.Header.{port_info}
+use Rattle.attr_codec.specs.declared.port_state.PortState.{PortState}
+use Rattle.attr_codec.specs.declared.port_state.PortState.TheVariants.{Initialize, Armed, Active}
+use Rattle.fact_join.specs.declared.cell.Cell.{Cell}
+use Rattle.fact_store.specs.declared.key.Key.{Key}
+use Rattle.fact_store.specs.declared.key.Key.TheVariants.{Link}
+use Rattle.fact_store.specs.declared.value.Value.{Value}
+use Rattle.fact_store.specs.View.{Facts}
+use Rattle.subnet_view.specs.declared.end_port.EndPort.{EndPort}
+use Rattle.subnet_view.specs.Reading.{Cells, is_usable}
+use Rattle.subnet_view.specs.Wires.{across}
+use Rattle.lid_assign.specs.Lids.{lid_of}
+use Rattle.sweep.specs.Order.{is_before}
+use Rattle.sweep.specs.Sweep.{Sweep, seen_state}
+use Rattle.plan_steps.specs.declared.step.Step.{Step}
+use Rattle.plan_steps.specs.Step.{step_at}
+use Rattle.plan_steps.specs.Lids.{port_data}
+
+-- the port of a cell, where the cell is its link and it is on a wire
+abbrev pub wired_port : Cells → Key × Cell Value → Option (ℕ × ℕ)
+wired_port cells ((Link g p), c) = if is_some (across cells g p) then Some (g, p) else None
+wired_port cells (_, c) = None
+
+-- the ports on wires, both ends of each, by node GUID and port
+abbrev pub wired_ports : Cells → List (ℕ × ℕ)
+wired_ports cells = filter_map (wired_port cells) cells
+
+-- a link's state rises from Initialize over Armed to Active: the states from which a port is still to come to this one
+abbrev pub is_due : PortState → PortState → Bool
+is_due Armed Initialize = true
+is_due Active Initialize = true
+is_due Active Armed = true
+is_due state seen = false
+
+-- the vertex of a port on a wire: its switch by port 0, or the adapter's port itself
+abbrev pub vertex_port : Cells → ℕ × ℕ → ℕ
+vertex_port cells at = if is_usable cells at.0 then 0 else at.1
+
+-- an end port's LIDs go with its state; a switch's other ports have none
+abbrev pub state_data : List (EndPort × ℕ) → ℕ → PortState → ℕ × ℕ → List ℕ
+state_data given master state at =
+    option_map_or (λ lid. port_data lid master state) (lid_of given (record { node = at.0; port = at.1 })) (port_data 0 0 state)
+
+-- the state of a port that the sweep saw in one from which it is still to come to it
+abbrev pub state_step : Cells → Sweep → List (EndPort × ℕ) → ℕ → PortState → ℕ × ℕ → Option Step
+state_step cells sweep given master state at =
+    if option_map_or (is_due state) (seen_state sweep at.0 at.1) false
+    then step_at sweep at.0 (vertex_port cells at) port_info at.1 (state_data given master state at)
+    else None
+
+-- the state for each such port on a wire that was reached, by node GUID and port
+abbrev pub state_steps : Cells → Sweep → List (EndPort × ℕ) → ℕ → PortState → List Step
+state_steps cells sweep given master state = filter_map (state_step cells sweep given master state) (wired_ports cells)
+
+-- the law of the ports on wires, in words: -------------------------------------------------
+
+-- the list has the ports on wires, and nothing else
+abbrev pub HasWiredPorts : Cells → List (ℕ × ℕ) → Type 0
+HasWiredPorts cells ports = (g p : ℕ) → Contains ports (g, p) ↔ IsSome (across cells g p)
+
+-- the ports on wires, each once, by node GUID and port
+abbrev pub WiredPortsLaw : Type 0
+WiredPortsLaw = (facts : Facts) → HasWiredPorts (entries facts) (wired_ports (entries facts)) × AllPairs (λ a b. is_before a b ≡ true) (wired_ports (entries facts))

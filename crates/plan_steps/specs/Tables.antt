@@ -1,0 +1,37 @@
+-- What a plan sets at switches: the blocks of their forwarding tables, and the greatest LID.
+-- InfiniBand Architecture Specification, Volume 1: subnet management, LinearForwardingTable, SwitchInfo.
+use Rattle.std.specs.Prelude.{ℕ, List, [], ◌∷◌, Option, option_and_then, replicate}
+use Rattle.std.specs.Option.{option_map_or}
+use Rattle.std.specs.List.{filter_map, flat_map, range_with_len}
+use Rattle.smp_bytes.specs.Header.{linear_forwarding_table, switch_info}
+use Rattle.smp_bytes.specs.Field.{with_number}
+use Rattle.attr_codec.specs.SwitchInfo.{linear_fdb_top}
+use Rattle.lid_assign.specs.Lids.{top_of}
+use Rattle.lft_blocks.specs.Entries.{block_count}
+use Rattle.lft_blocks.specs.Plan.{PlanValue, block_at, switches_of}
+use Rattle.sweep.specs.Sweep.{Sweep}
+use Rattle.plan_steps.specs.declared.step.Step.{Step}
+use Rattle.plan_steps.specs.Step.{step_at}
+
+-- block b of a switch
+abbrev pub block_step : Sweep → PlanValue → ℕ → ℕ → Option Step
+block_step sweep plan guid b = option_and_then (step_at sweep guid 0 linear_forwarding_table b) (block_at plan guid b)
+
+-- the blocks of a switch that was reached, from 0 to that of the greatest LID
+abbrev pub switch_steps : Sweep → PlanValue → ℕ → List Step
+switch_steps sweep plan guid = filter_map (block_step sweep plan guid) (range_with_len 0 (block_count (top_of plan.given)))
+
+-- the blocks of each usable switch, by rising GUID
+abbrev pub block_steps : Sweep → PlanValue → List Step
+block_steps sweep plan = flat_map (switch_steps sweep plan) (switches_of plan)
+
+-- SwitchInfo with the greatest LID that is forwarded, and 0 elsewhere
+abbrev pub top_data : ℕ → List ℕ
+top_data top = with_number linear_fdb_top top (replicate 64 0)
+
+abbrev pub top_step : Sweep → ℕ → ℕ → Option Step
+top_step sweep top guid = step_at sweep guid 0 switch_info 0 (top_data top)
+
+-- the greatest LID, where there is one, for each usable switch that was reached, by rising GUID
+abbrev pub top_steps : Sweep → PlanValue → List Step
+top_steps sweep plan = option_map_or (λ top. filter_map (top_step sweep top) (switches_of plan)) (top_of plan.given) []

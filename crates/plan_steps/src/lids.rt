@@ -1,0 +1,82 @@
+ghost use Rattle.std.specs.Prelude.{◌≡◌, IfOk};
+ghost use Rattle.std.specs.FinMap.{entries};
+ghost use Rattle.plan_steps.specs.Lids.{is_own_port, lid_step, lid_steps, owner_step, own_lid, port_data};
+
+use crate::step::{Step, step_at};
+use attr_codec::{Attribute, PortInfo, PortState};
+use fact_store::Store;
+use lid_assign::LidMap;
+use smp_bytes::{AttributeId, Guid, Lid, PortNum};
+use std::alloc::{AllocError, Global};
+use subnet_view::{EndPort, port_guid};
+use sweep::Sweep;
+
+/// The LID of the manager at the port of a GUID and a number: that of the first such end port, by
+/// node GUID, and 0 where there is none. Takes a search for each end port of the number.
+pub(crate) fn own_lid(store: &Store, lids: &LidMap, own_guid: Guid, port: PortNum) -> Lid
+    ensures { result ≡ own_lid (entries store.now) lids.now own_guid port }
+{
+    for (end, lid) in lids.given() {
+        if is_own_port(store, *end, own_guid, port) {
+            return *lid;
+        }
+    }
+    Lid::new(0)
+}
+
+/// Whether an end port has this number, and is known to have this GUID.
+fn is_own_port(store: &Store, end: EndPort, own_guid: Guid, port: PortNum) -> bool
+    ensures { result ≡ is_own_port (entries store.now) own_guid port end }
+{
+    end.port == port && port_guid(store, end.node, end.port) == Some(own_guid)
+}
+
+/// The LID of each end port that was reached, by rising LIDs. Takes a search for each.
+pub(crate) fn lid_steps(
+    alloc: Global,
+    sweep: &Sweep,
+    master: Lid,
+    lids: &LidMap,
+) -> Result<Vec<Step>, AllocError>
+    ensures { IfOk result (λ steps. steps.items ≡ lid_steps sweep.now master lids.now) }
+{
+    let mut steps = Vec::new(alloc);
+    for lid in lids.lids() {
+        if let Some(step) = owner_step(sweep, master, lids, *lid) {
+            steps.push(step)?;
+        }
+    }
+    Ok(steps)
+}
+
+/// The step of the end port that has a LID.
+fn owner_step(sweep: &Sweep, master: Lid, lids: &LidMap, lid: Lid) -> Option<Step>
+    ensures { result ≡ owner_step sweep.now master lids.now lid }
+{
+    lid_step(sweep, master, lid, lids.owner(lid)?)
+}
+
+/// The step that gives an end port its LID, and the manager's.
+fn lid_step(sweep: &Sweep, master: Lid, lid: Lid, end: EndPort) -> Option<Step>
+    ensures { result ≡ lid_step sweep.now master lid end }
+{
+    step_at(
+        sweep,
+        end.node,
+        end.port,
+        AttributeId::PORT_INFO,
+        u32::from(end.port.number()),
+        port_data(lid, master, PortState::NoChange),
+    )
+}
+
+/// PortInfo with a LID, the manager's LID and the state that is asked for, and 0 elsewhere.
+pub(crate) fn port_data(lid: Lid, master: Lid, state: PortState) -> [u8; 64]
+    ensures { result ≡ port_data lid master state }
+{
+    let mut info = PortInfo::decode(&[0; 64]);
+    info.set_base_lid(lid);
+    info.set_master_sm_lid(master);
+    info.set_port_state(state);
+    info.encode()
+}

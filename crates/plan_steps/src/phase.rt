@@ -1,0 +1,76 @@
+ghost use Rattle.std.specs.Prelude.{◌≡◌, IfOk};
+ghost use Rattle.std.specs.FinMap.{entries};
+ghost use Rattle.plan_steps.specs.Phases.{phases_by, phases_of};
+
+use crate::lids::{lid_steps, own_lid};
+use crate::states::{state_steps, wired_ports};
+use crate::step::Step;
+use crate::tables::{block_steps, top_steps};
+use attr_codec::PortState;
+use fact_store::Store;
+use lft_blocks::Plan;
+use smp_bytes::{Guid, Lid, PortNum};
+use std::alloc::{AllocError, Global};
+use std::collections::VecDeque;
+use std::marker::Model;
+use sweep::Sweep;
+
+/// Steps that are sent together. Contracts see the list of them, and whether they count.
+#[derive(Drop)]
+pub struct Phase {
+    /// Whether the plan counts as written only where they were done.
+    pub counts: bool,
+    pub steps: Vec<Step>,
+}
+
+impl Model for Phase {
+    ghost use Rattle.plan_steps.specs.Phases.{Phase};
+
+    ghost Value = { Phase };
+
+    ghost view = { λ a. record { counts = a.counts; steps = a.steps.items } };
+}
+
+/// The phases in which a manager at the port of a GUID and a number writes a plan, over the paths
+/// of its last sweep: LIDs, blocks, the greatest LID, and then the states of ports on wires, Armed
+/// and Active. Agents that the sweep did not reach are left out. Walks the cells once, and takes a
+/// few searches for each step and some ten for each port on a wire.
+pub fn phases(
+    alloc: Global,
+    plan: &Plan,
+    store: &Store,
+    sweep: &Sweep,
+    port_guid: Guid,
+    port: PortNum,
+) -> Result<VecDeque<Phase>, AllocError>
+    ensures { IfOk result (λ phases. phases.items
+        ≡ phases_of plan.now (entries store.now) sweep.now port_guid port) }
+{
+    let master = own_lid(store, plan.lids(), port_guid, port);
+    phases_by(alloc, plan, store, sweep, master)
+}
+
+/// The same, with the manager's LID.
+fn phases_by(
+    alloc: Global,
+    plan: &Plan,
+    store: &Store,
+    sweep: &Sweep,
+    master: Lid,
+) -> Result<VecDeque<Phase>, AllocError>
+    ensures { IfOk result (λ phases. phases.items
+        ≡ phases_by plan.now (entries store.now) sweep.now master) }
+{
+    let lids = plan.lids();
+    let ports = wired_ports(alloc, store)?;
+    let first = lid_steps(alloc, sweep, master, lids)?;
+    let blocks = block_steps(alloc, sweep, plan)?;
+    let tops = top_steps(alloc, sweep, plan)?;
+    let armed = state_steps(alloc, store, sweep, lids, master, &ports, PortState::Armed)?;
+    let active = state_steps(alloc, store, sweep, lids, master, &ports, PortState::Active)?;
+    let mut phases = VecDeque::with_capacity(alloc, 5)?;
+    for (counts, steps) in [(true, first), (true, blocks), (true, tops), (false, armed), (false, active)] {
+        phases.push_back(Phase { counts, steps })?;
+    }
+    Ok(phases)
+}

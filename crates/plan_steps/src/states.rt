@@ -1,0 +1,141 @@
+ghost use Rattle.std.specs.Prelude.{◌≡◌, IfOk, false};
+ghost use Rattle.std.specs.List.{filter_map};
+ghost use Rattle.std.specs.Option.{option_map_or};
+ghost use Rattle.std.specs.FinMap.{entries};
+ghost use Rattle.sweep.specs.Sweep.{seen_state};
+ghost use Rattle.plan_steps.specs.States.{is_due, state_data, state_step, vertex_port, wired_port, wired_ports};
+
+use crate::lids::port_data;
+use crate::step::{Step, step_at};
+use attr_codec::PortState;
+use fact_store::{Key, Sighting, Store};
+use lid_assign::LidMap;
+use smp_bytes::{AttributeId, Guid, Lid, PortNum};
+use std::alloc::{AllocError, Global};
+use subnet_view::{EndPort, is_usable, wire};
+use sweep::Sweep;
+
+/// The ports on wires, both ends of each, by node GUID and port. Walks the cells.
+pub(crate) fn wired_ports(
+    alloc: Global,
+    store: &Store,
+) -> Result<Vec<(Guid, PortNum)>, AllocError>
+    ensures { IfOk result (λ ports. ports.items ≡ wired_ports (entries store.now)) }
+{
+    let mut ports = Vec::new(alloc);
+    for sighting in store.cells() {
+        if let Some(port) = wired_port(store, &sighting) {
+            ports.push(port)?;
+        }
+    }
+    Ok(ports)
+}
+
+/// The port of a cell, where the cell is its link and it is on a wire.
+fn wired_port(store: &Store, sighting: &Sighting) -> Option<(Guid, PortNum)>
+    ensures { result ≡ wired_port (entries store.now) sighting.now }
+{
+    match sighting.key() {
+        Key::Link(guid, port) => {
+            if wire(store, guid, port).is_some() {
+                Some((guid, port))
+            } else {
+                None
+            }
+        }
+        _ => None,
+    }
+}
+
+/// The state for each of these ports that was reached and is still to come to it, in their order.
+/// Takes some five searches for each.
+pub(crate) fn state_steps(
+    alloc: Global,
+    store: &Store,
+    sweep: &Sweep,
+    lids: &LidMap,
+    master: Lid,
+    ports: &[(Guid, PortNum)],
+    state: PortState,
+) -> Result<Vec<Step>, AllocError>
+    ensures { IfOk result (λ steps. steps.items
+        ≡ filter_map (state_step (entries store.now) sweep.now lids.now master state) ports.now) }
+{
+    let mut steps = Vec::new(alloc);
+    for at in ports {
+        if let Some(step) = state_step(store, sweep, lids, master, state, *at) {
+            steps.push(step)?;
+        }
+    }
+    Ok(steps)
+}
+
+/// The step of a port on a wire.
+fn state_step(
+    store: &Store,
+    sweep: &Sweep,
+    lids: &LidMap,
+    master: Lid,
+    state: PortState,
+    at: (Guid, PortNum),
+) -> Option<Step>
+    ensures { result ≡ state_step (entries store.now) sweep.now lids.now master state at }
+{
+    if !is_still_due(sweep, state, at) {
+        return None;
+    }
+    step_at(
+        sweep,
+        at.0,
+        vertex_port(store, at),
+        AttributeId::PORT_INFO,
+        u32::from(at.1.number()),
+        state_data(lids, master, state, at),
+    )
+}
+
+/// Whether the sweep saw a port in a state from which it is still to come to this one.
+fn is_still_due(sweep: &Sweep, state: PortState, at: (Guid, PortNum)) -> bool
+    ensures { result ≡ option_map_or (is_due state) (seen_state sweep.now at.0 at.1) false }
+{
+    match sweep.seen_state(at.0, at.1) {
+        Some(seen) => is_due(state, seen),
+        None => false,
+    }
+}
+
+/// Whether a port in the state `seen` is still to come to this one.
+fn is_due(state: PortState, seen: PortState) -> bool
+    ensures { result ≡ is_due state seen }
+{
+    match state {
+        PortState::Armed => matches!(seen, PortState::Initialize),
+        PortState::Active => matches!(seen, PortState::Initialize | PortState::Armed),
+        PortState::NoChange | PortState::Down | PortState::Initialize => false,
+    }
+}
+
+/// The vertex of a port on a wire: its switch by port 0, or the adapter's port itself.
+fn vertex_port(store: &Store, at: (Guid, PortNum)) -> PortNum
+    ensures { result ≡ vertex_port (entries store.now) at }
+{
+    if is_usable(store, at.0) {
+        PortNum::new(0)
+    } else {
+        at.1
+    }
+}
+
+/// An end port's LIDs go with its state; a switch's other ports have none.
+fn state_data(lids: &LidMap, master: Lid, state: PortState, at: (Guid, PortNum)) -> [u8; 64]
+    ensures { result ≡ state_data lids.now master state at }
+{
+    let end = EndPort {
+        node: at.0,
+        port: at.1,
+    };
+    match lids.lid_of(end) {
+        Some(lid) => port_data(lid, master, state),
+        None => port_data(Lid::new(0), Lid::new(0), state),
+    }
+}

@@ -1,0 +1,117 @@
+ghost use Rattle.std.specs.Prelude.{◌≡◌, ◌++◌, ◌<◌, IfOk, OnOk};
+ghost use Rattle.plan_steps.specs.Tables.{block_step, block_steps, switch_steps, top_data, top_step, top_steps};
+ghost use Rattle.std.specs.List.{filter_map};
+ghost use Rattle.lft_blocks.specs.Plan.{switches_of};
+
+use crate::step::{Step, step_at};
+use attr_codec::{Attribute, SwitchInfo};
+use lft_blocks::{Plan, block_count};
+use smp_bytes::{AttributeId, Guid, Lid, PortNum};
+use std::alloc::{AllocError, Global};
+use sweep::Sweep;
+
+/// Each block of each switch that was reached, by rising GUID. Takes two searches for each.
+pub(crate) fn block_steps(
+    alloc: Global,
+    sweep: &Sweep,
+    plan: &Plan,
+) -> Result<Vec<Step>, AllocError>
+    ensures { IfOk result (λ steps. steps.items ≡ block_steps sweep.now plan.now) }
+{
+    let mut steps = Vec::new(alloc);
+    for guid in plan.switches() {
+        add_switch_steps(&mut steps, sweep, plan, *guid)?;
+    }
+    Ok(steps)
+}
+
+/// Adds the blocks of a switch.
+fn add_switch_steps(
+    steps: &mut Vec<Step>,
+    sweep: &Sweep,
+    plan: &Plan,
+    guid: Guid,
+) -> Result<(), AllocError>
+    ensures { OnOk result
+        (steps.new.items ≡ steps.old.items ++ switch_steps sweep.now plan.now guid) }
+{
+    for b in 0..block_count(plan.top()) {
+        if let Some(step) = block_step(sweep, plan, guid, b) {
+            steps.push(step)?;
+        }
+    }
+    Ok(())
+}
+
+/// The step of a block.
+fn block_step(sweep: &Sweep, plan: &Plan, guid: Guid, b: usize) -> Option<Step>
+    requires { b < 1024 }
+    ensures { result ≡ block_step sweep.now plan.now guid b }
+{
+    let block = plan.block(guid, b)?;
+    step_at(
+        sweep,
+        guid,
+        PortNum::new(0),
+        AttributeId::LINEAR_FORWARDING_TABLE,
+        b as u32,
+        *block,
+    )
+}
+
+/// The greatest LID, where there is one, for each switch that was reached, by rising GUID. Takes a
+/// search for each.
+pub(crate) fn top_steps(
+    alloc: Global,
+    sweep: &Sweep,
+    plan: &Plan,
+) -> Result<Vec<Step>, AllocError>
+    ensures { IfOk result (λ steps. steps.items ≡ top_steps sweep.now plan.now) }
+{
+    match plan.top() {
+        Some(top) => steps_with_top(alloc, sweep, plan, top),
+        None => Ok(Vec::new(alloc)),
+    }
+}
+
+/// The same, for this greatest LID.
+fn steps_with_top(
+    alloc: Global,
+    sweep: &Sweep,
+    plan: &Plan,
+    top: Lid,
+) -> Result<Vec<Step>, AllocError>
+    ensures { IfOk result (λ steps. steps.items
+        ≡ filter_map (top_step sweep.now top) (switches_of plan.now)) }
+{
+    let mut steps = Vec::new(alloc);
+    for guid in plan.switches() {
+        if let Some(step) = top_step(sweep, top, *guid) {
+            steps.push(step)?;
+        }
+    }
+    Ok(steps)
+}
+
+/// The step of the greatest LID at a switch.
+fn top_step(sweep: &Sweep, top: Lid, guid: Guid) -> Option<Step>
+    ensures { result ≡ top_step sweep.now top guid }
+{
+    step_at(
+        sweep,
+        guid,
+        PortNum::new(0),
+        AttributeId::SWITCH_INFO,
+        0,
+        top_data(top),
+    )
+}
+
+/// SwitchInfo with the greatest LID that is forwarded, and 0 elsewhere.
+fn top_data(top: Lid) -> [u8; 64]
+    ensures { result ≡ top_data top }
+{
+    let mut info = SwitchInfo::decode(&[0; 64]);
+    info.set_linear_fdb_top(top);
+    info.encode()
+}
