@@ -1,4 +1,6 @@
 pub mod Lives
+pub mod Numbers
 pub mod Newest
 pub mod Replies
 pub mod Sending
+pub mod StepsSent

@@ -2,9 +2,9 @@
 use Rattle.std.proofs.Common.{◌≡◌, ℕ, Bool, true, false, cond, List, [], ◌∷◌, ◌++◌, refl, sym, ap, ◌∙◌}
 use Rattle.std.proofs.lemmas.Bool.{cond_both}
 use Rattle.std.proofs.lemmas.List.{append_assoc, append-nil}
-use Rattle.std.specs.Prelude.{Option, Some, None, Result, Ok, Err, is_none}
+use Rattle.std.specs.Prelude.{◌^◌, ◌==◌, nat_le, Option, Some, None, Result, Ok, Err, is_none}
 use Rattle.std.specs.FinMap.{empty, entries}
-use Rattle.smp_bytes.specs.Packet.{fault_of}
+use Rattle.smp_bytes.specs.Packet.{fault_of, status}
 use Rattle.smp_bytes.specs.declared.smp_fault.SmpFault.{SmpFault}
 use Rattle.fact_store.specs.Merge.{merge}
 use Rattle.fact_store.specs.Report.{Told}
@@ -16,11 +16,15 @@ use Rattle.sweep.specs.declared.fault.SweepFault.{SweepFault}
 use Rattle.sweep.specs.Replies.{judged}
 use Rattle.sweep.specs.Sweep.{Sweep, timeout_fault}
 use Rattle.lft_blocks.specs.Plan.{plan_of}
-use Rattle.sm_manager.specs.Manager.{Manager, new_manager, begin_fault, sweep_begun, taken_of}
-use Rattle.sm_manager.specs.declared.fault.ManagerFault.TheVariants.{Unasked}
+use Rattle.sm_manager.specs.Manager.{Manager, Writing, new_manager, begin_fault, sweep_begun, taken_of}
+use Rattle.sm_manager.specs.declared.fault.ManagerFault.TheVariants.{SequenceSpent}
 use Rattle.sm_manager.specs.declared.outgoing.Outgoing.{Outgoing}
-use Rattle.sm_manager.specs.Packets.{refused, answered_by, sweep_answered, packet_taken, timeout_judged, timeout_of, is_for_sweep}
-use Rattle.sm_manager.specs.Steps.{Step, BeginSweep, Take, Packet, Timeout, Merge, after_step, after_steps, told_if, told_of_reply, told_of_packet, told_in, taken_in, KnowsWhatItTookIn, SameTakenInSamePlan}
+use Rattle.sm_manager.specs.declared.pending.Pending.{Pending}
+use Rattle.sm_manager.specs.Packets.{Called, refused, done, answered_by, sweep_answered, step_answered, pending_for, unless_spent, packet_taken, sweep_timed_out, sweep_gave_up, step_gave_up, gave_up, is_for_sweep}
+use Rattle.sm_manager.specs.Plans.{writing_fault}
+use Rattle.sm_manager.specs.Requests.{with_number}
+use Rattle.sm_manager.specs.Writing.{is_none_pending, is_spent, noted, phase_sent, step_over, went_on_with, without_number, writing_begun}
+use Rattle.sm_manager.specs.Calls.{Call, BeginSweep, WriteSteps, Take, Packet, Timeout, Merge, after_call, after_calls, told_if, told_of_reply, told_of_packet, told_in, taken_in, KnowsWhatItTookIn, SameTakenInSamePlan}
 
 -- what a call takes in is merged with what was known -------------------------------------------
 
@@ -42,53 +46,81 @@ module _ (m : Manager) where
   takes_reply bytes None = nothing_taken m m.store refl
   takes_reply bytes (Some s) = takes_answer bytes s (judged s bytes)
 
+  phase_keeps : (w : Option Writing) → (went_on_with m w).store ≡ m.store
+  phase_keeps None = refl
+  phase_keeps (Some w) = cond_both (is_none_pending m.pending) (phase_sent m w) m (λ (x : Manager). x.store ≡ m.store) (λ _. refl) (λ _. refl)
+
+over_keeps : (m : Manager) (p : Pending) (was_done : Bool) → (step_over m p was_done).store ≡ m.store
+over_keeps m p was_done =
+    let w = noted p.counts was_done m.writing in
+    phase_keeps (record m { pending = without_number p.number m.pending; writing = w }) w
+
+unless_keeps : (m : Manager) (after : Manager) → after.store ≡ m.store → (unless_spent m after).manager.store ≡ m.store
+unless_keeps m after e = cond_both (is_spent after) (refused m SequenceSpent) (done after) (λ (x : Called). x.manager.store ≡ m.store) (λ _. refl) (λ _. e)
+
+module _ (m : Manager) where
+  answer_keeps : (bytes : List ℕ) (p : Option Pending) → (step_answered m bytes p).manager.store ≡ m.store
+  answer_keeps bytes None = refl
+  answer_keeps bytes (Some p) = unless_keeps m _ (over_keeps m p (status bytes == 0))
+
   takes_packet : (bytes : List ℕ) (why : Option SmpFault) → Takes m (told_of_packet m bytes why) (packet_taken m bytes why).manager
   unfolding Takes
   takes_packet bytes (Some why) = nothing_taken m m.store refl
   takes_packet bytes None = by_test (is_for_sweep bytes)
     where
-      by_test : (b : Bool) → Takes m (cond b (told_of_reply bytes m.sweep) []) (cond b (sweep_answered m bytes m.sweep) (refused m Unasked)).manager
-      by_test true = takes_reply bytes m.sweep
-      by_test false = nothing_taken m m.store refl
+      by_test : (b : Bool) → Takes m (cond b (told_of_reply bytes m.sweep) []) (cond b (sweep_answered m bytes m.sweep) (step_answered m bytes (pending_for m bytes))).manager
+      by_test true = takes_reply m bytes m.sweep
+      by_test false = nothing_taken m _ (answer_keeps bytes (pending_for m bytes))
 
-  timeout_keeps : (transaction : ℕ) (s : Option Sweep) → (timeout_of m transaction s).manager.store ≡ m.store
-  timeout_keeps transaction None = refl
-  timeout_keeps transaction (Some s) = by_fault (timeout_fault s transaction)
+  sweep_timeout_keeps : (transaction : ℕ) (s : Option Sweep) → (sweep_gave_up m transaction s).manager.store ≡ m.store
+  sweep_timeout_keeps transaction None = refl
+  sweep_timeout_keeps transaction (Some s) = by_fault (timeout_fault s transaction)
     where
-      by_fault : (why : Option SweepFault) → (timeout_judged m s transaction why).manager.store ≡ m.store
+      by_fault : (why : Option SweepFault) → (sweep_timed_out m s transaction why).manager.store ≡ m.store
       by_fault (Some why) = refl
       by_fault None = refl
+
+  step_timeout_keeps : (p : Option Pending) → (step_gave_up m p).manager.store ≡ m.store
+  step_timeout_keeps None = refl
+  step_timeout_keeps (Some p) = unless_keeps m _ (over_keeps m p false)
+
+  timeout_keeps : (transaction : ℕ) → (gave_up m transaction).manager.store ≡ m.store
+  timeout_keeps transaction =
+      cond_both (nat_le (2 ^ 32) transaction) (sweep_gave_up m transaction m.sweep) (step_gave_up m (with_number transaction m.pending)) (λ (x : Called). x.manager.store ≡ m.store)
+      (λ _. sweep_timeout_keeps transaction m.sweep) (λ _. step_timeout_keeps (with_number transaction m.pending))
 
   taking_keeps : (packets : List Outgoing) → (taken_of m packets).manager.store ≡ m.store
   taking_keeps [] = refl
   taking_keeps (packet ∷ packets) = refl
 
-  takes_step : (step : Step) → (after_step m step).store ≡ merge m.store (view (told_in m step))
+  takes_call : (call : Call) → (after_call m call).store ≡ merge m.store (view (told_in m call))
   unfolding Takes
-  takes_step BeginSweep =
+  takes_call BeginSweep =
       nothing_taken m _ (cond_both (is_none (begin_fault m)) (sweep_begun m) m (λ (x : Manager). x.store ≡ m.store) (λ _. refl) (λ _. refl))
-  takes_step Take = nothing_taken m _ (taking_keeps m.outgoing)
-  takes_step (Packet bytes) = takes_packet bytes (fault_of bytes)
-  takes_step (Timeout transaction) = nothing_taken m _ (timeout_keeps transaction m.sweep)
-  takes_step (Merge sightings) = refl
+  takes_call WriteSteps =
+      nothing_taken m _ (cond_both (is_none (writing_fault m)) (writing_begun m) m (λ (x : Manager). x.store ≡ m.store) (λ _. refl) (λ _. refl))
+  takes_call Take = nothing_taken m _ (taking_keeps m.outgoing)
+  takes_call (Packet bytes) = takes_packet bytes (fault_of bytes)
+  takes_call (Timeout transaction) = nothing_taken m _ (timeout_keeps transaction)
+  takes_call (Merge sightings) = refl
 
 -- the laws ------------------------------------------------------------------------------------------
 
 -- with what it knew before
-knows : (steps : List Step) (m : Manager) (before : Told) → m.store ≡ view before → (after_steps steps m).store ≡ view (before ++ taken_in steps m)
+knows : (calls : List Call) (m : Manager) (before : Told) → m.store ≡ view before → (after_calls calls m).store ≡ view (before ++ taken_in calls m)
 knows [] m before e = e ∙ ap view (sym (append-nil before))
-knows (step ∷ steps) m before e =
-    knows steps (after_step m step) (before ++ told_in m step)
-    (takes_step m step ∙ ap (λ x. merge x (view (told_in m step))) e ∙ sym (view_of_both before (told_in m step)))
-    ∙ ap view (append_assoc before (told_in m step) (taken_in steps (after_step m step)))
+knows (call ∷ calls) m before e =
+    knows calls (after_call m call) (before ++ told_in m call)
+    (takes_call m call ∙ ap (λ x. merge x (view (told_in m call))) e ∙ sym (view_of_both before (told_in m call)))
+    ∙ ap view (append_assoc before (told_in m call) (taken_in calls (after_call m call)))
 
 pub knows_what_it_took_in : KnowsWhatItTookIn
-knows_what_it_took_in port_guid port priority steps = knows steps (new_manager port_guid port priority) [] refl
+knows_what_it_took_in port_guid port priority calls = knows calls (new_manager port_guid port priority) [] refl
 
 pub same_taken_in_same_plan : SameTakenInSamePlan
-same_taken_in_same_plan guid port priority guid' port' priority' steps steps' same =
+same_taken_in_same_plan guid port priority guid' port' priority' calls calls' same =
     let facts =
-    knows_what_it_took_in guid port priority steps
-    ∙ members_decide_view (taken_in steps (new_manager guid port priority)) (taken_in steps' (new_manager guid' port' priority')) same
-    ∙ sym (knows_what_it_took_in guid' port' priority' steps') in
+    knows_what_it_took_in guid port priority calls
+    ∙ members_decide_view (taken_in calls (new_manager guid port priority)) (taken_in calls' (new_manager guid' port' priority')) same
+    ∙ sym (knows_what_it_took_in guid' port' priority' calls') in
     record { facts = facts; plan = ap (λ x. plan_of (entries x)) facts }

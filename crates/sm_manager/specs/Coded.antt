@@ -1,19 +1,44 @@
 -- How a manager is stored as numbers, so that it can be a struct's value.
-use Rattle.std.specs.Prelude.{ℕ, List, Option, refl}
-use Rattle.std.specs.Coded.{Coded, code_by, coded×, coded_ℕ, coded_list, coded_option}
+use Rattle.std.specs.Prelude.{ℕ, Bool, List, Option, refl}
+use Rattle.std.specs.Coded.{Coded, code_by, coded×, coded_ℕ, coded_bool, coded_list, coded_option}
 use Rattle.fact_store.specs.View.{Facts}
 use Rattle.fact_store.specs.Coded.{facts_code}
 use Rattle.sweep.specs.Sweep.{Sweep}
 use Rattle.sweep.specs.contracts.sweep.Sweep as sweep
 use Rattle.sm_manager.specs.declared.outgoing.Outgoing.{Outgoing}
 use Rattle.sm_manager.specs.contracts.outgoing.Outgoing as outgoing
-use Rattle.sm_manager.specs.Manager.{Manager}
+use Rattle.sm_manager.specs.declared.pending.Pending.{Pending}
+use Rattle.sm_manager.specs.contracts.pending.Pending as pending
+use Rattle.plan_steps.specs.Phases.{Phase}
+use Rattle.plan_steps.specs.contracts.phase.Phase as phase
+use Rattle.sm_manager.specs.Manager.{Manager, Writing}
 
 -- by the codes of its parts
+abbrev pub writing_code : Coded Writing
+writing_code =
+    code_by (List Phase × Bool)
+    (coded× (coded_list (phase.the_row).coded) coded_bool)
+    (λ w. (w.later, w.has_failed))
+    (λ p. record { later = p.0; has_failed = p.1 })
+    (λ _. refl)
+
 abbrev pub manager_code : Coded Manager
 manager_code =
-    code_by (ℕ × (ℕ × (ℕ × (Facts × (Option Sweep × List Outgoing)))))
-    (coded× coded_ℕ (coded× coded_ℕ (coded× coded_ℕ (coded× facts_code (coded× (coded_option (sweep.the_row).coded) (coded_list (outgoing.the_row).coded))))))
-    (λ m. (m.port_guid, (m.port, (m.priority, (m.store, (m.sweep, m.outgoing))))))
-    (λ p. record { port_guid = p.0; port = p.1.0; priority = p.1.1.0; store = p.1.1.1.0; sweep = p.1.1.1.1.0; outgoing = p.1.1.1.1.1 })
+    code_by ((ℕ × (ℕ × (ℕ × Facts))) × ((Option Sweep × (Bool × Option Writing)) × (ℕ × (List Pending × List Outgoing))))
+    (coded× (coded× coded_ℕ (coded× coded_ℕ (coded× coded_ℕ facts_code)))
+    (coded× (coded× (coded_option (sweep.the_row).coded) (coded× coded_bool (coded_option writing_code)))
+    (coded× coded_ℕ (coded× (coded_list (pending.the_row).coded) (coded_list (outgoing.the_row).coded)))))
+    (λ m. ((m.port_guid, (m.port, (m.priority, m.store))), ((m.sweep, (m.has_swept, m.writing)), (m.counter, (m.pending, m.outgoing)))))
+    (λ p. record {
+      port_guid = p.0.0;
+      port = p.0.1.0;
+      priority = p.0.1.1.0;
+      store = p.0.1.1.1;
+      sweep = p.1.0.0;
+      has_swept = p.1.0.1.0;
+      writing = p.1.0.1.1;
+      counter = p.1.1.0;
+      pending = p.1.1.1.0;
+      outgoing = p.1.1.1.1;
+    })
     (λ _. refl)

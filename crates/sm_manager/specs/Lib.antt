@@ -1,5 +1,7 @@
+pub mod Calls
 pub mod Coded
 pub mod Manager
 pub mod Packets
 pub mod Plans
-pub mod Steps
+pub mod Requests
+pub mod Writing

@@ -1,31 +1,55 @@
 -- A subnet manager: what it knows, its last sweep, and what it is about to send; and what it is asked to do.
 -- InfiniBand Architecture Specification, Volume 1: subnet management, subnet manager; topology discovery.
-use Rattle.std.specs.Prelude.{◌≡◌, ℕ, ◌+◌, ◌-◌, ◌^◌, Bool, false, not, List, [], ◌∷◌, ◌++◌, map, slice_get, ◌==◌, if◌then◌else◌, Option, Some, None, option_map, option_and_then}
+use Rattle.std.specs.Prelude.{◌≡◌, ℕ, ◌+◌, ◌-◌, ◌^◌, Bool, false, ◌||◌, not, List, [], ◌∷◌, ◌++◌, map, ◌==◌, if◌then◌else◌, Option, Some, None, option_map}
 use Rattle.std.specs.FinMap.{empty, entries}
 use Rattle.fact_store.specs.View.{Facts, newest_of}
+use Rattle.plan_steps.specs.Phases.{Phase}
 use Rattle.fact_store.specs.Merge.{merge}
 use Rattle.sweep.specs.declared.request.Request.{Request}
 use Rattle.sweep.specs.Sweep.{Sweep, started, is_done, packet_of, transaction_of}
 use Rattle.sm_manager.specs.declared.fault.ManagerFault.{ManagerFault}
 use Rattle.sm_manager.specs.declared.fault.ManagerFault.TheVariants.{GenerationsSpent, SweepRunning}
 use Rattle.sm_manager.specs.declared.outgoing.Outgoing.{Outgoing}
+use Rattle.sm_manager.specs.declared.pending.Pending.{Pending}
 use Rattle.sm_manager.specs.declared.progress.Progress.{Progress}
 use Rattle.sm_manager.specs.declared.progress.Progress.TheVariants.{Never, Running, Done}
 
+-- A plan that is being written, or was: the phases that have not been sent, and whether a step that counts was not done.
+pub record Writing : Type 0 where
+  pub later : List Phase
+  pub has_failed : Bool
+
 -- The GUID and the number of the port that it sits at, its priority, all facts that it took in, the last sweep that it
--- began, and the packets that it is about to send, first in, first out.
+-- began, whether a sweep of it got done, the last writing that it began, the number of its next request outside sweeps,
+-- the requests outside sweeps that wait for their answers, by rising numbers, and the packets that it is about to send,
+-- first in, first out.
 pub record Manager : Type 0 where
   pub port_guid : ℕ
   pub port : ℕ
   pub priority : ℕ
   pub store : Facts
   pub sweep : Option Sweep
+  pub has_swept : Bool
+  pub writing : Option Writing
+  pub counter : ℕ
+  pub pending : List Pending
   pub outgoing : List Outgoing
 
 -- one that knows nothing and has done nothing
 abbrev pub new_manager : ℕ → ℕ → ℕ → Manager
 new_manager port_guid port priority =
-    record { port_guid = port_guid; port = port; priority = priority; store = empty; sweep = None; outgoing = [] }
+    record {
+      port_guid = port_guid;
+      port = port;
+      priority = priority;
+      store = empty;
+      sweep = None;
+      has_swept = false;
+      writing = None;
+      counter = 1;
+      pending = [];
+      outgoing = [];
+    }
 
 -- what a sweep asks goes out -----------------------------------------------------------------
 
@@ -57,6 +81,15 @@ abbrev pub is_running : Option Sweep → Bool
 is_running None = false
 is_running (Some s) = not (is_done s)
 
+-- a sweep was begun and is done
+abbrev pub is_over : Option Sweep → Bool
+is_over None = false
+is_over (Some s) = is_done s
+
+-- a sweep that got done is remembered
+abbrev pub after_sweep : Manager → Manager
+after_sweep m = record m { has_swept = m.has_swept || is_over m.sweep }
+
 -- the greatest generation of a fact, 0 where there is none
 abbrev pub newest_held : Facts → ℕ
 newest_held facts = newest_of (map (λ e. e.1) (entries facts))
@@ -87,9 +120,14 @@ taken_of m (packet ∷ later) = record { manager = record m { outgoing = later }
 abbrev pub taken : Manager → Taken
 taken m = taken_of m m.outgoing
 
--- the TransactionIDs that it waits for, rising
-abbrev pub outstanding_at : Manager → ℕ → Option ℕ
-outstanding_at m i = option_and_then (λ s. option_map (λ r. transaction_of s.generation r.number) (slice_get s.outstanding i)) m.sweep
+-- the TransactionIDs that a sweep waits for, rising
+abbrev pub transactions_of : Option Sweep → List ℕ
+transactions_of None = []
+transactions_of (Some s) = map (λ r. transaction_of s.generation r.number) s.outstanding
+
+-- the TransactionIDs that it waits for, rising: a generation stands in the high half of a sweep's, and 0 in others'
+abbrev pub outstanding : Manager → List ℕ
+outstanding m = map (λ p. p.number) m.pending ++ transactions_of m.sweep
 
 -- how its last sweep goes
 abbrev pub progress_of : Option Sweep → Progress

@@ -1,9 +1,10 @@
 -- What a manager does with a packet that comes to its port, and with a timeout.
 -- InfiniBand Architecture Specification, Volume 1: subnet management methods; directed route SMPs.
-use Rattle.std.specs.Prelude.{◌≡◌, ℕ, ◌^◌, Bool, ◌&&◌, List, nat_le, ◌==◌, if◌then◌else◌, Option, Some, None, Result, Ok, Err}
+use Rattle.std.specs.Prelude.{◌≡◌, ℕ, ◌^◌, Bool, false, ◌&&◌, List, find, nat_le, ◌==◌, if◌then◌else◌, Option, Some, None, Result, Ok, Err}
+use Rattle.plan_steps.specs.Step.{is_answered_by}
 use Rattle.smp_bytes.specs.Header.{get_resp}
 use Rattle.smp_bytes.specs.Field.{number_in}
-use Rattle.smp_bytes.specs.Packet.{fault_of, method, transaction_id, is_directed}
+use Rattle.smp_bytes.specs.Packet.{fault_of, method, status, transaction_id, is_directed}
 use Rattle.smp_bytes.specs.declared.smp_fault.SmpFault.{SmpFault}
 use Rattle.fact_store.specs.Merge.{merge}
 use Rattle.fact_store.specs.View.{view}
@@ -15,7 +16,10 @@ use Rattle.sweep.specs.Replies.{judged, replied, told_by}
 use Rattle.sweep.specs.Sweep.{Sweep, timed_out, timeout_fault}
 use Rattle.sm_manager.specs.declared.fault.ManagerFault.{ManagerFault}
 use Rattle.sm_manager.specs.declared.fault.ManagerFault.TheVariants as fault
-use Rattle.sm_manager.specs.Manager.{Manager, with_sweep}
+use Rattle.sm_manager.specs.declared.pending.Pending.{Pending}
+use Rattle.sm_manager.specs.Manager.{Manager, with_sweep, after_sweep}
+use Rattle.sm_manager.specs.Requests.{with_number}
+use Rattle.sm_manager.specs.Writing.{is_spent, step_over}
 
 -- a call's outcome: the manager afterwards, and why it was refused, if it was
 pub record Called : Type 0 where
@@ -33,7 +37,7 @@ done m = record { manager = m; fault = None }
 
 -- the facts of an answer are merged with what is known, and what it brings up goes out
 abbrev pub with_answer : Manager → Sweep → List ℕ → Answer → Manager
-with_answer m s packet answer = with_sweep (record m { store = merge m.store (view (told_by answer)) }) (replied s packet)
+with_answer m s packet answer = after_sweep (with_sweep (record m { store = merge m.store (view (told_by answer)) }) (replied s packet))
 
 abbrev pub answered_by : Manager → Sweep → List ℕ → Result Answer SweepFault → Called
 answered_by m s packet (Ok answer) = done (with_answer m s packet answer)
@@ -48,10 +52,26 @@ sweep_answered m packet (Some s) = answered_by m s packet (judged s packet)
 abbrev pub is_for_sweep : List ℕ → Bool
 is_for_sweep packet = number_in method packet == get_resp && (is_directed packet && nat_le (2 ^ 32) (number_in transaction_id packet))
 
+-- an answer over a directed route to this step
+abbrev pub answers : List ℕ → Pending → Bool
+answers packet p = number_in method packet == get_resp && is_answered_by p.number p.step packet
+
+-- the step that waits for this answer
+abbrev pub pending_for : Manager → List ℕ → Option Pending
+pending_for m packet = find (answers packet) m.pending
+
+-- a step was done where its answer says so; the next stage may go out, if there are numbers for it
+abbrev pub unless_spent : Manager → Manager → Called
+unless_spent m after = if is_spent after then refused m fault.SequenceSpent else done after
+
+abbrev pub step_answered : Manager → List ℕ → Option Pending → Called
+step_answered m packet None = refused m fault.Unasked
+step_answered m packet (Some p) = unless_spent m (step_over m p (status packet == 0))
+
 -- bytes that are no packet are refused by what is wrong with them, and what answers nothing as not asked for
 abbrev pub packet_taken : Manager → List ℕ → Option SmpFault → Called
 packet_taken m packet (Some why) = refused m (fault.Sweep (Bad (Smp why)))
-packet_taken m packet None = if is_for_sweep packet then sweep_answered m packet m.sweep else refused m fault.Unasked
+packet_taken m packet None = if is_for_sweep packet then sweep_answered m packet m.sweep else step_answered m packet (pending_for m packet)
 
 -- a packet that comes to the manager's port
 abbrev pub took : Manager → List ℕ → Called
@@ -59,23 +79,32 @@ took m packet = packet_taken m packet (fault_of packet)
 
 -- timeouts --------------------------------------------------------------------------------------
 
-abbrev pub timeout_judged : Manager → Sweep → ℕ → Option SweepFault → Called
-timeout_judged m s transaction (Some why) = refused m fault.Unasked
-timeout_judged m s transaction None = done (record m { sweep = Some (timed_out s transaction) })
+abbrev pub sweep_timed_out : Manager → Sweep → ℕ → Option SweepFault → Called
+sweep_timed_out m s transaction (Some why) = refused m fault.Unasked
+sweep_timed_out m s transaction None = done (after_sweep (record m { sweep = Some (timed_out s transaction) }))
 
-abbrev pub timeout_of : Manager → ℕ → Option Sweep → Called
-timeout_of m transaction None = refused m fault.Unasked
-timeout_of m transaction (Some s) = timeout_judged m s transaction (timeout_fault s transaction)
+abbrev pub sweep_gave_up : Manager → ℕ → Option Sweep → Called
+sweep_gave_up m transaction None = refused m fault.Unasked
+sweep_gave_up m transaction (Some s) = sweep_timed_out m s transaction (timeout_fault s transaction)
 
--- nothing answered a request in time
+abbrev pub step_gave_up : Manager → Option Pending → Called
+step_gave_up m None = refused m fault.Unasked
+step_gave_up m (Some p) = unless_spent m (step_over m p false)
+
+-- nothing answered a request in time: one of the sweep, whose TransactionID has its generation in the high half, or a step
 abbrev pub gave_up : Manager → ℕ → Called
-gave_up m transaction = timeout_of m transaction m.sweep
+gave_up m transaction =
+    if nat_le (2 ^ 32) transaction then sweep_gave_up m transaction m.sweep
+    else step_gave_up m (with_number transaction m.pending)
 
 -- a call is judged by its outcome; memory can be wanting only where it is not refused
 abbrev pub JudgesCall : Result (Unit {0}) ManagerFault → Option ManagerFault → Type 0
 JudgesCall (Ok value) why = why ≡ None
 JudgesCall (Err fault.GenerationsSpent) why = why ≡ Some fault.GenerationsSpent
 JudgesCall (Err fault.SweepRunning) why = why ≡ Some fault.SweepRunning
+JudgesCall (Err fault.NotMaster) why = why ≡ Some fault.NotMaster
+JudgesCall (Err fault.WritingRunning) why = why ≡ Some fault.WritingRunning
+JudgesCall (Err fault.SequenceSpent) why = why ≡ Some fault.SequenceSpent
 JudgesCall (Err (fault.NoRoom endports room)) why = why ≡ Some (fault.NoRoom endports room)
 JudgesCall (Err (fault.Sweep given)) why = why ≡ Some (fault.Sweep given)
 JudgesCall (Err fault.Unasked) why = why ≡ Some fault.Unasked

@@ -1,10 +1,13 @@
--- When a manager has no plan.
-use Rattle.std.specs.Prelude.{◌≡◌, Result, Ok, Err, length}
+-- When a manager has no plan, and when it begins no writing.
+use Rattle.std.specs.Prelude.{◌≡◌, ℕ, ◌^◌, Bool, ◌&&◌, nat_lt, nat_le, if◌then◌else◌, Option, Some, None, Result, Ok, Err, length}
+use Rattle.std.specs.FinMap.{entries}
 use Rattle.subnet_view.specs.Reading.{Cells}
 use Rattle.subnet_view.specs.EndPorts.{end_ports}
 use Rattle.lid_assign.specs.Lids.{IsNoRoom, room}
 use Rattle.sm_manager.specs.declared.fault.ManagerFault.{ManagerFault}
 use Rattle.sm_manager.specs.declared.fault.ManagerFault.TheVariants as fault
+use Rattle.sm_manager.specs.Manager.{Manager}
+use Rattle.sm_manager.specs.Writing.{write_fault, writing_begun}
 
 -- it is refused exactly where there is no room for the LIDs, or memory is wanting
 abbrev pub JudgesPlan : {T : Type 0} → Result T ManagerFault → Cells → Type 0
@@ -13,5 +16,45 @@ JudgesPlan (Err (fault.NoRoom endports most)) cells = IsNoRoom cells × (endport
 JudgesPlan (Err fault.Memory) cells = Unit {0}
 JudgesPlan (Err fault.GenerationsSpent) cells = ⊥
 JudgesPlan (Err fault.SweepRunning) cells = ⊥
+JudgesPlan (Err fault.NotMaster) cells = ⊥
+JudgesPlan (Err fault.WritingRunning) cells = ⊥
+JudgesPlan (Err fault.SequenceSpent) cells = ⊥
 JudgesPlan (Err (fault.Sweep why)) cells = ⊥
 JudgesPlan (Err fault.Unasked) cells = ⊥
+
+-- there are end ports, and not fewer than the room for LIDs
+abbrev pub is_no_room : Cells → Bool
+is_no_room cells = nat_lt 0 (length (end_ports cells)) && nat_le (room cells) (length (end_ports cells))
+
+-- why there is no plan
+abbrev pub plan_fault : Cells → Option ManagerFault
+plan_fault cells = if is_no_room cells then Some (fault.NoRoom (length (end_ports cells)) (room cells)) else None
+
+abbrev pub or_else : Option ManagerFault → Option ManagerFault → Option ManagerFault
+or_else None other = other
+or_else (Some why) other = Some why
+
+-- why there is nothing to be written: what goes on forbids it, or there is no plan
+abbrev pub planned_fault : Manager → Option ManagerFault
+planned_fault m = or_else (write_fault m) (plan_fault (entries m.store))
+
+-- a number is needed that 32 bits do not hold
+abbrev pub number_fault : ℕ → Option ManagerFault
+number_fault counter = if nat_lt (2 ^ 32) counter then Some fault.SequenceSpent else None
+
+-- why no writing begins, want of memory aside
+abbrev pub writing_fault : Manager → Option ManagerFault
+writing_fault m = or_else (planned_fault m) (number_fault (writing_begun m).counter)
+
+-- a call is judged by its fault; memory can be wanting where the first of its reasons does not hold
+abbrev pub JudgesAfter : {T : Type 0} → Result T ManagerFault → Option ManagerFault → Option ManagerFault → Type 0
+JudgesAfter (Ok value) first why = why ≡ None
+JudgesAfter (Err fault.Memory) first why = first ≡ None
+JudgesAfter (Err fault.GenerationsSpent) first why = why ≡ Some fault.GenerationsSpent
+JudgesAfter (Err fault.SweepRunning) first why = why ≡ Some fault.SweepRunning
+JudgesAfter (Err fault.NotMaster) first why = why ≡ Some fault.NotMaster
+JudgesAfter (Err fault.WritingRunning) first why = why ≡ Some fault.WritingRunning
+JudgesAfter (Err fault.SequenceSpent) first why = why ≡ Some fault.SequenceSpent
+JudgesAfter (Err (fault.NoRoom endports most)) first why = why ≡ Some (fault.NoRoom endports most)
+JudgesAfter (Err (fault.Sweep given)) first why = why ≡ Some (fault.Sweep given)
+JudgesAfter (Err fault.Unasked) first why = why ≡ Some fault.Unasked

@@ -12,6 +12,15 @@ pub enum ManagerFault {
     /// A sweep was begun and is not done.
     #[error("SweepRunning")]
     SweepRunning,
+    /// No sweep of this manager has got done yet.
+    #[error("NotMaster")]
+    NotMaster,
+    /// A plan is being written.
+    #[error("WritingRunning")]
+    WritingRunning,
+    /// A request that is to go out needs a number that 32 bits do not hold.
+    #[error("SequenceSpent")]
+    SequenceSpent,
     /// There are end ports, and no fewer of them than the smallest forwarding table has room for LIDs, 0 among them.
     #[error("NoRoom")]
     NoRoom {

@@ -1,5 +1,5 @@
 //! What is so of a manager's whole life.
-ghost use Rattle.sm_manager.specs.Steps.{KnowsWhatItTookIn, SameTakenInSamePlan};
+ghost use Rattle.sm_manager.specs.Calls.{KnowsWhatItTookIn, SameTakenInSamePlan};
 
 /// After any calls, in whatever order, a manager knows the view of all sightings that it took in: those of the reports that
 /// it accepted, and those behind the stores that it merged.

@@ -6,11 +6,16 @@ pub mod laws;
 mod manager;
 mod outgoing;
 mod packets;
+mod pending;
 mod progress;
+mod requests;
+mod steps;
+mod writing;
 
 pub use fault::ManagerFault;
 pub use manager::Manager;
 pub use outgoing::Outgoing;
+pub use pending::Pending;
 pub use progress::Progress;
 
 #[cfg(test)]

@@ -1,13 +1,15 @@
-ghost use Rattle.std.specs.Prelude.{◌≡◌, IfOk, OnOk, OnErr};
+ghost use Rattle.std.specs.Prelude.{◌≡◌, IfOk, OnOk, OnErr, slice_get};
 ghost use Rattle.std.specs.FinMap.{entries};
 ghost use Rattle.lft_blocks.specs.Plan.{plan_of};
-ghost use Rattle.sm_manager.specs.Manager.{begin_fault, merged, new_manager, outstanding_at, progress_of, sweep_begun, taken};
+ghost use Rattle.sm_manager.specs.Manager.{begin_fault, merged, new_manager, outstanding, progress_of, sweep_begun, taken};
 ghost use Rattle.sm_manager.specs.Packets.{JudgesCall};
 ghost use Rattle.sm_manager.specs.Plans.{JudgesPlan};
 
 use crate::fault::ManagerFault;
 use crate::outgoing::{Outgoing, send_queued};
 use crate::progress::Progress;
+use crate::requests::Requests;
+use crate::writing::Writing;
 use attr_codec::Priority;
 use fact_store::Store;
 use lft_blocks::Plan;
@@ -28,6 +30,10 @@ pub struct Manager {
     pub(crate) priority: Priority,
     pub(crate) store: Store,
     pub(crate) sweep: Option<Sweep>,
+    /// Whether a sweep got done.
+    pub(crate) has_swept: bool,
+    pub(crate) writing: Option<Writing>,
+    pub(crate) requests: Requests,
     pub(crate) outgoing: VecDeque<Outgoing>,
 }
 
@@ -39,7 +45,7 @@ impl Model for Manager {
 
     ghost coded = { manager_code };
 
-    ghost view = { λ a. record { port_guid = a.port_guid; port = a.port; priority = a.priority; store = a.store; sweep = a.sweep; outgoing = a.outgoing.items } };
+    ghost view = { λ a. record { port_guid = a.port_guid; port = a.port; priority = a.priority; store = a.store; sweep = a.sweep; has_swept = a.has_swept; writing = a.writing; counter = a.requests.counter; pending = a.requests.pending; outgoing = a.outgoing.items } };
 
     ghost invariant = { λ a. IsSentWhole a.sweep };
 }
@@ -56,6 +62,9 @@ impl Manager {
             priority,
             store: Store::new(alloc),
             sweep: None,
+            has_swept: false,
+            writing: None,
+            requests: Requests::new(alloc),
             outgoing: VecDeque::new(alloc),
         }
     }
@@ -129,10 +138,16 @@ impl Manager {
 
     /// The TransactionID of the `i`-th request that waits for its answer, by rising TransactionIDs from 0 on.
     pub fn outstanding(&self, i: usize) -> Option<u64>
-        ensures { result ≡ outstanding_at self.now i }
+        ensures { result ≡ slice_get (outstanding self.now) i }
     {
+        if i < self.requests.len() {
+            return match self.requests.get(i) {
+                Some(request) => Some(u64::from(request.number)),
+                None => None,
+            };
+        }
         match &self.sweep {
-            Some(sweep) => sweep.outstanding(i),
+            Some(sweep) => sweep.outstanding(i - self.requests.len()),
             None => None,
         }
     }

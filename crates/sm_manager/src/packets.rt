@@ -1,6 +1,6 @@
 ghost use Rattle.std.specs.Prelude.{◌≡◌, ◌+◌, ◌-◌, ◌^◌, IfSome, IsNone, OnOk, OnErr};
 ghost use Rattle.sm_manager.specs.Manager.{is_running, newest_held};
-ghost use Rattle.sm_manager.specs.Packets.{IsFaultWithoutRoom, JudgesCall, gave_up, is_for_sweep, took};
+ghost use Rattle.sm_manager.specs.Packets.{IsFaultWithoutRoom, JudgesCall, gave_up, is_for_sweep, sweep_answered, sweep_gave_up, took};
 ghost use Rattle.sweep.specs.Replies.{judged};
 
 use crate::fault::ManagerFault;
@@ -15,12 +15,13 @@ const MOST: usize = 256;
 
 impl Manager {
     /// Takes a packet that came to the manager's port. A reply that its sweep waits for tells facts, which are taken in, and
-    /// what it brings up goes out. The work does not grow with what is known, but for the searches.
+    /// what it brings up goes out. An answer to a step of a writing ends it, and the last of a stage brings up the next
+    /// stage. The work does not grow with what is known, but for the searches.
     ///
     /// # Errors
     ///
     /// `Sweep` with what is wrong with bytes that are no packet; `Unasked` for what answers nothing, requests among them;
-    /// `Sweep` for a reply that the sweep refuses; `Memory`.
+    /// `Sweep` for a reply that the sweep refuses; `SequenceSpent` where there are no numbers for the next stage; `Memory`.
     pub fn on_packet(&mut self, bytes: &[u8; 256]) -> Result<(), ManagerFault>
         ensures judged { JudgesCall result (took self.old bytes.now).fault }
         ensures ok { OnOk result (self.new ≡ (took self.old bytes.now).manager) }
@@ -32,18 +33,29 @@ impl Manager {
                 return Err(ManagerFault::Sweep(SweepFault::Bad(ReportFault::Smp(fault))));
             }
         };
-        if !is_for_sweep(&smp) {
-            return Err(ManagerFault::Unasked);
+        if is_for_sweep(&smp) {
+            self.take_reply(&smp)
+        } else {
+            self.take_answer(&smp)
         }
+    }
+
+    /// Takes a reply to the sweep.
+    fn take_reply(&mut self, smp: &Smp) -> Result<(), ManagerFault>
+        ensures judged { JudgesCall result (sweep_answered self.old smp.now self.old.sweep).fault }
+        ensures ok { OnOk result (self.new ≡ (sweep_answered self.old smp.now self.old.sweep).manager) }
+        ensures err { OnErr result (self.new ≡ self.old) }
+    {
         let Some(sweep) = &mut self.sweep else {
             return Err(ManagerFault::Unasked);
         };
         if self.outgoing.reserve(MOST).is_err() {
-            return Err(fault_without_room(sweep, bytes));
+            return Err(fault_without_room(sweep, smp.bytes()));
         }
-        match sweep.on_reply_into(bytes, &mut self.store) {
+        match sweep.on_reply_into(smp.bytes(), &mut self.store) {
             Ok(_) => {
                 send_queued(sweep, &mut self.outgoing);
+                self.has_swept = self.has_swept || sweep.is_done();
                 Ok(())
             }
             Err(SweepFault::Memory) => Err(ManagerFault::Memory),
@@ -51,20 +63,38 @@ impl Manager {
         }
     }
 
-    /// A request was not answered in time, and waits no more. Takes no memory.
+    /// A request was not answered in time, and waits no more. Takes memory only where a stage of a writing ends by it.
     ///
     /// # Errors
     ///
-    /// `Unasked`: no request of this TransactionID waits.
+    /// `Unasked`: no request of this TransactionID waits. `SequenceSpent` and `Memory`, where the next stage would go out.
     pub fn on_timeout(&mut self, transaction: u64) -> Result<(), ManagerFault>
         ensures judged { JudgesCall result (gave_up self.old transaction).fault }
-        ensures manager { self.new ≡ (gave_up self.old transaction).manager }
+        ensures ok { OnOk result (self.new ≡ (gave_up self.old transaction).manager) }
+        ensures err { OnErr result (self.new ≡ self.old) }
+    {
+        if transaction > 0xFFFF_FFFF {
+            return self.end_request(transaction);
+        }
+        match self.requests.place_of(transaction) {
+            Some(place) => self.end_step(place, false),
+            None => Err(ManagerFault::Unasked),
+        }
+    }
+
+    /// A request of the sweep was not answered in time.
+    fn end_request(&mut self, transaction: u64) -> Result<(), ManagerFault>
+        ensures judged { JudgesCall result (sweep_gave_up self.old transaction self.old.sweep).fault }
+        ensures manager { self.new ≡ (sweep_gave_up self.old transaction self.old.sweep).manager }
     {
         let Some(sweep) = &mut self.sweep else {
             return Err(ManagerFault::Unasked);
         };
         match sweep.on_timeout(transaction) {
-            Ok(()) => Ok(()),
+            Ok(()) => {
+                self.has_swept = self.has_swept || sweep.is_done();
+                Ok(())
+            }
             Err(_) => Err(ManagerFault::Unasked),
         }
     }

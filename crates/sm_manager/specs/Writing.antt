@@ -1,0 +1,127 @@
+-- Writing a plan: its steps go out phase by phase, each phase once nothing of the one before is waited for.
+-- InfiniBand Architecture Specification, Volume 1: subnet initialization; linear forwarding tables; port states.
+use Rattle.std.specs.Prelude.{◌≡◌, ℕ, suc, ◌+◌, ◌^◌, Bool, true, false, ◌&&◌, ◌||◌, not, List, [], ◌∷◌, ◌++◌, length, map, filter, drop, nat_lt, ◌==◌, if◌then◌else◌, Option, Some, None}
+use Rattle.std.specs.List.{list_any}
+use Rattle.std.specs.FinMap.{entries}
+use Rattle.lft_blocks.specs.Plan.{plan_of}
+use Rattle.plan_steps.specs.declared.step.Step.{Step}
+use Rattle.plan_steps.specs.Phases.{Phase, phases_of}
+use Rattle.plan_steps.specs.Step.{set_packet}
+use Rattle.sweep.specs.Sweep.{Sweep, is_done}
+use Rattle.sm_manager.specs.declared.fault.ManagerFault.{ManagerFault}
+use Rattle.sm_manager.specs.declared.fault.ManagerFault.TheVariants.{NotMaster, SweepRunning, WritingRunning}
+use Rattle.sm_manager.specs.declared.outgoing.Outgoing.{Outgoing}
+use Rattle.sm_manager.specs.declared.pending.Pending.{Pending}
+use Rattle.sm_manager.specs.Manager.{Manager, Writing}
+
+-- a phase goes out --------------------------------------------------------------------------------
+
+-- the steps of a phase as requests, by rising numbers
+abbrev pub numbered : Bool → ℕ → List Step → List Pending
+numbered counts number [] = []
+numbered counts number (s ∷ steps) = record { number = number; counts = counts; step = s } ∷ numbered counts (suc number) steps
+
+-- steps go out by their paths
+abbrev pub steps_out : List Pending → List Outgoing
+steps_out pending = map (λ p. record { packet = set_packet p.number p.step; to = None }) pending
+
+-- phases without steps that come first are passed over
+abbrev pub passed : List Phase → List Phase
+passed [] = []
+passed (p ∷ phases) = if length p.steps == 0 then passed phases else p ∷ phases
+
+-- the phase that comes first, and one without steps where there is none
+abbrev pub next_phase : List Phase → Phase
+next_phase [] = record { counts = false; steps = [] }
+next_phase (p ∷ phases) = p
+
+-- the steps of the next phase, as they go out from this number on
+abbrev pub next_pending : ℕ → List Phase → List Pending
+next_pending number phases = numbered (next_phase phases).counts number (next_phase phases).steps
+
+-- the next phase goes out as a whole
+abbrev pub phase_sent : Manager → Writing → Manager
+phase_sent m w =
+    record m {
+      writing = Some (record w { later = passed (drop 1 w.later) });
+      counter = m.counter + length (next_phase w.later).steps;
+      pending = m.pending ++ next_pending m.counter w.later;
+      outgoing = m.outgoing ++ steps_out (next_pending m.counter w.later);
+    }
+
+abbrev pub is_none_pending : List Pending → Bool
+is_none_pending [] = true
+is_none_pending (p ∷ pending) = false
+
+-- it goes out where nothing of the one before is waited for
+abbrev pub went_on_with : Manager → Option Writing → Manager
+went_on_with m None = m
+went_on_with m (Some w) = if is_none_pending m.pending then phase_sent m w else m
+
+abbrev pub went_on : Manager → Manager
+went_on m = went_on_with m m.writing
+
+-- a number was needed that 32 bits do not hold
+abbrev pub is_spent : Manager → Bool
+is_spent m = nat_lt (2 ^ 32) m.counter
+
+-- beginning a writing -----------------------------------------------------------------------------
+
+abbrev pub write_fault_with : Manager → Option Sweep → Option ManagerFault
+write_fault_with m None = Some NotMaster
+write_fault_with m (Some s) =
+    if not m.has_swept then Some NotMaster
+    else if not (is_done s) then Some SweepRunning
+    else if not (is_none_pending m.pending) then Some WritingRunning
+    else None
+
+-- a manager is the master once a sweep of it got done; it writes where neither a sweep nor a writing of it goes on
+abbrev pub write_fault : Manager → Option ManagerFault
+write_fault m = write_fault_with m m.sweep
+
+-- the phases of the plan of what it knows, over the paths of its last sweep
+abbrev pub phases_by : Manager → Option Sweep → List Phase
+phases_by m None = []
+phases_by m (Some s) = phases_of (plan_of (entries m.store)) (entries m.store) s m.port_guid m.port
+
+-- the first of these phases is sent
+abbrev pub begun_with : Manager → List Phase → Manager
+begun_with m phases = phase_sent m (record { later = passed phases; has_failed = false })
+
+abbrev pub writing_begun : Manager → Manager
+writing_begun m = begun_with m (phases_by m m.sweep)
+
+-- whether it is written -----------------------------------------------------------------------------
+
+abbrev pub is_written_by : List Pending → Option Writing → Bool
+is_written_by pending None = false
+is_written_by pending (Some w) =
+    not w.has_failed && (not (list_any (λ p. p.counts) w.later) && not (list_any (λ p. p.counts) pending))
+
+-- a writing was begun, and each of its steps that counts was done
+abbrev pub is_written : Manager → Bool
+is_written m = is_written_by m.pending m.writing
+
+-- a step is over --------------------------------------------------------------------------------------
+
+-- without the request of a number
+abbrev pub without_number : ℕ → List Pending → List Pending
+without_number number pending = filter (λ p. not (p.number == number)) pending
+
+-- a step was done, or was not
+abbrev pub noted : Bool → Bool → Option Writing → Option Writing
+noted counts was_done None = None
+noted counts was_done (Some w) = Some (record w { has_failed = w.has_failed || (counts && not was_done) })
+
+-- a step waits no more, and what comes next goes out
+abbrev pub step_over : Manager → Pending → Bool → Manager
+step_over m p was_done =
+    went_on (record m { pending = without_number p.number m.pending; writing = noted p.counts was_done m.writing })
+
+-- so many steps go out where one of those that wait ends
+abbrev pub count_with : List Pending → Option Writing → ℕ
+count_with pending None = 0
+count_with pending (Some w) = if nat_lt 1 (length pending) then 0 else length (next_phase w.later).steps
+
+abbrev pub count_after : Manager → ℕ
+count_after m = count_with m.pending m.writing

@@ -1,0 +1,155 @@
+ghost use Rattle.std.specs.Prelude.{◌≡◌, ◌<◌, ◌+◌, ◌≤◌, false, None, Some, IfOk, OnOk, OnErr, length, slice_get};
+ghost use Rattle.std.specs.VecDeque.{deque_capacity, deque_len};
+ghost use Rattle.smp_bytes.specs.Judges.{Judges};
+ghost use Rattle.sm_manager.specs.declared.pending.Pending.{Pending};
+ghost use Rattle.sm_manager.specs.Packets.{JudgesCall, pending_for, step_answered, unless_spent};
+ghost use Rattle.sm_manager.specs.Plans.{JudgesAfter, number_fault, planned_fault, writing_fault};
+ghost use Rattle.sm_manager.specs.Writing.{count_after, is_written, passed, phases_by, step_over, write_fault, writing_begun};
+
+use crate::fault::ManagerFault;
+use crate::manager::Manager;
+use crate::outgoing::Outgoing;
+use crate::requests::Requests;
+use crate::writing::Writing;
+use smp_bytes::{Smp, Status};
+use std::alloc::AllocError;
+use std::collections::VecDeque;
+use sweep::Sweep;
+
+impl Manager {
+    /// Begins to write the plan of what is known: each end port's LID, each switch's forwarding blocks and their top, and
+    /// then the states of ports on wires, over the paths of the last sweep. A phase goes out as a whole, and the next one
+    /// once each of its steps was answered or timed out.
+    ///
+    /// # Errors
+    ///
+    /// `NotMaster`, `SweepRunning`, `WritingRunning`, `NoRoom`, `SequenceSpent` and `Memory`.
+    pub fn write_steps(&mut self) -> Result<(), ManagerFault>
+        ensures judged { JudgesAfter result (write_fault self.old) (writing_fault self.old) }
+        ensures ok { OnOk result (self.new ≡ writing_begun self.old) }
+        ensures err { OnErr result (self.new ≡ self.old) }
+    {
+        let mut writing = self.planned()?;
+        make_room(writing.next_count(), &mut self.requests, &mut self.outgoing)?;
+        writing.send_next(&mut self.requests, &mut self.outgoing);
+        self.writing = Some(writing);
+        Ok(())
+    }
+
+    /// Whether a writing was begun, and each step of it that sets a LID, a block or a top was answered, and as done.
+    pub fn written(&self) -> bool
+        ensures { result ≡ is_written self.now }
+    {
+        match &self.writing {
+            Some(writing) => writing.is_sent() && !self.requests.any_counts(),
+            None => false,
+        }
+    }
+
+    /// The writing of the plan of what is known, of which no step was sent.
+    fn planned(&self) -> Result<Writing, ManagerFault>
+        ensures judged { JudgesAfter result (write_fault self.now) (planned_fault self.now) }
+        ensures writing { IfOk result (λ w. w
+            ≡ record { later = passed (phases_by self.now self.now.sweep); has_failed = false }) }
+    {
+        let sweep = self.survey()?;
+        let plan = self.plan()?;
+        let phases = plan_steps::phases(
+            self.alloc,
+            &plan,
+            &self.store,
+            sweep,
+            self.port_guid,
+            self.port,
+        )?;
+        Ok(Writing::new(phases))
+    }
+
+    /// The last sweep, where it is done and no writing goes on.
+    fn survey(&self) -> Result<&Sweep, ManagerFault>
+        ensures judged { Judges result (write_fault self.now) }
+        ensures sweep { IfOk result (λ s. self.now.sweep ≡ Some s.now) }
+    {
+        let Some(sweep) = &self.sweep else {
+            return Err(ManagerFault::NotMaster);
+        };
+        if !self.has_swept {
+            return Err(ManagerFault::NotMaster);
+        }
+        if !sweep.is_done() {
+            return Err(ManagerFault::SweepRunning);
+        }
+        if !self.requests.is_empty() {
+            return Err(ManagerFault::WritingRunning);
+        }
+        Ok(sweep)
+    }
+
+    /// Takes an answer to a step.
+    pub(crate) fn take_answer(&mut self, smp: &Smp) -> Result<(), ManagerFault>
+        ensures judged { JudgesCall result (step_answered self.old smp.now (pending_for self.old smp.now)).fault }
+        ensures ok { OnOk result (self.new
+            ≡ (step_answered self.old smp.now (pending_for self.old smp.now)).manager) }
+        ensures err { OnErr result (self.new ≡ self.old) }
+    {
+        match self.requests.place_for(smp) {
+            Some(place) => self.end_step(place, smp.status() == Status::DONE),
+            None => Err(ManagerFault::Unasked),
+        }
+    }
+
+    /// A step waits no more, and the next phase goes out where it was the last of its own.
+    pub(crate) fn end_step(&mut self, place: usize, was_done: bool) -> Result<(), ManagerFault>
+        requires { place < length self.old.pending }
+        ensures judged { (p : Pending) → slice_get self.old.pending place ≡ Some p
+            → JudgesCall result (unless_spent self.old (step_over self.old p was_done)).fault }
+        ensures ok { (p : Pending) → slice_get self.old.pending place ≡ Some p
+            → OnOk result (self.new ≡ step_over self.old p was_done) }
+        ensures err { OnErr result (self.new ≡ self.old) }
+    {
+        make_room(self.count_after(), &mut self.requests, &mut self.outgoing)?;
+        let ended = self.requests.end(place);
+        if let Some(writing) = &mut self.writing {
+            writing.note(ended.counts, was_done);
+            if self.requests.is_empty() {
+                writing.send_next(&mut self.requests, &mut self.outgoing);
+            }
+        }
+        Ok(())
+    }
+
+    /// How many steps go out where one that waits ends.
+    fn count_after(&self) -> usize
+        ensures { result ≡ count_after self.now }
+    {
+        if self.requests.len() > 1 {
+            return 0;
+        }
+        match &self.writing {
+            Some(writing) => writing.next_count(),
+            None => 0,
+        }
+    }
+}
+
+/// Numbers and memory for so many steps more.
+fn make_room(
+    count: usize,
+    requests: &mut Requests,
+    outgoing: &mut VecDeque<Outgoing>,
+) -> Result<(), ManagerFault>
+    ensures judged { JudgesAfter result (number_fault (requests.old.counter + count))
+        (number_fault (requests.old.counter + count)) }
+    ensures counter { requests.new.counter ≡ requests.old.counter }
+    ensures pending { requests.new.pending ≡ requests.old.pending }
+    ensures outgoing { outgoing.new.items ≡ outgoing.old.items }
+    ensures room { OnOk result (count ≤ requests.new.room) }
+    ensures more { OnOk result (deque_len outgoing.new + count ≤ deque_capacity outgoing.new) }
+{
+    if !requests.has_numbers(count) {
+        return Err(ManagerFault::SequenceSpent);
+    }
+    requests.reserve(count)?;
+    outgoing.reserve(count)?;
+    Ok(())
+}

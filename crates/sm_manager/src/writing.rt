@@ -1,0 +1,121 @@
+ghost use Rattle.std.specs.Prelude.{◌≡◌, ◌≤◌, ◌+◌, ◌^◌, ◌++◌, ◌||◌, ◌&&◌, false, not, drop, length};
+ghost use Rattle.std.specs.List.{list_any};
+ghost use Rattle.std.specs.VecDeque.{deque_capacity, deque_len};
+ghost use Rattle.sm_manager.specs.Writing.{next_pending, next_phase, numbered, passed, steps_out};
+
+use crate::outgoing::Outgoing;
+use crate::requests::Requests;
+use plan_steps::{Phase, Step};
+use std::collections::VecDeque;
+use std::marker::Model;
+
+/// A plan that is being written, or was.
+#[derive(Drop)]
+pub(crate) struct Writing {
+    /// The phases that have not been sent, in their order; the first of them has steps.
+    later: VecDeque<Phase>,
+    /// Whether a step that counts was not done.
+    has_failed: bool,
+}
+
+impl Model for Writing {
+    ghost use Rattle.sm_manager.specs.Manager.{Writing};
+
+    ghost Value = { Writing };
+
+    ghost view = { λ a. record { later = a.later.items; has_failed = a.has_failed } };
+}
+
+impl Writing {
+    /// No step of these phases was sent yet.
+    pub(crate) fn new(phases: VecDeque<Phase>) -> Self
+        ensures { result ≡ record { later = passed phases.items; has_failed = false } }
+    {
+        let mut later = phases;
+        pass(&mut later);
+        Writing {
+            later,
+            has_failed: false,
+        }
+    }
+
+    /// How many steps the phase that comes first has.
+    pub(crate) fn next_count(&self) -> usize
+        ensures { result ≡ length (next_phase self.now.later).steps }
+    {
+        match self.later.front() {
+            Some(phase) => phase.steps.len(),
+            None => 0,
+        }
+    }
+
+    /// A step was done, or was not.
+    pub(crate) fn note(&mut self, counts: bool, was_done: bool)
+        ensures later { self.new.later ≡ self.old.later }
+        ensures failed { self.new.has_failed ≡ self.old.has_failed || (counts && not was_done) }
+    {
+        self.has_failed = self.has_failed || (counts && !was_done);
+    }
+
+    /// The phase that comes first goes out. Takes no memory.
+    pub(crate) fn send_next(&mut self, requests: &mut Requests, outgoing: &mut VecDeque<Outgoing>)
+        requires numbers { requests.old.counter + length (next_phase self.old.later).steps ≤ 2 ^ 32 }
+        requires room { length (next_phase self.old.later).steps ≤ requests.old.room }
+        requires outgoing { deque_len outgoing.old + length (next_phase self.old.later).steps
+            ≤ deque_capacity outgoing.old }
+        ensures later { self.new.later ≡ passed (drop 1 self.old.later) }
+        ensures failed { self.new.has_failed ≡ self.old.has_failed }
+        ensures counter { requests.new.counter
+            ≡ requests.old.counter + length (next_phase self.old.later).steps }
+        ensures pending { requests.new.pending
+            ≡ requests.old.pending ++ next_pending requests.old.counter self.old.later }
+        ensures outgoing { outgoing.new.items
+            ≡ outgoing.old.items ++ steps_out (next_pending requests.old.counter self.old.later) }
+    {
+        if let Some(Phase { counts, steps }) = self.later.pop_front() {
+            send_steps(counts, steps, requests, outgoing);
+            pass(&mut self.later);
+        }
+    }
+
+    /// Whether no step that counts failed or has not been sent.
+    pub(crate) fn is_sent(&self) -> bool
+        ensures { result ≡ not self.now.has_failed && not (list_any (λ p. p.counts) self.now.later) }
+    {
+        !self.has_failed && !self.later.iter().any(|phase| phase.counts)
+    }
+}
+
+/// Phases without steps that come first are passed over.
+fn pass(later: &mut VecDeque<Phase>)
+    ensures { later.new.items ≡ passed later.old.items }
+{
+    while let Some(phase) = later.front() {
+        if !phase.steps.is_empty() {
+            return;
+        }
+        later.pop_front();
+    }
+}
+
+/// The steps of a phase go out, and wait for their answers. Takes no memory.
+fn send_steps(
+    counts: bool,
+    steps: Vec<Step>,
+    requests: &mut Requests,
+    outgoing: &mut VecDeque<Outgoing>,
+)
+    requires numbers { requests.old.counter + length steps.items ≤ 2 ^ 32 }
+    requires room { length steps.items ≤ requests.old.room }
+    requires outgoing { deque_len outgoing.old + length steps.items ≤ deque_capacity outgoing.old }
+    ensures counter { requests.new.counter ≡ requests.old.counter + length steps.items }
+    ensures pending { requests.new.pending
+        ≡ requests.old.pending ++ numbered counts requests.old.counter steps.items }
+    ensures outgoing { outgoing.new.items
+        ≡ outgoing.old.items ++ steps_out (numbered counts requests.old.counter steps.items) }
+{
+    for step in steps {
+        let packet = requests.send(counts, step);
+        outgoing.push_back_reserved(Outgoing { packet, to: None });
+    }
+}
