@@ -1,18 +1,16 @@
 -- What a plan sets at end ports: their LIDs, and the LID of the manager.
 -- InfiniBand Architecture Specification, Volume 1: subnet management, PortInfo; addressing, unicast LIDs.
-use Rattle.std.specs.Prelude.{◌≡◌, ◌≤◌, ℕ, Bool, false, List, [], ◌∷◌, Contains, Option, None, Some, IsTrue, ◌==◌, ◌&&◌, option_map, option_and_then, unwrap_or, replicate}
+use Rattle.std.specs.Prelude.{ℕ, Bool, false, List, Option, ◌==◌, ◌&&◌, option_and_then, replicate}
 use Rattle.std.specs.Option.{option_map_or}
 use Rattle.std.specs.List.{filter_map, find}
-use Rattle.std.specs.FinMap.{entries}
 use Rattle.smp_bytes.specs.Field.{with_bits, with_number}
 use Rattle.smp_bytes.specs.Header.{port_info}
 use Rattle.attr_codec.specs.PortInfo.{base_lid, master_sm_lid, port_state, number_of_state}
 use Rattle.attr_codec.specs.declared.port_state.PortState.{PortState}
 use Rattle.attr_codec.specs.declared.port_state.PortState.TheVariants.{NoChange}
-use Rattle.fact_store.specs.View.{Facts}
 use Rattle.subnet_view.specs.declared.end_port.EndPort.{EndPort}
 use Rattle.subnet_view.specs.Reading.{Cells, port_guid_of}
-use Rattle.lid_assign.specs.Lids.{owner_of, rising_lids, lids}
+use Rattle.lid_assign.specs.Lids.{owner_of, rising_lids}
 use Rattle.sweep.specs.Sweep.{Sweep}
 use Rattle.plan_steps.specs.declared.step.Step.{Step}
 use Rattle.plan_steps.specs.Step.{step_at}
