@@ -48,8 +48,10 @@ fn across(near: (u64, u8)) -> Option<(u64, u8)> {
 /// The node that a request from H1 comes to, and the port by which it comes.
 fn place_of(smp: &Smp) -> Option<(u64, u8)> {
     let mut at = (H1, 1);
-    for i in 1..usize::from(smp.hop_count()) + 1 {
-        at = across((at.0, smp.initial_path(i).number()))?;
+    for i in 1..64 {
+        if i <= usize::from(smp.hop_count()) {
+            at = across((at.0, smp.initial_path(i).number()))?;
+        }
     }
     Some(at)
 }
@@ -64,7 +66,11 @@ fn node_info(at: (u64, u8)) -> [u8; 64] {
     });
     info.num_ports = if is_switch { 4 } else { 1 };
     info.node_guid = Guid::new(at.0);
-    info.port_guid = Guid::new(if is_switch { at.0 } else { at.0 + 1 });
+    info.port_guid = Guid::new(if is_switch {
+        at.0
+    } else {
+        at.0.wrapping_add(1)
+    });
     info.local_port_num = PortNum::new(at.1);
     info.encode()
 }
