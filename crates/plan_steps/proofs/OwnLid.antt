@@ -19,7 +19,8 @@ use Rattle.plan_steps.specs.Lids.{is_own_port, own_lid, IsOwnPort, IsOwnLidOr0, 
 -- the order of end ports of one GUID and number ----------------------------------------------
 
 by_node : (x y a b c d : Bool) → x ≡ false → c ≡ false
-    → is_lt (ordering_then (cond x Less (cond y Equal Greater)) (ordering_then (cond a Less (cond b Equal Greater)) (ordering_then (cond c Less (cond d Equal Greater)) Equal))) ≡ true → a ≡ true
+    → is_lt (ordering_then (cond x Less (cond y Equal Greater))
+    (ordering_then (cond a Less (cond b Equal Greater)) (ordering_then (cond c Less (cond d Equal Greater)) Equal))) ≡ true → a ≡ true
 by_node true y a b c d p q e = absurd (cc)
 by_node false false a b c d p q e = absurd (cc)
 by_node false true true b c d p q e = refl
@@ -72,7 +73,8 @@ module _ (cells : Cells) (port_guid port : ℕ) where
         | inr k ↦ contains_later x.0 e (map (λ z. z.0) given) (contains_port given e n k)
       ]
 
-  own_lid_is : (given : List (EndPort × ℕ)) → AllPairs (ComesBefore cells) (map (λ x. x.0) given) → IsOwnLidOr0 cells given port_guid port (own_lid cells given port_guid port)
+  own_lid_is : (given : List (EndPort × ℕ)) → AllPairs (ComesBefore cells) (map (λ x. x.0) given)
+      → IsOwnLidOr0 cells given port_guid port (own_lid cells given port_guid port)
   own_lid_is [] pairs = inr (λ e n h own. contains_none (e, n) h, refl)
   own_lid_is (x ∷ given) pairs =
       elim (is_own_port cells port_guid port x.0) as (λ t. is_own_port cells port_guid port x.0 ≡ t
@@ -104,7 +106,10 @@ module _ (cells : Cells) (port_guid port : ℕ) where
                   | inr k ↦ r.first e n k there
                 ]);
               })
-              | inr r ↦ inr (λ e n h there. (elim (contains_cases x (e, n) given h) [ inl i ↦ other e n i there | inr k ↦ r.0 e n k there ]), r.1)
+              | inr r ↦ inr (
+                λ e n h there. (elim (contains_cases x (e, n) given h) [ inl i ↦ other e n i there | inr k ↦ r.0 e n k there ]),
+                r.1,
+              )
             ])
       ] refl
 

@@ -11,7 +11,8 @@ map_same [] = refl
 map_same (n ∷ ns) = ap (λ ms. n ∷ ms) (map_same ns)
 
 range_more : (n : ℕ) → range_with_len 0 (n + 1) ≡ range_with_len 0 n ++ n ∷ []
-range_more n = sym (map_same (range_with_len 0 (n + 1))) ∙ map-range_with_len_more (λ k. k) 0 n n (omega arith) ∙ ap (λ ns. ns ++ n ∷ []) (map_same (range_with_len 0 n))
+range_more n =
+    sym (map_same (range_with_len 0 (n + 1))) ∙ map-range_with_len_more (λ k. k) 0 n n (omega arith) ∙ ap (λ ns. ns ++ n ∷ []) (map_same (range_with_len 0 n))
 
 module _ {X : Type 0} (h : ℕ → Option X) (n : ℕ) (before found : List X) (so_far : found ≡ before ++ filter_map h (range_with_len 0 n)) where
   given_more : (o : Option X) → h n ≡ o → found ++ cons_option o [] ≡ before ++ filter_map h (range_with_len 0 (n + 1))

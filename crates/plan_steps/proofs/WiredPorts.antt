@@ -25,7 +25,8 @@ use Rattle.plan_steps.specs.States.{wired_port, wired_ports, WiredPortsLaw}
 
 -- each comes from its own key -------------------------------------------------------------
 
-wired_is : (cells : Cells) (k : Key) (c : Cell Value) (at : ℕ × ℕ) → wired_port cells (k, c) ≡ Some at → (k ≡ Link at.0 at.1) × (is_some (across cells at.0 at.1) ≡ true)
+wired_is : (cells : Cells) (k : Key) (c : Cell Value) (at : ℕ × ℕ) → wired_port cells (k, c) ≡ Some at
+    → (k ≡ Link at.0 at.1) × (is_some (across cells at.0 at.1) ≡ true)
 wired_is cells (Link g p) c at e =
     let k = cond_some (is_some (across cells g p)) (g, p) at e in
     (ap (λ (x : ℕ × ℕ). Link x.0 x.1) k.1, ap (λ (x : ℕ × ℕ). is_some (across cells x.0 x.1)) (sym k.1) ∙ k.0)
@@ -48,7 +49,8 @@ wired_is_listed cells g p h =
 
 -- in the order of the keys ------------------------------------------------------------------
 
-by_parts : (a b c d : Bool) → is_lt (ordering_then (cond a Less (cond b Equal Greater)) (ordering_then (cond c Less (cond d Equal Greater)) Equal)) ≡ true → (a || (b && c)) ≡ true
+by_parts : (a b c d : Bool)
+    → is_lt (ordering_then (cond a Less (cond b Equal Greater)) (ordering_then (cond c Less (cond d Equal Greater)) Equal)) ≡ true → (a || (b && c)) ≡ true
 by_parts true b c d e = refl
 by_parts false true true d e = refl
 by_parts false true false true e = absurd (cc)
@@ -75,7 +77,8 @@ rise_with_keys cells (e ∷ es) s =
     let i = rise_with_keys cells es a.1 in
     elim (wired_port cells e) as (λ o. wired_port cells e ≡ o → AllPairs (λ a b. is_before a b ≡ true) (cons_option o (filter_map (wired_port cells) es))) [
       | None ↦ λ q. i
-      | Some at ↦ λ q. AllPairs-cons (λ a b. is_before a b ≡ true) at (filter_map (wired_port cells) es) (all_from (λ b. is_before at b ≡ true) (filter_map (wired_port cells) es) (λ b k.
+      | Some at ↦ λ q. AllPairs-cons (λ a b. is_before a b ≡ true) at (filter_map (wired_port cells) es)
+          (all_from (λ b. is_before at b ≡ true) (filter_map (wired_port cells) es) (λ b k.
           let x = taken_from (wired_port cells) es b k in
           let here : e.0 ≡ Link at.0 at.1 = (wired_is cells e.0 e.1 at q).0 in
           let there : x.0.0 ≡ Link b.0 b.1 = (wired_is cells x.0.0 x.0.1 b x.2).0 in

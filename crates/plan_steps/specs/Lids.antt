@@ -65,4 +65,6 @@ IsOwnLidOr0 cells given port_guid port lid = IsOwnLid cells given port_guid port
 
 -- where there is room, the LID of the manager is so
 abbrev pub OwnLidLaw : Type 0
-OwnLidLaw = (facts : Facts) → ¬ (IsNoRoom (entries facts)) → (port_guid port : ℕ) → IsOwnLidOr0 (entries facts) (lids (entries facts)) port_guid port (own_lid (entries facts) (lids (entries facts)) port_guid port)
+OwnLidLaw =
+    (facts : Facts) → ¬ (IsNoRoom (entries facts)) → (port_guid port : ℕ)
+    → IsOwnLidOr0 (entries facts) (lids (entries facts)) port_guid port (own_lid (entries facts) (lids (entries facts)) port_guid port)

@@ -3,7 +3,8 @@ ghost use Rattle.std.specs.List.{filter_map};
 ghost use Rattle.std.specs.Option.{option_map_or};
 ghost use Rattle.std.specs.FinMap.{entries};
 ghost use Rattle.sweep.specs.Sweep.{seen_state};
-ghost use Rattle.plan_steps.specs.States.{is_due, state_data, state_step, vertex_port, wired_port, wired_ports};
+ghost use Rattle.plan_steps.specs.States.{is_due, state_data, state_step, vertex_port};
+ghost use Rattle.plan_steps.specs.States.{wired_port, wired_ports};
 
 use crate::lids::port_data;
 use crate::step::{Step, step_at};
@@ -46,6 +47,7 @@ fn wired_port(store: &Store, sighting: &Sighting) -> Option<(Guid, PortNum)>
 
 /// The state for each of these ports that was reached and is still to come to it, in their order.
 /// Takes some five searches for each.
+#[tactic(auto, using(crate::proofs::Walked::walked_some, crate::proofs::Walked::walked_none))]
 pub(crate) fn state_steps(
     alloc: Global,
     store: &Store,
