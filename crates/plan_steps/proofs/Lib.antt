@@ -1,0 +1,4 @@
+pub mod Ranges
+pub mod Walked
+pub mod WiredPorts
+pub mod OwnLid

@@ -1,6 +1,6 @@
 -- What a plan sets at end ports: their LIDs, and the LID of the manager.
 -- InfiniBand Architecture Specification, Volume 1: subnet management, PortInfo; addressing, unicast LIDs.
-use Rattle.std.specs.Prelude.{◌≡◌, ◌≤◌, ℕ, Bool, false, List, [], ◌∷◌, Contains, Option, None, Some, IsTrue, ◌==◌, ◌&&◌, option_map, option_and_then, unwrap_or, replicate}
+use Rattle.std.specs.Prelude.{◌≡◌, ◌≤◌, ◌⊎◌, ℕ, Bool, false, List, Contains, Option, Some, ◌==◌, ◌&&◌, option_and_then, replicate}
 use Rattle.std.specs.Option.{option_map_or}
 use Rattle.std.specs.List.{filter_map, find}
 use Rattle.std.specs.FinMap.{entries}
@@ -12,7 +12,7 @@ use Rattle.attr_codec.specs.declared.port_state.PortState.TheVariants.{NoChange}
 use Rattle.fact_store.specs.View.{Facts}
 use Rattle.subnet_view.specs.declared.end_port.EndPort.{EndPort}
 use Rattle.subnet_view.specs.Reading.{Cells, port_guid_of}
-use Rattle.lid_assign.specs.Lids.{owner_of, rising_lids, lids}
+use Rattle.lid_assign.specs.Lids.{owner_of, rising_lids, lids, IsNoRoom}
 use Rattle.sweep.specs.Sweep.{Sweep}
 use Rattle.plan_steps.specs.declared.step.Step.{Step}
 use Rattle.plan_steps.specs.Step.{step_at}
@@ -41,3 +41,30 @@ owner_step sweep master given lid = option_and_then (lid_step sweep master lid) 
 -- each end port that was reached gets its LID, by rising LIDs
 abbrev pub lid_steps : Sweep → ℕ → List (EndPort × ℕ) → List Step
 lid_steps sweep master given = filter_map (owner_step sweep master given) (rising_lids given)
+
+-- the law of the manager's LID, in words: ----------------------------------------------------
+
+-- an end port of the manager's: of this number, and known to have this GUID
+abbrev pub IsOwnPort : Cells → ℕ → ℕ → EndPort → Type 0
+IsOwnPort cells port_guid port e = (e.port ≡ port) × (port_guid_of cells e.node e.port ≡ Some port_guid)
+
+-- the LID of such an end port, at the node of the least GUID
+pub record IsOwnLid (cells : Cells) (given : List (EndPort × ℕ)) (port_guid port lid : ℕ) : Type 0 where
+  pub end : EndPort
+  pub held : Contains given (end, lid)
+  pub own : IsOwnPort cells port_guid port end
+  pub first : (e : EndPort) (n : ℕ) → Contains given (e, n) → IsOwnPort cells port_guid port e → end.node ≤ e.node
+
+-- there is no such end port
+abbrev pub HasNoOwnPort : Cells → List (EndPort × ℕ) → ℕ → ℕ → Type 0
+HasNoOwnPort cells given port_guid port = (e : EndPort) (n : ℕ) → Contains given (e, n) → IsOwnPort cells port_guid port e → ⊥
+
+-- it is the one, or there is none and it is 0
+abbrev pub IsOwnLidOr0 : Cells → List (EndPort × ℕ) → ℕ → ℕ → ℕ → Type 0
+IsOwnLidOr0 cells given port_guid port lid = IsOwnLid cells given port_guid port lid ⊎ (HasNoOwnPort cells given port_guid port × (lid ≡ 0))
+
+-- where there is room, the LID of the manager is so
+abbrev pub OwnLidLaw : Type 0
+OwnLidLaw =
+    (facts : Facts) → ¬ (IsNoRoom (entries facts)) → (port_guid port : ℕ)
+    → IsOwnLidOr0 (entries facts) (lids (entries facts)) port_guid port (own_lid (entries facts) (lids (entries facts)) port_guid port)

@@ -65,5 +65,8 @@ abbrev pub HasWiredPorts : Cells → List (ℕ × ℕ) → Type 0
 HasWiredPorts cells ports = (g p : ℕ) → Contains ports (g, p) ↔ IsSome (across cells g p)
 
 -- the ports on wires, each once, by node GUID and port
+abbrev pub AreWiredPorts : Cells → List (ℕ × ℕ) → Type 0
+AreWiredPorts cells ports = HasWiredPorts cells ports × AllPairs (λ a b. is_before a b ≡ true) ports
+
 abbrev pub WiredPortsLaw : Type 0
-WiredPortsLaw = (facts : Facts) → HasWiredPorts (entries facts) (wired_ports (entries facts)) × AllPairs (λ a b. is_before a b ≡ true) (wired_ports (entries facts))
+WiredPortsLaw = (facts : Facts) → AreWiredPorts (entries facts) (wired_ports (entries facts))

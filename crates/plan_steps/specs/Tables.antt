@@ -1,6 +1,6 @@
 -- What a plan sets at switches: the blocks of their forwarding tables, and the greatest LID.
 -- InfiniBand Architecture Specification, Volume 1: subnet management, LinearForwardingTable, SwitchInfo.
-use Rattle.std.specs.Prelude.{ℕ, List, [], ◌∷◌, Option, option_and_then, replicate}
+use Rattle.std.specs.Prelude.{ℕ, List, [], Option, option_and_then, replicate}
 use Rattle.std.specs.Option.{option_map_or}
 use Rattle.std.specs.List.{filter_map, flat_map, range_with_len}
 use Rattle.smp_bytes.specs.Header.{linear_forwarding_table, switch_info}

@@ -1,6 +1,7 @@
 //! The steps by which a plan is written to the agents of a subnet, in phases.
 #![tactic(auto)]
 
+pub mod laws;
 mod lids;
 mod phase;
 mod states;

@@ -1,6 +1,7 @@
 ghost use Rattle.std.specs.Prelude.{◌≡◌, IfOk};
 ghost use Rattle.std.specs.FinMap.{entries};
-ghost use Rattle.plan_steps.specs.Lids.{is_own_port, lid_step, lid_steps, owner_step, own_lid, port_data};
+ghost use Rattle.plan_steps.specs.Lids.{is_own_port, own_lid, port_data};
+ghost use Rattle.plan_steps.specs.Lids.{lid_step, lid_steps, owner_step};
 
 use crate::step::{Step, step_at};
 use attr_codec::{Attribute, PortInfo, PortState};

@@ -62,15 +62,32 @@ fn phases_by(
         ≡ phases_by plan.now (entries store.now) sweep.now master) }
 {
     let lids = plan.lids();
-    let ports = wired_ports(alloc, store)?;
-    let first = lid_steps(alloc, sweep, master, lids)?;
-    let blocks = block_steps(alloc, sweep, plan)?;
-    let tops = top_steps(alloc, sweep, plan)?;
-    let armed = state_steps(alloc, store, sweep, lids, master, &ports, PortState::Armed)?;
-    let active = state_steps(alloc, store, sweep, lids, master, &ports, PortState::Active)?;
     let mut phases = VecDeque::with_capacity(alloc, 5)?;
-    for (counts, steps) in [(true, first), (true, blocks), (true, tops), (false, armed), (false, active)] {
-        phases.push_back(Phase { counts, steps })?;
-    }
+    let steps = lid_steps(alloc, sweep, master, lids)?;
+    phases.push_back(Phase {
+        counts: true,
+        steps,
+    })?;
+    let steps = block_steps(alloc, sweep, plan)?;
+    phases.push_back(Phase {
+        counts: true,
+        steps,
+    })?;
+    let steps = top_steps(alloc, sweep, plan)?;
+    phases.push_back(Phase {
+        counts: true,
+        steps,
+    })?;
+    let ports = wired_ports(alloc, store)?;
+    let steps = state_steps(alloc, store, sweep, lids, master, &ports, PortState::Armed)?;
+    phases.push_back(Phase {
+        counts: false,
+        steps,
+    })?;
+    let steps = state_steps(alloc, store, sweep, lids, master, &ports, PortState::Active)?;
+    phases.push_back(Phase {
+        counts: false,
+        steps,
+    })?;
     Ok(phases)
 }

@@ -3,7 +3,8 @@ ghost use Rattle.std.specs.List.{filter_map};
 ghost use Rattle.std.specs.Option.{option_map_or};
 ghost use Rattle.std.specs.FinMap.{entries};
 ghost use Rattle.sweep.specs.Sweep.{seen_state};
-ghost use Rattle.plan_steps.specs.States.{is_due, state_data, state_step, vertex_port, wired_port, wired_ports};
+ghost use Rattle.plan_steps.specs.States.{is_due, state_data, state_step, vertex_port};
+ghost use Rattle.plan_steps.specs.States.{wired_port, wired_ports};
 
 use crate::lids::port_data;
 use crate::step::{Step, step_at};
@@ -16,10 +17,7 @@ use subnet_view::{EndPort, is_usable, wire};
 use sweep::Sweep;
 
 /// The ports on wires, both ends of each, by node GUID and port. Walks the cells.
-pub(crate) fn wired_ports(
-    alloc: Global,
-    store: &Store,
-) -> Result<Vec<(Guid, PortNum)>, AllocError>
+pub(crate) fn wired_ports(alloc: Global, store: &Store) -> Result<Vec<(Guid, PortNum)>, AllocError>
     ensures { IfOk result (λ ports. ports.items ≡ wired_ports (entries store.now)) }
 {
     let mut ports = Vec::new(alloc);
@@ -49,6 +47,7 @@ fn wired_port(store: &Store, sighting: &Sighting) -> Option<(Guid, PortNum)>
 
 /// The state for each of these ports that was reached and is still to come to it, in their order.
 /// Takes some five searches for each.
+#[tactic(auto, using(crate::proofs::Walked::walked_some, crate::proofs::Walked::walked_none))]
 pub(crate) fn state_steps(
     alloc: Global,
     store: &Store,
@@ -63,7 +62,7 @@ pub(crate) fn state_steps(
 {
     let mut steps = Vec::new(alloc);
     for at in ports {
-        if let Some(step) = state_step(store, sweep, lids, master, state, *at) {
+        if let Some(step) = state_step(store, sweep, lids, master, state, at.0, at.1) {
             steps.push(step)?;
         }
     }
@@ -77,28 +76,29 @@ fn state_step(
     lids: &LidMap,
     master: Lid,
     state: PortState,
-    at: (Guid, PortNum),
+    guid: Guid,
+    port: PortNum,
 ) -> Option<Step>
-    ensures { result ≡ state_step (entries store.now) sweep.now lids.now master state at }
+    ensures { result ≡ state_step (entries store.now) sweep.now lids.now master state (guid, port) }
 {
-    if !is_still_due(sweep, state, at) {
+    if !is_still_due(sweep, state, guid, port) {
         return None;
     }
     step_at(
         sweep,
-        at.0,
-        vertex_port(store, at),
+        guid,
+        vertex_port(store, guid, port),
         AttributeId::PORT_INFO,
-        u32::from(at.1.number()),
-        state_data(lids, master, state, at),
+        u32::from(port.number()),
+        state_data(lids, master, state, guid, port),
     )
 }
 
 /// Whether the sweep saw a port in a state from which it is still to come to this one.
-fn is_still_due(sweep: &Sweep, state: PortState, at: (Guid, PortNum)) -> bool
-    ensures { result ≡ option_map_or (is_due state) (seen_state sweep.now at.0 at.1) false }
+fn is_still_due(sweep: &Sweep, state: PortState, guid: Guid, port: PortNum) -> bool
+    ensures { result ≡ option_map_or (is_due state) (seen_state sweep.now guid port) false }
 {
-    match sweep.seen_state(at.0, at.1) {
+    match sweep.seen_state(guid, port) {
         Some(seen) => is_due(state, seen),
         None => false,
     }
@@ -116,25 +116,21 @@ fn is_due(state: PortState, seen: PortState) -> bool
 }
 
 /// The vertex of a port on a wire: its switch by port 0, or the adapter's port itself.
-fn vertex_port(store: &Store, at: (Guid, PortNum)) -> PortNum
-    ensures { result ≡ vertex_port (entries store.now) at }
+fn vertex_port(store: &Store, guid: Guid, port: PortNum) -> PortNum
+    ensures { result ≡ vertex_port (entries store.now) (guid, port) }
 {
-    if is_usable(store, at.0) {
+    if is_usable(store, guid) {
         PortNum::new(0)
     } else {
-        at.1
+        port
     }
 }
 
 /// An end port's LIDs go with its state; a switch's other ports have none.
-fn state_data(lids: &LidMap, master: Lid, state: PortState, at: (Guid, PortNum)) -> [u8; 64]
-    ensures { result ≡ state_data lids.now master state at }
+fn state_data(lids: &LidMap, master: Lid, state: PortState, guid: Guid, port: PortNum) -> [u8; 64]
+    ensures { result ≡ state_data lids.now master state (guid, port) }
 {
-    let end = EndPort {
-        node: at.0,
-        port: at.1,
-    };
-    match lids.lid_of(end) {
+    match lids.lid_of(EndPort { node: guid, port }) {
         Some(lid) => port_data(lid, master, state),
         None => port_data(Lid::new(0), Lid::new(0), state),
     }

@@ -1,5 +1,6 @@
 ghost use Rattle.std.specs.Prelude.{◌≡◌, ◌++◌, ◌<◌, IfOk, OnOk};
-ghost use Rattle.plan_steps.specs.Tables.{block_step, block_steps, switch_steps, top_data, top_step, top_steps};
+ghost use Rattle.plan_steps.specs.Tables.{block_step, block_steps, switch_steps};
+ghost use Rattle.plan_steps.specs.Tables.{top_data, top_step, top_steps};
 ghost use Rattle.std.specs.List.{filter_map};
 ghost use Rattle.lft_blocks.specs.Plan.{switches_of};
 
@@ -26,6 +27,7 @@ pub(crate) fn block_steps(
 }
 
 /// Adds the blocks of a switch.
+#[tactic(auto, using(crate::proofs::Ranges::given_some, crate::proofs::Ranges::given_none))]
 fn add_switch_steps(
     steps: &mut Vec<Step>,
     sweep: &Sweep,
@@ -61,11 +63,7 @@ fn block_step(sweep: &Sweep, plan: &Plan, guid: Guid, b: usize) -> Option<Step>
 
 /// The greatest LID, where there is one, for each switch that was reached, by rising GUID. Takes a
 /// search for each.
-pub(crate) fn top_steps(
-    alloc: Global,
-    sweep: &Sweep,
-    plan: &Plan,
-) -> Result<Vec<Step>, AllocError>
+pub(crate) fn top_steps(alloc: Global, sweep: &Sweep, plan: &Plan) -> Result<Vec<Step>, AllocError>
     ensures { IfOk result (λ steps. steps.items ≡ top_steps sweep.now plan.now) }
 {
     match plan.top() {
