@@ -1,5 +1,6 @@
 pub mod Lives
 pub mod Numbers
+pub mod Over
 pub mod Newest
 pub mod Replies
 pub mod Sending

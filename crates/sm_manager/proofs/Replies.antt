@@ -10,14 +10,6 @@ use Rattle.sm_manager.specs.declared.fault.ManagerFault.{ManagerFault}
 use Rattle.sm_manager.specs.Manager.{Manager}
 use Rattle.sm_manager.specs.Packets.{answered_by, sweep_answered, step_answered, pending_for, packet_taken, took, is_for_sweep, JudgesCall, IsFaultWithoutRoom}
 
--- the sweep judges it
-pub by_sweep : (m : Manager) (packet : List ℕ) (s : Sweep) → fault_of packet ≡ None → is_for_sweep packet ≡ true → m.sweep ≡ Some s
-    → took m packet ≡ answered_by m s packet (judged s packet)
-by_sweep m packet s parses sweeps there =
-    ap (packet_taken m packet) parses
-    ∙ ap (λ b. cond b (sweep_answered m packet m.sweep) (step_answered m packet (pending_for m packet))) sweeps
-    ∙ ap (sweep_answered m packet) there
-
 pub without_room : (m : Manager) (packet : List ℕ) (s : Sweep) (r : Result Answer SweepFault) (given : ManagerFault) → IsFaultWithoutRoom r given
     → JudgesCall (Err given) (answered_by m s packet r).fault
 without_room m packet s (Ok answer) given is = subst (λ g. JudgesCall (Err g) None) (sym is) refl

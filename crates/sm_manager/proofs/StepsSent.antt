@@ -26,13 +26,13 @@ one_gone counts s rest now next out steps was before h pending counter room =
     let after : next.counter ≡ suc now.counter = counter ∙ omega arith in
     record {
       pending =
-        (λ i. pending i ++ numbered counts (after i) rest)
-        ∙ append_assoc now.pending (record { number = now.counter; counts = counts; step = s } ∷ []) (numbered counts (suc now.counter) rest)
-        ∙ h.pending;
+          (λ i. pending i ++ numbered counts (after i) rest)
+          ∙ append_assoc now.pending (record { number = now.counter; counts = counts; step = s } ∷ []) (numbered counts (suc now.counter) rest)
+          ∙ h.pending;
       outgoing =
-        ap (λ n. (out ++ record { packet = set_packet now.counter s; to = None } ∷ []) ++ steps_out (numbered counts n rest)) after
-        ∙ append_assoc out (record { packet = set_packet now.counter s; to = None } ∷ []) (steps_out (numbered counts (suc now.counter) rest))
-        ∙ h.outgoing;
+          ap (λ n. (out ++ record { packet = set_packet now.counter s; to = None } ∷ []) ++ steps_out (numbered counts n rest)) after
+          ∙ append_assoc out (record { packet = set_packet now.counter s; to = None } ∷ []) (steps_out (numbered counts (suc now.counter) rest))
+          ∙ h.outgoing;
       counter = let count = h.counter in omega (arith, count, after);
       bound = let bound = h.bound in omega (arith, bound, after);
       room = let most = h.room in omega (arith, most, room);

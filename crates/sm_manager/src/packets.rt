@@ -34,25 +34,25 @@ impl Manager {
             }
         };
         if is_for_sweep(&smp) {
-            self.take_reply(&smp)
+            self.take_reply(bytes)
         } else {
             self.take_answer(&smp)
         }
     }
 
     /// Takes a reply to the sweep.
-    fn take_reply(&mut self, smp: &Smp) -> Result<(), ManagerFault>
-        ensures judged { JudgesCall result (sweep_answered self.old smp.now self.old.sweep).fault }
-        ensures ok { OnOk result (self.new ≡ (sweep_answered self.old smp.now self.old.sweep).manager) }
+    fn take_reply(&mut self, bytes: &[u8; 256]) -> Result<(), ManagerFault>
+        ensures judged { JudgesCall result (sweep_answered self.old bytes.now self.old.sweep).fault }
+        ensures ok { OnOk result (self.new ≡ (sweep_answered self.old bytes.now self.old.sweep).manager) }
         ensures err { OnErr result (self.new ≡ self.old) }
     {
         let Some(sweep) = &mut self.sweep else {
             return Err(ManagerFault::Unasked);
         };
         if self.outgoing.reserve(MOST).is_err() {
-            return Err(fault_without_room(sweep, smp.bytes()));
+            return Err(fault_without_room(sweep, bytes));
         }
-        match sweep.on_reply_into(smp.bytes(), &mut self.store) {
+        match sweep.on_reply_into(bytes, &mut self.store) {
             Ok(_) => {
                 send_queued(sweep, &mut self.outgoing);
                 self.has_swept = self.has_swept || sweep.is_done();
@@ -85,7 +85,9 @@ impl Manager {
     /// A request of the sweep was not answered in time.
     fn end_request(&mut self, transaction: u64) -> Result<(), ManagerFault>
         ensures judged { JudgesCall result (sweep_gave_up self.old transaction self.old.sweep).fault }
-        ensures manager { self.new ≡ (sweep_gave_up self.old transaction self.old.sweep).manager }
+        ensures ok { OnOk result (self.new
+            ≡ (sweep_gave_up self.old transaction self.old.sweep).manager) }
+        ensures err { OnErr result (self.new ≡ self.old) }
     {
         let Some(sweep) = &mut self.sweep else {
             return Err(ManagerFault::Unasked);

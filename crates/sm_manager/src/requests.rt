@@ -2,7 +2,7 @@ ghost use Rattle.std.specs.Prelude.{◌≡◌, ◌+◌, ◌<◌, ◌≤◌, ◌^
 ghost use Rattle.std.specs.List.{list_any};
 ghost use Rattle.plan_steps.specs.Step.{set_packet};
 ghost use Rattle.sweep.specs.Order.{IsPlace};
-ghost use Rattle.sm_manager.specs.Requests.{AreRising, IsPlaceFor, with_number};
+ghost use Rattle.sm_manager.specs.Requests.{AreNumbered, AreRising, IsPlaceFor, with_number};
 ghost use Rattle.sm_manager.specs.Packets.{answers};
 ghost use Rattle.sm_manager.specs.Writing.{is_none_pending, without_number};
 
@@ -48,7 +48,8 @@ impl Requests {
 
     /// How many wait.
     pub(crate) fn len(&self) -> usize
-        ensures { result ≡ length self.now.pending }
+        ensures count { result ≡ length self.now.pending }
+        ensures numbered { AreNumbered self.now.counter self.now.pending }
     {
         self.pending.len()
     }
@@ -116,7 +117,8 @@ impl Requests {
         ensures place { IsPlace (λ p. nat_lt p.number transaction) self.now.pending result }
         ensures rising { AreRising 0 self.now.pending self.now.counter }
     {
-        self.pending.partition_point(|request| u64::from(request.number) < transaction)
+        self.pending
+            .partition_point(|request| u64::from(request.number) < transaction)
     }
 
     /// The place of the one under a TransactionID. Takes a search.
@@ -161,6 +163,5 @@ impl Requests {
 fn is_answer(smp: &Smp, request: &Pending) -> bool
     ensures { result ≡ answers smp.now request.now }
 {
-    smp.method() == Method::GET_RESP
-        && request.step.is_answered_by(u64::from(request.number), smp)
+    smp.method() == Method::GET_RESP && request.step.is_answered_by(u64::from(request.number), smp)
 }

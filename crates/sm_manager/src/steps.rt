@@ -4,6 +4,7 @@ ghost use Rattle.smp_bytes.specs.Judges.{Judges};
 ghost use Rattle.sm_manager.specs.declared.pending.Pending.{Pending};
 ghost use Rattle.sm_manager.specs.Packets.{JudgesCall, pending_for, step_answered, unless_spent};
 ghost use Rattle.sm_manager.specs.Plans.{JudgesAfter, number_fault, planned_fault, writing_fault};
+ghost use Rattle.sm_manager.specs.Requests.{AreNumbered};
 ghost use Rattle.sm_manager.specs.Writing.{count_after, is_written, passed, phases_by, step_over, write_fault, writing_begun};
 
 use crate::fault::ManagerFault;
@@ -104,7 +105,7 @@ impl Manager {
         ensures judged { (p : Pending) → slice_get self.old.pending place ≡ Some p
             → JudgesCall result (unless_spent self.old (step_over self.old p was_done)).fault }
         ensures ok { (p : Pending) → slice_get self.old.pending place ≡ Some p
-            → OnOk result (self.new ≡ step_over self.old p was_done) }
+            → OnOk result (self.new ≡ (unless_spent self.old (step_over self.old p was_done)).manager) }
         ensures err { OnErr result (self.new ≡ self.old) }
     {
         make_room(self.count_after(), &mut self.requests, &mut self.outgoing)?;
@@ -120,7 +121,8 @@ impl Manager {
 
     /// How many steps go out where one that waits ends.
     fn count_after(&self) -> usize
-        ensures { result ≡ count_after self.now }
+        ensures count { result ≡ count_after self.now }
+        ensures numbered { AreNumbered self.now.counter self.now.pending }
     {
         if self.requests.len() > 1 {
             return 0;

@@ -82,7 +82,14 @@ impl Writing {
     pub(crate) fn is_sent(&self) -> bool
         ensures { result ≡ not self.now.has_failed && not (list_any (λ p. p.counts) self.now.later) }
     {
-        !self.has_failed && !self.later.iter().any(|phase| phase.counts)
+        !self.has_failed && !self.any_counts()
+    }
+
+    /// Whether a phase that counts has not been sent.
+    fn any_counts(&self) -> bool
+        ensures { result ≡ list_any (λ p. p.counts) self.now.later }
+    {
+        self.later.iter().any(|phase| phase.counts)
     }
 }
 
