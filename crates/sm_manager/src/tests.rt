@@ -3,7 +3,7 @@ use super::*;
 use attr_codec::{Attribute, NodeInfo, NodeTypeNumber, PortInfo, PortState, Priority};
 use fact_join::Cell;
 use fact_store::{Key, ReportFault, Sighting, Store, Value};
-use smp_bytes::{AttributeId, Generation, Guid, NodeType, PortNum, Smp, SmpFault, Status};
+use smp_bytes::{AttributeId, Generation, Guid, Method, NodeType, PortNum, Smp, SmpFault, Status};
 use std::alloc::Global;
 use std::test::Fail;
 use sweep::SweepFault;
@@ -158,5 +158,81 @@ fn begins_after_what_it_merged(rt: HostRuntime) -> Result<(), Fail> {
         assert!(rt; generation == next && refused == next.is_none(), "{newest}");
         assert!(rt; manager.plan().is_ok(), "{newest}");
     }
+    Ok(())
+}
+
+/// A manager whose sweep is done.
+fn swept(alloc: Global) -> Result<Manager, Fail> {
+    let mut manager = manager(alloc)?;
+    manager.begin_sweep()?;
+    let one = answered(&mut manager).ok_or("nothing")?;
+    let two = answered(&mut manager).ok_or("nothing")?;
+    if one.1.is_some() || two.1.is_some() {
+        return Err(Fail::from("refused"));
+    }
+    Ok(manager)
+}
+
+/// What ends a step: an answer with a status, or a timeout.
+fn end(manager: &mut Manager, set: &Smp, status: Option<u16>) -> Option<ManagerFault> {
+    match status {
+        Some(status) => {
+            let answer = set.answer(Status(status), &[0; 64]);
+            manager.on_packet(answer.bytes()).err()
+        }
+        None => manager.on_timeout(set.transaction_id()).err(),
+    }
+}
+
+#[test]
+fn writes_what_it_plans(rt: HostRuntime) -> Result<(), Fail> {
+    let mut fresh = manager(rt.alloc())?;
+    assert!(rt; fresh.write_steps() == Err(ManagerFault::NotMaster) && !fresh.written());
+    fresh.begin_sweep()?;
+    assert!(rt; fresh.write_steps() == Err(ManagerFault::NotMaster));
+    let mut manager = swept(rt.alloc())?;
+    let ends = [(1, Some(0), true), (2, Some(0x1C), false), (3, None, false), (4, Some(0), true)];
+    for (number, status, is_written) in ends {
+        assert!(rt; manager.write_steps().is_ok() && !manager.written(), "{number}");
+        let set = manager.take_outgoing().ok_or("nothing")?.packet;
+        let waits = manager.outstanding(0) == Some(number) && manager.outstanding(1) == None;
+        assert!(rt; waits && set.transaction_id() == number, "{number}");
+        assert!(rt; manager.write_steps() == Err(ManagerFault::WritingRunning), "{number}");
+        assert!(rt;
+            end(&mut manager, &set, status).is_none() && manager.written() == is_written,
+            "{number}"
+        );
+        assert!(rt;
+            end(&mut manager, &set, status) == Some(ManagerFault::Unasked)
+                && manager.outstanding(0) == None,
+            "{number}"
+        );
+    }
+    manager.begin_sweep()?;
+    assert!(rt; manager.write_steps() == Err(ManagerFault::SweepRunning) && manager.written());
+    Ok(())
+}
+
+#[test]
+fn takes_answers_to_its_steps(rt: HostRuntime) -> Result<(), Fail> {
+    let mut manager = swept(rt.alloc())?;
+    manager.write_steps()?;
+    let set = manager.take_outgoing().ok_or("nothing")?.packet;
+    let lid = PortInfo::decode(&set.attribute_data()).base_lid().number();
+    let master = PortInfo::decode(&set.attribute_data()).master_sm_lid().number();
+    let is_port = set.method() == Method::SET && set.attribute_id() == AttributeId::PORT_INFO;
+    assert!(rt; is_port && set.attribute_modifier() == 1 && lid == 1 && master == 1);
+    let answer = answer(&set);
+    for (place, value) in [(3, 0x01), (3, 0x02), (15, 2), (17, 0x14), (23, 2), (7, 1)] {
+        let mut bytes = *answer.bytes();
+        if let Some(byte) = bytes.get_mut(place) {
+            *byte = value;
+        }
+        assert!(rt;
+            manager.on_packet(&bytes) == Err(ManagerFault::Unasked) && !manager.written(),
+            "{place}"
+        );
+    }
+    assert!(rt; manager.on_packet(answer.bytes()).is_ok() && manager.written());
     Ok(())
 }
