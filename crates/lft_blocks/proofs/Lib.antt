@@ -6,3 +6,9 @@ pub mod TableLookups
 pub mod HomeTables
 pub mod Enumerated
 pub mod BlockOwners
+pub mod HeldEntries
+pub mod OwnerPorts
+pub mod Courses
+pub mod Routed
+pub mod Reached
+pub mod WholeFabrics
