@@ -12,3 +12,6 @@ pub mod Courses
 pub mod Routed
 pub mod Reached
 pub mod WholeFabrics
+pub mod FabricCases
+pub mod Triangle
+pub mod TriangleArrives
