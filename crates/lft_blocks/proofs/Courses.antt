@@ -5,6 +5,7 @@ use Rattle.std.proofs.lemmas.Option.{same_Some}
 use Rattle.std.specs.Prelude.{Some, Contains, nat_lt, unwrap_or, slice_get}
 use Rattle.std.specs.Option.{option_map_or}
 use Rattle.smp_bytes.specs.declared.cable.NodePort.{NodePort}
+use Rattle.smp_bytes.specs.declared.course.Course.{Course}
 use Rattle.smp_bytes.specs.declared.course.Course.TheVariants.{Delivers, LeavesBy, Drops}
 use Rattle.smp_bytes.specs.NodeType.{is_switch as is_switch_type}
 use Rattle.smp_bytes.specs.Fabric.{Node, Fabric, is_switch_at}
@@ -63,6 +64,10 @@ way_passes graph [] downs s u t c d = descent_passes downs s t (subst (λ (x : �
     descent_passes (e ∷ es) s t d = ((downs_are graph graph s e d.0).0, descent_passes es e.to t d.1)
 way_passes graph (e ∷ es) downs s u t c d = ((ups_are graph graph s e c.0).0, way_passes graph es downs e.to u t c.1 d)
 
+-- what a switch does, by its own top and table
+abbrev switch_goes : Fabric → ℕ → Node → ℕ → Course
+switch_goes f lid node place = switch_course node.ports place (f.top place) lid (f.entry place lid)
+
 module _ (f : Fabric) (lid : ℕ) where
   -- over some wires, and then over others
   pub goes_on : (hops others : List Hop) (start middle end : Standing) → Goes f lid start hops middle → Goes f lid middle others end
@@ -71,17 +76,17 @@ module _ (f : Fabric) (lid : ℕ) where
   goes_on (h ∷ hops) others start middle end (leaves, wire, rest) k = (leaves, wire, goes_on hops others (arrived_at h.into) middle end rest k)
 
   at_node : (start : Standing) (node : Node) → slice_get f.nodes start.place.node ≡ Some node
-      → course f lid start ≡ cond (is_switch_type node.kind) (switch_course node.ports start.place.node (f.top start.place.node) lid (f.entry start.place.node lid)) (adapter_course (f.base_lid start.place) lid start)
+      → course f lid start ≡ cond (is_switch_type node.kind) (switch_goes f lid node start.place.node) (adapter_course (f.base_lid start.place) lid start)
   at_node start node at =
-      ap (λ o. option_map_or (λ (n : Node). cond (is_switch_type n.kind) (switch_course n.ports start.place.node (f.top start.place.node) lid (f.entry start.place.node lid)) (adapter_course (f.base_lid start.place) lid start)) o Drops)
-      at
+      ap (λ o. option_map_or
+      (λ (n : Node). cond (is_switch_type n.kind) (switch_goes f lid n start.place.node) (adapter_course (f.base_lid start.place) lid start)) o Drops) at
 
   -- an adapter port takes its own LID
   pub adapter_takes : (start : Standing) (node : Node) → slice_get f.nodes start.place.node ≡ Some node → is_switch_type node.kind ≡ false
       → f.base_lid start.place ≡ lid → course f lid start ≡ Delivers start.place
   adapter_takes start node at kind own =
       at_node start node at
-      ∙ ap (λ t. cond t (switch_course node.ports start.place.node (f.top start.place.node) lid (f.entry start.place.node lid)) (adapter_course (f.base_lid start.place) lid start)) kind
+      ∙ ap (λ t. cond t (switch_goes f lid node start.place.node) (adapter_course (f.base_lid start.place) lid start)) kind
       ∙ ap (λ t. cond t (Delivers start.place) (cond start.by_wire Drops (LeavesBy start.place))) (eq-eqb (f.base_lid start.place) lid own)
 
   -- and sends any other out
@@ -89,7 +94,7 @@ module _ (f : Fabric) (lid : ℕ) where
       → (f.base_lid p ≡ lid → ⊥) → course f lid (sent_from p) ≡ LeavesBy p
   adapter_sends p node at kind other =
       at_node (sent_from p) node at
-      ∙ ap (λ t. cond t (switch_course node.ports p.node (f.top p.node) lid (f.entry p.node lid)) (adapter_course (f.base_lid p) lid (sent_from p))) kind
+      ∙ ap (λ t. cond t (switch_goes f lid node p.node) (adapter_course (f.base_lid p) lid (sent_from p))) kind
       ∙ ap (λ t. cond t (Delivers p) (LeavesBy p)) (ne_eqb (f.base_lid p) lid other)
 
 module _ {cells : Cells} {f : Fabric} {origin : NodePort} {lid : ℕ} {owner : EndPort} (told : IsTold cells f origin)
@@ -98,7 +103,7 @@ module _ {cells : Cells} {f : Fabric} {origin : NodePort} {lid : ℕ} {owner : E
   by_entry : {place g : ℕ} (p : ℕ) (start : Standing) → SwitchIn f origin place g → start.place.node ≡ place → entry_of cells g lid ≡ p
       → (node : Node) × (slice_get f.nodes place ≡ Some node) × (course f lid start ≡ entry_course node.ports place p)
   by_entry {place = place} {g = g} p start s here entry =
-      let top = planned.held.tops (port_at place 0) s.node (switch_in_part s) s.is_switch in
+      let top = (planned.held (port_at place 0) s.node (switch_in_part s)).top s.is_switch in
       let low = owned_to_top (lids cells) owner lid (f.top place) planned.owned top in
       let from_one = owned_from_one cells planned.are_lids lid owner planned.owned in
       let usable : is_usable cells s.node.guid ≡ true = ap (is_usable cells) s.guid ∙ switch_usable told s in
@@ -111,8 +116,8 @@ module _ {cells : Cells} {f : Fabric} {origin : NodePort} {lid : ℕ} {owner : E
         s.node,
         s.at,
         at_node f lid start s.node (ap (slice_get f.nodes) here ∙ s.at)
-            ∙ ap (λ t. cond t (switch_course s.node.ports start.place.node (f.top start.place.node) lid (f.entry start.place.node lid)) (adapter_course (f.base_lid start.place) lid start)) s.is_switch
-            ∙ ap (λ x. switch_course s.node.ports x (f.top x) lid (f.entry x lid)) here
+            ∙ ap (λ t. cond t (switch_goes f lid s.node start.place.node) (adapter_course (f.base_lid start.place) lid start)) s.is_switch
+            ∙ ap (switch_goes f lid s.node) here
             ∙ ap (λ t. cond t Drops (entry_course s.node.ports place (f.entry place lid))) inside
             ∙ ap (entry_course s.node.ports place) its_entry,
       )

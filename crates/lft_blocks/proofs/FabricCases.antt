@@ -1,5 +1,6 @@
 -- What holds of a fabric that is written down: said of each node, each cable and each fact in turn.
-use Rattle.std.proofs.Common.{◌≡◌, ◌≤◌, ◌<◌, ◌+◌, ◌*◌, ℕ, zero, suc, List, [], ◌∷◌, ◌++◌, inl, inr, refl, sym, ap, ◌∙◌, subst, arith, true, false, cond, ◌==◌, ◌&&◌, map}
+use Rattle.std.proofs.Common.{◌≡◌, ◌≤◌, ◌<◌, ◌+◌, ◌*◌, ℕ, zero, suc, List, [], ◌∷◌, ◌++◌, inl, inr}
+use Rattle.std.proofs.Common.{refl, sym, ap, ◌∙◌, subst, arith, true, false, cond, ◌==◌, map}
 use Rattle.std.proofs.lemmas.Bool.{eqb-true, and_parts}
 use Rattle.std.proofs.lemmas.Option.{same_Some, some_pair_parts}
 use Rattle.std.specs.Prelude.{Option, None, Some, Contains, MatchBool, MatchOption, IsSome, is_some, slice_get}
@@ -210,17 +211,17 @@ blocks_held facts f place g same b block there i h =
     shift b i = omega arith
 
 -- the node at a place holds what the plan gives it
-pub record HoldsItsPart (cells : Cells) (f : Fabric) (k : ℕ) (n : Node) (p : ℕ) : Type 0 where
+pub record HasPlanned (cells : Cells) (f : Fabric) (k : ℕ) (n : Node) (p : ℕ) : Type 0 where
   pub lid : lid_of (lids cells) (record { node = n.guid; port = p }) ≡ Some (f.base_lid (port_at k p))
   pub top : is_switch n.kind ≡ true → top_of (lids cells) ≡ Some (f.top k)
   pub table : (l : ℕ) → entry_of cells n.guid l ≡ f.entry k l
 
 pub holding : (part : Part) (facts : Facts) (f : Fabric) → EachPlace (λ k n. HasOneEnd n) f.nodes
-    → EachPlace (λ k n. HoldsItsPart (entries facts) f k n (end_of n)) f.nodes → HoldsPlan part (plan_of (entries facts)) f
+    → EachPlace (λ k n. HasPlanned (entries facts) f k n (end_of n)) f.nodes → HoldsPlan part (plan_of (entries facts)) f
 holding part facts f one rows =
-    let row = end_cases part f one (HoldsItsPart (entries facts) f) rows in
-    record {
-      lids = λ port node here. (row port node here).lid;
-      tops = λ port node here kind. (row port node here).top kind;
-      blocks = λ port node here. blocks_held facts f port.node node.guid (row port node here).table;
+    let row = end_cases part f one (HasPlanned (entries facts) f) rows in
+    λ port node here. record {
+      lid = (row port node here).lid;
+      top = (row port node here).top;
+      blocks = blocks_held facts f port.node node.guid (row port node here).table;
     }

@@ -67,7 +67,7 @@ held_entry part cells f planned held port node here usable lid top top_is low =
     let b = lid / 64 in
     let count : block_count (top_of (lids cells)) ≡ suc (top / 64) = ap block_count top_is in
     let has : HasBlock cells s b = ((usable_law cells s).0 usable, omega (arith, count, low)) in
-    let stands = held.blocks port node here b (block_of cells s b) (planned s b has) (lid % 64) (omega arith) in
+    let stands = (held port node here).blocks b (block_of cells s b) (planned s b has) (lid % 64) (omega arith) in
     let its_entry : slice_get (block_of cells s b) (lid % 64) ≡ Some (entry_of cells s (64 * b + (0 + lid % 64))) =
     made_at (λ i. entry_of cells s (64 * b + i)) 0 64 (lid % 64) (omega arith) in
     ap (f.entry port.node) (parts lid)

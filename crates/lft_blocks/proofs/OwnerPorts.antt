@@ -60,7 +60,7 @@ module _ {cells : Cells} {f : Fabric} {origin : NodePort} {lid : ℕ} {owner : E
       record { node_there = it.named.node_there; end_port = it.end_port; in_part = it.in_part } in
       let held_lid : Some lid ≡ Some (f.base_lid it.port) =
       sym ((planned.inverse owner lid).0 planned.owned) ∙ ap (lid_of (lids cells)) (sym (name_is it.named.node it.port owner it.named.guid_is it.named.port_is))
-      ∙ planned.held.lids it.port it.named.node here in
+      ∙ (planned.held it.port it.named.node here).lid in
       record { port = it.port; named = it.named; is_end = it.end_port; joined = it.in_part; own_lid = same_Some (f.base_lid it.port) lid (sym held_lid) }
 
   -- an end port of the part that has the LID is the owner's
@@ -69,7 +69,7 @@ module _ {cells : Cells} {f : Fabric} {origin : NodePort} {lid : ℕ} {owner : E
   lid_is_owners target v node here own =
       let name : EndPort = record { node = node.guid; port = v.port } in
       let owned_by_v : owner_of (lids cells) lid ≡ Some name = (planned.inverse name lid).1
-      (planned.held.lids v node here ∙ ap (λ (n : ℕ). Some n) own) in
+      ((planned.held v node here).lid ∙ ap (λ (n : ℕ). Some n) own) in
       let same : name ≡ owner = same_Some name owner (sym owned_by_v ∙ planned.owned) in
       let guid : node.guid ≡ target.named.node.guid = ap (λ (e : EndPort). e.node) same ∙ sym target.named.guid_is in
       same_port v target.port (told.agrees.guids_distinct v target.port node target.named.node here (owner_in_part target) guid)

@@ -32,8 +32,10 @@ use Rattle.lft_blocks.specs.Plan.{plan_of}
 use Rattle.lft_blocks.specs.Arrival.{guid_at, is_between_switches, switch_hops, switches_met, IsRoutedWay, EveryPacketArrives}
 use Rattle.lft_blocks.proofs.HeldEntries.{entry_of, planned_block}
 use Rattle.lft_blocks.proofs.OwnerPorts.{IsPlanned, OwnerPort, owner_port, lid_is_owners, owner_home}
-use Rattle.lft_blocks.proofs.Courses.{WayTaken, guid_there, way_passes, way_taken, goes_on, adapter_takes, adapter_sends, switch_takes, switch_sends, entry_at_home}
-use Rattle.lft_blocks.proofs.Routed.{stops, arrival_ports, arrivals, adapter_hops, way_arrivals, way_switch_hops, way_adapter_hops, routed_by_way, routed_past_switches}
+use Rattle.lft_blocks.proofs.Courses.{WayTaken, guid_there, way_passes, way_taken, goes_on}
+use Rattle.lft_blocks.proofs.Courses.{adapter_takes, adapter_sends, switch_takes, switch_sends, entry_at_home}
+use Rattle.lft_blocks.proofs.Routed.{stops, arrival_ports, arrivals, adapter_hops, way_arrivals, way_switch_hops, way_adapter_hops}
+use Rattle.lft_blocks.proofs.Routed.{routed_by_way, routed_past_switches}
 
 -- from a source to the switch that it lies at: no wire, or the one of an adapter port
 pub record Started (f : Fabric) (lid : ℕ) (source h : NodePort) (a : ℕ) : Type 0 where
@@ -193,7 +195,8 @@ module _ {cells : Cells} {f : Fabric} {origin : NodePort} {lid : ℕ} {owner : E
         (
           arrived_at target.port,
           (adapter_sends f lid source node at (sym (type_at f source.node node at) ∙ s) other, e, refl),
-          adapter_takes f lid (arrived_at target.port) target.named.node target.named.node_there (sym (type_at f target.port.node target.named.node target.named.node_there) ∙ t) target.own_lid,
+          adapter_takes f lid (arrived_at target.port) target.named.node target.named.node_there
+              (sym (type_at f target.port.node target.named.node target.named.node_there) ∙ t) target.own_lid,
         ),
         routed_past_switches cells f source (hop ∷ [])
             (ap (λ x. map (guid_at f) (cond x (source ∷ arrived) arrived)) s ∙ ap (λ x. map (guid_at f) (cond x (target.port ∷ []) [])) t)

@@ -69,15 +69,18 @@ wire g p h q = record { guid = g; port = p; peer = h; via = q }
 
 abbrev pub wires : List NamedWire
 wires =
-    wire 16 1 32 1 ∷ wire 16 2 48 1 ∷ wire 32 1 16 1 ∷ wire 32 2 48 2 ∷ wire 32 3 256 1 ∷ wire 48 1 16 2 ∷ wire 48 2 32 2 ∷ wire 48 3 512 1 ∷ wire 256 1 32 3 ∷ wire 512 1 48 3 ∷ []
+    wire 16 1 32 1 ∷ wire 16 2 48 1 ∷ wire 32 1 16 1 ∷ wire 32 2 48 2 ∷ wire 32 3 256 1
+    ∷ wire 48 1 16 2 ∷ wire 48 2 32 2 ∷ wire 48 3 512 1 ∷ wire 256 1 32 3 ∷ wire 512 1 48 3 ∷ []
 
 abbrev pub nodes_told : Cells
 nodes_told =
-    told (key.Node 16) (Kind Switch 4) ∷ told (key.Node 32) (Kind Switch 4) ∷ told (key.Node 48) (Kind Switch 4) ∷ told (key.Node 256) (Kind ChannelAdapter 1) ∷ told (key.Node 512) (Kind ChannelAdapter 1) ∷ []
+    told (key.Node 16) (Kind Switch 4) ∷ told (key.Node 32) (Kind Switch 4) ∷ told (key.Node 48) (Kind Switch 4)
+    ∷ told (key.Node 256) (Kind ChannelAdapter 1) ∷ told (key.Node 512) (Kind ChannelAdapter 1) ∷ []
 
 abbrev pub ports_told : Cells
 ports_told =
-    told (key.PortGuid 16 0) (Guid 16) ∷ told (key.PortGuid 32 0) (Guid 32) ∷ told (key.PortGuid 48 0) (Guid 48) ∷ told (key.PortGuid 256 1) (Guid 257) ∷ told (key.PortGuid 512 1) (Guid 513) ∷ []
+    told (key.PortGuid 16 0) (Guid 16) ∷ told (key.PortGuid 32 0) (Guid 32) ∷ told (key.PortGuid 48 0) (Guid 48)
+    ∷ told (key.PortGuid 256 1) (Guid 257) ∷ told (key.PortGuid 512 1) (Guid 513) ∷ []
 
 abbrev pub link_told : NamedWire → Key × Cell Value
 link_told w = told (key.Link w.guid w.port) (Peer w.peer w.via)

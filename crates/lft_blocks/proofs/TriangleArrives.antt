@@ -24,8 +24,10 @@ use Rattle.lft_blocks.specs.Plan.{plan_of}
 use Rattle.lft_blocks.specs.Arrival.{Arrives, IsInForce}
 use Rattle.lft_blocks.proofs.HeldEntries.{entry_of, owned_to_top}
 use Rattle.lft_blocks.proofs.Reached.{every_packet_arrives}
-use Rattle.lft_blocks.proofs.FabricCases.{Each, EachPlace, each_append, each_all, each_map, HasOneEnd, place_at, cable_cases, Stands, TellsCable, agreement, HoldsItsPart, holding}
-use Rattle.lft_blocks.proofs.Triangle.{switch, adapter, cables, tables, triangle, NamedWire, wires, nodes_told, ports_told, link_told, up_told, caps_told, cells, facts, facts_have}
+use Rattle.lft_blocks.proofs.FabricCases.{Each, EachPlace, each_append, each_all, each_map}
+use Rattle.lft_blocks.proofs.FabricCases.{HasOneEnd, place_at, cable_cases, Stands, TellsCable, agreement, HasPlanned, holding}
+use Rattle.lft_blocks.proofs.Triangle.{switch, adapter, cables, tables, triangle}
+use Rattle.lft_blocks.proofs.Triangle.{NamedWire, wires, nodes_told, ports_told, link_told, up_told, caps_told, cells, facts, facts_have}
 
 one_end : EachPlace (λ k n. HasOneEnd n) triangle.nodes
 one_end = (λ e. absurd (cc), (λ e. absurd (cc), (λ e. absurd (cc), (λ e. refl, (λ e. refl, tt)))))
@@ -34,7 +36,12 @@ is_fabric : IsFabric triangle
 is_fabric =
     record {
       counts = place_at (λ k n. (1 ≤ n.ports) × (n.ports ≤ 254)) triangle.nodes
-          ((omega arith, omega arith), ((omega arith, omega arith), ((omega arith, omega arith), ((omega arith, omega arith), ((omega arith, omega arith), tt)))));
+          ((omega arith, omega arith),
+          ((omega arith, omega arith),
+          ((omega arith, omega arith),
+          ((omega arith, omega arith),
+          ((omega arith, omega arith),
+          tt)))));
       cabled = cable_cases (λ p q. IsCablePort triangle p) cables
           (((switch 16, refl, omega arith, omega arith), (switch 32, refl, omega arith, omega arith)),
           (((switch 16, refl, omega arith, omega arith), (switch 48, refl, omega arith, omega arith)),
@@ -92,8 +99,8 @@ to_second = (3, (port_at 1 0, from_first_to_32, inr refl, (port_at 2 0, from_32_
 port_named : (g p place : ℕ) (node : Node) → slice_get triangle.nodes place ≡ Some node → node.guid ≡ g → IsPortNamed triangle g p (port_at place p)
 port_named g p place node at e = record { node = node; node_there = at; guid_is = e; port_is = refl }
 
-end_stands : (g p place : ℕ) (node : Node) → slice_get triangle.nodes place ≡ Some node → node.guid ≡ g → IsEndPort triangle (port_at place p) → part (port_at place p)
-    → HasEndPort part triangle g p
+end_stands : (g p place : ℕ) (node : Node) → slice_get triangle.nodes place ≡ Some node → node.guid ≡ g → IsEndPort triangle (port_at place p)
+    → part (port_at place p) → HasEndPort part triangle g p
 end_stands g p place node at e end joined = record { port = port_at place p; named = port_named g p place node at e; end_port = end; in_part = joined }
 
 -- a wire of the part, from the place n to the place m
@@ -144,7 +151,8 @@ all_stand =
     each_append P nodes_told (ports_told ++ map link_told wires ++ map up_told wires ++ caps_told) (tt, (tt, (tt, (tt, (tt, tt)))))
     (each_append P ports_told (map link_told wires ++ map up_told wires ++ caps_told) (of_16, (of_32, (of_48, (of_first, (of_second, tt)))))
     (each_append P (map link_told wires) (map up_told wires ++ caps_told) (each_map P link_told wires wires_stand)
-    (each_append P (map up_told wires) caps_told (each_map P up_told wires (each_all (λ (w : NamedWire). Unit {0}) wires (λ w. tt))) (of_16, (of_32, (of_48, tt))))))
+    (each_append P (map up_told wires) caps_told (each_map P up_told wires (each_all (λ (w : NamedWire). Unit {0}) wires (λ w. tt)))
+    (of_16, (of_32, (of_48, tt))))))
 
 -- what is there the facts say -------------------------------------------------------------------
 
@@ -152,7 +160,8 @@ cable_told : (n p m q : ℕ) (a b : Node) → slice_get triangle.nodes n ≡ Som
     → across cells a.guid p ≡ Some (b.guid, q) → across cells b.guid q ≡ Some (a.guid, p)
     → TellsCable cells triangle (port_at n p) (port_at m q) × TellsCable cells triangle (port_at m q) (port_at n p)
 cable_told n p m q a b at_n at_m e f =
-    (record { one = a; other = b; one_there = at_n; other_there = at_m; told = e }, record { one = b; other = a; one_there = at_m; other_there = at_n; told = f })
+    (record { one = a; other = b; one_there = at_n; other_there = at_m; told = e },
+    record { one = b; other = a; one_there = at_m; other_there = at_n; told = f })
 
 cables_told : (p q : NodePort) → triangle.across p ≡ Some q → TellsCable cells triangle p q
 cables_told =
@@ -205,7 +214,7 @@ entries_are k g a b c d e f short (suc (suc (suc (suc (suc (suc n)))))) =
     entry_past g lid (omega arith) ∙ sym (get_or_past (slice_index_or tables k []) lid 255 (omega (arith, short)))
 
 -- each node's LID, top and table
-rows : EachPlace (λ k n. HoldsItsPart cells triangle k n (cond (is_switch n.kind) 0 1)) triangle.nodes
+rows : EachPlace (λ k n. HasPlanned cells triangle k n (cond (is_switch n.kind) 0 1)) triangle.nodes
 rows =
     (record { lid = refl; top = λ e. refl; table = entries_are 0 16 refl refl refl refl refl refl (omega arith) },
     (record { lid = refl; top = λ e. refl; table = entries_are 1 32 refl refl refl refl refl refl (omega arith) },
@@ -223,7 +232,7 @@ in_force =
       is_fabric = is_fabric;
       agrees = subst (λ (c : Cells). AgreesOn part c triangle) (sym facts_have) agrees;
       holds = holding part facts triangle one_end
-          (subst (λ (c : Cells). EachPlace (λ k n. HoldsItsPart c triangle k n (cond (is_switch n.kind) 0 1)) triangle.nodes) (sym facts_have) rows);
+          (subst (λ (c : Cells). EachPlace (λ k n. HasPlanned c triangle k n (cond (is_switch n.kind) 0 1)) triangle.nodes) (sym facts_have) rows);
     }
 
 -- the packet for LID 5 from the first adapter arrives at the second

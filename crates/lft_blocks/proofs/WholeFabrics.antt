@@ -44,12 +44,7 @@ module _ (f : Fabric) (origin : NodePort) (fab : IsFabric f) (connected : IsConn
       }
 
   holds_on_part : (plan : PlanValue) → HoldsPlan WholeFabric plan f → HoldsPlan (JoinedTo f origin) plan f
-  holds_on_part plan whole =
-      record {
-        lids = λ port node here. whole.lids port node (whole_end port node here);
-        tops = λ port node here kind. whole.tops port node (whole_end port node here) kind;
-        blocks = λ port node here b block e. whole.blocks port node (whole_end port node here) b block e;
-      }
+  holds_on_part plan whole port node here = whole port node (whole_end port node here)
 
   pub in_force_on_part : (cells : Cells) (plan : PlanValue) → IsInForce WholeFabric cells plan f → IsInForce (JoinedTo f origin) cells plan f
   in_force_on_part cells plan whole =

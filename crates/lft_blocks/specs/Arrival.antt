@@ -25,11 +25,15 @@ use Rattle.lft_blocks.specs.Plan.{PlanValue, plan_of, block_at}
 abbrev pub HoldsBlock : Fabric → ℕ → ℕ → List ℕ → Type 0
 HoldsBlock f place b block = (i : ℕ) → i < 64 → slice_get block i ≡ Some (f.entry place (64 * b + i))
 
--- each end port of the part has its LID, and each switch the plan's greatest LID as its top, and the plan's blocks
-pub record HoldsPlan (part : Part) (plan : PlanValue) (f : Fabric) : Type 0 where
-  pub lids : (port : NodePort) (node : Node) → IsEndPortIn part f port node → lid_of plan.given (record { node = node.guid; port = port.port }) ≡ Some (f.base_lid port)
-  pub tops : (port : NodePort) (node : Node) → IsEndPortIn part f port node → IsTrue (is_switch node.kind) → top_of plan.given ≡ Some (f.top port.node)
-  pub blocks : (port : NodePort) (node : Node) → IsEndPortIn part f port node → (b : ℕ) (block : List ℕ) → block_at plan node.guid b ≡ Some block → HoldsBlock f port.node b block
+-- an end port has its LID of the plan; a switch has the plan's greatest LID as its top, and its blocks of the plan
+pub record HoldsPlanAt (plan : PlanValue) (f : Fabric) (port : NodePort) (node : Node) : Type 0 where
+  pub lid : lid_of plan.given (record { node = node.guid; port = port.port }) ≡ Some (f.base_lid port)
+  pub top : IsTrue (is_switch node.kind) → top_of plan.given ≡ Some (f.top port.node)
+  pub blocks : (b : ℕ) (block : List ℕ) → block_at plan node.guid b ≡ Some block → HoldsBlock f port.node b block
+
+-- each end port of the part does
+abbrev pub HoldsPlan : Part → PlanValue → Fabric → Type 0
+HoldsPlan part plan f = (port : NodePort) (node : Node) → IsEndPortIn part f port node → HoldsPlanAt plan f port node
 
 -- a part of a fabric that is as the facts say, and where the plan is in force
 pub record IsInForce (part : Part) (cells : Cells) (plan : PlanValue) (f : Fabric) : Type 0 where

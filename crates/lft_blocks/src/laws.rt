@@ -25,9 +25,9 @@ pub fn blocks_are_of_switches()
     ensures { BlocksAreOfSwitches }
 {}
 
-/// Where a connected fabric is as a view with room says, and holds the plan of that view, a packet from each
-/// end port for each LID of the plan is delivered at the end port that owns the LID. `Plan::of` promises the
-/// same of what is joined to one end port, of any fabric.
+/// Where a connected fabric is as a view with room says, and holds the plan of that view, a packet
+/// from each end port for each LID of the plan is delivered at the end port that owns the LID.
+/// `Plan::of` promises the same of what is joined to one end port, of any fabric.
 pub fn packets_arrive_if_connected()
     ensures { PacketsArriveIfConnected }
 {}

@@ -7,7 +7,8 @@ use Rattle.smp_bytes.specs.declared.cable.NodePort.{NodePort}
 use Rattle.smp_bytes.specs.NodeType.{is_switch as is_switch_type}
 use Rattle.smp_bytes.specs.Fabric.{Node, Fabric, IsEndPort, is_switch_at}
 use Rattle.smp_bytes.specs.FabricWalks.{IsWire, IsJoinedTo, Walk, vertex_of}
-use Rattle.smp_bytes.proofs.FabricWalks.{port_at, same_port, no_more_wires, vertex_node, switch_vertex, adapter_vertex, switch_number, adapter_start, turned_wire}
+use Rattle.smp_bytes.proofs.FabricWalks.{port_at, same_port, no_more_wires, vertex_node, switch_vertex, adapter_vertex}
+use Rattle.smp_bytes.proofs.FabricWalks.{switch_number, adapter_start, turned_wire}
 use Rattle.subnet_view.specs.Reading.{Cells}
 use Rattle.updown_routes.specs.Graph.{graph_of, exits_at, neighbors}
 use Rattle.updown_routes.specs.GraphLaws.{IsSwitch}

@@ -127,7 +127,8 @@ module _ {cells : Cells} {f : Fabric} {origin : NodePort} (told : IsTold cells f
       → IsWire f out into → IsExit cells g out.port h
   wire_in_facts {place = place} {g = g} {h = h} out into s t e w =
       let out_joined : IsJoinedTo f origin (vertex_of f out) = subst (IsJoinedTo f origin) (sym (switch_port_vertex s out e)) s.joined in
-      let named : IsPortNamed f g out.port out = subst (IsPortNamed f g out.port) (same_port (port_at place out.port) out (sym e) refl) (switch_port s out.port) in
+      let named : IsPortNamed f g out.port out =
+      subst (IsPortNamed f g out.port) (same_port (port_at place out.port) out (sym e) refl) (switch_port s out.port) in
       record {
         end_port = into.port;
         wire = (wire_law cells g out.port h into.port).1 ((told.agrees.wires g out.port h into.port).1

@@ -77,8 +77,8 @@ pub fn a_cost_within_a_component()
     ensures { CostInComponent }
 {}
 
-/// The channels of the wires that a way by next ports takes have rising numbers, so no circle of channels
-/// waits for itself.
+/// The channels of the wires that a way by next ports takes have rising numbers, so no circle of
+/// channels waits for itself.
 pub fn channels_rise_along_ways()
     ensures { ChannelLaw }
 {}
