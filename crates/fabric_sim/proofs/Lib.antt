@@ -7,6 +7,7 @@ pub mod Invariants
 pub mod Kept
 pub mod PeerLists
 pub mod PingSteps
+pub mod PingsFind
 pub mod PortChanges
 pub mod Recabled
 pub mod Serials
