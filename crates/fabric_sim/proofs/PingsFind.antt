@@ -13,7 +13,8 @@ use Rattle.fabric_sim.specs.Ping.{ping_on, ping_by, PingsFind}
 
 module _ (f : Fabric) (lid : ℕ) (end : Standing) (target : NodePort) (delivers : course f lid end ≡ Delivers target) where
   -- after n wires, over these ones, with more left
-  found_on : (hops : List Hop) (s : Standing) (left n : ℕ) → length hops < left → Goes f lid s hops end → ping_on f lid left n s ≡ Reached target (n + length hops)
+  found_on : (hops : List Hop) (s : Standing) (left n : ℕ) → length hops < left → Goes f lid s hops end
+      → ping_on f lid left n s ≡ Reached target (n + length hops)
   found_on hops s zero n few goes = absurd (omega (arith, few))
   found_on [] s (suc left) n few goes =
       ap (ping_by f s n (λ into. ping_on f lid left (n + 1) (arrived_at into))) (ap (course f lid) goes ∙ delivers) ∙ ap (λ m. Reached target m) (omega arith)

@@ -47,4 +47,5 @@ PingsTell = (f : Fabric) (lid : ℕ) (source : NodePort)
 
 -- and what is so a ping finds: a packet that is delivered, at that port and over that many wires
 abbrev pub PingsFind : Type 0
-PingsFind = (f : Fabric) (lid : ℕ) (source target : NodePort) (hops : List Hop) → IsDelivered f lid source hops target → ping f lid source ≡ Reached target (length hops)
+PingsFind = (f : Fabric) (lid : ℕ) (source target : NodePort) (hops : List Hop) → IsDelivered f lid source hops target
+    → ping f lid source ≡ Reached target (length hops)

@@ -9,11 +9,11 @@ use Rattle.smp_bytes.specs.declared.course.Course.{Course}
 use Rattle.smp_bytes.specs.declared.course.Course.TheVariants.{Delivers, LeavesBy, Drops}
 use Rattle.smp_bytes.specs.NodeType.{is_switch as is_switch_type}
 use Rattle.smp_bytes.specs.Fabric.{Node, Fabric, is_switch_at}
+use Rattle.smp_bytes.specs.FabricWalks.{IsJoinedTo}
 use Rattle.smp_bytes.specs.Forwarding.{Standing, sent_from, arrived_at, course, adapter_course, entry_course, switch_course, Hop, Goes}
 use Rattle.smp_bytes.proofs.FabricWalks.{port_at}
 use Rattle.subnet_view.specs.declared.end_port.EndPort.{EndPort}
 use Rattle.subnet_view.specs.Reading.{Cells, is_usable}
-use Rattle.subnet_view.specs.Agreement.{JoinedTo}
 use Rattle.lid_assign.specs.Lids.{lids}
 use Rattle.port_graph.specs.declared.exit.Exit.{Exit}
 use Rattle.port_graph.specs.Slopes.{next_port}
@@ -108,7 +108,7 @@ module _ {cells : Cells} {f : Fabric} {origin : NodePort} {lid : ℕ} {owner : E
       let from_one = owned_from_one cells planned.are_lids lid owner planned.owned in
       let usable : is_usable cells s.node.guid ≡ true = ap (is_usable cells) s.guid ∙ switch_usable told s in
       let its_entry : f.entry place lid ≡ p =
-      held_entry (JoinedTo f origin) cells f planned.blocks planned.held (port_at place 0) s.node (switch_in_part s) usable lid (f.top place) top low
+      held_entry (IsJoinedTo f origin) cells f planned.blocks planned.held (port_at place 0) s.node (switch_in_part s) usable lid (f.top place) top low
       ∙ ap (λ x. entry_of cells x lid) s.guid
       ∙ entry in
       let inside : (lid == 0 || nat_lt (f.top place) lid) ≡ false =

@@ -11,7 +11,7 @@ use Rattle.subnet_view.specs.declared.end_port.EndPort.{EndPort}
 use Rattle.subnet_view.specs.Reading.{Cells, cap_of, is_switch_node, is_usable}
 use Rattle.subnet_view.specs.EndPorts.{HasEndPorts, end_ports}
 use Rattle.subnet_view.specs.Wires.{across, attached}
-use Rattle.subnet_view.specs.Agreement.{JoinedTo, IsEndPortIn, IsPortNamed}
+use Rattle.subnet_view.specs.Agreement.{IsEndPortIn, IsPortNamed}
 use Rattle.subnet_view.proofs.Apart.{contains_map}
 use Rattle.subnet_view.proofs.WireLaws.{wire_law}
 use Rattle.lid_assign.specs.Lids.{lids, lid_of, owner_of, AreLids}
@@ -29,7 +29,7 @@ pub record IsPlanned (cells : Cells) (f : Fabric) (origin : NodePort) (lid : ℕ
   pub inverse : (e : EndPort) (n : ℕ) → (owner_of (lids cells) n ≡ Some e) ↔ (lid_of (lids cells) e ≡ Some n)
   pub end_ports_listed : HasEndPorts cells (end_ports cells)
   pub blocks : HasBlocks cells
-  pub held : HoldsPlan (JoinedTo f origin) (plan_of cells) f
+  pub held : HoldsPlan (IsJoinedTo f origin) (plan_of cells) f
   pub owned : owner_of (lids cells) lid ≡ Some owner
 
 -- the port of the part that facts name so, and that has the LID
@@ -46,7 +46,7 @@ name_is node port e h k = λ i. record { node = h i; port = k i }
 
 -- it is an end port of the part
 pub owner_in_part : {f : Fabric} {origin : NodePort} {lid : ℕ} {owner : EndPort} (target : OwnerPort f origin lid owner)
-    → IsEndPortIn (JoinedTo f origin) f target.port target.named.node
+    → IsEndPortIn (IsJoinedTo f origin) f target.port target.named.node
 owner_in_part target = record { node_there = target.named.node_there; end_port = target.is_end; in_part = target.joined }
 
 module _ {cells : Cells} {f : Fabric} {origin : NodePort} {lid : ℕ} {owner : EndPort} (told : IsTold cells f origin)
@@ -56,7 +56,7 @@ module _ {cells : Cells} {f : Fabric} {origin : NodePort} {lid : ℕ} {owner : E
       let given = contains_map (λ (x : EndPort × ℕ). x.0) (lids cells) (owner, lid) (given-from_owner (lids cells) owner lid planned.owned) in
       let listed = subst (λ (es : List EndPort). Contains es owner) planned.are_lids.end_ports_in_order given in
       let it = told.agrees.end_ports_exist owner.node owner.port ((planned.end_ports_listed owner).0 listed) in
-      let here : IsEndPortIn (JoinedTo f origin) f it.port it.named.node =
+      let here : IsEndPortIn (IsJoinedTo f origin) f it.port it.named.node =
       record { node_there = it.named.node_there; end_port = it.end_port; in_part = it.in_part } in
       let held_lid : Some lid ≡ Some (f.base_lid it.port) =
       sym ((planned.inverse owner lid).0 planned.owned) ∙ ap (lid_of (lids cells)) (sym (name_is it.named.node it.port owner it.named.guid_is it.named.port_is))
@@ -64,7 +64,7 @@ module _ {cells : Cells} {f : Fabric} {origin : NodePort} {lid : ℕ} {owner : E
       record { port = it.port; named = it.named; is_end = it.end_port; joined = it.in_part; own_lid = same_Some (f.base_lid it.port) lid (sym held_lid) }
 
   -- an end port of the part that has the LID is the owner's
-  pub lid_is_owners : (target : OwnerPort f origin lid owner) (v : NodePort) (node : Node) → IsEndPortIn (JoinedTo f origin) f v node
+  pub lid_is_owners : (target : OwnerPort f origin lid owner) (v : NodePort) (node : Node) → IsEndPortIn (IsJoinedTo f origin) f v node
       → f.base_lid v ≡ lid → v ≡ target.port
   lid_is_owners target v node here own =
       let name : EndPort = record { node = node.guid; port = v.port } in

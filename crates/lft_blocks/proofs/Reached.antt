@@ -12,7 +12,6 @@ use Rattle.smp_bytes.proofs.FabricWalks.{port_at, same_port, type_at}
 use Rattle.fact_store.specs.View.{Facts}
 use Rattle.subnet_view.specs.declared.end_port.EndPort.{EndPort}
 use Rattle.subnet_view.specs.Reading.{Cells}
-use Rattle.subnet_view.specs.Agreement.{JoinedTo}
 use Rattle.subnet_view.proofs.EndPortList.{end_ports_law}
 use Rattle.lid_assign.specs.Lids.{IsNoRoom}
 use Rattle.lid_assign.proofs.LidLaws.{lids_law}

@@ -8,12 +8,12 @@ use Rattle.std.specs.FinMap.{entries}
 use Rattle.smp_bytes.specs.declared.cable.NodePort.{NodePort}
 use Rattle.smp_bytes.specs.NodeType.{is_switch}
 use Rattle.smp_bytes.specs.Fabric.{Node, Fabric, IsFabric, IsEndPort, is_switch_at}
-use Rattle.smp_bytes.specs.FabricWalks.{IsConnected}
+use Rattle.smp_bytes.specs.FabricWalks.{IsJoinedTo, IsConnected}
 use Rattle.smp_bytes.specs.Forwarding.{Hop, IsDelivered}
 use Rattle.fact_store.specs.View.{Facts}
 use Rattle.subnet_view.specs.declared.end_port.EndPort.{EndPort}
 use Rattle.subnet_view.specs.Reading.{Cells}
-use Rattle.subnet_view.specs.Agreement.{Part, WholeFabric, JoinedTo, IsEndPortIn, IsPortNamed, AgreesOn}
+use Rattle.subnet_view.specs.Agreement.{Part, WholeFabric, IsEndPortIn, IsPortNamed, AgreesOn}
 use Rattle.lid_assign.specs.Lids.{IsNoRoom, lid_of, owner_of, top_of}
 use Rattle.updown_routes.specs.Graph.{graph_of}
 use Rattle.updown_routes.specs.Ranks.{slopes_of}
@@ -89,9 +89,9 @@ pub record Arrives (part : Part) (cells : Cells) (f : Fabric) (lid : ℕ) (sourc
 
 -- where the plan is in force in what an end port is joined to, a packet from each end port there for each LID of the plan arrives
 abbrev pub EveryPacketArrives : Cells → PlanValue → Type 0
-EveryPacketArrives cells plan = (f : Fabric) (origin : NodePort) → IsEndPort f origin → IsInForce (JoinedTo f origin) cells plan f
-    → (source : NodePort) → IsEndPort f source → JoinedTo f origin source
-    → (lid : ℕ) (owner : EndPort) → owner_of plan.given lid ≡ Some owner → Arrives (JoinedTo f origin) cells f lid source owner
+EveryPacketArrives cells plan = (f : Fabric) (origin : NodePort) → IsEndPort f origin → IsInForce (IsJoinedTo f origin) cells plan f
+    → (source : NodePort) → IsEndPort f source → IsJoinedTo f origin source
+    → (lid : ℕ) (owner : EndPort) → owner_of plan.given lid ≡ Some owner → Arrives (IsJoinedTo f origin) cells f lid source owner
 
 -- where the plan is in force in the whole of a connected fabric, a packet from each end port for each LID of the plan arrives
 abbrev pub EveryPacketArrivesIfConnected : Cells → PlanValue → Type 0

@@ -4,10 +4,11 @@ use Rattle.std.specs.Prelude.{◌≡◌, ℕ, length, None, Some}
 use Rattle.std.specs.FinMap.{entries}
 use Rattle.smp_bytes.specs.declared.cable.NodePort.{NodePort}
 use Rattle.smp_bytes.specs.Fabric.{IsEndPort}
+use Rattle.smp_bytes.specs.FabricWalks.{IsJoinedTo}
 use Rattle.fact_store.specs.View.{Facts}
 use Rattle.subnet_view.specs.declared.end_port.EndPort.{EndPort}
 use Rattle.subnet_view.specs.Reading.{Cells}
-use Rattle.subnet_view.specs.Agreement.{Part, JoinedTo}
+use Rattle.subnet_view.specs.Agreement.{Part}
 use Rattle.lid_assign.specs.Lids.{IsNoRoom, owner_of}
 use Rattle.lft_blocks.specs.Plan.{PlanValue, plan_of}
 use Rattle.lft_blocks.specs.Arrival.{IsInForce, Arrives}
@@ -23,11 +24,11 @@ pub record PingArrives (part : Part) (cells : Cells) (s : Simulation) (lid : ℕ
 
 -- each ping from an end port of what the origin is joined to, for each LID of the plan
 abbrev pub EachPingArrives : Cells → PlanValue → Simulation → NodePort → Type 0
-EachPingArrives cells plan s origin = (source : NodePort) → IsEndPort (fabric_of s) source → JoinedTo (fabric_of s) origin source
-    → (lid : ℕ) (owner : EndPort) → owner_of plan.given lid ≡ Some owner → PingArrives (JoinedTo (fabric_of s) origin) cells s lid source owner
+EachPingArrives cells plan s origin = (source : NodePort) → IsEndPort (fabric_of s) source → IsJoinedTo (fabric_of s) origin source
+    → (lid : ℕ) (owner : EndPort) → owner_of plan.given lid ≡ Some owner → PingArrives (IsJoinedTo (fabric_of s) origin) cells s lid source owner
 
 -- where the plan of a view is in force in what an end port is joined to, pings arrive there
 abbrev pub PingsArrive : Type 0
 PingsArrive = (facts : Facts) (s : Simulation) (origin : NodePort) → ¬ (IsNoRoom (entries facts)) → IsEndPort (fabric_of s) origin
-    → IsInForce (JoinedTo (fabric_of s) origin) (entries facts) (plan_of (entries facts)) (fabric_of s)
+    → IsInForce (IsJoinedTo (fabric_of s) origin) (entries facts) (plan_of (entries facts)) (fabric_of s)
     → EachPingArrives (entries facts) (plan_of (entries facts)) s origin

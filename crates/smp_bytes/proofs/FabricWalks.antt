@@ -6,7 +6,7 @@ use Rattle.std.specs.Option.{option_map_or}
 use Rattle.smp_bytes.specs.declared.cable.NodePort.{NodePort}
 use Rattle.smp_bytes.specs.NodeType.{is_switch}
 use Rattle.smp_bytes.specs.Fabric.{Node, Fabric, IsFabric, IsEndPort, IsCablePort, is_switch_at}
-use Rattle.smp_bytes.specs.FabricWalks.{IsWire, AreNeighbors, Walk, vertex_of}
+use Rattle.smp_bytes.specs.FabricWalks.{IsWire, AreNeighbors, Walk, IsJoinedTo, vertex_of}
 
 -- a port of the node at a place
 abbrev pub port_at : ℕ → ℕ → NodePort
@@ -39,6 +39,21 @@ module _ (f : Fabric) where
   -- a walk without wires stays
   pub no_more_wires : (n : ℕ) (d v : NodePort) → Walk f d v n → n ≡ 0 → d ≡ v
   no_more_wires n d v w e = subst (λ (k : ℕ). Walk f d v k) e w
+
+  -- on from a switch
+  pub joined_over : (a b c : NodePort) → IsJoinedTo f a b → IsTrue (is_switch_at f b.node) → IsJoinedTo f b c → IsJoinedTo f a c
+  joined_over a b c (n, w) switch on = go n a w
+    where
+      go : (n : ℕ) (a : NodePort) → Walk f a b n → IsJoinedTo f a c
+      go zero a w = subst (λ (x : NodePort). IsJoinedTo f x c) (sym w) on
+      go (suc n) a (d, first, between, w) =
+          let there : IsTrue (is_switch_at f d.node) =
+          elim between [
+            | inl e ↦ subst (λ (x : NodePort). IsTrue (is_switch_at f x.node)) (sym (no_more_wires n d b w e)) switch
+            | inr k ↦ k
+          ] in
+          let rest = go n d w in
+          (suc rest.0, (d, first, inr there, rest.1))
 
   -- a vertex has the place of its port
   pub vertex_node : (p : NodePort) → (vertex_of f p).node ≡ p.node

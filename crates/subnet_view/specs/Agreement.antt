@@ -6,22 +6,18 @@ use Rattle.smp_bytes.specs.NodeType.{is_switch}
 use Rattle.smp_bytes.specs.Fabric as fabric
 use Rattle.smp_bytes.specs.Fabric.{Fabric, IsNodeAt}
 use Rattle.smp_bytes.specs.FabricWalks as walks
-use Rattle.smp_bytes.specs.FabricWalks.{IsJoinedTo, vertex_of}
+use Rattle.smp_bytes.specs.FabricWalks.{vertex_of}
 use Rattle.subnet_view.specs.Reading.{Cells, node_of, port_guid_of, cap_of, IsUsable}
 use Rattle.subnet_view.specs.EndPorts.{IsEndPort}
 use Rattle.subnet_view.specs.Wires.{IsWire}
 
--- a part of a fabric, by its vertices
+-- a part of a fabric, by its vertices: all of it, or what is joined to one of them
 abbrev pub Part : Type 1
 Part = NodePort → Type 0
 
 -- all of it
 abbrev pub WholeFabric : Part
 WholeFabric vertex = Unit {0}
-
--- what an end port is joined to
-abbrev pub JoinedTo : Fabric → NodePort → Part
-JoinedTo f origin = IsJoinedTo f origin
 
 -- an end port of the part, and the node that it is a port of
 pub record IsEndPortIn (part : Part) (f : Fabric) (port : NodePort) (node : fabric.Node) : Type 0 where
@@ -65,11 +61,3 @@ pub record AgreesOn (part : Part) (cells : Cells) (f : Fabric) : Type 0 where
   pub end_ports_exist : (g p : ℕ) → IsEndPort cells g p → HasEndPort part f g p
   pub switches_exist : (g : ℕ) → IsUsable cells g → HasEndPort part f g 0
   pub wires : (g p h q : ℕ) → IsWire cells g p h q ↔ HasWire part f g p h q
-
--- the facts tell all of the fabric
-abbrev pub Agrees : Cells → Fabric → Type 0
-Agrees = AgreesOn WholeFabric
-
--- the facts tell what an end port is joined to
-abbrev pub AgreesOnPartOf : NodePort → Cells → Fabric → Type 0
-AgreesOnPartOf origin cells f = AgreesOn (JoinedTo f origin) cells f

@@ -9,7 +9,7 @@ use Rattle.smp_bytes.specs.Fabric.{Node, Fabric, IsFabric, IsEndPort, is_switch_
 use Rattle.smp_bytes.specs.FabricWalks.{IsWire, IsJoinedTo, vertex_of}
 use Rattle.smp_bytes.proofs.FabricWalks.{port_at, same_port, EndNumber, type_at, walk_further, vertex_node, switch_vertex, vertex_is_end}
 use Rattle.subnet_view.specs.Reading.{Cells, is_switch_node, is_usable, cap_of, switches}
-use Rattle.subnet_view.specs.Agreement.{AgreesOnPartOf, JoinedTo, IsEndPortIn, IsPortNamed, TellsEndPort}
+use Rattle.subnet_view.specs.Agreement.{IsEndPortIn, IsPortNamed, TellsEndPort, AgreesOn}
 use Rattle.subnet_view.proofs.WireLaws.{wire_law}
 use Rattle.updown_routes.specs.Graph.{graph_of}
 use Rattle.updown_routes.specs.GraphLaws.{IsGraph}
@@ -18,7 +18,7 @@ use Rattle.updown_routes.proofs.Graphs.{IsExit}
 -- facts that tell of the part of a fabric that is joined to the origin, and their graph
 pub record IsTold (cells : Cells) (f : Fabric) (origin : NodePort) : Type 0 where
   pub is_fabric : IsFabric f
-  pub agrees : AgreesOnPartOf origin cells f
+  pub agrees : AgreesOn (IsJoinedTo f origin) cells f
   pub is_graph : IsGraph (graph_of cells)
   pub listed : (g : ℕ) → is_usable cells g ≡ true → Contains (switches cells) g
 
@@ -44,7 +44,7 @@ module _ {f : Fabric} {origin : NodePort} {place g : ℕ} (s : SwitchIn f origin
   switch_end = (s.node, s.at, subst (EndNumber s.node.ports 0) (sym s.is_switch) refl)
 
   -- its port 0 is an end port of the part
-  pub switch_in_part : IsEndPortIn (JoinedTo f origin) f (port_at place 0) s.node
+  pub switch_in_part : IsEndPortIn (IsJoinedTo f origin) f (port_at place 0) s.node
   switch_in_part = record { node_there = s.at; end_port = switch_end; in_part = s.joined }
 
   pub switch_port : (p : ℕ) → IsPortNamed f g p (port_at place p)
@@ -63,7 +63,7 @@ module _ {f : Fabric} {origin : NodePort} {place g : ℕ} (s : SwitchIn f origin
 
 -- what a port's vertex is called, by the port's name
 vertex_in_part : {f : Fabric} {origin : NodePort} (p : NodePort) (g n : ℕ) (named : IsPortNamed f g n p) → IsEndPort f (vertex_of f p)
-    → IsJoinedTo f origin (vertex_of f p) → IsEndPortIn (JoinedTo f origin) f (vertex_of f p) named.node
+    → IsJoinedTo f origin (vertex_of f p) → IsEndPortIn (IsJoinedTo f origin) f (vertex_of f p) named.node
 vertex_in_part {f = f} p g n named end joined =
     record { node_there = ap (slice_get f.nodes) (vertex_node f p) ∙ named.node_there; end_port = end; in_part = joined }
 
@@ -74,7 +74,7 @@ module _ {cells : Cells} {f : Fabric} {origin : NodePort} (told : IsTold cells f
       told.agrees.guids_distinct (port_at i 0) (port_at j 0) s.node t.node (switch_in_part s) (switch_in_part t) (s.guid ∙ sym t.guid)
 
   -- what facts tell of the type of a node
-  pub known_type : (port : NodePort) (node : Node) → IsEndPortIn (JoinedTo f origin) f port node → is_switch_node cells node.guid ≡ is_switch_type node.kind
+  pub known_type : (port : NodePort) (node : Node) → IsEndPortIn (IsJoinedTo f origin) f port node → is_switch_node cells node.guid ≡ is_switch_type node.kind
   known_type port node here = ap (λ o. option_map_or (λ n. is_switch_type n.0) o false) (told.agrees.tells_end_ports port node here).kind
 
   -- facts know the switches of the part
