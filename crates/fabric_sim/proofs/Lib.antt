@@ -10,6 +10,7 @@ pub mod PingSteps
 pub mod PingsFind
 pub mod PortChanges
 pub mod Recabled
+pub mod SeenFabrics
 pub mod Serials
 pub mod TripAdvances
 pub mod TripCalls

@@ -1,30 +1,31 @@
 -- Where a plan is in force, pings reach the owners of LIDs.
-use Rattle.std.proofs.Common.{◌≡◌, ◌≤◌, ℕ, List, refl, sym, ap, ◌∙◌, subst, arith, Bool, true, false, cond, ◌&&◌, ◌||◌, map}
+use Rattle.std.proofs.Common.{◌≡◌, ◌≤◌, ℕ, refl, ap, ◌∙◌, arith, Bool, true, false, cond, ◌&&◌, ◌||◌, map}
 use Rattle.std.proofs.lemmas.Bool.{and_from, le-leb}
-use Rattle.std.proofs.lemmas.Option.{slice_get-map}
-use Rattle.std.specs.Prelude.{Option, None, Some, MatchBool, nat_le, option_map, slice_get}
+use Rattle.std.specs.Prelude.{None, Some, MatchBool, nat_le, slice_get}
 use Rattle.std.specs.Option.{option_map_or}
 use Rattle.std.specs.FinMap.{entries}
 use Rattle.smp_bytes.specs.declared.cable.NodePort.{NodePort}
 use Rattle.smp_bytes.specs.NodeType.{is_switch as is_switch_type}
 use Rattle.smp_bytes.specs.Fabric.{Node, IsEndPort, is_switch_at}
+use Rattle.smp_bytes.specs.FabricWalks.{IsJoinedTo}
 use Rattle.smp_bytes.proofs.FabricWalks.{type_at}
 use Rattle.node_agents.specs.Agent.{Agent, node_of}
 use Rattle.fabric_sim.specs.declared.fault.FabricFault.{FabricFault}
 use Rattle.fabric_sim.specs.declared.fault.FabricFault.TheVariants.{NoSuchPort}
-use Rattle.fabric_sim.specs.Simulation.{Simulation, agent_at, port_count, is_port, fabric_of}
+use Rattle.fabric_sim.specs.Simulation.{Simulation, port_count, is_port, fabric_of}
 use Rattle.fabric_sim.specs.Ping.{ping_fault}
 use Rattle.fabric_sim.proofs.PingsFind.{pings_find}
+use Rattle.fabric_sim.proofs.SeenFabrics.{agent_seen, simulations_are_fabrics}
+use Rattle.lft_blocks.specs.Plan.{plan_of}
+use Rattle.lft_blocks.specs.Arrival.{IsInForce}
 use Rattle.lft_blocks.proofs.Reached.{every_packet_arrives}
 use Rattle.sm_laws.specs.Pings.{PingsArrive}
 
 -- a node has as many ports as its agent says
 count_at : (s : Simulation) (place : ℕ) (node : Node) → slice_get (map node_of s.agents) place ≡ Some node → port_count s place ≡ node.ports
-count_at s place node at = go (agent_at s place) (sym (slice_get-map node_of s.agents place) ∙ at)
-  where
-    go : (o : Option Agent) → option_map node_of o ≡ Some node → option_map_or (λ (a : Agent). a.node.ports) o 0 ≡ node.ports
-    go None e = absurd (cc)
-    go (Some a) e = let same : node_of a ≡ node = cc in ap (λ (n : Node). n.ports) same
+count_at s place node at =
+    let (a, there, same) = agent_seen s place node at in
+    ap (λ o. option_map_or (λ (b : Agent). b.node.ports) o 0) there ∙ ap (λ (n : Node). n.ports) same
 
 -- an end port is a port of the simulated fabric
 end_is_port : (s : Simulation) (p : NodePort) → IsEndPort (fabric_of s) p → is_port s p ≡ true
@@ -49,7 +50,9 @@ end_is_port s p (node, at, number) =
     or_left a b e = ap (λ (t : Bool). t || b) e
 
 pub pings_arrive : PingsArrive
-pings_arrive facts s origin has_room is_origin in_force source is_end joined lid owner owned =
+pings_arrive facts s origin has_room is is_origin agrees holds source is_end joined lid owner owned =
+    let in_force : IsInForce (IsJoinedTo (fabric_of s) origin) (entries facts) (plan_of (entries facts)) (fabric_of s) =
+    record { is_fabric = simulations_are_fabrics s is; agrees = agrees; holds = holds } in
     let a = every_packet_arrives facts has_room (fabric_of s) origin is_origin in_force source is_end joined lid owner owned in
     record {
       accepted = ap (λ (t : Bool). cond t None (Some NoSuchPort)) (end_is_port s source is_end);
