@@ -42,6 +42,10 @@ abbrev pub Each : {X : Type 0} → (X → Type 0) → List X → Type 0
 Each P [] = Unit {0}
 Each P (x ∷ xs) = P x × Each P xs
 
+-- the first, and the others
+pub next : {A B : Type 0} → A → B → A × B
+next a b = (a, b)
+
 module _ {X : Type 0} (P : X → Type 0) where
   each_at : (xs : List X) → Each P xs → (x : X) → Contains xs x → P x
   each_at [] h x k = absurd (contains_none x k)

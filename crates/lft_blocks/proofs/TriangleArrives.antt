@@ -5,7 +5,6 @@ use Rattle.std.specs.Prelude.{None, Some, option_and_then, slice_get, slice_inde
 use Rattle.std.specs.Option.{option_map_or}
 use Rattle.std.specs.FinMap.{entries}
 use Rattle.smp_bytes.specs.declared.cable.NodePort.{NodePort}
-use Rattle.smp_bytes.specs.NodeType.{is_switch}
 use Rattle.smp_bytes.specs.Fabric.{Node, IsFabric, IsCablePort, IsEndPort}
 use Rattle.smp_bytes.specs.FabricWalks.{IsWire, AreNeighbors, IsJoinedTo, IsConnected, vertex_of}
 use Rattle.smp_bytes.proofs.FabricWalks.{port_at, joined_over}
@@ -25,32 +24,31 @@ use Rattle.lft_blocks.specs.Arrival.{Arrives, IsInForce}
 use Rattle.lft_blocks.proofs.HeldEntries.{entry_of, owned_to_top}
 use Rattle.lft_blocks.proofs.Reached.{every_packet_arrives}
 use Rattle.lft_blocks.proofs.WholeFabrics.{packets_arrive_if_connected}
-use Rattle.lft_blocks.proofs.FabricCases.{Each, EachPlace, each_append, each_all, each_map}
+use Rattle.lft_blocks.proofs.FabricCases.{Each, EachPlace, next, each_append, each_all, each_map}
 use Rattle.lft_blocks.proofs.FabricCases.{HasOneEnd, end_of, end_cases, place_at, cable_cases, Stands, TellsCable, agreement, HasPlanned, holding}
 use Rattle.lft_blocks.proofs.Triangle.{switch, adapter, cables, tables, triangle}
 use Rattle.lft_blocks.proofs.Triangle.{NamedWire, wires, nodes_told, ports_told, link_told, up_told, caps_told, cells, facts, facts_have}
 
 one_end : EachPlace (λ k n. HasOneEnd n) triangle.nodes
-one_end = (λ e. absurd (cc), (λ e. absurd (cc), (λ e. absurd (cc), (λ e. refl, (λ e. refl, tt)))))
+one_end = next (λ e. absurd (cc)) (next (λ e. absurd (cc)) (next (λ e. absurd (cc)) (next (λ e. refl) (next (λ e. refl) tt))))
 
 is_fabric : IsFabric triangle
 is_fabric =
     record {
       counts = place_at (λ k n. (1 ≤ n.ports) × (n.ports ≤ 254)) triangle.nodes
-          ((omega arith, omega arith),
-          ((omega arith, omega arith),
-          ((omega arith, omega arith),
-          ((omega arith, omega arith),
-          ((omega arith, omega arith),
-          tt)))));
+          (next (omega arith, omega arith)
+          (next (omega arith, omega arith)
+          (next (omega arith, omega arith)
+          (next (omega arith, omega arith)
+          (next (omega arith, omega arith) tt)))));
       cabled = cable_cases (λ p q. IsCablePort triangle p) cables
-          (((switch 16, refl, omega arith, omega arith), (switch 32, refl, omega arith, omega arith)),
-          (((switch 16, refl, omega arith, omega arith), (switch 48, refl, omega arith, omega arith)),
-          (((switch 32, refl, omega arith, omega arith), (switch 48, refl, omega arith, omega arith)),
-          (((switch 32, refl, omega arith, omega arith), (adapter 256, refl, omega arith, omega arith)),
-          (((switch 48, refl, omega arith, omega arith), (adapter 512, refl, omega arith, omega arith)),
-          tt)))));
-      both_ways = cable_cases (λ p q. triangle.across q ≡ Some p) cables ((refl, refl), ((refl, refl), ((refl, refl), ((refl, refl), ((refl, refl), tt)))));
+          (next ((switch 16, refl, omega arith, omega arith), (switch 32, refl, omega arith, omega arith))
+          (next ((switch 16, refl, omega arith, omega arith), (switch 48, refl, omega arith, omega arith))
+          (next ((switch 32, refl, omega arith, omega arith), (switch 48, refl, omega arith, omega arith))
+          (next ((switch 32, refl, omega arith, omega arith), (adapter 256, refl, omega arith, omega arith))
+          (next ((switch 48, refl, omega arith, omega arith), (adapter 512, refl, omega arith, omega arith)) tt)))));
+      both_ways = cable_cases (λ p q. triangle.across q ≡ Some p) cables
+          (next (refl, refl) (next (refl, refl) (next (refl, refl) (next (refl, refl) (next (refl, refl) tt)))));
     }
 
 of_16 : IsEndPort triangle (port_at 0 0)
@@ -81,33 +79,33 @@ wire_to n p m q e h = record { cable = e; different = different (port_at n p) (p
 over : (n p m q : ℕ) → triangle.across (port_at n p) ≡ Some (port_at m q) → (n ≡ m → ⊥)
     → IsJoinedTo triangle (vertex_of triangle (port_at n p)) (vertex_of triangle (port_at m q))
 over n p m q e h =
-    let next : AreNeighbors triangle (vertex_of triangle (port_at n p)) (vertex_of triangle (port_at m q)) =
+    let wired : AreNeighbors triangle (vertex_of triangle (port_at n p)) (vertex_of triangle (port_at m q)) =
     record { out = port_at n p; into = port_at m q; wire = wire_to n p m q e h; of_one = refl; of_other = refl } in
-    (1, (vertex_of triangle (port_at m q), next, inl refl, refl))
+    (1, (vertex_of triangle (port_at m q), wired, inl refl, refl))
 
 abbrev FromEach : ℕ → Node → ℕ → Type 0
 FromEach k n p = IsJoinedTo triangle (port_at k p) (port_at 1 0)
 
 from_each : EachPlace (λ k n. FromEach k n (end_of n)) triangle.nodes
 from_each =
-    (over 0 1 1 1 refl (λ e. omega arith),
-    ((0, refl),
-    (over 2 2 1 2 refl (λ e. omega arith),
-    (over 3 1 1 3 refl (λ e. omega arith),
-    (joined_over triangle (port_at 4 1) (port_at 2 0) (port_at 1 0) (over 4 1 2 3 refl (λ e. omega arith)) refl (over 2 2 1 2 refl (λ e. omega arith)),
-    tt)))))
+    next (over 0 1 1 1 refl (λ e. omega arith))
+    (next (0, refl)
+    (next (over 2 2 1 2 refl (λ e. omega arith))
+    (next (over 3 1 1 3 refl (λ e. omega arith))
+    (next (joined_over triangle (port_at 4 1) (port_at 2 0) (port_at 1 0) (over 4 1 2 3 refl (λ e. omega arith)) refl
+    (over 2 2 1 2 refl (λ e. omega arith))) tt))))
 
 abbrev ToEach : ℕ → Node → ℕ → Type 0
 ToEach k n p = IsJoinedTo triangle (port_at 1 0) (port_at k p)
 
 to_each : EachPlace (λ k n. ToEach k n (end_of n)) triangle.nodes
 to_each =
-    (over 1 1 0 1 refl (λ e. omega arith),
-    ((0, refl),
-    (over 1 2 2 2 refl (λ e. omega arith),
-    (over 1 3 3 1 refl (λ e. omega arith),
-    (joined_over triangle (port_at 1 0) (port_at 2 0) (port_at 4 1) (over 1 2 2 2 refl (λ e. omega arith)) refl (over 2 3 4 1 refl (λ e. omega arith)),
-    tt)))))
+    next (over 1 1 0 1 refl (λ e. omega arith))
+    (next (0, refl)
+    (next (over 1 2 2 2 refl (λ e. omega arith))
+    (next (over 1 3 3 1 refl (λ e. omega arith))
+    (next (joined_over triangle (port_at 1 0) (port_at 2 0) (port_at 4 1) (over 1 2 2 2 refl (λ e. omega arith)) refl
+    (over 2 3 4 1 refl (λ e. omega arith))) tt))))
 
 whole_end : (a : NodePort) (end : IsEndPort triangle a) → IsEndPortIn WholeFabric triangle a end.0
 whole_end a end = record { node_there = end.1; end_port = end; in_part = tt }
@@ -144,17 +142,16 @@ module _ (part : Part) (all : (v : NodePort) → IsEndPort triangle v → part v
 
   wires_stand : Each (λ (w : NamedWire). HasWire part triangle w.guid w.port w.peer w.via) wires
   wires_stand =
-      (wire_stands 16 1 32 1 0 1 (switch 16) (switch 32) refl refl refl refl refl (λ e. omega arith) (all (port_at 0 0) of_16),
-      (wire_stands 16 2 48 1 0 2 (switch 16) (switch 48) refl refl refl refl refl (λ e. omega arith) (all (port_at 0 0) of_16),
-      (wire_stands 32 1 16 1 1 0 (switch 32) (switch 16) refl refl refl refl refl (λ e. omega arith) (all (port_at 1 0) of_32),
-      (wire_stands 32 2 48 2 1 2 (switch 32) (switch 48) refl refl refl refl refl (λ e. omega arith) (all (port_at 1 0) of_32),
-      (wire_stands 32 3 256 1 1 3 (switch 32) (adapter 256) refl refl refl refl refl (λ e. omega arith) (all (port_at 1 0) of_32),
-      (wire_stands 48 1 16 2 2 0 (switch 48) (switch 16) refl refl refl refl refl (λ e. omega arith) (all (port_at 2 0) of_48),
-      (wire_stands 48 2 32 2 2 1 (switch 48) (switch 32) refl refl refl refl refl (λ e. omega arith) (all (port_at 2 0) of_48),
-      (wire_stands 48 3 512 1 2 4 (switch 48) (adapter 512) refl refl refl refl refl (λ e. omega arith) (all (port_at 2 0) of_48),
-      (wire_stands 256 1 32 3 3 1 (adapter 256) (switch 32) refl refl refl refl refl (λ e. omega arith) (all (port_at 3 1) of_first),
-      (wire_stands 512 1 48 3 4 2 (adapter 512) (switch 48) refl refl refl refl refl (λ e. omega arith) (all (port_at 4 1) of_second),
-      tt))))))))))
+      next (wire_stands 16 1 32 1 0 1 (switch 16) (switch 32) refl refl refl refl refl (λ e. omega arith) (all (port_at 0 0) of_16))
+      (next (wire_stands 16 2 48 1 0 2 (switch 16) (switch 48) refl refl refl refl refl (λ e. omega arith) (all (port_at 0 0) of_16))
+      (next (wire_stands 32 1 16 1 1 0 (switch 32) (switch 16) refl refl refl refl refl (λ e. omega arith) (all (port_at 1 0) of_32))
+      (next (wire_stands 32 2 48 2 1 2 (switch 32) (switch 48) refl refl refl refl refl (λ e. omega arith) (all (port_at 1 0) of_32))
+      (next (wire_stands 32 3 256 1 1 3 (switch 32) (adapter 256) refl refl refl refl refl (λ e. omega arith) (all (port_at 1 0) of_32))
+      (next (wire_stands 48 1 16 2 2 0 (switch 48) (switch 16) refl refl refl refl refl (λ e. omega arith) (all (port_at 2 0) of_48))
+      (next (wire_stands 48 2 32 2 2 1 (switch 48) (switch 32) refl refl refl refl refl (λ e. omega arith) (all (port_at 2 0) of_48))
+      (next (wire_stands 48 3 512 1 2 4 (switch 48) (adapter 512) refl refl refl refl refl (λ e. omega arith) (all (port_at 2 0) of_48))
+      (next (wire_stands 256 1 32 3 3 1 (adapter 256) (switch 32) refl refl refl refl refl (λ e. omega arith) (all (port_at 3 1) of_first))
+      (next (wire_stands 512 1 48 3 4 2 (adapter 512) (switch 48) refl refl refl refl refl (λ e. omega arith) (all (port_at 4 1) of_second)) tt)))))))))
 
   of_switches : HasEndPort part triangle 16 0 × HasEndPort part triangle 32 0 × HasEndPort part triangle 48 0
   of_switches =
@@ -179,19 +176,19 @@ module _ (part : Part) (all : (v : NodePort) → IsEndPort triangle v → part v
 cable_told : (n p m q : ℕ) (a b : Node) → slice_get triangle.nodes n ≡ Some a → slice_get triangle.nodes m ≡ Some b
     → across cells a.guid p ≡ Some (b.guid, q) → across cells b.guid q ≡ Some (a.guid, p)
     → TellsCable cells triangle (port_at n p) (port_at m q) × TellsCable cells triangle (port_at m q) (port_at n p)
-cable_told n p m q a b at_n at_m e f =
-    (record { one = a; other = b; one_there = at_n; other_there = at_m; told = e },
-    record { one = b; other = a; one_there = at_m; other_there = at_n; told = f })
+cable_told n p m q a b at_n at_m e f = (
+  record { one = a; other = b; one_there = at_n; other_there = at_m; told = e },
+  record { one = b; other = a; one_there = at_m; other_there = at_n; told = f },
+)
 
 cables_told : (p q : NodePort) → triangle.across p ≡ Some q → TellsCable cells triangle p q
 cables_told =
     cable_cases (TellsCable cells triangle) cables
-    (cable_told 0 1 1 1 (switch 16) (switch 32) refl refl refl refl,
-    (cable_told 0 2 2 1 (switch 16) (switch 48) refl refl refl refl,
-    (cable_told 1 2 2 2 (switch 32) (switch 48) refl refl refl refl,
-    (cable_told 1 3 3 1 (switch 32) (adapter 256) refl refl refl refl,
-    (cable_told 2 3 4 1 (switch 48) (adapter 512) refl refl refl refl,
-    tt)))))
+    (next (cable_told 0 1 1 1 (switch 16) (switch 32) refl refl refl refl)
+    (next (cable_told 0 2 2 1 (switch 16) (switch 48) refl refl refl refl)
+    (next (cable_told 1 2 2 2 (switch 32) (switch 48) refl refl refl refl)
+    (next (cable_told 1 3 3 1 (switch 32) (adapter 256) refl refl refl refl)
+    (next (cable_told 2 3 4 1 (switch 48) (adapter 512) refl refl refl refl) tt)))))
 
 abbrev place_of : ℕ → ℕ
 place_of g = cond (g == 16) 0 (cond (g == 32) 1 (cond (g == 48) 2 (cond (g == 256) 3 4)))
@@ -200,12 +197,11 @@ module _ (part : Part) (all : (v : NodePort) → IsEndPort triangle v → part v
   agrees : AgreesOn part cells triangle
   agrees =
       agreement part cells triangle one_end place_of
-      ((refl, record { kind = refl; port_guid = refl; cap = λ e. refl }),
-      ((refl, record { kind = refl; port_guid = refl; cap = λ e. refl }),
-      ((refl, record { kind = refl; port_guid = refl; cap = λ e. refl }),
-      ((refl, record { kind = refl; port_guid = refl; cap = λ e. absurd (cc) }),
-      ((refl, record { kind = refl; port_guid = refl; cap = λ e. absurd (cc) }),
-      tt)))))
+      (next (refl, record { kind = refl; port_guid = refl; cap = λ e. refl })
+      (next (refl, record { kind = refl; port_guid = refl; cap = λ e. refl })
+      (next (refl, record { kind = refl; port_guid = refl; cap = λ e. refl })
+      (next (refl, record { kind = refl; port_guid = refl; cap = λ e. absurd (cc) })
+      (next (refl, record { kind = refl; port_guid = refl; cap = λ e. absurd (cc) }) tt)))))
       (all_stand part all) cables_told
 
 -- the plan is held ------------------------------------------------------------------------------
@@ -235,14 +231,13 @@ entries_are k g a b c d e f short (suc (suc (suc (suc (suc (suc n)))))) =
     entry_past g lid (omega arith) ∙ sym (get_or_past (slice_index_or tables k []) lid 255 (omega (arith, short)))
 
 -- each node's LID, top and table
-rows : EachPlace (λ k n. HasPlanned cells triangle k n (cond (is_switch n.kind) 0 1)) triangle.nodes
+rows : EachPlace (λ k n. HasPlanned cells triangle k n (end_of n)) triangle.nodes
 rows =
-    (record { lid = refl; top = λ e. refl; table = entries_are 0 16 refl refl refl refl refl refl (omega arith) },
-    (record { lid = refl; top = λ e. refl; table = entries_are 1 32 refl refl refl refl refl refl (omega arith) },
-    (record { lid = refl; top = λ e. refl; table = entries_are 2 48 refl refl refl refl refl refl (omega arith) },
-    (record { lid = refl; top = λ e. absurd (cc); table = entries_are 3 256 refl refl refl refl refl refl (omega arith) },
-    (record { lid = refl; top = λ e. absurd (cc); table = entries_are 4 512 refl refl refl refl refl refl (omega arith) },
-    tt)))))
+    next (record { lid = refl; top = λ e. refl; table = entries_are 0 16 refl refl refl refl refl refl (omega arith) })
+    (next (record { lid = refl; top = λ e. refl; table = entries_are 1 32 refl refl refl refl refl refl (omega arith) })
+    (next (record { lid = refl; top = λ e. refl; table = entries_are 2 48 refl refl refl refl refl refl (omega arith) })
+    (next (record { lid = refl; top = λ e. absurd (cc); table = entries_are 3 256 refl refl refl refl refl refl (omega arith) })
+    (next (record { lid = refl; top = λ e. absurd (cc); table = entries_are 4 512 refl refl refl refl refl refl (omega arith) }) tt))))
 
 has_room : ¬ (IsNoRoom cells)
 has_room (some, none) = let k : 1024 ≤ 5 = none in omega (arith, k)
@@ -254,7 +249,7 @@ module _ (part : Part) (all : (v : NodePort) → IsEndPort triangle v → part v
         is_fabric = is_fabric;
         agrees = subst (λ (c : Cells). AgreesOn part c triangle) (sym facts_have) (agrees part all);
         holds = holding part facts triangle one_end
-            (subst (λ (c : Cells). EachPlace (λ k n. HasPlanned c triangle k n (cond (is_switch n.kind) 0 1)) triangle.nodes) (sym facts_have) rows);
+            (subst (λ (c : Cells). EachPlace (λ k n. HasPlanned c triangle k n (end_of n)) triangle.nodes) (sym facts_have) rows);
       }
 
 facts_have_room : ¬ (IsNoRoom (entries facts))
