@@ -7,8 +7,10 @@ pub mod Invariants
 pub mod Kept
 pub mod PeerLists
 pub mod PingSteps
+pub mod PingsFind
 pub mod PortChanges
 pub mod Recabled
+pub mod SeenFabrics
 pub mod Serials
 pub mod TripAdvances
 pub mod TripCalls

@@ -5,4 +5,5 @@ pub mod Build
 pub mod Calls
 pub mod ThereAndBack
 pub mod Ping
+pub mod SeenFabric
 pub mod Tells

@@ -44,3 +44,8 @@ abbrev pub PingsTell : Type 0
 PingsTell = (f : Fabric) (lid : ℕ) (source : NodePort)
     → ((target : NodePort) (count : ℕ) → ping f lid source ≡ Reached target count → DeliversOver f lid source target count)
     × ((place : ℕ) → ping f lid source ≡ Lost place → (hops : List Hop) × IsLost f lid source hops place)
+
+-- and what is so a ping finds: a packet that is delivered, at that port and over that many wires
+abbrev pub PingsFind : Type 0
+PingsFind = (f : Fabric) (lid : ℕ) (source target : NodePort) (hops : List Hop) → IsDelivered f lid source hops target
+    → ping f lid source ≡ Reached target (length hops)

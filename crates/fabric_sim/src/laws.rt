@@ -1,11 +1,23 @@
 //! What is so of packets on their way.
-ghost use Rattle.fabric_sim.specs.Ping.{PingsTell};
+ghost use Rattle.fabric_sim.specs.Ping.{PingsTell, PingsFind};
+ghost use Rattle.fabric_sim.specs.SeenFabric.{SimulationsAreFabrics};
 ghost use Rattle.fabric_sim.specs.ThereAndBack.{ThereAndBack};
+
+/// What packets see of a simulated fabric is a fabric: nodes of 1 to 254 ports, and cables that lead back to where they
+/// lead from.
+pub fn simulations_are_fabrics()
+    ensures { SimulationsAreFabrics }
+{}
 
 /// What a ping tells is so: a packet that reaches a port is delivered there over so many wires, and one that is lost at
 /// a node is lost there.
 pub fn pings_tell()
     ensures { PingsTell }
+{}
+
+/// What is so a ping finds: a packet that is delivered reaches that port in a ping, over as many wires.
+pub fn pings_find()
+    ensures { PingsFind }
 {}
 
 /// A directed request over a path that has an end is answered there by the delivery after as many as the path has ports,

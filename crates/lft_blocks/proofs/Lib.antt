@@ -6,3 +6,12 @@ pub mod TableLookups
 pub mod HomeTables
 pub mod Enumerated
 pub mod BlockOwners
+pub mod HeldEntries
+pub mod OwnerPorts
+pub mod Courses
+pub mod Routed
+pub mod Reached
+pub mod WholeFabrics
+pub mod FabricCases
+pub mod Triangle
+pub mod TriangleArrives

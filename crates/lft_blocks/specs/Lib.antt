@@ -2,5 +2,6 @@ pub mod Entries
 pub mod Plan
 pub mod PlanText
 pub mod PlanLaws
+pub mod Arrival
 pub mod Homes
 pub mod WritesPart

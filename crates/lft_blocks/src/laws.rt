@@ -1,4 +1,5 @@
 //! The laws of plans.
+ghost use Rattle.lft_blocks.specs.Arrival.{PacketsArriveIfConnected};
 ghost use Rattle.lft_blocks.specs.PlanLaws.{PlansStay, LidsStayInPlans, BlocksHoldEntries, BlocksAreOfSwitches};
 
 /// Where the facts differ from those of a view with room in claims alone, and each end port claims the LID
@@ -22,4 +23,11 @@ pub fn blocks_hold_entries()
 /// it is that switch's.
 pub fn blocks_are_of_switches()
     ensures { BlocksAreOfSwitches }
+{}
+
+/// Where a connected fabric is as a view with room says, and holds the plan of that view, a packet
+/// from each end port for each LID of the plan is delivered at the end port that owns the LID.
+/// `Plan::of` promises the same of what is joined to one end port, of any fabric.
+pub fn packets_arrive_if_connected()
+    ensures { PacketsArriveIfConnected }
 {}

@@ -7,6 +7,7 @@ ghost use Rattle.subnet_view.specs.Reading.{switches};
 ghost use Rattle.updown_routes.specs.Graph.{graph_of};
 ghost use Rattle.updown_routes.specs.Ranks.{slopes_of};
 ghost use Rattle.lft_blocks.specs.Entries.{home_of_lid, block_count};
+ghost use Rattle.lft_blocks.specs.Arrival.{EveryPacketArrives};
 ghost use Rattle.lft_blocks.specs.Plan.{tables_of, plan_of, block_at, switches_of};
 
 use crate::block::block_count;
@@ -47,6 +48,7 @@ impl Plan {
     pub fn of(alloc: Global, store: &Store) -> Result<Self, PlanFault>
         ensures judged { JudgesRoom result (entries store.now) }
         ensures plan { IfOk result (λ plan. plan ≡ plan_of (entries store.now)) }
+        ensures arrives { IfOk result (λ plan. EveryPacketArrives (entries store.now) plan) }
     {
         let lids = assign(alloc, store)?;
         let switches = switches(alloc, store)?;

@@ -1,4 +1,5 @@
 pub mod AnswersTell
+pub mod Pings
 pub mod Scene
 pub mod Sweeping
 pub mod Truth

@@ -1,5 +1,6 @@
 //! What is so after any events on a fabric.
 ghost use Rattle.sm_laws.specs.AnswersTell.{AnswersTell};
+ghost use Rattle.sm_laws.specs.Pings.{PingsArrive};
 ghost use Rattle.sm_laws.specs.Sweeping.{AcceptedFactsAreTrue};
 
 /// A directed answer that comes back to a manager tells of the end of the path that it was asked over: the node, its
@@ -15,4 +16,10 @@ pub fn answers_tell()
 /// and reordered, and however often or late a request of the sweep is sent or a reply is given to it.
 pub fn accepted_facts_are_true()
     ensures { AcceptedFactsAreTrue }
+{}
+
+/// Where a simulated fabric is as a view with room says, as far as an end port is joined to, and holds the plan of that
+/// view there, a ping from each end port of that part for each LID of the plan reaches the end port that owns the LID.
+pub fn pings_arrive()
+    ensures { PingsArrive }
 {}

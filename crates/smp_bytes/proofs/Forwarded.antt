@@ -239,3 +239,8 @@ packets_end_once f lid source = (
   as_ended f lid source (ends f lid (2 * switch_count f + 2) (start source)),
   λ hops others target place d l. never_both f lid source hops others l.0 (record { end = d.0; target = target; goes = d.1; delivers = d.2 }) l.1 l.3,
 )
+
+-- a packet that is delivered takes at most one wire more than there are switches
+pub few_wires_in_all : (f : Fabric) (lid : ℕ) (source target : NodePort) (hops : List Hop) → IsDelivered f lid source hops target
+    → length hops ≤ switch_count f + 1
+few_wires_in_all f lid source target hops d = few_in_all f lid (start source) hops (record { end = d.0; target = target; goes = d.1; delivers = d.2 })

@@ -3,6 +3,7 @@ pub mod BitLaws
 pub mod Cabled
 pub mod CopyLaws
 pub mod DirectedWalks
+pub mod FabricWalks
 pub mod FieldLaws
 pub mod Forwarded
 pub mod HexText

@@ -2,6 +2,7 @@ pub mod Cables
 pub mod DirectedWalk
 pub mod Fabric
 pub mod FabricLaws
+pub mod FabricWalks
 pub mod Field
 pub mod Forwarding
 pub mod Header

@@ -1,3 +1,4 @@
 pub mod Reading
 pub mod EndPorts
 pub mod Wires
+pub mod Agreement

@@ -17,3 +17,6 @@ pub mod Outside
 pub mod Orders
 pub mod Placing
 pub mod PlacedRoutes
+pub mod PartWires
+pub mod Joined
+pub mod RisingChannels

@@ -4,6 +4,7 @@ pub mod GraphLaws
 pub mod Ranks
 pub mod RankLaws
 pub mod RouteLaws
+pub mod Channels
 pub mod Wiring
 pub mod Order
 pub mod Placed

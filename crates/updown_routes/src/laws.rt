@@ -1,6 +1,7 @@
 //! The laws of the graph of switches, of ranks and of routes.
 ghost use Rattle.updown_routes.specs.GraphLaws.{GraphLaw, SwitchLaw, ExitLaw};
 ghost use Rattle.updown_routes.specs.RankLaws.{RankLaw, BeforeLaw, SlopeLaw};
+ghost use Rattle.updown_routes.specs.Channels.{ChannelLaw};
 ghost use Rattle.updown_routes.specs.RouteLaws.{DownDistanceLaw, CostLaw, CostRecursion, NextPortLaw, WayLaw, NoCostBetween, CostInComponent};
 
 /// What facts give is a graph: its switches stand by rising GUID, each with its exits by rising
@@ -74,4 +75,10 @@ pub fn no_cost_between_components()
 /// Within a component each switch has a cost to every other.
 pub fn a_cost_within_a_component()
     ensures { CostInComponent }
+{}
+
+/// The channels of the wires that a way by next ports takes have rising numbers, so no circle of
+/// channels waits for itself.
+pub fn channels_rise_along_ways()
+    ensures { ChannelLaw }
 {}

@@ -1,10 +1,12 @@
-use Rattle.std.proofs.Common.{ap, ◌∙◌}
+use Rattle.std.proofs.Common.{ap, sym, subst, ◌∙◌}
 use Rattle.std.specs.FinMap.{entries}
 use Rattle.lid_assign.specs.Lids.{top_of}
 use Rattle.updown_routes.specs.Ranks.{slopes_of}
 use Rattle.lft_blocks.specs.Entries.{home_of_lid, block_count}
-use Rattle.lft_blocks.specs.Plan.{tables_of}
+use Rattle.lft_blocks.specs.Arrival.{EveryPacketArrives}
+use Rattle.lft_blocks.specs.Plan.{PlanValue, tables_of}
 use Rattle.lft_blocks.proofs.HomeTables.{switches_rise, are_tables}
+use Rattle.lft_blocks.proofs.Reached.{every_packet_arrives}
 use Rattle.lft_blocks.proofs.plan.Plan.of.Goals as goal
 
 pub invariant_of-result : goal.invariant_of-result
@@ -26,3 +28,8 @@ returns-clause-plan c =
     let guids = c.deref.ensures.value ∙ c.in_ok-switches.ensures in
     let tables = c.in_ok-tables.ensures ∙ (λ j. tables_of (home_of_lid cells (lids j)) (slopes_of (graph j)) (block_count (top_of (lids j))) (guids j)) in
     λ i. record { given = lids i; tables = tables i }
+
+pub returns-clause-arrives : goal.returns-clause-arrives
+returns-clause-arrives c =
+    let facts = c.args.store.now in
+    subst (λ (plan : PlanValue). EveryPacketArrives (entries facts) plan) (sym (returns-clause-plan c)) (every_packet_arrives facts c.in_ok-lids.ensures.judged)

@@ -1,0 +1,81 @@
+-- What a switch's table holds for a LID of the plan: the plan's entry, and that is the home's port or the next port towards the home.
+use Rattle.std.proofs.Common.{◌≡◌, ◌≤◌, ◌<◌, ◌+◌, ◌*◌, ◌/◌, ◌%◌, ℕ, suc, List, true, sym, ap, ◌∙◌, subst, arith, cond, ◌==◌}
+use Rattle.std.proofs.lemmas.Option.{same_Some}
+use Rattle.std.specs.Prelude.{Option, None, Some, Contains, MatchOption, option_and_then, unwrap_or, slice_get}
+use Rattle.std.specs.Option.{option_map_or}
+use Rattle.std.specs.FinMap.{entries}
+use Rattle.smp_bytes.specs.declared.cable.NodePort.{NodePort}
+use Rattle.smp_bytes.specs.Fabric.{Node, Fabric}
+use Rattle.fact_store.specs.View.{Facts}
+use Rattle.subnet_view.specs.declared.end_port.EndPort.{EndPort}
+use Rattle.subnet_view.specs.Reading.{Cells, is_usable}
+use Rattle.subnet_view.specs.Agreement.{Part, IsEndPortIn}
+use Rattle.subnet_view.proofs.UsableSwitches.{usable_law}
+use Rattle.lid_assign.specs.Lids.{lids, owner_of, top_of, AreLids}
+use Rattle.lid_assign.proofs.Owners.{given-from_owner}
+use Rattle.lid_assign.proofs.Tops.{at_most_top}
+use Rattle.updown_routes.specs.Graph.{graph_of}
+use Rattle.updown_routes.specs.Ranks.{slopes_of}
+use Rattle.port_graph.specs.Slopes.{next_port}
+use Rattle.lft_blocks.specs.Entries.{home_of, home_of_lid, port_to, entry, block_count}
+use Rattle.lft_blocks.specs.Plan.{plan_of, block_at}
+use Rattle.lft_blocks.specs.PlanLaws.{HasBlock, block_of}
+use Rattle.lft_blocks.specs.Arrival.{HoldsPlan}
+use Rattle.lft_blocks.proofs.BlockLaws.{made_at}
+use Rattle.lft_blocks.proofs.BlockOwners.{blocks_are_of_switches}
+
+-- the plan's entry of a switch for a LID
+abbrev pub entry_of : Cells → ℕ → ℕ → ℕ
+entry_of cells s lid = entry (home_of_lid cells (lids cells)) (slopes_of (graph_of cells)) s lid
+
+-- a switch's entry for an owned LID goes by the owner's home
+pub entry_by_home : (cells : Cells) (s lid : ℕ) (e : EndPort) (home : ℕ × ℕ) → owner_of (lids cells) lid ≡ Some e → home_of cells e ≡ Some home
+    → entry_of cells s lid ≡ cond (home.0 == s) home.1 (unwrap_or (next_port (slopes_of (graph_of cells)) s home.0) 255)
+entry_by_home cells s lid e home h k =
+    ap (λ o. option_map_or (port_to (slopes_of (graph_of cells)) s) o 255) (ap (option_and_then (home_of cells)) h ∙ k)
+
+-- no owned LID is above the top
+pub owned_to_top : (given : List (EndPort × ℕ)) (e : EndPort) (lid top : ℕ) → owner_of given lid ≡ Some e → top_of given ≡ Some top → lid ≤ top
+owned_to_top given e lid top h k =
+    let t = at_most_top given e lid (given-from_owner given e lid h) in
+    let same : t.0 ≡ top = same_Some t.0 top (sym t.1 ∙ k) in
+    omega (arith, t.2, same)
+
+-- a LID that is owned is at least 1
+pub owned_from_one : (cells : Cells) → AreLids cells (lids cells) → (lid : ℕ) (e : EndPort) → owner_of (lids cells) lid ≡ Some e → 1 ≤ lid
+owned_from_one cells good lid e h = (good.in_range e lid (given-from_owner (lids cells) e lid h)).0
+
+-- the plan has each block that a usable switch has
+abbrev pub HasBlocks : Cells → Type 0
+HasBlocks cells = (g b : ℕ) → HasBlock cells g b → block_at (plan_of cells) g b ≡ Some (block_of cells g b)
+
+pub planned_block : (facts : Facts) → HasBlocks (entries facts)
+planned_block facts g b has =
+    let cells = entries facts in
+    elim (block_at (plan_of cells) g b) as
+    (λ o. MatchOption o (¬ (HasBlock cells g b)) (λ x. HasBlock cells g b × (x ≡ block_of cells g b)) → o ≡ Some (block_of cells g b)) [
+      | None ↦ λ m. absurd (m has)
+      | Some x ↦ λ m. ap (λ (y : List ℕ). Some y) m.1
+    ] (blocks_are_of_switches facts g b)
+
+-- the switch's table has the plan's entry at each LID up to the top
+pub held_entry : (part : Part) (cells : Cells) (f : Fabric) → HasBlocks cells → HoldsPlan part (plan_of cells) f
+    → (port : NodePort) (node : Node) → IsEndPortIn part f port node → is_usable cells node.guid ≡ true
+    → (lid top : ℕ) → top_of (lids cells) ≡ Some top → lid ≤ top → f.entry port.node lid ≡ entry_of cells node.guid lid
+held_entry part cells f planned held port node here usable lid top top_is low =
+    let s = node.guid in
+    let b = lid / 64 in
+    let count : block_count (top_of (lids cells)) ≡ suc (top / 64) = ap block_count top_is in
+    let has : HasBlock cells s b = ((usable_law cells s).0 usable, omega (arith, count, low)) in
+    let stands = (held port node here).blocks b (block_of cells s b) (planned s b has) (lid % 64) (omega arith) in
+    let its_entry : slice_get (block_of cells s b) (lid % 64) ≡ Some (entry_of cells s (64 * b + (0 + lid % 64))) =
+    made_at (λ i. entry_of cells s (64 * b + i)) 0 64 (lid % 64) (omega arith) in
+    ap (f.entry port.node) (parts lid)
+    ∙ sym (same_Some (entry_of cells s (64 * b + (0 + lid % 64))) (f.entry port.node (64 * b + lid % 64)) (sym its_entry ∙ stands))
+    ∙ ap (entry_of cells s) (whole lid)
+  where
+    parts : (n : ℕ) → n ≡ 64 * (n / 64) + n % 64
+    parts n = omega arith
+
+    whole : (n : ℕ) → 64 * (n / 64) + (0 + n % 64) ≡ n
+    whole n = omega arith

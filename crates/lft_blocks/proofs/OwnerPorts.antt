@@ -1,0 +1,115 @@
+-- The owner of a LID is a port of the part that has it; who has it is the owner; and facts know where it lies.
+use Rattle.std.proofs.Common.{◌≡◌, ◌≢◌, ◌↔◌, ℕ, List, sym, ap, ◌∙◌, subst, true, false, cond}
+use Rattle.std.proofs.lemmas.Bool.{and_left}
+use Rattle.std.proofs.lemmas.Option.{same_Some}
+use Rattle.std.specs.Prelude.{None, Some, Contains, is_some, option_and_then, slice_get}
+use Rattle.smp_bytes.specs.declared.cable.NodePort.{NodePort}
+use Rattle.smp_bytes.specs.Fabric.{Node, Fabric, IsEndPort, is_switch_at}
+use Rattle.smp_bytes.specs.FabricWalks.{IsJoinedTo}
+use Rattle.smp_bytes.proofs.FabricWalks.{same_port, type_at, adapter_vertex}
+use Rattle.subnet_view.specs.declared.end_port.EndPort.{EndPort}
+use Rattle.subnet_view.specs.Reading.{Cells, cap_of, is_switch_node, is_usable}
+use Rattle.subnet_view.specs.EndPorts.{HasEndPorts, end_ports}
+use Rattle.subnet_view.specs.Wires.{across, attached}
+use Rattle.subnet_view.specs.Agreement.{IsEndPortIn, IsPortNamed}
+use Rattle.subnet_view.proofs.Apart.{contains_map}
+use Rattle.subnet_view.proofs.WireLaws.{wire_law}
+use Rattle.lid_assign.specs.Lids.{lids, lid_of, owner_of, AreLids}
+use Rattle.lid_assign.proofs.Owners.{given-from_owner}
+use Rattle.updown_routes.proofs.PartWires.{IsTold, switch_at_place, switch_port, switch_known, switch_usable, known_type}
+use Rattle.updown_routes.proofs.Joined.{LiesAt, HasHome, itself, by_wire}
+use Rattle.lft_blocks.specs.Entries.{home_of}
+use Rattle.lft_blocks.specs.Plan.{plan_of}
+use Rattle.lft_blocks.specs.Arrival.{HoldsPlan}
+use Rattle.lft_blocks.proofs.HeldEntries.{HasBlocks}
+
+-- the LID has this owner in the plan, and the part holds the plan
+pub record IsPlanned (cells : Cells) (f : Fabric) (origin : NodePort) (lid : ℕ) (owner : EndPort) : Type 0 where
+  pub are_lids : AreLids cells (lids cells)
+  pub inverse : (e : EndPort) (n : ℕ) → (owner_of (lids cells) n ≡ Some e) ↔ (lid_of (lids cells) e ≡ Some n)
+  pub end_ports_listed : HasEndPorts cells (end_ports cells)
+  pub blocks : HasBlocks cells
+  pub held : HoldsPlan (IsJoinedTo f origin) (plan_of cells) f
+  pub owned : owner_of (lids cells) lid ≡ Some owner
+
+-- the port of the part that facts name so, and that has the LID
+pub record OwnerPort (f : Fabric) (origin : NodePort) (lid : ℕ) (owner : EndPort) : Type 0 where
+  pub port : NodePort
+  pub named : IsPortNamed f owner.node owner.port port
+  pub is_end : IsEndPort f port
+  pub joined : IsJoinedTo f origin port
+  pub own_lid : f.base_lid port ≡ lid
+
+name_is : (node : Node) (port : NodePort) (e : EndPort) → node.guid ≡ e.node → port.port ≡ e.port
+    → ◌≡◌ {A = EndPort} (record { node = node.guid; port = port.port }) e
+name_is node port e h k = λ i. record { node = h i; port = k i }
+
+-- it is an end port of the part
+pub owner_in_part : {f : Fabric} {origin : NodePort} {lid : ℕ} {owner : EndPort} (target : OwnerPort f origin lid owner)
+    → IsEndPortIn (IsJoinedTo f origin) f target.port target.named.node
+owner_in_part target = record { node_there = target.named.node_there; end_port = target.is_end; in_part = target.joined }
+
+module _ {cells : Cells} {f : Fabric} {origin : NodePort} {lid : ℕ} {owner : EndPort} (told : IsTold cells f origin)
+    (planned : IsPlanned cells f origin lid owner) where
+  pub owner_port : OwnerPort f origin lid owner
+  owner_port =
+      let given = contains_map (λ (x : EndPort × ℕ). x.0) (lids cells) (owner, lid) (given-from_owner (lids cells) owner lid planned.owned) in
+      let listed = subst (λ (es : List EndPort). Contains es owner) planned.are_lids.end_ports_in_order given in
+      let it = told.agrees.end_ports_exist owner.node owner.port ((planned.end_ports_listed owner).0 listed) in
+      let here : IsEndPortIn (IsJoinedTo f origin) f it.port it.named.node =
+      record { node_there = it.named.node_there; end_port = it.end_port; in_part = it.in_part } in
+      let held_lid : Some lid ≡ Some (f.base_lid it.port) =
+      sym ((planned.inverse owner lid).0 planned.owned) ∙ ap (lid_of (lids cells)) (sym (name_is it.named.node it.port owner it.named.guid_is it.named.port_is))
+      ∙ (planned.held it.port it.named.node here).lid in
+      record { port = it.port; named = it.named; is_end = it.end_port; joined = it.in_part; own_lid = same_Some (f.base_lid it.port) lid (sym held_lid) }
+
+  -- an end port of the part that has the LID is the owner's
+  pub lid_is_owners : (target : OwnerPort f origin lid owner) (v : NodePort) (node : Node) → IsEndPortIn (IsJoinedTo f origin) f v node
+      → f.base_lid v ≡ lid → v ≡ target.port
+  lid_is_owners target v node here own =
+      let name : EndPort = record { node = node.guid; port = v.port } in
+      let owned_by_v : owner_of (lids cells) lid ≡ Some name = (planned.inverse name lid).1
+      ((planned.held v node here).lid ∙ ap (λ (n : ℕ). Some n) own) in
+      let same : name ≡ owner = same_Some name owner (sym owned_by_v ∙ planned.owned) in
+      let guid : node.guid ≡ target.named.node.guid = ap (λ (e : EndPort). e.node) same ∙ sym target.named.guid_is in
+      same_port v target.port (told.agrees.guids_distinct v target.port node target.named.node here (owner_in_part target) guid)
+      (ap (λ (e : EndPort). e.port) same ∙ sym target.named.port_is)
+
+  -- facts know the owner's home
+  pub owner_home : (target : OwnerPort f origin lid owner) {h : NodePort} {g : ℕ} → HasHome f origin target.port h g
+      → home_of cells owner ≡ Some (g, h.port)
+  owner_home target {h = h} {g = g} home = where_it_lies home.lies
+    where
+      of_type : is_switch_node cells owner.node ≡ is_switch_at f target.port.node
+      of_type =
+          ap (is_switch_node cells) (sym target.named.guid_is)
+          ∙ known_type told target.port target.named.node (owner_in_part target)
+          ∙ sym (type_at f target.port.node target.named.node target.named.node_there)
+
+      where_it_lies : LiesAt f target.port h → home_of cells owner ≡ Some (g, h.port)
+      where_it_lies (itself s z e) =
+          let node : target.named.node ≡ home.there.node = same_Some target.named.node home.there.node
+          (sym target.named.node_there ∙ ap (λ (p : NodePort). slice_get f.nodes p.node) e ∙ home.there.at) in
+          let guid : owner.node ≡ g = sym target.named.guid_is ∙ ap (λ (n : Node). n.guid) node ∙ home.there.guid in
+          let number : 0 ≡ h.port = sym z ∙ ap (λ (p : NodePort). p.port) e in
+          let usable : is_usable cells owner.node ≡ true = ap (is_usable cells) guid ∙ switch_usable told home.there in
+          ap (λ t. cond t (Some (owner.node, 0)) (attached cells owner.node owner.port)) usable ∙ (λ i. Some (guid i, number i))
+      where_it_lies (by_wire s e) =
+          let apart : target.port ≢ h = λ same. cc (s, ap (λ (p : NodePort). is_switch_at f p.node) same, switch_at_place home.there) in
+          let its_vertex = subst (IsJoinedTo f origin) (sym (adapter_vertex f target.port s)) target.joined in
+          let wire : across cells owner.node owner.port ≡ Some (g, h.port) =
+          (wire_law cells owner.node owner.port g h.port).1 ((told.agrees.wires owner.node owner.port g h.port).1
+          (record {
+            from = target.port;
+            to = h;
+            from_named = target.named;
+            to_named = switch_port home.there h.port;
+            wire = record { cable = e; different = apart };
+            in_part = its_vertex;
+          })) in
+          let no_switch : is_switch_node cells owner.node ≡ false = of_type ∙ s in
+          ap (λ t. cond t (Some (owner.node, 0)) (attached cells owner.node owner.port))
+          (and_left (is_switch_node cells owner.node) (is_some (cap_of cells owner.node)) no_switch)
+          ∙ ap (λ t. cond t None (option_and_then (λ q. cond (is_switch_node cells q.0) (Some q) None) (across cells owner.node owner.port))) no_switch
+          ∙ ap (option_and_then (λ q. cond (is_switch_node cells q.0) (Some q) None)) wire
+          ∙ ap (λ t. cond t (Some (g, h.port)) None) (switch_known told home.there)

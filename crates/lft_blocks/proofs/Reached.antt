@@ -1,0 +1,245 @@
+-- By the plan's tables a packet comes from each end port of the part to its LID's owner.
+use Rattle.std.proofs.Common.{◌≡◌, ◌≤◌, ℕ, suc, List, [], ◌∷◌, ◌++◌, refl, sym, ap, ◌∙◌, subst, arith, Bool, true, false, cond, ◌==◌, not, map, length}
+use Rattle.std.proofs.lemmas.Bool.{and_left, and_right, eqb-true, eq-eqb}
+use Rattle.std.specs.Prelude.{Some}
+use Rattle.std.specs.FinMap.{entries}
+use Rattle.smp_bytes.specs.declared.cable.NodePort.{NodePort}
+use Rattle.smp_bytes.specs.declared.course.Course.TheVariants.{Delivers}
+use Rattle.smp_bytes.specs.Fabric.{Fabric, IsEndPort, is_switch_at}
+use Rattle.smp_bytes.specs.FabricWalks.{IsJoinedTo}
+use Rattle.smp_bytes.specs.Forwarding.{Standing, sent_from, arrived_at, course, Hop, Goes, IsDelivered}
+use Rattle.smp_bytes.proofs.FabricWalks.{port_at, same_port, type_at}
+use Rattle.fact_store.specs.View.{Facts}
+use Rattle.subnet_view.specs.declared.end_port.EndPort.{EndPort}
+use Rattle.subnet_view.specs.Reading.{Cells}
+use Rattle.subnet_view.proofs.EndPortList.{end_ports_law}
+use Rattle.lid_assign.specs.Lids.{IsNoRoom}
+use Rattle.lid_assign.proofs.LidLaws.{lids_law}
+use Rattle.lid_assign.proofs.Owners.{owners_are_inverse}
+use Rattle.port_graph.specs.Slopes.{cost}
+use Rattle.port_graph.specs.Routes.{Way}
+use Rattle.updown_routes.specs.Graph.{graph_of}
+use Rattle.updown_routes.specs.GraphLaws.{IsSwitch}
+use Rattle.updown_routes.specs.Ranks.{slopes_of, in_one_component}
+use Rattle.updown_routes.proofs.Components.{component_itself, cost_in_component}
+use Rattle.updown_routes.proofs.Ways.{way_law}
+use Rattle.updown_routes.proofs.Switches.{usable_switch}
+use Rattle.updown_routes.proofs.Graphs.{graph_law}
+use Rattle.updown_routes.proofs.PartWires.{IsTold, SwitchIn, one_place, switch_at_place}
+use Rattle.updown_routes.proofs.Joined.{LiesAt, HasHome, itself, by_wire, Meets, same, wired, apart, own_home, switch_in_graph, joined_meet}
+use Rattle.lft_blocks.specs.Plan.{plan_of}
+use Rattle.lft_blocks.specs.Arrival.{guid_at, is_between_switches, switch_hops, switches_met, IsRoutedWay, EveryPacketArrives}
+use Rattle.lft_blocks.proofs.HeldEntries.{entry_of, planned_block}
+use Rattle.lft_blocks.proofs.OwnerPorts.{IsPlanned, OwnerPort, owner_port, lid_is_owners, owner_home}
+use Rattle.lft_blocks.proofs.Courses.{WayTaken, guid_there, way_passes, way_taken, goes_on}
+use Rattle.lft_blocks.proofs.Courses.{adapter_takes, adapter_sends, switch_takes, switch_sends, entry_at_home}
+use Rattle.lft_blocks.proofs.Routed.{stops, arrival_ports, arrivals, adapter_hops, way_arrivals, way_switch_hops, way_adapter_hops}
+use Rattle.lft_blocks.proofs.Routed.{routed_by_way, routed_past_switches}
+
+-- from a source to the switch that it lies at: no wire, or the one of an adapter port
+pub record Started (f : Fabric) (lid : ℕ) (source h : NodePort) (a : ℕ) : Type 0 where
+  pub before : List Hop
+  pub start : Standing
+  pub goes : Goes f lid (sent_from source) before start
+  pub here : start.place.node ≡ h.node
+  pub met : (rest : List Hop) → switches_met f source (before ++ rest) ≡ a ∷ arrivals f rest
+  pub between : (rest : List Hop) → switch_hops f (before ++ rest) ≡ switch_hops f rest
+  pub few : (rest : List Hop) → length (adapter_hops f (before ++ rest)) ≤ suc (length (adapter_hops f rest))
+
+-- from the owner's switch to the owner: no wire, or the one to an adapter port
+pub record Ended (f : Fabric) (lid : ℕ) (last : Standing) (target : NodePort) : Type 0 where
+  pub after : List Hop
+  pub end : Standing
+  pub goes : Goes f lid last after end
+  pub takes : course f lid end ≡ Delivers target
+  pub met : arrivals f after ≡ []
+  pub between : switch_hops f after ≡ []
+  pub few : length (adapter_hops f after) ≤ 1
+
+one_more : (t : Bool) (h : Hop) (hops : List Hop) → length (cond t (h ∷ hops) hops) ≤ suc (length hops)
+one_more true h hops = omega arith
+one_more false h hops = omega arith
+
+module _ {cells : Cells} {f : Fabric} {origin : NodePort} {lid : ℕ} {owner : EndPort} (told : IsTold cells f origin)
+    (planned : IsPlanned cells f origin lid owner) (target : OwnerPort f origin lid owner) where
+  abbrev Delivery : NodePort → Type 0
+  Delivery source = (hops : List Hop) × IsDelivered f lid source hops target.port × IsRoutedWay cells f source hops
+
+  starts : (source : NodePort) {h : NodePort} {a : ℕ} → IsEndPort f source → (is_switch_at f source.node ≡ false → f.base_lid source ≡ lid → ⊥)
+      → HasHome f origin source h a → Started f lid source h a
+  starts source {h = h} {a = a} (node, at, number) other home = from_port home.lies
+    where
+      from_port : LiesAt f source h → Started f lid source h a
+      from_port (itself s z e) =
+          record {
+            before = [];
+            start = sent_from source;
+            goes = refl;
+            here = ap (λ (p : NodePort). p.node) e;
+            met = λ rest.
+                ap (λ t. map (guid_at f) (cond t (source ∷ arrival_ports f rest) (arrival_ports f rest))) s
+                ∙ ap (λ g. g ∷ arrivals f rest) (guid_there source home.there (ap (λ (p : NodePort). p.node) e));
+            between = λ rest. refl;
+            few = λ rest. omega arith;
+          }
+      from_port (by_wire s e) =
+          let hop : Hop = record { out = source; into = h } in
+          let at_switch = switch_at_place home.there in
+          record {
+            before = hop ∷ [];
+            start = arrived_at h;
+            goes = (adapter_sends f lid source node at (sym (type_at f source.node node at) ∙ s) (other s), e, refl);
+            here = refl;
+            met = λ rest.
+                let arrived : List NodePort = arrival_ports f rest in
+                let met_there : List NodePort = cond (is_switch_at f h.node) (h ∷ arrived) arrived in
+                ap (λ t. map (guid_at f) (cond t (source ∷ met_there) met_there)) s
+                ∙ ap (λ t. map (guid_at f) (cond t (h ∷ arrived) arrived)) at_switch
+                ∙ ap (λ g. g ∷ arrivals f rest) (guid_there h home.there refl);
+            between = λ rest. ap (λ t. cond t (hop ∷ switch_hops f rest) (switch_hops f rest))
+                (and_left (is_switch_at f source.node) (is_switch_at f h.node) s);
+            few = λ rest. one_more (not (is_between_switches f hop)) hop (adapter_hops f rest);
+          }
+
+  ends : {k : NodePort} {b : ℕ} (last : Standing) → HasHome f origin target.port k b → SwitchIn f origin last.place.node b → Ended f lid last target.port
+  ends {k = k} {b = b} last home there = to_port home.lies
+    where
+      place_is : last.place.node ≡ k.node
+      place_is = one_place told there home.there
+
+      entry : entry_of cells b lid ≡ k.port
+      entry = entry_at_home told planned (owner_home told planned target home)
+
+      to_port : LiesAt f target.port k → Ended f lid last target.port
+      to_port (itself s z e) =
+          let zero_port : k.port ≡ 0 = sym (ap (λ (p : NodePort). p.port) e) ∙ z in
+          record {
+            after = [];
+            end = last;
+            goes = refl;
+            takes = switch_takes told planned last there refl (entry ∙ zero_port)
+                ∙ ap Delivers (same_port (port_at last.place.node 0) k place_is (sym zero_port) ∙ sym e);
+            met = refl;
+            between = refl;
+            few = omega arith;
+          }
+      to_port (by_wire s e) =
+          let out : NodePort = port_at last.place.node k.port in
+          let hop : Hop = record { out = out; into = target.port } in
+          let wire : f.across out ≡ Some target.port = ap f.across (same_port out k place_is refl) ∙ told.is_fabric.both_ways target.port k e in
+          record {
+            after = hop ∷ [];
+            end = arrived_at target.port;
+            goes = (switch_sends told planned k.port last target.port there refl entry wire, wire, refl);
+            takes = adapter_takes f lid (arrived_at target.port) target.named.node target.named.node_there
+                (sym (type_at f target.port.node target.named.node target.named.node_there) ∙ s) target.own_lid;
+            met = ap (λ t. map (guid_at f) (cond t (target.port ∷ []) [])) s;
+            between = ap (λ t. cond t (hop ∷ []) []) (and_right (is_switch_at f out.node) (is_switch_at f target.port.node) s);
+            few = one_more (not (is_between_switches f hop)) hop [];
+          }
+
+  -- the wires to the first switch, those of the way, and those to the owner
+  joined_parts : (source : NodePort) {h : NodePort} {a b n : ℕ} → IsSwitch (graph_of cells) a → cost (slopes_of (graph_of cells)) a b ≡ Some n
+      → (way : Way (slopes_of (graph_of cells)) a b n) (first : Started f lid source h a)
+      (taken : WayTaken f origin lid first.start a b (way.ups ++ way.downs))
+      → Ended f lid taken.end target.port → Delivery source
+  joined_parts source {a = a} {b = b} {n = n} a_switch its_cost way first taken last =
+      let es = way.ups ++ way.downs in
+      let rest = taken.hops ++ last.after in
+      let met : switches_met f source (first.before ++ rest) ≡ stops a es =
+      first.met rest ∙ ap (λ gs. a ∷ gs) (way_arrivals f es taken.hops last.after a taken.follows last.met) in
+      let between : switch_hops f (first.before ++ rest) ≡ taken.hops =
+      first.between rest ∙ way_switch_hops f es taken.hops last.after a taken.follows last.between in
+      let few : length (adapter_hops f (first.before ++ rest)) ≤ 2 =
+      omega (arith, first.few rest, ap length (way_adapter_hops f es taken.hops last.after a taken.follows), last.few) in (
+        first.before ++ rest,
+        (
+          last.end,
+          goes_on f lid first.before rest (sent_from source) first.start last.end first.goes
+              (goes_on f lid taken.hops last.after first.start taken.end last.end taken.goes last.goes),
+          last.takes,
+        ),
+        routed_by_way cells f told.is_graph source (first.before ++ rest) taken.hops a b n a_switch its_cost way taken.follows met between few,
+      )
+
+  -- over switches of one component
+  over_switches : (source : NodePort) {h k : NodePort} {a b : ℕ} → IsEndPort f source → (is_switch_at f source.node ≡ false → f.base_lid source ≡ lid → ⊥)
+      → HasHome f origin source h a → HasHome f origin target.port k b → in_one_component (graph_of cells) a b ≡ true → Delivery source
+  over_switches source {a = a} {b = b} is_end other from to joins =
+      let graph = graph_of cells in
+      let a_switch = switch_in_graph told from.there in
+      let (n, its_cost) = cost_in_component graph told.is_graph a b a_switch (switch_in_graph told to.there) joins in
+      let way = way_law graph told.is_graph n a b its_cost in
+      let first = starts source is_end other from in
+      let passes = way_passes graph way.ups way.downs a way.summit b way.climbs way.descends in
+      let taken = way_taken told planned (owner_home told planned target to) (way.ups ++ way.downs) first.start from.there first.here way.goes passes in
+      joined_parts source a_switch its_cost way first taken (ends taken.end to taken.there)
+
+  from_switch : (source : NodePort) → IsEndPort f source → IsJoinedTo f origin source → is_switch_at f source.node ≡ true
+      → Meets cells f origin source target.port → Delivery source
+  from_switch source is_end j s (same e) =
+      let (g, home) = own_home f origin source is_end j s in
+      over_switches source is_end (λ r. absurd (cc)) home (subst (λ (p : NodePort). HasHome f origin p source g) e home)
+      (component_itself (graph_of cells) told.is_graph g (switch_in_graph told home.there))
+  from_switch source is_end j s (wired r t e) = absurd (cc)
+  from_switch source is_end j s (apart h k a b from to e) = over_switches source is_end (λ r. absurd (cc)) from to e
+
+  from_adapter : (source : NodePort) → IsEndPort f source → is_switch_at f source.node ≡ false → (f.base_lid source ≡ lid → ⊥)
+      → Meets cells f origin source target.port → Delivery source
+  from_adapter source is_end s other (same e) = absurd (other (ap f.base_lid e ∙ target.own_lid))
+  from_adapter source (node, at, number) s other (wired r t e) =
+      let hop : Hop = record { out = source; into = target.port } in
+      let arrived : List NodePort = cond (is_switch_at f target.port.node) (target.port ∷ []) [] in (
+        hop ∷ [],
+        (
+          arrived_at target.port,
+          (adapter_sends f lid source node at (sym (type_at f source.node node at) ∙ s) other, e, refl),
+          adapter_takes f lid (arrived_at target.port) target.named.node target.named.node_there
+              (sym (type_at f target.port.node target.named.node target.named.node_there) ∙ t) target.own_lid,
+        ),
+        routed_past_switches cells f source (hop ∷ [])
+            (ap (λ x. map (guid_at f) (cond x (source ∷ arrived) arrived)) s ∙ ap (λ x. map (guid_at f) (cond x (target.port ∷ []) [])) t)
+            (ap (λ x. cond x (hop ∷ []) []) (and_left (is_switch_at f source.node) (is_switch_at f target.port.node) s))
+            (omega arith),
+      )
+  from_adapter source is_end s other (apart h k a b from to e) = over_switches source is_end (λ r. other) from to e
+
+  -- an adapter port has the LID itself
+  to_itself : (source : NodePort) → IsEndPort f source → IsJoinedTo f origin source → is_switch_at f source.node ≡ false → f.base_lid source ≡ lid
+      → Delivery source
+  to_itself source (node, at, number) j s own =
+      let is_target = lid_is_owners told planned target source node (record { node_there = at; end_port = (node, at, number); in_part = j }) own in (
+        [],
+        (sent_from source, refl, adapter_takes f lid (sent_from source) node at (sym (type_at f source.node node at) ∙ s) own ∙ ap Delivers is_target),
+        routed_past_switches cells f source [] (ap (λ t. map (guid_at f) (cond t (source ∷ []) [])) s) refl (omega arith),
+      )
+
+  delivery : (source : NodePort) → IsEndPort f origin → IsEndPort f source → IsJoinedTo f origin source → Delivery source
+  delivery source is_origin is_end j =
+      let meets = joined_meet told is_origin source target.port j target.joined in
+      elim (is_switch_at f source.node) as (λ t. is_switch_at f source.node ≡ t → Delivery source) [
+        | true ↦ λ s. from_switch source is_end j s meets
+        | false ↦ λ s. (elim (f.base_lid source == lid) as (λ t. (f.base_lid source == lid) ≡ t → Delivery source) [
+          | true ↦ λ e. to_itself source is_end j s (eqb-true (f.base_lid source) lid e)
+          | false ↦ λ e. from_adapter source is_end s (λ own. cc (e, eq-eqb (f.base_lid source) lid own)) meets
+        ] refl)
+      ] refl
+
+-- where the plan is in force, every packet arrives
+pub every_packet_arrives : (facts : Facts) → ¬ (IsNoRoom (entries facts)) → EveryPacketArrives (entries facts) (plan_of (entries facts))
+every_packet_arrives facts has_room f origin is_origin in_force source is_end j lid owner owned =
+    let cells = entries facts in
+    let told : IsTold cells f origin =
+    record { is_fabric = in_force.is_fabric; agrees = in_force.agrees; is_graph = graph_law facts; listed = usable_switch facts } in
+    let planned : IsPlanned cells f origin lid owner =
+    record {
+      are_lids = lids_law facts has_room;
+      inverse = owners_are_inverse facts has_room;
+      end_ports_listed = (end_ports_law facts).0;
+      blocks = planned_block facts;
+      held = in_force.holds;
+      owned = owned;
+    } in
+    let target = owner_port told planned in
+    let d = delivery told planned target source is_origin is_end j in
+    record { target = target.port; is_owner = target.named; in_part = target.joined; hops = d.0; delivered = d.1; way = d.2 }

@@ -1,0 +1,63 @@
+-- When a view tells exactly what a part of a fabric is. What it says of claims may be anything.
+-- InfiniBand Architecture Specification, Volume 1: subnet management, NodeInfo, PortInfo and SwitchInfo.
+use Rattle.std.specs.Prelude.{◌≡◌, ◌↔◌, ℕ, Some, IsTrue}
+use Rattle.smp_bytes.specs.declared.cable.NodePort.{NodePort}
+use Rattle.smp_bytes.specs.NodeType.{is_switch}
+use Rattle.smp_bytes.specs.Fabric as fabric
+use Rattle.smp_bytes.specs.Fabric.{Fabric, IsNodeAt}
+use Rattle.smp_bytes.specs.FabricWalks as walks
+use Rattle.smp_bytes.specs.FabricWalks.{vertex_of}
+use Rattle.subnet_view.specs.Reading.{Cells, node_of, port_guid_of, cap_of, IsUsable}
+use Rattle.subnet_view.specs.EndPorts.{IsEndPort}
+use Rattle.subnet_view.specs.Wires.{IsWire}
+
+-- a part of a fabric, by its vertices: all of it, or what is joined to one of them
+abbrev pub Part : Type 1
+Part = NodePort → Type 0
+
+-- all of it
+abbrev pub WholeFabric : Part
+WholeFabric vertex = Unit {0}
+
+-- an end port of the part, and the node that it is a port of
+pub record IsEndPortIn (part : Part) (f : Fabric) (port : NodePort) (node : fabric.Node) : Type 0 where
+  pub node_there : IsNodeAt f port.node node
+  pub end_port : fabric.IsEndPort f port
+  pub in_part : part port
+
+-- the port p of the node with the GUID g
+pub record IsPortNamed (f : Fabric) (g p : ℕ) (port : NodePort) : Type 0 where
+  pub node : fabric.Node
+  pub node_there : IsNodeAt f port.node node
+  pub guid_is : node.guid ≡ g
+  pub port_is : port.port ≡ p
+
+-- the port p of the node with the GUID g is an end port of the part
+pub record HasEndPort (part : Part) (f : Fabric) (g p : ℕ) : Type 0 where
+  pub port : NodePort
+  pub named : IsPortNamed f g p port
+  pub end_port : fabric.IsEndPort f port
+  pub in_part : part port
+
+-- a wire of the part, by the GUIDs of its nodes and the numbers of its ports
+pub record HasWire (part : Part) (f : Fabric) (g p h q : ℕ) : Type 0 where
+  pub from : NodePort
+  pub to : NodePort
+  pub from_named : IsPortNamed f g p from
+  pub to_named : IsPortNamed f h q to
+  pub wire : walks.IsWire f from to
+  pub in_part : part (vertex_of f from)
+
+-- the facts have the type and the ports of an end port's node, its port GUID, and a switch's table room
+pub record TellsEndPort (cells : Cells) (node : fabric.Node) (p : ℕ) : Type 0 where
+  pub kind : node_of cells node.guid ≡ Some (node.kind, node.ports)
+  pub port_guid : port_guid_of cells node.guid p ≡ Some (node.port_guid p)
+  pub cap : IsTrue (is_switch node.kind) → cap_of cells node.guid ≡ Some node.cap
+
+-- the facts tell the end ports of the part and their nodes, its switches and its wires, and no others
+pub record AgreesOn (part : Part) (cells : Cells) (f : Fabric) : Type 0 where
+  pub guids_distinct : (p q : NodePort) (a b : fabric.Node) → IsEndPortIn part f p a → IsEndPortIn part f q b → a.guid ≡ b.guid → p.node ≡ q.node
+  pub tells_end_ports : (port : NodePort) (node : fabric.Node) → IsEndPortIn part f port node → TellsEndPort cells node port.port
+  pub end_ports_exist : (g p : ℕ) → IsEndPort cells g p → HasEndPort part f g p
+  pub switches_exist : (g : ℕ) → IsUsable cells g → HasEndPort part f g 0
+  pub wires : (g p h q : ℕ) → IsWire cells g p h q ↔ HasWire part f g p h q
