@@ -33,8 +33,13 @@ impl Model for Phase {
 
 /// The phases in which a manager at the port of a GUID and a number writes a plan, over the paths
 /// of its last sweep: LIDs, blocks, the greatest LID, and then the states of ports on wires, Armed
-/// and Active. Agents that the sweep did not reach are left out. Walks the cells once, and takes a
-/// few searches for each step and some ten for each port on a wire.
+/// and Active (subnet management, initialization). Agents that the sweep did not reach are left
+/// out. Walks the cells once, and takes a few searches for each step and some ten for each port on
+/// a wire.
+///
+/// # Errors
+///
+/// Want of memory alone.
 pub fn phases(
     alloc: Global,
     plan: &Plan,

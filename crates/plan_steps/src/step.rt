@@ -4,11 +4,12 @@ ghost use Rattle.plan_steps.specs.Step.{is_answered_by, set_packet, step_at};
 use smp_bytes::{AttributeId, Guid, Method, Path, PortNum, Smp, SmpClass};
 use sweep::{Sweep, copied, has_ports};
 
-/// One thing that is set on an agent.
+/// One thing that is set on an agent over a directed route (subnet management, SubnSet).
 #[derive(Debug, Drop)]
 pub struct Step {
     /// The ports that lead to the agent.
     pub path: Path<63>,
+    /// The number of the attribute.
     pub attribute: u16,
     /// The port for PortInfo, and the number of a block.
     pub modifier: u32,
@@ -32,7 +33,7 @@ impl Step {
     }
 
     /// Whether a packet is a directed one of this TransactionID, with the attribute, the modifier
-    /// and the path of the step. Of the answer to it the method is not looked at.
+    /// and the path of the step. Its method and its status are not looked at.
     pub fn is_answered_by(&self, transaction: u64, packet: &Smp) -> bool
         ensures { result ≡ is_answered_by transaction self.now packet.now }
     {

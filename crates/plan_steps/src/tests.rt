@@ -106,6 +106,12 @@ fn told(smp: &Smp, at: (u64, u8), state: PortState) -> [u8; 64] {
     }
 }
 
+/// A sweep of a generation from H1, which has asked nothing.
+fn start(alloc: Global, generation: u32) -> Result<Sweep, Fail> {
+    let generation = Generation::new(generation).ok_or("0")?;
+    Ok(Sweep::start(alloc, PortNum::new(1), generation, 1)?)
+}
+
 /// A sweep of a generation from H1, whose facts the store takes in. Ports on wires are in this
 /// state, and one node may not answer.
 fn swept(
@@ -115,8 +121,7 @@ fn swept(
     state: PortState,
     silent: u64,
 ) -> Result<Sweep, Fail> {
-    let generation = Generation::new(generation).ok_or("0")?;
-    let mut sweep = Sweep::start(alloc, PortNum::new(1), generation, 1)?;
+    let mut sweep = start(alloc, generation)?;
     for _ in 0..40 {
         if let Some(smp) = sweep.next_request() {
             let at = place_of(&smp).ok_or("no wire")?;
@@ -134,8 +139,19 @@ fn swept(
 /// A node that the fabric has not.
 const NONE: u64 = 0;
 
-/// The phases that the manager at the port of this GUID writes after two sweeps, of which one node
-/// does not answer the second.
+/// The phases in which the manager at the port of this GUID writes what the store plans.
+fn phases_of(
+    alloc: Global,
+    store: &Store,
+    sweep: &Sweep,
+    own_guid: u64,
+) -> Result<VecDeque<Phase>, Fail> {
+    let plan = Plan::of(alloc, store)?;
+    let own_guid = Guid::new(own_guid);
+    Ok(phases(alloc, &plan, store, sweep, own_guid, PortNum::new(1))?)
+}
+
+/// Those after two sweeps, of which one node does not answer the second.
 fn planned(
     alloc: Global,
     own_guid: u64,
@@ -145,9 +161,14 @@ fn planned(
     let mut store = Store::new(alloc);
     swept(alloc, &mut store, 1, state, NONE)?;
     let sweep = swept(alloc, &mut store, 2, state, silent)?;
-    let plan = Plan::of(alloc, &store)?;
-    let port = PortNum::new(1);
-    Ok(phases(alloc, &plan, &store, &sweep, Guid::new(own_guid), port)?)
+    phases_of(alloc, &store, &sweep, own_guid)
+}
+
+/// Those before anything is known.
+fn planned_of_nothing(alloc: Global) -> Result<VecDeque<Phase>, Fail> {
+    let store = Store::new(alloc);
+    let sweep = start(alloc, 1)?;
+    phases_of(alloc, &store, &sweep, 0x101)
 }
 
 /// How many steps each phase has, and whether it counts.
@@ -189,12 +210,7 @@ fn has_the_steps_of_each_phase(rt: HostRuntime) -> Result<(), Fail> {
 
 #[test]
 fn has_none_without_end_ports(rt: HostRuntime) -> Result<(), Fail> {
-    let store = Store::new(rt.alloc());
-    let generation = Generation::new(1).ok_or("0")?;
-    let port = PortNum::new(1);
-    let sweep = Sweep::start(rt.alloc(), port, generation, 1)?;
-    let plan = Plan::of(rt.alloc(), &store)?;
-    let phases = phases(rt.alloc(), &plan, &store, &sweep, Guid::new(0x101), port)?;
+    let phases = planned_of_nothing(rt.alloc())?;
     assert!(rt; counts(&phases) == five([0; 5]));
     Ok(())
 }
@@ -222,89 +238,93 @@ fn packet(phases: &VecDeque<Phase>, phase: usize, step: usize) -> Option<[u8; 25
     Some(*phases.get(phase)?.steps.get(step)?.packet(7).bytes())
 }
 
+/// A packet, by the port GUID of the manager, the phase and the place there: what it has besides.
+type Packet = (u64, usize, usize, &'static [(usize, &'static [u8])]);
+
+/// By rising bytes: the hops, the attribute, the modifier, the data and the path. The greatest LID
+/// is 5, and that of the manager at H1 is 4.
+const PACKETS: [Packet; 8] = [
+    (
+        0x101,
+        0,
+        0,
+        &[
+            (7, &[2]),
+            (17, &[0x15]),
+            (80, &[0, 1, 0, 4]),
+            (129, &[1, 1]),
+        ],
+    ),
+    (
+        0x101,
+        0,
+        3,
+        &[(17, &[0x15]), (23, &[1]), (80, &[0, 4, 0, 4])],
+    ),
+    (
+        0x102,
+        0,
+        3,
+        &[(17, &[0x15]), (23, &[1]), (80, &[0, 4, 0, 0])],
+    ),
+    (
+        0x101,
+        1,
+        0,
+        &[
+            (7, &[2]),
+            (17, &[0x19]),
+            (64, &[0xff; 64]),
+            (65, &[0, 1, 2, 1, 2]),
+            (129, &[1, 1]),
+        ],
+    ),
+    (
+        0x101,
+        2,
+        1,
+        &[(7, &[1]), (17, &[0x12]), (70, &[0, 5]), (129, &[1])],
+    ),
+    (
+        0x101,
+        3,
+        8,
+        &[(17, &[0x15]), (23, &[1]), (80, &[0, 4, 0, 4]), (96, &[3])],
+    ),
+    (
+        0x101,
+        4,
+        4,
+        &[
+            (7, &[1]),
+            (17, &[0x15]),
+            (23, &[3]),
+            (96, &[4]),
+            (129, &[1]),
+        ],
+    ),
+    (
+        0x101,
+        4,
+        9,
+        &[
+            (7, &[3]),
+            (17, &[0x15]),
+            (23, &[1]),
+            (80, &[0, 5, 0, 4]),
+            (96, &[4]),
+            (129, &[1, 2, 3]),
+        ],
+    ),
+];
+
 #[test]
 fn packets_byte_for_byte(rt: HostRuntime) -> Result<(), Fail> {
-    let ours = planned(rt.alloc(), 0x101, PortState::Initialize, NONE)?;
-    let nobodys = planned(rt.alloc(), 0x102, PortState::Initialize, NONE)?;
-    let block_of_s1: &[u8] = &[0xff, 0, 1, 2, 1, 2];
-    for (phases, phase, step, besides) in [
-        (
-            &ours,
-            0,
-            0,
-            [
-                (7, [2].as_slice()),
-                (17, &[0x15]),
-                (80, &[0, 1, 0, 4]),
-                (129, &[1, 1]),
-            ]
-            .as_slice(),
-        ),
-        (
-            &ours,
-            0,
-            3,
-            &[(17, &[0x15]), (23, &[1]), (80, &[0, 4, 0, 4])],
-        ),
-        (
-            &nobodys,
-            0,
-            3,
-            &[(17, &[0x15]), (23, &[1]), (80, &[0, 4, 0, 0])],
-        ),
-        (
-            &ours,
-            1,
-            0,
-            &[
-                (7, &[2]),
-                (17, &[0x19]),
-                (64, &[0xff; 64]),
-                (64, block_of_s1),
-                (129, &[1, 1]),
-            ],
-        ),
-        (
-            &ours,
-            2,
-            1,
-            &[(7, &[1]), (17, &[0x12]), (70, &[0, 5]), (129, &[1])],
-        ),
-        (
-            &ours,
-            3,
-            8,
-            &[(17, &[0x15]), (23, &[1]), (80, &[0, 4, 0, 4]), (96, &[3])],
-        ),
-        (
-            &ours,
-            4,
-            4,
-            &[
-                (7, &[1]),
-                (17, &[0x15]),
-                (23, &[3]),
-                (96, &[4]),
-                (129, &[1]),
-            ],
-        ),
-        (
-            &ours,
-            4,
-            9,
-            &[
-                (7, &[3]),
-                (17, &[0x15]),
-                (23, &[1]),
-                (80, &[0, 5, 0, 4]),
-                (96, &[4]),
-                (129, &[1, 2, 3]),
-            ],
-        ),
-    ] {
+    for (own_guid, phase, step, besides) in PACKETS {
+        let phases = planned(rt.alloc(), own_guid, PortState::Initialize, NONE)?;
         assert!(rt;
-            packet(phases, phase, step) == Some(set(besides)),
-            "{phase} {step}"
+            packet(&phases, phase, step) == Some(set(besides)),
+            "{own_guid} {phase} {step}"
         );
     }
     Ok(())
