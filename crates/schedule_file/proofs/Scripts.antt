@@ -1,12 +1,13 @@
 -- The schedules that texts tell: their commands name managers that there are, at ports of adapters.
 use Rattle.std.proofs.Common.{◌≡◌, ℕ, ◌+◌, ◌<◌, Bool, true, false, cond, List, [], ◌∷◌, ◌++◌, length, get_or, Option, None, Some, Result, Ok, Err, refl, arith, length-append}
-use Rattle.std.specs.Prelude.{IfSome, IfOk, All, is_some, option_map, option_and_then, position, codes, if◌then◌else◌}
+use Rattle.std.specs.Prelude.{IfSome, IfOk, All, is_some, option_map, option_and_then, position, codes, not, if◌then◌else◌}
 use Rattle.std.proofs.lemmas.Result.{IfOk-at_ok}
 use Rattle.std.proofs.lemmas.List.Elements.{All-push, All-nil}
 use Rattle.std.proofs.lemmas.List.Quantifiers.{position-Some}
 use Rattle.std.specs.Str.{bytes_eq}
 use Rattle.smp_bytes.specs.declared.cable.NodePort.{NodePort}
 use Rattle.text_words.specs.Text.{words}
+use Rattle.text_words.proofs.Names.{both}
 use Rattle.text_words.proofs.Ranges.{then_some, mapped, tested, always}
 use Rattle.topo_file.specs.declared.node.Node.{Node}
 use Rattle.schedule_file.specs.declared.command.Command.{Command}
@@ -150,15 +151,11 @@ where_true : {A : Type 0} (Q : A → Type 0) (b : Bool) (why : ScheduleFault) (r
 where_true Q true why r h = h refl
 where_true Q false why r h = tt
 
-first_of : (a b : Bool) → cond a b false ≡ true → a ≡ true
-first_of true b h = refl
-first_of false b h = h
-
 seated : (nodes : List Node) (seats : List Seat) (number : ℕ) (new : NewManager) (p : Option NodePort)
     → IfOk (seat_at nodes seats number new p) (λ seat. is_seat nodes seat.at ≡ true)
 seated nodes seats number new None = tt
 seated nodes seats number new (Some p) =
-    where_true (λ seat. is_seat nodes seat.at ≡ true) (is_free nodes seats p) (fault.Seat number) _ (λ h. first_of (is_seat nodes p) _ h)
+    where_true (λ seat. is_seat nodes seat.at ≡ true) (is_free nodes seats p) (fault.Seat number) _ (λ h. (both (is_seat nodes p) (not (is_taken seats p)) h).0)
 
 new_seat_range : (nodes : List Node) (seats : List Seat) (number : ℕ) (new : NewManager)
     → IfOk (new_seat nodes seats number new) (λ seat. is_seat nodes seat.at ≡ true)
