@@ -1,0 +1,10 @@
+-- The packets in flight that commands are about.
+use Rattle.std.specs.Prelude.{ℕ, ◌-◌, List, Option, Some, length, option_map, slice_get}
+use Rattle.fabric_sim.specs.declared.flight.Flight.{Flight}
+use Rattle.schedule_file.specs.declared.command.Which.{Which}
+use Rattle.schedule_file.specs.declared.command.Which.TheVariants.{Last, Serial}
+
+-- the serial number of the last packet in flight, or the one that is told
+abbrev pub serial_of : List Flight → Which → Option ℕ
+serial_of flights Last = option_map (λ flight. flight.serial) (slice_get flights (length flights - 1))
+serial_of flights (Serial serial) = Some serial
