@@ -17,7 +17,7 @@ use topo_file::Topology;
 const FIRST_SERIAL: u64 = 1;
 
 /// The LID of both ends of a directed packet.
-const PERMISSIVE: Lid = Lid::new(0xFFFF);
+const PERMISSIVE: u16 = 0xFFFF;
 
 /// A manager, and its seat.
 #[derive(Drop)]
@@ -94,10 +94,11 @@ fn send_queued<W: Sink>(
 
 /// The packet that a manager sends.
 fn packet(outgoing: &Outgoing) -> Packet {
+    let permissive = Lid::new(PERMISSIVE);
     Packet {
         bytes: *outgoing.packet.bytes(),
-        slid: PERMISSIVE,
-        dlid: outgoing.to.unwrap_or(PERMISSIVE),
+        slid: permissive,
+        dlid: outgoing.to.unwrap_or(permissive),
     }
 }
 
