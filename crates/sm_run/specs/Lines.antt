@@ -9,14 +9,18 @@ use Rattle.fabric_sim.specs.declared.ping.Ping.TheVariants.{Reached, Lost}
 use Rattle.sm_manager.specs.declared.progress.Progress.{Progress}
 use Rattle.sm_manager.specs.declared.progress.Progress.TheVariants.{Never, Running, Done}
 
+-- words, and how many
+abbrev pub count_text : List ℕ → ℕ → List ℕ
+count_text words count = words ++ decimal count
+
 -- how many requests were not answered, and how many ports lead too far
-abbrev pub count_text : ℕ → ℕ → List ℕ
-count_text unanswered too_far = codes " unanswered " ++ decimal unanswered ++ codes " toofar " ++ decimal too_far
+unfoldable pub counts_text : ℕ → ℕ → List ℕ
+counts_text unanswered too_far = count_text (codes " unanswered ") unanswered ++ count_text (codes " toofar ") too_far
 
 abbrev pub state_text : Progress → List ℕ
 state_text Never = codes " never"
-state_text (Running unanswered too_far) = codes " running" ++ count_text unanswered too_far
-state_text (Done unanswered too_far) = codes " done" ++ count_text unanswered too_far
+state_text (Running unanswered too_far) = codes " running" ++ counts_text unanswered too_far
+state_text (Done unanswered too_far) = codes " done" ++ counts_text unanswered too_far
 
 -- how far the manager of a name is with its sweep
 abbrev pub progress_line : List ℕ → Progress → List ℕ
@@ -26,14 +30,18 @@ progress_line manager progress = codes "progress " ++ manager ++ state_text prog
 abbrev pub port_text : List Node → NodePort → List ℕ
 port_text nodes p = quoted_text (name_at nodes p.node) ++ bracketed_text p.port
 
--- where a packet comes to
-abbrev pub ping_text : List Node → Ping → List ℕ
-ping_text nodes (Reached p hops) = codes " reached " ++ port_text nodes p ++ codes " hops " ++ decimal hops
-ping_text nodes (Lost place) = codes " lost " ++ quoted_text (name_at nodes place)
+-- from where a packet is sent, and to which LID
+unfoldable pub start_text : List Node → NodePort → ℕ → List ℕ
+start_text nodes source lid = codes "ping " ++ port_text nodes source ++ codes " " ++ decimal lid
 
--- the same of one that is sent from a port to a LID
+-- where it comes to
+unfoldable pub end_text : List Node → Ping → List ℕ
+end_text nodes (Reached p hops) = codes " reached " ++ port_text nodes p ++ codes " hops " ++ decimal hops
+end_text nodes (Lost place) = codes " lost " ++ quoted_text (name_at nodes place)
+
+-- both
 abbrev pub ping_line : List Node → NodePort → ℕ → Ping → List ℕ
-ping_line nodes source lid ping = codes "ping " ++ port_text nodes source ++ codes " " ++ decimal lid ++ ping_text nodes ping ++ codes "\n"
+ping_line nodes source lid ping = start_text nodes source lid ++ end_text nodes ping ++ codes "\n"
 
 -- a packet in flight: its serial number, and the node where it waits
 abbrev pub flight_line : List Node → ℕ → ℕ → List ℕ

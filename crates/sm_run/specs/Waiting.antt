@@ -1,8 +1,9 @@
 -- The requests for whose answers a manager waits.
-use Rattle.std.specs.Prelude.{◌≡◌, ℕ, List, Option, None, Some, length, map, slice_get}
-use Rattle.sweep.specs.Sweep.{Sweep, transaction_of}
-use Rattle.sm_manager.specs.Manager.{Manager, outstanding_at}
+use Rattle.std.specs.Prelude.{ℕ, List, [], map}
+use Rattle.std.specs.Option.{option_map_or}
+use Rattle.sweep.specs.Sweep.{transaction_of}
+use Rattle.sm_manager.specs.Manager.{Manager}
 
--- these are the TransactionIDs that it waits for, one after the other
-abbrev pub AreWaiting : Manager → List ℕ → Type 0
-AreWaiting manager transactions = (i : ℕ) → outstanding_at manager i ≡ slice_get transactions i
+-- their TransactionIDs, rising
+abbrev pub waiting_of : Manager → List ℕ
+waiting_of manager = option_map_or (λ s. map (λ r. transaction_of s.generation r.number) s.outstanding) manager.sweep []

@@ -3,7 +3,7 @@ ghost use Rattle.std.specs.Prelude.{◌≡◌, decimal};
 ghost use Rattle.record_file.specs.Writes.{Writes};
 ghost use Rattle.text_words.specs.Printed.{named_text, quoted_text};
 ghost use Rattle.topo_file.specs.Printed.{name_at};
-ghost use Rattle.sm_run.specs.Lines.{progress_line, count_text, state_text, ping_line, ping_text, port_text, flight_line};
+ghost use Rattle.sm_run.specs.Lines.{count_text, counts_text, end_text, flight_line, ping_line, port_text, progress_line, start_text, state_text};
 
 use fabric_sim::Ping;
 use record_file::{Sink, WriteFault, write_number};
@@ -59,14 +59,22 @@ fn write_state<W: Sink>(sink: &mut W, progress: Progress) -> Result<(), WriteFau
 }
 
 /// Prints how many requests were not answered, and how many ports lead too far.
+#[tactic(auto, unfolding(crate::specs::Lines::counts_text))]
 fn write_counts<W: Sink>(sink: &mut W, unanswered: u64, too_far: u64) -> Result<(), WriteFault>
     ensures writes { Writes W.written W.has_failed result sink.old sink.new
-        (count_text unanswered too_far) }
+        (counts_text unanswered too_far) }
 {
-    sink.write(b" unanswered ")?;
-    write_number(sink, unanswered)?;
-    sink.write(b" toofar ")?;
-    write_number(sink, too_far)
+    write_count(sink, b" unanswered ", unanswered)?;
+    write_count(sink, b" toofar ", too_far)
+}
+
+/// Prints words, and how many.
+fn write_count<W: Sink>(sink: &mut W, words: &[u8], count: u64) -> Result<(), WriteFault>
+    ensures writes { Writes W.written W.has_failed result sink.old sink.new
+        (count_text words.now count) }
+{
+    sink.write(words)?;
+    write_number(sink, count)
 }
 
 /// Prints where a packet comes to that is sent from a port to a LID.
@@ -80,18 +88,33 @@ pub(crate) fn write_ping<W: Sink>(
     ensures writes { Writes W.written W.has_failed result sink.old sink.new
         (ping_line topology.now.nodes from.now lid ping.now) }
 {
-    sink.write(b"ping ")?;
-    write_port(sink, topology, from)?;
-    sink.write(b" ")?;
-    write_number(sink, u64::from(lid.number()))?;
+    write_start(sink, topology, from, lid)?;
     write_end(sink, topology, ping)?;
     sink.write(b"\n")
 }
 
+/// Prints from where the packet is sent, and to which LID.
+#[tactic(auto, unfolding(crate::specs::Lines::start_text))]
+fn write_start<W: Sink>(
+    sink: &mut W,
+    topology: &Topology,
+    from: &NodePort,
+    lid: Lid,
+) -> Result<(), WriteFault>
+    ensures writes { Writes W.written W.has_failed result sink.old sink.new
+        (start_text topology.now.nodes from.now lid) }
+{
+    sink.write(b"ping ")?;
+    write_port(sink, topology, from)?;
+    sink.write(b" ")?;
+    write_number(sink, u64::from(lid.number()))
+}
+
 /// Prints where the packet comes to.
+#[tactic(auto, unfolding(crate::specs::Lines::end_text))]
 fn write_end<W: Sink>(sink: &mut W, topology: &Topology, ping: &Ping) -> Result<(), WriteFault>
     ensures writes { Writes W.written W.has_failed result sink.old sink.new
-        (ping_text topology.now.nodes ping.now) }
+        (end_text topology.now.nodes ping.now) }
 {
     match ping {
         Ping::Reached(port, hops) => {

@@ -1,7 +1,7 @@
 //! The commands to managers.
 ghost use Rattle.std.specs.Prelude.{◌≡◌, ◌<◌, length, IfOk};
 ghost use Rattle.sm_run.specs.Stops.{StopsFor};
-ghost use Rattle.sm_run.specs.Waiting.{AreWaiting};
+ghost use Rattle.sm_run.specs.Waiting.{waiting_of};
 
 use crate::lines::write_progress;
 use crate::refusals::{refuse_fabric, refuse_manager};
@@ -122,7 +122,7 @@ impl World<'_> {
 
 /// The TransactionIDs of the requests for whose answers a manager waits, rising.
 fn waiting(alloc: Global, manager: &Manager) -> Result<Vec<u64>, AllocError>
-    ensures { IfOk result (λ waiting. AreWaiting manager.now waiting.items) }
+    ensures { IfOk result (λ waiting. waiting.items ≡ waiting_of manager.now) }
 {
     let mut waiting = Vec::new(alloc);
     while let Some(transaction) = manager.outstanding(waiting.len()) {

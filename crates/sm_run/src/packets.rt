@@ -76,10 +76,9 @@ impl World<'_> {
     ) -> Result<(), RunFault>
         ensures stops { StopsFor result (W.has_failed sink.new) }
     {
-        let mut i = 0;
-        while let Some(flight) = self.fabric.in_flight(i) {
+        for i in 0..self.fabric.flight_count() {
+            let flight = self.fabric.in_flight(i).unwrap();
             write_flight(sink, topology, flight.serial, flight.place.port().node)?;
-            i += 1;
         }
         Ok(())
     }

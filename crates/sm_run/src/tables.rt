@@ -30,11 +30,8 @@ impl World<'_> {
                 },
             )?;
         }
-        let switches = switches(alloc, &self.fabric)?;
-        for (_, place) in &switches {
-            if let Some(agent) = self.fabric.agent(*place) {
-                write_table(sink, agent)?;
-            }
+        for switch in &switches(alloc, &self.fabric)? {
+            write_table(sink, switch)?;
         }
         Ok(())
     }
@@ -43,10 +40,8 @@ impl World<'_> {
 /// The LIDs that ports hold, with the GUIDs of their nodes and their numbers, in this order.
 fn held_lids(alloc: Global, fabric: &Fabric) -> Result<Vec<(Lid, Guid, PortNum)>, AllocError> {
     let mut held = Vec::new(alloc);
-    let mut place = 0;
-    while let Some(agent) = fabric.agent(place) {
-        hold_lids(&mut held, agent)?;
-        place += 1;
+    for place in 0..fabric.node_count() {
+        hold_lids(&mut held, fabric.agent(place).unwrap())?;
     }
     held.sort()?;
     Ok(held)
@@ -64,17 +59,16 @@ fn hold_lids(held: &mut Vec<(Lid, Guid, PortNum)>, agent: &Agent) -> Result<(), 
     Ok(())
 }
 
-/// The switches by their GUIDs, and then by their places.
-fn switches(alloc: Global, fabric: &Fabric) -> Result<Vec<(Guid, usize)>, AllocError> {
+/// The agents of the switches by their GUIDs, and then by their places.
+fn switches<'f>(alloc: Global, fabric: &'f Fabric) -> Result<Vec<&'f Agent>, AllocError> {
     let mut switches = Vec::new(alloc);
-    let mut place = 0;
-    while let Some(agent) = fabric.agent(place) {
+    for place in 0..fabric.node_count() {
+        let agent = fabric.agent(place).unwrap();
         if agent.is_switch() {
-            switches.push((agent.guid(), place))?;
+            switches.push(agent)?;
         }
-        place += 1;
     }
-    switches.sort()?;
+    switches.sort_by_key(|agent| agent.guid())?;
     Ok(switches)
 }
 

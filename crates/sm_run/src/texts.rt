@@ -51,6 +51,7 @@ pub(crate) fn read_texts<T: Source, S: Source>(
     Ok(Texts { topology, schedule })
 }
 
+#[tactic(auto, using(crate::proofs::Judging::behind))]
 /// What both texts tell, or their first fault: the topology is judged first.
 pub(crate) fn judge(alloc: Global, texts: &Texts) -> Result<Setting, Fault>
     ensures sound { OnOk result (input_fault texts.now.topology.items texts.now.schedule.items ≡ None) }

@@ -1,6 +1,7 @@
 //! A simulated fabric and the managers that sit in it.
 ghost use Rattle.std.specs.Prelude.{◌≡◌, ◌+◌, ◌<◌, true, All, IfOk, IfSome, Some, length, option_map, slice_get};
 ghost use Rattle.schedule_file.specs.Schedule.{is_seat};
+ghost use Rattle.sm_run.specs.Flights.{packet_out};
 ghost use Rattle.sm_run.specs.Stops.{StopsFor};
 
 use crate::refusals::refuse_fabric;
@@ -61,7 +62,7 @@ impl<'s> World<'s> {
         ensures stops { StopsFor result (W.has_failed sink.new) }
     {
         let Seated { seat, manager } = &mut self.managers[seat];
-        send_queued(&mut self.fabric, seat.at, manager, sink)
+        send_queued(&mut self.fabric, &seat.at, manager, sink)
     }
 
     /// The manager that sits at a port.
@@ -78,22 +79,37 @@ impl<'s> World<'s> {
 /// All that a manager at a port has queued goes out, in its order.
 fn send_queued<W: Sink>(
     fabric: &mut Fabric,
-    from: NodePort,
+    from: &NodePort,
     manager: &mut Manager,
     sink: &mut W,
 ) -> Result<(), RunFault>
     ensures stops { StopsFor result (W.has_failed sink.new) }
 {
     while let Some(outgoing) = manager.take_outgoing() {
-        if let Err(fault) = fabric.inject(from, packet(&outgoing)) {
-            refuse_fabric(sink, fault)?;
-        }
+        send_one(fabric, from, &outgoing, sink)?;
     }
     Ok(())
 }
 
+/// A packet goes out from a port.
+fn send_one<W: Sink>(
+    fabric: &mut Fabric,
+    from: &NodePort,
+    outgoing: &Outgoing,
+    sink: &mut W,
+) -> Result<(), RunFault>
+    ensures stops { StopsFor result (W.has_failed sink.new) }
+{
+    match fabric.inject(*from, packet(outgoing)) {
+        Ok(_) => Ok(()),
+        Err(fault) => refuse_fabric(sink, fault),
+    }
+}
+
 /// The packet that a manager sends.
-fn packet(outgoing: &Outgoing) -> Packet {
+fn packet(outgoing: &Outgoing) -> Packet
+    ensures { result ≡ packet_out outgoing.now }
+{
     let permissive = Lid::new(PERMISSIVE);
     Packet {
         bytes: *outgoing.packet.bytes(),
@@ -103,6 +119,7 @@ fn packet(outgoing: &Outgoing) -> Packet {
 }
 
 /// The GUID of an adapter's port.
+#[tactic(auto, using(crate::proofs::Ports::guid_fits))]
 fn port_guid(topology: &Topology, port: &NodePort) -> Guid
     requires { is_seat topology.now.nodes port.now ≡ true }
     ensures { option_map (λ node. node.guid + port.now.port)
