@@ -722,7 +722,7 @@ fn failed_reads_and_writes_are_told(rt: HostRuntime) -> Result<(), Fail> {
         assert!(rt; ended.bytes() == wanted, "{fails_at:?}");
     }
     let unread = dripped(rt.alloc(), b"x", schedule, [0, 1])?;
-    assert!(rt; unread.bytes() == b"4 ibsm: SCHEDULE: read failed\n");
+    assert!(rt; unread.bytes() == b"4 ibsm: SCHEDULE: read failed\n".as_slice());
     for room in 0..=17 {
         let mut sink = ToRoom::new(rt.alloc(), room)?;
         let ended = run_schedule(
