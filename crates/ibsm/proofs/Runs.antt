@@ -1,13 +1,12 @@
 -- What a run over opened files says of the files that were named.
-use Rattle.std.proofs.Common.{◌≡◌, inl, inr, ℕ, Bool, List, Option, Result, Ok, Err, OnOk, subst, sym, length, arith}
+use Rattle.std.proofs.Common.{◌≡◌, ℕ, Bool, List, Option, Result, Ok, Err, OnOk, subst, length}
 use Rattle.std.specs.Prelude.{IfErr}
 use Rattle.sm_cli.specs.Run.{HasAnswered, IsFaultOf}
 use Rattle.sm_cli.specs.declared.fault.Fault.{Fault}
 use Rattle.sm_cli.specs.declared.fault.Fault.TheVariants.{Open, File, Text, NoRoom, Write, Memory}
 use Rattle.sm_cli.specs.declared.run.Command.{Command}
 use Rattle.sm_cli.proofs.Runs.{inside}
-use Rattle.sm_run.specs.Run.{HasRun, IsRunFault}
-use Rattle.ibsm.specs.Ending.{AnswersFiles, AreRun, IsFaultAmong}
+use Rattle.ibsm.specs.Ending.{AnswersFiles, IsFaultAmong}
 
 module _ {S : Type 0} (left : S → Option (List ℕ)) (has_failed : S → Bool) where
   -- what was written of the sources was written of so many files
@@ -39,27 +38,3 @@ module _ {S : Type 0} (left : S → Option (List ℕ)) (has_failed : S → Bool)
       → length olds ≡ count → IfErr r (IsFaultOf left has_failed interruptions command olds news sink_failed) → IfErr r (IsFaultAmong count sink_failed)
   faults interruptions command olds news sink_failed count (Ok u) e h = tt
   faults interruptions command olds news sink_failed count (Err f) e h = subst (λ (n : ℕ). IsFaultAmong n sink_failed f) e (among interruptions command olds news sink_failed f h)
-
--- a run of a schedule ----------------------------------------------------------------------
-
-module _ {T S : Type 0} (left : T → Option (List ℕ)) (has_failed : T → Bool) (left' : S → Option (List ℕ)) (has_failed' : S → Bool) (old new : T) (old' new' : S) where
-  -- what was read has no fault
-  pub are_run : (r : Result (Unit {0}) Fault) → OnOk r (HasRun left has_failed left' has_failed' old new old' new') → OnOk r AreRun
-  are_run (Ok u) h = record { topology = h.topology; schedule = h.schedule; sound = h.sound }
-  are_run (Err fault) h = tt
-
-  of_two : (interruptions : T → ℕ) (interruptions' : S → ℕ) (sink_failed : Bool) (fault : Fault)
-      → IsRunFault left has_failed interruptions left' has_failed' interruptions' old new old' new' sink_failed fault → IsFaultAmong 2 sink_failed fault
-  of_two interruptions interruptions' sink_failed (Open place) h = absurd h
-  of_two interruptions interruptions' sink_failed (File place fault) (inl h) = let first = h.first in omega arith
-  of_two interruptions interruptions' sink_failed (File place fault) (inr h) = let second = h.second in omega arith
-  of_two interruptions interruptions' sink_failed (Text place fault) h = h.refuses.0
-  of_two interruptions interruptions' sink_failed (NoRoom endports most) h = absurd h
-  of_two interruptions interruptions' sink_failed Write h = h.failed
-  of_two interruptions interruptions' sink_failed Memory h = tt
-
-  -- a fault speaks of one of the two files
-  pub run_faults : (interruptions : T → ℕ) (interruptions' : S → ℕ) (sink_failed : Bool) (count : ℕ) (r : Result (Unit {0}) Fault) → count ≡ 2
-      → IfErr r (IsRunFault left has_failed interruptions left' has_failed' interruptions' old new old' new' sink_failed) → IfErr r (IsFaultAmong count sink_failed)
-  run_faults interruptions interruptions' sink_failed count (Ok u) two h = tt
-  run_faults interruptions interruptions' sink_failed count (Err f) two h = subst (λ (n : ℕ). IsFaultAmong n sink_failed f) (sym two) (of_two interruptions interruptions' sink_failed f h)

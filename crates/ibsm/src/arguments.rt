@@ -65,14 +65,27 @@ fn plan<'a>(alloc: Global) -> Result<Command<'a>, AllocError> {
 
 fn run<'a>(alloc: Global) -> Result<Command<'a>, AllocError> {
     Command::new(alloc, RUN)
-        .about("Runs a schedule in the simulated fabric of a topology, and prints what its commands print")
-        .arg(text(alloc, TOPOLOGY, "The nodes of the fabric and the links between them"))?
-        .arg(text(alloc, SCHEDULE, "The managers and the commands that are run"))
+        .about(
+            "Runs a schedule in the simulated fabric of a topology, and prints what its commands print",
+        )
+        .arg(text(
+            alloc,
+            TOPOLOGY,
+            "The nodes of the fabric and the links between them",
+        ))?
+        .arg(text(
+            alloc,
+            SCHEDULE,
+            "The managers and the commands that are run",
+        ))
 }
 
 /// A file of its own.
 fn text<'a>(alloc: Global, name: &'a str, help: &'a str) -> Arg<'a> {
-    Arg::new(alloc, name).help(help).required(true).action(ArgAction::Set)
+    Arg::new(alloc, name)
+        .help(help)
+        .required(true)
+        .action(ArgAction::Set)
 }
 
 /// At least one file.

@@ -95,11 +95,7 @@ fn write_cause<W: Sink>(sink: &mut W, fault: Option<ReportFault>) -> Result<(), 
     }
 }
 
-fn write_text_fault<W: Sink>(
-    sink: &mut W,
-    fault: TextFault,
-    name: &[u8],
-) -> Result<(), WriteFault>
+fn write_text_fault<W: Sink>(sink: &mut W, fault: TextFault, name: &[u8]) -> Result<(), WriteFault>
     ensures writes { Writes W.written W.has_failed result sink.old sink.new
         (text_fault_text name.now fault) }
 {

@@ -181,7 +181,11 @@ fn check(
 ) -> Result<(), Fail> {
     let wanted = spelled(alloc, wanted)?;
     let ended = ended(alloc, topology, schedule)?;
-    assert!(rt; ended.bytes() == wanted.as_slice(), "{}", String::from_utf8_lossy(alloc, ended.bytes())?);
+    assert!(rt;
+        ended.bytes() == wanted.as_slice(),
+        "{}",
+        String::from_utf8_lossy(alloc, ended.bytes())?
+    );
     Ok(())
 }
 
@@ -198,10 +202,12 @@ fn check_rows(rt: &impl Abort, alloc: Global, rows: &[Row]) -> Result<(), Fail> 
 #[test]
 fn a_sweep_tells_facts_and_a_plan(rt: HostRuntime) -> Result<(), Fail> {
     let alloc = rt.alloc();
-    let wanted = format!(in alloc; "\
+    let wanted = format!(in alloc;
+        "\
 progress A running unanswered 0 toofar 0
 progress A done unanswered 0 toofar 0
-{TRIANGLE_FACTS}{TRIANGLE_PLAN}")?;
+{TRIANGLE_FACTS}{TRIANGLE_PLAN}"
+    )?;
     let schedule = r#"manager A "H1"[1] 1
 sweep A
 drain 147
@@ -211,7 +217,13 @@ progress A
 facts A
 plan A
 "#;
-    check(&rt, alloc, TRIANGLE.as_bytes(), schedule.as_bytes(), wanted.as_str())
+    check(
+        &rt,
+        alloc,
+        TRIANGLE.as_bytes(),
+        schedule.as_bytes(),
+        wanted.as_str(),
+    )
 }
 
 #[test]
@@ -459,7 +471,10 @@ fn a_path_has_at_most_63_hops(rt: HostRuntime) -> Result<(), Fail> {
         let topology = chain(rt.alloc(), switches)?;
         let ended = ended(rt.alloc(), topology.as_bytes(), schedule)?;
         let text = std::str::from_utf8(ended.bytes())?;
-        let nodes = text.lines().filter(|line| line.starts_with("node ")).count();
+        let nodes = text
+            .lines()
+            .filter(|line| line.starts_with("node "))
+            .count();
         assert!(rt; text.lines().next() == Some(first) && nodes == 64, "{text}");
     }
     Ok(())
@@ -468,11 +483,13 @@ fn a_path_has_at_most_63_hops(rt: HostRuntime) -> Result<(), Fail> {
 #[test]
 fn packets_are_lost_and_cables_moved(rt: HostRuntime) -> Result<(), Fail> {
     let alloc = rt.alloc();
-    let merged = format!(in alloc; "\
+    let merged = format!(in alloc;
+        "\
 progress A done unanswered 0 toofar 0
 progress B done unanswered 0 toofar 0
 {TRIANGLE_PLAN}progress C never
-{TRIANGLE_PLAN}")?;
+{TRIANGLE_PLAN}"
+    )?;
     let schedule = br#"manager A "H1"[1] 1
 manager B "H2"[1] 2
 sweep A
@@ -561,7 +578,8 @@ block 0 ff0101000103..
 fn a_cable_is_cut_at_any_moment(rt: HostRuntime) -> Result<(), Fail> {
     let alloc = rt.alloc();
     for k in 0..=148 {
-        let schedule = format!(in alloc; "\
+        let schedule = format!(in alloc;
+            "\
 manager A \"H1\"[1] 1
 sweep A
 drain {k}
@@ -571,8 +589,15 @@ timeout A
 sweep A
 drain 1000
 plan A
-")?;
-        check(&rt, alloc, TRIANGLE.as_bytes(), schedule.as_bytes(), OPEN_PLAN)?;
+"
+        )?;
+        check(
+            &rt,
+            alloc,
+            TRIANGLE.as_bytes(),
+            schedule.as_bytes(),
+            OPEN_PLAN,
+        )?;
     }
     Ok(())
 }
@@ -630,11 +655,7 @@ Switch 4 \"S2\" guid 0x20\nSwitch 4 \"S3\" guid 0x30\n",
             b"tables\nwrite A\n",
             "3 ibsm: SCHEDULE: line 2: syntax\n",
         ),
-        (
-            b"",
-            b"\n\nsweep A\n",
-            "3 ibsm: SCHEDULE: line 3: name\n",
-        ),
+        (b"", b"\n\nsweep A\n", "3 ibsm: SCHEDULE: line 3: name\n"),
         (
             b"Switch 1 \"S\" guid 0x1",
             b"flight\nmanager A \"S\"[1] 0",

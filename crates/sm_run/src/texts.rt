@@ -42,11 +42,17 @@ pub(crate) fn read_texts<T: Source, S: Source>(
 {
     let topology = match read_whole(alloc, topology) {
         Ok(bytes) => bytes,
-        Err(fault) => return Err(Fault::File { place: TOPOLOGY, fault }),
+        Err(fault) => return Err(Fault::File {
+            place: TOPOLOGY,
+            fault,
+        }),
     };
     let schedule = match read_whole(alloc, schedule) {
         Ok(bytes) => bytes,
-        Err(fault) => return Err(Fault::File { place: SCHEDULE, fault }),
+        Err(fault) => return Err(Fault::File {
+            place: SCHEDULE,
+            fault,
+        }),
     };
     Ok(Texts { topology, schedule })
 }

@@ -72,7 +72,9 @@ impl<'s> World<'s> {
         if !self.fabric.is_seat(port) {
             return None;
         }
-        self.managers.iter().position(|seated| seated.seat.at == *port)
+        self.managers
+            .iter()
+            .position(|seated| seated.seat.at == *port)
     }
 }
 
