@@ -3,7 +3,7 @@ use Rattle.std.proofs.Common.{◌≡◌, ℕ, Bool, List, Option, Result, Ok, Er
 use Rattle.std.specs.Prelude.{IfErr}
 use Rattle.sm_cli.specs.Run.{HasAnswered, IsFaultOf}
 use Rattle.sm_cli.specs.declared.fault.Fault.{Fault}
-use Rattle.sm_cli.specs.declared.fault.Fault.TheVariants.{Open, File, NoRoom, Write, Memory}
+use Rattle.sm_cli.specs.declared.fault.Fault.TheVariants.{Open, File, Text, NoRoom, Write, Memory}
 use Rattle.sm_cli.specs.declared.run.Command.{Command}
 use Rattle.sm_cli.proofs.Runs.{inside}
 use Rattle.ibsm.specs.Ending.{AnswersFiles, IsFaultAmong}
@@ -27,6 +27,7 @@ module _ {S : Type 0} (left : S → Option (List ℕ)) (has_failed : S → Bool)
       → IsFaultOf left has_failed interruptions command olds news sink_failed fault → IsFaultAmong (length olds) sink_failed fault
   among interruptions command olds news sink_failed (Open place) h = absurd h
   among interruptions command olds news sink_failed (File place fault) h = inside olds place h.old h.there
+  among interruptions command olds news sink_failed (Text place fault) h = absurd h
   among interruptions command olds news sink_failed (NoRoom endports most) h = tt
   among interruptions command olds news sink_failed Write h = h.fails
   among interruptions command olds news sink_failed Memory h = tt

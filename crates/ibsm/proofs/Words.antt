@@ -1,11 +1,13 @@
 -- What the words of the command line name.
 use Rattle.std.proofs.Common.{◌≡◌, ℕ, List, [], ◌∷◌, true, false, Option, None, Some, refl, sym, ap, ◌∙◌}
-use Rattle.std.specs.Prelude.{find, map, option_map, option_and_then, if◌then◌else◌}
+use Rattle.std.specs.Prelude.{find, map, option_map, option_and_then, slice_get, if◌then◌else◌}
+use Rattle.std.proofs.lemmas.Option.{slice_get-map}
 use Rattle.std.specs.Str.{bytes_eq}
 use Rattle.clap.specs.Facts.{Entry}
-use Rattle.clap.specs.Matches.{matched_of, raw_values}
+use Rattle.clap.specs.Matches.{first_value, matched_of, raw_values}
 use Rattle.clap.specs.Walk.{Row, row_of, rows_of, Text}
 use Rattle.clap.specs.declared.parser.matches.Found.{Found}
+use Rattle.clap.specs.declared.parser.matches.MatchedArg.{MatchedArg}
 use Rattle.ibsm.specs.Asked.{values_in}
 
 found_values : (name : List ℕ) (es : List Entry) → option_map raw_values (option_map (λ e. e.1) (find (λ e. bytes_eq e.0.now name) es)) ≡ values_in name (map row_of es)
@@ -22,3 +24,17 @@ named None found name names e f = absurd (cc)
 named (Some p) found name names e f =
     let same : rows_of found ≡ p.1 = cc in
     ap (values_in name) (sym same) ∙ sym (f ∙ found_values name found.entries.items)
+
+first_of : (m : Option MatchedArg) → option_and_then (λ a. option_map (λ s. s.now) (slice_get a.vals.items 0)) m ≡ option_and_then (λ vs. slice_get vs 0) (option_map raw_values m)
+first_of None = refl
+first_of (Some a) = sym (slice_get-map (λ s. s.now) a.vals.items 0)
+
+-- and the first of them is the first behind the subcommand
+pub first_named : (o : Option (Text × List Row)) (found : Found) (name value : List ℕ) → Some (rows_of found) ≡ option_map (λ p. p.1) o → Some value ≡ first_value found name
+    → option_and_then (λ s. option_and_then (λ vs. slice_get vs 0) (values_in name s.1)) o ≡ Some value
+first_named None found name value e f = absurd (cc)
+first_named (Some p) found name value e f =
+    let same : rows_of found ≡ p.1 = cc in
+    ap (λ rows. option_and_then (λ vs. slice_get vs 0) (values_in name rows)) (sym same)
+    ∙ sym (ap (option_and_then (λ vs. slice_get vs 0)) (found_values name found.entries.items))
+    ∙ sym (first_of (matched_of found name)) ∙ sym f

@@ -1,5 +1,5 @@
 -- What the command line asks for.
-use Rattle.std.specs.Prelude.{◌≡◌, List, ℕ, Option, Some, codes, find, length, option_map, option_and_then}
+use Rattle.std.specs.Prelude.{◌≡◌, ◌⊎◌, List, ℕ, Option, Some, codes, find, length, option_map, option_and_then, slice_get}
 use Rattle.std.specs.Str.{bytes_eq}
 use Rattle.clap.specs.Matches.{subcommand_name_of}
 use Rattle.clap.specs.Simple.{subcommand_rows_of}
@@ -7,7 +7,7 @@ use Rattle.clap.specs.Walk.{Row}
 use Rattle.clap.specs.declared.parser.matches.ArgMatches.{ArgMatches}
 use Rattle.sm_cli.specs.declared.run.Command.{Command}
 use Rattle.sm_cli.specs.declared.run.Command.TheVariants.{Facts, Join, Plan}
-use Rattle.ibsm.specs.Ending.{AnswersFiles}
+use Rattle.ibsm.specs.Ending.{AnswersFiles, AreRun}
 
 -- the subcommand that asks for a command
 abbrev pub word_of : Command → List ℕ
@@ -30,3 +30,12 @@ pub record AnswersWords (matches : ArgMatches) (written written' : Option (List 
   pub names : List (List ℕ)
   pub named : files_named matches ≡ Some names
   pub answered : AnswersFiles command (length names) written written'
+
+-- the file that is the argument with this name behind the subcommand
+abbrev pub file_named : List ℕ → ArgMatches → Option (List ℕ)
+file_named name matches = option_and_then (λ s. option_and_then (λ values. slice_get values 0) (values_in name s.1)) (subcommand_rows_of matches)
+
+-- the words ask for a run of a schedule, and it was run
+pub record RunsWords (matches : ArgMatches) : Type 0 where
+  pub asked : subcommand_name_of matches ≡ Some (codes "run")
+  pub run : AreRun

@@ -6,8 +6,9 @@ use Rattle.record_file.specs.RecordFile.{outcome}
 use Rattle.sm_cli.specs.FaultText.{fault_text, program_line}
 use Rattle.sm_cli.specs.ExitStatus.{status_of}
 use Rattle.sm_cli.specs.Run.{IsAnswered, answer_to, facts_of}
+use Rattle.sm_run.specs.Run.{input_fault}
 use Rattle.sm_cli.specs.declared.fault.Fault.{Fault}
-use Rattle.sm_cli.specs.declared.fault.Fault.TheVariants.{Open, File, NoRoom, Write, Memory}
+use Rattle.sm_cli.specs.declared.fault.Fault.TheVariants.{Open, File, Text, NoRoom, Write, Memory}
 use Rattle.sm_cli.specs.declared.exit_status.ExitStatus.{ExitStatus}
 use Rattle.sm_cli.specs.declared.run.Command.{Command}
 
@@ -19,10 +20,17 @@ pub record AnswersFiles (command : Command) (count : ℕ) (written written' : Op
   pub can_be : IsAnswered command (facts_of files)
   pub answered : Appends written written' (answer_to command (facts_of files))
 
+-- there was the text of a topology and that of a schedule, and they have no fault
+pub record AreRun : Type 0 where
+  pub topology : List ℕ
+  pub schedule : List ℕ
+  pub sound : input_fault topology schedule ≡ None
+
 -- a fault speaks of one of so many files, or of the output that has failed, or of memory
 abbrev pub IsFaultAmong : ℕ → Bool → Fault → Type 0
 IsFaultAmong count output_failed (Open place) = place < count
 IsFaultAmong count output_failed (File place fault) = place < count
+IsFaultAmong count output_failed (Text place fault) = place < count
 IsFaultAmong count output_failed (NoRoom endports room) = Unit {0}
 IsFaultAmong count output_failed Write = IsTrue output_failed
 IsFaultAmong count output_failed Memory = Unit {0}
@@ -36,6 +44,7 @@ name_at (Some name) = name.now
 abbrev pub name_of : List (Bor (List ℕ)) → Fault → List ℕ
 name_of names (Open place) = name_at (slice_get names place)
 name_of names (File place fault) = name_at (slice_get names place)
+name_of names (Text place fault) = name_at (slice_get names place)
 name_of names (NoRoom endports room) = []
 name_of names Write = []
 name_of names Memory = []

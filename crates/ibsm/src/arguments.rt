@@ -11,8 +11,16 @@ pub(crate) const JOIN: &str = "join";
 /// The subcommand that prints the plan.
 pub(crate) const PLAN: &str = "plan";
 
+/// The subcommand that runs a schedule.
+pub(crate) const RUN: &str = "run";
+
 /// The files of a subcommand.
 pub(crate) const FILE: &str = "FILE";
+
+/// The text of a fabric, and the text of what is run in it.
+pub(crate) const TOPOLOGY: &str = "TOPOLOGY";
+
+pub(crate) const SCHEDULE: &str = "SCHEDULE";
 
 const VERSION: &str = "0.1.0";
 
@@ -21,7 +29,8 @@ pub(crate) fn command_line<'a>(alloc: Global) -> Result<Command<'a>, AllocError>
     program(alloc)
         .subcommand(facts(alloc)?)?
         .subcommand(join(alloc)?)?
-        .subcommand(plan(alloc)?)
+        .subcommand(plan(alloc)?)?
+        .subcommand(run(alloc)?)
 }
 
 /// The program, which does nothing without a subcommand.
@@ -52,6 +61,31 @@ fn plan<'a>(alloc: Global) -> Result<Command<'a>, AllocError> {
             "Prints the LIDs and the forwarding blocks that follow from the facts of all the files",
         )
         .arg(files(alloc))
+}
+
+fn run<'a>(alloc: Global) -> Result<Command<'a>, AllocError> {
+    Command::new(alloc, RUN)
+        .about(
+            "Runs a schedule in the simulated fabric of a topology, and prints what its commands print",
+        )
+        .arg(text(
+            alloc,
+            TOPOLOGY,
+            "The nodes of the fabric and the links between them",
+        ))?
+        .arg(text(
+            alloc,
+            SCHEDULE,
+            "The managers and the commands that are run",
+        ))
+}
+
+/// A file of its own.
+fn text<'a>(alloc: Global, name: &'a str, help: &'a str) -> Arg<'a> {
+    Arg::new(alloc, name)
+        .help(help)
+        .required(true)
+        .action(ArgAction::Set)
 }
 
 /// At least one file.

@@ -1,10 +1,11 @@
 //! The subcommands that read files.
 ghost use Rattle.std.specs.Prelude.{◌≡◌, ◌⊎◌, Err, length, IfOk, IfErr, OnOk, OnErr, IsTrue};
 ghost use Rattle.sm_cli.specs.ExitStatus.{status_of};
-ghost use Rattle.ibsm.specs.Ending.{AnswersFiles, IsFaultAmong, IsSaid, SaysWhy, fault_line, name_of};
+ghost use Rattle.ibsm.specs.Ending.{AnswersFiles, AreRun, IsFaultAmong, IsSaid, SaysWhy, fault_line, name_of};
 
 use record_file::{FromRead, Sink, ToWrite};
 use sm_cli::{Command, ExitStatus, Fault, run_files, write_fault};
+use sm_run::run_schedule;
 use std::io::{BufReader, Write};
 use std::rt::Files;
 use std::{fs, io};
@@ -34,6 +35,48 @@ where
         Ok(()) => ExitStatus::Done,
         Err(fault) => say(errors, names, &fault),
     }
+}
+
+/// Runs a schedule in the fabric of a topology, and says on `errors` why it cannot. The names are those of the topology and
+/// of the schedule.
+pub(crate) fn run_or_explain<R, O, E>(
+    rt: &R,
+    names: &[&str],
+    output: &mut ToWrite<O>,
+    errors: &mut ToWrite<E>,
+) -> ExitStatus
+where
+    R: Files + AllocGlobal,
+    O: Write,
+    E: Write,
+    requires { length names.now ≡ 2 }
+    ensures done { result ≡ ExitStatus.Done → AreRun }
+    ensures flushed { result ≡ ExitStatus.Done → IsTrue (⟦<ToWrite<O> as Sink>⟧.is_flushed output.new) }
+    ensures silent { result ≡ ExitStatus.Done → errors.new ≡ errors.old }
+    ensures says_why { (result ≡ ExitStatus.Done) ⊎ SaysWhy names.now result (⟦<ToWrite<O> as Sink>⟧.has_failed output.new)
+        (⟦<ToWrite<E> as Sink>⟧.written errors.old) (⟦<ToWrite<E> as Sink>⟧.written errors.new) (⟦<ToWrite<E> as Sink>⟧.has_failed errors.new) }
+    ensures nothing_written { (result ≡ ExitStatus.Refused) → (output.new ≡ output.old) }
+{
+    match run(rt, names, output) {
+        Ok(()) => ExitStatus::Done,
+        Err(fault) => say(errors, names, &fault),
+    }
+}
+
+/// Runs the schedule of the second file in the fabric of the first one.
+fn run<R, O>(rt: &R, names: &[&str], output: &mut ToWrite<O>) -> Result<(), Fault>
+where
+    R: Files + AllocGlobal,
+    O: Write,
+    requires { length names.now ≡ 2 }
+    ensures done { OnOk result AreRun }
+    ensures flushed { OnOk result (IsTrue (⟦<ToWrite<O> as Sink>⟧.is_flushed output.new)) }
+    ensures refused { IfErr result (IsFaultAmong (length names.now) (⟦<ToWrite<O> as Sink>⟧.has_failed output.new)) }
+    ensures nothing_written { OnErr result ((result ≡ Err Fault.Write) ⊎ (result ≡ Err Fault.Memory) ⊎ (output.new ≡ output.old)) }
+{
+    let mut topology = open(rt, 0, names[0])?;
+    let mut schedule = open(rt, 1, names[1])?;
+    run_schedule(rt.alloc(), &mut topology, &mut schedule, output)
 }
 
 /// Says the fault of a run over the files with these names, and what the program ends with.
@@ -106,7 +149,7 @@ fn name_of<'a>(names: &[&'a str], fault: &Fault) -> &'a str
     ensures { result.now ≡ name_of names.now fault.now }
 {
     match fault {
-        Fault::Open { place } | Fault::File { place, .. } => names
+        Fault::Open { place } | Fault::File { place, .. } | Fault::Text { place, .. } => names
             .get(*place)
             .copied()
             .unwrap_or(""),

@@ -1,10 +1,10 @@
 //! One run of the program.
-ghost use Rattle.std.specs.Prelude.{◌≡◌, Some, IfSome, map};
+ghost use Rattle.std.specs.Prelude.{◌≡◌, ◌⊎◌, Some, IfSome, IsSome, codes, map, length, slice_get};
 ghost use Rattle.clap.specs.Matches.{subcommand_name_of};
-ghost use Rattle.ibsm.specs.Asked.{AnswersWords, files_named, word_of};
+ghost use Rattle.ibsm.specs.Asked.{AnswersWords, RunsWords, file_named, files_named, word_of};
 
-use crate::arguments::{FACTS, FILE, JOIN, PLAN, command_line};
-use crate::files::{answer_or_explain, say};
+use crate::arguments::{FACTS, FILE, JOIN, PLAN, RUN, SCHEDULE, TOPOLOGY, command_line};
+use crate::files::{answer_or_explain, run_or_explain, say};
 use clap::error::ErrorKind;
 use clap::{ArgMatches, Error};
 use record_file::{Sink, ToWrite};
@@ -68,9 +68,12 @@ where
     R: Files + AllocGlobal,
     O: Write,
     E: Write,
-    ensures done { result ≡ ExitStatus.Done → AnswersWords matches.now
+    ensures done { result ≡ ExitStatus.Done → RunsWords matches.now ⊎ AnswersWords matches.now
         (⟦<ToWrite<O> as Sink>⟧.written output.old) (⟦<ToWrite<O> as Sink>⟧.written output.new) }
 {
+    if let Some((topology, schedule)) = run_asked(matches) {
+        return run_or_explain(rt, &[topology, schedule], output, errors);
+    }
     match asked(matches) {
         Some((command, names)) => answer_or_explain(rt, command, names, output, errors),
         None => ExitStatus::Usage,
@@ -90,6 +93,20 @@ pub(crate) fn asked<'m, 'a>(matches: &'m ArgMatches<'a>) -> Option<(Command, &'m
         _ => return None,
     };
     Some((command, words.get_strs(FILE)?))
+}
+
+/// The names of the topology and of the schedule that the words of the command line ask to be run.
+pub(crate) fn run_asked<'a>(matches: &ArgMatches<'a>) -> Option<(&'a str, &'a str)>
+    ensures command { IsSome result → subcommand_name_of matches.now ≡ Some (codes "run") }
+    ensures topology { IfSome result (λ names. file_named (codes "TOPOLOGY") matches.now ≡ Some names.0.now) }
+    ensures schedule { IfSome result (λ names. file_named (codes "SCHEDULE") matches.now ≡ Some names.1.now) }
+{
+    let (name, words) = matches.subcommand()?;
+    if name == RUN {
+        Some((words.get_str(TOPOLOGY)?, words.get_str(SCHEDULE)?))
+    } else {
+        None
+    }
 }
 
 /// Prints help on standard output, and what is wrong with the command line on standard error.

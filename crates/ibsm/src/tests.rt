@@ -1,6 +1,6 @@
 use crate::arguments::command_line;
-use crate::files::answer_or_explain;
-use crate::run::{asked, explain};
+use crate::files::{answer_or_explain, run_or_explain};
+use crate::run::{asked, explain, run_asked};
 use clap::Error;
 use clap::error::ErrorKind;
 use record_file::ToWrite;
@@ -47,6 +47,7 @@ fn other_words_are_explained(rt: HostRuntime) -> Result<(), Fail> {
         (["ibsm", "", ""], ErrorKind::InvalidSubcommand),
         (["ibsm", "fact", "a"], ErrorKind::InvalidSubcommand),
         (["ibsm", "facts", "--all"], ErrorKind::UnknownArgument),
+        (["ibsm", "run", "a"], ErrorKind::MissingRequiredArgument),
     ] {
         check_words(&rt, &rt, &words, kind, ExitStatus::Usage, "Usage: ")?;
     }
@@ -72,6 +73,11 @@ fn other_words_are_explained(rt: HostRuntime) -> Result<(), Fail> {
             &["ibsm", "join", "--help"],
             ErrorKind::DisplayHelp,
             "Usage: ibsm join <FILE>...",
+        ),
+        (
+            &["ibsm", "run", "--help"],
+            ErrorKind::DisplayHelp,
+            "Usage: ibsm run <TOPOLOGY> <SCHEDULE>",
         ),
         (
             &["ibsm", "--version"],
@@ -101,6 +107,9 @@ fn commands_and_files_are_taken(rt: HostRuntime) -> Result<(), Fail> {
         let matches = command_line(rt.alloc())?.try_get_matches_from(words)?;
         assert!(rt; asked(&matches) == Some((command, names)), "{words:?}");
     }
+    let words = ["ibsm", "run", "a", "b"];
+    let matches = command_line(rt.alloc())?.try_get_matches_from(words)?;
+    assert!(rt; run_asked(&matches) == Some(("a", "b")));
     Ok(())
 }
 
@@ -220,5 +229,85 @@ fn a_full_device_takes_nothing(rt: HostRuntime) -> Result<(), Fail> {
     assert!(rt; status == ExitStatus::InputOutput);
     assert!(rt; errors.into_inner().as_slice() == b"ibsm: write failed\n".as_slice());
     fs::remove_file(&rt, node.as_str())?;
+    Ok(())
+}
+
+/// How a run of these files ends, and what it prints and says.
+fn check_schedule(
+    abort: &impl Abort,
+    rt: &HostRuntime,
+    names: [&str; 2],
+    ends: ExitStatus,
+    prints: &[u8],
+    says: &str,
+) -> Result<(), Fail> {
+    let mut output = ToWrite::new(Vec::new(rt.alloc()));
+    let mut errors = ToWrite::new(Vec::new(rt.alloc()));
+    let status = run_or_explain(rt, &names, &mut output, &mut errors);
+    let (output, errors) = (output.into_inner(), errors.into_inner());
+    assert!(abort;
+        status == ends && output.as_slice() == prints,
+        "{names:?}: {status:?}"
+    );
+    assert!(abort;
+        errors.as_slice().ends_with(says.as_bytes()) && errors.is_empty() == says.is_empty(),
+        "{names:?}: {says}"
+    );
+    Ok(())
+}
+
+#[test]
+fn schedules_are_run(rt: HostRuntime) -> Result<(), Fail> {
+    let topology = file(&rt, "topology", b"Hca 1 \"H\" guid 0x100\n")?;
+    let schedule = file(
+        &rt,
+        "schedule",
+        b"manager M \"H\"[1] 0\nprogress M\ndeliver 1\n",
+    )?;
+    let (faulty, bytes) = (
+        file(&rt, "faulty", b"tables\nx")?,
+        file(&rt, "bytes", b"\xFF")?,
+    );
+    let (topology, schedule) = (topology.as_str(), schedule.as_str());
+    let (faulty, bytes) = (faulty.as_str(), bytes.as_str());
+    let printed: &[u8] = b"progress M never\nrefused NoSuchPacket\n";
+    for (names, ends, prints, says) in [
+        ([topology, schedule], ExitStatus::Done, printed, ""),
+        (
+            [topology, faulty],
+            ExitStatus::Refused,
+            b"",
+            "-faulty: line 2: syntax\n",
+        ),
+        (
+            [faulty, bytes],
+            ExitStatus::Refused,
+            b"",
+            "-faulty: line 1: syntax\n",
+        ),
+        (
+            [topology, bytes],
+            ExitStatus::Refused,
+            b"",
+            "-bytes: not UTF-8\n",
+        ),
+        (
+            [faulty, "."],
+            ExitStatus::InputOutput,
+            b"",
+            "ibsm: .: read failed\n",
+        ),
+        (
+            [bytes, "missing"],
+            ExitStatus::InputOutput,
+            b"",
+            "ibsm: missing: cannot open\n",
+        ),
+    ] {
+        check_schedule(&rt, &rt, names, ends, prints, says)?;
+    }
+    for name in [topology, schedule, faulty, bytes] {
+        fs::remove_file(&rt, name)?;
+    }
     Ok(())
 }

@@ -47,8 +47,8 @@ fn write_owner<W: Sink>(sink: &mut W, lids: &LidMap, lid: Lid) -> Result<(), Wri
     }
 }
 
-/// Writes the line of a LID.
-fn write_lid<W: Sink>(sink: &mut W, lid: Lid, port: EndPort) -> Result<(), WriteFault>
+/// Writes the line of a LID: `lid`, the LID, and the end port that has it.
+pub fn write_lid<W: Sink>(sink: &mut W, lid: Lid, port: EndPort) -> Result<(), WriteFault>
     ensures { Writes W.written W.has_failed result sink.old sink.new (lid_line (lid, port)) }
 {
     sink.write(b"lid ")?;
@@ -87,8 +87,8 @@ fn write_table<W: Sink>(sink: &mut W, top: Lid, table: &Table) -> Result<(), Wri
     write_blocks(sink, table.blocks())
 }
 
-/// Writes the line of a switch.
-fn write_switch<W: Sink>(sink: &mut W, top: Lid, guid: Guid) -> Result<(), WriteFault>
+/// Writes the line of a switch: `switch`, its GUID, `top`, and the greatest LID.
+pub fn write_switch<W: Sink>(sink: &mut W, top: Lid, guid: Guid) -> Result<(), WriteFault>
     ensures { Writes W.written W.has_failed result sink.old sink.new (switch_line top guid) }
 {
     sink.write(b"switch ")?;
@@ -108,8 +108,8 @@ fn write_blocks<W: Sink>(sink: &mut W, blocks: &[[u8; 64]]) -> Result<(), WriteF
     Ok(())
 }
 
-/// Writes the line of a block.
-fn write_block<W: Sink>(sink: &mut W, b: usize, block: &[u8; 64]) -> Result<(), WriteFault>
+/// Writes the line of a block: `block`, its number, and two hex digits for each of its entries.
+pub fn write_block<W: Sink>(sink: &mut W, b: usize, block: &[u8; 64]) -> Result<(), WriteFault>
     ensures { Writes W.written W.has_failed result sink.old sink.new (block_line (b, block.now)) }
 {
     sink.write(b"block ")?;

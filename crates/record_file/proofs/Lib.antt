@@ -6,6 +6,7 @@ pub mod Cells
 pub mod Faults
 pub mod Filling
 pub mod Formats
+pub mod ReadWhole
 pub mod Records
 pub mod ReportRecords
 pub mod Spellings

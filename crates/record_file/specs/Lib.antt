@@ -11,4 +11,5 @@ pub mod ReportRecord
 pub mod Source
 pub mod StoreFile
 pub mod StoreLaws
+pub mod Whole
 pub mod Writes

@@ -10,6 +10,7 @@ mod report_record;
 mod store_file;
 mod stream;
 mod text;
+mod whole;
 
 pub use file::absorb;
 pub use file_fault::FileFault;
@@ -18,6 +19,7 @@ pub use stream::{
     FromBytes, FromRead, ReadError, RoomFault, Sink, Source, ToRoom, ToWrite, WriteFault,
 };
 pub use text::{write_guid, write_number, write_port};
+pub use whole::read_whole;
 
 #[cfg(test)]
 mod tests;

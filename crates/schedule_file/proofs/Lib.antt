@@ -1,2 +1,3 @@
 pub mod NameBytes
+pub mod Scripts
 pub mod Serials

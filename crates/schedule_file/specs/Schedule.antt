@@ -1,5 +1,5 @@
 -- What a text says: a schedule, or its first fault.
-use Rattle.std.specs.Prelude.{ℕ, ◌+◌, ◌&&◌, not, Bool, false, List, [], ◌∷◌, ◌++◌, Option, None, Some, Result, Ok, Err, length, is_some, nat_le}
+use Rattle.std.specs.Prelude.{◌≡◌, ◌<◌, ℕ, ◌+◌, ◌&&◌, not, Bool, true, false, All, List, [], ◌∷◌, ◌++◌, Option, None, Some, Result, Ok, Err, length, is_some, nat_le}
 use Rattle.std.specs.Prelude.{option_map, option_and_then, position, slice_get, if◌then◌else◌}
 use Rattle.std.specs.List.{list_any}
 use Rattle.std.specs.Option.{option_map_or}
@@ -118,3 +118,21 @@ told_by nodes lines = with_lines nodes 1 (record { seats = []; commands = [] }) 
 -- what a text says of a fabric that has these nodes
 unfoldable pub schedule_of : List Node → List ℕ → Result Script ScheduleFault
 schedule_of nodes text = told_by nodes (lines text)
+
+-- what holds of each schedule ---------------------------------------------------------------
+
+-- the command names managers only that are among so many
+abbrev pub NamesManagers : ℕ → Command → Type 0
+NamesManagers count (command.Manager seat) = seat < count
+NamesManagers count (command.Sweep seat) = seat < count
+NamesManagers count (command.Merge seat other) = (seat < count) × (other < count)
+NamesManagers count (command.Timeout seat) = seat < count
+NamesManagers count (command.Facts seat) = seat < count
+NamesManagers count (command.Plan seat) = seat < count
+NamesManagers count (command.Progress seat) = seat < count
+NamesManagers count _ = Unit {0}
+
+-- its managers sit at ports of the fabric's adapters, and its commands name no others
+pub record IsScript (nodes : List Node) (script : Script) : Type 0 where
+  pub seats : All (λ seat. is_seat nodes seat.at ≡ true) script.seats
+  pub commands : All (NamesManagers (length script.seats)) script.commands

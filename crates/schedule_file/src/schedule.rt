@@ -1,7 +1,7 @@
-ghost use Rattle.std.specs.Prelude.{◌≡◌, [], Ok};
+ghost use Rattle.std.specs.Prelude.{◌≡◌, [], Ok, IfOk};
 ghost use Rattle.text_words.specs.Text.{lines};
 ghost use Rattle.schedule_file.specs.Command.{line_of};
-ghost use Rattle.schedule_file.specs.Schedule.{schedule_of, told_by, with_line, with_command, new_seat, with_seat};
+ghost use Rattle.schedule_file.specs.Schedule.{IsScript, schedule_of, told_by, with_line, with_command, new_seat, with_seat};
 ghost use Rattle.schedule_file.specs.ScheduleFault.{Reads};
 
 use crate::command::Command;
@@ -134,7 +134,7 @@ fn new_seat(
     Ok(Seat { name, at, priority })
 }
 
-#[tactic(auto, unfolding(crate::specs::Schedule::schedule_of))]
+#[tactic(auto, using(crate::proofs::Scripts::told_is_script), unfolding(crate::specs::Schedule::schedule_of))]
 /// Reads the text of a schedule for a fabric. Each line, which ends with LF or CR LF, is empty or a command, and `#`
 /// outside quotes begins a comment:
 ///
@@ -158,7 +158,8 @@ fn new_seat(
 /// A manager sits at an adapter's port, and has a name of 1 to 16 ASCII letters and digits, known from its line on.
 /// Takes a search and a walk over the managers for each line.
 pub fn parse(alloc: Global, text: &str, topology: &Topology) -> Result<Schedule, ScheduleFault>
-    ensures { Reads result (schedule_of topology.now.nodes text.now) }
+    ensures reads { Reads result (schedule_of topology.now.nodes text.now) }
+    ensures script { IfOk result (IsScript topology.now.nodes) }
 {
     read_lines(alloc, text.as_bytes(), topology)
 }

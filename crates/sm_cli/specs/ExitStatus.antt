@@ -1,9 +1,10 @@
 -- The exit status of a run.
-use Rattle.std.specs.Prelude.{ℕ}
+use Rattle.std.specs.Prelude.{ℕ, if◌then◌else◌}
 use Rattle.record_file.specs.declared.file_fault.FileFault.{FileFault}
 use Rattle.record_file.specs.declared.file_fault.FileFault.TheVariants.{Magic, Truncated, BadReport, BadCell, CellOrder, Read, Memory as NoMemoryForFile, TooLong}
 use Rattle.sm_cli.specs.declared.fault.Fault.{Fault}
-use Rattle.sm_cli.specs.declared.fault.Fault.TheVariants.{Open, File, NoRoom, Write, Memory as NoMemory}
+use Rattle.sm_cli.specs.declared.fault.Fault.TheVariants.{Open, File, Text, NoRoom, Write, Memory as NoMemory}
+use Rattle.sm_cli.specs.TextFault.{is_of_text}
 use Rattle.sm_cli.specs.declared.exit_status.ExitStatus.{ExitStatus}
 use Rattle.sm_cli.specs.declared.exit_status.ExitStatus.TheVariants.{Done, Usage, Refused, InputOutput, Memory}
 
@@ -30,6 +31,7 @@ file_status TooLong = Refused
 abbrev pub status_of : Fault → ExitStatus
 status_of (Open place) = InputOutput
 status_of (File place fault) = file_status fault
+status_of (Text place fault) = if is_of_text fault then Refused else Memory
 status_of (NoRoom endports room) = Refused
 status_of Write = InputOutput
 status_of NoMemory = Memory

@@ -5,7 +5,9 @@ use Rattle.fact_store.specs.ReportFault.{report_fault_name}
 use Rattle.record_file.specs.declared.file_fault.FileFault.{FileFault}
 use Rattle.record_file.specs.FileFault.{fault_words, fault_number, fault_of_report, is_of_file}
 use Rattle.sm_cli.specs.declared.fault.Fault.{Fault}
-use Rattle.sm_cli.specs.declared.fault.Fault.TheVariants.{Open, File, NoRoom, Write, Memory}
+use Rattle.sm_cli.specs.declared.fault.Fault.TheVariants.{Open, File, Text, NoRoom, Write, Memory}
+use Rattle.sm_cli.specs.declared.text_fault.TextFault.{TextFault}
+use Rattle.sm_cli.specs.TextFault.{is_of_text, said_of_text}
 
 -- the name of a file, before what is said of it
 abbrev pub name_text : List ℕ → List ℕ
@@ -33,6 +35,10 @@ words_of fault = fault_words fault ++ number_text (fault_number fault) ++ cause_
 abbrev pub file_fault_text : List ℕ → FileFault → List ℕ
 file_fault_text name fault = if is_of_file fault then named_text name (words_of fault) else words_of fault
 
+-- the same of the text with this name
+abbrev pub text_fault_text : List ℕ → TextFault → List ℕ
+text_fault_text name fault = if is_of_text fault then named_text name (said_of_text fault) else said_of_text fault
+
 -- how many end ports there are
 abbrev pub count_text : ℕ → List ℕ
 count_text endports = decimal endports ++ codes " end ports"
@@ -45,6 +51,7 @@ no_room_text endports room = codes "no room: " ++ count_text endports ++ codes "
 abbrev pub fault_text : List ℕ → Fault → List ℕ
 fault_text name (Open place) = named_text name (codes "cannot open")
 fault_text name (File place fault) = file_fault_text name fault
+fault_text name (Text place fault) = text_fault_text name fault
 fault_text name (NoRoom endports room) = no_room_text endports room
 fault_text name Write = codes "write failed"
 fault_text name Memory = codes "out of memory"

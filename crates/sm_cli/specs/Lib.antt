@@ -4,3 +4,4 @@ pub mod FaultText
 pub mod ExitStatus
 pub mod Run
 pub mod RunLaws
+pub mod TextFault

@@ -17,7 +17,7 @@ use Rattle.lid_assign.specs.Lids.{IsNoRoom, room}
 use Rattle.lft_blocks.specs.Plan.{plan_of}
 use Rattle.lft_blocks.specs.PlanText.{plan_text}
 use Rattle.sm_cli.specs.declared.fault.Fault.{Fault}
-use Rattle.sm_cli.specs.declared.fault.Fault.TheVariants.{Open, File, NoRoom, Write, Memory}
+use Rattle.sm_cli.specs.declared.fault.Fault.TheVariants.{Open, File, Text, NoRoom, Write, Memory}
 use Rattle.sm_cli.specs.declared.run.Command.{Command}
 use Rattle.sm_cli.specs.declared.run.Command.TheVariants as commands
 use Rattle.sm_cli.specs.FactsText.{facts_text}
@@ -48,6 +48,7 @@ pub record LacksRoom (cells : Cells) (endports most : ℕ) : Type 0 where
 abbrev pub IsAnswerFault : Command → Facts → Bool → Fault → Type 0
 IsAnswerFault command facts sink_failed (Open place) = ⊥
 IsAnswerFault command facts sink_failed (File place fault) = ⊥
+IsAnswerFault command facts sink_failed (Text place fault) = ⊥
 IsAnswerFault command facts sink_failed (NoRoom endports most) = (command ≡ commands.Plan) × LacksRoom (entries facts) endports most
 IsAnswerFault command facts sink_failed Write = IsTrue sink_failed
 IsAnswerFault command facts sink_failed Memory = command ≡ commands.Plan
@@ -124,6 +125,7 @@ pub record FailsToAnswer {S : Type 0} (left : S → Option (List ℕ)) (has_fail
 abbrev pub IsFaultOf : {S : Type 0} → (S → Option (List ℕ)) → (S → Bool) → (S → ℕ) → Command → List S → List S → Bool → Fault → Type 0
 IsFaultOf left has_failed interruptions command olds news sink_failed (Open place) = ⊥
 IsFaultOf left has_failed interruptions command olds news sink_failed (File place fault) = RefusesFile left has_failed interruptions olds news place fault
+IsFaultOf left has_failed interruptions command olds news sink_failed (Text place fault) = ⊥
 IsFaultOf left has_failed interruptions command olds news sink_failed (NoRoom endports most) = FailsToAnswer left has_failed command olds news sink_failed (NoRoom endports most)
 IsFaultOf left has_failed interruptions command olds news sink_failed Write = FailsToAnswer left has_failed command olds news sink_failed Write
 IsFaultOf left has_failed interruptions command olds news sink_failed Memory = FailsToAnswer left has_failed command olds news sink_failed Memory

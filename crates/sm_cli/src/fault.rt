@@ -1,6 +1,7 @@
 ghost use Rattle.std.specs.Prelude.{◌≡◌};
 
 use crate::exit_status::ExitStatus;
+use crate::text_fault::TextFault;
 use lid_assign::LidFault;
 use record_file::{FileFault, WriteFault};
 use thiserror::Error;
@@ -18,6 +19,12 @@ pub enum Fault {
     File {
         place: usize,
         fault: FileFault,
+    },
+    /// What is wrong with the text of a topology or a schedule, or that memory was refused as it was judged.
+    #[error("{fault}")]
+    Text {
+        place: usize,
+        fault: TextFault,
     },
     /// There are end ports, and no fewer of them than the smallest forwarding table has room for LIDs, 0 among them.
     #[error("no room: {endports} end ports, room {room}")]
@@ -49,6 +56,8 @@ impl Fault {
                 FileFault::Memory => ExitStatus::Memory,
                 _ => ExitStatus::Refused,
             },
+            Fault::Text { fault, .. } if fault.is_of_text() => ExitStatus::Refused,
+            Fault::Text { .. } => ExitStatus::Memory,
             Fault::NoRoom { .. } => ExitStatus::Refused,
             Fault::Memory => ExitStatus::Memory,
         }

@@ -1,8 +1,10 @@
 //! What the program says of a fault, one line that begins with its own name.
 ghost use Rattle.record_file.specs.Writes.{Writes};
-ghost use Rattle.sm_cli.specs.FaultText.{name_text, number_text, cause_text, words_of, file_fault_text, count_text, no_room_text, fault_text, program_line};
+ghost use Rattle.sm_cli.specs.FaultText.{name_text, number_text, cause_text, words_of, file_fault_text, text_fault_text, count_text, no_room_text, fault_text, program_line};
+ghost use Rattle.sm_cli.specs.TextFault.{line_text, said_of_text};
 
 use crate::fault::Fault;
+use crate::text_fault::TextFault;
 use fact_store::ReportFault;
 use record_file::{FileFault, Sink, WriteFault, write_number};
 
@@ -26,6 +28,7 @@ fn write_fault_text<W: Sink>(sink: &mut W, fault: &Fault, name: &[u8]) -> Result
             sink.write(b"cannot open")
         }
         Fault::File { fault, .. } => write_file_fault(sink, fault, name),
+        Fault::Text { fault, .. } => write_text_fault(sink, *fault, name),
         Fault::NoRoom { endports, room } => write_no_room(sink, *endports, *room),
         Fault::Write => sink.write(b"write failed"),
         Fault::Memory => sink.write(b"out of memory"),
@@ -87,6 +90,38 @@ fn write_cause<W: Sink>(sink: &mut W, fault: Option<ReportFault>) -> Result<(), 
         Some(fault) => {
             sink.write(b": ")?;
             sink.write(fault.name().as_bytes())
+        }
+        None => sink.write(b""),
+    }
+}
+
+fn write_text_fault<W: Sink>(sink: &mut W, fault: TextFault, name: &[u8]) -> Result<(), WriteFault>
+    ensures writes { Writes W.written W.has_failed result sink.old sink.new
+        (text_fault_text name.now fault) }
+{
+    if fault.is_of_text() {
+        write_name(sink, name)?;
+    }
+    write_said(sink, fault)
+}
+
+/// Writes what is said of a text, apart from whose it is.
+fn write_said<W: Sink>(sink: &mut W, fault: TextFault) -> Result<(), WriteFault>
+    ensures writes { Writes W.written W.has_failed result sink.old sink.new (said_of_text fault) }
+{
+    write_line_if_any(sink, fault.line())?;
+    sink.write(fault.word().as_bytes())
+}
+
+/// Writes the line that has a fault.
+fn write_line_if_any<W: Sink>(sink: &mut W, line: Option<usize>) -> Result<(), WriteFault>
+    ensures writes { Writes W.written W.has_failed result sink.old sink.new (line_text line) }
+{
+    match line {
+        Some(line) => {
+            sink.write(b"line ")?;
+            write_number(sink, line as u64)?;
+            sink.write(b": ")
         }
         None => sink.write(b""),
     }

@@ -7,12 +7,14 @@ mod fault;
 mod fault_text;
 pub mod laws;
 mod run;
+mod text_fault;
 
 pub use exit_status::ExitStatus;
 pub use facts_text::{write_cell, write_facts};
 pub use fault::Fault;
 pub use fault_text::write_fault;
 pub use run::{Command, run_files};
+pub use text_fault::TextFault;
 
 #[cfg(test)]
 mod tests;

@@ -2,7 +2,9 @@
 use Rattle.std.proofs.Common.{◌≡◌, ◌≢◌, ◌<◌, ℕ, suc, List, [], ◌∷◌, ◌++◌, refl, sym, ap, ◌∙◌, Bool, true, false, cond, length, ◌&&◌, arith, subst}
 use Rattle.std.proofs.lemmas.Map.Text.{is_eq-slice_cmp}
 use Rattle.std.proofs.lemmas.Slice.Eq.{bytes_eq-Decides}
-use Rattle.std.specs.Prelude.{Option, None, Some, option_map, is_some, All}
+use Rattle.std.specs.Prelude.{Option, None, Some, IfSome, option_map, option_copied, is_some, slice_get, All}
+use Rattle.std.specs.Borrow.{Bor}
+use Rattle.std.proofs.lemmas.Option.{slice_get_within, get_or_from_slice_get}
 use Rattle.std.specs.List.{AllByRecursion}
 use Rattle.std.proofs.Common.{length-append}
 use Rattle.std.proofs.lemmas.List.Elements.{recursion_from_All, All-cons}
@@ -162,3 +164,9 @@ found_is (m ∷ nodes) name =
 
 pub found_at : (nodes : List Node) (name : List ℕ) (o : Option ℕ) → o ≡ place_of nodes name → IsFound nodes name o
 found_at nodes name o e = subst (λ (p : Option ℕ). IsFound nodes name p) (sym e) (found_is nodes name)
+
+-- what stands at a place is a node as a topology may have it
+pub placed : (nodes : List Node) (place : ℕ) (found : Option (Bor Node)) → All IsNode nodes → option_copied found ≡ slice_get nodes place → IfSome found (λ n. IsNode n.now)
+placed nodes place None are e = tt
+placed nodes place (Some n) are e =
+    subst IsNode (get_or_from_slice_get nodes place n.now n.now (sym e)) (are place n.now (slice_get_within nodes place n.now (sym e)))

@@ -1,6 +1,6 @@
-ghost use Rattle.std.specs.Prelude.{◌≡◌, ◌↔◌, length, slice_get, IsTrue, IfOk, option_copied};
+ghost use Rattle.std.specs.Prelude.{◌≡◌, ◌↔◌, length, slice_get, IsTrue, IfOk, IfSome, option_copied};
 ghost use Rattle.text_words.specs.Text.{lines};
-ghost use Rattle.topo_file.specs.Topology.{place_of, IsFound, IsTopology, GuidsDiffer};
+ghost use Rattle.topo_file.specs.Topology.{place_of, IsFound, IsNode, IsTopology, GuidsDiffer};
 ghost use Rattle.topo_file.specs.Reading.{topology_of, topology_in, told_by};
 ghost use Rattle.topo_file.specs.ReadingLaws.{IsDraft};
 ghost use Rattle.topo_file.specs.TopoFault.{Reads};
@@ -47,7 +47,8 @@ impl Topology {
 
     /// The node at a place, from 0, in the order of their lines. Takes one step.
     pub fn node(&self, place: usize) -> Option<&Node>
-        ensures { option_copied result ≡ slice_get self.now.nodes place }
+        ensures node { option_copied result ≡ slice_get self.now.nodes place }
+        ensures is_node { IfSome result (λ node. IsNode node.now) }
     {
         self.nodes.get(place)
     }

@@ -1,0 +1,36 @@
+//! Reading the whole of a source into memory.
+ghost use Rattle.std.specs.Prelude.{IfOk, IfErr};
+ghost use Rattle.record_file.specs.Whole.{IsReadWhole, FailsToRead};
+
+use crate::file_fault::FileFault;
+use crate::stream::{Reading, Source};
+use std::alloc::Global;
+
+/// How many bytes are read at a time.
+const PIECE: usize = 4096;
+
+/// All bytes of a source that ends.
+///
+/// # Errors
+///
+/// `Read`, `TooLong` at 2^40 bytes or at 2^40 calls that took bytes or were interrupted, and `Memory`, whichever comes
+/// first.
+pub fn read_whole<S: Source>(alloc: Global, source: &mut S) -> Result<Vec<u8>, FileFault>
+    ensures whole { IfOk result (λ bytes.
+        IsReadWhole S.left S.has_failed source.old source.new bytes.items) }
+    ensures fails { IfErr result (FailsToRead S.left S.has_failed S.interruptions
+        source.old source.new) }
+{
+    let mut reading = Reading::new(source);
+    let mut bytes = Vec::new(alloc);
+    loop {
+        let mut room = [0; PIECE];
+        let count = reading.fill(&mut room, PIECE)?;
+        if bytes.extend_from_slice(&room[..count]).is_err() {
+            return Err(FileFault::Memory);
+        }
+        if count < PIECE {
+            return Ok(bytes);
+        }
+    }
+}

@@ -1,0 +1,4 @@
+pub mod Judging
+pub mod Lists
+pub mod Ports
+pub mod Written

@@ -1,0 +1,6 @@
+pub mod Flights
+pub mod Lines
+pub mod Refusals
+pub mod Run
+pub mod Stops
+pub mod Waiting

@@ -1,0 +1,59 @@
+//! The commands about cables and ports.
+ghost use Rattle.std.specs.Prelude.{◌≡◌, length};
+ghost use Rattle.sm_run.specs.Stops.{StopsFor};
+
+use crate::lines::write_ping;
+use crate::refusals::refuse_fabric;
+use crate::run_fault::RunFault;
+use crate::world::World;
+use record_file::Sink;
+use smp_bytes::{Lid, NodePort};
+use topo_file::Topology;
+
+impl World<'_> {
+    /// The cable in a port is cut.
+    pub(crate) fn cut<W: Sink>(&mut self, port: NodePort, sink: &mut W) -> Result<(), RunFault>
+        ensures managers { length self.new.managers.items ≡ length self.old.managers.items }
+        ensures stops { StopsFor result (W.has_failed sink.new) }
+    {
+        match self.fabric.cut(port) {
+            Ok(()) => Ok(()),
+            Err(fault) => refuse_fabric(sink, fault),
+        }
+    }
+
+    /// A cable is plugged into two ports.
+    pub(crate) fn plug<W: Sink>(
+        &mut self,
+        one: NodePort,
+        other: NodePort,
+        sink: &mut W,
+    ) -> Result<(), RunFault>
+        ensures managers { length self.new.managers.items ≡ length self.old.managers.items }
+        ensures stops { StopsFor result (W.has_failed sink.new) }
+    {
+        match self.fabric.plug(one, other) {
+            Ok(()) => Ok(()),
+            Err(fault) => refuse_fabric(sink, fault),
+        }
+    }
+
+    /// Prints where a packet comes to that is sent from a port to a LID.
+    pub(crate) fn show_ping<W: Sink>(
+        &self,
+        topology: &Topology,
+        from: NodePort,
+        lid: Lid,
+        sink: &mut W,
+    ) -> Result<(), RunFault>
+        ensures stops { StopsFor result (W.has_failed sink.new) }
+    {
+        match self.fabric.ping(from, lid) {
+            Ok(ping) => {
+                write_ping(sink, topology, &from, lid, &ping)?;
+                Ok(())
+            }
+            Err(fault) => refuse_fabric(sink, fault),
+        }
+    }
+}

@@ -1,0 +1,19 @@
+//! A schedule that is run in a simulated fabric: its managers, the packets between them and the fabric's agents, and what
+//! is printed of them.
+#![tactic(auto)]
+
+mod cables;
+mod lines;
+mod managers;
+mod packets;
+mod refusals;
+mod run;
+mod run_fault;
+mod tables;
+mod texts;
+mod world;
+
+pub use run::run_schedule;
+
+#[cfg(test)]
+mod tests;

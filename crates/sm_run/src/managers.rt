@@ -1,0 +1,132 @@
+//! The commands to managers.
+ghost use Rattle.std.specs.Prelude.{◌≡◌, ◌<◌, length, IfOk};
+ghost use Rattle.sm_run.specs.Stops.{StopsFor};
+ghost use Rattle.sm_run.specs.Waiting.{waiting_of};
+
+use crate::lines::write_progress;
+use crate::refusals::{refuse_fabric, refuse_manager};
+use crate::run_fault::RunFault;
+use crate::world::World;
+use lft_blocks::write_plan;
+use record_file::Sink;
+use sm_cli::write_facts;
+use sm_manager::Manager;
+use std::alloc::{AllocError, Global};
+
+impl World<'_> {
+    /// A manager comes to sit at its port.
+    pub(crate) fn seat<W: Sink>(&mut self, seat: usize, sink: &mut W) -> Result<(), RunFault>
+        requires { seat < length self.old.managers.items }
+        ensures managers { length self.new.managers.items ≡ length self.old.managers.items }
+        ensures stops { StopsFor result (W.has_failed sink.new) }
+    {
+        match self.fabric.seat(self.managers[seat].seat.at) {
+            Ok(()) => Ok(()),
+            Err(fault) => refuse_fabric(sink, fault),
+        }
+    }
+
+    /// A manager begins a sweep.
+    pub(crate) fn sweep<W: Sink>(&mut self, seat: usize, sink: &mut W) -> Result<(), RunFault>
+        requires { seat < length self.old.managers.items }
+        ensures managers { length self.new.managers.items ≡ length self.old.managers.items }
+        ensures stops { StopsFor result (W.has_failed sink.new) }
+    {
+        if let Err(fault) = self.managers[seat].manager.begin_sweep() {
+            return refuse_manager(sink, fault);
+        }
+        self.send(seat, sink)
+    }
+
+    /// A manager takes in all that another knows. Its own facts tell it nothing.
+    pub(crate) fn merge<W: Sink>(
+        &mut self,
+        seat: usize,
+        other: usize,
+        sink: &mut W,
+    ) -> Result<(), RunFault>
+        requires seat { seat < length self.old.managers.items }
+        requires other { other < length self.old.managers.items }
+        ensures managers { length self.new.managers.items ≡ length self.old.managers.items }
+        ensures stops { StopsFor result (W.has_failed sink.new) }
+    {
+        if seat == other {
+            return Ok(());
+        }
+        let merged = if seat < other {
+            let (front, back) = self.managers.split_at_mut(other);
+            front[seat].manager.merge_from(back[0].manager.store())
+        } else {
+            let (front, back) = self.managers.split_at_mut(seat);
+            back[0].manager.merge_from(front[other].manager.store())
+        };
+        match merged {
+            Ok(()) => Ok(()),
+            Err(fault) => refuse_manager(sink, fault),
+        }
+    }
+
+    /// A manager waits no more for the answers that it waits for now. What that brings up goes out.
+    pub(crate) fn time_out<W: Sink>(
+        &mut self,
+        alloc: Global,
+        seat: usize,
+        sink: &mut W,
+    ) -> Result<(), RunFault>
+        requires { seat < length self.old.managers.items }
+        ensures managers { length self.new.managers.items ≡ length self.old.managers.items }
+        ensures stops { StopsFor result (W.has_failed sink.new) }
+    {
+        let waiting = waiting(alloc, &self.managers[seat].manager)?;
+        for transaction in &waiting {
+            if let Err(fault) = self.managers[seat].manager.on_timeout(*transaction) {
+                refuse_manager(sink, fault)?;
+            }
+        }
+        self.send(seat, sink)
+    }
+
+    /// Prints a manager's facts.
+    pub(crate) fn show_facts<W: Sink>(&self, seat: usize, sink: &mut W) -> Result<(), RunFault>
+        requires { seat < length self.now.managers.items }
+        ensures stops { StopsFor result (W.has_failed sink.new) }
+    {
+        write_facts(sink, self.managers[seat].manager.store())?;
+        Ok(())
+    }
+
+    /// Prints a manager's plan.
+    pub(crate) fn show_plan<W: Sink>(&self, seat: usize, sink: &mut W) -> Result<(), RunFault>
+        requires { seat < length self.now.managers.items }
+        ensures stops { StopsFor result (W.has_failed sink.new) }
+    {
+        match self.managers[seat].manager.plan() {
+            Ok(plan) => {
+                write_plan(sink, &plan)?;
+                Ok(())
+            }
+            Err(fault) => refuse_manager(sink, fault),
+        }
+    }
+
+    /// Prints how far a manager is with its sweep.
+    pub(crate) fn show_progress<W: Sink>(&self, seat: usize, sink: &mut W) -> Result<(), RunFault>
+        requires { seat < length self.now.managers.items }
+        ensures stops { StopsFor result (W.has_failed sink.new) }
+    {
+        let seated = &self.managers[seat];
+        write_progress(sink, seated.seat.name.as_str(), seated.manager.progress())?;
+        Ok(())
+    }
+}
+
+/// The TransactionIDs of the requests for whose answers a manager waits, rising.
+fn waiting(alloc: Global, manager: &Manager) -> Result<Vec<u64>, AllocError>
+    ensures { IfOk result (λ waiting. waiting.items ≡ waiting_of manager.now) }
+{
+    let mut waiting = Vec::new(alloc);
+    while let Some(transaction) = manager.outstanding(waiting.len()) {
+        waiting.push(transaction)?;
+    }
+    Ok(waiting)
+}

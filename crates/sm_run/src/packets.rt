@@ -1,0 +1,129 @@
+//! The commands about packets in flight.
+ghost use Rattle.std.specs.Prelude.{◌≡◌, length};
+ghost use Rattle.sm_run.specs.Stops.{StopsFor};
+ghost use Rattle.sm_run.specs.Flights.{serial_of};
+
+use crate::lines::write_flight;
+use crate::refusals::{refuse_fabric, refuse_manager};
+use crate::run_fault::RunFault;
+use crate::world::World;
+use fabric_sim::{Delivered, Fabric, FabricFault, Packet};
+use record_file::Sink;
+use schedule_file::Which;
+use smp_bytes::NodePort;
+use topo_file::Topology;
+
+impl World<'_> {
+    /// A packet in flight takes one step. What comes to a manager is taken in by it, and what it queues then goes out.
+    pub(crate) fn deliver<W: Sink>(&mut self, which: Which, sink: &mut W) -> Result<(), RunFault>
+        ensures managers { length self.new.managers.items ≡ length self.old.managers.items }
+        ensures stops { StopsFor result (W.has_failed sink.new) }
+    {
+        match serial(&self.fabric, which) {
+            Some(serial) => self.deliver_one(serial, sink),
+            None => refuse_fabric(sink, FabricFault::NoSuchPacket),
+        }
+    }
+
+    /// A packet in flight is lost.
+    pub(crate) fn lose<W: Sink>(&mut self, which: Which, sink: &mut W) -> Result<(), RunFault>
+        ensures managers { length self.new.managers.items ≡ length self.old.managers.items }
+        ensures stops { StopsFor result (W.has_failed sink.new) }
+    {
+        let Some(serial) = serial(&self.fabric, which) else {
+            return refuse_fabric(sink, FabricFault::NoSuchPacket);
+        };
+        match self.fabric.lose(serial) {
+            Ok(()) => Ok(()),
+            Err(fault) => refuse_fabric(sink, fault),
+        }
+    }
+
+    /// A packet in flight is there once more.
+    pub(crate) fn repeat<W: Sink>(&mut self, which: Which, sink: &mut W) -> Result<(), RunFault>
+        ensures managers { length self.new.managers.items ≡ length self.old.managers.items }
+        ensures stops { StopsFor result (W.has_failed sink.new) }
+    {
+        let Some(serial) = serial(&self.fabric, which) else {
+            return refuse_fabric(sink, FabricFault::NoSuchPacket);
+        };
+        match self.fabric.repeat(serial) {
+            Ok(_) => Ok(()),
+            Err(fault) => refuse_fabric(sink, fault),
+        }
+    }
+
+    /// The packet of the least serial number takes a step, at most so many times.
+    pub(crate) fn drain<W: Sink>(&mut self, most: u32, sink: &mut W) -> Result<(), RunFault>
+        ensures managers { length self.new.managers.items ≡ length self.old.managers.items }
+        ensures stops { StopsFor result (W.has_failed sink.new) }
+    {
+        for _ in 0..most {
+            let Some(first) = self.fabric.in_flight(0) else {
+                return Ok(());
+            };
+            let serial = first.serial;
+            self.deliver_one(serial, sink)?;
+        }
+        Ok(())
+    }
+
+    /// Prints the packets in flight, by rising serial number.
+    pub(crate) fn show_flight<W: Sink>(
+        &self,
+        topology: &Topology,
+        sink: &mut W,
+    ) -> Result<(), RunFault>
+        ensures stops { StopsFor result (W.has_failed sink.new) }
+    {
+        for i in 0..self.fabric.flight_count() {
+            let flight = self.fabric.in_flight(i).unwrap();
+            write_flight(sink, topology, flight.serial, flight.place.port().node)?;
+        }
+        Ok(())
+    }
+
+    /// The packet with a serial number takes one step.
+    fn deliver_one<W: Sink>(&mut self, serial: u64, sink: &mut W) -> Result<(), RunFault>
+        ensures managers { length self.new.managers.items ≡ length self.old.managers.items }
+        ensures stops { StopsFor result (W.has_failed sink.new) }
+    {
+        match self.fabric.deliver(serial) {
+            Ok(Delivered::ToManager(port, packet)) => self.hand_up(&port, &packet, sink),
+            Ok(_) => Ok(()),
+            Err(fault) => refuse_fabric(sink, fault),
+        }
+    }
+
+    /// The manager at a port takes a packet in, and what it queues then goes out. Where none sits the packet is dropped.
+    fn hand_up<W: Sink>(
+        &mut self,
+        port: &NodePort,
+        packet: &Packet,
+        sink: &mut W,
+    ) -> Result<(), RunFault>
+        ensures managers { length self.new.managers.items ≡ length self.old.managers.items }
+        ensures stops { StopsFor result (W.has_failed sink.new) }
+    {
+        let Some(seat) = self.manager_at(port) else {
+            return Ok(());
+        };
+        if let Err(fault) = self.managers[seat].manager.on_packet(&packet.bytes) {
+            refuse_manager(sink, fault)?;
+        }
+        self.send(seat, sink)
+    }
+}
+
+/// The serial number of the packet that a command is about; there is no last one where none is in flight.
+fn serial(fabric: &Fabric, which: Which) -> Option<u64>
+    ensures { result ≡ serial_of fabric.now.flights which }
+{
+    match which {
+        Which::Serial(serial) => Some(serial),
+        Which::Last => {
+            let last = fabric.flight_count().checked_sub(1)?;
+            Some(fabric.in_flight(last)?.serial)
+        }
+    }
+}

@@ -1,0 +1,80 @@
+//! What is printed of a call that is refused: its innermost fault's name.
+ghost use Rattle.std.specs.Prelude.{◌≡◌, ◌↔◌, Err, codes, ◌++◌};
+ghost use Rattle.record_file.specs.Writes.{Writes};
+ghost use Rattle.sm_run.specs.Refusals.{fabric_fault_name, manager_fault_name, refusal_line, sweep_fault_name};
+ghost use Rattle.sm_run.specs.Stops.{StopsFor};
+
+use crate::run_fault::RunFault;
+use fabric_sim::FabricFault;
+use record_file::{Sink, WriteFault};
+use sm_manager::ManagerFault;
+use sweep::SweepFault;
+
+/// Prints that the fabric refuses a call. Want of memory is not printed, and ends the run.
+pub(crate) fn refuse_fabric<W: Sink>(sink: &mut W, fault: FabricFault) -> Result<(), RunFault>
+    ensures stops { StopsFor result (W.has_failed sink.new) }
+    ensures memory { (result ≡ Err RunFault.Memory) ↔ (fault ≡ FabricFault.Memory) }
+{
+    if fault == FabricFault::Memory {
+        return Err(RunFault::Memory);
+    }
+    write_refusal(sink, fabric_fault_name(fault))?;
+    Ok(())
+}
+
+/// Prints that a manager refuses a call. Want of memory is not printed, and ends the run.
+pub(crate) fn refuse_manager<W: Sink>(sink: &mut W, fault: ManagerFault) -> Result<(), RunFault>
+    ensures stops { StopsFor result (W.has_failed sink.new) }
+    ensures memory { (result ≡ Err RunFault.Memory) ↔ (fault ≡ ManagerFault.Memory) }
+{
+    if fault == ManagerFault::Memory {
+        return Err(RunFault::Memory);
+    }
+    write_refusal(sink, manager_fault_name(fault))?;
+    Ok(())
+}
+
+/// Prints the name of a fault: `refused`, and the name.
+fn write_refusal<W: Sink>(sink: &mut W, name: &str) -> Result<(), WriteFault>
+    ensures writes { Writes W.written W.has_failed result sink.old sink.new (refusal_line name.now) }
+{
+    sink.write(b"refused ")?;
+    sink.write(name.as_bytes())?;
+    sink.write(b"\n")
+}
+
+fn fabric_fault_name(fault: FabricFault) -> &'static str
+    ensures { result.now ≡ fabric_fault_name fault }
+{
+    match fault {
+        FabricFault::NoSuchPacket => "NoSuchPacket",
+        FabricFault::NoSuchPort => "NoSuchPort",
+        FabricFault::PortTaken => "PortTaken",
+        FabricFault::Memory => "Memory",
+        FabricFault::SerialsSpent => "SerialsSpent",
+    }
+}
+
+fn manager_fault_name(fault: ManagerFault) -> &'static str
+    ensures { result.now ≡ manager_fault_name fault }
+{
+    match fault {
+        ManagerFault::GenerationsSpent => "GenerationsSpent",
+        ManagerFault::SweepRunning => "SweepRunning",
+        ManagerFault::NoRoom { .. } => "NoRoom",
+        ManagerFault::Sweep(fault) => sweep_fault_name(fault),
+        ManagerFault::Unasked => "Unasked",
+        ManagerFault::Memory => "Memory",
+    }
+}
+
+fn sweep_fault_name(fault: SweepFault) -> &'static str
+    ensures { result.now ≡ sweep_fault_name fault }
+{
+    match fault {
+        SweepFault::NotOutstanding => "NotOutstanding",
+        SweepFault::Bad(fault) => fault.name(),
+        SweepFault::SequenceSpent => "SequenceSpent",
+        SweepFault::Memory => "Memory",
+    }
+}

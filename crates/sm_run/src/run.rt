@@ -1,0 +1,96 @@
+//! The run of a schedule.
+ghost use Rattle.std.specs.Prelude.{◌≡◌, ◌⊎◌, Err, false, length, IfErr, OnOk, OnErr, IsTrue};
+ghost use Rattle.schedule_file.specs.Schedule.{IsScript, NamesManagers};
+ghost use Rattle.sm_run.specs.Run.{HasRun, IsRunFault};
+ghost use Rattle.sm_run.specs.Stops.{StopsFor};
+
+use crate::run_fault::RunFault;
+use crate::texts::{Setting, judge, read_texts};
+use crate::world::World;
+use record_file::{Sink, Source};
+use schedule_file::Command;
+use sm_cli::Fault;
+use std::alloc::Global;
+use topo_file::Topology;
+
+/// Runs a schedule in the simulated fabric of a topology. Both are read to their ends, the topology first, and then
+/// judged, the topology first; then the commands are run in their order, and their output is flushed.
+///
+/// Where an input is refused nothing is written; how much went out before a write failed or memory was refused is not
+/// said. What a fault says of a file is said of place 0 for the topology, and of place 1 for the schedule. A call that
+/// the fabric or a manager refuses is told by a line with its fault's name, and the run goes on; only want of memory
+/// ends it. Which lines the commands print is in `docs/FORMATS.md`, and shown by tests; no clause says it.
+///
+/// It takes the memory of both texts, of the fabric and of what is in flight and known. A delivery takes one step where
+/// the packet of the least serial number is delivered, as `drain` does, and a search elsewhere, and what the manager
+/// takes for the packet where it comes to one.
+pub fn run_schedule<T: Source, S: Source, W: Sink>(
+    alloc: Global,
+    topology: &mut T,
+    schedule: &mut S,
+    sink: &mut W,
+) -> Result<(), Fault>
+    ensures done { OnOk result (HasRun T.left T.has_failed S.left S.has_failed
+        topology.old topology.new schedule.old schedule.new) }
+    ensures flushed { OnOk result (IsTrue (W.is_flushed sink.new)) }
+    ensures sink_works { OnOk result (W.has_failed sink.new ≡ false) }
+    ensures refused { IfErr result (IsRunFault T.left T.has_failed T.interruptions
+        S.left S.has_failed S.interruptions
+        topology.old topology.new schedule.old schedule.new (W.has_failed sink.new)) }
+    ensures nothing_written { OnErr result ((result ≡ Err Fault.Write)
+        ⊎ (result ≡ Err Fault.Memory) ⊎ (sink.new ≡ sink.old)) }
+{
+    let texts = read_texts(alloc, topology, schedule)?;
+    let setting = judge(alloc, &texts)?;
+    run(alloc, &setting, sink)?;
+    Ok(())
+}
+
+/// Runs the commands of a schedule, and flushes.
+fn run<W: Sink>(alloc: Global, setting: &Setting, sink: &mut W) -> Result<(), RunFault>
+    requires { IsScript setting.now.topology.nodes setting.now.schedule }
+    ensures stops { StopsFor result (W.has_failed sink.new) }
+    ensures flushed { OnOk result (IsTrue (W.is_flushed sink.new)) }
+    ensures sink_works { OnOk result (W.has_failed sink.new ≡ false) }
+{
+    let mut world = World::of(alloc, &setting.topology, setting.schedule.seats())?;
+    for command in setting.schedule.commands() {
+        world.obey(alloc, &setting.topology, *command, sink)?;
+    }
+    sink.flush()?;
+    Ok(())
+}
+
+impl World<'_> {
+    /// Does what a command says.
+    fn obey<W: Sink>(
+        &mut self,
+        alloc: Global,
+        topology: &Topology,
+        command: Command,
+        sink: &mut W,
+    ) -> Result<(), RunFault>
+        requires { NamesManagers (length self.old.managers.items) command }
+        ensures managers { length self.new.managers.items ≡ length self.old.managers.items }
+        ensures stops { StopsFor result (W.has_failed sink.new) }
+    {
+        match command {
+            Command::Manager(seat) => self.seat(seat, sink),
+            Command::Sweep(seat) => self.sweep(seat, sink),
+            Command::Merge(seat, other) => self.merge(seat, other, sink),
+            Command::Deliver(which) => self.deliver(which, sink),
+            Command::Lose(which) => self.lose(which, sink),
+            Command::Repeat(which) => self.repeat(which, sink),
+            Command::Drain(most) => self.drain(most, sink),
+            Command::Timeout(seat) => self.time_out(alloc, seat, sink),
+            Command::Cut(port) => self.cut(port, sink),
+            Command::Plug(one, other) => self.plug(one, other, sink),
+            Command::Ping(from, lid) => self.show_ping(topology, from, lid, sink),
+            Command::Facts(seat) => self.show_facts(seat, sink),
+            Command::Plan(seat) => self.show_plan(seat, sink),
+            Command::Progress(seat) => self.show_progress(seat, sink),
+            Command::Tables => self.show_tables(alloc, sink),
+            Command::Flight => self.show_flight(topology, sink),
+        }
+    }
+}

@@ -1,0 +1,106 @@
+//! The two texts of a run: they are read, and then judged.
+ghost use Rattle.std.specs.Prelude.{◌≡◌, ℕ, List, IfOk, IfErr, OnOk, None};
+ghost use Rattle.schedule_file.specs.Schedule.{IsScript};
+ghost use Rattle.sm_run.specs.Run.{AreRead, FailsToReadThem, IsRefused, RefusesTexts, TellsTopology, input_fault, schedule_fault};
+
+use record_file::{Source, read_whole};
+use schedule_file::Schedule;
+use sm_cli::{Fault, TextFault};
+use std::alloc::Global;
+use std::str;
+use topo_file::Topology;
+
+/// The places of the texts among the words of the command line.
+const TOPOLOGY: usize = 0;
+
+const SCHEDULE: usize = 1;
+
+/// The bytes of a topology and of a schedule.
+#[derive(Drop)]
+pub(crate) struct Texts {
+    pub(crate) topology: Vec<u8>,
+    pub(crate) schedule: Vec<u8>,
+}
+
+/// What the texts tell.
+#[derive(Drop)]
+pub(crate) struct Setting {
+    pub(crate) topology: Topology,
+    pub(crate) schedule: Schedule,
+}
+
+/// The bytes of both texts, the topology's first.
+pub(crate) fn read_texts<T: Source, S: Source>(
+    alloc: Global,
+    topology: &mut T,
+    schedule: &mut S,
+) -> Result<Texts, Fault>
+    ensures read { IfOk result (λ texts. AreRead T.left T.has_failed S.left S.has_failed
+        topology.old topology.new schedule.old schedule.new texts.topology.items texts.schedule.items) }
+    ensures refused { IfErr result (FailsToReadThem T.left T.has_failed T.interruptions
+        S.left S.has_failed S.interruptions topology.old topology.new schedule.old schedule.new) }
+{
+    let topology = match read_whole(alloc, topology) {
+        Ok(bytes) => bytes,
+        Err(fault) => return Err(Fault::File {
+            place: TOPOLOGY,
+            fault,
+        }),
+    };
+    let schedule = match read_whole(alloc, schedule) {
+        Ok(bytes) => bytes,
+        Err(fault) => return Err(Fault::File {
+            place: SCHEDULE,
+            fault,
+        }),
+    };
+    Ok(Texts { topology, schedule })
+}
+
+#[tactic(auto, using(crate::proofs::Judging::behind))]
+/// What both texts tell, or their first fault: the topology is judged first.
+pub(crate) fn judge(alloc: Global, texts: &Texts) -> Result<Setting, Fault>
+    ensures sound { OnOk result (input_fault texts.now.topology.items texts.now.schedule.items ≡ None) }
+    ensures script { IfOk result (λ setting. IsScript setting.topology.nodes setting.schedule) }
+    ensures refused { IfErr result (RefusesTexts texts.now.topology.items texts.now.schedule.items) }
+{
+    let topology = judge_topology(alloc, &texts.topology)?;
+    let schedule = judge_schedule(alloc, &topology, &texts.schedule)?;
+    Ok(Setting { topology, schedule })
+}
+
+/// The topology that bytes tell.
+fn judge_topology(alloc: Global, bytes: &[u8]) -> Result<Topology, Fault>
+    ensures sound { IfOk result (λ topology. TellsTopology bytes.now topology) }
+    ensures refused { (schedule : List ℕ) → IfErr result (RefusesTexts bytes.now schedule) }
+{
+    let Ok(text) = str::from_utf8(bytes) else {
+        return Err(refused(TOPOLOGY, TextFault::NotUtf8));
+    };
+    match topo_file::parse(alloc, text) {
+        Ok(topology) => Ok(topology),
+        Err(fault) => Err(refused(TOPOLOGY, TextFault::Topology(fault))),
+    }
+}
+
+/// The schedule for a topology that bytes tell.
+fn judge_schedule(alloc: Global, topology: &Topology, bytes: &[u8]) -> Result<Schedule, Fault>
+    ensures sound { OnOk result (schedule_fault topology.now.nodes bytes.now ≡ None) }
+    ensures script { IfOk result (IsScript topology.now.nodes) }
+    ensures refused { IfErr result (IsRefused (schedule_fault topology.now.nodes bytes.now)) }
+{
+    let Ok(text) = str::from_utf8(bytes) else {
+        return Err(refused(SCHEDULE, TextFault::NotUtf8));
+    };
+    match schedule_file::parse(alloc, text, topology) {
+        Ok(schedule) => Ok(schedule),
+        Err(fault) => Err(refused(SCHEDULE, TextFault::Schedule(fault))),
+    }
+}
+
+/// The fault of the text at a place.
+fn refused(place: usize, fault: TextFault) -> Fault
+    ensures { result ≡ Fault.Text place fault }
+{
+    Fault::Text { place, fault }
+}
