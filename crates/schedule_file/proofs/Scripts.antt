@@ -21,7 +21,7 @@ use Rattle.schedule_file.specs.declared.schedule.Seat.{Seat}
 use Rattle.schedule_file.specs.declared.spoken.Spoken.{Spoken}
 use Rattle.schedule_file.specs.declared.spoken.Spoken.TheVariants.{Plain, OfOne, Merge, Cut, Plug, Ping}
 use Rattle.schedule_file.specs.declared.spoken.Verb.{Verb}
-use Rattle.schedule_file.specs.declared.spoken.Verb.TheVariants.{Sweep, Timeout, Facts, Plan, Progress}
+use Rattle.schedule_file.specs.declared.spoken.Verb.TheVariants.{Sweep, Write, Timeout, Facts, Plan, Progress}
 use Rattle.schedule_file.specs.Command.{only, pair, number_up_to, which_of, port_name, verb_of, of_one, merge, cut, plug, ping, bare_of, packet_of, plain_of}
 use Rattle.schedule_file.specs.Command.{other_of, spoken_with, spoken_of, new_manager, line_in, line_of}
 use Rattle.schedule_file.specs.ManagerName.{manager_name_in}
@@ -118,6 +118,7 @@ seat_range seats name = place_range (seat_of seats name) seats name refl
 
 verb_names : (verb : Verb) (count i : ℕ) → i < count → NamesManagers count (of_verb verb i)
 verb_names Sweep count i h = h
+verb_names Write count i h = h
 verb_names Timeout count i h = h
 verb_names Facts count i h = h
 verb_names Plan count i h = h
@@ -166,6 +167,7 @@ new_seat_range nodes seats number new =
 more : (count : ℕ) (given : Command) → NamesManagers count given → NamesManagers (count + 1) given
 more count (command.Manager seat) h = omega arith
 more count (command.Sweep seat) h = omega arith
+more count (command.Write seat) h = omega arith
 more count (command.Merge seat other) h = let one = h.0 in let two = h.1 in (omega arith, omega arith)
 more count (command.Deliver which) h = tt
 more count (command.Lose which) h = tt

@@ -16,7 +16,7 @@ use Rattle.schedule_file.specs.declared.spoken.PortName.{PortName}
 use Rattle.schedule_file.specs.declared.spoken.Spoken.{Spoken}
 use Rattle.schedule_file.specs.declared.spoken.Spoken.TheVariants.{Plain, OfOne, Merge, Cut, Plug, Ping}
 use Rattle.schedule_file.specs.declared.spoken.Verb.{Verb}
-use Rattle.schedule_file.specs.declared.spoken.Verb.TheVariants.{Sweep, Timeout, Facts, Plan, Progress}
+use Rattle.schedule_file.specs.declared.spoken.Verb.TheVariants.{Sweep, Write, Timeout, Facts, Plan, Progress}
 use Rattle.schedule_file.specs.ManagerName.{manager_name_in}
 
 -- the only word
@@ -58,6 +58,7 @@ new_manager (name ∷ rest) =
 abbrev pub verb_of : List ℕ → Option Verb
 verb_of word =
     if bytes_eq word (codes "sweep") then Some Sweep
+    else if bytes_eq word (codes "write") then Some Write
     else if bytes_eq word (codes "timeout") then Some Timeout
     else if bytes_eq word (codes "facts") then Some Facts
     else if bytes_eq word (codes "plan") then Some Plan

@@ -22,7 +22,7 @@ use Rattle.schedule_file.specs.declared.spoken.PortName.{PortName}
 use Rattle.schedule_file.specs.declared.spoken.Spoken.{Spoken}
 use Rattle.schedule_file.specs.declared.spoken.Spoken.TheVariants.{Plain, OfOne, Merge, Cut, Plug, Ping}
 use Rattle.schedule_file.specs.declared.spoken.Verb.{Verb}
-use Rattle.schedule_file.specs.declared.spoken.Verb.TheVariants.{Sweep, Timeout, Facts, Plan, Progress}
+use Rattle.schedule_file.specs.declared.spoken.Verb.TheVariants.{Sweep, Write, Timeout, Facts, Plan, Progress}
 use Rattle.schedule_file.specs.Command.{line_of}
 
 -- the managers and the commands
@@ -63,6 +63,7 @@ port_of nodes name = option_map (λ place. record { node = place; port = name.po
 -- the command to the manager of a seat
 abbrev pub of_verb : Verb → ℕ → Command
 of_verb Sweep seat = command.Sweep seat
+of_verb Write seat = command.Write seat
 of_verb Timeout seat = command.Timeout seat
 of_verb Facts seat = command.Facts seat
 of_verb Plan seat = command.Plan seat
@@ -125,6 +126,7 @@ schedule_of nodes text = told_by nodes (lines text)
 abbrev pub NamesManagers : ℕ → Command → Type 0
 NamesManagers count (command.Manager seat) = seat < count
 NamesManagers count (command.Sweep seat) = seat < count
+NamesManagers count (command.Write seat) = seat < count
 NamesManagers count (command.Merge seat other) = (seat < count) × (other < count)
 NamesManagers count (command.Timeout seat) = seat < count
 NamesManagers count (command.Facts seat) = seat < count

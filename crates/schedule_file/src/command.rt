@@ -8,6 +8,8 @@ pub enum Command {
     Manager(usize),
     /// A sweep of the fabric by the manager.
     Sweep(usize),
+    /// The manager writes the plan of what it knows.
+    Write(usize),
     /// The second manager's records go to the first.
     Merge(usize, usize),
     /// A packet in flight arrives.

@@ -34,6 +34,7 @@ fn of_verb(verb: Verb, seat: usize) -> Command
 {
     match verb {
         Verb::Sweep => Command::Sweep(seat),
+        Verb::Write => Command::Write(seat),
         Verb::Timeout => Command::Timeout(seat),
         Verb::Facts => Command::Facts(seat),
         Verb::Plan => Command::Plan(seat),

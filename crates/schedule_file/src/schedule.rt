@@ -147,7 +147,7 @@ fn new_seat(
 /// | Command | Numbers |
 /// |---|---|
 /// | `manager NAME "node"[port] PRIORITY` | priority 0 to 15 |
-/// | `sweep NAME`, `timeout NAME`, `facts NAME`, `plan NAME`, `progress NAME` | |
+/// | `sweep NAME`, `write NAME`, `timeout NAME`, `facts NAME`, `plan NAME`, `progress NAME` | |
 /// | `merge NAME NAME` | |
 /// | `deliver PACKET`, `lose PACKET`, `repeat PACKET` | `last`, or a serial number of 64 bits |
 /// | `drain COUNT` | 0 to 1,000,000 |

@@ -20,6 +20,7 @@ pub(crate) struct PortName {
 #[derive(Clone, Copy)]
 pub(crate) enum Verb {
     Sweep,
+    Write,
     Timeout,
     Facts,
     Plan,
@@ -54,6 +55,8 @@ fn read_verb(word: &[u8]) -> Option<Verb>
 {
     if is_word(word, "sweep") {
         Some(Verb::Sweep)
+    } else if is_word(word, "write") {
+        Some(Verb::Write)
     } else if is_word(word, "timeout") {
         Some(Verb::Timeout)
     } else if is_word(word, "facts") {

@@ -51,6 +51,7 @@ fn at(node: usize, port: u8) -> NodePort {
 fn commands_of_managers_and_ports(rt: HostRuntime) -> Result<(), Fail> {
     for (line, wanted) in [
         ("sweep A", Command::Sweep(0)),
+        ("write A", Command::Write(0)),
         ("merge b2 A", Command::Merge(1, 0)),
         ("merge A A", Command::Merge(0, 0)),
         ("timeout b2", Command::Timeout(1)),
@@ -127,7 +128,7 @@ fn lines_of_no_grammar(rt: HostRuntime) -> Result<(), Fail> {
         "manager c \"H1\"[2] 16",
         "manager c \"H1\"[2]",
         "manager c \"H1\"[2] 1 1",
-        "write A",
+        "write",
         "handover A",
         "poll A 1",
         "state A",

@@ -1,4 +1,3 @@
 pub mod Judging
-pub mod Lists
 pub mod Ports
 pub mod Written

@@ -3,4 +3,3 @@ pub mod Lines
 pub mod Refusals
 pub mod Run
 pub mod Stops
-pub mod Waiting

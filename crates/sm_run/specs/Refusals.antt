@@ -24,6 +24,9 @@ sweep_fault_name sweep.Memory = codes "Memory"
 abbrev pub manager_fault_name : ManagerFault → List ℕ
 manager_fault_name manager.GenerationsSpent = codes "GenerationsSpent"
 manager_fault_name manager.SweepRunning = codes "SweepRunning"
+manager_fault_name manager.NotMaster = codes "NotMaster"
+manager_fault_name manager.WritingRunning = codes "WritingRunning"
+manager_fault_name manager.SequenceSpent = codes "SequenceSpent"
 manager_fault_name (manager.NoRoom endports room) = codes "NoRoom"
 manager_fault_name (manager.Sweep fault) = sweep_fault_name fault
 manager_fault_name manager.Unasked = codes "Unasked"

@@ -1,7 +1,7 @@
 //! The commands to managers.
 ghost use Rattle.std.specs.Prelude.{◌≡◌, ◌<◌, length, IfOk};
+ghost use Rattle.sm_manager.specs.Manager.{outstanding};
 ghost use Rattle.sm_run.specs.Stops.{StopsFor};
-ghost use Rattle.sm_run.specs.Waiting.{waiting_of};
 
 use crate::lines::write_progress;
 use crate::refusals::{refuse_fabric, refuse_manager};
@@ -33,6 +33,18 @@ impl World<'_> {
         ensures stops { StopsFor result (W.has_failed sink.new) }
     {
         if let Err(fault) = self.managers[seat].manager.begin_sweep() {
+            return refuse_manager(sink, fault);
+        }
+        self.send(seat, sink)
+    }
+
+    /// A manager begins to write its plan.
+    pub(crate) fn write<W: Sink>(&mut self, seat: usize, sink: &mut W) -> Result<(), RunFault>
+        requires { seat < length self.old.managers.items }
+        ensures managers { length self.new.managers.items ≡ length self.old.managers.items }
+        ensures stops { StopsFor result (W.has_failed sink.new) }
+    {
+        if let Err(fault) = self.managers[seat].manager.write_steps() {
             return refuse_manager(sink, fault);
         }
         self.send(seat, sink)
@@ -122,7 +134,7 @@ impl World<'_> {
 
 /// The TransactionIDs of the requests for whose answers a manager waits, rising.
 fn waiting(alloc: Global, manager: &Manager) -> Result<Vec<u64>, AllocError>
-    ensures { IfOk result (λ waiting. waiting.items ≡ waiting_of manager.now) }
+    ensures { IfOk result (λ waiting. waiting.items ≡ outstanding manager.now) }
 {
     let mut waiting = Vec::new(alloc);
     while let Some(transaction) = manager.outstanding(waiting.len()) {

@@ -61,6 +61,9 @@ fn manager_fault_name(fault: ManagerFault) -> &'static str
     match fault {
         ManagerFault::GenerationsSpent => "GenerationsSpent",
         ManagerFault::SweepRunning => "SweepRunning",
+        ManagerFault::NotMaster => "NotMaster",
+        ManagerFault::WritingRunning => "WritingRunning",
+        ManagerFault::SequenceSpent => "SequenceSpent",
         ManagerFault::NoRoom { .. } => "NoRoom",
         ManagerFault::Sweep(fault) => sweep_fault_name(fault),
         ManagerFault::Unasked => "Unasked",

@@ -77,6 +77,7 @@ impl World<'_> {
         match command {
             Command::Manager(seat) => self.seat(seat, sink),
             Command::Sweep(seat) => self.sweep(seat, sink),
+            Command::Write(seat) => self.write(seat, sink),
             Command::Merge(seat, other) => self.merge(seat, other, sink),
             Command::Deliver(which) => self.deliver(which, sink),
             Command::Lose(which) => self.lose(which, sink),
