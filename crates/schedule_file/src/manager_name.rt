@@ -8,7 +8,7 @@ use arrayvec::ArrayString;
 use std::marker::Model;
 
 /// The name of a subnet manager: 1 to 16 ASCII letters and digits.
-#[derive(Debug, Drop)]
+#[derive(Drop)]
 pub struct ManagerName {
     text: ArrayString<16>,
 }

@@ -17,7 +17,7 @@ use text_words::split_line;
 use topo_file::Topology;
 
 /// A subnet manager of the fabric.
-#[derive(Debug, Drop)]
+#[derive(Drop)]
 pub struct Seat {
     pub name: ManagerName,
     /// The port at which it sits.
