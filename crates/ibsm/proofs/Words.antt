@@ -10,7 +10,8 @@ use Rattle.clap.specs.declared.parser.matches.Found.{Found}
 use Rattle.clap.specs.declared.parser.matches.MatchedArg.{MatchedArg}
 use Rattle.ibsm.specs.Asked.{values_in}
 
-found_values : (name : List ℕ) (es : List Entry) → option_map raw_values (option_map (λ e. e.1) (find (λ e. bytes_eq e.0.now name) es)) ≡ values_in name (map row_of es)
+found_values : (name : List ℕ) (es : List Entry)
+    → option_map raw_values (option_map (λ e. e.1) (find (λ e. bytes_eq e.0.now name) es)) ≡ values_in name (map row_of es)
 found_values name [] = refl
 found_values name (e ∷ es) =
     elim (bytes_eq e.0.now name) as (λ b. option_map raw_values (option_map (λ x. x.1) (if b then Some e else find (λ x. bytes_eq x.0.now name) es)) ≡ option_map (λ r. r.values) (if b then Some (row_of e) else find (λ r. bytes_eq r.id name) (map row_of es))) [
@@ -19,18 +20,21 @@ found_values name (e ∷ es) =
     ]
 
 -- the values that a subcommand's matches hold are those behind the subcommand
-pub named : (o : Option (Text × List Row)) (found : Found) (name : List ℕ) (names : List (List ℕ)) → Some (rows_of found) ≡ option_map (λ p. p.1) o → Some names ≡ option_map raw_values (matched_of found name) → option_and_then (λ s. values_in name s.1) o ≡ Some names
+pub named : (o : Option (Text × List Row)) (found : Found) (name : List ℕ) (names : List (List ℕ)) → Some (rows_of found) ≡ option_map (λ p. p.1) o
+    → Some names ≡ option_map raw_values (matched_of found name) → option_and_then (λ s. values_in name s.1) o ≡ Some names
 named None found name names e f = absurd (cc)
 named (Some p) found name names e f =
     let same : rows_of found ≡ p.1 = cc in
     ap (values_in name) (sym same) ∙ sym (f ∙ found_values name found.entries.items)
 
-first_of : (m : Option MatchedArg) → option_and_then (λ a. option_map (λ s. s.now) (slice_get a.vals.items 0)) m ≡ option_and_then (λ vs. slice_get vs 0) (option_map raw_values m)
+first_of : (m : Option MatchedArg)
+    → option_and_then (λ a. option_map (λ s. s.now) (slice_get a.vals.items 0)) m ≡ option_and_then (λ vs. slice_get vs 0) (option_map raw_values m)
 first_of None = refl
 first_of (Some a) = sym (slice_get-map (λ s. s.now) a.vals.items 0)
 
 -- and the first of them is the first behind the subcommand
-pub first_named : (o : Option (Text × List Row)) (found : Found) (name value : List ℕ) → Some (rows_of found) ≡ option_map (λ p. p.1) o → Some value ≡ first_value found name
+pub first_named : (o : Option (Text × List Row)) (found : Found) (name value : List ℕ) → Some (rows_of found) ≡ option_map (λ p. p.1) o
+    → Some value ≡ first_value found name
     → option_and_then (λ s. option_and_then (λ vs. slice_get vs 0) (values_in name s.1)) o ≡ Some value
 first_named None found name value e f = absurd (cc)
 first_named (Some p) found name value e f =

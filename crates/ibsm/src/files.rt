@@ -57,10 +57,10 @@ where
         (⟦<ToWrite<E> as Sink>⟧.written errors.old) (⟦<ToWrite<E> as Sink>⟧.written errors.new) (⟦<ToWrite<E> as Sink>⟧.has_failed errors.new) }
     ensures nothing_written { (result ≡ ExitStatus.Refused) → (output.new ≡ output.old) }
 {
-    match run(rt, names, output) {
-        Ok(()) => ExitStatus::Done,
-        Err(fault) => say(errors, names, &fault),
+    if let Err(fault) = run(rt, names, output) {
+        return say(errors, names, &fault);
     }
+    ExitStatus::Done
 }
 
 /// Runs the schedule of the second file in the fabric of the first one.

@@ -1,5 +1,6 @@
 -- Reading a source whole, piece after piece.
-use Rattle.std.proofs.Common.{◌≡◌, ◌⊎◌, inl, inr, ℕ, ◌+◌, ◌≤◌, ◌<◌, ◌^◌, Bool, false, List, [], ◌++◌, Option, None, Some, Ok, Err, IsTrue, length, take, refl, sym, ◌∙◌, arith}
+use Rattle.std.proofs.Common.{◌≡◌, ◌⊎◌, inl, inr, ℕ, ◌+◌, ◌≤◌, ◌<◌, ◌^◌, Bool, false, List, []}
+use Rattle.std.proofs.Common.{◌++◌, Option, None, Some, Ok, Err, IsTrue, length, take, refl, sym, ◌∙◌, arith}
 use Rattle.std.proofs.lemmas.List.{length-append}
 use Rattle.std.specs.Io.KnownBytes.{Consumes, IsAtEnd}
 use Rattle.record_file.specs.declared.file_fault.FileFault.{FileFault}

@@ -23,7 +23,8 @@ IsReadFault Memory taken has_failed interruptions interruptions' = has_failed �
 IsReadFault fault taken has_failed interruptions interruptions' = ⊥
 
 -- the source can't be read whole, for this fault
-pub record FailsToRead {S : Type 0} (left : S → Option (List ℕ)) (has_failed : S → Bool) (interruptions : S → ℕ) (old new : S) (fault : FileFault) : Type 0 where
+pub record FailsToRead {S : Type 0} (left : S → Option (List ℕ)) (has_failed : S → Bool) (interruptions : S → ℕ)
+    (old new : S) (fault : FileFault) : Type 0 where
   pub taken : List ℕ
   pub consumed : Consumes (left old) (left new) taken
   pub why : IsReadFault fault taken (has_failed new) (interruptions old) (interruptions new)

@@ -13,8 +13,8 @@ const PIECE: usize = 4096;
 ///
 /// # Errors
 ///
-/// `Read`, `TooLong` at 2^40 bytes or at 2^40 calls that took bytes or were interrupted, and `Memory`, whichever comes
-/// first.
+/// `Read`, `TooLong` at 2^40 bytes or at 2^40 calls that took bytes or were interrupted, and
+/// `Memory`, whichever comes first.
 pub fn read_whole<S: Source>(alloc: Global, source: &mut S) -> Result<Vec<u8>, FileFault>
     ensures whole { IfOk result (λ bytes.
         IsReadWhole S.left S.has_failed source.old source.new bytes.items) }

@@ -1,5 +1,6 @@
 -- The schedules that texts tell: their commands name managers that there are, at ports of adapters.
-use Rattle.std.proofs.Common.{◌≡◌, ℕ, ◌+◌, ◌<◌, Bool, true, false, cond, List, [], ◌∷◌, ◌++◌, length, get_or, Option, None, Some, Result, Ok, Err, refl, arith, length-append}
+use Rattle.std.proofs.Common.{◌≡◌, ℕ, ◌+◌, ◌<◌, Bool, true, false, cond, List, [], ◌∷◌}
+use Rattle.std.proofs.Common.{◌++◌, length, get_or, Option, None, Some, Result, Ok, Err, refl, arith, length-append}
 use Rattle.std.specs.Prelude.{IfSome, IfOk, All, is_some, option_map, option_and_then, position, codes, not, if◌then◌else◌}
 use Rattle.std.proofs.lemmas.Result.{IfOk-at_ok}
 use Rattle.std.proofs.lemmas.List.Elements.{All-push, All-nil}
@@ -25,7 +26,8 @@ use Rattle.schedule_file.specs.declared.spoken.Verb.TheVariants.{Sweep, Write, T
 use Rattle.schedule_file.specs.Command.{only, pair, number_up_to, which_of, port_name, verb_of, of_one, merge, cut, plug, ping, bare_of, packet_of, plain_of}
 use Rattle.schedule_file.specs.Command.{other_of, spoken_with, spoken_of, new_manager, line_in, line_of}
 use Rattle.schedule_file.specs.ManagerName.{manager_name_in}
-use Rattle.schedule_file.specs.Schedule.{◌>>=◌, Script, IsScript, NamesManagers, seat_of, is_seat, is_taken, is_free, port_of, of_verb, command_of, with_command, seat_at, new_seat}
+use Rattle.schedule_file.specs.Schedule.{◌>>=◌, Script, IsScript, NamesManagers, seat_of, is_seat, is_taken}
+use Rattle.schedule_file.specs.Schedule.{is_free, port_of, of_verb, command_of, with_command, seat_at, new_seat}
 use Rattle.schedule_file.specs.Schedule.{with_seat, with_line, with_lines, told_by}
 
 -- what a line says --------------------------------------------------------------------------
@@ -124,7 +126,8 @@ verb_names Facts count i h = h
 verb_names Plan count i h = h
 verb_names Progress count i h = h
 
-command_range : (nodes : List Node) (seats : List Seat) (spoken : Spoken) → IsSpoken spoken → IfSome (command_of nodes seats spoken) (NamesManagers (length seats))
+command_range : (nodes : List Node) (seats : List Seat) (spoken : Spoken) → IsSpoken spoken
+    → IfSome (command_of nodes seats spoken) (NamesManagers (length seats))
 command_range nodes seats (Plain given) h = h (length seats)
 command_range nodes seats (OfOne verb name) h =
     mapped (λ i. i < length seats) (NamesManagers (length seats)) (seat_of seats name) _ (seat_range seats name) (λ i k. verb_names verb (length seats) i k)
@@ -183,7 +186,8 @@ more count (command.Progress seat) h = omega arith
 more count command.Tables h = tt
 more count command.Flight h = tt
 
-with_seat_range : (nodes : List Node) (before : Script) (seat : Seat) → IsScript nodes before → is_seat nodes seat.at ≡ true → IsScript nodes (with_seat before seat)
+with_seat_range : (nodes : List Node) (before : Script) (seat : Seat) → IsScript nodes before → is_seat nodes seat.at ≡ true
+    → IsScript nodes (with_seat before seat)
 with_seat_range nodes before seat is h =
     let longer : length (before.seats ++ seat ∷ []) ≡ length before.seats + 1 = length-append before.seats (seat ∷ []) in record {
       seats = All-push (λ s. is_seat nodes s.at ≡ true) before.seats seat is.seats h;
@@ -209,7 +213,8 @@ line_kept nodes number before (Some (line.Manager new)) is fits =
 line_kept nodes number before (Some (line.Command spoken)) is fits =
     with_command_range nodes number before (command_of nodes before.seats spoken) is (command_range nodes before.seats spoken fits)
 
-lines_kept : (nodes : List Node) (number : ℕ) (before : Script) (ls : List (List ℕ)) → IsScript nodes before → IfOk (with_lines nodes number before ls) (IsScript nodes)
+lines_kept : (nodes : List Node) (number : ℕ) (before : Script) (ls : List (List ℕ)) → IsScript nodes before
+    → IfOk (with_lines nodes number before ls) (IsScript nodes)
 lines_kept nodes number before [] is = is
 lines_kept nodes number before (l ∷ ls) is =
     read_then (IsScript nodes) (IsScript nodes) (with_line nodes number before (line_of l)) (λ now. with_lines nodes (number + 1) now ls)

@@ -3,10 +3,12 @@
 use super::*;
 use fact_store::ReportFault;
 use record_file::{FileFault, FromBytes, FromRead, Sink, ToRoom, ToWrite, write_number};
+use schedule_file::ScheduleFault;
 use smp_bytes::SmpFault;
 use std::alloc::{AllocError, Global};
 use std::process::Abort;
 use std::test::Fail;
+use topo_file::TopoFault;
 
 mod devices;
 mod fabric;
@@ -263,8 +265,9 @@ fn each_damage_is_told(rt: HostRuntime) -> Result<(), Fail> {
 }
 
 /// The lines of faults of a file, or of none, with the exit status.
-fn fault_lines() -> [(Fault, &'static str); 13] {
+fn fault_lines() -> [(Fault, &'static str); 18] {
     let file = |fault| Fault::File { place: 0, fault };
+    let text = |fault| Fault::Text { place: 1, fault };
     [
         (Fault::Open { place: 0 }, "4 ibsm: FILE: cannot open\n"),
         (Fault::Open { place: 1 }, "4 ibsm: OTHER: cannot open\n"),
@@ -297,6 +300,23 @@ fn fault_lines() -> [(Fault, &'static str); 13] {
                 room: 49152,
             },
             "3 ibsm: no room: 7 end ports, room 49152\n",
+        ),
+        (text(TextFault::NotUtf8), "3 ibsm: OTHER: not UTF-8\n"),
+        (
+            text(TextFault::Topology(TopoFault::TooManyNodes { line: 1025 })),
+            "3 ibsm: OTHER: line 1025: too many nodes\n",
+        ),
+        (
+            text(TextFault::Schedule(ScheduleFault::Seat { line: 3 })),
+            "3 ibsm: OTHER: line 3: seat\n",
+        ),
+        (
+            text(TextFault::Topology(TopoFault::Memory)),
+            "5 ibsm: out of memory\n",
+        ),
+        (
+            text(TextFault::Schedule(ScheduleFault::Memory)),
+            "5 ibsm: out of memory\n",
         ),
         (Fault::Memory, "5 ibsm: out of memory\n"),
         (Fault::Write, "4 ibsm: write failed\n"),

@@ -17,7 +17,8 @@ of_adapter Switch ports guid cap adapter h = cc
 of_adapter ChannelAdapter ports guid cap adapter h = h.1
 of_adapter Router ports guid cap adapter h = absurd h
 
-pub guid_fits : (nodes : List Node) (p : NodePort) (node : Node) → IsNode node → is_seat nodes p ≡ true → slice_get nodes p.node ≡ Some node → node.guid + p.port < 2 ^ 64
+pub guid_fits : (nodes : List Node) (p : NodePort) (node : Node) → IsNode node → is_seat nodes p ≡ true → slice_get nodes p.node ≡ Some node
+    → node.guid + p.port < 2 ^ 64
 guid_fits nodes p node is seat there =
     let may : may_seat node p.port ≡ true = subst (λ o. option_map_or (λ n. may_seat n p.port) o false ≡ true) there seat in
     let parts = both (not (is_switch node.kind) && nat_le 1 p.port) (nat_le p.port node.ports) may in

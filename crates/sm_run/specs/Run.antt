@@ -51,7 +51,8 @@ RefusesTexts topology schedule fault = IsRefused (input_fault topology schedule)
 -- reading ---------------------------------------------------------------------------------------
 
 -- both sources were read to their ends, and these are their bytes
-pub record AreRead {T S : Type 0} (left : T → Option (List ℕ)) (has_failed : T → Bool) (left' : S → Option (List ℕ)) (has_failed' : S → Bool) (old new : T) (old' new' : S)
+pub record AreRead {T S : Type 0} (left : T → Option (List ℕ)) (has_failed : T → Bool) (left' : S → Option (List ℕ)) (has_failed' : S → Bool)
+    (old new : T) (old' new' : S)
     (topology schedule : List ℕ) : Type 0 where
   pub topology_read : IsReadWhole left has_failed old new topology
   pub schedule_read : IsReadWhole left' has_failed' old' new' schedule
@@ -82,14 +83,16 @@ FailsToReadThem left has_failed interruptions left' has_failed' interruptions' o
 -- running ---------------------------------------------------------------------------------------
 
 -- both sources were read to their ends, and what they say has no fault
-pub record HasRun {T S : Type 0} (left : T → Option (List ℕ)) (has_failed : T → Bool) (left' : S → Option (List ℕ)) (has_failed' : S → Bool) (old new : T) (old' new' : S) : Type 0 where
+pub record HasRun {T S : Type 0} (left : T → Option (List ℕ)) (has_failed : T → Bool) (left' : S → Option (List ℕ)) (has_failed' : S → Bool)
+    (old new : T) (old' new' : S) : Type 0 where
   pub topology : List ℕ
   pub schedule : List ℕ
   pub read : AreRead left has_failed left' has_failed' old new old' new' topology schedule
   pub sound : input_fault topology schedule ≡ None
 
 -- both sources were read to their ends, and what they say is refused with this fault
-pub record IsRefusedInput {T S : Type 0} (left : T → Option (List ℕ)) (has_failed : T → Bool) (left' : S → Option (List ℕ)) (has_failed' : S → Bool) (old new : T) (old' new' : S)
+pub record IsRefusedInput {T S : Type 0} (left : T → Option (List ℕ)) (has_failed : T → Bool) (left' : S → Option (List ℕ)) (has_failed' : S → Bool)
+    (old new : T) (old' new' : S)
     (fault : Fault) : Type 0 where
   pub topology : List ℕ
   pub schedule : List ℕ
@@ -97,7 +100,8 @@ pub record IsRefusedInput {T S : Type 0} (left : T → Option (List ℕ)) (has_f
   pub refuses : RefusesTexts topology schedule fault
 
 -- the texts are sound, and the output failed as they were run
-pub record FailsToWrite {T S : Type 0} (left : T → Option (List ℕ)) (has_failed : T → Bool) (left' : S → Option (List ℕ)) (has_failed' : S → Bool) (old new : T) (old' new' : S)
+pub record FailsToWrite {T S : Type 0} (left : T → Option (List ℕ)) (has_failed : T → Bool) (left' : S → Option (List ℕ)) (has_failed' : S → Bool)
+    (old new : T) (old' new' : S)
     (sink_failed : Bool) : Type 0 where
   pub run : HasRun left has_failed left' has_failed' old new old' new'
   pub failed : IsTrue sink_failed

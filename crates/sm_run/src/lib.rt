@@ -1,5 +1,5 @@
-//! A schedule that is run in a simulated fabric: its managers, the packets between them and the fabric's agents, and what
-//! is printed of them.
+//! A schedule that is run in a simulated fabric: its managers, the packets between them and the
+//! fabric's agents, and what is printed of them.
 #![tactic(auto)]
 
 mod cables;

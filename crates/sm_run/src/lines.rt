@@ -3,7 +3,8 @@ ghost use Rattle.std.specs.Prelude.{◌≡◌, decimal};
 ghost use Rattle.record_file.specs.Writes.{Writes};
 ghost use Rattle.text_words.specs.Printed.{named_text, quoted_text};
 ghost use Rattle.topo_file.specs.Printed.{name_at};
-ghost use Rattle.sm_run.specs.Lines.{count_text, counts_text, end_text, flight_line, ping_line, port_text, progress_line, start_text, state_text};
+ghost use Rattle.sm_run.specs.Lines.{count_text, counts_text, end_text, flight_line, ping_line};
+ghost use Rattle.sm_run.specs.Lines.{port_text, progress_line, start_text, state_text};
 
 use fabric_sim::Ping;
 use record_file::{Sink, WriteFault, write_number};

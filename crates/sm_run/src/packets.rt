@@ -14,7 +14,8 @@ use smp_bytes::NodePort;
 use topo_file::Topology;
 
 impl World<'_> {
-    /// A packet in flight takes one step. What comes to a manager is taken in by it, and what it queues then goes out.
+    /// A packet in flight takes one step. What comes to a manager is taken in by it, and what it
+    /// queues then goes out.
     pub(crate) fn deliver<W: Sink>(&mut self, which: Which, sink: &mut W) -> Result<(), RunFault>
         ensures managers { length self.new.managers.items ≡ length self.old.managers.items }
         ensures stops { StopsFor result (W.has_failed sink.new) }
@@ -95,7 +96,8 @@ impl World<'_> {
         }
     }
 
-    /// The manager at a port takes a packet in, and what it queues then goes out. Where none sits the packet is dropped.
+    /// The manager at a port takes a packet in, and what it queues then goes out. Where none sits
+    /// the packet is dropped.
     fn hand_up<W: Sink>(
         &mut self,
         port: &NodePort,
@@ -115,7 +117,8 @@ impl World<'_> {
     }
 }
 
-/// The serial number of the packet that a command is about; there is no last one where none is in flight.
+/// The serial number of the packet that a command is about; there is no last one where none is in
+/// flight.
 fn serial(fabric: &Fabric, which: Which) -> Option<u64>
     ensures { result ≡ serial_of fabric.now.flights which }
 {

@@ -1,7 +1,8 @@
 //! What is printed of a call that is refused: its innermost fault's name.
 ghost use Rattle.std.specs.Prelude.{◌≡◌, ◌↔◌, Err, codes, ◌++◌};
 ghost use Rattle.record_file.specs.Writes.{Writes};
-ghost use Rattle.sm_run.specs.Refusals.{fabric_fault_name, manager_fault_name, refusal_line, sweep_fault_name};
+ghost use Rattle.sm_run.specs.Refusals.{fabric_fault_name, manager_fault_name, refusal_line};
+ghost use Rattle.sm_run.specs.Refusals.{sweep_fault_name};
 ghost use Rattle.sm_run.specs.Stops.{StopsFor};
 
 use crate::run_fault::RunFault;
@@ -36,7 +37,8 @@ pub(crate) fn refuse_manager<W: Sink>(sink: &mut W, fault: ManagerFault) -> Resu
 
 /// Prints the name of a fault: `refused`, and the name.
 fn write_refusal<W: Sink>(sink: &mut W, name: &str) -> Result<(), WriteFault>
-    ensures writes { Writes W.written W.has_failed result sink.old sink.new (refusal_line name.now) }
+    ensures writes { Writes W.written W.has_failed result sink.old sink.new
+        (refusal_line name.now) }
 {
     sink.write(b"refused ")?;
     sink.write(name.as_bytes())?;

@@ -13,17 +13,19 @@ use sm_cli::Fault;
 use std::alloc::Global;
 use topo_file::Topology;
 
-/// Runs a schedule in the simulated fabric of a topology. Both are read to their ends, the topology first, and then
-/// judged, the topology first; then the commands are run in their order, and their output is flushed.
+/// Runs a schedule in the simulated fabric of a topology. Both are read to their ends, the topology
+/// first, and then judged, the topology first; then the commands are run in their order, and their
+/// output is flushed.
 ///
-/// Where an input is refused nothing is written; how much went out before a write failed or memory was refused is not
-/// said. What a fault says of a file is said of place 0 for the topology, and of place 1 for the schedule. A call that
-/// the fabric or a manager refuses is told by a line with its fault's name, and the run goes on; only want of memory
-/// ends it. Which lines the commands print is in `docs/FORMATS.md`, and shown by tests; no clause says it.
+/// Where an input is refused nothing is written; how much went out before a write failed or memory
+/// was refused is not said. What a fault says of a file is said of place 0 for the topology, and of
+/// place 1 for the schedule. A call that the fabric or a manager refuses is told by a line with its
+/// fault's name, and the run goes on; only want of memory ends it. Which lines the commands print
+/// is in `docs/FORMATS.md`, and shown by tests; no clause says it.
 ///
-/// It takes the memory of both texts, of the fabric and of what is in flight and known. A delivery takes one step where
-/// the packet of the least serial number is delivered, as `drain` does, and a search elsewhere, and what the manager
-/// takes for the packet where it comes to one.
+/// It takes the memory of both texts, of the fabric and of what is in flight and known. A delivery
+/// takes one step where the packet of the least serial number is delivered, as `drain` does, and a
+/// search elsewhere, and what the manager takes for the packet where it comes to one.
 pub fn run_schedule<T: Source, S: Source, W: Sink>(
     alloc: Global,
     topology: &mut T,

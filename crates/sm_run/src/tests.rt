@@ -1,5 +1,5 @@
-//! Schedules that are run in small fabrics. What they print is written out here by the formats; in place of the last
-//! entries of a block, where no way leads, stands `..`.
+//! Schedules that are run in small fabrics. What they print is written out here by the formats; in
+//! place of the last entries of a block, where no way leads, stands `..`.
 use super::*;
 use record_file::{FromBytes, FromRead, Sink, Source, ToRoom, write_number};
 use sm_cli::{Fault, write_fault};
@@ -509,7 +509,8 @@ progress A running unanswered 0 toofar 0
 progress A done unanswered 2 toofar 0
 "#,
             ),
-            // An answer that a moved cable leads to a manager that never asked, and then to a port without a manager.
+            // An answer that a moved cable leads to a manager that never asked, and then to a port
+            // without a manager.
             (
                 LOOSE,
                 r#"manager A "H1"[1] 0

@@ -1,7 +1,8 @@
 //! The two texts of a run: they are read, and then judged.
 ghost use Rattle.std.specs.Prelude.{◌≡◌, ℕ, List, IfOk, IfErr, OnOk, None};
 ghost use Rattle.schedule_file.specs.Schedule.{IsScript};
-ghost use Rattle.sm_run.specs.Run.{AreRead, FailsToReadThem, IsRefused, RefusesTexts, TellsTopology, input_fault, schedule_fault};
+ghost use Rattle.sm_run.specs.Run.{AreRead, FailsToReadThem, IsRefused, RefusesTexts};
+ghost use Rattle.sm_run.specs.Run.{TellsTopology, input_fault, schedule_fault};
 
 use record_file::{Source, read_whole};
 use schedule_file::Schedule;
@@ -36,7 +37,8 @@ pub(crate) fn read_texts<T: Source, S: Source>(
     schedule: &mut S,
 ) -> Result<Texts, Fault>
     ensures read { IfOk result (λ texts. AreRead T.left T.has_failed S.left S.has_failed
-        topology.old topology.new schedule.old schedule.new texts.topology.items texts.schedule.items) }
+        topology.old topology.new schedule.old schedule.new
+        texts.topology.items texts.schedule.items) }
     ensures refused { IfErr result (FailsToReadThem T.left T.has_failed T.interruptions
         S.left S.has_failed S.interruptions topology.old topology.new schedule.old schedule.new) }
 {
@@ -60,9 +62,11 @@ pub(crate) fn read_texts<T: Source, S: Source>(
 #[tactic(auto, using(crate::proofs::Judging::behind))]
 /// What both texts tell, or their first fault: the topology is judged first.
 pub(crate) fn judge(alloc: Global, texts: &Texts) -> Result<Setting, Fault>
-    ensures sound { OnOk result (input_fault texts.now.topology.items texts.now.schedule.items ≡ None) }
+    ensures sound { OnOk result
+        (input_fault texts.now.topology.items texts.now.schedule.items ≡ None) }
     ensures script { IfOk result (λ setting. IsScript setting.topology.nodes setting.schedule) }
-    ensures refused { IfErr result (RefusesTexts texts.now.topology.items texts.now.schedule.items) }
+    ensures refused { IfErr result
+        (RefusesTexts texts.now.topology.items texts.now.schedule.items) }
 {
     let topology = judge_topology(alloc, &texts.topology)?;
     let schedule = judge_schedule(alloc, &topology, &texts.schedule)?;

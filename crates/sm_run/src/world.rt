@@ -1,5 +1,6 @@
 //! A simulated fabric and the managers that sit in it.
-ghost use Rattle.std.specs.Prelude.{◌≡◌, ◌+◌, ◌<◌, true, All, IfOk, IfSome, Some, length, option_map, slice_get};
+ghost use Rattle.std.specs.Prelude.{◌≡◌, ◌+◌, ◌<◌, true, All, IfOk, IfSome, Some, length};
+ghost use Rattle.std.specs.Prelude.{option_map, slice_get};
 ghost use Rattle.schedule_file.specs.Schedule.{is_seat};
 ghost use Rattle.sm_run.specs.Flights.{packet_out};
 ghost use Rattle.sm_run.specs.Stops.{StopsFor};
@@ -31,7 +32,8 @@ pub(crate) struct Seated<'s> {
 #[derive(Drop)]
 pub(crate) struct World<'s> {
     pub(crate) fabric: Fabric,
-    /// By the places of their seats. Before its line is run a manager does nothing, and its port is no seat of the fabric.
+    /// By the places of their seats. Before its line is run a manager does nothing, and its port is
+    /// no seat of the fabric.
     pub(crate) managers: Vec<Seated<'s>>,
 }
 
