@@ -1,6 +1,5 @@
 -- A ping finds the port at which a packet is delivered.
 use Rattle.std.proofs.Common.{◌≡◌, ℕ, zero, suc, ◌+◌, ◌<◌, List, [], ◌∷◌, length, arith, ap, ◌∙◌}
-use Rattle.std.specs.Prelude.{Some}
 use Rattle.std.specs.Option.{option_map_or}
 use Rattle.smp_bytes.specs.declared.cable.NodePort.{NodePort}
 use Rattle.smp_bytes.specs.declared.course.Course.TheVariants.{Delivers}

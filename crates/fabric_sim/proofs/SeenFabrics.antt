@@ -7,7 +7,7 @@ use Rattle.std.specs.Option.{option_map_or}
 use Rattle.smp_bytes.specs.declared.cable.NodePort.{NodePort}
 use Rattle.smp_bytes.specs.Fabric.{Node, IsCablePort}
 use Rattle.node_agents.specs.Agent.{Agent, node_of}
-use Rattle.fabric_sim.specs.Simulation.{Simulation, IsSimulation, agent_at, port_count, is_cable_port, fabric_of}
+use Rattle.fabric_sim.specs.Simulation.{Simulation, agent_at, port_count, is_cable_port, fabric_of}
 use Rattle.fabric_sim.specs.SeenFabric.{SimulationsAreFabrics}
 use Rattle.fabric_sim.proofs.TripShapes.{agent_there}
 use Rattle.fabric_sim.proofs.TripEnds.{agents_of, agent_by_port}

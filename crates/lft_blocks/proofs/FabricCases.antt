@@ -1,9 +1,9 @@
 -- What holds of a fabric that is written down: said of each node, each cable and each fact in turn.
-use Rattle.std.proofs.Common.{◌≡◌, ◌≤◌, ◌<◌, ◌+◌, ◌*◌, ℕ, zero, suc, List, [], ◌∷◌, ◌++◌, inl, inr}
+use Rattle.std.proofs.Common.{◌≡◌, ◌≤◌, ◌+◌, ◌*◌, ℕ, zero, suc, List, [], ◌∷◌, ◌++◌, inl, inr}
 use Rattle.std.proofs.Common.{refl, sym, ap, ◌∙◌, subst, arith, true, false, cond, ◌==◌, map}
 use Rattle.std.proofs.lemmas.Bool.{eqb-true, and_parts}
 use Rattle.std.proofs.lemmas.Option.{same_Some, some_pair_parts}
-use Rattle.std.specs.Prelude.{Option, None, Some, Contains, MatchBool, MatchOption, IsSome, is_some, slice_get}
+use Rattle.std.specs.Prelude.{Option, None, Some, Contains, MatchBool, MatchOption, IsSome, slice_get}
 use Rattle.std.specs.FinMap.{entries, find}
 use Rattle.smp_bytes.specs.declared.cable.NodePort.{NodePort}
 use Rattle.smp_bytes.specs.declared.cable.Cable.{Cable}
@@ -21,10 +21,10 @@ use Rattle.fact_store.specs.declared.value.Value.TheVariants.{Kind, Guid, Peer, 
 use Rattle.fact_store.specs.Key.{key_cmp}
 use Rattle.fact_store.specs.Known.{value_in, guid_in, peer_in, count_in}
 use Rattle.fact_store.specs.View.{Facts}
-use Rattle.subnet_view.specs.Reading.{Cells, port_guid_of, link_of, cap_of, is_usable}
+use Rattle.subnet_view.specs.Reading.{Cells, cap_of}
 use Rattle.subnet_view.specs.EndPorts.{IsEndPort}
 use Rattle.subnet_view.specs.Wires.{across, IsWire}
-use Rattle.subnet_view.specs.Agreement.{Part, IsEndPortIn, IsPortNamed, HasEndPort, HasWire, TellsEndPort, AgreesOn}
+use Rattle.subnet_view.specs.Agreement.{Part, IsEndPortIn, HasEndPort, HasWire, TellsEndPort, AgreesOn}
 use Rattle.subnet_view.proofs.Members.{contains_cases, contains_none}
 use Rattle.subnet_view.proofs.Taken.{found_in}
 use Rattle.subnet_view.proofs.WireLaws.{wire_law}

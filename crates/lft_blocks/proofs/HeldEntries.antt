@@ -1,7 +1,7 @@
 -- What a switch's table holds for a LID of the plan: the plan's entry, and that is the home's port or the next port towards the home.
-use Rattle.std.proofs.Common.{◌≡◌, ◌≤◌, ◌<◌, ◌+◌, ◌*◌, ◌/◌, ◌%◌, ℕ, suc, List, true, sym, ap, ◌∙◌, subst, arith, cond, ◌==◌}
+use Rattle.std.proofs.Common.{◌≡◌, ◌≤◌, ◌+◌, ◌*◌, ◌/◌, ◌%◌, ℕ, suc, List, true, sym, ap, ◌∙◌, arith, cond, ◌==◌}
 use Rattle.std.proofs.lemmas.Option.{same_Some}
-use Rattle.std.specs.Prelude.{Option, None, Some, Contains, MatchOption, option_and_then, unwrap_or, slice_get}
+use Rattle.std.specs.Prelude.{None, Some, MatchOption, option_and_then, unwrap_or, slice_get}
 use Rattle.std.specs.Option.{option_map_or}
 use Rattle.std.specs.FinMap.{entries}
 use Rattle.smp_bytes.specs.declared.cable.NodePort.{NodePort}

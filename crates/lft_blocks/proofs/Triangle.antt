@@ -1,13 +1,11 @@
 -- A small fabric that holds the plan of the facts that tell of it: three switches in a triangle, with an adapter on the second and on the third.
-use Rattle.std.proofs.Common.{◌≡◌, ◌≤◌, ℕ, suc, true, false, List, [], ◌∷◌, ◌++◌, inl, inr, refl, sym, ap, ◌∙◌, subst, arith, cond, ◌==◌, map}
-use Rattle.std.specs.Prelude.{Some, slice_index_or}
+use Rattle.std.proofs.Common.{◌≡◌, ℕ, suc, true, List, [], ◌∷◌, ◌++◌, map}
+use Rattle.std.specs.Prelude.{slice_index_or}
 use Rattle.std.specs.FinMap.{entries}
-use Rattle.smp_bytes.specs.declared.cable.NodePort.{NodePort}
 use Rattle.smp_bytes.specs.declared.cable.Cable.{Cable}
 use Rattle.smp_bytes.specs.declared.node_type.NodeType.TheVariants.{ChannelAdapter, Switch}
 use Rattle.smp_bytes.specs.Cables.{other_end}
-use Rattle.smp_bytes.specs.Fabric.{Node, Fabric, IsFabric, IsCablePort, IsEndPort}
-use Rattle.smp_bytes.specs.FabricWalks.{IsWire, AreNeighbors, IsJoinedTo, vertex_of}
+use Rattle.smp_bytes.specs.Fabric.{Node, Fabric}
 use Rattle.smp_bytes.proofs.FabricWalks.{port_at}
 use Rattle.fact_join.specs.declared.cell.Cell.{Cell}
 use Rattle.fact_join.specs.declared.cell.Cell.TheVariants.{Known}
@@ -18,7 +16,6 @@ use Rattle.fact_store.specs.declared.value.Value.TheVariants.{Kind, Guid, Peer, 
 use Rattle.fact_store.specs.View.{Facts, view}
 use Rattle.fact_store.proofs.Entries.{entries-view}
 use Rattle.subnet_view.specs.Reading.{Cells}
-use Rattle.lft_blocks.proofs.FabricCases.{Each, EachPlace, HasOneEnd, place_at, cable_cases}
 
 -- the fabric: nodes 0 to 2 are the switches, 3 and 4 the adapters -----------------------------
 

@@ -1,5 +1,5 @@
 -- Where a plan is in force, pings reach the owners of LIDs.
-use Rattle.std.proofs.Common.{◌≡◌, ◌≤◌, ℕ, refl, ap, ◌∙◌, arith, Bool, true, false, cond, ◌&&◌, ◌||◌, map}
+use Rattle.std.proofs.Common.{◌≡◌, ◌≤◌, ℕ, refl, ap, ◌∙◌, arith, Bool, true, false, cond, ◌||◌, map}
 use Rattle.std.proofs.lemmas.Bool.{and_from, le-leb}
 use Rattle.std.specs.Prelude.{None, Some, MatchBool, nat_le, slice_get}
 use Rattle.std.specs.Option.{option_map_or}
@@ -10,10 +10,8 @@ use Rattle.smp_bytes.specs.Fabric.{Node, IsEndPort, is_switch_at}
 use Rattle.smp_bytes.specs.FabricWalks.{IsJoinedTo}
 use Rattle.smp_bytes.proofs.FabricWalks.{type_at}
 use Rattle.node_agents.specs.Agent.{Agent, node_of}
-use Rattle.fabric_sim.specs.declared.fault.FabricFault.{FabricFault}
 use Rattle.fabric_sim.specs.declared.fault.FabricFault.TheVariants.{NoSuchPort}
 use Rattle.fabric_sim.specs.Simulation.{Simulation, port_count, is_port, fabric_of}
-use Rattle.fabric_sim.specs.Ping.{ping_fault}
 use Rattle.fabric_sim.proofs.PingsFind.{pings_find}
 use Rattle.fabric_sim.proofs.SeenFabrics.{agent_seen, simulations_are_fabrics}
 use Rattle.lft_blocks.specs.Plan.{plan_of}

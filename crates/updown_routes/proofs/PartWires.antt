@@ -1,7 +1,7 @@
 -- The part of a fabric that facts tell of: its switches are usable, and their exits are the fabric's wires between them.
-use Rattle.std.proofs.Common.{◌≡◌, ◌⊎◌, ℕ, suc, inr, refl, sym, ap, ◌∙◌, subst, true, false}
+use Rattle.std.proofs.Common.{◌≡◌, ℕ, suc, inr, refl, sym, ap, ◌∙◌, subst, true, false}
 use Rattle.std.proofs.lemmas.Bool.{and_from}
-use Rattle.std.specs.Prelude.{Some, Contains, IsTrue, is_some, slice_get}
+use Rattle.std.specs.Prelude.{Some, Contains, is_some, slice_get}
 use Rattle.std.specs.Option.{option_map_or}
 use Rattle.smp_bytes.specs.declared.cable.NodePort.{NodePort}
 use Rattle.smp_bytes.specs.NodeType.{is_switch as is_switch_type}
@@ -9,7 +9,7 @@ use Rattle.smp_bytes.specs.Fabric.{Node, Fabric, IsFabric, IsEndPort, is_switch_
 use Rattle.smp_bytes.specs.FabricWalks.{IsWire, IsJoinedTo, vertex_of}
 use Rattle.smp_bytes.proofs.FabricWalks.{port_at, same_port, EndNumber, type_at, walk_further, vertex_node, switch_vertex, vertex_is_end}
 use Rattle.subnet_view.specs.Reading.{Cells, is_switch_node, is_usable, cap_of, switches}
-use Rattle.subnet_view.specs.Agreement.{IsEndPortIn, IsPortNamed, TellsEndPort, AgreesOn}
+use Rattle.subnet_view.specs.Agreement.{IsEndPortIn, IsPortNamed, AgreesOn}
 use Rattle.subnet_view.proofs.WireLaws.{wire_law}
 use Rattle.updown_routes.specs.Graph.{graph_of}
 use Rattle.updown_routes.specs.GraphLaws.{IsGraph}
