@@ -288,6 +288,41 @@ ping "A"[1] 2 reached "B"[1] hops 1
 ping "B"[1] 2 reached "B"[1] hops 0
 "#,
             ),
+            // No end port is known: the plan is written at once.
+            (
+                PAIR,
+                r#"manager M "A"[1] 0
+sweep M
+timeout M
+write M
+write M
+drain 100
+plan M
+progress M
+"#,
+                "refused NotOutstanding\nprogress M done unanswered 1 toofar 0\n",
+            ),
+            // The adapter was moved to a switch of the same GUID, whose table has no room for the greatest LID.
+            (
+                "Switch 2 \"X\" guid 0x10 cap 1024
+[1] \"H\"[1]
+Switch 2 \"Y\" guid 0x10 cap 2
+Hca 1 \"H\" guid 0x100
+",
+                r#"manager M "H"[1] 0
+sweep M
+drain 100
+cut "H"[1]
+plug "H"[1] "Y"[1]
+write M
+drain 100
+flight
+ping "H"[1] 2
+ping "H"[1] 1
+write M
+"#,
+                "ping \"H\"[1] 2 reached \"H\"[1] hops 0\nping \"H\"[1] 1 lost \"Y\"\n",
+            ),
             (
                 "Hca 1 \"A\" guid 0x100\n",
                 r#"manager M "A"[1] 0
@@ -363,6 +398,22 @@ switch 0000000000000030 top 0
 block 0 ..
 ping \"H1\"[1] 5 reached \"H2\"[1] hops 3
 ",
+            ),
+            // The state of a port is lost: the last phase follows all the same, and another writing does.
+            (
+                r#"write A
+drain 58
+lose last
+drain 1000
+flight
+timeout A
+drain 1000
+write A
+drain 1000
+flight
+ping "H1"[1] 5
+"#,
+                "ping \"H1\"[1] 5 reached \"H2\"[1] hops 3\n",
             ),
             // A block is lost, and then, in another run, a top.
             (
