@@ -61,6 +61,7 @@ switches_met f source hops = map (guid_at f) (filter (λ p. is_switch_at f p.nod
 abbrev pub channels_taken : Cells → Fabric → List Hop → List ℕ
 channels_taken cells f hops = map (λ h. channel_number (graph_of cells) (guid_at f h.out) (guid_at f h.into)) (switch_hops f hops)
 
+-- the last of the numbers, or the one before them
 abbrev pub last_or : ℕ → List ℕ → ℕ
 last_or d [] = d
 last_or d (x ∷ xs) = last_or x xs
