@@ -26,8 +26,8 @@ rising_all : (least : ℕ) (ps : List Pending) (next : ℕ) → AreRising least 
 rising_all least [] next rising = tt
 rising_all least (p ∷ ps) next rising =
     let later : AllByRecursion (λ x. least ≤ x.number) ps =
-        all_map (λ x. p.number + 1 ≤ x.number) (λ x. least ≤ x.number) (λ x h. omega (arith, rising.0)) ps
-        (rising_all (p.number + 1) ps next rising.1) in
+    all_map (λ x. p.number + 1 ≤ x.number) (λ x. least ≤ x.number) (λ x h. omega (arith, rising.0)) ps
+    (rising_all (p.number + 1) ps next rising.1) in
     (rising.0, later)
 
 -- each number is below all later ones
@@ -35,7 +35,7 @@ pub rising_ordered : (least : ℕ) (ps : List Pending) (next : ℕ) → AreRisin
 rising_ordered least [] next rising = tt
 rising_ordered least (p ∷ ps) next rising =
     let above : AllByRecursion (λ x. p.number < x.number) ps =
-        all_map (λ x. p.number + 1 ≤ x.number) (λ x. p.number < x.number) (λ x h. omega arith) ps (rising_all (p.number + 1) ps next rising.1) in
+    all_map (λ x. p.number + 1 ≤ x.number) (λ x. p.number < x.number) (λ x h. omega arith) ps (rising_all (p.number + 1) ps next rising.1) in
     (above, rising_ordered (p.number + 1) ps next rising.1)
 
 -- one more at the end

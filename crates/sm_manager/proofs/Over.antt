@@ -49,7 +49,7 @@ over_counter m i p was_done numbered at = by_writing m.writing
     by_writing (Some w) =
         subst
         (λ (b : Bool). (cond b (phase_sent (ended m p was_done (Some w)) (marked p was_done w)) (ended m p was_done (Some w))).counter
-            ≡ m.counter + count_with m.pending (Some w))
+        ≡ m.counter + count_with m.pending (Some w))
         (sym (left_alone m.counter m.pending i p numbered at)) (by_count (nat_lt 1 (length m.pending)))
       where
         by_count : (b : Bool) → (cond (not b) (phase_sent (ended m p was_done (Some w)) (marked p was_done w)) (ended m p was_done (Some w))).counter

@@ -20,7 +20,7 @@ returns-in_err-make_room-clause-judged c p at =
     let same = over_fault c.args.self.now c.args.place p c.args.was_done c.count_after.ensures.numbered at in
     let counter = ap (λ (x : Manager). x.counter) c.self.view_is in
     let all : c.self.inside.requests.counter + c.count_after.result ≡ c.args.self.now.counter + count_after c.args.self.now =
-        ap (λ n. n + c.count_after.result) counter ∙ ap (λ n. c.args.self.now.counter + n) c.count_after.ensures.count in
+    ap (λ n. n + c.count_after.result) counter ∙ ap (λ n. c.args.self.now.counter + n) c.count_after.ensures.count in
     rw (q.1, q.2, same, ← all) judged
 
 last_then : (c : goal.After-send_next-arg-then-is_empty-1) → WasLast (the_view c.self.inside) c.args.place c.end-ended.result c.in-Some.writing
@@ -81,7 +81,7 @@ returns-then-is_empty-clause-ok c p at =
     let out = c.send_next.new.outgoing in
     subst
     (λ (x : Manager). record m { writing = Some sent; counter = left.counter; pending = left.pending; outgoing = out.items }
-        ≡ (unless_spent x (step_over x p c.args.was_done)).manager)
+    ≡ (unless_spent x (step_over x p c.args.was_done)).manager)
     c.self.view_is
     (last_sent m c.args.place c.end-ended.result p c.args.was_done w sent left.counter left.pending out.items
     (last_sent_then c)
@@ -93,7 +93,7 @@ returns-then-is_empty-clause-ok c p at =
     (c.send_next.ensures.counter ∙ ap (λ n. n + length (next_phase c.note.new.self.later).steps) same_counter
     ∙ ap (λ ps. m.counter + length (next_phase ps).steps) c.note.ensures.later)
     (c.send_next.ensures.pending ∙ ap (λ ps. ps ++ next_pending c.end-ended.new.self.counter c.note.new.self.later)
-        (c.end-ended.ensures.pending ∙ ap (without_number c.end-ended.result.number) c.make_room.ensures.pending)
+    (c.end-ended.ensures.pending ∙ ap (without_number c.end-ended.result.number) c.make_room.ensures.pending)
     ∙ (λ i. without_number c.end-ended.result.number m.pending ++ next_pending (same_counter i) (c.note.ensures.later i)))
     (c.send_next.ensures.outgoing ∙ (λ i. c.make_room.ensures.outgoing i ++ steps_out (next_pending (same_counter i) (c.note.ensures.later i)))))
   where
