@@ -1,5 +1,6 @@
 -- Requests by rising numbers: the place of one by its number, and what is left without it.
-use Rattle.std.proofs.Common.{◌≡◌, ◌≢◌, ℕ, zero, suc, ◌+◌, ◌<◌, ◌≤◌, Bool, true, false, List, [], ◌∷◌, ◌++◌, ◌&&◌, inl, inr, length, get_or, refl, arith, ap, sym, ◌∙◌, subst}
+use Rattle.std.proofs.Common.{◌≡◌, ◌≢◌, ℕ, zero, suc, ◌+◌, ◌<◌, ◌≤◌, Bool, true, false, List, [], ◌∷◌, ◌++◌}
+use Rattle.std.proofs.Common.{◌&&◌, inl, inr, length, get_or, refl, arith, ap, sym, ◌∙◌, subst}
 use Rattle.std.specs.Prelude.{Some, None, Option, find, remove, slice_get, nat_lt, ◌==◌}
 use Rattle.std.specs.List.{AllByRecursion}
 use Rattle.std.specs.List.Sorted.{IsPartitionedBy}
@@ -24,16 +25,22 @@ rising_least a b (p ∷ ps) next le rising = (omega (arith, rising.0), rising.1)
 rising_all : (least : ℕ) (ps : List Pending) (next : ℕ) → AreRising least ps next → AllByRecursion (λ p. least ≤ p.number) ps
 rising_all least [] next rising = tt
 rising_all least (p ∷ ps) next rising =
-    (rising.0, all_map (λ x. p.number + 1 ≤ x.number) (λ x. least ≤ x.number) (λ x h. omega (arith, rising.0)) ps (rising_all (p.number + 1) ps next rising.1))
+    let later : AllByRecursion (λ x. least ≤ x.number) ps =
+    all_map (λ x. p.number + 1 ≤ x.number) (λ x. least ≤ x.number) (λ x h. omega (arith, rising.0)) ps
+    (rising_all (p.number + 1) ps next rising.1) in
+    (rising.0, later)
 
 -- each number is below all later ones
 pub rising_ordered : (least : ℕ) (ps : List Pending) (next : ℕ) → AreRising least ps next → AreOrdered (λ a b. a.number < b.number) ps
 rising_ordered least [] next rising = tt
 rising_ordered least (p ∷ ps) next rising =
-    (all_map (λ x. p.number + 1 ≤ x.number) (λ x. p.number < x.number) (λ x h. omega arith) ps (rising_all (p.number + 1) ps next rising.1), rising_ordered (p.number + 1) ps next rising.1)
+    let above : AllByRecursion (λ x. p.number < x.number) ps =
+    all_map (λ x. p.number + 1 ≤ x.number) (λ x. p.number < x.number) (λ x h. omega arith) ps (rising_all (p.number + 1) ps next rising.1) in
+    (above, rising_ordered (p.number + 1) ps next rising.1)
 
 -- one more at the end
-pub rising_sent : (least : ℕ) (ps : List Pending) (next : ℕ) (p : Pending) → AreRising least ps next → p.number ≡ next → AreRising least (ps ++ p ∷ []) (next + 1)
+pub rising_sent : (least : ℕ) (ps : List Pending) (next : ℕ) (p : Pending) → AreRising least ps next → p.number ≡ next
+    → AreRising least (ps ++ p ∷ []) (next + 1)
 rising_sent least [] next p rising e = (omega (arith, rising, e), omega (arith, e))
 rising_sent least (q ∷ ps) next p rising e = (rising.0, rising_sent (q.number + 1) ps next p rising.1 e)
 
@@ -51,7 +58,8 @@ pub numbers_part : (number least : ℕ) (ps : List Pending) (next : ℕ) → Are
 numbers_part number least ps next rising i j d le within before =
     elim (cases_lt i j) [
       | inl lt ↦ let up : (get_or ps i d).number < (get_or ps j d).number =
-          ordered_at (λ a b. a.number < b.number) ps i j (get_or ps i d) (get_or ps j d) (rising_ordered least ps next rising) lt (slice_get-get_or ps i d (omega arith)) (slice_get-get_or ps j d within) in
+          ordered_at (λ a b. a.number < b.number) ps i j (get_or ps i d) (get_or ps j d) (rising_ordered least ps next rising) lt
+          (slice_get-get_or ps i d (omega arith)) (slice_get-get_or ps j d within) in
           let low : (get_or ps j d).number < number = ltb-true _ _ before in
           lt-ltb _ _ (omega (arith, up, low))
       | inr ge ↦ let n : i ≡ j = omega arith in subst (λ (k : ℕ). nat_lt (get_or ps k d).number number ≡ true) (sym n) before
@@ -75,8 +83,8 @@ only_answered packet p ne =
     last_false (number_in method packet == get_resp) (is_directed packet) _ _ other
 
 -- a request that only one of this number can be stands at the place, if there is one
-pub located : (number : ℕ) (test : Pending → Bool) (ps : List Pending) (next i : ℕ) → ((p : Pending) → p.number ≢ number → test p ≡ false) → AreRising 0 ps next
-    → IsPlace (λ p. nat_lt p.number number) ps i → find test ps ≡ if_passes test (slice_get ps i)
+pub located : (number : ℕ) (test : Pending → Bool) (ps : List Pending) (next i : ℕ) → ((p : Pending) → p.number ≢ number → test p ≡ false)
+    → AreRising 0 ps next → IsPlace (λ p. nat_lt p.number number) ps i → find test ps ≡ if_passes test (slice_get ps i)
 located number test ps next i only rising place =
     found_in_place (λ a b. a.number < b.number) (λ p. nat_lt p.number number) test
     (λ p e. let low : p.number < number = ltb-true _ _ e in only p (λ n. omega (arith, low, n)))
@@ -107,7 +115,8 @@ without_above number (p ∷ ps) above =
     let up : number < p.number = above.0 in
     cond-true _ _ _ (not_from_false _ (is_other p number (λ e. omega (arith, up, e)))) ∙ ap (λ rest. p ∷ rest) (without_above number ps above.1)
 
-pub without_at : (ps : List Pending) (i : ℕ) (p : Pending) → AreOrdered (λ a b. a.number < b.number) ps → slice_get ps i ≡ Some p → without_number p.number ps ≡ remove ps i
+pub without_at : (ps : List Pending) (i : ℕ) (p : Pending) → AreOrdered (λ a b. a.number < b.number) ps → slice_get ps i ≡ Some p
+    → without_number p.number ps ≡ remove ps i
 without_at [] i p ordered at = absurd (cc)
 without_at (q ∷ ps) zero p ordered at =
     let e : q ≡ p = some_is q p at in

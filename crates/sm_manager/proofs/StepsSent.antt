@@ -1,5 +1,6 @@
 -- Steps go out one after the other.
-use Rattle.std.proofs.Common.{◌≡◌, ℕ, suc, ◌+◌, ◌≤◌, ◌^◌, Bool, List, [], ◌∷◌, ◌++◌, length, refl, sym, ap, ◌∙◌, arith, subst}
+use Rattle.std.proofs.Common.{◌≡◌, ℕ, suc, ◌+◌, ◌≤◌, ◌^◌, Bool, List, [], ◌∷◌, ◌++◌, length, refl, sym, ap, ◌∙◌}
+use Rattle.std.proofs.Common.{arith, subst}
 use Rattle.std.proofs.lemmas.List.{append_assoc}
 use Rattle.std.specs.Prelude.{None}
 use Rattle.plan_steps.specs.declared.step.Step.{Step}
@@ -10,7 +11,8 @@ use Rattle.sm_manager.specs.Requests.{Requests}
 use Rattle.sm_manager.specs.Writing.{numbered, steps_out}
 
 -- what went out so far and what is left are what was to go out, and there are numbers and memory for what is left
-pub record AreGoing (counts : Bool) (rest : List Step) (now : Requests) (out : List Outgoing) (steps : List Step) (was : Requests) (before : List Outgoing) : Type 0 where
+pub record AreGoing (counts : Bool) (rest : List Step) (now : Requests) (out : List Outgoing)
+    (steps : List Step) (was : Requests) (before : List Outgoing) : Type 0 where
   pub pending : now.pending ++ numbered counts now.counter rest ≡ was.pending ++ numbered counts was.counter steps
   pub outgoing : out ++ steps_out (numbered counts now.counter rest) ≡ before ++ steps_out (numbered counts was.counter steps)
   pub counter : now.counter + length rest ≡ was.counter + length steps
@@ -18,9 +20,10 @@ pub record AreGoing (counts : Bool) (rest : List Step) (now : Requests) (out : L
   pub room : length rest ≤ now.room
 
 -- one more
-pub one_gone : (counts : Bool) (s : Step) (rest : List Step) (now next : Requests) (out : List Outgoing) (steps : List Step) (was : Requests) (before : List Outgoing)
-    → AreGoing counts (s ∷ rest) now out steps was before
-    → next.pending ≡ now.pending ++ record { number = now.counter; counts = counts; step = s } ∷ [] → next.counter ≡ now.counter + 1 → now.room ≤ next.room + 1
+pub one_gone : (counts : Bool) (s : Step) (rest : List Step) (now next : Requests) (out : List Outgoing)
+    (steps : List Step) (was : Requests) (before : List Outgoing) → AreGoing counts (s ∷ rest) now out steps was before
+    → next.pending ≡ now.pending ++ record { number = now.counter; counts = counts; step = s } ∷ []
+    → next.counter ≡ now.counter + 1 → now.room ≤ next.room + 1
     → AreGoing counts rest next (out ++ record { packet = set_packet now.counter s; to = None } ∷ []) steps was before
 one_gone counts s rest now next out steps was before h pending counter room =
     let after : next.counter ≡ suc now.counter = counter ∙ omega arith in

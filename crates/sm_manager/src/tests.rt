@@ -191,13 +191,24 @@ fn writes_what_it_plans(rt: HostRuntime) -> Result<(), Fail> {
     fresh.begin_sweep()?;
     assert!(rt; fresh.write_steps() == Err(ManagerFault::NotMaster));
     let mut manager = swept(rt.alloc())?;
-    let ends = [(1, Some(0), true), (2, Some(0x1C), false), (3, None, false), (4, Some(0), true)];
+    let ends = [
+        (1, Some(0), true),
+        (2, Some(0x1C), false),
+        (3, None, false),
+        (4, Some(0), true),
+    ];
     for (number, status, is_written) in ends {
-        assert!(rt; manager.write_steps().is_ok() && !manager.written(), "{number}");
+        assert!(rt;
+            manager.write_steps().is_ok() && !manager.written(),
+            "{number}"
+        );
         let set = manager.take_outgoing().ok_or("nothing")?.packet;
         let waits = manager.outstanding(0) == Some(number) && manager.outstanding(1) == None;
         assert!(rt; waits && set.transaction_id() == number, "{number}");
-        assert!(rt; manager.write_steps() == Err(ManagerFault::WritingRunning), "{number}");
+        assert!(rt;
+            manager.write_steps() == Err(ManagerFault::WritingRunning),
+            "{number}"
+        );
         assert!(rt;
             end(&mut manager, &set, status).is_none() && manager.written() == is_written,
             "{number}"
@@ -219,7 +230,9 @@ fn takes_answers_to_its_steps(rt: HostRuntime) -> Result<(), Fail> {
     manager.write_steps()?;
     let set = manager.take_outgoing().ok_or("nothing")?.packet;
     let lid = PortInfo::decode(&set.attribute_data()).base_lid().number();
-    let master = PortInfo::decode(&set.attribute_data()).master_sm_lid().number();
+    let master = PortInfo::decode(&set.attribute_data())
+        .master_sm_lid()
+        .number();
     let is_port = set.method() == Method::SET && set.attribute_id() == AttributeId::PORT_INFO;
     assert!(rt; is_port && set.attribute_modifier() == 1 && lid == 1 && master == 1);
     let answer = answer(&set);

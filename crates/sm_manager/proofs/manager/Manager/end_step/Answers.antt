@@ -19,18 +19,21 @@ returns-in_err-make_room-clause-judged c p at =
     let judged = judged_call (Err c.in_err-make_room.field-0.0) _ c.in_err-make_room.ensures.judged in
     let same = over_fault c.args.self.now c.args.place p c.args.was_done c.count_after.ensures.numbered at in
     let counter = ap (λ (x : Manager). x.counter) c.self.view_is in
-    let all : c.self.inside.requests.counter + c.count_after.result ≡ c.args.self.now.counter + count_after c.args.self.now = ap (λ n. n + c.count_after.result) counter ∙ ap (λ n. c.args.self.now.counter + n) c.count_after.ensures.count in
+    let all : c.self.inside.requests.counter + c.count_after.result ≡ c.args.self.now.counter + count_after c.args.self.now =
+    ap (λ n. n + c.count_after.result) counter ∙ ap (λ n. c.args.self.now.counter + n) c.count_after.ensures.count in
     rw (q.1, q.2, same, ← all) judged
 
 last_then : (c : goal.After-send_next-arg-then-is_empty-1) → WasLast (the_view c.self.inside) c.args.place c.end-ended.result c.in-Some.writing
 last_then c =
-    was_last (the_view c.self.inside) c.args.place c.end-ended.result c.in-Some.writing c.make_room.new.requests.pending c.end-ended.new.self.pending c.is_empty.result
+    was_last (the_view c.self.inside) c.args.place c.end-ended.result c.in-Some.writing
+    c.make_room.new.requests.pending c.end-ended.new.self.pending c.is_empty.result
     (subst (λ (x : Manager). AreNumbered x.counter x.pending) (sym c.self.view_is) c.count_after.ensures.numbered)
     c.make_room.ensures.pending c.end-ended.ensures.request c.end-ended.ensures.pending c.in-Some.is c.is_empty.ensures c.if-is_empty.true
 
 last_sent_then : (c : goal.After-send_next) → WasLast (the_view c.self.inside) c.args.place c.end-ended.result c.in-Some.writing
 last_sent_then c =
-    was_last (the_view c.self.inside) c.args.place c.end-ended.result c.in-Some.writing c.make_room.new.requests.pending c.end-ended.new.self.pending c.is_empty.result
+    was_last (the_view c.self.inside) c.args.place c.end-ended.result c.in-Some.writing
+    c.make_room.new.requests.pending c.end-ended.new.self.pending c.is_empty.result
     (subst (λ (x : Manager). AreNumbered x.counter x.pending) (sym c.self.view_is) c.count_after.ensures.numbered)
     c.make_room.ensures.pending c.end-ended.ensures.request c.end-ended.ensures.pending c.in-Some.is c.is_empty.ensures c.if-is_empty.true
 
@@ -65,7 +68,8 @@ send_next-requires-clause-outgoing c =
 pub returns-then-is_empty-clause-judged : goal.returns-then-is_empty-clause-judged
 returns-then-is_empty-clause-judged c p at =
     over_fault c.args.self.now c.args.place p c.args.was_done c.count_after.ensures.numbered at
-    ∙ sym (ap number_fault (ap (λ (x : Manager). x.counter + c.count_after.result) c.self.view_is ∙ ap (λ n. c.args.self.now.counter + n) c.count_after.ensures.count))
+    ∙ sym (ap number_fault (ap (λ (x : Manager). x.counter + c.count_after.result) c.self.view_is
+    ∙ ap (λ n. c.args.self.now.counter + n) c.count_after.ensures.count))
     ∙ c.in_ok-make_room.ensures.judged
 
 pub returns-then-is_empty-clause-ok : goal.returns-then-is_empty-clause-ok
@@ -73,15 +77,23 @@ returns-then-is_empty-clause-ok c p at =
     let m = the_view c.self.inside in
     let w = c.in-Some.writing in
     let sent = c.send_next.new.self in
-    subst (λ (x : Manager). record m { writing = Some sent; counter = c.send_next.new.requests.counter; pending = c.send_next.new.requests.pending; outgoing = c.send_next.new.outgoing.items } ≡ (unless_spent x (step_over x p c.args.was_done)).manager) c.self.view_is
-    (last_sent m c.args.place c.end-ended.result p c.args.was_done w sent c.send_next.new.requests.counter c.send_next.new.requests.pending c.send_next.new.outgoing.items
+    let left = c.send_next.new.requests in
+    let out = c.send_next.new.outgoing in
+    subst
+    (λ (x : Manager). record m { writing = Some sent; counter = left.counter; pending = left.pending; outgoing = out.items }
+    ≡ (unless_spent x (step_over x p c.args.was_done)).manager)
+    c.self.view_is
+    (last_sent m c.args.place c.end-ended.result p c.args.was_done w sent left.counter left.pending out.items
     (last_sent_then c)
-    (ap number_fault (ap (λ n. m.counter + n) (sym (c.count_after.ensures.count ∙ ap count_after (sym c.self.view_is)))) ∙ c.in_ok-make_room.ensures.judged)
+    (ap number_fault (ap (λ n. m.counter + n) (sym (c.count_after.ensures.count ∙ ap count_after (sym c.self.view_is))))
+    ∙ c.in_ok-make_room.ensures.judged)
     (subst (λ (x : Manager). slice_get x.pending c.args.place ≡ Some p) (sym c.self.view_is) at)
     (c.send_next.ensures.later ∙ ap (λ ps. passed (drop 1 ps)) c.note.ensures.later)
     (c.send_next.ensures.failed ∙ c.note.ensures.failed)
-    (c.send_next.ensures.counter ∙ ap (λ n. n + length (next_phase c.note.new.self.later).steps) same_counter ∙ ap (λ ps. m.counter + length (next_phase ps).steps) c.note.ensures.later)
-    (c.send_next.ensures.pending ∙ ap (λ ps. ps ++ next_pending c.end-ended.new.self.counter c.note.new.self.later) (c.end-ended.ensures.pending ∙ ap (without_number c.end-ended.result.number) c.make_room.ensures.pending)
+    (c.send_next.ensures.counter ∙ ap (λ n. n + length (next_phase c.note.new.self.later).steps) same_counter
+    ∙ ap (λ ps. m.counter + length (next_phase ps).steps) c.note.ensures.later)
+    (c.send_next.ensures.pending ∙ ap (λ ps. ps ++ next_pending c.end-ended.new.self.counter c.note.new.self.later)
+    (c.end-ended.ensures.pending ∙ ap (without_number c.end-ended.result.number) c.make_room.ensures.pending)
     ∙ (λ i. without_number c.end-ended.result.number m.pending ++ next_pending (same_counter i) (c.note.ensures.later i)))
     (c.send_next.ensures.outgoing ∙ (λ i. c.make_room.ensures.outgoing i ++ steps_out (next_pending (same_counter i) (c.note.ensures.later i)))))
   where
