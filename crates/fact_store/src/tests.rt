@@ -40,7 +40,8 @@ fn node_info(kind: NodeType, guids: [u64; 2], num_ports: u8, local_port: u8) -> 
     info.encode()
 }
 
-/// The answer of an agent, back at the sender. It went over no hop to the sender's own node, and else over one.
+/// The answer of an agent, back at the sender. It went over no hop to the sender's own node, and
+/// else over one.
 fn answer(context: Context, attribute: AttributeId, data: &[u8; 64]) -> Report {
     let mut path = Path::new();
     if context != Context::Start {
@@ -54,8 +55,8 @@ fn answer(context: Context, attribute: AttributeId, data: &[u8; 64]) -> Report {
     }
 }
 
-/// Answers to a manager at the adapter 0x100: NodeInfo of the adapter, NodeInfo of the switch 0x20 that its port 1 is
-/// wired to, SwitchInfo of the switch 0x10, and PortInfo of port 0 of that.
+/// Answers to a manager at the adapter 0x100: NodeInfo of the adapter, NodeInfo of the switch 0x20
+/// that its port 1 is wired to, SwitchInfo of the switch 0x10, and PortInfo of port 0 of that.
 fn answers() -> [Report; 4] {
     let via = Context::Via(node(0x100), port(1));
     let about = Context::About(node(0x10));
@@ -132,8 +133,8 @@ fn names_each_fault(rt: HostRuntime) -> Result<(), Fail> {
     Ok(())
 }
 
-/// An answer by its place, a change, and the fault if it makes one. The answers at places 0 and 1 are of NodeInfo, 0
-/// over no hop; that at 2 is of SwitchInfo and that at 3 of PortInfo.
+/// An answer by its place, a change, and the fault if it makes one. The answers at places 0 and 1
+/// are of NodeInfo, 0 over no hop; that at 2 is of SwitchInfo and that at 3 of PortInfo.
 fn bounds() -> [(usize, Change, Option<ReportFault>); 21] {
     let via = |guid, number| Change::Context(Context::Via(node(guid), port(number)));
     let about = Change::Context(Context::About(node(0x20)));

@@ -20,8 +20,8 @@ fn fault_of(alloc: Global, room: u16) -> Result<Option<PlanFault>, Fail> {
     Ok(Plan::of(alloc, &store).err())
 }
 
-/// Whether the plan has this greatest LID and no block behind it, and its last block of a switch begins and ends with
-/// these entries.
+/// Whether the plan has this greatest LID and no block behind it, and its last block of a switch
+/// begins and ends with these entries.
 fn is_right(plan: &Plan, top: u16, guid: u64, first: &[u8], last: u8) -> bool {
     let guid = Guid::new(guid);
     let b = usize::from(top / 64);
@@ -73,7 +73,8 @@ lid 5 0000000000000200/1
     Ok(text)
 }
 
-/// Whether a sink with room for so many bytes takes the plan of the triangle and then has this text, or fails.
+/// Whether a sink with room for so many bytes takes the plan of the triangle and then has this
+/// text, or fails.
 fn writes(
     alloc: Global,
     text: &[u8],
