@@ -2,8 +2,9 @@
 use super::*;
 use attr_codec::{Attribute, NodeInfo, NodeTypeNumber, PortInfo, SwitchInfo, VendorId};
 use fact_join::Join;
-use smp_bytes::{AttributeId, Generation, Guid, Method, NodeType, Path, PortNum};
-use smp_bytes::{Smp, SmpFault, Status};
+use smp_bytes::{
+    AttributeId, Generation, Guid, Method, NodeType, Path, PortNum, Smp, SmpFault, Status,
+};
 use std::alloc::Global;
 use std::test::Fail;
 
