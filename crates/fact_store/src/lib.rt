@@ -9,7 +9,6 @@ mod known;
 pub mod laws;
 mod report;
 mod report_fault;
-pub mod sample_fabric;
 mod sighting;
 mod store;
 mod told;

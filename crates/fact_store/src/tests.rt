@@ -1,8 +1,10 @@
 //! What replies tell and why they are refused, by the numbers of the formats.
 use super::*;
-use crate::sample_fabric::reports;
+use attr_codec::{Attribute, NodeInfo, NodeTypeNumber, PortInfo, SwitchInfo, VendorId};
 use fact_join::Join;
-use smp_bytes::{Generation, Guid, Lid, NodeType, PortNum, SmpFault};
+use smp_bytes::{
+    AttributeId, Generation, Guid, Method, NodeType, Path, PortNum, Smp, SmpFault, Status,
+};
 use std::alloc::Global;
 use std::test::Fail;
 
@@ -19,42 +21,56 @@ fn port(number: u8) -> PortNum {
     PortNum::new(number)
 }
 
-#[test]
-fn a_sweep_of_the_sample_fabric_tells_all_of_it(rt: HostRuntime) -> Result<(), Fail> {
-    let reports = reports(rt.alloc())?;
-    let mut store = Store::new(rt.alloc());
-    for report in &reports {
-        assert!(rt; store.ingest(report).is_ok());
-    }
-    let generation = Generation::new(1).ok_or("0")?;
-    for (key, value) in facts() {
-        assert!(rt;
-            store.get(key) == Some(Cell::Known(generation, value)),
-            "{key:?}"
-        );
-    }
-    assert!(rt; reports.len() == 27 && store.count() == 57);
-    Ok(())
+/// NodeInfo of a node, asked by its port `local_port`. A switch has one port GUID, its own.
+fn node_info(kind: NodeType, guids: [u64; 2], num_ports: u8, local_port: u8) -> [u8; 64] {
+    let [guid, port_guid] = guids;
+    let info = NodeInfo {
+        base_version: 1,
+        class_version: 1,
+        node_type: NodeTypeNumber::from(kind),
+        num_ports,
+        system_image_guid: node(guid),
+        node_guid: node(guid),
+        port_guid: node(port_guid),
+        partition_cap: 1,
+        device_id: 0,
+        revision: 0,
+        local_port_num: port(local_port),
+        vendor_id: VendorId::new(0).unwrap(),
+    };
+    info.encode()
 }
 
-/// Some of the facts of the sample fabric, of each kind.
-fn facts() -> [(Key, Value); 11] {
-    let (s2, h1) = (node(0x20), node(0x100));
+/// The answer of an agent, back at the sender. It went over no hop to the sender's own node, and
+/// else over one.
+fn answer(context: Context, attribute: AttributeId, data: &[u8; 64]) -> Report {
+    let mut path = Path::new();
+    if context != Context::Start {
+        path.push(port(1));
+    }
+    let request = Smp::directed(Method::GET, attribute, 0, 1, &path, &[0; 64]);
+    Report {
+        generation: 1,
+        context,
+        bytes: *request.answer(Status::DONE, data).bytes(),
+    }
+}
+
+/// Answers to a manager at the adapter 0x100: NodeInfo of the adapter, NodeInfo of the switch 0x20
+/// that its port 1 is wired to, SwitchInfo of the switch 0x10, and PortInfo of port 0 of that.
+fn answers() -> [Report; 4] {
+    let via = Context::Via(node(0x100), port(1));
+    let about = Context::About(node(0x10));
+    let adapter = node_info(NodeType::ChannelAdapter, [0x100, 0x101], 1, 1);
+    let switch = node_info(NodeType::Switch, [0x20, 0x20], 4, 3);
+    let mut room = SwitchInfo::decode(&[0; 64]);
+    room.set_linear_fdb_cap(1024);
+    let state = PortInfo::decode(&[0; 64]);
     [
-        (Key::Node(node(0x10)), Value::Kind(NodeType::Switch, 4)),
-        (
-            Key::Node(node(0x200)),
-            Value::Kind(NodeType::ChannelAdapter, 1),
-        ),
-        (Key::PortGuid(s2, port(0)), Value::Guid(s2)),
-        (Key::PortGuid(h1, port(1)), Value::Guid(node(0x101))),
-        (Key::Link(s2, port(3)), Value::Peer(h1, port(1))),
-        (Key::Link(h1, port(1)), Value::Peer(s2, port(3))),
-        (Key::Port(node(0x30), port(0)), Value::Up(true)),
-        (Key::Port(node(0x10), port(2)), Value::Up(true)),
-        (Key::Port(node(0x10), port(3)), Value::Up(false)),
-        (Key::Claim(node(0x200), port(1)), Value::Lid(Lid::new(0))),
-        (Key::Cap(node(0x30)), Value::Count(1024)),
+        answer(Context::Start, AttributeId::NODE_INFO, &adapter),
+        answer(via, AttributeId::NODE_INFO, &switch),
+        answer(about, AttributeId::SWITCH_INFO, &room.encode()),
+        answer(about, AttributeId::PORT_INFO, &state.encode()),
     ]
 }
 
@@ -107,20 +123,19 @@ fn changes() -> [(Change, ReportFault, &'static str); 10] {
 /// `{}` of a fault is its name, also where a store was given the report.
 #[test]
 fn names_each_fault(rt: HostRuntime) -> Result<(), Fail> {
-    let reports = reports(rt.alloc())?;
-    let good = reports.get(1).ok_or("no answer of S2")?;
+    let [_, good, _, _] = answers();
     for (change, fault, name) in changes() {
         let given = IngestFault::Report(fault);
         let text = format!(in rt.alloc(); "{fault} {given} {}", fault.name())?;
         let wanted = format!(in rt.alloc(); "{name} {name} {name}")?;
-        let is_told = fault_of(&changed(good, change)) == Some(fault);
+        let is_told = fault_of(&changed(&good, change)) == Some(fault);
         assert!(rt; is_told && text.as_str() == wanted.as_str(), "{name}");
     }
     Ok(())
 }
 
-/// A report by its place in the sample, a change, and the fault if it makes one. The answers at places 0 and 1 are of
-/// NodeInfo, 0 over no hop; that at 7 is of SwitchInfo and that at 10 of PortInfo.
+/// An answer by its place, a change, and the fault if it makes one. The answers at places 0 and 1
+/// are of NodeInfo, 0 over no hop; that at 2 is of SwitchInfo and that at 3 of PortInfo.
 fn bounds() -> [(usize, Change, Option<ReportFault>); 21] {
     let via = |guid, number| Change::Context(Context::Via(node(guid), port(number)));
     let about = Change::Context(Context::About(node(0x20)));
@@ -128,16 +143,16 @@ fn bounds() -> [(usize, Change, Option<ReportFault>); 21] {
     [
         // the D bit; the attribute modifier
         (1, Change::Byte(4, 0x00), Some(ReportFault::Direction)),
-        (10, Change::Byte(23, 254), None),
-        (10, Change::Byte(23, 255), Some(ReportFault::Modifier)),
-        (10, Change::Byte(22, 1), Some(ReportFault::Modifier)),
+        (3, Change::Byte(23, 254), None),
+        (3, Change::Byte(23, 255), Some(ReportFault::Modifier)),
+        (3, Change::Byte(22, 1), Some(ReportFault::Modifier)),
         // the context
         (0, via(0x20, 3), Some(ReportFault::Context)),
         (0, Change::Byte(7, 1), Some(ReportFault::Context)),
         (1, Change::Byte(7, 0), Some(ReportFault::Context)),
         (1, about, Some(ReportFault::Context)),
-        (7, start, Some(ReportFault::Context)),
-        (10, via(0x20, 3), Some(ReportFault::Context)),
+        (2, start, Some(ReportFault::Context)),
+        (3, via(0x20, 3), Some(ReportFault::Context)),
         // the node type
         (1, Change::Byte(66, 3), None),
         (1, Change::Byte(66, 4), Some(ReportFault::NodeType)),
@@ -156,9 +171,9 @@ fn bounds() -> [(usize, Change, Option<ReportFault>); 21] {
 
 #[test]
 fn each_bound_is_judged(rt: HostRuntime) -> Result<(), Fail> {
-    let reports = reports(rt.alloc())?;
+    let answers = answers();
     for (place, change, fault) in bounds() {
-        let good = reports.get(place).ok_or("fewer reports")?;
+        let good = answers.get(place).ok_or("fewer answers")?;
         assert!(rt;
             fault_of(&changed(good, change)) == fault,
             "{change:?} at {place}"
@@ -196,38 +211,6 @@ fn stores_take_what_is_added(rt: HostRuntime) -> Result<(), Fail> {
             Some(Key::Cap(node(0x20)))
         );
     }
-    Ok(())
-}
-
-/// The store of the sample fabric.
-fn swept(alloc: Global) -> Result<Store, Fail> {
-    let mut store = Store::new(alloc);
-    for report in &reports(alloc)? {
-        store.ingest(report)?;
-    }
-    Ok(store)
-}
-
-/// How many places of two stores differ.
-fn differing(first: &Store, second: &Store) -> usize {
-    let mut differing = first.count().abs_diff(second.count());
-    for (a, b) in first.cells().zip(second.cells()) {
-        if a.key() != b.key() || a.cell() != b.cell() {
-            differing = differing.wrapping_add(1);
-        }
-    }
-    differing
-}
-
-#[test]
-fn searches_halve_and_merges_walk(rt: HostRuntime) -> Result<(), Fail> {
-    let mut store = swept(rt.alloc())?;
-    let (cell, steps) = store.get_steps(Key::Cap(node(0x30)));
-    let held = cell == store.get(Key::Cap(node(0x30)));
-    assert!(rt; held && store.cap(node(0x30)) == Some(1024) && steps <= 6);
-    let copy = store.try_clone()?;
-    let steps = store.merge_steps(&copy)?;
-    assert!(rt; steps <= 228 && differing(&store, &copy) == 0);
     Ok(())
 }
 

@@ -13,6 +13,3 @@ pub use block::block_count;
 pub use lid_assign::LidFault as PlanFault;
 pub use plan::Plan;
 pub use plan_text::{write_block, write_lid, write_plan, write_switch};
-
-#[cfg(test)]
-mod tests;

@@ -12,6 +12,3 @@ mod room;
 pub use fault::LidFault;
 pub use lid_map::LidMap;
 pub use lids::assign;
-
-#[cfg(test)]
-mod tests;

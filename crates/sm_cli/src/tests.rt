@@ -13,6 +13,7 @@ use topo_file::TopoFault;
 mod devices;
 mod fabric;
 mod plans;
+mod sample_fabric;
 
 use devices::{Dripping, Sipping};
 

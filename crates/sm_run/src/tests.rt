@@ -1,6 +1,8 @@
 //! Schedules that are run in small fabrics. What they print is written out here by the formats; in
 //! place of the last entries of a block, where no way leads, stands `..`.
 use super::*;
+use crate::texts::{Texts, judge};
+use crate::world::World;
 use record_file::{FromBytes, FromRead, Sink, Source, ToRoom, write_number};
 use sm_cli::{Fault, write_fault};
 use std::alloc::Global;
@@ -8,6 +10,12 @@ use std::io;
 use std::io::{ErrorKind, Read};
 use std::process::Abort;
 use std::test::Fail;
+
+mod lids;
+mod plans;
+mod routes;
+mod subnets;
+mod swept;
 
 /// Three switches, each wired to the two others, and two adapters.
 const TRIANGLE: &str = r#"Switch 4 "S1" guid 0x10

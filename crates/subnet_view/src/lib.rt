@@ -11,6 +11,3 @@ pub use end_port::{EndPort, end_ports, is_end_port};
 pub use reading::{cap, claim, port_guid};
 pub use switch::{is_usable, switches};
 pub use wire_end::{attached, wire};
-
-#[cfg(test)]
-mod tests;

@@ -11,6 +11,3 @@ mod wiring;
 
 pub use graph::Graph;
 pub use routes::Routes;
-
-#[cfg(test)]
-mod tests;

@@ -1,6 +1,6 @@
 //! The answers of a sweep of the sample fabric, and what files say together.
+use super::sample_fabric::reports;
 use super::*;
-use fact_store::sample_fabric::reports;
 use fact_store::{Context, Report};
 
 const FABRIC_FACTS: &[u8] = b"\

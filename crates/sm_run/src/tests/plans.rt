@@ -1,47 +1,27 @@
-//! The plan of the sample fabric, of it with another claim or less room, and of nothing.
+//! The plan of a swept subnet, of it with another claim or less room, and of nothing.
+use super::swept::told;
 use super::*;
-use fact_store::sample_fabric::reports;
-use fact_store::{Cell, Key, Sighting, Store, Value};
-use lid_assign::LidFault;
-use record_file::{ToRoom, WriteFault};
-use smp_bytes::{Generation, Guid, Lid, PortNum};
-use std::alloc::{AllocError, Global};
-use std::test::Fail;
+use fact_store::{Key, Store, Value};
+use lft_blocks::{Plan, PlanFault, write_plan};
+use record_file::WriteFault;
+use smp_bytes::{Guid, Lid, PortNum};
+use std::alloc::AllocError;
 
-/// The sample fabric's store.
-fn swept(alloc: Global) -> Result<Store, Fail> {
-    let mut store = Store::new(alloc);
-    for report in &reports(alloc)? {
-        store.ingest(report)?;
-    }
-    Ok(store)
-}
-
-/// Tells it more at generation 2.
-fn tell(store: &mut Store, key: Key, value: Value) -> Result<(), Fail> {
-    let generation = Generation::new(2).ok_or("0")?;
-    let sighting = Sighting::new(key, Cell::Known(generation, value)).ok_or("no sighting")?;
-    store.add(sighting)?;
-    Ok(())
-}
-
-/// The plan of the sample fabric, whose second adapter claims this LID.
+/// The plan of the triangle, whose second adapter claims this LID.
 fn plan_claiming(alloc: Global, lid: u16) -> Result<Plan, Fail> {
-    let mut store = swept(alloc)?;
     let key = Key::Claim(Guid::new(0x200), PortNum::new(1));
-    tell(&mut store, key, Value::Lid(Lid::new(lid)))?;
+    let store = told(alloc, &[(key, Value::Lid(Lid::new(lid)))])?;
     Ok(Plan::of(alloc, &store)?)
 }
 
-/// Why there is no plan of the sample fabric, whose second switch has room for so many LIDs.
+/// Why there is no plan of the triangle, whose second switch has room for so many LIDs.
 fn fault_of(alloc: Global, room: u16) -> Result<Option<PlanFault>, Fail> {
-    let mut store = swept(alloc)?;
-    tell(&mut store, Key::Cap(Guid::new(0x20)), Value::Count(room))?;
+    let store = told(alloc, &[(Key::Cap(Guid::new(0x20)), Value::Count(room))])?;
     Ok(Plan::of(alloc, &store).err())
 }
 
-/// Whether the plan has this greatest LID and no block behind it, and its last block of a switch begins and ends with
-/// these entries.
+/// Whether the plan has this greatest LID and no block behind it, and its last block of a switch
+/// begins and ends with these entries.
 fn is_right(plan: &Plan, top: u16, guid: u64, first: &[u8], last: u8) -> bool {
     let guid = Guid::new(guid);
     let b = usize::from(top / 64);
@@ -53,7 +33,7 @@ fn is_right(plan: &Plan, top: u16, guid: u64, first: &[u8], last: u8) -> bool {
 }
 
 #[test]
-fn blocks_of_the_sample_fabric(rt: HostRuntime) -> Result<(), Fail> {
+fn blocks_reach_to_the_greatest_lid(rt: HostRuntime) -> Result<(), Fail> {
     for (lid, top, guid, first, last) in [
         (0, 5, 0x10, [255, 0, 1, 2, 1, 2, 255].as_slice(), 255),
         (0, 5, 0x20, [255, 1, 0, 2, 3, 2, 255].as_slice(), 255),
@@ -68,8 +48,8 @@ fn blocks_of_the_sample_fabric(rt: HostRuntime) -> Result<(), Fail> {
     Ok(())
 }
 
-/// The plan of the sample fabric as text.
-fn sample_text(alloc: Global) -> Result<Vec<u8>, AllocError> {
+/// The plan of the triangle as text.
+fn plan_text(alloc: Global) -> Result<Vec<u8>, AllocError> {
     let mut text = Vec::from_slice(
         alloc,
         b"\
@@ -93,7 +73,8 @@ lid 5 0000000000000200/1
     Ok(text)
 }
 
-/// Whether a sink with room for so many bytes takes the plan of the sample fabric and then has this text, or fails.
+/// Whether a sink with room for so many bytes takes the plan of the triangle and then has this
+/// text, or fails.
 fn writes(
     alloc: Global,
     text: &[u8],
@@ -107,8 +88,8 @@ fn writes(
 }
 
 #[test]
-fn text_of_the_sample_fabric(rt: HostRuntime) -> Result<(), Fail> {
-    let text = sample_text(rt.alloc())?;
+fn a_plan_is_written_or_the_sink_is_full(rt: HostRuntime) -> Result<(), Fail> {
+    let text = plan_text(rt.alloc())?;
     for (less, wanted) in [(0, Ok(())), (1, Err(WriteFault::Write))] {
         let room = text.len().saturating_sub(less);
         assert!(rt; writes(rt.alloc(), &text, room, wanted)?, "{less}");
@@ -126,14 +107,14 @@ fn is_empty(alloc: Global, plan: &Plan) -> Result<bool, Fail> {
 }
 
 #[test]
-fn plan_of_nothing(rt: HostRuntime) -> Result<(), Fail> {
+fn nothing_has_an_empty_plan(rt: HostRuntime) -> Result<(), Fail> {
     let plan = Plan::of(rt.alloc(), &Store::new(rt.alloc()))?;
     assert!(rt; is_empty(rt.alloc(), &plan)?);
     Ok(())
 }
 
 #[test]
-fn no_room_for_the_lids(rt: HostRuntime) -> Result<(), Fail> {
+fn plans_want_room_for_the_lids(rt: HostRuntime) -> Result<(), Fail> {
     let no_room = |room| Some(PlanFault::NoRoom { endports: 5, room });
     for (room, wanted) in [(1, no_room(1)), (5, no_room(5)), (6, None)] {
         assert!(rt; fault_of(rt.alloc(), room)? == wanted, "{room}");

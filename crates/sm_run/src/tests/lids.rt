@@ -1,27 +1,12 @@
-//! The LIDs of the sample fabric, and of it with other claims and less room.
+//! The LIDs of a swept subnet, and of it with other claims and less room.
+use super::swept::told;
 use super::*;
-use fact_store::sample_fabric::reports;
-use fact_store::{Cell, Key, Sighting, Store, Value};
-use smp_bytes::{Generation, Guid, Lid, PortNum};
-use std::alloc::Global;
-use std::test::Fail;
+use fact_store::{Key, Store, Value};
+use lid_assign::{LidFault, LidMap, assign};
+use smp_bytes::{Guid, Lid, PortNum};
 use subnet_view::EndPort;
 
-/// The sample fabric's store, and what is told of it at generation 2.
-fn told(alloc: Global, news: &[(Key, Value)]) -> Result<Store, Fail> {
-    let mut store = Store::new(alloc);
-    for report in &reports(alloc)? {
-        store.ingest(report)?;
-    }
-    let generation = Generation::new(2).ok_or("0")?;
-    for (key, value) in news {
-        let sighting = Sighting::new(*key, Cell::Known(generation, *value)).ok_or("no sighting")?;
-        store.add(sighting)?;
-    }
-    Ok(store)
-}
-
-/// The end ports of the sample fabric in their order.
+/// The end ports of the triangle in their order.
 fn ports() -> [EndPort; 5] {
     [(0x10, 0), (0x20, 0), (0x30, 0), (0x100, 1), (0x200, 1)].map(|(node, port)| EndPort {
         node: Guid::new(node),
@@ -38,7 +23,7 @@ fn cap(node: u64, room: u16) -> (Key, Value) {
     (Key::Cap(Guid::new(node)), Value::Count(room))
 }
 
-/// Whether these are the LIDs of the sample fabric's end ports, by each way to find them.
+/// Whether these are the LIDs of the triangle's end ports, by each way to find them.
 fn has(map: &LidMap, lids: &[u16]) -> bool {
     for ((port, lid), (wanted, number)) in map.given().iter().zip(ports().iter().zip(lids)) {
         let is_right = port == wanted && lid.number() == *number;
@@ -52,7 +37,7 @@ fn has(map: &LidMap, lids: &[u16]) -> bool {
 }
 
 #[test]
-fn lids_of_the_sample_fabric(rt: HostRuntime) -> Result<(), Fail> {
+fn claims_are_kept_and_the_rest_given(rt: HostRuntime) -> Result<(), Fail> {
     for (first, second, lids) in [
         (cap(0x20, 1024), claim(0x100, 0), [1, 2, 3, 4, 5].as_slice()),
         (claim(0x100, 5), claim(0x200, 5), [1, 2, 3, 5, 4].as_slice()),
@@ -71,7 +56,7 @@ fn lids_of_the_sample_fabric(rt: HostRuntime) -> Result<(), Fail> {
 }
 
 #[test]
-fn no_room_and_no_end_ports(rt: HostRuntime) -> Result<(), Fail> {
+fn lids_want_room_and_end_ports(rt: HostRuntime) -> Result<(), Fail> {
     let no_room = |room| LidFault::NoRoom { endports: 5, room };
     for room in [0, 1, 5] {
         let store = told(rt.alloc(), &[cap(0x20, room)])?;

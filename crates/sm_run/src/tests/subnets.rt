@@ -1,10 +1,9 @@
-//! What the sample fabric has, and the order of end ports.
+//! What a swept subnet has, the order of end ports, and how soon a fact is found.
+use super::swept::swept;
 use super::*;
-use fact_store::sample_fabric::reports;
 use fact_store::{Cell, Key, Sighting, Store, Value};
 use smp_bytes::{Generation, Guid, NodeType, PortNum};
-use std::alloc::Global;
-use std::test::Fail;
+use subnet_view::{EndPort, attached, end_ports, switches, wire};
 
 fn at(node: u64, port: u8) -> EndPort {
     EndPort {
@@ -13,17 +12,8 @@ fn at(node: u64, port: u8) -> EndPort {
     }
 }
 
-/// The store of the sample fabric.
-fn swept(alloc: Global) -> Result<Store, Fail> {
-    let mut store = Store::new(alloc);
-    for report in &reports(alloc)? {
-        store.ingest(report)?;
-    }
-    Ok(store)
-}
-
 #[test]
-fn reads_the_sample_fabric(rt: HostRuntime) -> Result<(), Fail> {
+fn switches_end_ports_and_wires_are_read(rt: HostRuntime) -> Result<(), Fail> {
     let store = swept(rt.alloc())?;
     let guids = switches(rt.alloc(), &store)?;
     let ports = end_ports(rt.alloc(), &store)?;
@@ -97,5 +87,29 @@ fn end_ports_come_by_port_guid(rt: HostRuntime) -> Result<(), Fail> {
     let ports = end_ports(rt.alloc(), &store)?;
     let wanted = [at(3, 2), at(1, 2), at(2, 1), at(2, 2), at(3, 1), at(1, 1)];
     assert!(rt; ports.as_slice() == wanted.as_slice());
+    Ok(())
+}
+
+/// How many places of two stores differ.
+fn differing(first: &Store, second: &Store) -> usize {
+    let mut differing = first.count().abs_diff(second.count());
+    for (a, b) in first.cells().zip(second.cells()) {
+        if a.key() != b.key() || a.cell() != b.cell() {
+            differing = differing.wrapping_add(1);
+        }
+    }
+    differing
+}
+
+#[test]
+fn searches_halve_and_merges_walk(rt: HostRuntime) -> Result<(), Fail> {
+    let mut store = swept(rt.alloc())?;
+    let node = Guid::new(0x30);
+    let (cell, steps) = store.get_steps(Key::Cap(node));
+    let held = cell == store.get(Key::Cap(node));
+    assert!(rt; held && store.cap(node) == Some(1024) && steps <= 6);
+    let copy = store.try_clone()?;
+    let steps = store.merge_steps(&copy)?;
+    assert!(rt; steps <= 228 && differing(&store, &copy) == 0);
     Ok(())
 }

@@ -1,14 +1,13 @@
-//! A small fabric, and what a first sweep of it without loss is told. It stands in for a sweep of a simulated fabric.
+//! A small fabric, and the replies of a first sweep of it without loss, for files of reports.
 //!
-//! Three switches of four ports stand in a triangle, and an adapter of one port hangs from each of two of them:
+//! Three switches of four ports stand in a triangle, and an adapter of one port hangs from each of
+//! two of them:
 //!
 //! ```text
 //! S1[1] - S2[1]    S1[2] - S3[1]    S2[2] - S3[2]    S2[3] - H1[1]    S3[3] - H2[1]
 //! ```
-ghost use Rattle.std.specs.Prelude.{◌≡◌, IfOk, length};
-
-use crate::report::{Context, Report};
 use attr_codec::{Attribute, NodeInfo, NodeTypeNumber, PortInfo, PortState, SwitchInfo, VendorId};
+use fact_store::{Context, Report};
 use smp_bytes::{AttributeId, Guid, Method, NodeType, Path, PortNum, Smp, Status};
 use std::alloc::{AllocError, Global};
 
@@ -64,12 +63,10 @@ const GENERATION: u32 = 1;
 /// That of the first request of the sweep. No fact depends on it, so all answers have it.
 const TRANSACTION_ID: u64 = 0x0000_0001_0000_0001;
 
-/// The 27 answers of a first sweep by a manager at H1, each with what is known beside it: NodeInfo of H1, and over each
-/// wire from a node that is known; SwitchInfo of each switch; PortInfo of each port of the switches, and of the
-/// adapters' ports.
-pub fn reports(alloc: Global) -> Result<Vec<Report>, AllocError>
-    ensures { IfOk result (λ reports. length reports.items ≡ 27) }
-{
+/// The 27 answers of a first sweep by a manager at H1, each with what is known beside it: NodeInfo
+/// of H1, and over each wire from a node that is known; SwitchInfo of each switch; PortInfo of each
+/// port of the switches, and of the adapters' ports.
+pub(super) fn reports(alloc: Global) -> Result<Vec<Report>, AllocError> {
     let mut reports = Vec::with_capacity(alloc, 27)?;
     reports.extend_from_slice(&node_info_reports())?;
     reports.extend_from_slice(&[
@@ -157,7 +154,8 @@ fn about(node: &Node) -> Context {
     Context::About(Guid::new(node.guid))
 }
 
-/// The answer of an agent, back at the sender. It went over no hop to the sender's own node, and else over one.
+/// The answer of an agent, back at the sender. It went over no hop to the sender's own node, and
+/// else over one.
 fn report(context: Context, attribute: AttributeId, modifier: u32, data: &[u8; 64]) -> Report {
     let mut path = Path::new();
     if context != Context::Start {

@@ -1,10 +1,9 @@
-//! Ranks and next ports of the sample fabric, and of small ones that are told by their wires.
+//! Ranks and next ports of a swept subnet, and of small ones that are told by their wires.
+use super::swept::swept;
 use super::*;
-use fact_store::sample_fabric::reports;
 use fact_store::{Cell, Key, Sighting, Store, Value};
 use smp_bytes::{Generation, Guid, NodeType, PortNum};
-use std::alloc::Global;
-use std::test::Fail;
+use updown_routes::{Graph, Routes};
 
 /// A port of a switch, and the port at the other end of its wire.
 type Wire = (u64, u8, u64, u8);
@@ -79,11 +78,8 @@ fn has_hops(graph: &Graph, routes: &Routes, hops: &[Hop]) -> bool {
 }
 
 #[test]
-fn routes_of_the_sample_fabric(rt: HostRuntime) -> Result<(), Fail> {
-    let mut store = Store::new(rt.alloc());
-    for report in &reports(rt.alloc())? {
-        store.ingest(report)?;
-    }
+fn routes_of_a_swept_subnet(rt: HostRuntime) -> Result<(), Fail> {
+    let store = swept(rt.alloc())?;
     let graph = Graph::of(rt.alloc(), &store)?;
     let routes = Routes::of(rt.alloc(), &graph)?;
     assert!(rt; has_ranks(&graph, &[(0x10, 0), (0x20, 1), (0x30, 1)]));
@@ -103,7 +99,7 @@ fn routes_of_the_sample_fabric(rt: HostRuntime) -> Result<(), Fail> {
 }
 
 /// A fabric with its ranks and next ports.
-struct Row {
+struct Wired {
     name: &'static str,
     wires: &'static [Wire],
     ranks: &'static [(u64, usize)],
@@ -112,14 +108,14 @@ struct Row {
 
 /// In the last one four switches stand in a row beneath the root, and packets go down the row
 /// though it is nearer by the root.
-const ROWS: [Row; 5] = [
-    Row {
+const FABRICS: [Wired; 5] = [
+    Wired {
         name: "none",
         wires: &[],
         ranks: &[],
         hops: &[(1, 1, 0), (1, 2, 0)],
     },
-    Row {
+    Wired {
         name: "two components",
         wires: &[(1, 1, 3, 2), (2, 4, 4, 3)],
         ranks: &[(1, 0), (2, 0), (3, 1), (4, 1)],
@@ -132,19 +128,19 @@ const ROWS: [Row; 5] = [
             (3, 4, 0),
         ],
     },
-    Row {
+    Wired {
         name: "two wires between two switches",
         wires: &[(1, 3, 2, 2), (1, 2, 2, 4)],
         ranks: &[(1, 0), (2, 1)],
         hops: &[(1, 2, 2), (2, 1, 2)],
     },
-    Row {
+    Wired {
         name: "a switch wired to itself",
         wires: &[(1, 1, 1, 2), (1, 3, 2, 1)],
         ranks: &[(1, 0), (2, 1)],
         hops: &[(1, 2, 3), (2, 1, 1), (1, 1, 0)],
     },
-    Row {
+    Wired {
         name: "down though up is nearer",
         wires: &[
             (1, 1, 2, 1),
@@ -170,7 +166,7 @@ const ROWS: [Row; 5] = [
 
 #[test]
 fn routes_of_small_fabrics(rt: HostRuntime) -> Result<(), Fail> {
-    for row in &ROWS {
+    for row in &FABRICS {
         let mut switches = Vec::new(rt.alloc());
         for (guid, _) in row.ranks {
             switches.push(*guid)?;
