@@ -241,7 +241,11 @@ Hca 1 "B" guid 0x200
 "#;
 
 /// The manager of the triangle after a sweep, and what a schedule then prints.
-fn check_swept(rt: &impl Abort, alloc: Global, rows: &[(&'static str, &'static str)]) -> Result<(), Fail> {
+fn check_swept(
+    rt: &impl Abort,
+    alloc: Global,
+    rows: &[(&'static str, &'static str)],
+) -> Result<(), Fail> {
     for (rest, wanted) in rows {
         let schedule = format!(in alloc; "manager A \"H1\"[1] 1\nsweep A\ndrain 1000\n{rest}")?;
         check(rt, alloc, TRIANGLE.as_bytes(), schedule.as_bytes(), wanted)?;
@@ -271,7 +275,13 @@ refused NotMaster
 ping \"H1\"[1] 1 reached \"S1\"[0] hops 2
 "
     )?;
-    check(&rt, alloc, TRIANGLE.as_bytes(), story.as_bytes(), wanted.as_str())?;
+    check(
+        &rt,
+        alloc,
+        TRIANGLE.as_bytes(),
+        story.as_bytes(),
+        wanted.as_str(),
+    )?;
     check_rows(
         &rt,
         alloc,
