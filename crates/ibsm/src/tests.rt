@@ -108,7 +108,7 @@ fn commands_and_files_are_taken(rt: HostRuntime) -> Result<(), Fail> {
         assert!(rt; asked(&matches) == Some((command, names)), "{words:?}");
     }
     let words = ["ibsm", "run", "a", "b"];
-    let matches = command_line(rt.alloc())?.try_get_matches_from(words)?;
+    let matches = command_line(rt.alloc())?.try_get_matches_from(words.as_slice())?;
     assert!(rt; run_asked(&matches) == Some(("a", "b")));
     Ok(())
 }

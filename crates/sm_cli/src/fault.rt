@@ -57,7 +57,7 @@ impl Fault {
                 _ => ExitStatus::Refused,
             },
             Fault::Text { fault, .. } if fault.is_of_text() => ExitStatus::Refused,
-            Fault::Text { .. } => ExitStatus::Refused,
+            Fault::Text { .. } => ExitStatus::Memory,
             Fault::NoRoom { .. } => ExitStatus::Refused,
             Fault::Memory => ExitStatus::Memory,
         }
