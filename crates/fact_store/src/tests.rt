@@ -56,22 +56,33 @@ fn answer(context: Context, attribute: AttributeId, data: &[u8; 64]) -> Report {
     }
 }
 
+/// SwitchInfo of a switch whose table has room for 1,024 LIDs.
+fn switch_info() -> [u8; 64] {
+    let mut info = SwitchInfo::decode(&[0; 64]);
+    info.set_linear_fdb_cap(1024);
+    info.encode()
+}
+
 /// Answers to a manager at the adapter 0x100: NodeInfo of the adapter, NodeInfo of the switch 0x20
 /// that its port 1 is wired to, SwitchInfo of the switch 0x10, and PortInfo of port 0 of that.
 fn answers() -> [Report; 4] {
-    let via = Context::Via(node(0x100), port(1));
-    let about = Context::About(node(0x10));
     let adapter = node_info(NodeType::ChannelAdapter, [0x100, 0x101], 1, 1);
     let switch = node_info(NodeType::Switch, [0x20, 0x20], 4, 3);
-    let mut room = SwitchInfo::decode(&[0; 64]);
-    room.set_linear_fdb_cap(1024);
-    let state = PortInfo::decode(&[0; 64]);
+    let state = PortInfo::decode(&[0; 64]).encode();
     [
         answer(Context::Start, AttributeId::NODE_INFO, &adapter),
-        answer(via, AttributeId::NODE_INFO, &switch),
-        answer(about, AttributeId::SWITCH_INFO, &room.encode()),
-        answer(about, AttributeId::PORT_INFO, &state.encode()),
+        answer(via_adapter(), AttributeId::NODE_INFO, &switch),
+        answer(about_switch(), AttributeId::SWITCH_INFO, &switch_info()),
+        answer(about_switch(), AttributeId::PORT_INFO, &state),
     ]
+}
+
+fn via_adapter() -> Context {
+    Context::Via(node(0x100), port(1))
+}
+
+fn about_switch() -> Context {
+    Context::About(node(0x10))
 }
 
 /// One thing of a report that is not as it was.
