@@ -173,15 +173,14 @@ fn swept(alloc: Global) -> Result<Manager, Fail> {
     Ok(manager)
 }
 
-/// What ends a step: an answer with a status, or a timeout.
-fn end(manager: &mut Manager, set: &Smp, status: Option<u16>) -> Option<ManagerFault> {
-    match status {
-        Some(status) => {
-            let answer = set.answer(Status(status), &[0; 64]);
-            manager.on_packet(answer.bytes()).err()
-        }
-        None => manager.on_timeout(set.transaction_id()).err(),
-    }
+/// A step ends: it was done, was refused, or was not answered in time.
+fn end(manager: &mut Manager, set: &Smp, was_done: Option<bool>) -> Option<ManagerFault> {
+    let answer = match was_done {
+        Some(true) => set.answer(Status::DONE, &[0; 64]),
+        Some(false) => set.answer(Status(0x1C), &[0; 64]),
+        None => return manager.on_timeout(set.transaction_id()).err(),
+    };
+    manager.on_packet(answer.bytes()).err()
 }
 
 #[test]
@@ -192,12 +191,12 @@ fn writes_what_it_plans(rt: HostRuntime) -> Result<(), Fail> {
     assert!(rt; fresh.write_steps() == Err(ManagerFault::NotMaster));
     let mut manager = swept(rt.alloc())?;
     let ends = [
-        (1, Some(0), true),
-        (2, Some(0x1C), false),
+        (1, Some(true), true),
+        (2, Some(false), false),
         (3, None, false),
-        (4, Some(0), true),
+        (4, Some(true), true),
     ];
-    for (number, status, is_written) in ends {
+    for (number, was_done, is_written) in ends {
         assert!(rt;
             manager.write_steps().is_ok() && !manager.written(),
             "{number}"
@@ -210,11 +209,11 @@ fn writes_what_it_plans(rt: HostRuntime) -> Result<(), Fail> {
             "{number}"
         );
         assert!(rt;
-            end(&mut manager, &set, status).is_none() && manager.written() == is_written,
+            end(&mut manager, &set, was_done).is_none() && manager.written() == is_written,
             "{number}"
         );
         assert!(rt;
-            end(&mut manager, &set, status) == Some(ManagerFault::Unasked)
+            end(&mut manager, &set, was_done) == Some(ManagerFault::Unasked)
                 && manager.outstanding(0) == None,
             "{number}"
         );
