@@ -1,13 +1,13 @@
 -- The entries of a map that is made of a list, as a list that computes.
-use Rattle.std.proofs.Common.{◌≡◌, List, [], ◌∷◌, refl, sym, ap, ◌∙◌}
-use Rattle.std.specs.FinMap.{entries, from_entries, entries-insert, empty, len-empty, len-entries}
-use Rattle.std.specs.FinMap.Entries.{put}
+use Rattle.std.proofs.Common.{◌≡◌, T, List, [], ◌∷◌, refl, sym, ap, ◌∙◌}
+use Rattle.std.specs.FinMap.{entries, entries_sorted, from_entries, entries-insert, get-entries, empty, len-empty, len-entries}
+use Rattle.std.specs.FinMap.Entries.{find, is_sorted, put}
 use Rattle.std.proofs.Common.{length, map}
 use Rattle.fact_join.specs.declared.cell.Cell.{Cell}
 use Rattle.fact_store.specs.declared.key.Key.{Key}
 use Rattle.fact_store.specs.declared.value.Value.{Value}
 use Rattle.fact_store.specs.Key.{key_cmp}
-use Rattle.fact_store.specs.View.{cell_at, view}
+use Rattle.fact_store.specs.View.{Facts, cell_at, cell_for, cells_of, view}
 use Rattle.fact_store.proofs.Keys.{key_total}
 
 -- each entry put in its place, the last one first
@@ -32,3 +32,11 @@ cells_of_view sightings = put_all (map (λ s. (s.0, cell_at s.0 sightings)) sigh
 -- the entries of a view compute
 pub entries-view : (sightings : List (Key × Cell Value)) → entries (view sightings) ≡ cells_of_view sightings
 entries-view sightings = entries-from_entries (map (λ s. (s.0, cell_at s.0 sightings)) sightings)
+
+-- a key's cell is found in the list
+pub cell_is_found : (facts : Facts) (key : Key) → cell_for facts key ≡ find key_cmp key (cells_of facts)
+cell_is_found facts key = get-entries facts key
+
+-- which is in the order of keys
+pub cells_in_order : (facts : Facts) → T (is_sorted key_cmp (cells_of facts))
+cells_in_order facts = entries_sorted facts

@@ -9,7 +9,7 @@ use Rattle.fact_join.specs.Cell.{generation_of, IsBelow}
 use Rattle.fact_join.specs.Joins.{below_itself}
 use Rattle.fact_store.specs.declared.key.Key.{Key}
 use Rattle.fact_store.specs.declared.value.Value.{Value}
-use Rattle.fact_store.specs.View.{cells_of, newest_of, agreement, cell_at, view, WasSighted, IsNewest, AllSay, IsCellIn, ViewLaw, ViewIsUnique, ViewOfItsCells}
+use Rattle.fact_store.specs.View.{cells_sighted, newest_of, agreement, cell_at, view, WasSighted, IsNewest, AllSay, IsCellIn, ViewLaw, ViewIsUnique, ViewOfItsCells}
 use Rattle.fact_store.proofs.Keys.{key_total, key_exact}
 use Rattle.smp_bytes.proofs.Members.{contains_here, contains_none}
 use Rattle.fact_store.proofs.Merges.{view_antisymm}
@@ -36,13 +36,13 @@ newest_cell [] w h = absurd (contains_none w h)
 newest_cell (a ∷ cells) w h = newest_there a cells
 
 -- the generation of what a key has is its newest
-is_newest : (q : Key) (s : List (Key × Cell Value)) (w : Cell Value) → Contains (cells_of q s) w → IsNewest q s (generation_of (cell_at q s))
+is_newest : (q : Key) (s : List (Key × Cell Value)) (w : Cell Value) → Contains (cells_sighted q s) w → IsNewest q s (generation_of (cell_at q s))
 is_newest q s w h =
-    let e = generation-summary (cells_of q s) w h in
-    let n = newest_cell (cells_of q s) w h in
+    let e = generation-summary (cells_sighted q s) w h in
+    let n = newest_cell (cells_sighted q s) w h in
     record {
       sighted = (n.0, sighted_from_cells q s n.0 n.1, n.2 ∙ sym e);
-      greatest = λ c k. omega (arith, e, newest_above (cells_of q s) c (sighted_in_cells q s c k));
+      greatest = λ c k. omega (arith, e, newest_above (cells_sighted q s) c (sighted_in_cells q s c k));
     }
 
 -- the law --------------------------------------------------------------------------
@@ -59,16 +59,16 @@ older_or_alike m n h =
     apart m n p e = cc (Rattle.std.proofs.lemmas.Bool.eq-eqb m n e)
 
 -- what the newest sightings say is the law of the view
-cell_is_in : (q : Key) (s : List (Key × Cell Value)) (w : Cell Value) → Contains (cells_of q s) w → (z : Cell Value) → cell_at q s ≡ z → IsCellIn q s z
+cell_is_in : (q : Key) (s : List (Key × Cell Value)) (w : Cell Value) → Contains (cells_sighted q s) w → (z : Cell Value) → cell_at q s ≡ z → IsCellIn q s z
 cell_is_in q s w h (Known g v) e =
     let n : IsNewest q s g = subst (λ (x : Cell Value). IsNewest q s (generation_of x)) e (is_newest q s w h) in (
       n,
-      λ c k i. known_is g v c (Known g v) i refl (subst (λ (x : Cell Value). IsBelow c x) e (summary_above (cells_of q s) c (sighted_in_cells q s c k))),
+      λ c k i. known_is g v c (Known g v) i refl (subst (λ (x : Cell Value). IsBelow c x) e (summary_above (cells_sighted q s) c (sighted_in_cells q s c k))),
     )
 cell_is_in q s w h (Disputed g) e =
     let n : IsNewest q s g = subst (λ (x : Cell Value). IsNewest q s (generation_of x)) e (is_newest q s w h) in (
       n,
-      λ v all. not_below g v (subst (λ (x : Cell Value). IsBelow x (Known g v)) e (summary_least (cells_of q s) w (Known g v) h (λ c k.
+      λ v all. not_below g v (subst (λ (x : Cell Value). IsBelow x (Known g v)) e (summary_least (cells_sighted q s) w (Known g v) h (λ c k.
           let sight = sighted_from_cells q s c k in
           elim (older_or_alike (generation_of c) g (n.greatest c sight)) [ inl older ↦ inl older | inr alike ↦ inr (inl (all c sight alike)) ]))),
     )

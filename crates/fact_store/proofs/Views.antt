@@ -15,7 +15,7 @@ use Rattle.fact_store.specs.declared.key.Key.{Key}
 use Rattle.fact_store.specs.declared.value.Value.{Value}
 use Rattle.fact_store.specs.Key.{key_cmp}
 use Rattle.fact_store.specs.Value.{is_same_cell}
-use Rattle.fact_store.specs.View.{Facts, is_of, cells_of, newest_of, agreement, cell_at, view, MembersDecideView}
+use Rattle.fact_store.specs.View.{Facts, is_of, cells_sighted, newest_of, agreement, cell_at, view, MembersDecideView}
 use Rattle.fact_store.specs.Merge.{IsBelowView, merge, ViewOfBoth}
 use Rattle.fact_store.proofs.Keys.{key_total, key_exact, equal_from_test}
 use Rattle.smp_bytes.proofs.Members.{contains_here, contains_later, contains_cases, contains_none, contains_filter, contains-from_filter, list_all_true, list_all_at}
@@ -165,13 +165,13 @@ pub is_of_itself : (q : Key) (c : Cell Value) → is_of q (q, c) ≡ true
 is_of_itself q c = ap is_eq (tied_itself key_total q)
 
 -- a sighting of the key is among its cells
-pub sighted_in_cells : (q : Key) (s : List (Key × Cell Value)) (c : Cell Value) → Contains s (q, c) → Contains (cells_of q s) c
+pub sighted_in_cells : (q : Key) (s : List (Key × Cell Value)) (c : Cell Value) → Contains s (q, c) → Contains (cells_sighted q s) c
 sighted_in_cells q [] c h = absurd (contains_none (q, c) h)
 sighted_in_cells q (x ∷ s) c h =
     elim (is_of q x) as (λ t. is_of q x ≡ t → Contains (map (λ y. y.1) (cond t (x ∷ filter (is_of q) s) (filter (is_of q) s))) c) [
       | true ↦ λ p. (elim (contains_cases x (q, c) s h) [
-        | inl e ↦ subst (λ (z : Cell Value). Contains (z ∷ cells_of q s) c) (sym (ap (λ y. y.1) e)) (contains_here c (cells_of q s))
-        | inr k ↦ contains_later x.1 c (cells_of q s) (sighted_in_cells q s c k)
+        | inl e ↦ subst (λ (z : Cell Value). Contains (z ∷ cells_sighted q s) c) (sym (ap (λ y. y.1) e)) (contains_here c (cells_sighted q s))
+        | inr k ↦ contains_later x.1 c (cells_sighted q s) (sighted_in_cells q s c k)
       ])
       | false ↦ λ p. (elim (contains_cases x (q, c) s h) [
         | inl e ↦ absurd (cc (ap (is_of q) e, is_of_itself q c))
@@ -184,11 +184,11 @@ pub pair_is : (q : Key) (x : Key × Cell Value) (c : Cell Value) → is_of q x �
 pair_is q x c p e = let k : q ≡ x.0 = key_exact q x.0 (equal_from_test _ p) in λ i. (sym k i, e i)
 
 -- a cell of the key was sighted
-pub sighted_from_cells : (q : Key) (s : List (Key × Cell Value)) (c : Cell Value) → Contains (cells_of q s) c → Contains s (q, c)
+pub sighted_from_cells : (q : Key) (s : List (Key × Cell Value)) (c : Cell Value) → Contains (cells_sighted q s) c → Contains s (q, c)
 sighted_from_cells q [] c h = absurd (contains_none c h)
 sighted_from_cells q (x ∷ s) c h =
     elim (is_of q x) as (λ t. is_of q x ≡ t → Contains (map (λ y. y.1) (cond t (x ∷ filter (is_of q) s) (filter (is_of q) s))) c → Contains (x ∷ s) (q, c)) [
-      | true ↦ λ p k. (elim (contains_cases x.1 c (cells_of q s) k) [
+      | true ↦ λ p k. (elim (contains_cases x.1 c (cells_sighted q s) k) [
         | inl e ↦ subst (λ (z : Key × Cell Value). Contains (z ∷ s) (q, c)) (sym (pair_is q x c p e)) (contains_here (q, c) s)
         | inr r ↦ contains_later x (q, c) s (sighted_from_cells q s c r)
       ])
@@ -205,11 +205,11 @@ find-cells f (x ∷ xs) q =
     ] refl
 
 -- a key was never sighted, or has some cell
-some_or_none : (q : Key) (s : List (Key × Cell Value)) → ((list_any (is_of q) s ≡ false) × (cells_of q s ≡ [])) ⊎ ((list_any (is_of q) s ≡ true) × ((c : Cell Value) × Contains (cells_of q s) c))
+some_or_none : (q : Key) (s : List (Key × Cell Value)) → ((list_any (is_of q) s ≡ false) × (cells_sighted q s ≡ [])) ⊎ ((list_any (is_of q) s ≡ true) × ((c : Cell Value) × Contains (cells_sighted q s) c))
 some_or_none q [] = inl (refl, refl)
 some_or_none q (x ∷ s) =
     elim (is_of q x) as (λ t. (((t || list_any (is_of q) s) ≡ false) × (map (λ y. y.1) (cond t (x ∷ filter (is_of q) s) (filter (is_of q) s)) ≡ [])) ⊎ (((t || list_any (is_of q) s) ≡ true) × ((c : Cell Value) × Contains (map (λ y. y.1) (cond t (x ∷ filter (is_of q) s) (filter (is_of q) s))) c))) [
-      | true ↦ inr (refl, (x.1, contains_here x.1 (cells_of q s)))
+      | true ↦ inr (refl, (x.1, contains_here x.1 (cells_sighted q s)))
       | false ↦ some_or_none q s
     ]
 
@@ -219,8 +219,8 @@ get-view s q = get-from_entries key_total (map (λ x. (x.0, cell_at x.0 s)) s) q
 
 -- a key is in the view where it was sighted, with what its cells say together
 pub data AtKey (s : List (Key × Cell Value)) (q : Key) : Type 0 where
-  never_sighted : get (view s) q ≡ None → cells_of q s ≡ [] → AtKey s q
-  sighted : get (view s) q ≡ Some (cell_at q s) → (w : Cell Value) → Contains (cells_of q s) w → AtKey s q
+  never_sighted : get (view s) q ≡ None → cells_sighted q s ≡ [] → AtKey s q
+  sighted : get (view s) q ≡ Some (cell_at q s) → (w : Cell Value) → Contains (cells_sighted q s) w → AtKey s q
 
 -- one of the two holds
 pub at_key : (s : List (Key × Cell Value)) (q : Key) → AtKey s q
@@ -235,7 +235,7 @@ pub view_above : (s : List (Key × Cell Value)) (q : Key) (c : Cell Value) → C
 view_above s q c h =
     elim (at_key s q) [
       | never_sighted e n ↦ absurd (contains_none c (subst (λ (xs : List (Cell Value)). Contains xs c) n (sighted_in_cells q s c h)))
-      | sighted e w k ↦ (cell_at q s, e, summary_above (cells_of q s) c (sighted_in_cells q s c h))
+      | sighted e w k ↦ (cell_at q s, e, summary_above (cells_sighted q s) c (sighted_in_cells q s c h))
     ]
 
 -- and below all that is
@@ -248,7 +248,7 @@ view_least s z f q c e =
             x.0,
             x.1,
             subst (λ (y : Cell Value). IsBelow y x.0) (the_same (cell_at q s) c (sym p ∙ e))
-                (summary_least (cells_of q s) w x.0 k (λ c' h. let y = f q c' (sighted_from_cells q s c' h) in subst (λ (v : Cell Value). IsBelow c' v) (the_same y.0 x.0 (sym y.1 ∙ x.1)) y.2)),
+                (summary_least (cells_sighted q s) w x.0 k (λ c' h. let y = f q c' (sighted_from_cells q s c' h) in subst (λ (v : Cell Value). IsBelow c' v) (the_same y.0 x.0 (sym y.1 ∙ x.1)) y.2)),
           )
     ]
 

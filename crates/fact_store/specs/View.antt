@@ -1,8 +1,8 @@
 -- What a set of sightings says together: each key's newest generation, and whether its sightings agree there.
-use Rattle.std.specs.Prelude.{◌≡◌, ◌≤◌, ℕ, Bool, List, [], ◌∷◌, ◌==◌, max, map, filter, Contains, Some, MatchOption, if◌then◌else◌}
+use Rattle.std.specs.Prelude.{◌≡◌, ◌≤◌, ℕ, Bool, List, [], ◌∷◌, ◌==◌, max, map, filter, Contains, Option, Some, MatchOption, if◌then◌else◌}
 use Rattle.std.specs.List.{list_all}
 use Rattle.std.specs.Ordering.{eq_by_cmp}
-use Rattle.std.specs.FinMap.{FinMap, entries, get, from_entries}
+use Rattle.std.specs.FinMap.{FinMap, empty, entries, get, from_entries}
 use Rattle.fact_join.specs.declared.cell.Cell.{Cell}
 use Rattle.fact_join.specs.declared.cell.Cell.TheVariants.{Known, Disputed}
 use Rattle.fact_join.specs.Cell.{generation_of}
@@ -15,13 +15,25 @@ use Rattle.fact_store.specs.Value.{is_same_cell}
 abbrev pub Facts : Type 0
 Facts = FinMap key_cmp (Cell Value)
 
+-- the keys that have a cell, each with it, in the order of keys
+abbrev pub cells_of : Facts → List (Key × Cell Value)
+cells_of facts = entries facts
+
+-- the cell of a key, if it has one
+abbrev pub cell_for : Facts → Key → Option (Cell Value)
+cell_for facts key = get facts key
+
+-- nothing is known
+abbrev pub no_facts : Facts
+no_facts = empty
+
 -- whether a sighting is of the key
 abbrev pub is_of : Key → Key × Cell Value → Bool
 is_of key s = eq_by_cmp key_cmp key s.0
 
 -- what the sightings of a key say
-abbrev pub cells_of : Key → List (Key × Cell Value) → List (Cell Value)
-cells_of key sightings = map (λ s. s.1) (filter (is_of key) sightings)
+abbrev pub cells_sighted : Key → List (Key × Cell Value) → List (Cell Value)
+cells_sighted key sightings = map (λ s. s.1) (filter (is_of key) sightings)
 
 -- the greatest of the cells' generations
 abbrev pub newest_of : List (Cell Value) → ℕ
@@ -30,7 +42,7 @@ newest_of (c ∷ cells) = max (generation_of c) (newest_of cells)
 
 -- the greatest generation of a sighting of the key
 abbrev pub newest : Key → List (Key × Cell Value) → ℕ
-newest key sightings = newest_of (cells_of key sightings)
+newest key sightings = newest_of (cells_sighted key sightings)
 
 -- what cells of one generation say together: one value if all say it
 abbrev pub agreement : ℕ → List (Cell Value) → Cell Value
@@ -39,7 +51,7 @@ agreement generation (c ∷ cells) = if list_all (is_same_cell c) cells then c e
 
 -- what the key's newest sightings say together
 abbrev pub cell_at : Key → List (Key × Cell Value) → Cell Value
-cell_at key sightings = agreement (newest key sightings) (filter (λ c. generation_of c == newest key sightings) (cells_of key sightings))
+cell_at key sightings = agreement (newest key sightings) (filter (λ c. generation_of c == newest key sightings) (cells_sighted key sightings))
 
 -- each key that was sighted, with what its newest sightings say
 abbrev pub view : List (Key × Cell Value) → Facts

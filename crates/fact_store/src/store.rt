@@ -1,7 +1,7 @@
 ghost use Rattle.std.specs.Prelude.{◌≡◌, ◌+◌, ◌*◌, ◌≤◌, [], ◌∷◌, ◌↔◌, OnOk, OnErr, IfOk, IsNone, IfSome, max, slice_get, unwrap_or};
-ghost use Rattle.std.specs.FinMap.{empty, get, len, entries};
+ghost use Rattle.std.specs.FinMap.{len};
 ghost use Rattle.fact_store.specs.Cells.{HasDigits};
-ghost use Rattle.fact_store.specs.View.{view, IsNewestGeneration};
+ghost use Rattle.fact_store.specs.View.{IsNewestGeneration, cell_for, cells_of, no_facts, view};
 ghost use Rattle.fact_store.specs.Merge.{merge, IsMerge};
 ghost use Rattle.fact_store.specs.Sighting.{AreInRange};
 ghost use Rattle.fact_store.specs.Walk.{cells_left};
@@ -60,7 +60,7 @@ impl Model for Store {
 impl Store {
     /// An empty store, which takes its memory from `alloc` later.
     pub fn new(alloc: Global) -> Self
-        ensures { result ≡ empty }
+        ensures { result ≡ no_facts }
     {
         Store {
             cells: PageList::new(alloc),
@@ -155,7 +155,7 @@ impl Store {
 
     /// The cell of a key, if there is one. Halves the cells at each step.
     pub fn get(&self, key: Key) -> Option<Cell<Value>>
-        ensures found { result ≡ get self.now key }
+        ensures found { result ≡ cell_for self.now key }
         ensures in_range { AreInRange self.now }
     {
         self.get_steps(key).0
@@ -163,7 +163,7 @@ impl Store {
 
     /// The cell of a key, if there is one, and how many times two keys were compared.
     pub fn get_steps(&self, key: Key) -> (Option<Cell<Value>>, u32)
-        ensures found { result.0 ≡ get self.now key }
+        ensures found { result.0 ≡ cell_for self.now key }
         ensures steps { HasDigits (len self.now) result.1 }
         ensures in_range { AreInRange self.now }
     {
@@ -185,7 +185,7 @@ impl Store {
 
     /// The key at place `i` in the order of the keys, from 0 on, with its cell. Halves the pages at each step.
     pub fn cell(&self, i: usize) -> Option<Sighting>
-        ensures exact { result ≡ slice_get (entries self.now) i }
+        ensures exact { result ≡ slice_get (cells_of self.now) i }
         ensures in_range { AreInRange self.now }
     {
         self.cells.get(i)
@@ -193,7 +193,7 @@ impl Store {
 
     /// The cells with their keys, in the order of keys. Each is had in one step.
     pub fn cells(&self) -> Cells<'_>
-        ensures cells { cells_left result ≡ entries self.now }
+        ensures cells { cells_left result ≡ cells_of self.now }
         ensures in_range { AreInRange self.now }
     {
         Cells {
@@ -203,7 +203,7 @@ impl Store {
 
     /// The greatest generation of a cell. Walks the cells.
     pub fn newest(&self) -> Option<Generation>
-        ensures none { IsNone result ↔ (self.now ≡ empty) }
+        ensures none { IsNone result ↔ (self.now ≡ no_facts) }
         ensures newest { IfSome result (IsNewestGeneration self.now) }
     {
         let mut newest: Option<Generation> = None;

@@ -5,7 +5,7 @@ use Rattle.std.proofs.lemmas.List.FromFn.{length-map-range_with_len}
 use Rattle.std.proofs.lemmas.Option.{slice_get_past}
 use Rattle.std.specs.Prelude.{Contains, Option, None, Some, MatchOption, option_and_then, slice_get}
 use Rattle.std.specs.List.{find}
-use Rattle.std.specs.FinMap.{entries}
+use Rattle.fact_store.specs.View.{cells_of}
 use Rattle.subnet_view.specs.Reading.{is_usable, switches, IsUsable}
 use Rattle.subnet_view.proofs.Members.{contains_later, contains_cases, contains_none, contains_first}
 use Rattle.subnet_view.proofs.UsableSwitches.{usable_law, switches_law}
@@ -51,7 +51,7 @@ module _ (homes : ℕ → Option (ℕ × ℕ)) (slopes : List Slope) (count g : 
 -- there is a block exactly of a usable switch, up to that of the greatest LID
 pub blocks_are_of_switches : BlocksAreOfSwitches
 blocks_are_of_switches facts g b =
-    let cells = entries facts in
+    let cells = cells_of facts in
     let homes = home_of_lid cells (lids cells) in
     let slopes = slopes_of (graph_of cells) in
     let count = block_count (top_of (lids cells)) in

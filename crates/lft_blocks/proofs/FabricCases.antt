@@ -4,7 +4,7 @@ use Rattle.std.proofs.Common.{refl, sym, ap, ◌∙◌, subst, arith, true, fals
 use Rattle.std.proofs.lemmas.Bool.{eqb-true, and_parts}
 use Rattle.std.proofs.lemmas.Option.{same_Some, some_pair_parts}
 use Rattle.std.specs.Prelude.{Option, None, Some, Contains, MatchBool, MatchOption, IsSome, slice_get}
-use Rattle.std.specs.FinMap.{entries, find}
+use Rattle.std.specs.FinMap.{find}
 use Rattle.smp_bytes.specs.declared.cable.NodePort.{NodePort}
 use Rattle.smp_bytes.specs.declared.cable.Cable.{Cable}
 use Rattle.smp_bytes.specs.NodeType.{is_switch}
@@ -20,7 +20,7 @@ use Rattle.fact_store.specs.declared.value.Value.{Value}
 use Rattle.fact_store.specs.declared.value.Value.TheVariants.{Kind, Guid, Peer, Up, Lid, Count}
 use Rattle.fact_store.specs.Key.{key_cmp}
 use Rattle.fact_store.specs.Known.{value_in, guid_in, peer_in, count_in}
-use Rattle.fact_store.specs.View.{Facts}
+use Rattle.fact_store.specs.View.{Facts, cells_of}
 use Rattle.subnet_view.specs.Reading.{Cells, cap_of}
 use Rattle.subnet_view.specs.EndPorts.{IsEndPort}
 use Rattle.subnet_view.specs.Wires.{across, IsWire}
@@ -200,10 +200,10 @@ module _ (part : Part) (cells : Cells) (f : Fabric) (one : EachPlace (λ k n. Ha
 -- holding a plan, switch by switch -----------------------------------------------------------
 
 -- a table whose entries are the plan's holds the plan's blocks
-blocks_held : (facts : Facts) (f : Fabric) (place g : ℕ) → ((lid : ℕ) → entry_of (entries facts) g lid ≡ f.entry place lid)
-    → (b : ℕ) (block : List ℕ) → block_at (plan_of (entries facts)) g b ≡ Some block → HoldsBlock f place b block
+blocks_held : (facts : Facts) (f : Fabric) (place g : ℕ) → ((lid : ℕ) → entry_of (cells_of facts) g lid ≡ f.entry place lid)
+    → (b : ℕ) (block : List ℕ) → block_at (plan_of (cells_of facts)) g b ≡ Some block → HoldsBlock f place b block
 blocks_held facts f place g same b block there i h =
-    let cells = entries facts in
+    let cells = cells_of facts in
     let is : block ≡ block_of cells g b =
     (subst (λ (o : Option (List ℕ)). MatchOption o (¬ (HasBlock cells g b)) (λ x. HasBlock cells g b × (x ≡ block_of cells g b))) there
     (blocks_are_of_switches facts g b)).1 in
@@ -221,9 +221,9 @@ pub record HasPlanned (cells : Cells) (f : Fabric) (k : ℕ) (n : Node) (p : ℕ
   pub table : (l : ℕ) → entry_of cells n.guid l ≡ f.entry k l
 
 pub holding : (part : Part) (facts : Facts) (f : Fabric) → EachPlace (λ k n. HasOneEnd n) f.nodes
-    → EachPlace (λ k n. HasPlanned (entries facts) f k n (end_of n)) f.nodes → HoldsPlan part (plan_of (entries facts)) f
+    → EachPlace (λ k n. HasPlanned (cells_of facts) f k n (end_of n)) f.nodes → HoldsPlan part (plan_of (cells_of facts)) f
 holding part facts f one rows =
-    let row = end_cases part f one (HasPlanned (entries facts) f) rows in
+    let row = end_cases part f one (HasPlanned (cells_of facts) f) rows in
     λ port node here. record {
       lid = (row port node here).lid;
       top = (row port node here).top;

@@ -3,10 +3,9 @@ use Rattle.std.proofs.Common.{◌≡◌, ◌≤◌, ◌+◌, ◌*◌, ◌/◌, �
 use Rattle.std.proofs.lemmas.Option.{same_Some}
 use Rattle.std.specs.Prelude.{None, Some, MatchOption, option_and_then, unwrap_or, slice_get}
 use Rattle.std.specs.Option.{option_map_or}
-use Rattle.std.specs.FinMap.{entries}
 use Rattle.smp_bytes.specs.declared.cable.NodePort.{NodePort}
 use Rattle.smp_bytes.specs.Fabric.{Node, Fabric}
-use Rattle.fact_store.specs.View.{Facts}
+use Rattle.fact_store.specs.View.{Facts, cells_of}
 use Rattle.subnet_view.specs.declared.end_port.EndPort.{EndPort}
 use Rattle.subnet_view.specs.Reading.{Cells, is_usable}
 use Rattle.subnet_view.specs.Agreement.{Part, IsEndPortIn}
@@ -49,9 +48,9 @@ owned_from_one cells good lid e h = (good.in_range e lid (given-from_owner (lids
 abbrev pub HasBlocks : Cells → Type 0
 HasBlocks cells = (g b : ℕ) → HasBlock cells g b → block_at (plan_of cells) g b ≡ Some (block_of cells g b)
 
-pub planned_block : (facts : Facts) → HasBlocks (entries facts)
+pub planned_block : (facts : Facts) → HasBlocks (cells_of facts)
 planned_block facts g b has =
-    let cells = entries facts in
+    let cells = cells_of facts in
     elim (block_at (plan_of cells) g b) as
     (λ o. MatchOption o (¬ (HasBlock cells g b)) (λ x. HasBlock cells g b × (x ≡ block_of cells g b)) → o ≡ Some (block_of cells g b)) [
       | None ↦ λ m. absurd (m has)

@@ -1,8 +1,7 @@
 -- A home is a usable switch.
 use Rattle.std.proofs.Common.{◌≡◌, ℕ, refl, subst, true, false, cond}
 use Rattle.std.specs.Prelude.{Contains, Some}
-use Rattle.std.specs.FinMap.{entries}
-use Rattle.fact_store.specs.View.{Facts}
+use Rattle.fact_store.specs.View.{Facts, cells_of}
 use Rattle.subnet_view.specs.declared.end_port.EndPort.{EndPort}
 use Rattle.subnet_view.specs.Reading.{is_usable, switches, IsUsable}
 use Rattle.subnet_view.specs.Wires.{attached}
@@ -11,12 +10,12 @@ use Rattle.subnet_view.proofs.Attachments.{attached_law}
 use Rattle.lft_blocks.specs.Entries.{home_of}
 
 module _ (facts : Facts) (e : EndPort) (home : ℕ × ℕ) where
-  home_usable : home_of (entries facts) e ≡ Some home → IsUsable (entries facts) home.0
+  home_usable : home_of (cells_of facts) e ≡ Some home → IsUsable (cells_of facts) home.0
   home_usable h =
-      elim (is_usable (entries facts) e.node) as (λ t. is_usable (entries facts) e.node ≡ t → cond t (Some (e.node, 0)) (attached (entries facts) e.node e.port) ≡ Some home → IsUsable (entries facts) home.0) [
-        | true ↦ λ u k. let same : (e.node, 0) ≡ home = cc in subst (λ (x : ℕ × ℕ). IsUsable (entries facts) x.0) same ((usable_law (entries facts) e.node).0 u)
-        | false ↦ λ u k. ((attached_law (entries facts) e.node e.port home.0 home.1).0 k).to_switch
+      elim (is_usable (cells_of facts) e.node) as (λ t. is_usable (cells_of facts) e.node ≡ t → cond t (Some (e.node, 0)) (attached (cells_of facts) e.node e.port) ≡ Some home → IsUsable (cells_of facts) home.0) [
+        | true ↦ λ u k. let same : (e.node, 0) ≡ home = cc in subst (λ (x : ℕ × ℕ). IsUsable (cells_of facts) x.0) same ((usable_law (cells_of facts) e.node).0 u)
+        | false ↦ λ u k. ((attached_law (cells_of facts) e.node e.port home.0 home.1).0 k).to_switch
       ] refl h
 
-  pub home_is_switch : home_of (entries facts) e ≡ Some home → Contains (switches (entries facts)) home.0
+  pub home_is_switch : home_of (cells_of facts) e ≡ Some home → Contains (switches (cells_of facts)) home.0
   home_is_switch h = ((switches_law facts).0 home.0).1 (home_usable h)

@@ -10,8 +10,7 @@ use Rattle.std.specs.Option.{option_map_or}
 use Rattle.std.specs.List.{range_with_len}
 use Rattle.std.specs.List.Sorted.{IsStrictlyIncreasing}
 use Rattle.std.specs.Cmp.{both_ways}
-use Rattle.std.specs.FinMap.{entries}
-use Rattle.fact_store.specs.View.{Facts}
+use Rattle.fact_store.specs.View.{Facts, cells_of}
 use Rattle.subnet_view.specs.Reading.{switches}
 use Rattle.updown_routes.proofs.Switches.{switches_increase}
 use Rattle.port_graph.specs.Slopes.{Slope, next_port}
@@ -105,7 +104,7 @@ are_tables homes slopes count guids tables rising e = record {
 }
 
 -- the usable switches rise
-pub switches_rise : (facts : Facts) (guids : List ℕ) → guids ≡ switches (entries facts) → IsStrictlyIncreasing guids
+pub switches_rise : (facts : Facts) (guids : List ℕ) → guids ≡ switches (cells_of facts) → IsStrictlyIncreasing guids
 switches_rise facts guids e = subst IsStrictlyIncreasing (sym e) (switches_increase facts)
 
 -- the table that is made of a switch's GUID, row and blocks

@@ -2,14 +2,13 @@
 use Rattle.std.proofs.Common.{◌≡◌, ◌≤◌, ℕ, suc, List, [], ◌∷◌, ◌++◌, refl, sym, ap, ◌∙◌, subst, arith, Bool, true, false, cond, ◌==◌, not, map, length}
 use Rattle.std.proofs.lemmas.Bool.{and_left, and_right, eqb-true, eq-eqb}
 use Rattle.std.specs.Prelude.{Some}
-use Rattle.std.specs.FinMap.{entries}
 use Rattle.smp_bytes.specs.declared.cable.NodePort.{NodePort}
 use Rattle.smp_bytes.specs.declared.course.Course.TheVariants.{Delivers}
 use Rattle.smp_bytes.specs.Fabric.{Fabric, IsEndPort, is_switch_at}
 use Rattle.smp_bytes.specs.FabricWalks.{IsJoinedTo}
 use Rattle.smp_bytes.specs.Forwarding.{Standing, sent_from, arrived_at, course, Hop, Goes, IsDelivered}
 use Rattle.smp_bytes.proofs.FabricWalks.{port_at, same_port, type_at}
-use Rattle.fact_store.specs.View.{Facts}
+use Rattle.fact_store.specs.View.{Facts, cells_of}
 use Rattle.subnet_view.specs.declared.end_port.EndPort.{EndPort}
 use Rattle.subnet_view.specs.Reading.{Cells}
 use Rattle.subnet_view.proofs.EndPortList.{end_ports_law}
@@ -226,9 +225,9 @@ module _ {cells : Cells} {f : Fabric} {origin : NodePort} {lid : ℕ} {owner : E
       ] refl
 
 -- where the plan is in force, every packet arrives
-pub every_packet_arrives : (facts : Facts) → ¬ (IsNoRoom (entries facts)) → EveryPacketArrives (entries facts) (plan_of (entries facts))
+pub every_packet_arrives : (facts : Facts) → ¬ (IsNoRoom (cells_of facts)) → EveryPacketArrives (cells_of facts) (plan_of (cells_of facts))
 every_packet_arrives facts has_room f origin is_origin in_force source is_end j lid owner owned =
-    let cells = entries facts in
+    let cells = cells_of facts in
     let told : IsTold cells f origin =
     record { is_fabric = in_force.is_fabric; agrees = in_force.agrees; is_graph = graph_law facts; listed = usable_switch facts } in
     let planned : IsPlanned cells f origin lid owner =

@@ -2,9 +2,8 @@
 use Rattle.std.proofs.Common.{◌≡◌, ℕ, sym, false, cond, map}
 use Rattle.std.specs.Prelude.{None, Some, option_and_then}
 use Rattle.std.specs.List.{filter_map, range_with_len}
-use Rattle.std.specs.FinMap.{get, entries}
 use Rattle.fact_store.specs.declared.key.Key.{Key}
-use Rattle.fact_store.specs.View.{Facts}
+use Rattle.fact_store.specs.View.{Facts, cell_for, cells_of}
 use Rattle.subnet_view.specs.declared.end_port.EndPort.{EndPort}
 use Rattle.subnet_view.proofs.BesideClaims.{is_claim, switch_same, usable_same, count_same, switches_same, across_same, attached_same}
 use Rattle.lid_assign.specs.Lids.{lids, owner_of, top_of}
@@ -15,17 +14,17 @@ use Rattle.lft_blocks.specs.Entries.{home_of, block_count}
 use Rattle.lft_blocks.specs.Plan.{tables_of, plan_of}
 use Rattle.lft_blocks.specs.PlanLaws.{PlansStay}
 
-module _ (x y : Facts) (same : (key : Key) → is_claim key ≡ false → get x key ≡ get y key) where
-  exit_same : (g p : ℕ) → exit_at (entries x) g p ≡ exit_at (entries y) g p
+module _ (x y : Facts) (same : (key : Key) → is_claim key ≡ false → cell_for x key ≡ cell_for y key) where
+  exit_same : (g p : ℕ) → exit_at (cells_of x) g p ≡ exit_at (cells_of y) g p
   exit_same g p = λ i. option_and_then (λ q. cond (switch_same x y same q.0 i) (Some (record { port = p; to = q.0 })) None) (across_same x y same g p i)
 
-  graph_same : graph_of (entries x) ≡ graph_of (entries y)
+  graph_same : graph_of (cells_of x) ≡ graph_of (cells_of y)
   graph_same = λ i. map (λ g. record { guid = g; exits = filter_map (λ p. exit_same g p i) (range_with_len 1 (count_same x y same g i)) }) (switches_same x y same i)
 
-  home_same : (e : EndPort) → home_of (entries x) e ≡ home_of (entries y) e
+  home_same : (e : EndPort) → home_of (cells_of x) e ≡ home_of (cells_of y) e
   home_same e = λ i. cond (usable_same x y same e.node i) (Some (e.node, 0)) (attached_same x y same e.node e.port i)
 
-  plan_same : lids (entries x) ≡ lids (entries y) → plan_of (entries x) ≡ plan_of (entries y)
+  plan_same : lids (cells_of x) ≡ lids (cells_of y) → plan_of (cells_of x) ≡ plan_of (cells_of y)
   plan_same given =
       λ i. record {
         given = given i;

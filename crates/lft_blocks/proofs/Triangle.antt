@@ -1,7 +1,6 @@
 -- A small fabric that holds the plan of the facts that tell of it: three switches in a triangle, with an adapter on the second and on the third.
 use Rattle.std.proofs.Common.{◌≡◌, ℕ, suc, true, List, [], ◌∷◌, ◌++◌, map}
 use Rattle.std.specs.Prelude.{slice_index_or}
-use Rattle.std.specs.FinMap.{entries}
 use Rattle.smp_bytes.specs.declared.cable.Cable.{Cable}
 use Rattle.smp_bytes.specs.declared.node_type.NodeType.TheVariants.{ChannelAdapter, Switch}
 use Rattle.smp_bytes.specs.Cables.{other_end}
@@ -13,7 +12,7 @@ use Rattle.fact_store.specs.declared.key.Key.{Key}
 use Rattle.fact_store.specs.declared.key.Key.TheVariants as key
 use Rattle.fact_store.specs.declared.value.Value.{Value}
 use Rattle.fact_store.specs.declared.value.Value.TheVariants.{Kind, Guid, Peer, Up, Count}
-use Rattle.fact_store.specs.View.{Facts, view}
+use Rattle.fact_store.specs.View.{Facts, view, cells_of}
 use Rattle.fact_store.proofs.Entries.{entries-view}
 use Rattle.subnet_view.specs.Reading.{Cells}
 
@@ -95,6 +94,6 @@ pub facts : Facts
 facts = view cells
 
 -- the facts have these cells
-pub facts_have : entries facts ≡ cells
+pub facts_have : cells_of facts ≡ cells
 unfolding facts
 facts_have = entries-view cells

@@ -3,7 +3,7 @@ use Rattle.std.proofs.Common.{◌≡◌, ◌≤◌, ℕ, zero, suc, [], ◌++◌
 use Rattle.std.proofs.lemmas.List.{get_or_past}
 use Rattle.std.specs.Prelude.{None, Some, option_and_then, slice_get, slice_index_or}
 use Rattle.std.specs.Option.{option_map_or}
-use Rattle.std.specs.FinMap.{entries}
+use Rattle.fact_store.specs.View.{cells_of}
 use Rattle.smp_bytes.specs.declared.cable.NodePort.{NodePort}
 use Rattle.smp_bytes.specs.Fabric.{Node, IsFabric, IsCablePort, IsEndPort}
 use Rattle.smp_bytes.specs.FabricWalks.{IsWire, AreNeighbors, IsJoinedTo, IsConnected, vertex_of}
@@ -242,7 +242,7 @@ has_room : ¬ (IsNoRoom cells)
 has_room (some, none) = let k : 1024 ≤ 5 = none in omega (arith, k)
 
 module _ (part : Part) (all : (v : NodePort) → IsEndPort triangle v → part v) where
-  in_force : IsInForce part (entries facts) (plan_of (entries facts)) triangle
+  in_force : IsInForce part (cells_of facts) (plan_of (cells_of facts)) triangle
   in_force =
       record {
         is_fabric = is_fabric;
@@ -251,21 +251,21 @@ module _ (part : Part) (all : (v : NodePort) → IsEndPort triangle v → part v
             (subst (λ (c : Cells). EachPlace (λ k n. HasPlanned c triangle k n (end_of n)) triangle.nodes) (sym facts_have) rows);
       }
 
-facts_have_room : ¬ (IsNoRoom (entries facts))
+facts_have_room : ¬ (IsNoRoom (cells_of facts))
 facts_have_room = subst (λ (c : Cells). ¬ (IsNoRoom c)) (sym facts_have) has_room
 
-second_owns : owner_of (plan_of (entries facts)).given 5 ≡ Some (record { node = 512; port = 1 })
+second_owns : owner_of (plan_of (cells_of facts)).given 5 ≡ Some (record { node = 512; port = 1 })
 second_owns = subst (λ (c : Cells). owner_of (lids c) 5 ≡ Some (record { node = 512; port = 1 })) (sym facts_have) refl
 
 -- the packet for LID 5 from the first adapter arrives at the second, in what the first is joined to
-pub arrives : Arrives (IsJoinedTo triangle (port_at 3 1)) (entries facts) triangle 5 (port_at 3 1) (record { node = 512; port = 1 })
+pub arrives : Arrives (IsJoinedTo triangle (port_at 3 1)) (cells_of facts) triangle 5 (port_at 3 1) (record { node = 512; port = 1 })
 arrives =
     every_packet_arrives facts facts_have_room triangle (port_at 3 1) of_first
     (in_force (IsJoinedTo triangle (port_at 3 1)) (λ v end. is_connected (port_at 3 1) v of_first end))
     (port_at 3 1) of_first (0, refl) 5 (record { node = 512; port = 1 }) second_owns
 
 -- and in the whole, since it is connected
-pub arrives_in_whole : Arrives WholeFabric (entries facts) triangle 5 (port_at 3 1) (record { node = 512; port = 1 })
+pub arrives_in_whole : Arrives WholeFabric (cells_of facts) triangle 5 (port_at 3 1) (record { node = 512; port = 1 })
 arrives_in_whole =
     packets_arrive_if_connected facts facts_have_room triangle is_connected (in_force WholeFabric (λ v end. tt))
     (port_at 3 1) of_first 5 (record { node = 512; port = 1 }) second_owns

@@ -1,6 +1,6 @@
 -- In a connected fabric what an end port is joined to is all of it, so every packet arrives.
 use Rattle.std.specs.Prelude.{ℕ}
-use Rattle.std.specs.FinMap.{entries}
+use Rattle.fact_store.specs.View.{cells_of}
 use Rattle.smp_bytes.specs.declared.cable.NodePort.{NodePort}
 use Rattle.smp_bytes.specs.Fabric.{Node, Fabric, IsFabric, IsEndPort}
 use Rattle.smp_bytes.specs.FabricWalks.{IsJoinedTo, IsConnected, vertex_of}
@@ -52,7 +52,7 @@ module _ (f : Fabric) (origin : NodePort) (fab : IsFabric f) (connected : IsConn
 
 pub packets_arrive_if_connected : PacketsArriveIfConnected
 packets_arrive_if_connected facts has_room f connected in_force source is_end lid owner owned =
-    let cells = entries facts in
+    let cells = cells_of facts in
     let part = in_force_on_part f source in_force.is_fabric connected is_end cells (plan_of cells) in_force in
     let a = every_packet_arrives facts has_room f source is_end part source is_end (connected source source is_end is_end) lid owner owned in
     record { target = a.target; is_owner = a.is_owner; in_part = tt; hops = a.hops; delivered = a.delivered; way = a.way }

@@ -4,13 +4,12 @@
 use Rattle.std.specs.Prelude.{◌≡◌, ◌≢◌, ◌<◌, ◌≤◌, ℕ, ◌+◌, ◌*◌, Bool, not, ◌&&◌, List, [], ◌∷◌, map, filter, length, count_by, AllPairs, Some, IsTrue, slice_get}
 use Rattle.std.specs.Option.{option_map_or}
 use Rattle.std.specs.List.Sorted.{IsStrictlyIncreasing}
-use Rattle.std.specs.FinMap.{entries}
 use Rattle.smp_bytes.specs.declared.cable.NodePort.{NodePort}
 use Rattle.smp_bytes.specs.NodeType.{is_switch}
 use Rattle.smp_bytes.specs.Fabric.{Node, Fabric, IsFabric, IsEndPort, is_switch_at}
 use Rattle.smp_bytes.specs.FabricWalks.{IsJoinedTo, IsConnected}
 use Rattle.smp_bytes.specs.Forwarding.{Hop, IsDelivered}
-use Rattle.fact_store.specs.View.{Facts}
+use Rattle.fact_store.specs.View.{Facts, cells_of}
 use Rattle.subnet_view.specs.declared.end_port.EndPort.{EndPort}
 use Rattle.subnet_view.specs.Reading.{Cells}
 use Rattle.subnet_view.specs.Agreement.{Part, WholeFabric, IsEndPortIn, IsPortNamed, AgreesOn}
@@ -102,4 +101,4 @@ EveryPacketArrivesIfConnected cells plan = (f : Fabric) → IsConnected f → Is
 
 -- so it is with the plan of each view that has one
 abbrev pub PacketsArriveIfConnected : Type 0
-PacketsArriveIfConnected = (facts : Facts) → ¬ (IsNoRoom (entries facts)) → EveryPacketArrivesIfConnected (entries facts) (plan_of (entries facts))
+PacketsArriveIfConnected = (facts : Facts) → ¬ (IsNoRoom (cells_of facts)) → EveryPacketArrivesIfConnected (cells_of facts) (plan_of (cells_of facts))

@@ -1,7 +1,6 @@
 -- The laws of plans.
 use Rattle.std.specs.Prelude.{◌≡◌, ◌<◌, ℕ, ◌+◌, ◌*◌, List, Option, MatchOption, Some, slice_get}
-use Rattle.std.specs.FinMap.{entries}
-use Rattle.fact_store.specs.View.{Facts}
+use Rattle.fact_store.specs.View.{Facts, cells_of}
 use Rattle.subnet_view.specs.declared.end_port.EndPort.{EndPort}
 use Rattle.subnet_view.specs.Reading.{Cells, IsUsable}
 use Rattle.lid_assign.specs.Lids.{IsNoRoom, lids, lid_of, top_of}
@@ -14,12 +13,12 @@ use Rattle.lft_blocks.specs.Plan.{plan_of, block_at}
 
 -- once the LIDs of a view are claimed, its plan stays
 abbrev pub PlansStay : Type 0
-PlansStay = (x y : Facts) → ¬ (IsNoRoom (entries x)) → IsClaimed x y → ¬ (IsNoRoom (entries y)) × (plan_of (entries y) ≡ plan_of (entries x))
+PlansStay = (x y : Facts) → ¬ (IsNoRoom (cells_of x)) → IsClaimed x y → ¬ (IsNoRoom (cells_of y)) × (plan_of (cells_of y) ≡ plan_of (cells_of x))
 
 -- LIDs that are claimed stay in plans, whatever end ports come
 abbrev pub LidsStayInPlans : Type 0
-LidsStayInPlans = (x z : Facts) → ¬ (IsNoRoom (entries x)) → ¬ (IsNoRoom (entries z)) → GrowsFrom (entries x) (entries z)
-    → (e : EndPort) (lid : ℕ) → lid_of (plan_of (entries x)).given e ≡ Some lid → lid_of (plan_of (entries z)).given e ≡ Some lid
+LidsStayInPlans = (x z : Facts) → ¬ (IsNoRoom (cells_of x)) → ¬ (IsNoRoom (cells_of z)) → GrowsFrom (cells_of x) (cells_of z)
+    → (e : EndPort) (lid : ℕ) → lid_of (plan_of (cells_of x)).given e ≡ Some lid → lid_of (plan_of (cells_of z)).given e ≡ Some lid
 
 -- block b has the entry for the LID 64 b + i at the place i
 abbrev pub BlocksHoldEntries : Type 0
@@ -37,4 +36,4 @@ block_of cells g b = block (home_of_lid cells (lids cells)) (slopes_of (graph_of
 -- a plan has just these blocks
 abbrev pub BlocksAreOfSwitches : Type 0
 BlocksAreOfSwitches = (facts : Facts) (g b : ℕ)
-    → MatchOption (block_at (plan_of (entries facts)) g b) (¬ (HasBlock (entries facts) g b)) (λ x. HasBlock (entries facts) g b × (x ≡ block_of (entries facts) g b))
+    → MatchOption (block_at (plan_of (cells_of facts)) g b) (¬ (HasBlock (cells_of facts) g b)) (λ x. HasBlock (cells_of facts) g b × (x ≡ block_of (cells_of facts) g b))

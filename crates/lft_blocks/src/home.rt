@@ -1,5 +1,5 @@
 ghost use Rattle.std.specs.Prelude.{◌≡◌, ◌*◌, ◌≤◌, IfOk};
-ghost use Rattle.std.specs.FinMap.{entries};
+ghost use Rattle.fact_store.specs.View.{cells_of};
 ghost use Rattle.std.specs.List.Sorted.{IsStrictlyIncreasing};
 ghost use Rattle.subnet_view.specs.Reading.{switches};
 ghost use Rattle.lid_assign.specs.Lids.{top_of};
@@ -30,11 +30,11 @@ pub(crate) fn homes(
     lids: &LidMap,
     count: usize,
 ) -> Result<Vec<Option<Home>>, AllocError>
-    requires switches { guids.now ≡ switches (entries store.now) }
+    requires switches { guids.now ≡ switches (cells_of store.now) }
     requires count { count ≡ block_count (top_of lids.now) }
     requires few { count ≤ 1024 }
     ensures { IfOk result (λ homes.
-        ArePlaced guids.now (home_of_lid (entries store.now) lids.now) homes.items) }
+        ArePlaced guids.now (home_of_lid (cells_of store.now) lids.now) homes.items) }
 {
     let mut homes = Vec::with_capacity(alloc, 64 * count)?;
     for lid in 0..64 * count {
@@ -45,8 +45,8 @@ pub(crate) fn homes(
 
 /// The home of a LID. Takes some twelve searches.
 fn home_of_lid(store: &Store, guids: &[Guid], lids: &LidMap, lid: Lid) -> Option<Home>
-    requires { guids.now ≡ switches (entries store.now) }
-    ensures { IsPlaced guids.now (home_of_lid (entries store.now) lids.now lid) result }
+    requires { guids.now ≡ switches (cells_of store.now) }
+    ensures { IsPlaced guids.now (home_of_lid (cells_of store.now) lids.now lid) result }
 {
     let (guid, port) = home_of(store, lids.owner(lid)?)?;
     let switch = index_of(guids, guid)?;
@@ -55,7 +55,7 @@ fn home_of_lid(store: &Store, guids: &[Guid], lids: &LidMap, lid: Lid) -> Option
 
 /// The usable switch and the port of it at which an end port lies.
 fn home_of(store: &Store, port: EndPort) -> Option<(Guid, PortNum)>
-    ensures { result ≡ home_of (entries store.now) port }
+    ensures { result ≡ home_of (cells_of store.now) port }
 {
     if is_usable(store, port.node) {
         Some((port.node, PortNum::new(0)))

@@ -1,6 +1,6 @@
 ghost use Rattle.std.specs.Prelude.{◌≡◌, IfOk};
 ghost use Rattle.std.specs.Option.{option_copied};
-ghost use Rattle.std.specs.FinMap.{entries};
+ghost use Rattle.fact_store.specs.View.{cells_of};
 ghost use Rattle.lid_assign.specs.LidFault.{JudgesRoom};
 ghost use Rattle.lid_assign.specs.Lids.{top_of};
 ghost use Rattle.subnet_view.specs.Reading.{switches};
@@ -46,9 +46,9 @@ impl Plan {
     /// some twelve searches for each LID, and two steps for each entry. It holds 64 bytes for each block of
     /// each switch, and beside them while it is made 2 for each two switches.
     pub fn of(alloc: Global, store: &Store) -> Result<Self, PlanFault>
-        ensures judged { JudgesRoom result (entries store.now) }
-        ensures plan { IfOk result (λ plan. plan ≡ plan_of (entries store.now)) }
-        ensures arrives { IfOk result (λ plan. EveryPacketArrives (entries store.now) plan) }
+        ensures judged { JudgesRoom result (cells_of store.now) }
+        ensures plan { IfOk result (λ plan. plan ≡ plan_of (cells_of store.now)) }
+        ensures arrives { IfOk result (λ plan. EveryPacketArrives (cells_of store.now) plan) }
     {
         let lids = assign(alloc, store)?;
         let switches = switches(alloc, store)?;
@@ -110,10 +110,10 @@ fn tables_of(
     guids: &[Guid],
     lids: &LidMap,
 ) -> Result<Vec<Table>, AllocError>
-    requires switches { guids.now ≡ switches (entries store.now) }
-    requires routes { routes.now ≡ graph_of (entries store.now) }
+    requires switches { guids.now ≡ switches (cells_of store.now) }
+    requires routes { routes.now ≡ graph_of (cells_of store.now) }
     ensures { IfOk result (λ tables. tables.items
-        ≡ tables_of (home_of_lid (entries store.now) lids.now) (slopes_of routes.now)
+        ≡ tables_of (home_of_lid (cells_of store.now) lids.now) (slopes_of routes.now)
         (block_count (top_of lids.now)) guids.now) }
 {
     let count = block_count(lids.top());

@@ -4,9 +4,8 @@ use Rattle.std.proofs.Common.{subst, arith, Bool, true, not, map, length}
 use Rattle.std.proofs.lemmas.Bool.{eqb-true, eq-eqb, not-true, not_from_false, both_ways, cases_Bool, cases_lt}
 use Rattle.std.specs.Prelude.{Contains, Option, None, Some}
 use Rattle.std.specs.List.{list_any}
-use Rattle.std.specs.FinMap.{entries}
 use Rattle.subnet_view.specs.declared.end_port.EndPort.{EndPort}
-use Rattle.fact_store.specs.View.{Facts}
+use Rattle.fact_store.specs.View.{Facts, cells_of}
 use Rattle.subnet_view.specs.Reading.{Cells}
 use Rattle.subnet_view.specs.EndPorts.{end_ports}
 use Rattle.lid_assign.specs.Lids.{count_up}
@@ -124,8 +123,8 @@ module _ (cells : Cells) (apart : Apart (end_ports cells)) where
       }
 
 -- no end port has two LIDs
-pub ports_apart : (x : Facts) → ¬ (IsNoRoom (entries x)) → Apart (map (λ g. g.0) (lids (entries x)))
-ports_apart x room_for_all = subst (λ (es : List EndPort). Apart es) (sym (ports-lids (entries x) room_for_all)) (end_ports_apart x)
+pub ports_apart : (x : Facts) → ¬ (IsNoRoom (cells_of x)) → Apart (map (λ g. g.0) (lids (cells_of x)))
+ports_apart x room_for_all = subst (λ (es : List EndPort). Apart es) (sym (ports-lids (cells_of x) room_for_all)) (end_ports_apart x)
 
 pub lids_law : LidsLaw
-lids_law facts = lids_law_of (entries facts) (end_ports_apart facts)
+lids_law facts = lids_law_of (cells_of facts) (end_ports_apart facts)

@@ -3,7 +3,7 @@ use Rattle.std.proofs.Common.{◌≡◌, ℕ, List, refl, sym, ap, true, ◌==�
 use Rattle.std.proofs.lemmas.Bool.{eqb-true, eq-eqb, and_parts, and_from}
 use Rattle.std.specs.Prelude.{Contains, Option, None, Some, option_map}
 use Rattle.std.specs.List.{find}
-use Rattle.std.specs.FinMap.{entries}
+use Rattle.fact_store.specs.View.{cells_of}
 use Rattle.subnet_view.specs.declared.end_port.EndPort.{EndPort}
 use Rattle.subnet_view.proofs.Apart.{Apart, found_there, find_only, same_from_apart}
 use Rattle.subnet_view.proofs.Members.{contains_as}
@@ -46,7 +46,7 @@ module _ (given : List (EndPort × ℕ)) where
 
 pub owners_are_inverse : OwnersAreInverse
 owners_are_inverse facts room_for_all e lid =
-    let cells = entries facts in (
+    let cells = cells_of facts in (
       λ h. lid-from_given (lids cells) (ports_apart facts room_for_all) e lid (given-from_owner (lids cells) e lid h),
       λ h. owner-from_given (lids cells) (lids_apart cells) e lid (given-from_lid (lids cells) e lid h),
     )

@@ -3,7 +3,7 @@ use Rattle.std.proofs.Common.{◌≡◌, ◌<◌, ℕ, List, [], ◌∷◌, ◌+
 use Rattle.std.proofs.lemmas.List.{append_assoc}
 use Rattle.std.proofs.lemmas.List.Elements.{Contains-append_left, Contains-append_cases, Contains-push, Contains-push_cases}
 use Rattle.std.specs.Prelude.{Contains, Option, None, Some}
-use Rattle.std.specs.FinMap.{entries}
+use Rattle.fact_store.specs.View.{cells_of}
 use Rattle.subnet_view.specs.declared.end_port.EndPort.{EndPort}
 use Rattle.subnet_view.specs.Reading.{Cells}
 use Rattle.subnet_view.specs.EndPorts.{end_ports}
@@ -167,4 +167,4 @@ module _ (cells : Cells) (apart : Apart (end_ports cells)) (given : Given) (law 
       (record { rise = free_rise cells; are_free = λ n h. h; not_given = λ n f h g. contains_none (f, n) g; all = λ n h. inl h })
 
 pub lids_are_unique : LidsAreUnique
-lids_are_unique facts given law = unique_lids (entries facts) (end_ports_apart facts) given law
+lids_are_unique facts given law = unique_lids (cells_of facts) (end_ports_apart facts) given law

@@ -2,9 +2,8 @@
 use Rattle.std.specs.Prelude.{◌≡◌, ◌≢◌, ◌↔◌, ◌<◌, ◌≤◌, ◌-◌, ℕ, zero, suc, Bool, false, List, [], ◌∷◌, ◌++◌, min, max, map, filter, length, Contains, Option, None, Some, ◌==◌, ◌&&◌, not, nat_le, nat_lt, option_map, is_some, if◌then◌else◌}
 use Rattle.std.specs.Option.{option_map_or}
 use Rattle.std.specs.List.{filter_map, list_any, find, AllPairs}
-use Rattle.std.specs.FinMap.{entries}
 use Rattle.subnet_view.specs.declared.end_port.EndPort.{EndPort}
-use Rattle.fact_store.specs.View.{Facts}
+use Rattle.fact_store.specs.View.{Facts, cells_of}
 use Rattle.subnet_view.specs.Reading.{Cells, cap_of, claim_of, switches}
 use Rattle.subnet_view.specs.EndPorts.{end_ports}
 
@@ -122,15 +121,15 @@ pub record AreLids (cells : Cells) (given : List (EndPort × ℕ)) : Type 0 wher
 
 -- where there is room, the LIDs are so
 abbrev pub LidsLaw : Type 0
-LidsLaw = (facts : Facts) → ¬ (IsNoRoom (entries facts)) → AreLids (entries facts) (lids (entries facts))
+LidsLaw = (facts : Facts) → ¬ (IsNoRoom (cells_of facts)) → AreLids (cells_of facts) (lids (cells_of facts))
 
 -- and nothing else is so
 abbrev pub LidsAreUnique : Type 0
-LidsAreUnique = (facts : Facts) (given : List (EndPort × ℕ)) → AreLids (entries facts) given → given ≡ lids (entries facts)
+LidsAreUnique = (facts : Facts) (given : List (EndPort × ℕ)) → AreLids (cells_of facts) given → given ≡ lids (cells_of facts)
 
 -- who owns a LID has it, and who has it owns it
 abbrev pub OwnersAreInverse : Type 0
-OwnersAreInverse = (facts : Facts) → ¬ (IsNoRoom (entries facts)) → (e : EndPort) (lid : ℕ) → (owner_of (lids (entries facts)) lid ≡ Some e) ↔ (lid_of (lids (entries facts)) e ≡ Some lid)
+OwnersAreInverse = (facts : Facts) → ¬ (IsNoRoom (cells_of facts)) → (e : EndPort) (lid : ℕ) → (owner_of (lids (cells_of facts)) lid ≡ Some e) ↔ (lid_of (lids (cells_of facts)) e ≡ Some lid)
 
 -- the rising LIDs are those that are given, each once
 abbrev pub RisingLidsLaw : Type 0

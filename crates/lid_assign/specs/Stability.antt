@@ -1,9 +1,8 @@
 -- When LIDs stay as they are.
 use Rattle.std.specs.Prelude.{◌≡◌, ◌≢◌, ◌<◌, ◌⊎◌, ℕ, Contains, None, Some}
-use Rattle.std.specs.FinMap.{get, entries}
 use Rattle.fact_store.specs.declared.key.Key.{Key}
 use Rattle.fact_store.specs.declared.key.Key.TheVariants.{Claim}
-use Rattle.fact_store.specs.View.{Facts}
+use Rattle.fact_store.specs.View.{Facts, cell_for, cells_of}
 use Rattle.subnet_view.specs.declared.end_port.EndPort.{EndPort}
 use Rattle.subnet_view.specs.Reading.{Cells, claim_of}
 use Rattle.subnet_view.specs.EndPorts.{end_ports}
@@ -11,7 +10,7 @@ use Rattle.lid_assign.specs.Lids.{IsNoRoom, room, lids, lid_of, top_of}
 
 -- two views say the same of everything but claims
 abbrev pub DifferInClaims : Facts → Facts → Type 0
-DifferInClaims x y = (key : Key) → ((g p : ℕ) → key ≢ Claim g p) → get x key ≡ get y key
+DifferInClaims x y = (key : Key) → ((g p : ℕ) → key ≢ Claim g p) → cell_for x key ≡ cell_for y key
 
 -- each end port of the first claims in the second the LID that it has in the first
 abbrev pub ClaimLids : Cells → Cells → Type 0
@@ -20,11 +19,11 @@ ClaimLids x y = (e : EndPort) (lid : ℕ) → lid_of (lids x) e ≡ Some lid →
 -- the second view is the first once its LIDs are claimed
 pub record IsClaimed (x y : Facts) : Type 0 where
   pub same : DifferInClaims x y
-  pub claimed : ClaimLids (entries x) (entries y)
+  pub claimed : ClaimLids (cells_of x) (cells_of y)
 
 -- once the LIDs of a view are claimed, they are given again
 abbrev pub LidsSettle : Type 0
-LidsSettle = (x y : Facts) → ¬ (IsNoRoom (entries x)) → IsClaimed x y → ¬ (IsNoRoom (entries y)) × (lids (entries y) ≡ lids (entries x))
+LidsSettle = (x y : Facts) → ¬ (IsNoRoom (cells_of x)) → IsClaimed x y → ¬ (IsNoRoom (cells_of y)) × (lids (cells_of y) ≡ lids (cells_of x))
 
 -- the end port claims nothing, or 0
 abbrev pub ClaimsNothing : Cells → EndPort → Type 0
@@ -39,5 +38,5 @@ pub record GrowsFrom (x z : Cells) : Type 0 where
 
 -- LIDs that are claimed stay, whatever end ports come
 abbrev pub LidsStay : Type 0
-LidsStay = (x z : Facts) → ¬ (IsNoRoom (entries x)) → ¬ (IsNoRoom (entries z)) → GrowsFrom (entries x) (entries z)
-    → (e : EndPort) (lid : ℕ) → lid_of (lids (entries x)) e ≡ Some lid → lid_of (lids (entries z)) e ≡ Some lid
+LidsStay = (x z : Facts) → ¬ (IsNoRoom (cells_of x)) → ¬ (IsNoRoom (cells_of z)) → GrowsFrom (cells_of x) (cells_of z)
+    → (e : EndPort) (lid : ℕ) → lid_of (lids (cells_of x)) e ≡ Some lid → lid_of (lids (cells_of z)) e ≡ Some lid

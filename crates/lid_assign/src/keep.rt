@@ -1,5 +1,5 @@
 ghost use Rattle.std.specs.Prelude.{◌≡◌, false, length, replicate, IfOk, OnOk};
-ghost use Rattle.std.specs.FinMap.{entries};
+ghost use Rattle.fact_store.specs.View.{cells_of};
 ghost use Rattle.subnet_view.specs.EndPorts.{end_ports};
 ghost use Rattle.lid_assign.specs.Lids.{room, kept};
 ghost use Rattle.lid_assign.specs.Marks.{unmarked, with_mark, AreTaken};
@@ -17,10 +17,10 @@ pub(crate) fn keep_claims(
     ports: &[EndPort],
     marks: &mut [bool],
 ) -> Result<Vec<(EndPort, Option<Lid>)>, AllocError>
-    requires ports { ports.now ≡ end_ports (entries store.now) }
-    requires unmarked { marks.old ≡ replicate (room (entries store.now)) false }
-    ensures kept { IfOk result (λ keepers. keepers.items ≡ kept (entries store.now)) }
-    ensures taken { OnOk result (AreTaken (entries store.now) marks.new) }
+    requires ports { ports.now ≡ end_ports (cells_of store.now) }
+    requires unmarked { marks.old ≡ replicate (room (cells_of store.now)) false }
+    ensures kept { IfOk result (λ keepers. keepers.items ≡ kept (cells_of store.now)) }
+    ensures taken { OnOk result (AreTaken (cells_of store.now) marks.new) }
 {
     let mut keepers = Vec::with_capacity(alloc, ports.len())?;
     for port in ports {

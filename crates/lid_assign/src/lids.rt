@@ -1,5 +1,5 @@
 ghost use Rattle.std.specs.Prelude.{◌≡◌, IfOk};
-ghost use Rattle.std.specs.FinMap.{entries};
+ghost use Rattle.fact_store.specs.View.{cells_of};
 ghost use Rattle.subnet_view.specs.EndPorts.{end_ports};
 ghost use Rattle.lid_assign.specs.Lids.{room, lids, IsNoRoom};
 ghost use Rattle.lid_assign.specs.LidFault.{JudgesRoom};
@@ -18,8 +18,8 @@ use subnet_view::{EndPort, end_ports};
 /// every usable switch's table and no earlier end port claims it; the others take the numbers that are
 /// left, rising. Walks the cells once, and takes a search for each end port.
 pub fn assign(alloc: Global, store: &Store) -> Result<LidMap, LidFault>
-    ensures judged { JudgesRoom result (entries store.now) }
-    ensures lids { IfOk result (λ map. map ≡ lids (entries store.now)) }
+    ensures judged { JudgesRoom result (cells_of store.now) }
+    ensures lids { IfOk result (λ map. map ≡ lids (cells_of store.now)) }
 {
     let room = room(alloc, store)?;
     let ports = end_ports(alloc, store)?;
@@ -40,10 +40,10 @@ fn given(
     ports: &[EndPort],
     most: u16,
 ) -> Result<Vec<(EndPort, Lid)>, AllocError>
-    requires ports { ports.now ≡ end_ports (entries store.now) }
-    requires room { most ≡ room (entries store.now) }
-    requires enough { ¬ (IsNoRoom (entries store.now)) }
-    ensures { IfOk result (λ given. given.items ≡ lids (entries store.now)) }
+    requires ports { ports.now ≡ end_ports (cells_of store.now) }
+    requires room { most ≡ room (cells_of store.now) }
+    requires enough { ¬ (IsNoRoom (cells_of store.now)) }
+    ensures { IfOk result (λ given. given.items ≡ lids (cells_of store.now)) }
 {
     let mut marks = vec![in alloc; false; usize::from(most)]?;
     let keepers = keep_claims(alloc, store, ports, &mut marks)?;

@@ -6,7 +6,7 @@ use Rattle.std.specs.Option.{option_map_or}
 use Rattle.std.specs.List.{find, AllPairs}
 use Rattle.std.specs.declared.cmp.Ordering.TheVariants.{Less, Equal, Greater}
 use Rattle.std.specs.Ordering.{is_lt, ordering_then}
-use Rattle.std.specs.FinMap.{entries}
+use Rattle.fact_store.specs.View.{cells_of}
 use Rattle.subnet_view.specs.declared.end_port.EndPort.{EndPort}
 use Rattle.subnet_view.specs.Reading.{Cells, port_guid_of}
 use Rattle.subnet_view.specs.EndPorts.{comes_before, ComesBefore}
@@ -115,5 +115,5 @@ module _ (cells : Cells) (port_guid port : ℕ) where
 
 pub own_lid_law : OwnLidLaw
 own_lid_law facts room_for_all port_guid port =
-    own_lid_is (entries facts) port_guid port (lids (entries facts))
-    (subst (λ (es : List EndPort). AllPairs (ComesBefore (entries facts)) es) (sym (ports-lids (entries facts) room_for_all)) (end_ports_law facts).1)
+    own_lid_is (cells_of facts) port_guid port (lids (cells_of facts))
+    (subst (λ (es : List EndPort). AllPairs (ComesBefore (cells_of facts)) es) (sym (ports-lids (cells_of facts) room_for_all)) (end_ports_law facts).1)

@@ -7,7 +7,9 @@ use Rattle.std.specs.Prelude.{None, Some, IsSome, Contains, is_some, nat_lt, opt
 use Rattle.std.specs.List.{filter_map, cons_option, AllPairs}
 use Rattle.std.specs.declared.cmp.Ordering.TheVariants.{Less, Equal, Greater}
 use Rattle.std.specs.Ordering.{is_lt, ordering_then}
-use Rattle.std.specs.FinMap.{find, is_sorted, entries, entries_sorted}
+use Rattle.std.specs.FinMap.{find, is_sorted}
+use Rattle.fact_store.specs.View.{cells_of}
+use Rattle.fact_store.proofs.Entries.{cells_in_order}
 use Rattle.std.specs.FinMap.Entries.{below_all}
 use Rattle.fact_join.specs.declared.cell.Cell.{Cell}
 use Rattle.fact_store.specs.declared.key.Key.{Key}
@@ -87,6 +89,6 @@ rise_with_keys cells (e ∷ es) s =
 
 pub wired_ports_law : WiredPortsLaw
 wired_ports_law facts = (
-  λ g p. (listed_is_wired (entries facts) g p, wired_is_listed (entries facts) g p),
-  rise_with_keys (entries facts) (entries facts) (true_from _ (entries_sorted facts)),
+  λ g p. (listed_is_wired (cells_of facts) g p, wired_is_listed (cells_of facts) g p),
+  rise_with_keys (cells_of facts) (cells_of facts) (true_from _ (cells_in_order facts)),
 )

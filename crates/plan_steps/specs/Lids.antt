@@ -3,13 +3,12 @@
 use Rattle.std.specs.Prelude.{◌≡◌, ◌≤◌, ◌⊎◌, ℕ, Bool, false, List, Contains, Option, Some, ◌==◌, ◌&&◌, option_and_then, replicate}
 use Rattle.std.specs.Option.{option_map_or}
 use Rattle.std.specs.List.{filter_map, find}
-use Rattle.std.specs.FinMap.{entries}
 use Rattle.smp_bytes.specs.Field.{with_bits, with_number}
 use Rattle.smp_bytes.specs.Header.{port_info}
 use Rattle.attr_codec.specs.PortInfo.{base_lid, master_sm_lid, port_state, number_of_state}
 use Rattle.attr_codec.specs.declared.port_state.PortState.{PortState}
 use Rattle.attr_codec.specs.declared.port_state.PortState.TheVariants.{NoChange}
-use Rattle.fact_store.specs.View.{Facts}
+use Rattle.fact_store.specs.View.{Facts, cells_of}
 use Rattle.subnet_view.specs.declared.end_port.EndPort.{EndPort}
 use Rattle.subnet_view.specs.Reading.{Cells, port_guid_of}
 use Rattle.lid_assign.specs.Lids.{owner_of, rising_lids, lids, IsNoRoom}
@@ -66,5 +65,5 @@ IsOwnLidOr0 cells given port_guid port lid = IsOwnLid cells given port_guid port
 -- where there is room, the LID of the manager is so
 abbrev pub OwnLidLaw : Type 0
 OwnLidLaw =
-    (facts : Facts) → ¬ (IsNoRoom (entries facts)) → (port_guid port : ℕ)
-    → IsOwnLidOr0 (entries facts) (lids (entries facts)) port_guid port (own_lid (entries facts) (lids (entries facts)) port_guid port)
+    (facts : Facts) → ¬ (IsNoRoom (cells_of facts)) → (port_guid port : ℕ)
+    → IsOwnLidOr0 (cells_of facts) (lids (cells_of facts)) port_guid port (own_lid (cells_of facts) (lids (cells_of facts)) port_guid port)

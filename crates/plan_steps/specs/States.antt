@@ -3,7 +3,6 @@
 use Rattle.std.specs.Prelude.{◌≡◌, ◌↔◌, ℕ, Bool, true, false, List, Contains, Option, Some, None, IsSome, is_some, if◌then◌else◌}
 use Rattle.std.specs.Option.{option_map_or}
 use Rattle.std.specs.List.{filter_map, AllPairs}
-use Rattle.std.specs.FinMap.{entries}
 use Rattle.smp_bytes.specs.Header.{port_info}
 use Rattle.attr_codec.specs.declared.port_state.PortState.{PortState}
 use Rattle.attr_codec.specs.declared.port_state.PortState.TheVariants.{Initialize, Armed, Active}
@@ -11,7 +10,7 @@ use Rattle.fact_join.specs.declared.cell.Cell.{Cell}
 use Rattle.fact_store.specs.declared.key.Key.{Key}
 use Rattle.fact_store.specs.declared.key.Key.TheVariants.{Link}
 use Rattle.fact_store.specs.declared.value.Value.{Value}
-use Rattle.fact_store.specs.View.{Facts}
+use Rattle.fact_store.specs.View.{Facts, cells_of}
 use Rattle.subnet_view.specs.declared.end_port.EndPort.{EndPort}
 use Rattle.subnet_view.specs.Reading.{Cells, is_usable}
 use Rattle.subnet_view.specs.Wires.{across}
@@ -69,4 +68,4 @@ abbrev pub AreWiredPorts : Cells → List (ℕ × ℕ) → Type 0
 AreWiredPorts cells ports = HasWiredPorts cells ports × AllPairs (λ a b. is_before a b ≡ true) ports
 
 abbrev pub WiredPortsLaw : Type 0
-WiredPortsLaw = (facts : Facts) → AreWiredPorts (entries facts) (wired_ports (entries facts))
+WiredPortsLaw = (facts : Facts) → AreWiredPorts (cells_of facts) (wired_ports (cells_of facts))

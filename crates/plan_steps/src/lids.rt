@@ -1,5 +1,5 @@
 ghost use Rattle.std.specs.Prelude.{◌≡◌, IfOk};
-ghost use Rattle.std.specs.FinMap.{entries};
+ghost use Rattle.fact_store.specs.View.{cells_of};
 ghost use Rattle.plan_steps.specs.Lids.{is_own_port, own_lid, port_data};
 ghost use Rattle.plan_steps.specs.Lids.{lid_step, lid_steps, owner_step};
 
@@ -15,7 +15,7 @@ use sweep::Sweep;
 /// The LID of the manager at the port of a GUID and a number: that of the first such end port, by
 /// node GUID, and 0 where there is none. Takes a search for each end port of the number.
 pub(crate) fn own_lid(store: &Store, lids: &LidMap, own_guid: Guid, port: PortNum) -> Lid
-    ensures { result ≡ own_lid (entries store.now) lids.now own_guid port }
+    ensures { result ≡ own_lid (cells_of store.now) lids.now own_guid port }
 {
     for (end, lid) in lids.given() {
         if is_own_port(store, *end, own_guid, port) {
@@ -27,7 +27,7 @@ pub(crate) fn own_lid(store: &Store, lids: &LidMap, own_guid: Guid, port: PortNu
 
 /// Whether an end port has this number, and is known to have this GUID.
 fn is_own_port(store: &Store, end: EndPort, own_guid: Guid, port: PortNum) -> bool
-    ensures { result ≡ is_own_port (entries store.now) own_guid port end }
+    ensures { result ≡ is_own_port (cells_of store.now) own_guid port end }
 {
     end.port == port && port_guid(store, end.node, end.port) == Some(own_guid)
 }

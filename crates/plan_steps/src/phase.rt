@@ -1,5 +1,5 @@
 ghost use Rattle.std.specs.Prelude.{◌≡◌, IfOk};
-ghost use Rattle.std.specs.FinMap.{entries};
+ghost use Rattle.fact_store.specs.View.{cells_of};
 ghost use Rattle.plan_steps.specs.Phases.{phases_by, phases_of};
 
 use crate::lids::{lid_steps, own_lid};
@@ -49,7 +49,7 @@ pub fn phases(
     port: PortNum,
 ) -> Result<VecDeque<Phase>, AllocError>
     ensures { IfOk result (λ phases. phases.items
-        ≡ phases_of plan.now (entries store.now) sweep.now port_guid port) }
+        ≡ phases_of plan.now (cells_of store.now) sweep.now port_guid port) }
 {
     let master = own_lid(store, plan.lids(), port_guid, port);
     phases_by(alloc, plan, store, sweep, master)
@@ -64,7 +64,7 @@ fn phases_by(
     master: Lid,
 ) -> Result<VecDeque<Phase>, AllocError>
     ensures { IfOk result (λ phases. phases.items
-        ≡ phases_by plan.now (entries store.now) sweep.now master) }
+        ≡ phases_by plan.now (cells_of store.now) sweep.now master) }
 {
     let lids = plan.lids();
     let mut phases = VecDeque::with_capacity(alloc, 5)?;

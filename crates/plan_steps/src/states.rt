@@ -1,7 +1,7 @@
 ghost use Rattle.std.specs.Prelude.{◌≡◌, IfOk, false};
 ghost use Rattle.std.specs.List.{filter_map};
 ghost use Rattle.std.specs.Option.{option_map_or};
-ghost use Rattle.std.specs.FinMap.{entries};
+ghost use Rattle.fact_store.specs.View.{cells_of};
 ghost use Rattle.sweep.specs.Sweep.{seen_state};
 ghost use Rattle.plan_steps.specs.States.{is_due, state_data, state_step, vertex_port};
 ghost use Rattle.plan_steps.specs.States.{wired_port, wired_ports};
@@ -18,7 +18,7 @@ use sweep::Sweep;
 
 /// The ports on wires, both ends of each, by node GUID and port. Walks the cells.
 pub(crate) fn wired_ports(alloc: Global, store: &Store) -> Result<Vec<(Guid, PortNum)>, AllocError>
-    ensures { IfOk result (λ ports. ports.items ≡ wired_ports (entries store.now)) }
+    ensures { IfOk result (λ ports. ports.items ≡ wired_ports (cells_of store.now)) }
 {
     let mut ports = Vec::new(alloc);
     for sighting in store.cells() {
@@ -31,7 +31,7 @@ pub(crate) fn wired_ports(alloc: Global, store: &Store) -> Result<Vec<(Guid, Por
 
 /// The port of a cell, where the cell is its link and it is on a wire.
 fn wired_port(store: &Store, sighting: &Sighting) -> Option<(Guid, PortNum)>
-    ensures { result ≡ wired_port (entries store.now) sighting.now }
+    ensures { result ≡ wired_port (cells_of store.now) sighting.now }
 {
     match sighting.key() {
         Key::Link(guid, port) => {
@@ -58,7 +58,7 @@ pub(crate) fn state_steps(
     state: PortState,
 ) -> Result<Vec<Step>, AllocError>
     ensures { IfOk result (λ steps. steps.items
-        ≡ filter_map (state_step (entries store.now) sweep.now lids.now master state) ports.now) }
+        ≡ filter_map (state_step (cells_of store.now) sweep.now lids.now master state) ports.now) }
 {
     let mut steps = Vec::new(alloc);
     for at in ports {
@@ -79,7 +79,7 @@ fn state_step(
     guid: Guid,
     port: PortNum,
 ) -> Option<Step>
-    ensures { result ≡ state_step (entries store.now) sweep.now lids.now master state (guid, port) }
+    ensures { result ≡ state_step (cells_of store.now) sweep.now lids.now master state (guid, port) }
 {
     if !is_still_due(sweep, state, guid, port) {
         return None;
@@ -117,7 +117,7 @@ fn is_due(state: PortState, seen: PortState) -> bool
 
 /// The vertex of a port on a wire: its switch by port 0, or the adapter's port itself.
 fn vertex_port(store: &Store, guid: Guid, port: PortNum) -> PortNum
-    ensures { result ≡ vertex_port (entries store.now) (guid, port) }
+    ensures { result ≡ vertex_port (cells_of store.now) (guid, port) }
 {
     if is_usable(store, guid) {
         PortNum::new(0)

@@ -3,12 +3,12 @@ use Rattle.std.proofs.Common.{◌≡◌, ℕ, ◌-◌, ◌^◌, ◌<◌, List, [
 use Rattle.std.proofs.Common.{take, append-nil}
 use Rattle.std.specs.Prelude.{Option}
 use Rattle.std.specs.List.{AllByRecursion, concat, flat_map}
-use Rattle.std.specs.FinMap.{entries, entries_sorted}
 use Rattle.std.proofs.lemmas.List.Concat.{flat_map-append}
 use Rattle.std.proofs.lemmas.List.Folds.{concat-append}
 use Rattle.std.proofs.lemmas.List.{take_all}
 use Rattle.fact_store.specs.declared.key.Key.{Key}
-use Rattle.fact_store.specs.View.{Facts}
+use Rattle.fact_store.specs.View.{Facts, cells_of}
+use Rattle.fact_store.proofs.Entries.{cells_in_order}
 use Rattle.record_file.specs.declared.format.Format.TheVariants.{Cells, Reports}
 use Rattle.record_file.specs.Laws.{AreParts, IsGoodReport, IsReportFile, report_file}
 use Rattle.record_file.specs.RecordFile.{kept, last_key, magic, outcome, records, told_by}
@@ -101,10 +101,10 @@ part_of_store part es rise all is short =
     let read = read_back part facts.0 (record { whole = is ∙ ap store_bytes (sym facts.1); in_range = facts.2; short = short }) in
     (read.0, read.1 ∙ facts.1)
 
-pub split_store : (whole front back : List ℕ) (facts : Facts) (first second : Sightings) → IsStoreFile whole facts → entries facts ≡ first ++ second
+pub split_store : (whole front back : List ℕ) (facts : Facts) (first second : Sightings) → IsStoreFile whole facts → cells_of facts ≡ first ++ second
     → front ≡ store_bytes first → back ≡ store_bytes second → AreParts whole front back
 split_store whole front back facts first second w split f b =
-    let rise : Rise None (first ++ second) = subst (λ (es : Sightings). Rise None es) split (sorted_rise (entries facts) (entries_sorted facts)) in
+    let rise : Rise None (first ++ second) = subst (λ (es : Sightings). Rise None es) split (sorted_rise (cells_of facts) (cells_in_order facts)) in
     let all : AllSightings (first ++ second) = subst (λ (es : Sightings). AllSightings es) split (in_range_sightings facts w.in_range) in
     let joined : whole ≡ magic Cells ++ (flat_map record_bytes first ++ flat_map record_bytes second) = w.whole ∙ ap store_bytes split
     ∙ ap (λ l. magic Cells ++ l) (flat_map-append record_bytes first second) in

@@ -5,14 +5,15 @@ use Rattle.std.specs.Prelude.{T, Contains, option_map}
 use Rattle.std.specs.declared.cmp.Ordering.TheVariants.{Less}
 use Rattle.std.specs.Ordering.{is_lt}
 use Rattle.std.specs.List.{concat, flat_map}
-use Rattle.std.specs.FinMap.{empty, entries, entries_sorted, entries-from_sorted, from_sorted}
+use Rattle.std.specs.FinMap.{entries-from_sorted, from_sorted}
 use Rattle.std.specs.FinMap.Entries.{below_all, is_sorted}
 use Rattle.fact_join.specs.declared.cell.Cell.{Cell}
 use Rattle.fact_store.specs.declared.key.Key.{Key}
 use Rattle.fact_store.specs.declared.value.Value.{Value}
 use Rattle.fact_store.specs.Key.{is_above, key_cmp}
 use Rattle.fact_store.specs.Sighting.{AreInRange, IsSighting}
-use Rattle.fact_store.specs.View.{Facts, view}
+use Rattle.fact_store.specs.View.{Facts, view, cells_of, no_facts}
+use Rattle.fact_store.proofs.Entries.{cells_in_order}
 use Rattle.fact_store.proofs.Keys.{key_total}
 use Rattle.fact_store.proofs.Merges.{merge_empty}
 use Rattle.smp_bytes.proofs.Members.{contains_cases, contains_here, contains_later, contains_none}
@@ -171,47 +172,47 @@ flat : (es : Sightings) → flat_map record_bytes es ≡ concat (map record_byte
 flat [] = refl
 flat (e ∷ es) = ap (λ l. record_bytes e ++ l) (flat es)
 
-pub in_range_sightings : (facts : Facts) → AreInRange facts → AllSightings (entries facts)
-in_range_sightings facts h = all_sightings (entries facts) (λ e there. h e.0 e.1 (contained_get facts e.0 e.1 there))
+pub in_range_sightings : (facts : Facts) → AreInRange facts → AllSightings (cells_of facts)
+in_range_sightings facts h = all_sightings (cells_of facts) (λ e there. h e.0 e.1 (contained_get facts e.0 e.1 there))
 
-facts_spelled : (facts : Facts) → AreInRange facts → Spelled None 0 (entries facts)
-facts_spelled facts h = spelled None 0 (entries facts) (sorted_rise (entries facts) (entries_sorted facts)) (in_range_sightings facts h)
+facts_spelled : (facts : Facts) → AreInRange facts → Spelled None 0 (cells_of facts)
+facts_spelled facts h = spelled None 0 (cells_of facts) (sorted_rise (cells_of facts) (cells_in_order facts)) (in_range_sightings facts h)
 
-whole_file : (facts : Facts) → store_bytes (entries facts) ≡ magic Cells ++ concat (map record_bytes (entries facts))
-whole_file facts = ap (λ l. magic Cells ++ l) (flat (entries facts))
+whole_file : (facts : Facts) → store_bytes (cells_of facts) ≡ magic Cells ++ concat (map record_bytes (cells_of facts))
+whole_file facts = ap (λ l. magic Cells ++ l) (flat (cells_of facts))
 
-store_is_file : (bytes : List ℕ) (facts : Facts) → IsStoreFile bytes facts → IsFile Cells bytes (map record_bytes (entries facts))
+store_is_file : (bytes : List ℕ) (facts : Facts) → IsStoreFile bytes facts → IsFile Cells bytes (map record_bytes (cells_of facts))
 store_is_file bytes facts is =
     let spells = facts_spelled facts is.in_range in
     record { whole = is.whole ∙ whole_file facts; records = spells.records; good = spells.good; short = is.short }
 
 -- the records of a store file
-records-file : (facts : Facts) → AreInRange facts → records 32 (drop 8 (store_bytes (entries facts))) ≡ map record_bytes (entries facts)
+records-file : (facts : Facts) → AreInRange facts → records 32 (drop 8 (store_bytes (cells_of facts))) ≡ map record_bytes (cells_of facts)
 records-file facts h =
-    let rs = map record_bytes (entries facts) in
+    let rs = map record_bytes (cells_of facts) in
     ap (λ l. records 32 (drop 8 l)) (whole_file facts) ∙ ap (records 32) (sym (append-nil (concat rs)))
     ∙ records-concat 32 rs [] (omega arith) (facts_spelled facts h).records
     ∙ ap (λ l. rs ++ l) (records-short 32 [] (omega arith)) ∙ append-nil rs
 
 pub read_back : FactsAreReadBack
 read_back bytes facts is =
-    let ok = file_is_accepted Cells bytes (map record_bytes (entries facts)) (store_is_file bytes facts is) in
+    let ok = file_is_accepted Cells bytes (map record_bytes (cells_of facts)) (store_is_file bytes facts is) in
     let reach = (accepted_is_file Cells bytes ok.0 ok.1).0 in
     let rs = reach ∙ ap (λ l. records 32 (drop 8 l)) is.whole ∙ records-file facts is.in_range in
-    let keeps : kept bytes ≡ entries facts =
-    ap kept (is.whole ∙ whole_file facts) ∙ kept-magic Cells (concat (map record_bytes (entries facts)))
+    let keeps : kept bytes ≡ cells_of facts =
+    ap kept (is.whole ∙ whole_file facts) ∙ kept-magic Cells (concat (map record_bytes (cells_of facts)))
     ∙ ap (λ b. told_by Cells None (records_in_reach Cells b)) (sym (is.whole ∙ whole_file facts))
     ∙ ap (told_by Cells None) rs ∙ (facts_spelled facts is.in_range).told in
     (ok.1, keeps, ap view keeps ∙ view_of_its_cells facts)
 
 -- the facts whose entries these are
-pub facts_with : (es : Sightings) → Rise None es → AllSightings es → (facts : Facts) × (entries facts ≡ es) × AreInRange facts
+pub facts_with : (es : Sightings) → Rise None es → AllSightings es → (facts : Facts) × (cells_of facts ≡ es) × AreInRange facts
 facts_with es rise sightings =
     let facts : Facts = from_sorted es in
-    let same : entries facts ≡ es = entries-from_sorted key_cmp es (rising_sorted es rise) in
+    let same : cells_of facts ≡ es = entries-from_sorted key_cmp es (rising_sorted es rise) in
     let P : Sightings → Type 0 = AllSightings in
     let all = subst P (sym same) sightings in
-    (facts, same, λ key c there. sighting_there (entries facts) all (key, c) (get_contained facts key c there))
+    (facts, same, λ key c there. sighting_there (cells_of facts) all (key, c) (get_contained facts key c there))
 
 pub store_files_are_accepted : StoreFilesAreAccepted
 store_files_are_accepted bytes = (
@@ -226,7 +227,7 @@ store_files_are_accepted bytes = (
           short = is.short;
         },
       )),
-  (λ file. file_is_accepted Cells bytes (map record_bytes (entries file.0)) (store_is_file bytes file.0 file.1)),
+  (λ file. file_is_accepted Cells bytes (map record_bytes (cells_of file.0)) (store_is_file bytes file.0 file.1)),
 )
 
 pub one_spelling : FactsHaveOneSpelling
@@ -246,5 +247,5 @@ taken_whole left left' n m bytes rest old new before after h =
 
 pub absorbing_reads_back : {S : Type 0} (left : S → Option (List ℕ)) (interruptions : S → ℕ) → AbsorbingReadsBack left interruptions
 absorbing_reads_back left interruptions source source' bytes rest facts new before after is absorbed =
-    let whole = taken_whole (left source) (left source') (interruptions source) (interruptions source') bytes rest empty new before after absorbed in
+    let whole = taken_whole (left source) (left source') (interruptions source) (interruptions source') bytes rest no_facts new before after absorbed in
     absorbed.held ∙ merge_empty (view (kept absorbed.taken)) ∙ ap (λ b. view (kept b)) whole ∙ (read_back bytes facts is).2

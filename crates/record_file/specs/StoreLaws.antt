@@ -1,11 +1,10 @@
 -- Laws of store files.
 use Rattle.std.specs.Prelude.{◌≡◌, ◌↔◌, ℕ, ◌<◌, ◌^◌, List, Option, Some, Ok, length}
-use Rattle.std.specs.FinMap.{empty, entries}
 use Rattle.fact_join.specs.declared.cell.Cell.{Cell}
 use Rattle.fact_store.specs.declared.key.Key.{Key}
 use Rattle.fact_store.specs.declared.value.Value.{Value}
 use Rattle.fact_store.specs.Sighting.{AreInRange, IsSighting}
-use Rattle.fact_store.specs.View.{Facts, view}
+use Rattle.fact_store.specs.View.{Facts, view, cells_of, no_facts}
 use Rattle.record_file.specs.declared.format.Format.TheVariants.{Cells}
 use Rattle.record_file.specs.Absorbs.{Absorbs}
 use Rattle.record_file.specs.CellRecord.{cell_of, record_bytes}
@@ -18,7 +17,7 @@ RecordsAreSpellings = (bytes : List ℕ) (e : Key × Cell Value) → (cell_of by
 
 -- the store file of facts in range, in fewer than 2^40 bytes
 pub record IsStoreFile (bytes : List ℕ) (facts : Facts) : Type 0 where
-  pub whole : bytes ≡ store_bytes (entries facts)
+  pub whole : bytes ≡ store_bytes (cells_of facts)
   pub in_range : AreInRange facts
   pub short : length bytes < 2 ^ 40
 
@@ -29,14 +28,14 @@ StoreFilesAreAccepted = (bytes : List ℕ) → ((format_of bytes ≡ Some Cells)
 -- and what is kept of them is the cells of these facts, so it says what they say
 abbrev pub FactsAreReadBack : Type 0
 FactsAreReadBack =
-    (bytes : List ℕ) (facts : Facts) → IsStoreFile bytes facts → (outcome bytes ≡ Ok tt) × (kept bytes ≡ entries facts) × (view (kept bytes) ≡ facts)
+    (bytes : List ℕ) (facts : Facts) → IsStoreFile bytes facts → (outcome bytes ≡ Ok tt) × (kept bytes ≡ cells_of facts) × (view (kept bytes) ≡ facts)
 
 -- different facts have different store files
 abbrev pub FactsHaveOneSpelling : Type 0
-FactsHaveOneSpelling = (x y : Facts) → AreInRange x → AreInRange y → store_bytes (entries x) ≡ store_bytes (entries y) → x ≡ y
+FactsHaveOneSpelling = (x y : Facts) → AreInRange x → AreInRange y → store_bytes (cells_of x) ≡ store_bytes (cells_of y) → x ≡ y
 
 -- and whoever absorbs the whole file of some facts into an empty store holds these facts
 abbrev pub AbsorbingReadsBack : {S : Type 0} → (S → Option (List ℕ)) → (S → ℕ) → Type 0
 AbsorbingReadsBack {S} left interruptions =
     (source source' : S) (bytes rest : List ℕ) (facts new : Facts) → left source ≡ Some bytes → left source' ≡ Some rest → IsStoreFile bytes facts
-    → Absorbs left interruptions (Ok tt) source source' empty new → new ≡ facts
+    → Absorbs left interruptions (Ok tt) source source' no_facts new → new ≡ facts

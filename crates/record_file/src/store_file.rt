@@ -1,6 +1,6 @@
 //! Store files: a record of 32 bytes for each cell in the order of the keys, behind their magic.
 ghost use Rattle.std.specs.Prelude.{◌≡◌, length, IsTrue, OnOk, option_and_then};
-ghost use Rattle.std.specs.FinMap.{entries};
+ghost use Rattle.fact_store.specs.View.{cells_of};
 ghost use Rattle.fact_store.specs.Sighting.{AreInRange};
 ghost use Rattle.record_file.specs.CellRecord.{candidate, cell_of as cell_in, cell_value_bytes, filled_up, if_sighting, key_guid, key_of as key_with, key_port, kind_byte, record_bytes, state_byte, value_bytes, value_of as value_in};
 ghost use Rattle.record_file.specs.StoreFile.{store_bytes};
@@ -22,7 +22,7 @@ const VALUE_LEN: usize = 16;
 /// keys, and flushes. It takes no memory of its own. How much went out before a failure isn't said.
 pub fn write_store<W: Sink>(sink: &mut W, store: &Store) -> Result<(), WriteFault>
     ensures writes { Writes W.written W.has_failed result sink.old sink.new
-        (store_bytes (entries store.now)) }
+        (store_bytes (cells_of store.now)) }
     ensures in_range { OnOk result (AreInRange store.now) }
     ensures flushed { OnOk result (IsTrue (W.is_flushed sink.new)) }
 {

@@ -6,8 +6,7 @@ use Rattle.std.proofs.lemmas.List.{get_or-set_same, flat_map_more}
 use Rattle.std.proofs.lemmas.Option.{slice_get-get_or}
 use Rattle.std.specs.Prelude.{nat_lt, IfSome, slice_get}
 use Rattle.std.specs.List.{flat_map}
-use Rattle.std.specs.FinMap.{empty}
-use Rattle.fact_store.specs.View.{Facts, view}
+use Rattle.fact_store.specs.View.{Facts, view, no_facts}
 use Rattle.fact_store.specs.Merge.{merge}
 use Rattle.fact_store.proofs.Merges.{merge_empty}
 use Rattle.fact_store.proofs.Views.{view_of_both}
@@ -108,7 +107,7 @@ module _ {S : Type 0} (left : S → Option (List ℕ)) (has_failed : S → Bool)
   -- a source was absorbed into an empty store, which was then merged into another
   pub reads_into :
       (interruptions : S → ℕ) (u : Unit {0}) (old new : S) (fresh store all sum : Facts)
-      → fresh ≡ empty → Absorbs left interruptions (Ok u) old new fresh store → has_failed new ≡ false → sum ≡ merge all store
+      → fresh ≡ no_facts → Absorbs left interruptions (Ok u) old new fresh store → has_failed new ≡ false → sum ≡ merge all store
       → ReadsInto left has_failed old new all sum
   reads_into interruptions u old new fresh store all sum is_fresh a works e = record {
     file = a.taken;

@@ -1,11 +1,10 @@
 -- What a run over files does: it reads all of them, and writes what they say together, or says which one it refuses.
 use Rattle.std.specs.Prelude.{◌≡◌, ◌↔◌, ℕ, Bool, false, List, [], Option, Some, Ok, Err, IsTrue, length, slice_get}
 use Rattle.std.specs.List.{flat_map}
-use Rattle.std.specs.FinMap.{entries}
 use Rattle.std.specs.Io.KnownBytes.{Appends, Consumes, IsAtEnd}
 use Rattle.fact_store.specs.Sighting.{AreInRange}
 use Rattle.fact_store.specs.Merge.{merge}
-use Rattle.fact_store.specs.View.{Facts, view}
+use Rattle.fact_store.specs.View.{Facts, view, cells_of}
 use Rattle.record_file.specs.Absorbs.{AnswersKnown, AnswersOutcome, HasNoFaultYet, IsDecided, WasInterruptedTooOften}
 use Rattle.record_file.specs.RecordFile.{kept, outcome}
 use Rattle.record_file.specs.StoreFile.{store_bytes}
@@ -28,15 +27,15 @@ facts_of files = view (flat_map kept files)
 
 -- what a command writes of the facts
 abbrev pub answer_to : Command → Facts → List ℕ
-answer_to commands.Facts facts = facts_text (entries facts)
-answer_to commands.Join facts = store_bytes (entries facts)
-answer_to commands.Plan facts = plan_text (plan_of (entries facts))
+answer_to commands.Facts facts = facts_text (cells_of facts)
+answer_to commands.Join facts = store_bytes (cells_of facts)
+answer_to commands.Plan facts = plan_text (plan_of (cells_of facts))
 
 -- what is so of facts that a command answers: they are in range, and a plan has room for their LIDs
 abbrev pub IsAnswered : Command → Facts → Type 0
 IsAnswered commands.Facts facts = AreInRange facts
 IsAnswered commands.Join facts = AreInRange facts
-IsAnswered commands.Plan facts = ¬ (IsNoRoom (entries facts))
+IsAnswered commands.Plan facts = ¬ (IsNoRoom (cells_of facts))
 
 -- there are so many end ports, for which the LIDs below so much room are too few
 pub record LacksRoom (cells : Cells) (endports most : ℕ) : Type 0 where
@@ -49,7 +48,7 @@ abbrev pub IsAnswerFault : Command → Facts → Bool → Fault → Type 0
 IsAnswerFault command facts sink_failed (Open place) = ⊥
 IsAnswerFault command facts sink_failed (File place fault) = ⊥
 IsAnswerFault command facts sink_failed (Text place fault) = ⊥
-IsAnswerFault command facts sink_failed (NoRoom endports most) = (command ≡ commands.Plan) × LacksRoom (entries facts) endports most
+IsAnswerFault command facts sink_failed (NoRoom endports most) = (command ≡ commands.Plan) × LacksRoom (cells_of facts) endports most
 IsAnswerFault command facts sink_failed Write = IsTrue sink_failed
 IsAnswerFault command facts sink_failed Memory = command ≡ commands.Plan
 

@@ -1,11 +1,10 @@
 -- What the answer of a run depends on.
 use Rattle.std.specs.Prelude.{◌≡◌, ℕ, List, ◌∷◌, ◌++◌, Ok, Contains}
 use Rattle.std.specs.List.{flat_map}
-use Rattle.std.specs.FinMap.{entries}
 use Rattle.fact_join.specs.declared.cell.Cell.{Cell}
 use Rattle.fact_store.specs.declared.key.Key.{Key}
 use Rattle.fact_store.specs.declared.value.Value.{Value}
-use Rattle.fact_store.specs.View.{Facts, HaveSameMembers}
+use Rattle.fact_store.specs.View.{Facts, HaveSameMembers, cells_of}
 use Rattle.record_file.specs.Laws.{IsReportFile, report_file}
 use Rattle.record_file.specs.RecordFile.{kept, outcome}
 use Rattle.record_file.specs.StoreFile.{store_bytes}
@@ -42,4 +41,4 @@ SplitFileStands = (command : Command) (whole front back : List ℕ) (first secon
 
 -- and the parts of a store file
 abbrev pub SplitStoreStands : Type 0
-SplitStoreStands = (command : Command) (whole front back : List ℕ) (facts : Facts) (first second : List (Key × Cell Value)) (others : List (List ℕ)) → IsStoreFile whole facts → entries facts ≡ first ++ second → front ≡ store_bytes first → back ≡ store_bytes second → StandFor command whole front back others
+SplitStoreStands = (command : Command) (whole front back : List ℕ) (facts : Facts) (first second : List (Key × Cell Value)) (others : List (List ℕ)) → IsStoreFile whole facts → cells_of facts ≡ first ++ second → front ≡ store_bytes first → back ≡ store_bytes second → StandFor command whole front back others

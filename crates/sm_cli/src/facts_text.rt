@@ -1,6 +1,6 @@
 //! The facts of a store as text, a line for each cell.
 ghost use Rattle.std.specs.Prelude.{◌≡◌, IsTrue, OnOk};
-ghost use Rattle.std.specs.FinMap.{entries};
+ghost use Rattle.fact_store.specs.View.{cells_of};
 ghost use Rattle.record_file.specs.Writes.{Writes};
 ghost use Rattle.fact_store.specs.Sighting.{AreInRange};
 ghost use Rattle.sm_cli.specs.FactsText.{kind_word, place_text, key_text, value_text, cell_text, fact_text, line_text, facts_text};
@@ -95,7 +95,7 @@ pub fn write_cell<W: Sink>(sink: &mut W, cell: &Sighting) -> Result<(), WriteFau
 
 /// Writes the line of each cell in the order of the keys, and flushes. It takes no memory.
 pub fn write_facts<W: Sink>(sink: &mut W, store: &Store) -> Result<(), WriteFault>
-    ensures writes { Writes W.written W.has_failed result sink.old sink.new (facts_text (entries store.now)) }
+    ensures writes { Writes W.written W.has_failed result sink.old sink.new (facts_text (cells_of store.now)) }
     ensures flushed { OnOk result (IsTrue (W.is_flushed sink.new)) }
     ensures in_range { OnOk result (AreInRange store.now) }
 {

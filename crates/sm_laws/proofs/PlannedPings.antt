@@ -3,7 +3,7 @@ use Rattle.std.proofs.Common.{◌≡◌, ◌≤◌, ℕ, refl, ap, ◌∙◌, ar
 use Rattle.std.proofs.lemmas.Bool.{and_from, le-leb}
 use Rattle.std.specs.Prelude.{None, Some, MatchBool, nat_le, slice_get}
 use Rattle.std.specs.Option.{option_map_or}
-use Rattle.std.specs.FinMap.{entries}
+use Rattle.fact_store.specs.View.{cells_of}
 use Rattle.smp_bytes.specs.declared.cable.NodePort.{NodePort}
 use Rattle.smp_bytes.specs.NodeType.{is_switch as is_switch_type}
 use Rattle.smp_bytes.specs.Fabric.{Node, IsEndPort, is_switch_at}
@@ -49,7 +49,7 @@ end_is_port s p (node, at, number) =
 
 pub pings_arrive : PingsArrive
 pings_arrive facts s origin has_room is is_origin agrees holds source is_end joined lid owner owned =
-    let in_force : IsInForce (IsJoinedTo (fabric_of s) origin) (entries facts) (plan_of (entries facts)) (fabric_of s) =
+    let in_force : IsInForce (IsJoinedTo (fabric_of s) origin) (cells_of facts) (plan_of (cells_of facts)) (fabric_of s) =
     record { is_fabric = simulations_are_fabrics s is; agrees = agrees; holds = holds } in
     let a = every_packet_arrives facts has_room (fabric_of s) origin is_origin in_force source is_end joined lid owner owned in
     record {

@@ -1,11 +1,10 @@
 -- Pings in a simulated fabric where a plan is in force.
 -- InfiniBand Architecture Specification, Volume 1: switches, unicast forwarding by the linear forwarding table.
 use Rattle.std.specs.Prelude.{◌≡◌, ℕ, length, None, Some}
-use Rattle.std.specs.FinMap.{entries}
 use Rattle.smp_bytes.specs.declared.cable.NodePort.{NodePort}
 use Rattle.smp_bytes.specs.Fabric.{IsEndPort}
 use Rattle.smp_bytes.specs.FabricWalks.{IsJoinedTo}
-use Rattle.fact_store.specs.View.{Facts}
+use Rattle.fact_store.specs.View.{Facts, cells_of}
 use Rattle.subnet_view.specs.declared.end_port.EndPort.{EndPort}
 use Rattle.subnet_view.specs.Reading.{Cells}
 use Rattle.subnet_view.specs.Agreement.{Part, AgreesOn}
@@ -29,7 +28,7 @@ EachPingArrives cells plan s origin = (source : NodePort) → IsEndPort (fabric_
 
 -- where the facts agree with what an end port is joined to, and their plan is held there, pings arrive there
 abbrev pub PingsArrive : Type 0
-PingsArrive = (facts : Facts) (s : Simulation) (origin : NodePort) → ¬ (IsNoRoom (entries facts)) → IsSimulation s → IsEndPort (fabric_of s) origin
-    → AgreesOn (IsJoinedTo (fabric_of s) origin) (entries facts) (fabric_of s)
-    → HoldsPlan (IsJoinedTo (fabric_of s) origin) (plan_of (entries facts)) (fabric_of s)
-    → EachPingArrives (entries facts) (plan_of (entries facts)) s origin
+PingsArrive = (facts : Facts) (s : Simulation) (origin : NodePort) → ¬ (IsNoRoom (cells_of facts)) → IsSimulation s → IsEndPort (fabric_of s) origin
+    → AgreesOn (IsJoinedTo (fabric_of s) origin) (cells_of facts) (fabric_of s)
+    → HoldsPlan (IsJoinedTo (fabric_of s) origin) (plan_of (cells_of facts)) (fabric_of s)
+    → EachPingArrives (cells_of facts) (plan_of (cells_of facts)) s origin

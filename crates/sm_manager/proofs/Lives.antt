@@ -3,12 +3,11 @@ use Rattle.std.proofs.Common.{◌≡◌, ℕ, Bool, true, false, cond, List, [],
 use Rattle.std.proofs.lemmas.Bool.{cond_both}
 use Rattle.std.proofs.lemmas.List.{append_assoc, append-nil}
 use Rattle.std.specs.Prelude.{◌^◌, ◌==◌, nat_le, Option, Some, None, Result, Ok, Err, is_none}
-use Rattle.std.specs.FinMap.{empty, entries}
 use Rattle.smp_bytes.specs.Packet.{fault_of, status}
 use Rattle.smp_bytes.specs.declared.smp_fault.SmpFault.{SmpFault}
 use Rattle.fact_store.specs.Merge.{merge}
 use Rattle.fact_store.specs.Report.{Told}
-use Rattle.fact_store.specs.View.{Facts, view}
+use Rattle.fact_store.specs.View.{Facts, view, cells_of, no_facts}
 use Rattle.fact_store.proofs.Merges.{merge_empty, merge_is_commutative}
 use Rattle.fact_store.proofs.Views.{members_decide_view, view_of_both}
 use Rattle.sweep.specs.declared.answer.Answer.{Answer}
@@ -33,7 +32,7 @@ Takes : Manager → Told → Manager → Type 0
 Takes m told after = after.store ≡ merge m.store (view told)
 
 nothing_taken : (m : Manager) (x : Facts) → x ≡ m.store → x ≡ merge m.store (view [])
-nothing_taken m x e = e ∙ sym (merge_is_commutative m.store empty ∙ merge_empty m.store)
+nothing_taken m x e = e ∙ sym (merge_is_commutative m.store no_facts ∙ merge_empty m.store)
 
 module _ (m : Manager) where
   takes_answer : (bytes : List ℕ) (s : Sweep) (r : Result Answer SweepFault) → Takes m (told_if r) (answered_by m s bytes r).manager
@@ -123,4 +122,4 @@ same_taken_in_same_plan guid port priority guid' port' priority' calls calls' sa
     knows_what_it_took_in guid port priority calls
     ∙ members_decide_view (taken_in calls (new_manager guid port priority)) (taken_in calls' (new_manager guid' port' priority')) same
     ∙ sym (knows_what_it_took_in guid' port' priority' calls') in
-    record { facts = facts; plan = ap (λ x. plan_of (entries x)) facts }
+    record { facts = facts; plan = ap (λ x. plan_of (cells_of x)) facts }

@@ -1,8 +1,7 @@
 -- A manager's life: one call after the other.
 use Rattle.std.specs.Prelude.{◌≡◌, ℕ, List, [], ◌∷◌, ◌++◌, Option, Some, None, Result, Ok, Err, if◌then◌else◌, is_none}
-use Rattle.std.specs.FinMap.{entries}
 use Rattle.fact_store.specs.Report.{Told}
-use Rattle.fact_store.specs.View.{view, HaveSameMembers}
+use Rattle.fact_store.specs.View.{view, HaveSameMembers, cells_of}
 use Rattle.smp_bytes.specs.Packet.{fault_of}
 use Rattle.smp_bytes.specs.declared.smp_fault.SmpFault.{SmpFault}
 use Rattle.sweep.specs.declared.answer.Answer.{Answer}
@@ -73,7 +72,7 @@ KnowsWhatItTookIn = (port_guid port priority : ℕ) (calls : List Call) →
 -- two managers that took in the same, in whatever order and however often, know the same and plan the same
 pub record KnowTheSame (one other : Manager) : Type 0 where
   pub facts : one.store ≡ other.store
-  pub plan : plan_of (entries one.store) ≡ plan_of (entries other.store)
+  pub plan : plan_of (cells_of one.store) ≡ plan_of (cells_of other.store)
 
 abbrev pub SameTakenInSamePlan : Type 0
 SameTakenInSamePlan = (guid port priority guid' port' priority' : ℕ) (calls calls' : List Call) →

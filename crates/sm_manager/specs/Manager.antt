@@ -1,8 +1,7 @@
 -- A subnet manager: what it knows, its last sweep, and what it is about to send; and what it is asked to do.
 -- InfiniBand Architecture Specification, Volume 1: subnet management, subnet manager; topology discovery.
 use Rattle.std.specs.Prelude.{◌≡◌, ℕ, ◌+◌, ◌-◌, ◌^◌, Bool, false, ◌||◌, not, List, [], ◌∷◌, ◌++◌, map, ◌==◌, if◌then◌else◌, Option, Some, None, option_map}
-use Rattle.std.specs.FinMap.{empty, entries}
-use Rattle.fact_store.specs.View.{Facts, newest_of}
+use Rattle.fact_store.specs.View.{Facts, newest_of, cells_of, no_facts}
 use Rattle.plan_steps.specs.Phases.{Phase}
 use Rattle.fact_store.specs.Merge.{merge}
 use Rattle.sweep.specs.declared.request.Request.{Request}
@@ -42,7 +41,7 @@ new_manager port_guid port priority =
       port_guid = port_guid;
       port = port;
       priority = priority;
-      store = empty;
+      store = no_facts;
       sweep = None;
       has_swept = false;
       writing = None;
@@ -92,7 +91,7 @@ after_sweep m = record m { has_swept = m.has_swept || is_over m.sweep }
 
 -- the greatest generation of a fact, 0 where there is none
 abbrev pub newest_held : Facts → ℕ
-newest_held facts = newest_of (map (λ e. e.1) (entries facts))
+newest_held facts = newest_of (map (λ e. e.1) (cells_of facts))
 
 -- why no sweep begins: one runs, or the newest generation is the greatest that there is
 abbrev pub begin_fault : Manager → Option ManagerFault

@@ -1,6 +1,6 @@
 -- When a manager has no plan, and when it begins no writing.
 use Rattle.std.specs.Prelude.{◌≡◌, ℕ, ◌^◌, Bool, ◌&&◌, nat_lt, nat_le, if◌then◌else◌, Option, Some, None, Result, Ok, Err, length}
-use Rattle.std.specs.FinMap.{entries}
+use Rattle.fact_store.specs.View.{cells_of}
 use Rattle.subnet_view.specs.Reading.{Cells}
 use Rattle.subnet_view.specs.EndPorts.{end_ports}
 use Rattle.lid_assign.specs.Lids.{IsNoRoom, room}
@@ -36,7 +36,7 @@ or_else (Some why) other = Some why
 
 -- why there is nothing to be written: what goes on forbids it, or there is no plan
 abbrev pub planned_fault : Manager → Option ManagerFault
-planned_fault m = or_else (write_fault m) (plan_fault (entries m.store))
+planned_fault m = or_else (write_fault m) (plan_fault (cells_of m.store))
 
 -- a number is needed that 32 bits do not hold
 abbrev pub number_fault : ℕ → Option ManagerFault

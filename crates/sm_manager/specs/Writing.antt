@@ -2,7 +2,7 @@
 -- InfiniBand Architecture Specification, Volume 1: subnet initialization; linear forwarding tables; port states.
 use Rattle.std.specs.Prelude.{◌≡◌, ℕ, suc, ◌+◌, ◌^◌, Bool, true, false, ◌&&◌, ◌||◌, not, List, [], ◌∷◌, ◌++◌, length, map, filter, drop, nat_lt, ◌==◌, if◌then◌else◌, Option, Some, None}
 use Rattle.std.specs.List.{list_any}
-use Rattle.std.specs.FinMap.{entries}
+use Rattle.fact_store.specs.View.{cells_of}
 use Rattle.lft_blocks.specs.Plan.{plan_of}
 use Rattle.plan_steps.specs.declared.step.Step.{Step}
 use Rattle.plan_steps.specs.Phases.{Phase, phases_of}
@@ -82,7 +82,7 @@ write_fault m = write_fault_with m m.sweep
 -- the phases of the plan of what it knows, over the paths of its last sweep
 abbrev pub phases_by : Manager → Option Sweep → List Phase
 phases_by m None = []
-phases_by m (Some s) = phases_of (plan_of (entries m.store)) (entries m.store) s m.port_guid m.port
+phases_by m (Some s) = phases_of (plan_of (cells_of m.store)) (cells_of m.store) s m.port_guid m.port
 
 -- the first of these phases is sent
 abbrev pub begun_with : Manager → List Phase → Manager

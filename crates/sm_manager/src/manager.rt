@@ -1,5 +1,5 @@
 ghost use Rattle.std.specs.Prelude.{◌≡◌, IfOk, OnOk, OnErr, slice_get};
-ghost use Rattle.std.specs.FinMap.{entries};
+ghost use Rattle.fact_store.specs.View.{cells_of};
 ghost use Rattle.lft_blocks.specs.Arrival.{EveryPacketArrives};
 ghost use Rattle.lft_blocks.specs.Plan.{plan_of};
 ghost use Rattle.sm_manager.specs.Manager.{begin_fault, merged, new_manager, outstanding, progress_of, sweep_begun, taken};
@@ -124,9 +124,9 @@ impl Manager {
     ///
     /// `NoRoom` and `Memory`.
     pub fn plan(&self) -> Result<Plan, ManagerFault>
-        ensures judged { JudgesPlan result (entries self.now.store) }
-        ensures plan { IfOk result (λ plan. plan ≡ plan_of (entries self.now.store)) }
-        ensures arrives { IfOk result (λ plan. EveryPacketArrives (entries self.now.store) plan) }
+        ensures judged { JudgesPlan result (cells_of self.now.store) }
+        ensures plan { IfOk result (λ plan. plan ≡ plan_of (cells_of self.now.store)) }
+        ensures arrives { IfOk result (λ plan. EveryPacketArrives (cells_of self.now.store) plan) }
     {
         match Plan::of(self.alloc, &self.store) {
             Ok(plan) => Ok(plan),

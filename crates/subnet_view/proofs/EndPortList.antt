@@ -4,7 +4,7 @@ use Rattle.std.proofs.lemmas.Bool.{and_parts}
 use Rattle.std.proofs.lemmas.List.Kept.{AllPairs-cons}
 use Rattle.std.specs.Prelude.{Contains, None, Some, is_some, option_map}
 use Rattle.std.specs.List.{filter_map, AllPairs}
-use Rattle.std.specs.FinMap.{entries}
+use Rattle.fact_store.specs.View.{cells_of}
 use Rattle.std.specs.FinMap.Entries.{find}
 use Rattle.std.specs.Ordering.{is_lt}
 use Rattle.fact_join.specs.declared.cell.Cell.{Cell}
@@ -100,6 +100,6 @@ module _ (cells : Cells) where
 
 pub end_ports_law : EndPortsLaw
 end_ports_law facts = (
-  λ e. (listed_is (entries facts) e, is_listed (entries facts) e),
-  in_pairs (entries facts) (in_order (found (entries facts))) (in_order_rises (found (entries facts)) (found_apart facts)) (λ x h. (ordered_is (entries facts) x h).1),
+  λ e. (listed_is (cells_of facts) e, is_listed (cells_of facts) e),
+  in_pairs (cells_of facts) (in_order (found (cells_of facts))) (in_order_rises (found (cells_of facts)) (found_apart facts)) (λ x h. (ordered_is (cells_of facts) x h).1),
 )

@@ -5,14 +5,14 @@ use Rattle.std.specs.Prelude.{Contains, None, Some, option_map}
 use Rattle.std.specs.List.{filter_map, cons_option}
 use Rattle.std.specs.Ordering.{is_lt}
 use Rattle.std.specs.Cmp.{tied_itself}
-use Rattle.std.specs.FinMap.{entries, entries_sorted}
 use Rattle.std.specs.FinMap.Entries.{is_sorted, below_all}
 use Rattle.fact_join.specs.declared.cell.Cell.{Cell}
 use Rattle.fact_store.specs.declared.key.Key.{Key}
 use Rattle.fact_store.specs.declared.key.Key.TheVariants.{Node, PortGuid, Link, Port, Claim, Cap}
 use Rattle.fact_store.specs.declared.value.Value.{Value}
 use Rattle.fact_store.specs.Key.{key_cmp}
-use Rattle.fact_store.specs.View.{Facts}
+use Rattle.fact_store.specs.View.{Facts, cells_of}
+use Rattle.fact_store.proofs.Entries.{cells_in_order}
 use Rattle.subnet_view.specs.declared.end_port.EndPort.{EndPort}
 use Rattle.subnet_view.specs.Reading.{Cells, port_guid_of}
 use Rattle.subnet_view.specs.EndPorts.{is_end_port_place, guid_and_port, comes_before, put_in_order, in_order, end_ports}
@@ -138,17 +138,17 @@ in_order_apart : (xs : List (ℕ × EndPort)) → Apart (map (λ x. x.1) xs) →
 in_order_apart [] a = tt
 in_order_apart (x ∷ xs) a = put_apart x (in_order xs) (λ h. a.0 (in_order_from xs x.1 h), in_order_apart xs a.1)
 
-pub end_ports_apart : (facts : Facts) → Apart (end_ports (entries facts))
+pub end_ports_apart : (facts : Facts) → Apart (end_ports (cells_of facts))
 end_ports_apart facts =
-    let keys = keys_apart (entries facts) (true_from _ (entries_sorted facts)) in
-    in_order_apart (filter_map (guid_and_port (entries facts)) (entries facts)) (named_apart (entries facts) (entries facts) keys)
+    let keys = keys_apart (cells_of facts) (true_from _ (cells_in_order facts)) in
+    in_order_apart (filter_map (guid_and_port (cells_of facts)) (cells_of facts)) (named_apart (cells_of facts) (cells_of facts) keys)
 
 -- the end ports with their GUIDs, in the order of keys
 abbrev pub found_end_ports : Facts → List (ℕ × EndPort)
-found_end_ports facts = filter_map (guid_and_port (entries facts)) (entries facts)
+found_end_ports facts = filter_map (guid_and_port (cells_of facts)) (cells_of facts)
 
 -- no end port is found twice
 pub found_apart : (facts : Facts) → Apart (found_end_ports facts)
 found_apart facts =
-    let keys = keys_apart (entries facts) (true_from _ (entries_sorted facts)) in
-    apart-from_map (λ x. x.1) (found_end_ports facts) (named_apart (entries facts) (entries facts) keys)
+    let keys = keys_apart (cells_of facts) (true_from _ (cells_in_order facts)) in
+    apart-from_map (λ x. x.1) (found_end_ports facts) (named_apart (cells_of facts) (cells_of facts) keys)

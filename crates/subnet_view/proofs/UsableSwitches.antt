@@ -8,7 +8,9 @@ use Rattle.std.specs.Option.{option_map_or}
 use Rattle.std.specs.List.{filter_map, cons_option, AllPairs}
 use Rattle.std.specs.declared.cmp.Ordering.TheVariants.{Less, Equal, Greater}
 use Rattle.std.specs.Ordering.{is_lt, ordering_then}
-use Rattle.std.specs.FinMap.{find, is_sorted, entries, entries_sorted}
+use Rattle.std.specs.FinMap.{find, is_sorted}
+use Rattle.fact_store.specs.View.{cells_of}
+use Rattle.fact_store.proofs.Entries.{cells_in_order}
 use Rattle.std.specs.FinMap.Entries.{below_all}
 use Rattle.smp_bytes.specs.declared.node_type.NodeType.{NodeType}
 use Rattle.smp_bytes.specs.declared.node_type.NodeType.TheVariants.{ChannelAdapter, Switch, Router}
@@ -103,6 +105,6 @@ usable_switch cells g u =
 
 pub switches_law : SwitchesLaw
 switches_law facts = (
-  λ g. (switch_usable (entries facts) g, usable_switch (entries facts) g),
-  rise_with_keys (entries facts) (entries facts) (true_from _ (entries_sorted facts)),
+  λ g. (switch_usable (cells_of facts) g, usable_switch (cells_of facts) g),
+  rise_with_keys (cells_of facts) (cells_of facts) (true_from _ (cells_in_order facts)),
 )

@@ -4,14 +4,13 @@ use Rattle.std.specs.List.{filter_map, AllPairs}
 use Rattle.std.specs.declared.cmp.Ordering.{Ordering}
 use Rattle.std.specs.Ordering.{nat_cmp, is_lt}
 use Rattle.std.specs.Cmp.Lexicographic.{slice_cmp}
-use Rattle.std.specs.FinMap.{entries}
 use Rattle.smp_bytes.specs.declared.node_type.NodeType.{NodeType}
 use Rattle.smp_bytes.specs.NodeType.{is_switch}
 use Rattle.fact_join.specs.declared.cell.Cell.{Cell}
 use Rattle.fact_store.specs.declared.key.Key.{Key}
 use Rattle.fact_store.specs.declared.key.Key.TheVariants.{PortGuid}
 use Rattle.fact_store.specs.declared.value.Value.{Value}
-use Rattle.fact_store.specs.View.{Facts}
+use Rattle.fact_store.specs.View.{Facts, cells_of}
 use Rattle.subnet_view.specs.declared.end_port.EndPort.{EndPort}
 use Rattle.subnet_view.specs.Reading.{Cells, node_of, port_guid_of, is_switch_node, is_port_of}
 
@@ -78,4 +77,4 @@ HasEndPorts cells ports = (e : EndPort) → Contains ports e ↔ IsEndPort cells
 
 -- the end ports, each once, in their order
 abbrev pub EndPortsLaw : Type 0
-EndPortsLaw = (facts : Facts) → HasEndPorts (entries facts) (end_ports (entries facts)) × AllPairs (ComesBefore (entries facts)) (end_ports (entries facts))
+EndPortsLaw = (facts : Facts) → HasEndPorts (cells_of facts) (end_ports (cells_of facts)) × AllPairs (ComesBefore (cells_of facts)) (end_ports (cells_of facts))

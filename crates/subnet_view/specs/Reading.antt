@@ -2,7 +2,7 @@
 use Rattle.std.specs.Prelude.{◌≡◌, ◌↔◌, ◌<◌, ℕ, Bool, false, List, Contains, Option, None, Some, IsTrue, IsSome, is_some, nat_le, ◌&&◌, if◌then◌else◌}
 use Rattle.std.specs.Option.{option_map_or}
 use Rattle.std.specs.List.{filter_map, AllPairs}
-use Rattle.std.specs.FinMap.{find, entries}
+use Rattle.std.specs.FinMap.{find}
 use Rattle.smp_bytes.specs.declared.node_type.NodeType.{NodeType}
 use Rattle.smp_bytes.specs.declared.node_type.NodeType.TheVariants.{Switch}
 use Rattle.smp_bytes.specs.NodeType.{is_switch}
@@ -12,7 +12,7 @@ use Rattle.fact_store.specs.declared.key.Key.TheVariants.{Node, PortGuid, Link, 
 use Rattle.fact_store.specs.declared.value.Value.{Value}
 use Rattle.fact_store.specs.Key.{key_cmp}
 use Rattle.fact_store.specs.Known.{value_in, kind_in, guid_in, peer_in, up_in, lid_in, count_in}
-use Rattle.fact_store.specs.View.{Facts}
+use Rattle.fact_store.specs.View.{Facts, cells_of}
 
 -- the cells of facts with their keys, in the order of keys
 abbrev pub Cells : Type 0
@@ -91,4 +91,4 @@ HasSwitches cells guids = (g : ℕ) → Contains guids g ↔ IsUsable cells g
 
 -- the usable switches, each once, by rising GUID
 abbrev pub SwitchesLaw : Type 0
-SwitchesLaw = (facts : Facts) → HasSwitches (entries facts) (switches (entries facts)) × AllPairs (λ a b. a < b) (switches (entries facts))
+SwitchesLaw = (facts : Facts) → HasSwitches (cells_of facts) (switches (cells_of facts)) × AllPairs (λ a b. a < b) (switches (cells_of facts))

@@ -1,7 +1,7 @@
 ghost use Rattle.std.specs.Prelude.{◌≡◌, map, IfOk};
 ghost use Rattle.std.specs.List.{filter_map};
 ghost use Rattle.std.specs.List.Sorted.{IsPermutation, IsSorted};
-ghost use Rattle.std.specs.FinMap.{entries};
+ghost use Rattle.fact_store.specs.View.{cells_of};
 ghost use Rattle.subnet_view.specs.EndPorts.{is_end_port, is_end_port_place, guid_and_port, port_numbers, port_cmp, in_order, end_ports};
 
 use crate::reading::{is_port, is_switch, port_guid};
@@ -21,21 +21,21 @@ pub struct EndPort {
 /// Whether a port is an end port: port 0 of a switch, or a port of another node, with a known GUID.
 /// Takes three searches.
 pub fn is_end_port(store: &Store, node: Guid, port: PortNum) -> bool
-    ensures { result ≡ is_end_port (entries store.now) node port }
+    ensures { result ≡ is_end_port (cells_of store.now) node port }
 {
     is_end_port_place(store, node, port) && port_guid(store, node, port).is_some()
 }
 
 /// The end ports, by port GUID, then node GUID, then port. Walks the cells, and sorts.
 pub fn end_ports(alloc: Global, store: &Store) -> Result<Vec<EndPort>, Refused>
-    ensures { IfOk result (λ ports. ports.items ≡ end_ports (entries store.now)) }
+    ensures { IfOk result (λ ports. ports.items ≡ end_ports (cells_of store.now)) }
 {
     Ok(listed_end_ports(alloc, store)?)
 }
 
 /// The same, with the allocator's own refusal.
 fn listed_end_ports(alloc: Global, store: &Store) -> Result<Vec<EndPort>, AllocError>
-    ensures { IfOk result (λ ports. ports.items ≡ end_ports (entries store.now)) }
+    ensures { IfOk result (λ ports. ports.items ≡ end_ports (cells_of store.now)) }
 {
     let sorted = sorted_end_ports(alloc, store)?;
     sorted.iter().map(|end| end.1).collect(alloc)
@@ -43,7 +43,7 @@ fn listed_end_ports(alloc: Global, store: &Store) -> Result<Vec<EndPort>, AllocE
 
 /// The end ports with their port GUIDs, in their order.
 fn sorted_end_ports(alloc: Global, store: &Store) -> Result<Vec<(Guid, EndPort)>, AllocError>
-    ensures { IfOk result (λ sorted. sorted.items ≡ in_order (filter_map (guid_and_port (entries store.now)) (entries store.now))) }
+    ensures { IfOk result (λ sorted. sorted.items ≡ in_order (filter_map (guid_and_port (cells_of store.now)) (cells_of store.now))) }
 {
     let mut found = found_end_ports(alloc, store)?;
     sort(&mut found);
@@ -52,7 +52,7 @@ fn sorted_end_ports(alloc: Global, store: &Store) -> Result<Vec<(Guid, EndPort)>
 
 /// The end ports with their port GUIDs, in the order of keys.
 fn found_end_ports(alloc: Global, store: &Store) -> Result<Vec<(Guid, EndPort)>, AllocError>
-    ensures { IfOk result (λ found. found.items ≡ filter_map (guid_and_port (entries store.now)) (entries store.now)) }
+    ensures { IfOk result (λ found. found.items ≡ filter_map (guid_and_port (cells_of store.now)) (cells_of store.now)) }
 {
     let mut found = Vec::new(alloc);
     for sighting in store.cells() {
@@ -83,7 +83,7 @@ fn sort_key(end: &(Guid, EndPort)) -> [u64; 3]
 
 /// The end port of a cell with its port GUID, where the cell is an end port's GUID.
 fn guid_and_port(store: &Store, sighting: &Sighting) -> Option<(Guid, EndPort)>
-    ensures { result ≡ guid_and_port (entries store.now) sighting.now }
+    ensures { result ≡ guid_and_port (cells_of store.now) sighting.now }
 {
     match sighting.key() {
         Key::PortGuid(node, port) => {
@@ -100,7 +100,7 @@ fn guid_and_port(store: &Store, sighting: &Sighting) -> Option<(Guid, EndPort)>
 
 /// Whether the port is port 0 of a switch, or a port from 1 to the count of another node.
 fn is_end_port_place(store: &Store, node: Guid, port: PortNum) -> bool
-    ensures { result ≡ is_end_port_place (entries store.now) node port }
+    ensures { result ≡ is_end_port_place (cells_of store.now) node port }
 {
     if is_switch(store, node) {
         port.number() == 0

@@ -1,5 +1,5 @@
 ghost use Rattle.std.specs.Prelude.{◌≡◌};
-ghost use Rattle.std.specs.FinMap.{entries};
+ghost use Rattle.fact_store.specs.View.{cells_of};
 ghost use Rattle.subnet_view.specs.Reading.{node_of, port_guid_of, link_of, claim_of, cap_of, up_of, is_up, is_switch_node, is_port_of, port_count_of};
 
 use crate::end_port::EndPort;
@@ -10,63 +10,63 @@ use smp_bytes::{Guid, Lid, NodeType, PortNum};
 
 /// The type of a node and the number of its ports.
 pub(crate) fn node(store: &Store, node: Guid) -> Option<(NodeType, u8)>
-    ensures { result ≡ node_of (entries store.now) node }
+    ensures { result ≡ node_of (cells_of store.now) node }
 {
     store.node(node)
 }
 
 /// The GUID of a port.
 pub fn port_guid(store: &Store, node: Guid, port: PortNum) -> Option<Guid>
-    ensures { result ≡ port_guid_of (entries store.now) node port }
+    ensures { result ≡ port_guid_of (cells_of store.now) node port }
 {
     store.port_guid(node, port)
 }
 
 /// The node and the port at the other end of a link.
 pub(crate) fn link(store: &Store, node: Guid, port: PortNum) -> Option<(Guid, PortNum)>
-    ensures { result ≡ link_of (entries store.now) node port }
+    ensures { result ≡ link_of (cells_of store.now) node port }
 {
     store.link(node, port)
 }
 
 /// The LID that an end port claims.
 pub fn claim(store: &Store, port: EndPort) -> Option<Lid>
-    ensures { result ≡ claim_of (entries store.now) port.node port.port }
+    ensures { result ≡ claim_of (cells_of store.now) port.node port.port }
 {
     store.claim(port.node, port.port)
 }
 
 /// How many LIDs a switch's linear forwarding table has room for.
 pub fn cap(store: &Store, node: Guid) -> Option<u16>
-    ensures { result ≡ cap_of (entries store.now) node }
+    ensures { result ≡ cap_of (cells_of store.now) node }
 {
     store.cap(node)
 }
 
 /// Whether a port is up, as far as is known.
 fn up(store: &Store, node: Guid, port: PortNum) -> Option<bool>
-    ensures { result ≡ up_of (entries store.now) node port }
+    ensures { result ≡ up_of (cells_of store.now) node port }
 {
     store.is_up(node, port)
 }
 
 /// Whether a port is known to be up.
 pub(crate) fn is_up(store: &Store, node: Guid, port: PortNum) -> bool
-    ensures { result ≡ is_up (entries store.now) node port }
+    ensures { result ≡ is_up (cells_of store.now) node port }
 {
     up(store, node, port).unwrap_or(false)
 }
 
 /// Whether a node is known to be a switch.
 pub(crate) fn is_switch(store: &Store, node: Guid) -> bool
-    ensures { result ≡ is_switch_node (entries store.now) node }
+    ensures { result ≡ is_switch_node (cells_of store.now) node }
 {
     matches!(self::node(store, node), Some((NodeType::Switch, _)))
 }
 
 /// The number of a node's ports, and 0 where the node is not known.
 fn port_count(store: &Store, node: Guid) -> u8
-    ensures { result ≡ port_count_of (entries store.now) node }
+    ensures { result ≡ port_count_of (cells_of store.now) node }
 {
     match self::node(store, node) {
         Some((_, ports)) => ports,
@@ -76,7 +76,7 @@ fn port_count(store: &Store, node: Guid) -> u8
 
 /// Whether the port is one from 1 to the node's count.
 pub(crate) fn is_port(store: &Store, node: Guid, port: PortNum) -> bool
-    ensures { result ≡ is_port_of (entries store.now) node port }
+    ensures { result ≡ is_port_of (cells_of store.now) node port }
 {
     1 <= port.number() && port.number() <= port_count(store, node)
 }

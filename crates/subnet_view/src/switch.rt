@@ -1,5 +1,5 @@
 ghost use Rattle.std.specs.Prelude.{◌≡◌, IfOk};
-ghost use Rattle.std.specs.FinMap.{entries};
+ghost use Rattle.fact_store.specs.View.{cells_of};
 ghost use Rattle.subnet_view.specs.Reading.{is_usable, usable_guid, switches};
 
 use crate::reading::{cap, is_switch};
@@ -9,21 +9,21 @@ use std::alloc::{AllocError, Global};
 
 /// Whether a node is a switch whose type and table room are known. Takes two searches.
 pub fn is_usable(store: &Store, node: Guid) -> bool
-    ensures { result ≡ is_usable (entries store.now) node }
+    ensures { result ≡ is_usable (cells_of store.now) node }
 {
     is_switch(store, node) && cap(store, node).is_some()
 }
 
 /// The usable switches, by rising GUID. Walks the cells.
 pub fn switches(alloc: Global, store: &Store) -> Result<Vec<Guid>, Refused>
-    ensures { IfOk result (λ found. found.items ≡ switches (entries store.now)) }
+    ensures { IfOk result (λ found. found.items ≡ switches (cells_of store.now)) }
 {
     Ok(listed_switches(alloc, store)?)
 }
 
 /// The same, with the allocator's own refusal.
 fn listed_switches(alloc: Global, store: &Store) -> Result<Vec<Guid>, AllocError>
-    ensures { IfOk result (λ found. found.items ≡ switches (entries store.now)) }
+    ensures { IfOk result (λ found. found.items ≡ switches (cells_of store.now)) }
 {
     let mut found = Vec::new(alloc);
     for sighting in store.cells() {
@@ -36,7 +36,7 @@ fn listed_switches(alloc: Global, store: &Store) -> Result<Vec<Guid>, AllocError
 
 /// The node of a cell, where it is a usable switch.
 fn usable_guid(store: &Store, sighting: &Sighting) -> Option<Guid>
-    ensures { result ≡ usable_guid (entries store.now) sighting.now }
+    ensures { result ≡ usable_guid (cells_of store.now) sighting.now }
 {
     match sighting.key() {
         Key::Node(node) => {

@@ -1,5 +1,5 @@
 ghost use Rattle.std.specs.Prelude.{◌≡◌};
-ghost use Rattle.std.specs.FinMap.{entries};
+ghost use Rattle.fact_store.specs.View.{cells_of};
 ghost use Rattle.subnet_view.specs.Wires.{is_wire_end, is_wire, across, attached};
 
 use crate::end_port::is_end_port;
@@ -12,7 +12,7 @@ use smp_bytes::{Guid, PortNum};
 /// different ports name each other, and both are up and are ports of usable switches or end ports.
 /// Takes some ten searches.
 pub fn wire(store: &Store, node: Guid, port: PortNum) -> Option<(Guid, PortNum)>
-    ensures { result ≡ across (entries store.now) node port }
+    ensures { result ≡ across (cells_of store.now) node port }
 {
     let (far_node, far_port) = link(store, node, port)?;
     if is_wire(store, (node, port), (far_node, far_port)) {
@@ -25,7 +25,7 @@ pub fn wire(store: &Store, node: Guid, port: PortNum) -> Option<(Guid, PortNum)>
 /// The switch and the port of it that the wire in an adapter port leads to. A port of a node that is known
 /// to be a switch is attached to nothing. Takes some twelve searches.
 pub fn attached(store: &Store, node: Guid, port: PortNum) -> Option<(Guid, PortNum)>
-    ensures { result ≡ attached (entries store.now) node port }
+    ensures { result ≡ attached (cells_of store.now) node port }
 {
     if is_switch(store, node) {
         return None;
@@ -40,7 +40,7 @@ pub fn attached(store: &Store, node: Guid, port: PortNum) -> Option<(Guid, PortN
 
 /// Whether there is a wire between two ports, of which the first one's link names the second.
 fn is_wire(store: &Store, near: (Guid, PortNum), far: (Guid, PortNum)) -> bool
-    ensures { result ≡ is_wire (entries store.now) near.0 near.1 far }
+    ensures { result ≡ is_wire (cells_of store.now) near.0 near.1 far }
 {
     near != far
         && is_wire_end(store, near)
@@ -50,7 +50,7 @@ fn is_wire(store: &Store, near: (Guid, PortNum), far: (Guid, PortNum)) -> bool
 
 /// Whether a port can have a wire.
 fn is_wire_end(store: &Store, end: (Guid, PortNum)) -> bool
-    ensures { result ≡ is_wire_end (entries store.now) end.0 end.1 }
+    ensures { result ≡ is_wire_end (cells_of store.now) end.0 end.1 }
 {
     let (node, port) = end;
     if !is_up(store, node, port) || !is_port(store, node, port) {

@@ -5,9 +5,8 @@ use Rattle.std.proofs.lemmas.List.FromFn.{length-range_with_len, get_or-range_wi
 use Rattle.std.proofs.lemmas.Bool.{eqb-true, eqb-false, leb-true, and_parts}
 use Rattle.std.specs.Prelude.{Option, None, Some, Contains, nat_le, option_and_then, is_some}
 use Rattle.std.specs.List.Sorted.{IsStrictlyIncreasing}
-use Rattle.std.specs.FinMap.{entries}
 use Rattle.std.specs.List.{range_with_len}
-use Rattle.fact_store.specs.View.{Facts}
+use Rattle.fact_store.specs.View.{Facts, cells_of}
 use Rattle.smp_bytes.proofs.Members.{contains_here, contains_later, contains_cases, contains_none}
 use Rattle.subnet_view.specs.Reading.{Cells, is_switch_node, port_count_of, cap_of, is_usable, is_up, is_port_of, switches}
 use Rattle.subnet_view.specs.EndPorts.{is_end_port}
@@ -134,7 +133,7 @@ record Crossed (cells : Cells) (a b : ℕ) : Type 0 where
 
 module _ (facts : Facts) where
   abbrev cells : Cells
-  cells = entries facts
+  cells = cells_of facts
 
   crossed : (a b : ℕ) → Contains (neighbors (graph_of cells) a) b → Crossed cells a b
   crossed a b h =
@@ -158,7 +157,7 @@ module _ (facts : Facts) where
 -- what facts give is a graph
 pub graph_law : GraphLaw
 graph_law facts =
-    let cells = entries facts in
+    let cells = cells_of facts in
     record {
       rising = switches_rise facts;
       ports_rise = ports_rise cells;
@@ -168,7 +167,7 @@ graph_law facts =
 
 -- its exits are the wires among usable switches
 pub exit_law : ExitLaw
-exit_law facts g p h u = let cells = entries facts in (
+exit_law facts g p h u = let cells = cells_of facts in (
   λ there.
       let x = exit_is_wire cells g (record { port = p; to = h }) there in
       (exit_to_usable cells g p h x, (x.end_port, (wire_law cells g p h x.end_port).0 x.wire)),

@@ -11,8 +11,7 @@ use Rattle.std.specs.declared.result.Result.{Result}
 use Rattle.std.specs.declared.result.Result.TheVariants.{Ok, Err}
 use Rattle.std.specs.List.Sorted.{IsStrictlyIncreasing, IsBinarySearchResult}
 use Rattle.std.specs.Ordering.{nat_cmp}
-use Rattle.std.specs.FinMap.{entries}
-use Rattle.fact_store.specs.View.{Facts}
+use Rattle.fact_store.specs.View.{Facts, cells_of}
 use Rattle.subnet_view.specs.Reading.{is_switch_node, cap_of, switches}
 use Rattle.subnet_view.specs.Wires.{across}
 use Rattle.port_graph.specs.declared.exit.Exit.{Exit}
@@ -47,29 +46,29 @@ pub index_in : (xs : List ℕ) (x i : ℕ) → IsIndexOf xs x i → Contains xs 
 index_in xs x i (l, e) = subst (λ (y : ℕ). Contains xs y) e (Contains-get_or xs i 0 l)
 
 -- a wire to a switch is the exit to its index, and any other wire is none
-module _ (facts : Facts) (g p : ℕ) (q : ℕ × ℕ) (wire : across (entries facts) g p ≡ Some q) where
+module _ (facts : Facts) (g p : ℕ) (q : ℕ × ℕ) (wire : across (cells_of facts) g p ≡ Some q) where
   abbrev guids : List ℕ
-  guids = switches (entries facts)
+  guids = switches (cells_of facts)
 
-  exit_by_test : exit_at (entries facts) g p ≡ cond (is_switch_node (entries facts) q.0) (Some (record { port = p; to = q.0 })) None
-  exit_by_test = ap (option_and_then (λ (x : ℕ × ℕ). cond (is_switch_node (entries facts) x.0) (Some (record { port = p; to = x.0 })) None)) wire
+  exit_by_test : exit_at (cells_of facts) g p ≡ cond (is_switch_node (cells_of facts) q.0) (Some (record { port = p; to = q.0 })) None
+  exit_by_test = ap (option_and_then (λ (x : ℕ × ℕ). cond (is_switch_node (cells_of facts) x.0) (Some (record { port = p; to = x.0 })) None)) wire
 
   abbrev test : Bool
-  test = is_switch_node (entries facts) q.0
+  test = is_switch_node (cells_of facts) q.0
 
   -- a wire to what is no switch is no exit
-  pub no_exit : (Contains guids q.0 → ⊥) → exit_at (entries facts) g p ≡ None
+  pub no_exit : (Contains guids q.0 → ⊥) → exit_at (cells_of facts) g p ≡ None
   no_exit none =
       let exit : Option Exit = Some (record { port = p; to = q.0 }) in
       let nothing : Option Exit = None in
       exit_by_test ∙ (elim test as (λ t. test ≡ t → cond t exit nothing ≡ nothing) [
-        | true ↦ λ e. absurd (none (usable_switch facts q.0 (exit_to_usable (entries facts) g p q.0 (record { end_port = q.1; wire = wire; is_switch = e }))))
+        | true ↦ λ e. absurd (none (usable_switch facts q.0 (exit_to_usable (cells_of facts) g p q.0 (record { end_port = q.1; wire = wire; is_switch = e }))))
         | false ↦ λ e. refl
       ] refl)
 
   -- a wire to the switch at an index is the exit there
-  pub exit_to_index : (i : ℕ) → IsIndexOf guids q.0 i → Some (by_guid guids (record { port = p; to = i })) ≡ exit_at (entries facts) g p
+  pub exit_to_index : (i : ℕ) → IsIndexOf guids q.0 i → Some (by_guid guids (record { port = p; to = i })) ≡ exit_at (cells_of facts) g p
   exit_to_index i found =
-      let is = and_parts test (is_some (cap_of (entries facts) q.0)) (switch_usable facts q.0 (index_in guids q.0 i found)) in
+      let is = and_parts test (is_some (cap_of (cells_of facts) q.0)) (switch_usable facts q.0 (index_in guids q.0 i found)) in
       let exit : ℕ → Option Exit = λ x. Some (record { port = p; to = x }) in
       ap exit found.1 ∙ sym (ap (λ t. cond t (exit q.0) None) is.0) ∙ sym exit_by_test

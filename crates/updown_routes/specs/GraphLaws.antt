@@ -1,8 +1,7 @@
 -- What the graph of the usable switches is, in words.
 use Rattle.std.specs.Prelude.{◌↔◌, ℕ, List, map, Contains, IsTrue}
 use Rattle.std.specs.List.Sorted.{IsStrictlyIncreasing}
-use Rattle.std.specs.FinMap.{entries}
-use Rattle.fact_store.specs.View.{Facts}
+use Rattle.fact_store.specs.View.{Facts, cells_of}
 use Rattle.subnet_view.specs.Reading.{is_usable}
 use Rattle.subnet_view.specs.Wires.{IsWire}
 use Rattle.updown_routes.specs.Crossing.{Crossing}
@@ -20,17 +19,17 @@ pub record IsGraph (graph : List Crossing) : Type 0 where
 
 -- what facts give is such a graph
 abbrev pub GraphLaw : Type 0
-GraphLaw = (facts : Facts) → IsGraph (graph_of (entries facts))
+GraphLaw = (facts : Facts) → IsGraph (graph_of (cells_of facts))
 
 -- its switches are the usable ones
 abbrev pub SwitchLaw : Type 0
-SwitchLaw = (facts : Facts) (g : ℕ) → IsSwitch (graph_of (entries facts)) g ↔ IsTrue (is_usable (entries facts) g)
+SwitchLaw = (facts : Facts) (g : ℕ) → IsSwitch (graph_of (cells_of facts)) g ↔ IsTrue (is_usable (cells_of facts) g)
 
 -- a wire from port p of g to the usable switch h
 abbrev pub IsSwitchWire : Facts → ℕ → ℕ → ℕ → Type 0
-IsSwitchWire facts g p h = IsTrue (is_usable (entries facts) h) × ((q : ℕ) × IsWire (entries facts) g p h q)
+IsSwitchWire facts g p h = IsTrue (is_usable (cells_of facts) h) × ((q : ℕ) × IsWire (cells_of facts) g p h q)
 
 -- its exits are the wires among the usable switches
 abbrev pub ExitLaw : Type 0
-ExitLaw = (facts : Facts) (g p h : ℕ) → IsTrue (is_usable (entries facts) g)
-    → Contains (exits_at (graph_of (entries facts)) g) (record { port = p; to = h }) ↔ IsSwitchWire facts g p h
+ExitLaw = (facts : Facts) (g p h : ℕ) → IsTrue (is_usable (cells_of facts) g)
+    → Contains (exits_at (graph_of (cells_of facts)) g) (record { port = p; to = h }) ↔ IsSwitchWire facts g p h

@@ -1,5 +1,5 @@
 ghost use Rattle.std.specs.Prelude.{◌≡◌, ◌<◌, IfOk, length, map, slice_get};
-ghost use Rattle.std.specs.FinMap.{entries};
+ghost use Rattle.fact_store.specs.View.{cells_of};
 ghost use Rattle.updown_routes.specs.Graph.{graph_of, guids_of};
 ghost use Rattle.updown_routes.specs.GraphLaws.{IsGraph};
 ghost use Rattle.updown_routes.specs.Ranks.{rank_of};
@@ -37,7 +37,7 @@ impl Graph {
     /// The usable switches of the view with the wires between them. Takes some ten searches a port,
     /// and a search in breadth for each component.
     pub fn of(alloc: Global, store: &Store) -> Result<Self, Refused>
-        ensures { IfOk result (λ graph. graph ≡ graph_of (entries store.now)) }
+        ensures { IfOk result (λ graph. graph ≡ graph_of (cells_of store.now)) }
     {
         let wiring = Wiring::of(alloc, store)?;
         let ranks = ranks(alloc, &wiring)?;

@@ -1,6 +1,6 @@
 ghost use Rattle.std.specs.Prelude.{◌≡◌, ◌<◌, IfOk, IfSome, length, map, option_map, slice_get};
 ghost use Rattle.std.specs.List.Sorted.{IsStrictlyIncreasing};
-ghost use Rattle.std.specs.FinMap.{entries};
+ghost use Rattle.fact_store.specs.View.{cells_of};
 ghost use Rattle.subnet_view.specs.Reading.{port_count_of, switches};
 ghost use Rattle.port_graph.specs.Heads.{LeadToVertices};
 ghost use Rattle.updown_routes.specs.Graph.{exit_at, exits_of, graph_of, guids_of};
@@ -38,7 +38,7 @@ impl Model for Wiring {
 impl Wiring {
     /// The usable switches of the view with the wires between them. Takes some ten searches a port.
     pub(crate) fn of(alloc: Global, store: &Store) -> Result<Self, Refused>
-        ensures { IfOk result (λ wiring. wiring ≡ graph_of (entries store.now)) }
+        ensures { IfOk result (λ wiring. wiring ≡ graph_of (cells_of store.now)) }
     {
         let guids = switches(alloc, store)?;
         let exits = exits(alloc, store, &guids)?;
@@ -91,9 +91,9 @@ impl Wiring {
 
 /// The exits of each switch, where the GUIDs are those of the usable switches.
 fn exits(alloc: Global, store: &Store, guids: &[Guid]) -> Result<Exits, AllocError>
-    requires { guids.now ≡ switches (entries store.now) }
+    requires { guids.now ≡ switches (cells_of store.now) }
     ensures wires { IfOk result (λ exits.
-        map (map (by_guid guids.now)) exits ≡ map (exits_of (entries store.now)) guids.now) }
+        map (map (by_guid guids.now)) exits ≡ map (exits_of (cells_of store.now)) guids.now) }
     ensures to_switches { IfOk result (λ exits. LeadToVertices exits) }
 {
     let mut exits = Exits::new(alloc);
@@ -111,9 +111,9 @@ fn exits_of(
     guids: &[Guid],
     guid: Guid,
 ) -> Result<Vec<Exit>, AllocError>
-    requires { guids.now ≡ switches (entries store.now) }
+    requires { guids.now ≡ switches (cells_of store.now) }
     ensures wires { IfOk result (λ found.
-        map (by_guid guids.now) found.items ≡ exits_of (entries store.now) guid) }
+        map (by_guid guids.now) found.items ≡ exits_of (cells_of store.now) guid) }
     ensures to_switches { IfOk result (λ found. LeadBelow (length guids.now) found.items) }
 {
     let mut found = Vec::new(alloc);
@@ -127,8 +127,8 @@ fn exits_of(
 
 /// The wire in a port, where it leads to a switch. A search among the switches, and some ten more.
 fn exit_at(store: &Store, guids: &[Guid], guid: Guid, port: PortNum) -> Option<Exit>
-    requires { guids.now ≡ switches (entries store.now) }
-    ensures wire { option_map (by_guid guids.now) result ≡ exit_at (entries store.now) guid port }
+    requires { guids.now ≡ switches (cells_of store.now) }
+    ensures wire { option_map (by_guid guids.now) result ≡ exit_at (cells_of store.now) guid port }
     ensures to_switch { IfSome result (λ e. e.to < length guids.now) }
 {
     let (far, _) = wire(store, guid, port)?;
@@ -146,7 +146,7 @@ fn index_of(guids: &[Guid], guid: Guid) -> Option<usize>
 
 /// The number of a node's ports, and 0 where the node is not known.
 fn port_count(store: &Store, guid: Guid) -> u8
-    ensures { result ≡ port_count_of (entries store.now) guid }
+    ensures { result ≡ port_count_of (cells_of store.now) guid }
 {
     match store.node(guid) {
         Some((_, ports)) => ports,

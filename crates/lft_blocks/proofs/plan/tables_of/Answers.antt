@@ -2,7 +2,7 @@ use Rattle.std.proofs.Common.{◌≡◌, List, ap, sym, ◌∙◌, subst, length
 use Rattle.std.proofs.lemmas.Result.{IfOk-weaker}
 use Rattle.std.specs.Prelude.{Option}
 use Rattle.std.specs.List.{range_with_len}
-use Rattle.std.specs.FinMap.{entries}
+use Rattle.fact_store.specs.View.{cells_of}
 use Rattle.lid_assign.specs.Lids.{top_of}
 use Rattle.updown_routes.specs.Graph.{guids_of}
 use Rattle.updown_routes.specs.Ranks.{slopes_of}
@@ -19,10 +19,10 @@ returns c =
     let a = c.args in
     let guids = a.guids.now in
     let graph = a.routes.now in
-    let homes = home_of_lid (entries a.store.now) a.lids.now in
+    let homes = home_of_lid (cells_of a.store.now) a.lids.now in
     let placed = c.deref.result.now in
     let count = c.block_count-count.result in
-    let theirs = c.requires.switches ∙ sym (ap guids_of c.requires.routes ∙ graph_guids (entries a.store.now)) in
+    let theirs = c.requires.switches ∙ sym (ap guids_of c.requires.routes ∙ graph_guids (cells_of a.store.now)) in
     let counted = c.block_count-count.ensures.count ∙ ap block_count c.top.ensures in
     let are = subst (λ (hs : List (Option Home)). ArePlaced guids homes hs) (sym c.deref.ensures.value) c.in_ok-homes.ensures in
     let same = sym (tables_same graph guids homes placed count theirs (switches_rise a.store.now guids c.requires.switches) are) ∙ ap (λ n. tables_of homes (slopes_of graph) n guids) counted in

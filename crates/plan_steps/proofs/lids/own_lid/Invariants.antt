@@ -1,8 +1,8 @@
 use Rattle.std.proofs.Common.{◌≡◌, drop}
-use Rattle.std.specs.FinMap.{entries}
+use Rattle.fact_store.specs.View.{cells_of}
 use Rattle.plan_steps.specs.Lids.{own_lid}
 use Rattle.plan_steps.proofs.lids.own_lid.Given as goal
 
 -- it is not among the end ports so far
 abbrev pub invariant-loop-end : goal.invariant-loop-end
-invariant-loop-end l = own_lid (entries l.store) l.lids l.own_guid l.port ≡ own_lid (entries l.store) (drop l.end-index l.lids) l.own_guid l.port
+invariant-loop-end l = own_lid (cells_of l.store) l.lids l.own_guid l.port ≡ own_lid (cells_of l.store) (drop l.end-index l.lids) l.own_guid l.port

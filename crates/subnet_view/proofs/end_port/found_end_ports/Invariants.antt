@@ -1,5 +1,5 @@
 use Rattle.std.proofs.Common.{◌≡◌, ◌++◌}
-use Rattle.std.specs.FinMap.{entries}
+use Rattle.fact_store.specs.View.{cells_of}
 use Rattle.std.specs.List.{filter_map}
 use Rattle.fact_store.specs.Walk.{cells_left}
 use Rattle.subnet_view.specs.EndPorts.{guid_and_port}
@@ -7,4 +7,4 @@ use Rattle.subnet_view.proofs.end_port.found_end_ports.Given as goal
 
 -- what was found, and what the rest has, are all that there is
 abbrev pub invariant-loop-sighting : goal.invariant-loop-sighting
-invariant-loop-sighting l = l.found.items ++ filter_map (guid_and_port (entries l.store)) (cells_left l.sighting-iterator) ≡ filter_map (guid_and_port (entries l.store)) (entries l.store)
+invariant-loop-sighting l = l.found.items ++ filter_map (guid_and_port (cells_of l.store)) (cells_left l.sighting-iterator) ≡ filter_map (guid_and_port (cells_of l.store)) (cells_of l.store)

@@ -1,5 +1,5 @@
 use Rattle.std.proofs.Common.{◌≡◌, ◌++◌}
-use Rattle.std.specs.FinMap.{entries}
+use Rattle.fact_store.specs.View.{cells_of}
 use Rattle.std.specs.List.{filter_map}
 use Rattle.fact_store.specs.Walk.{cells_left}
 use Rattle.subnet_view.specs.Reading.{usable_guid}
@@ -7,4 +7,4 @@ use Rattle.subnet_view.proofs.switch.listed_switches.Given as goal
 
 -- what was found, and what the rest has, are all that there is
 abbrev pub invariant-loop-sighting : goal.invariant-loop-sighting
-invariant-loop-sighting l = l.found.items ++ filter_map (usable_guid (entries l.store)) (cells_left l.sighting-iterator) ≡ filter_map (usable_guid (entries l.store)) (entries l.store)
+invariant-loop-sighting l = l.found.items ++ filter_map (usable_guid (cells_of l.store)) (cells_left l.sighting-iterator) ≡ filter_map (usable_guid (cells_of l.store)) (cells_of l.store)

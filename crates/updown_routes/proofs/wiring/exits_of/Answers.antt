@@ -1,7 +1,7 @@
 -- Port by port.
 use Rattle.std.proofs.Common.{◌≡◌, ◌+◌, sym, ap, ◌∙◌, subst, List, ℕ, length}
 use Rattle.std.specs.Prelude.{Option, Some, option_map}
-use Rattle.std.specs.FinMap.{entries}
+use Rattle.fact_store.specs.View.{cells_of}
 use Rattle.port_graph.specs.declared.exit.Exit.{Exit}
 use Rattle.updown_routes.specs.Graph.{exit_at, exits_of}
 use Rattle.updown_routes.specs.Wiring.{by_guid, LeadBelow}
@@ -12,8 +12,8 @@ use Rattle.updown_routes.proofs.wiring.exits_of.Goals.{in-Some+in_ok-push, in_de
 pub loop-before-preserved : goal.loop-before-preserved
 loop-before-preserved c =
     let guids = c.args.guids.now in
-    let exit : ℕ → Option Exit = exit_at (entries c.args.store.now) c.args.guid in
-    let all = exits_of (entries c.args.store.now) c.args.guid in
+    let exit : ℕ → Option Exit = exit_at (cells_of c.args.store.now) c.args.guid in
+    let all = exits_of (cells_of c.args.store.now) c.args.guid in
     let before = c.loop-before.before in
     let count = c.port_count-before-end.result in
     let found = c.loop-before.found.items in
@@ -34,5 +34,5 @@ loop-before-preserved c =
     ]
 
 pub returns-clause-wires : goal.returns-clause-wires
-returns-clause-wires c = no_more_ports c.args.guids.now (exit_at (entries c.args.store.now) c.args.guid) (exits_of (entries c.args.store.now) c.args.guid)
+returns-clause-wires c = no_more_ports c.args.guids.now (exit_at (cells_of c.args.store.now) c.args.guid) (exits_of (cells_of c.args.store.now) c.args.guid)
     c.port_count-before-end.result c.loop-before.found.items c.loop-before.before c.loop-before-test.false c.loop-before.invariant.0

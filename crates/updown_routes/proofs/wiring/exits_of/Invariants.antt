@@ -1,5 +1,5 @@
 use Rattle.std.proofs.Common.{length}
-use Rattle.std.specs.FinMap.{entries}
+use Rattle.fact_store.specs.View.{cells_of}
 use Rattle.updown_routes.specs.Graph.{exit_at, exits_of}
 use Rattle.updown_routes.specs.Wiring.{LeadBelow}
 use Rattle.updown_routes.proofs.ExitLists.{AreAll}
@@ -7,4 +7,4 @@ use Rattle.updown_routes.proofs.wiring.exits_of.Given as goal
 
 -- what was found, and what the ports to come have, are all that there is
 abbrev pub invariant-loop-before : goal.invariant-loop-before
-invariant-loop-before l = AreAll l.guids (exit_at (entries l.store) l.guid) (exits_of (entries l.store) l.guid) l.before-end l.found.items l.before × LeadBelow (length l.guids) l.found.items
+invariant-loop-before l = AreAll l.guids (exit_at (cells_of l.store) l.guid) (exits_of (cells_of l.store) l.guid) l.before-end l.found.items l.before × LeadBelow (length l.guids) l.found.items

@@ -1,5 +1,5 @@
 use Rattle.std.proofs.Common.{ap, sym, subst, ◌∙◌}
-use Rattle.std.specs.FinMap.{entries}
+use Rattle.fact_store.specs.View.{cells_of}
 use Rattle.lid_assign.specs.Lids.{top_of}
 use Rattle.updown_routes.specs.Ranks.{slopes_of}
 use Rattle.lft_blocks.specs.Entries.{home_of_lid, block_count}
@@ -13,7 +13,7 @@ pub invariant_of-result : goal.invariant_of-result
 invariant_of-result c =
     let facts = c.args.store.now in
     let lids = c.in_ok-lids.lids in
-    let homes = home_of_lid (entries facts) lids in
+    let homes = home_of_lid (cells_of facts) lids in
     let slopes = slopes_of c.in_ok-routes.routes in
     let count = block_count (top_of lids) in
     let guids = c.in_ok-switches.switches.items in
@@ -22,7 +22,7 @@ invariant_of-result c =
 
 pub returns-clause-plan : goal.returns-clause-plan
 returns-clause-plan c =
-    let cells = entries c.args.store.now in
+    let cells = cells_of c.args.store.now in
     let lids = c.in_ok-lids.ensures.lids in
     let graph = c.in_ok-routes.ensures ∙ c.in_ok-graph.ensures in
     let guids = c.deref.ensures.value ∙ c.in_ok-switches.ensures in
@@ -32,4 +32,4 @@ returns-clause-plan c =
 pub returns-clause-arrives : goal.returns-clause-arrives
 returns-clause-arrives c =
     let facts = c.args.store.now in
-    subst (λ (plan : PlanValue). EveryPacketArrives (entries facts) plan) (sym (returns-clause-plan c)) (every_packet_arrives facts c.in_ok-lids.ensures.judged)
+    subst (λ (plan : PlanValue). EveryPacketArrives (cells_of facts) plan) (sym (returns-clause-plan c)) (every_packet_arrives facts c.in_ok-lids.ensures.judged)

@@ -1,13 +1,13 @@
 -- The plan is that of the store, and by it packets arrive.
 use Rattle.std.proofs.Common.{ap, ◌∙◌, subst}
-use Rattle.std.specs.FinMap.{entries}
+use Rattle.fact_store.specs.View.{cells_of}
 use Rattle.lft_blocks.specs.Arrival.{EveryPacketArrives}
 use Rattle.lft_blocks.specs.Plan.{plan_of}
 use Rattle.sm_manager.specs.Manager.{Manager}
 use Rattle.sm_manager.proofs.manager.Manager.plan.Goals as goal
 
 pub returns-in-Ok-clause-plan : goal.returns-in-Ok-clause-plan
-returns-in-Ok-clause-plan c = c.in-Ok.ensures.plan ∙ ap (λ (m : Manager). plan_of (entries m.store)) c.self.view_is
+returns-in-Ok-clause-plan c = c.in-Ok.ensures.plan ∙ ap (λ (m : Manager). plan_of (cells_of m.store)) c.self.view_is
 
 pub returns-in-Ok-clause-arrives : goal.returns-in-Ok-clause-arrives
-returns-in-Ok-clause-arrives c = subst (λ (m : Manager). EveryPacketArrives (entries m.store) c.in-Ok.plan) c.self.view_is c.in-Ok.ensures.arrives
+returns-in-Ok-clause-arrives c = subst (λ (m : Manager). EveryPacketArrives (cells_of m.store) c.in-Ok.plan) c.self.view_is c.in-Ok.ensures.arrives

@@ -1,7 +1,6 @@
 -- The phases are those of the store's plan, over the last sweep.
 use Rattle.std.proofs.Common.{◌≡◌, List, false, sym, ap, ◌∙◌}
-use Rattle.std.specs.FinMap.{entries}
-use Rattle.fact_store.specs.View.{Facts}
+use Rattle.fact_store.specs.View.{Facts, cells_of}
 use Rattle.plan_steps.specs.Phases.{Phase, phases_of}
 use Rattle.sm_manager.specs.Manager.{Manager, Writing}
 use Rattle.sm_manager.specs.Writing.{passed, phases_by}
@@ -20,5 +19,5 @@ returns-clause-writing c =
     c.new.ensures
     ∙ ap begins
     (c.in_ok-phases.ensures
-    ∙ (λ i. phases_of (c.in_ok-plan.ensures.plan i) (entries (store i)) c.in_ok-sweep.sweep.now (guid i) (port i))
+    ∙ (λ i. phases_of (c.in_ok-plan.ensures.plan i) (cells_of (store i)) c.in_ok-sweep.sweep.now (guid i) (port i))
     ∙ ap (phases_by m) (sym c.in_ok-sweep.ensures.sweep))

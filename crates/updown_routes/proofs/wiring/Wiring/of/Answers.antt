@@ -1,6 +1,6 @@
 -- What the facts give is a graph.
 use Rattle.std.proofs.Common.{◌≡◌, sym, subst, List, ℕ, map}
-use Rattle.std.specs.FinMap.{entries}
+use Rattle.fact_store.specs.View.{cells_of}
 use Rattle.updown_routes.specs.Graph.{exits_of}
 use Rattle.updown_routes.specs.GraphLaws.{IsGraph}
 use Rattle.updown_routes.specs.Wiring.{by_guid}
@@ -13,7 +13,7 @@ pub returns : goal.returns
 returns c =
     let guids = c.in_ok-guids.guids.items in
     let exits = c.in_ok-exits.exits in
-    let cells = entries c.args.store.now in
+    let cells = cells_of c.args.store.now in
     let Rows : List ℕ → Type 0 = λ gs. map (map (by_guid gs)) exits ≡ map (exits_of cells) gs in
     named_is_graph cells guids exits c.in_ok-guids.ensures (subst Rows c.deref.ensures.value c.in_ok-exits.ensures.wires)
 
@@ -21,7 +21,7 @@ pub invariant_of-result : goal.invariant_of-result
 invariant_of-result c =
     let guids = c.in_ok-guids.guids.items in
     let exits = c.in_ok-exits.exits in
-    let cells = entries c.args.store.now in
+    let cells = cells_of c.args.store.now in
     let Rows : List ℕ → Type 0 = λ gs. map (map (by_guid gs)) exits ≡ map (exits_of cells) gs in
     let rows = subst Rows c.deref.ensures.value c.in_ok-exits.ensures.wires in
     record {
