@@ -1,5 +1,5 @@
 pub mod Rising
-pub mod Room
+pub mod LackOfRoom
 pub mod KeptClaims
 pub mod HandOut
 pub mod LidLaws

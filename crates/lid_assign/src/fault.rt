@@ -1,3 +1,6 @@
+ghost use Rattle.std.specs.Prelude.{◌≡◌};
+
+use fact_store::Refused;
 use std::alloc::AllocError;
 use thiserror::Error;
 
@@ -43,6 +46,17 @@ impl From<AllocError> for LidFault {
     ghost from_gives = { λ e fault. fault ≡ Memory };
 
     fn from(_: AllocError) -> Self {
+        LidFault::Memory
+    }
+}
+
+impl From<Refused> for LidFault {
+    ghost use Rattle.std.specs.Prelude.{◌≡◌};
+    ghost use Rattle.lid_assign.specs.declared.fault.LidFault.TheVariants.{Memory};
+
+    ghost from_gives = { λ e fault. fault ≡ Memory };
+
+    fn from(_: Refused) -> Self {
         LidFault::Memory
     }
 }

@@ -20,13 +20,16 @@ pub fn no_room(store: &Store) -> Option<NoRoom>
 }
 
 /// Whether so many end ports have no room.
-pub(crate) fn lack_of_room(store: &Store, endports: usize, room: u16) -> Option<NoRoom>
+pub(crate) fn lack_of_room(store: &Store, endports: usize, most: u16) -> Option<NoRoom>
     requires ports { endports ≡ length (end_ports (cells_of store.now)) }
-    requires room { room ≡ room (cells_of store.now) }
+    requires room { most ≡ room (cells_of store.now) }
     ensures { result ≡ no_room (cells_of store.now) }
 {
-    if endports > 0 && usize::from(room) <= endports {
-        Some(NoRoom { endports, room })
+    if endports > 0 && usize::from(most) <= endports {
+        Some(NoRoom {
+            endports,
+            room: most,
+        })
     } else {
         None
     }

@@ -34,12 +34,13 @@ has_room cells e h =
 -- the table rooms of the cells' nodes are those of the usable switches among them
 pub caps_walked : (cells xs : Cells) → filter_map (usable_cap cells) xs ≡ filter_map (cap_of cells) (filter_map (usable_guid cells) xs)
 caps_walked cells [] = refl
-caps_walked cells (x ∷ xs) = by_guid (usable_guid cells x)
+caps_walked cells (x ∷ xs) = by_guid (usable_guid cells x) (caps_walked cells xs)
   where
-    by_guid : (found : Option ℕ) → cons_option (cap_if cells found) (filter_map (usable_cap cells) xs)
+    by_guid : (found : Option ℕ) → filter_map (usable_cap cells) xs ≡ filter_map (cap_of cells) (filter_map (usable_guid cells) xs)
+        → cons_option (cap_if cells found) (filter_map (usable_cap cells) xs)
         ≡ filter_map (cap_of cells) (cons_option found (filter_map (usable_guid cells) xs))
-    by_guid None = caps_walked cells xs
-    by_guid (Some guid) = ap (cons_option (cap_of cells guid)) (caps_walked cells xs)
+    by_guid None h = h
+    by_guid (Some guid) h = ap (cons_option (cap_of cells guid)) h
 
 pub room_walked : (cells : Cells) → least_room (filter_map (usable_cap cells) cells) ≡ room cells
 room_walked cells = ap least_room (caps_walked cells cells)
