@@ -1,5 +1,6 @@
 -- The cells that a walk gives are the store's, and say what is known.
 use Rattle.std.proofs.Common.{◌≡◌, ℕ, Bool, true, ◌&&◌, [], ◌∷◌, ◌++◌, sym, ap, ◌∙◌}
+use Rattle.std.proofs.lemmas.List.{append_assoc}
 use Rattle.std.specs.Prelude.{Contains, Option, None, Some, is_some, option_map, if◌then◌else◌}
 use Rattle.smp_bytes.specs.declared.node_type.NodeType.{NodeType}
 use Rattle.fact_join.specs.declared.cell.Cell.{Cell}
@@ -24,6 +25,10 @@ contains_between (y ∷ given) rest x = contains_later y x (given ++ x ∷ rest)
 pub cell_given : (facts : Facts) (given left rest : Cells) (x : Key × Cell Value) → given ++ left ≡ cells_of facts → left ≡ x ∷ rest → cell_for facts x.0 ≡ Some x.1
 cell_given facts given left rest x all next =
     contained_get facts x.0 x.1 (contains_in x (ap (λ (s : Cells). given ++ s) (sym next) ∙ all) (contains_between given rest x))
+
+-- and then one more was given
+pub given_more : (cells given left rest : Cells) (x : Key × Cell Value) → given ++ left ≡ cells → left ≡ x ∷ rest → (given ++ x ∷ []) ++ rest ≡ cells
+given_more cells given left rest x all next = append_assoc given (x ∷ []) rest ∙ ap (λ (s : Cells). given ++ s) (sym next) ∙ all
 
 -- a key's cell says what is known of it
 pub known_by_cell : (facts : Facts) (key : Key) (c : Cell Value) → cell_for facts key ≡ Some c → known_in (cells_of facts) key ≡ value_in (Some c)
