@@ -9,6 +9,7 @@ pub mod Views
 pub mod Groupings
 pub mod CellOrder
 pub mod CellViews
+pub mod Searches
 pub mod Walks
 pub mod Puts
 pub mod Held

@@ -1,9 +1,9 @@
 -- What a list of sightings tells of its view: its cells, its keys, its ranges and its newest generation.
-use Rattle.std.proofs.Common.{◌≡◌, ◌≤◌, ◌+◌, ℕ, List, [], ◌∷◌, ◌++◌, inl, inr, refl, sym, ap, ◌∙◌, subst, arith, true, false, cond, ◌&&◌, ◌||◌, map}
+use Rattle.std.proofs.Common.{◌≡◌, ◌≤◌, ℕ, List, [], ◌∷◌, ◌++◌, inl, inr, refl, sym, ap, ◌∙◌, subst, arith, true, false, cond, ◌&&◌, ◌||◌, map}
 use Rattle.std.proofs.lemmas.List.Elements.{Contains-append_left, Contains-append_right, Contains-append_cases}
 use Rattle.std.proofs.lemmas.Bool.{and_parts, eq-eqb}
 use Rattle.std.specs.Prelude.{Option, None, Some, MatchOption, Contains, max}
-use Rattle.std.specs.FinMap.{get, keys}
+use Rattle.std.specs.FinMap.{get}
 use Rattle.fact_join.specs.declared.cell.Cell.{Cell}
 use Rattle.fact_join.specs.declared.cell.Cell.TheVariants.{Known, Disputed}
 use Rattle.fact_join.specs.Cell.{generation_of}

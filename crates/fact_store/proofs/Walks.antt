@@ -1,118 +1,25 @@
--- A search that narrows, and a walk of two lists in step.
-use Rattle.std.proofs.Common.{◌≡◌, ℕ, zero, suc, ◌+◌, ◌-◌, ◌*◌, ◌/◌, ◌^◌, ◌<◌, ◌≤◌, List, [], ◌∷◌, ◌++◌, length, refl, sym, ap, ◌∙◌, subst, arith, add-one, inl, inr, ◌⊎◌, mul_assoc}
-use Rattle.std.proofs.Math.Nat.{mul-le-mul_left, pow-suc}
-use Rattle.std.proofs.Math.Pow.{pow-lt}
-use Rattle.std.proofs.lemmas.Bool.{cases_order}
+-- A walk of two lists in step.
+use Rattle.std.proofs.Common.{◌≡◌, ℕ, ◌+◌, ◌≤◌, List, [], ◌∷◌, ◌++◌, length, refl, sym, ap, ◌∙◌, subst, arith, inl, inr, ◌⊎◌}
 use Rattle.std.proofs.lemmas.List.{append_assoc, append-nil}
-use Rattle.std.proofs.lemmas.Option.{slice_get_cases}
 use Rattle.std.proofs.lemmas.List.Elements.{All-nil, All-push, All-head, All-tail, All-append}
-use Rattle.std.specs.Prelude.{T, All, Option, None, Some, MatchOption, slice_get}
+use Rattle.std.specs.Prelude.{T, All, Option, None, Some, MatchOption}
 use Rattle.std.specs.Option.{option_to_list}
+use Rattle.std.specs.Cmp.{tied_itself}
+use Rattle.std.specs.declared.cmp.Ordering.{Ordering}
 use Rattle.std.specs.declared.cmp.Ordering.TheVariants.{Less, Greater}
 use Rattle.std.specs.FinMap.Entries as sorted
 use Rattle.fact_join.specs.declared.cell.Cell.{Cell}
 use Rattle.fact_store.specs.declared.key.Key.{Key}
 use Rattle.fact_store.specs.declared.value.Value.{Value}
-use Rattle.fact_store.specs.Cells.{AreCells, HasDigits, IsPlaceFor}
+use Rattle.fact_store.specs.Cells.{AreCells}
+use Rattle.fact_store.specs.Comparisons.{by_order, compared_by_walk}
 use Rattle.fact_store.specs.Key.{key_cmp}
 use Rattle.fact_store.specs.Merge.{join}
 use Rattle.fact_store.specs.Sighting.{IsSighting}
 use Rattle.fact_store.specs.View.{view}
 use Rattle.fact_store.proofs.Keys.{key_total}
-use Rattle.fact_store.proofs.Orders.{greater_back}
-use Rattle.fact_store.proofs.CellOrder.{held, shown, less_back, ends_at, rising_places, rising-step, rising-move}
+use Rattle.fact_store.proofs.CellOrder.{held, shown, less_back, rising-step, rising-move}
 use Rattle.fact_store.proofs.CellViews.{view-step_second, view-step_both}
-
--- digits --------------------------------------------------------------------------------------------
-
--- a number of 64 bits has no more than 64 digits
-pub few_digits : (n s : ℕ) → n < 2 ^ 64 → HasDigits n s → s ≤ 64
-few_digits n zero h d = omega arith
-few_digits n (suc k) h d =
-    elim (cases_order k 64) [
-      | inl e ↦ absurd (omega (arith, ap (λ (m : ℕ). 2 ^ m) e))
-      | inr (inl l) ↦ omega arith
-      | inr (inr g) ↦ absurd (omega (arith, pow-lt {i = 64} {j = k} g))
-    ]
-
--- a step that leaves half at most
-module _ (n s d d' : ℕ) (h : 2 ^ s * d ≤ n) (some : 0 < d) (half : 2 * d' ≤ d) where
-  one_more_digit : HasDigits n (s + 1)
-  one_more_digit =
-      let least : 2 ^ s * 1 ≤ 2 ^ s * d = mul-le-mul_left (2 ^ s) (omega arith) in
-      subst (HasDigits n) (sym (add-one s)) (omega (arith, h, least))
-
-  halved_again : 2 ^ (s + 1) * d' ≤ n
-  halved_again =
-      let less : 2 ^ s * (2 * d') ≤ 2 ^ s * d = mul-le-mul_left (2 ^ s) half in
-      let twice : 2 ^ (s + 1) * d' ≡ 2 ^ s * (2 * d') = ap (λ (m : ℕ). 2 ^ m * d') (add-one s) ∙ ap (λ (m : ℕ). m * d') (pow-suc 2 s) ∙ mul_assoc (2 ^ s) 2 d' in
-      omega (arith, less, twice, h)
-
--- a search --------------------------------------------------------------------------------------------
-
--- the key's place lies from `low` on and not after `high`
-pub record IsNarrowed (key : Key) (cells : List (Key × Cell Value)) (low high steps : ℕ) : Type 0 where
-  pub ordered : low ≤ high
-  pub upto : high ≤ length cells
-  pub below : (j : ℕ) (e : Key × Cell Value) → j < low → slice_get cells j ≡ Some e → key_cmp e.0 key ≡ Less
-  pub above : (j : ℕ) (e : Key × Cell Value) → high ≤ j → slice_get cells j ≡ Some e → key_cmp e.0 key ≡ Greater
-  pub digits : HasDigits (length cells) steps
-  pub halved : 2 ^ steps * (high - low) ≤ length cells
-
-module _ (key : Key) (cells : List (Key × Cell Value)) (are : AreCells cells) (low high steps m : ℕ) (n : IsNarrowed key cells low high steps) (open' : low < high) (middle : m ≡ low + (high - low) / 2) (e : Key × Cell Value) (at : slice_get cells m ≡ Some e) where
-  -- above a lesser key
-  pub narrowed_up : key_cmp e.0 key ≡ Less → IsNarrowed key cells (m + 1) high (steps + 1)
-  narrowed_up l =
-      record {
-        ordered = omega arith;
-        upto = n.upto;
-        below = λ j f h k. elim (cases_order j m) [
-          | inl i ↦ subst (λ (z : Key × Cell Value). key_cmp z.0 key ≡ Less) (some_is e f (sym at ∙ ap (slice_get cells) (sym i) ∙ k)) l
-          | inr (inl b) ↦ key_total.trans f.0 e.0 key (rising_places cells (held _ are.rising) j m f e b k at) l
-          | inr (inr a) ↦ absurd (omega arith)
-        ];
-        above = n.above;
-        digits = one_more_digit (length cells) steps (high - low) (high - (m + 1)) n.halved (omega arith) (omega arith);
-        halved = halved_again (length cells) steps (high - low) (high - (m + 1)) n.halved (omega arith) (omega arith);
-      }
-    where
-      some_is : (a b : Key × Cell Value) → Some a ≡ Some b → a ≡ b
-      some_is a b e = cc
-
-  -- below a greater one
-  pub narrowed_down : key_cmp e.0 key ≡ Greater → IsNarrowed key cells low m (steps + 1)
-  narrowed_down g =
-      record {
-        ordered = omega arith;
-        upto = omega (arith, n.upto);
-        below = n.below;
-        above = λ j f h k. elim (cases_order j m) [
-          | inl i ↦ subst (λ (z : Key × Cell Value). key_cmp z.0 key ≡ Greater) (some_is e f (sym at ∙ ap (slice_get cells) (sym i) ∙ k)) g
-          | inr (inl b) ↦ absurd (omega arith)
-          | inr (inr a) ↦ greater_back key f.0 (key_total.trans key e.0 f.0 (less_back e.0 key g) (rising_places cells (held _ are.rising) m j e f a at k))
-        ];
-        digits = one_more_digit (length cells) steps (high - low) (m - low) n.halved (omega arith) (omega arith);
-        halved = halved_again (length cells) steps (high - low) (m - low) n.halved (omega arith) (omega arith);
-      }
-    where
-      some_is : (a b : Key × Cell Value) → Some a ≡ Some b → a ≡ b
-      some_is a b e = cc
-
--- a key that comes after the last one goes in at the end
-pub behind_last : (key : Key) (cells : List (Key × Cell Value)) (are : AreCells cells) (last : Key × Cell Value) (m : ℕ) → m + 1 ≡ length cells → slice_get cells m ≡ Some last → key_cmp last.0 key ≡ Less → IsPlaceFor key cells (length cells)
-behind_last key cells are last m end at less =
-    ends_at cells (length cells) key (held _ are.rising) (omega arith)
-    (λ j e h k. elim (cases_order j m) [
-      | inl i ↦ subst (λ (z : Key × Cell Value). key_cmp z.0 key ≡ Less) (some_is last e (sym at ∙ ap (slice_get cells) (sym i) ∙ k)) less
-      | inr (inl b) ↦ key_total.trans e.0 last.0 key (rising_places cells (held _ are.rising) j m e last b k at) less
-      | inr (inr a) ↦ absurd (omega arith)
-    ])
-    (λ j e h k. elim (slice_get_cases cells j).1 [ inl w ↦ absurd (let low = w.1 in omega arith) | inr w ↦ absurd (cc) ])
-  where
-    some_is : (a b : Key × Cell Value) → Some a ≡ Some b → a ≡ b
-    some_is a b e = cc
-
--- two lists in step -------------------------------------------------------------------------------------
 
 -- what is done of two lists, and what is left of each
 pub record IsWalked (first second done a b : List (Key × Cell Value)) (steps : ℕ) : Type 0 where
@@ -122,9 +29,14 @@ pub record IsWalked (first second done a b : List (Key × Cell Value)) (steps : 
   pub done_in : All IsSighting done
   pub a_in : All IsSighting a
   pub b_in : All IsSighting b
-  pub counted : steps + (length a + length b) ≤ length first + length second
+  pub fewer : steps + (length a + length b) ≤ length first + length second
+  pub counted : steps + compared_by_walk a b ≡ compared_by_walk first second
 
 module _ (first second done s t : List (Key × Cell Value)) (x y : Key × Cell Value) (steps : ℕ) (w : IsWalked first second done (x ∷ s) (y ∷ t) steps) where
+  -- what is compared after this depends on the order of the two keys
+  by_key : {o : Ordering} → key_cmp x.0 y.0 ≡ o → compared_by_walk (x ∷ s) (y ∷ t) ≡ 1 + by_order o (compared_by_walk s (y ∷ t)) (compared_by_walk s t) (compared_by_walk (x ∷ s) t)
+  by_key e = ap (λ (o : Ordering). 1 + by_order o (compared_by_walk s (y ∷ t)) (compared_by_walk s t) (compared_by_walk (x ∷ s) t)) e
+
   -- the first one's key is less
   pub walked_first : key_cmp x.0 y.0 ≡ Less → IsWalked first second (done ++ x ∷ []) s (y ∷ t) (steps + 1)
   walked_first l =
@@ -135,7 +47,8 @@ module _ (first second done s t : List (Key × Cell Value)) (x y : Key × Cell V
         done_in = All-push IsSighting done x w.done_in (All-head IsSighting x s w.a_in);
         a_in = All-tail IsSighting x s w.a_in;
         b_in = w.b_in;
-        counted = omega (arith, w.counted);
+        fewer = omega (arith, w.fewer);
+        counted = omega (arith, w.counted, by_key l);
       }
 
   -- the second one's is
@@ -148,7 +61,8 @@ module _ (first second done s t : List (Key × Cell Value)) (x y : Key × Cell V
         done_in = All-push IsSighting done y w.done_in (All-head IsSighting y t w.b_in);
         a_in = w.a_in;
         b_in = All-tail IsSighting y t w.b_in;
-        counted = omega (arith, w.counted);
+        fewer = omega (arith, w.fewer);
+        counted = omega (arith, w.counted, by_key g);
       }
 
   -- they are the same
@@ -161,7 +75,8 @@ module _ (first second done s t : List (Key × Cell Value)) (x y : Key × Cell V
         done_in = All-push IsSighting done (x.0, join x.1 y.1) w.done_in h;
         a_in = All-tail IsSighting x s w.a_in;
         b_in = All-tail IsSighting y t w.b_in;
-        counted = omega (arith, w.counted);
+        fewer = omega (arith, w.fewer);
+        counted = omega (arith, w.counted, by_key (ap (key_cmp x.0) (sym e) ∙ tied_itself key_total x.0));
       }
 
 -- the same walk, of lists that are these
@@ -210,5 +125,15 @@ walked_start first second d a b s f g ed ea eb es =
       done_in = All-nil IsSighting;
       a_in = f.in_range;
       b_in = g.in_range;
+      fewer = omega arith;
       counted = omega arith;
     }) ed ea eb es
+
+-- with nothing left of one, no more is compared
+pub compared_all : (first second d a b : List (Key × Cell Value)) (s : ℕ) → IsWalked first second d a b s → (a ≡ []) ⊎ (b ≡ []) → s ≡ compared_by_walk first second
+compared_all first second d a b s w (inl e) = omega (arith, w.counted, ap (λ (z : List (Key × Cell Value)). compared_by_walk z b) e)
+compared_all first second d a b s w (inr e) = omega (arith, w.counted, ap (compared_by_walk a) e, none_second a)
+  where
+    none_second : (z : List (Key × Cell Value)) → compared_by_walk z [] ≡ 0
+    none_second [] = refl
+    none_second (x ∷ z) = refl

@@ -1,5 +1,5 @@
 -- The cells of a store, one for each key, in the order of keys.
-use Rattle.std.specs.Prelude.{◌≡◌, ℕ, zero, suc, ◌^◌, ◌≤◌, List, length, insert, slice_get, All, IsTrue, Result, Ok, Err, None, Some}
+use Rattle.std.specs.Prelude.{◌≡◌, ℕ, ◌≤◌, List, length, insert, slice_get, All, IsTrue, Result, Ok, Err, None, Some}
 use Rattle.std.specs.FinMap.{get}
 use Rattle.std.specs.FinMap.Entries.{is_sorted}
 use Rattle.fact_join.specs.declared.cell.Cell.{Cell}
@@ -24,8 +24,3 @@ pub record IsPlaceFor (key : Key) (cells : List (Key × Cell Value)) (place : �
 abbrev pub IsSearched : Key → List (Key × Cell Value) → Result ℕ ℕ → Type 0
 IsSearched key cells (Ok place) = (c : Cell Value) × (slice_get cells place ≡ Some (key, c))
 IsSearched key cells (Err place) = IsPlaceFor key cells place
-
--- a number has at least so many binary digits; 0 has none
-abbrev pub HasDigits : ℕ → ℕ → Type 0
-HasDigits n zero = Unit {0}
-HasDigits n (suc digits) = 2 ^ digits ≤ n

@@ -1,5 +1,6 @@
 pub mod Cells
 pub mod Coded
+pub mod Comparisons
 pub mod Ingest
 pub mod Key
 pub mod Known

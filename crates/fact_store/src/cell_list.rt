@@ -2,6 +2,7 @@ ghost use Rattle.std.specs.Prelude.{◌≡◌, ◌+◌, ◌*◌, ◌<◌, ◌≤
 ghost use Rattle.std.specs.Option.{option_to_list};
 ghost use Rattle.page_list.specs.Rest.{rest_of};
 ghost use Rattle.fact_store.specs.Cells.{AreCells};
+ghost use Rattle.fact_store.specs.Comparisons.{compared_by_walk};
 ghost use Rattle.fact_store.specs.Merge.{join, merge};
 ghost use Rattle.fact_store.specs.Sighting.{IsSighting};
 ghost use Rattle.fact_store.specs.View.{view};
@@ -49,8 +50,10 @@ pub(crate) fn merge_cells(
     requires second { AreCells second.now.items }
     requires steps { steps.old ≡ 0 }
     ensures cells { IfOk result (λ cells. AreCells cells.items) }
-    ensures merged { IfOk result (λ cells. view cells.items ≡ merge (view first.now.items) (view second.now.items)) }
-    ensures steps { steps.new ≤ length first.now.items + length second.now.items }
+    ensures merged { IfOk result (λ cells.
+        view cells.items ≡ merge (view first.now.items) (view second.now.items)) }
+    ensures counted { IfOk result (λ _. steps.new ≡ compared_by_walk first.now.items second.now.items) }
+    ensures fewer { steps.new ≤ length first.now.items + length second.now.items }
 {
     let mut cells = PageList::new(first.allocator());
     let mut left = first.iter();

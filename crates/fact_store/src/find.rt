@@ -1,5 +1,6 @@
-ghost use Rattle.std.specs.Prelude.{◌≡◌, ◌+◌, ◌<◌, ◌^◌, length};
-ghost use Rattle.fact_store.specs.Cells.{AreCells, IsSearched, HasDigits};
+ghost use Rattle.std.specs.Prelude.{◌≡◌, ◌+◌, ◌<◌, ◌≤◌, ◌^◌, length};
+ghost use Rattle.fact_store.specs.Cells.{AreCells, IsSearched};
+ghost use Rattle.fact_store.specs.Comparisons.{CountsSearch, HasDigits, IsBudget};
 ghost use Rattle.fact_store.specs.Key.{key_cmp};
 
 use crate::key::Key;
@@ -38,27 +39,37 @@ pub(crate) fn place_of(cells: &PageList<Sighting>, key: &Key) -> Result<usize, u
 pub(crate) struct Found {
     /// The place of the key's cell, or where it would go.
     pub place: Result<usize, usize>,
+    /// How many keys were compared with it.
     pub steps: u32,
 }
 
-/// Where a key has its cell, or would. Halves the places that are left at each step.
+/// Where a key has its cell, or would. Each step leaves less than half of the next power of two.
 pub(crate) fn find(cells: &PageList<Sighting>, key: &Key) -> Found
     requires { AreCells cells.now.items }
     ensures place { IsSearched key.now cells.now.items result.place }
-    ensures steps { HasDigits (length cells.now.items) result.steps }
+    ensures counted { CountsSearch key.now cells.now.items result.steps }
+    ensures digits { HasDigits (length cells.now.items) result.steps }
 {
     let mut steps = 0;
     let mut low = 0;
     let mut high = cells.len();
+    let mut most = all_ones(high);
+    let mut pages = cells.pages();
     while low < high {
-        let middle = low + (high - low) / 2;
-        let sighting = cells.get(middle).unwrap();
-        match compare(&sighting.key(), key, &mut steps) {
-            Ordering::Less => low = middle + 1,
-            Ordering::Greater => high = middle,
+        most /= 2;
+        let split = cells.split(low, high, most, pages);
+        match compare(&split.item.key(), key, &mut steps) {
+            Ordering::Less => {
+                low = split.place + 1;
+                pages = split.after;
+            }
+            Ordering::Greater => {
+                high = split.place;
+                pages = split.before;
+            }
             Ordering::Equal => {
                 return Found {
-                    place: Ok(middle),
+                    place: Ok(split.place),
                     steps: steps as u32,
                 };
             }
@@ -68,4 +79,16 @@ pub(crate) fn find(cells: &PageList<Sighting>, key: &Key) -> Found
         place: Err(low),
         steps: steps as u32,
     }
+}
+
+/// The least number that is at least `n` and has no binary digit but 1.
+fn all_ones(n: usize) -> usize
+    ensures least { IsBudget n 0 result }
+    ensures enough { n ≤ result }
+{
+    let mut ones = 0;
+    while ones < n {
+        ones = ones * 2 + 1;
+    }
+    ones
 }

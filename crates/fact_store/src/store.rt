@@ -1,6 +1,6 @@
 ghost use Rattle.std.specs.Prelude.{◌≡◌, ◌+◌, ◌*◌, ◌≤◌, [], ◌∷◌, ◌↔◌, OnOk, OnErr, IfOk, IsNone, IfSome, length, max, slice_get, unwrap_or};
 ghost use Rattle.std.specs.FinMap.{len};
-ghost use Rattle.fact_store.specs.Cells.{HasDigits};
+ghost use Rattle.fact_store.specs.Comparisons.{CountsSearch, HasDigits, compared_by_walk};
 ghost use Rattle.fact_store.specs.View.{IsNewestGeneration, cell_for, cells_of, no_facts, view};
 ghost use Rattle.fact_store.specs.Merge.{merge, IsMerge};
 ghost use Rattle.fact_store.specs.Sighting.{AreInRange};
@@ -67,14 +67,6 @@ impl Store {
         }
     }
 
-    /// Gets memory for so many more keys, each of which may need a page of its own. Until they are there, adding needs none.
-    pub fn reserve(&mut self, n: usize) -> Result<(), Refused>
-        ensures { self.new ≡ self.old }
-    {
-        self.cells.reserve(n)?;
-        Ok(())
-    }
-
     /// Adds what the sighting says to what is held. Takes a search, and moves no more than a page.
     pub fn add(&mut self, sighting: Sighting) -> Result<(), Refused>
         ensures ok { OnOk result (self.new ≡ merge self.old (view (sighting ∷ []))) }
@@ -124,6 +116,8 @@ impl Store {
     pub fn merge_steps(&mut self, other: &Store) -> Result<u128, Refused>
         ensures ok { OnOk result (self.new ≡ merge self.old other.now) }
         ensures least { OnOk result (IsMerge self.old other.now self.new) }
+        ensures counted { IfOk result (λ steps.
+            steps ≡ compared_by_walk (cells_of self.old) (cells_of other.now)) }
         ensures steps { IfOk result (λ steps. steps ≤ 2 * (len self.old + len other.now)) }
         ensures err { OnErr result (self.new ≡ self.old) }
     {
@@ -164,6 +158,7 @@ impl Store {
     /// The cell of a key, if there is one, and how many times two keys were compared.
     pub fn get_steps(&self, key: Key) -> (Option<Cell<Value>>, u32)
         ensures found { result.0 ≡ cell_for self.now key }
+        ensures counted { CountsSearch key (cells_of self.now) result.1 }
         ensures steps { HasDigits (len self.now) result.1 }
         ensures in_range { AreInRange self.now }
     {

@@ -267,3 +267,30 @@ fn pages_hold_what_a_plain_list_says(rt: HostRuntime) -> Result<(), Fail> {
     }
     Ok(())
 }
+
+/// A store of the tables' rooms of the switches with these GUIDs.
+fn caps(alloc: Global, guids: &[u64]) -> Result<Store, Fail> {
+    let mut store = Store::new(alloc);
+    for guid in guids {
+        store.add(cap(*guid, 1)?)?;
+    }
+    Ok(store)
+}
+
+#[test]
+fn steps_are_comparisons(rt: HostRuntime) -> Result<(), Fail> {
+    let mut three = caps(rt.alloc(), &[1, 3, 5])?;
+    // that in the middle, and then one beside it
+    for (guid, steps) in [(3, 1), (1, 2), (5, 2), (0, 2), (2, 2), (4, 2), (6, 2)] {
+        let counted = three.get_steps(Key::Cap(node(guid))).1;
+        assert!(rt; counted == steps, "{guid}");
+    }
+    assert_eq!(rt; Store::new(rt.alloc()).get_steps(Key::Cap(node(1))).1, 0);
+    // 1 with 2, 3 with 2, 3 with 7 and 5 with 7; then 1, 2, 3, 5 and 7 with themselves; then none
+    let two = caps(rt.alloc(), &[2, 7])?;
+    assert_eq!(rt; three.merge_steps(&two)?, 4);
+    let all = three.try_clone()?;
+    assert_eq!(rt; three.merge_steps(&all)?, 5);
+    assert_eq!(rt; three.merge_steps(&Store::new(rt.alloc()))?, 0);
+    Ok(())
+}

@@ -1,5 +1,5 @@
-ghost use Rattle.std.specs.Prelude.{◌≡◌, length};
-ghost use Rattle.fact_store.specs.View.{cells_of};
+ghost use Rattle.std.specs.Prelude.{◌≡◌, Some, length};
+ghost use Rattle.fact_store.specs.View.{cell_for, cells_of};
 ghost use Rattle.subnet_view.specs.EndPorts.{end_ports};
 ghost use Rattle.lid_assign.specs.LidFault.{no_room};
 ghost use Rattle.lid_assign.specs.Lids.{room};
@@ -51,6 +51,7 @@ pub(crate) fn room(store: &Store) -> u16
 
 /// The table room of a cell's node, where that is a usable switch.
 fn usable_cap(store: &Store, sighting: &Sighting) -> Option<u16>
+    requires { cell_for store.now sighting.now.0 ≡ Some sighting.now.1 }
     ensures { result ≡ usable_cap (cells_of store.now) sighting.now }
 {
     cap(store, usable_guid(store, sighting)?)

@@ -2,7 +2,7 @@
 use Rattle.std.proofs.Common.{◌≡◌, ℕ, zero, suc, ◌+◌, ◌-◌, ◌<◌, ◌≤◌, List, [], ◌∷◌, ◌++◌, length, get_or, set, take, drop, refl, sym, ap, ◌∙◌, subst, arith, ◌⊎◌, inl, inr, zero-add, add-one}
 use Rattle.std.proofs.lemmas.Bool.{cases_lt}
 use Rattle.std.proofs.lemmas.Option.{slice_get-get_or}
-use Rattle.std.proofs.lemmas.List.{append_assoc, append-nil, length-append, drop_all, drop-drop, drop_at, drop-append-le, take_rest}
+use Rattle.std.proofs.lemmas.List.{append_assoc, append-nil, length-append, drop_all, get_or_default, drop-drop, drop_at, drop-append-le, take_rest}
 use Rattle.std.specs.Prelude.{Vec, Some, slice_get}
 use Rattle.std.specs.declared.alloc.Global.{Global}
 use Rattle.page_list.specs.Pages.{items_of, starts_from, IsPlace}
@@ -108,6 +108,21 @@ module _ {T : Type 0} (pages : List (Vec T Global)) (starts : List ℕ) (are : s
                 inl (omega (arith, last (omega (arith, more.0, ap length are, length-starts_from 0 pages)), next, more.1, same))
             | inr all ↦ inr (omega (arith, all, same))
           ]
+
+    -- a place that a page has lies in it
+    pub lies_in : (p : Vec T Global) → p ≡ get_or pages k p → (i : ℕ) → get_or starts k 0 ≤ i → i - get_or starts k 0 < length p.items
+        → IsPlace pages i k (i - get_or starts k 0)
+    lies_in p is i from in_page =
+        record {
+          there = page_there;
+          counted = omega (arith, start_is);
+          begins = omega (arith, ap (λ (n : List ℕ). get_or n k 0) are);
+          upto = λ q e. omega (arith, ap (λ (v : Vec T Global). length v.items) (same q e));
+          within = λ q e h. omega (arith, ap (λ (v : Vec T Global). length v.items) (same q e));
+        }
+      where
+        same : (q : Vec T Global) → q ≡ get_or pages k q → p ≡ q
+        same q e = is ∙ get_or_default pages k p q page_there ∙ sym e
 
     -- the place that was found
     pub is_place : (i : ℕ) → (k + 1 < length starts → i < get_or starts (k + 1) 0) → get_or starts k 0 ≤ i → i ≤ length (items_of pages) → IsPlace pages i k (i - get_or starts k 0)

@@ -1,3 +1,4 @@
 pub mod Listing
 pub mod Pages
 pub mod Rest
+pub mod Split

@@ -5,9 +5,11 @@ mod iter;
 mod page;
 mod page_list;
 mod place;
+mod split;
 
 pub use iter::Iter;
 pub use page_list::PageList;
+pub use split::{Pages, Split};
 
 #[cfg(test)]
 mod tests;

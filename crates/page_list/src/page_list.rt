@@ -12,9 +12,9 @@ use std::marker::Model;
 #[derive(Drop)]
 pub struct PageList<T> {
     /// The items, in pages of at most `PAGE`.
-    pages: Vec<Vec<T>>,
+    pub(crate) pages: Vec<Vec<T>>,
     /// The place of each page's first item.
-    starts: Vec<usize>,
+    pub(crate) starts: Vec<usize>,
     /// Pages with no items.
     spare: Vec<Vec<T>>,
     /// The number of items.

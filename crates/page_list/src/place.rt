@@ -53,3 +53,22 @@ pub(crate) fn place_of<T>(pages: &[Vec<T>], starts: &[usize], i: usize) -> Place
         offset: i - starts[page],
     }
 }
+
+/// The same where this page is likely to have the place, and is looked at first.
+pub(crate) fn place_near<T>(pages: &[Vec<T>], starts: &[usize], page: usize, i: usize) -> Place
+    requires some { 0 < length pages.now }
+    requires starts { starts.now ≡ starts_from 0 pages.now }
+    requires upto { i ≤ length (items_of pages.now) }
+    ensures { IsPlace pages.now i result.page result.offset }
+{
+    if page < starts.len() {
+        let start = starts[page];
+        if start <= i && i - start < pages[page].len() {
+            return Place {
+                page,
+                offset: i - start,
+            };
+        }
+    }
+    place_of(pages, starts, i)
+}

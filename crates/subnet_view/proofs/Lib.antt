@@ -6,6 +6,7 @@ pub mod UsableSwitches
 pub mod EndPorts
 pub mod EndPortOrder
 pub mod EndPortList
+pub mod Walks
 pub mod WireEnds
 pub mod WireLaws
 pub mod Attachments

@@ -50,9 +50,13 @@ cap_of cells g = count_in (known_in cells (Cap g))
 abbrev pub is_up : Cells → ℕ → ℕ → Bool
 is_up cells g p = option_map_or (λ up. up) (up_of cells g p) false
 
+-- what is known of a node says that it is a switch
+abbrev pub is_switch_in : Option (NodeType × ℕ) → Bool
+is_switch_in node = option_map_or (λ n. is_switch n.0) node false
+
 -- a node that is known to be a switch
 abbrev pub is_switch_node : Cells → ℕ → Bool
-is_switch_node cells g = option_map_or (λ n. is_switch n.0) (node_of cells g) false
+is_switch_node cells g = is_switch_in (node_of cells g)
 
 -- the number of a node's ports, and 0 where the node is not known
 abbrev pub port_count_of : Cells → ℕ → ℕ
@@ -62,9 +66,13 @@ port_count_of cells g = option_map_or (λ n. n.1) (node_of cells g) 0
 abbrev pub is_usable : Cells → ℕ → Bool
 is_usable cells g = is_switch_node cells g && is_some (cap_of cells g)
 
+-- a port from 1 to a count
+abbrev pub is_counted : ℕ → ℕ → Bool
+is_counted p count = nat_le 1 p && nat_le p count
+
 -- a port from 1 to the node's count
 abbrev pub is_port_of : Cells → ℕ → ℕ → Bool
-is_port_of cells g p = nat_le 1 p && nat_le p (port_count_of cells g)
+is_port_of cells g p = is_counted p (port_count_of cells g)
 
 -- the node of a cell, where it is a usable switch
 abbrev pub usable_guid : Cells → Key × Cell Value → Option ℕ

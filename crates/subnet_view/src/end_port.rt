@@ -1,12 +1,12 @@
-ghost use Rattle.std.specs.Prelude.{◌≡◌, length, map, IfOk};
+ghost use Rattle.std.specs.Prelude.{◌≡◌, Some, length, map, IfOk};
 ghost use Rattle.std.specs.List.{filter_map};
 ghost use Rattle.std.specs.List.Sorted.{IsPermutation, IsSorted};
-ghost use Rattle.fact_store.specs.View.{cells_of};
+ghost use Rattle.fact_store.specs.View.{cell_for, cells_of};
 ghost use Rattle.subnet_view.specs.EndPorts.{is_end_port, is_end_port_place, guid_and_port, port_numbers, port_cmp, in_order, end_ports};
 
-use crate::reading::{is_port, is_switch, port_guid};
+use crate::reading::{guid_said, is_counted, node, port_guid};
 use fact_store::{Key, Refused, Sighting, Store};
-use smp_bytes::{Guid, PortNum};
+use smp_bytes::{Guid, NodeType, PortNum};
 use std::alloc::{AllocError, Global};
 
 /// A port that has a LID of its own: port 0 of a switch, or a port of another node.
@@ -19,7 +19,7 @@ pub struct EndPort {
 }
 
 /// Whether a port is an end port: port 0 of a switch, or a port of another node, with a known GUID.
-/// Takes three searches.
+/// Takes two searches.
 pub fn is_end_port(store: &Store, node: Guid, port: PortNum) -> bool
     ensures { result ≡ is_end_port (cells_of store.now) node port }
 {
@@ -95,14 +95,15 @@ fn sort_key(end: &(Guid, EndPort)) -> [u64; 3]
     ]
 }
 
-/// The end port of a cell with its port GUID, where the cell is an end port's GUID.
+/// The end port of a cell with its port GUID, where the cell is an end port's GUID. Takes a search.
 fn guid_and_port(store: &Store, sighting: &Sighting) -> Option<(Guid, EndPort)>
+    requires { cell_for store.now sighting.now.0 ≡ Some sighting.now.1 }
     ensures { result ≡ guid_and_port (cells_of store.now) sighting.now }
 {
     match sighting.key() {
         Key::PortGuid(node, port) => {
             if is_end_port_place(store, node, port) {
-                let guid = port_guid(store, node, port)?;
+                let guid = guid_said(sighting)?;
                 Some((guid, EndPort { node, port }))
             } else {
                 None
@@ -112,13 +113,13 @@ fn guid_and_port(store: &Store, sighting: &Sighting) -> Option<(Guid, EndPort)>
     }
 }
 
-/// Whether the port is port 0 of a switch, or a port from 1 to the count of another node.
+/// Whether the port is port 0 of a switch, or a port from 1 to the count of another node. Takes a search.
 fn is_end_port_place(store: &Store, node: Guid, port: PortNum) -> bool
     ensures { result ≡ is_end_port_place (cells_of store.now) node port }
 {
-    if is_switch(store, node) {
-        port.number() == 0
-    } else {
-        is_port(store, node, port)
+    match self::node(store, node) {
+        Some((NodeType::Switch, _)) => port.number() == 0,
+        Some((_, ports)) => is_counted(port, ports),
+        None => false,
     }
 }

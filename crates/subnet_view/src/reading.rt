@@ -1,9 +1,10 @@
-ghost use Rattle.std.specs.Prelude.{◌≡◌};
+ghost use Rattle.std.specs.Prelude.{◌≡◌, Some};
+ghost use Rattle.fact_store.specs.Known.{guid_in, kind_in, value_in};
 ghost use Rattle.fact_store.specs.View.{cells_of};
-ghost use Rattle.subnet_view.specs.Reading.{node_of, port_guid_of, link_of, claim_of, cap_of, up_of, is_up, is_switch_node, is_port_of, port_count_of};
+ghost use Rattle.subnet_view.specs.Reading.{node_of, port_guid_of, link_of, claim_of, cap_of, up_of, is_up, is_switch_in, is_switch_node, is_counted};
 
 use crate::end_port::EndPort;
-use fact_store::Store;
+use fact_store::{Cell, Sighting, Store, Value};
 use smp_bytes::{Guid, Lid, NodeType, PortNum};
 
 // None where nothing was told, and where what was told is disputed. Each takes a search.
@@ -64,19 +65,36 @@ pub(crate) fn is_switch(store: &Store, node: Guid) -> bool
     matches!(self::node(store, node), Some((NodeType::Switch, _)))
 }
 
-/// The number of a node's ports, and 0 where the node is not known.
-fn port_count(store: &Store, node: Guid) -> u8
-    ensures { result ≡ port_count_of (cells_of store.now) node }
+/// Whether the port is one from 1 to a count.
+pub(crate) fn is_counted(port: PortNum, count: u8) -> bool
+    ensures { result ≡ is_counted port count }
 {
-    match self::node(store, node) {
-        Some((_, ports)) => ports,
-        None => 0,
+    1 <= port.number() && port.number() <= count
+}
+
+/// Whether a cell says that its node is a switch.
+pub(crate) fn is_switch_said(sighting: &Sighting) -> bool
+    ensures { result ≡ is_switch_in (kind_in (value_in (Some sighting.now.1))) }
+{
+    matches!(value_said(sighting), Some(Value::Kind(NodeType::Switch, _)))
+}
+
+/// The GUID that a cell says.
+pub(crate) fn guid_said(sighting: &Sighting) -> Option<Guid>
+    ensures { result ≡ guid_in (value_in (Some sighting.now.1)) }
+{
+    match value_said(sighting)? {
+        Value::Guid(guid) => Some(guid),
+        _ => None,
     }
 }
 
-/// Whether the port is one from 1 to the node's count.
-pub(crate) fn is_port(store: &Store, node: Guid, port: PortNum) -> bool
-    ensures { result ≡ is_port_of (cells_of store.now) node port }
+/// The value of a cell. None where it is disputed.
+fn value_said(sighting: &Sighting) -> Option<Value>
+    ensures { result ≡ value_in (Some sighting.now.1) }
 {
-    1 <= port.number() && port.number() <= port_count(store, node)
+    match sighting.cell() {
+        Cell::Known(_, value) => Some(value),
+        Cell::Disputed(_) => None,
+    }
 }

@@ -1,8 +1,9 @@
-ghost use Rattle.std.specs.Prelude.{◌≡◌, IfOk};
-ghost use Rattle.fact_store.specs.View.{cells_of};
-ghost use Rattle.subnet_view.specs.Reading.{is_usable, usable_guid, switches};
+ghost use Rattle.std.specs.Prelude.{◌≡◌, ◌&&◌, Some, is_some, IfOk};
+ghost use Rattle.fact_store.specs.Known.{kind_in, value_in};
+ghost use Rattle.fact_store.specs.View.{cell_for, cells_of};
+ghost use Rattle.subnet_view.specs.Reading.{cap_of, is_switch_in, is_usable, usable_guid, switches};
 
-use crate::reading::{cap, is_switch};
+use crate::reading::{cap, is_switch, is_switch_said};
 use fact_store::{Key, Refused, Sighting, Store};
 use smp_bytes::Guid;
 use std::alloc::{AllocError, Global};
@@ -34,13 +35,14 @@ fn listed_switches(alloc: Global, store: &Store) -> Result<Vec<Guid>, AllocError
     Ok(found)
 }
 
-/// The node of a cell, where it is a usable switch. Takes two searches.
+/// The node of a cell of the store, where it is a usable switch. Takes a search where it is a switch.
 pub fn usable_guid(store: &Store, sighting: &Sighting) -> Option<Guid>
+    requires { cell_for store.now sighting.now.0 ≡ Some sighting.now.1 }
     ensures { result ≡ usable_guid (cells_of store.now) sighting.now }
 {
     match sighting.key() {
         Key::Node(node) => {
-            if is_usable(store, node) {
+            if is_usable_said(store, node, sighting) {
                 Some(node)
             } else {
                 None
@@ -48,4 +50,12 @@ pub fn usable_guid(store: &Store, sighting: &Sighting) -> Option<Guid>
         }
         _ => None,
     }
+}
+
+/// Whether a node that this cell tells of is a switch whose table room is known.
+fn is_usable_said(store: &Store, node: Guid, sighting: &Sighting) -> bool
+    ensures { result ≡ (is_switch_in (kind_in (value_in (Some sighting.now.1)))
+        && is_some (cap_of (cells_of store.now) node)) }
+{
+    is_switch_said(sighting) && cap(store, node).is_some()
 }

@@ -1,5 +1,5 @@
 -- Each step moves the lesser key, or both where they are the same.
-use Rattle.std.proofs.Common.{◌≡◌, ◌+◌, [], ◌∷◌, ◌++◌, sym, ap, ◌∙◌, subst, arith, List, inl, inr}
+use Rattle.std.proofs.Common.{◌≡◌, ◌+◌, [], ◌∷◌, ◌++◌, sym, ap, ◌∙◌, subst, arith, List, inl, inr, ◌⊎◌}
 use Rattle.std.specs.Prelude.{Option}
 use Rattle.std.specs.Option.{option_to_list}
 use Rattle.std.specs.declared.cmp.Ordering.TheVariants.{Less, Equal, Greater}
@@ -11,7 +11,7 @@ use Rattle.fact_store.specs.Merge.{join}
 use Rattle.fact_store.specs.Sighting.{IsSighting}
 use Rattle.page_list.specs.Rest.{rest_of}
 use Rattle.fact_store.proofs.Keys.{key_exact}
-use Rattle.fact_store.proofs.Walks.{IsWalked, walked_first, walked_second, walked_both, walked_to, walked_start, walked_all, next_left, nothing_left}
+use Rattle.fact_store.proofs.Walks.{IsWalked, walked_first, walked_second, walked_both, walked_to, walked_start, walked_all, compared_all, next_left, nothing_left}
 use Rattle.fact_store.specs.Cells.{AreCells}
 use Rattle.fact_store.specs.View.{view}
 use Rattle.fact_store.proofs.Views.{view_of_both}
@@ -20,7 +20,7 @@ use Rattle.fact_store.proofs.cell_list.merge_cells.Goals as goal
 use Rattle.fact_store.proofs.cell_list.merge_cells.Goals.{in_default, in_default-2}
 
 pub compare-requires : goal.compare-requires
-compare-requires c = omega (arith, c.loop-a.invariant.0.counted, c.iter-left.ensures.countable, c.iter-right.ensures.countable)
+compare-requires c = omega (arith, c.loop-a.invariant.0.fewer, c.iter-left.ensures.countable, c.iter-right.ensures.countable)
 
 pub loop-a-preserved-in_ok-push-in-Less : goal.loop-a-preserved-in_ok-push-in-Less
 loop-a-preserved-in_ok-push-in-Less c =
@@ -70,18 +70,26 @@ loop-a-init c = (
 )
 
 -- what is held at the end
-at_end : (c : goal.In_ok-append-2) → AreCells c.append-2.new.cells.items × (view c.append-2.new.cells.items ≡ view (c.args.first.now.items ++ c.args.second.now.items))
+at_end : (c : goal.In_ok-append-2) → (option_to_list c.loop-a.a ++ rest_of c.loop-a.left ≡ []) ⊎ (option_to_list c.loop-a.b ++ rest_of c.loop-a.right ≡ [])
 at_end c =
-    walked_all c.args.first.now.items c.args.second.now.items c.loop-a.cells.items (option_to_list c.loop-a.a ++ rest_of c.loop-a.left) (option_to_list c.loop-a.b ++ rest_of c.loop-a.right) c.append-2.new.cells.items c.loop-a.steps c.loop-a.invariant.0
-    (elim c.match-a.branch [
+    elim c.match-a.branch [
       | in_default w ↦ inr (ap (λ o. option_to_list o ++ rest_of c.loop-a.right) w.in_default.is-1 ∙ c.loop-a.invariant.2 w.in_default.is-1)
       | in_default-2 w ↦ inl (ap (λ o. option_to_list o ++ rest_of c.loop-a.left) w.in_default.is-0 ∙ c.loop-a.invariant.1 w.in_default.is-0)
-    ])
+    ]
+
+-- the cells at the end
+all_at_end : (c : goal.In_ok-append-2) → AreCells c.append-2.new.cells.items × (view c.append-2.new.cells.items ≡ view (c.args.first.now.items ++ c.args.second.now.items))
+all_at_end c =
+    walked_all c.args.first.now.items c.args.second.now.items c.loop-a.cells.items (option_to_list c.loop-a.a ++ rest_of c.loop-a.left) (option_to_list c.loop-a.b ++ rest_of c.loop-a.right) c.append-2.new.cells.items c.loop-a.steps c.loop-a.invariant.0 (at_end c)
     (c.in_ok-append-2.ensures ∙ ap (λ (z : List (Key × Cell Value)). z ++ option_to_list c.loop-a.b ++ rest_of c.loop-a.right) (c.in_ok-append.ensures ∙ append_assoc c.loop-a.cells.items (option_to_list c.loop-a.a) (rest_of c.loop-a.left))
     ∙ append_assoc (c.loop-a.cells.items ++ (option_to_list c.loop-a.a ++ rest_of c.loop-a.left)) (option_to_list c.loop-a.b) (rest_of c.loop-a.right))
 
 pub returns-clause-cells : goal.returns-clause-cells
-returns-clause-cells c = (at_end c).0
+returns-clause-cells c = (all_at_end c).0
 
 pub returns-clause-merged : goal.returns-clause-merged
-returns-clause-merged c = (at_end c).1 ∙ view_of_both c.args.first.now.items c.args.second.now.items
+returns-clause-merged c = (all_at_end c).1 ∙ view_of_both c.args.first.now.items c.args.second.now.items
+
+pub returns-clause-counted : goal.returns-clause-counted
+returns-clause-counted c =
+    compared_all c.args.first.now.items c.args.second.now.items c.loop-a.cells.items (option_to_list c.loop-a.a ++ rest_of c.loop-a.left) (option_to_list c.loop-a.b ++ rest_of c.loop-a.right) c.loop-a.steps c.loop-a.invariant.0 (at_end c)

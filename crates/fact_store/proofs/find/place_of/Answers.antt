@@ -4,7 +4,7 @@ use Rattle.std.specs.declared.cmp.Ordering.TheVariants.{Less}
 use Rattle.fact_store.specs.declared.key.Key.{Key}
 use Rattle.fact_store.specs.Cells.{IsPlaceFor}
 use Rattle.fact_store.specs.Key.{key_cmp}
-use Rattle.fact_store.proofs.Walks.{behind_last}
+use Rattle.fact_store.proofs.Searches.{behind_last}
 use Rattle.fact_store.proofs.find.place_of.Goals as goal
 
 pub returns-in-Less : goal.returns-in-Less

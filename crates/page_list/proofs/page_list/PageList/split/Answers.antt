@@ -1,0 +1,12 @@
+-- The page that has the place has the item.
+use Rattle.std.proofs.Common.{◌≡◌, ap, length, sym, arith}
+use Rattle.page_list.specs.Pages.{items_of}
+use Rattle.page_list.proofs.Paged.{item_read}
+use Rattle.page_list.proofs.page_list.PageList.split.Goals as goal
+
+pub returns-clause-item : goal.returns-clause-item
+returns-clause-item g c =
+    let view : items_of c.self.inside.pages.items ≡ c.args.self.now.items = λ i. (c.self.view_is i).items in
+    sym (item_read c.deref-2.result.now c.self.inside.pages.items c.args.self.now.items c.fair_place-place.result c.place_near-at.result.page c.place_near-at.result.offset c.index.result.now c.index-2.result.now
+    c.deref-2.ensures.value view c.place_near-at.ensures c.index.ensures c.index-2.ensures
+    (omega (arith, ap length view, c.fair_place-place.ensures.until, c.requires.within)))
