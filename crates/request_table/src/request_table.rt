@@ -128,6 +128,7 @@ impl<T: Numbered + Drop> RequestTable<T> {
         ensures requests { self.new.requests
             ≡ without_number T.number (T.number result) self.old.requests }
         ensures moved { self.new.requests ≡ remove self.old.requests place }
+        ensures numbered { AreNumbered T.number self.old.requests self.old.next }
         ensures room { self.old.room ≤ self.new.room }
     {
         self.requests.remove(place).unwrap()
