@@ -101,6 +101,10 @@ attribute_fault context packet =
 abbrev pub packet_fault : List ℕ → Option ReportFault
 packet_fault packet = or_else (option_map fault.Smp (fault_of packet)) (answer_fault packet)
 
+-- the first fault of a packet that came as a reply
+abbrev pub reply_fault : Context → List ℕ → Option ReportFault
+reply_fault context packet = or_else (answer_fault packet) (attribute_fault context packet)
+
 -- the first fault of a report
 abbrev pub report_fault : Report → Option ReportFault
 report_fault report =

@@ -4,7 +4,7 @@ ghost use Rattle.smp_bytes.specs.Judges.{Judges};
 ghost use Rattle.smp_bytes.specs.Field.{bits_in};
 ghost use Rattle.attr_codec.specs.NodeInfo.{FitsNodeInfo};
 ghost use Rattle.attr_codec.specs.PortInfo.{port_state};
-ghost use Rattle.fact_store.specs.Report.{about_fault, answer_fault, packet_fault, attribute_fault, node_info_fault, port_info_fault, told_by_node_info, told_by_packet, told_by_port_info, told_by_switch_info, are_ports_in_range, fits_node_info, told_of_kind, is_up_state, report_fault, sightings_of};
+ghost use Rattle.fact_store.specs.Report.{about_fault, answer_fault, attribute_fault, node_info_fault, port_info_fault, told_by_node_info, told_by_packet, told_by_port_info, told_by_switch_info, are_ports_in_range, fits_node_info, told_of_kind, is_up_state, reply_fault, report_fault, sightings_of};
 ghost use Rattle.fact_store.specs.Sighting.{is_generation};
 
 use crate::key::Key;
@@ -24,23 +24,26 @@ pub fn sightings(report: &Report) -> Result<ArrayVec<Sighting, 4>, ReportFault>
     let Some(generation) = Generation::new(report.generation) else {
         return Err(ReportFault::Generation);
     };
-    match answer_in(&report.bytes) {
-        Ok(smp) => told_by_packet(generation, &report.context, &smp),
-        Err(fault) => Err(fault),
+    match Smp::parse(&report.bytes) {
+        Ok(smp) => sightings_in(generation, &report.context, &smp),
+        Err(fault) => Err(ReportFault::Smp(fault)),
     }
 }
 
-/// The packet of 256 bytes that are the answer, over a directed route, of an agent that did what was asked.
-fn answer_in(bytes: &[u8; 256]) -> Result<Smp, ReportFault>
-    ensures judged { Judges result (packet_fault bytes.now) }
-    ensures kept { IfOk result (λ smp. smp ≡ bytes.now) }
+/// The facts that the packet of a reply tells, or the first fault that it has.
+pub fn sightings_in(
+    generation: Generation,
+    context: &Context,
+    smp: &Smp,
+) -> Result<ArrayVec<Sighting, 4>, ReportFault>
+    requires { IsTrue (is_generation generation) }
+    ensures judged { Judges result (reply_fault context.now smp.now) }
+    ensures told { IfOk result
+        (λ told. told.items ≡ told_by_packet generation context.now smp.now) }
 {
-    match Smp::parse(bytes) {
-        Err(fault) => Err(ReportFault::Smp(fault)),
-        Ok(smp) => match answer_fault(&smp) {
-            Some(fault) => Err(fault),
-            None => Ok(smp),
-        },
+    match answer_fault(smp) {
+        Some(fault) => Err(fault),
+        None => told_by_packet(generation, context, smp),
     }
 }
 

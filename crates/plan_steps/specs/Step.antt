@@ -1,26 +1,14 @@
--- One thing that is set on an agent: where it goes, as which packet, and what answers it.
+-- One thing that is set on an agent: where it goes, and as which packet.
 -- InfiniBand Architecture Specification, Volume 1: directed route SMPs; subnet management class, methods.
-use Rattle.std.specs.Prelude.{ℕ, Bool, ◌&&◌, List, length, ◌==◌, Option, option_map}
-use Rattle.smp_bytes.specs.Field.{number_in}
+use Rattle.std.specs.Prelude.{ℕ, List, Option, option_map}
 use Rattle.smp_bytes.specs.Header.{set}
-use Rattle.smp_bytes.specs.Packet.{transaction_id, attribute_id, attribute_modifier, hop_count, is_directed}
 use Rattle.smp_bytes.specs.Requests.{directed}
-use Rattle.sweep.specs.Replies.{has_ports}
 use Rattle.sweep.specs.Sweep.{Sweep, path_to}
 use Rattle.plan_steps.specs.declared.step.Step.{Step}
 
 -- a Set over the step's path
 abbrev pub set_packet : ℕ → Step → List ℕ
 set_packet transaction step = directed set step.attribute step.modifier transaction step.path step.payload
-
--- a directed packet of this TransactionID, with the attribute, the modifier and the path of the step
-abbrev pub is_answered_by : ℕ → Step → List ℕ → Bool
-is_answered_by transaction step packet =
-    is_directed packet
-    && (number_in transaction_id packet == transaction
-    && (number_in attribute_id packet == step.attribute
-    && (number_in attribute_modifier packet == step.modifier
-    && (number_in hop_count packet == length step.path && has_ports packet 1 step.path))))
 
 -- a step at a vertex, a switch by port 0 or an adapter by its port: over the path that first reached it; none where the
 -- sweep did not reach it

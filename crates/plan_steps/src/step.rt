@@ -1,8 +1,8 @@
 ghost use Rattle.std.specs.Prelude.{◌≡◌};
-ghost use Rattle.plan_steps.specs.Step.{is_answered_by, set_packet, step_at};
+ghost use Rattle.plan_steps.specs.Step.{set_packet, step_at};
 
-use smp_bytes::{AttributeId, Guid, Method, Path, PortNum, Smp, SmpClass};
-use sweep::{Sweep, copied, has_ports};
+use smp_bytes::{AttributeId, Guid, Method, Path, PortNum, Smp};
+use sweep::Sweep;
 
 /// One thing that is set on an agent over a directed route (subnet management, SubnSet).
 #[derive(Debug, Drop)]
@@ -31,19 +31,6 @@ impl Step {
             &self.payload,
         )
     }
-
-    /// Whether a packet is a directed one of this TransactionID, with the attribute, the modifier
-    /// and the path of the step. Its method and its status are not looked at.
-    pub fn is_answered_by(&self, transaction: u64, packet: &Smp) -> bool
-        ensures { result ≡ is_answered_by transaction self.now packet.now }
-    {
-        packet.class() == SmpClass::DirectedRoute
-            && packet.transaction_id() == transaction
-            && packet.attribute_id().0 == self.attribute
-            && packet.attribute_modifier() == self.modifier
-            && usize::from(packet.hop_count()) == self.path.len()
-            && has_ports(packet, &self.path)
-    }
 }
 
 /// A step at a vertex, a switch by port 0 or an adapter by its port; none where the sweep did not
@@ -60,7 +47,7 @@ pub(crate) fn step_at(
 {
     let path = sweep.path_to(guid, vertex)?;
     Some(Step {
-        path: copied(path),
+        path: path.copy(),
         attribute: attribute.0,
         modifier,
         payload,

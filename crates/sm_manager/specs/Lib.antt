@@ -1,5 +1,6 @@
 pub mod Calls
 pub mod Coded
+pub mod Fault
 pub mod Manager
 pub mod Packets
 pub mod Plans

@@ -1,7 +1,7 @@
 -- What a manager does with a packet that comes to its port, and with a timeout.
 -- InfiniBand Architecture Specification, Volume 1: subnet management methods; directed route SMPs.
 use Rattle.std.specs.Prelude.{◌≡◌, ℕ, ◌^◌, Bool, false, ◌&&◌, List, find, nat_le, ◌==◌, if◌then◌else◌, Option, Some, None, Result, Ok, Err}
-use Rattle.plan_steps.specs.Step.{is_answered_by}
+use Rattle.smp_bytes.specs.Answers as smp
 use Rattle.smp_bytes.specs.Header.{get_resp}
 use Rattle.smp_bytes.specs.Field.{number_in}
 use Rattle.smp_bytes.specs.Packet.{fault_of, method, status, transaction_id, is_directed}
@@ -52,11 +52,11 @@ sweep_answered m packet (Some s) = answered_by m s packet (judged s packet)
 abbrev pub is_for_sweep : List ℕ → Bool
 is_for_sweep packet = number_in method packet == get_resp && (is_directed packet && nat_le (2 ^ 32) (number_in transaction_id packet))
 
--- an answer over a directed route to this step
+-- an answer to this request
 abbrev pub answers : List ℕ → Pending → Bool
-answers packet p = number_in method packet == get_resp && is_answered_by p.number p.step packet
+answers packet p = number_in method packet == get_resp && smp.answers packet p.number p.attribute p.modifier p.path
 
--- the step that waits for this answer
+-- the request that waits for this answer
 abbrev pub pending_for : Manager → List ℕ → Option Pending
 pending_for m packet = find (answers packet) m.pending
 
@@ -96,19 +96,6 @@ abbrev pub gave_up : Manager → ℕ → Called
 gave_up m transaction =
     if nat_le (2 ^ 32) transaction then sweep_gave_up m transaction m.sweep
     else step_gave_up m (with_number transaction m.pending)
-
--- a call is judged by its outcome; memory can be wanting only where it is not refused
-abbrev pub JudgesCall : Result (Unit {0}) ManagerFault → Option ManagerFault → Type 0
-JudgesCall (Ok value) why = why ≡ None
-JudgesCall (Err fault.GenerationsSpent) why = why ≡ Some fault.GenerationsSpent
-JudgesCall (Err fault.SweepRunning) why = why ≡ Some fault.SweepRunning
-JudgesCall (Err fault.NotMaster) why = why ≡ Some fault.NotMaster
-JudgesCall (Err fault.WritingRunning) why = why ≡ Some fault.WritingRunning
-JudgesCall (Err fault.SequenceSpent) why = why ≡ Some fault.SequenceSpent
-JudgesCall (Err (fault.NoRoom endports room)) why = why ≡ Some (fault.NoRoom endports room)
-JudgesCall (Err (fault.Sweep given)) why = why ≡ Some (fault.Sweep given)
-JudgesCall (Err fault.Unasked) why = why ≡ Some fault.Unasked
-JudgesCall (Err fault.Memory) why = why ≡ None
 
 -- where there is no room for what a reply may bring up, it is refused as it would be, or else memory is wanting
 abbrev pub IsFaultWithoutRoom : Result Answer SweepFault → ManagerFault → Type 0

@@ -6,6 +6,8 @@ use Rattle.subnet_view.specs.EndPorts.{end_ports}
 use Rattle.lid_assign.specs.Lids.{IsNoRoom, room}
 use Rattle.sm_manager.specs.declared.fault.ManagerFault.{ManagerFault}
 use Rattle.sm_manager.specs.declared.fault.ManagerFault.TheVariants as fault
+use Rattle.smp_bytes.specs.Judges.{JudgesButFor}
+use Rattle.sm_manager.specs.Fault.{is_memory}
 use Rattle.sm_manager.specs.Manager.{Manager}
 use Rattle.sm_manager.specs.Writing.{write_fault, writing_begun}
 
@@ -46,15 +48,11 @@ number_fault counter = if nat_lt (2 ^ 32) counter then Some fault.SequenceSpent 
 abbrev pub writing_fault : Manager → Option ManagerFault
 writing_fault m = or_else (planned_fault m) (number_fault (writing_begun m).counter)
 
+-- the reasons that a result is judged by: for want of memory the first of them, and for all else all
+abbrev pub reasons_for : {T : Type 0} → Result T ManagerFault → Option ManagerFault → Option ManagerFault → Option ManagerFault
+reasons_for (Ok value) first why = why
+reasons_for (Err given) first why = if is_memory given then first else why
+
 -- a call is judged by its fault; memory can be wanting where the first of its reasons does not hold
 abbrev pub JudgesAfter : {T : Type 0} → Result T ManagerFault → Option ManagerFault → Option ManagerFault → Type 0
-JudgesAfter (Ok value) first why = why ≡ None
-JudgesAfter (Err fault.Memory) first why = first ≡ None
-JudgesAfter (Err fault.GenerationsSpent) first why = why ≡ Some fault.GenerationsSpent
-JudgesAfter (Err fault.SweepRunning) first why = why ≡ Some fault.SweepRunning
-JudgesAfter (Err fault.NotMaster) first why = why ≡ Some fault.NotMaster
-JudgesAfter (Err fault.WritingRunning) first why = why ≡ Some fault.WritingRunning
-JudgesAfter (Err fault.SequenceSpent) first why = why ≡ Some fault.SequenceSpent
-JudgesAfter (Err (fault.NoRoom endports most)) first why = why ≡ Some (fault.NoRoom endports most)
-JudgesAfter (Err (fault.Sweep given)) first why = why ≡ Some (fault.Sweep given)
-JudgesAfter (Err fault.Unasked) first why = why ≡ Some fault.Unasked
+JudgesAfter result first why = JudgesButFor is_memory result (reasons_for result first why)

@@ -1,6 +1,6 @@
--- Writing a plan: its steps go out phase by phase, each phase once nothing of the one before is waited for.
+-- Writing a plan: its steps go out phase by phase, each phase once no step of the one before waits.
 -- InfiniBand Architecture Specification, Volume 1: subnet initialization; linear forwarding tables; port states.
-use Rattle.std.specs.Prelude.{◌≡◌, ℕ, suc, ◌+◌, ◌^◌, Bool, true, false, ◌&&◌, ◌||◌, not, List, [], ◌∷◌, ◌++◌, length, map, filter, drop, nat_lt, ◌==◌, if◌then◌else◌, Option, Some, None}
+use Rattle.std.specs.Prelude.{◌≡◌, ℕ, suc, ◌+◌, ◌^◌, Bool, true, false, ◌&&◌, ◌||◌, not, List, [], ◌∷◌, ◌++◌, length, drop, nat_lt, ◌==◌, if◌then◌else◌, Option, Some, None}
 use Rattle.std.specs.List.{list_any}
 use Rattle.fact_store.specs.View.{cells_of}
 use Rattle.lft_blocks.specs.Plan.{plan_of}
@@ -12,18 +12,26 @@ use Rattle.sm_manager.specs.declared.fault.ManagerFault.{ManagerFault}
 use Rattle.sm_manager.specs.declared.fault.ManagerFault.TheVariants.{NotMaster, SweepRunning, WritingRunning}
 use Rattle.sm_manager.specs.declared.outgoing.Outgoing.{Outgoing}
 use Rattle.sm_manager.specs.declared.pending.Pending.{Pending}
+use Rattle.sm_manager.specs.declared.pending.Purpose.TheVariants.{Step as IsStep}
 use Rattle.sm_manager.specs.Manager.{Manager, Writing}
+use Rattle.sm_manager.specs.Requests.{counts, how_many, is_step, no_step_waits, none_counts, without_number}
 
 -- a phase goes out --------------------------------------------------------------------------------
+
+-- a step as the request of a number
+abbrev pub pending_step : ℕ → Bool → Step → Pending
+pending_step number counts s =
+    record { number = number; purpose = IsStep counts; attribute = s.attribute; modifier = s.modifier; path = Some s.path }
 
 -- the steps of a phase as requests, by rising numbers
 abbrev pub numbered : Bool → ℕ → List Step → List Pending
 numbered counts number [] = []
-numbered counts number (s ∷ steps) = record { number = number; counts = counts; step = s } ∷ numbered counts (suc number) steps
+numbered counts number (s ∷ steps) = pending_step number counts s ∷ numbered counts (suc number) steps
 
 -- steps go out by their paths
-abbrev pub steps_out : List Pending → List Outgoing
-steps_out pending = map (λ p. record { packet = set_packet p.number p.step; to = None }) pending
+abbrev pub steps_out : ℕ → List Step → List Outgoing
+steps_out number [] = []
+steps_out number (s ∷ steps) = record { packet = set_packet number s; to = None } ∷ steps_out (suc number) steps
 
 -- phases without steps that come first are passed over
 abbrev pub passed : List Phase → List Phase
@@ -46,17 +54,13 @@ phase_sent m w =
       writing = Some (record w { later = passed (drop 1 w.later) });
       counter = m.counter + length (next_phase w.later).steps;
       pending = m.pending ++ next_pending m.counter w.later;
-      outgoing = m.outgoing ++ steps_out (next_pending m.counter w.later);
+      outgoing = m.outgoing ++ steps_out m.counter (next_phase w.later).steps;
     }
 
-abbrev pub is_none_pending : List Pending → Bool
-is_none_pending [] = true
-is_none_pending (p ∷ pending) = false
-
--- it goes out where nothing of the one before is waited for
+-- it goes out where no step of the one before waits
 abbrev pub went_on_with : Manager → Option Writing → Manager
 went_on_with m None = m
-went_on_with m (Some w) = if is_none_pending m.pending then phase_sent m w else m
+went_on_with m (Some w) = if no_step_waits m.pending then phase_sent m w else m
 
 abbrev pub went_on : Manager → Manager
 went_on m = went_on_with m m.writing
@@ -72,7 +76,7 @@ write_fault_with m None = Some NotMaster
 write_fault_with m (Some s) =
     if not m.has_swept then Some NotMaster
     else if not (is_done s) then Some SweepRunning
-    else if not (is_none_pending m.pending) then Some WritingRunning
+    else if not (no_step_waits m.pending) then Some WritingRunning
     else None
 
 -- a manager is the master once a sweep of it got done; it writes where neither a sweep nor a writing of it goes on
@@ -96,17 +100,13 @@ writing_begun m = begun_with m (phases_by m m.sweep)
 abbrev pub is_written_by : List Pending → Option Writing → Bool
 is_written_by pending None = false
 is_written_by pending (Some w) =
-    not w.has_failed && (not (list_any (λ p. p.counts) w.later) && not (list_any (λ p. p.counts) pending))
+    not w.has_failed && (not (list_any (λ p. p.counts) w.later) && none_counts pending)
 
 -- a writing was begun, and each of its steps that counts was done
 abbrev pub is_written : Manager → Bool
 is_written m = is_written_by m.pending m.writing
 
 -- a step is over --------------------------------------------------------------------------------------
-
--- without the request of a number
-abbrev pub without_number : ℕ → List Pending → List Pending
-without_number number pending = filter (λ p. not (p.number == number)) pending
 
 -- a step was done, or was not
 abbrev pub noted : Bool → Bool → Option Writing → Option Writing
@@ -116,12 +116,12 @@ noted counts was_done (Some w) = Some (record w { has_failed = w.has_failed || (
 -- a step waits no more, and what comes next goes out
 abbrev pub step_over : Manager → Pending → Bool → Manager
 step_over m p was_done =
-    went_on (record m { pending = without_number p.number m.pending; writing = noted p.counts was_done m.writing })
+    went_on (record m { pending = without_number p.number m.pending; writing = noted (counts p) was_done m.writing })
 
--- so many steps go out where one of those that wait ends
+-- so many steps go out where one of those that wait ends: the next phase, where it is the last of its own
 abbrev pub count_with : List Pending → Option Writing → ℕ
 count_with pending None = 0
-count_with pending (Some w) = if nat_lt 1 (length pending) then 0 else length (next_phase w.later).steps
+count_with pending (Some w) = if nat_lt 1 (how_many is_step pending) then 0 else length (next_phase w.later).steps
 
 abbrev pub count_after : Manager → ℕ
 count_after m = count_with m.pending m.writing

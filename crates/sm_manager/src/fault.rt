@@ -1,4 +1,5 @@
-use lid_assign::LidFault;
+ghost use Rattle.std.specs.Prelude.{◌≡◌};
+
 use std::alloc::AllocError;
 use sweep::SweepFault;
 use thiserror::Error;
@@ -38,6 +39,27 @@ pub enum ManagerFault {
     /// The memory that the call needs was refused.
     #[error("Memory")]
     Memory,
+}
+
+impl ManagerFault {
+    ghost use Rattle.sm_manager.specs.Fault.{manager_fault_name};
+
+    /// The name that `{}` writes; that of the sweep's fault where there is one.
+    pub fn name(self) -> &'static str
+        ensures { result.now ≡ manager_fault_name self }
+    {
+        match self {
+            ManagerFault::GenerationsSpent => "GenerationsSpent",
+            ManagerFault::SweepRunning => "SweepRunning",
+            ManagerFault::NotMaster => "NotMaster",
+            ManagerFault::WritingRunning => "WritingRunning",
+            ManagerFault::SequenceSpent => "SequenceSpent",
+            ManagerFault::NoRoom { .. } => "NoRoom",
+            ManagerFault::Sweep(fault) => fault.name(),
+            ManagerFault::Unasked => "Unasked",
+            ManagerFault::Memory => "Memory",
+        }
+    }
 }
 
 impl From<AllocError> for ManagerFault {

@@ -15,7 +15,7 @@ mod writing;
 pub use fault::ManagerFault;
 pub use manager::Manager;
 pub use outgoing::Outgoing;
-pub use pending::Pending;
+pub use pending::{Pending, Purpose};
 pub use progress::Progress;
 
 #[cfg(test)]

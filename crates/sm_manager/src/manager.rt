@@ -3,7 +3,8 @@ ghost use Rattle.fact_store.specs.View.{cells_of};
 ghost use Rattle.lft_blocks.specs.Arrival.{EveryPacketArrives};
 ghost use Rattle.lft_blocks.specs.Plan.{plan_of};
 ghost use Rattle.sm_manager.specs.Manager.{begin_fault, merged, new_manager, outstanding, progress_of, sweep_begun, taken};
-ghost use Rattle.sm_manager.specs.Packets.{JudgesCall};
+ghost use Rattle.smp_bytes.specs.Judges.{JudgesButFor};
+ghost use Rattle.sm_manager.specs.Fault.{is_memory};
 ghost use Rattle.sm_manager.specs.Plans.{JudgesPlan};
 
 use crate::fault::ManagerFault;
@@ -77,7 +78,7 @@ impl Manager {
     ///
     /// `SweepRunning`, `GenerationsSpent` and `Memory`, in this order.
     pub fn begin_sweep(&mut self) -> Result<(), ManagerFault>
-        ensures judged { JudgesCall result (begin_fault self.old) }
+        ensures judged { JudgesButFor is_memory result (begin_fault self.old) }
         ensures ok { OnOk result (self.new ≡ sweep_begun self.old) }
         ensures err { OnErr result (self.new ≡ self.old) }
     {

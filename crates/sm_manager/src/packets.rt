@@ -1,6 +1,8 @@
 ghost use Rattle.std.specs.Prelude.{◌≡◌, ◌+◌, ◌-◌, ◌^◌, IfSome, IsNone, OnOk, OnErr};
 ghost use Rattle.sm_manager.specs.Manager.{is_running, newest_held};
-ghost use Rattle.sm_manager.specs.Packets.{IsFaultWithoutRoom, JudgesCall, gave_up, is_for_sweep, sweep_answered, sweep_gave_up, took};
+ghost use Rattle.sm_manager.specs.Packets.{IsFaultWithoutRoom, gave_up, is_for_sweep, sweep_answered, sweep_gave_up, took};
+ghost use Rattle.smp_bytes.specs.Judges.{JudgesButFor};
+ghost use Rattle.sm_manager.specs.Fault.{is_memory};
 ghost use Rattle.sweep.specs.Replies.{judged};
 
 use crate::fault::ManagerFault;
@@ -23,7 +25,7 @@ impl Manager {
     /// `Sweep` with what is wrong with bytes that are no packet; `Unasked` for what answers nothing, requests among them;
     /// `Sweep` for a reply that the sweep refuses; `SequenceSpent` where there are no numbers for the next stage; `Memory`.
     pub fn on_packet(&mut self, bytes: &[u8; 256]) -> Result<(), ManagerFault>
-        ensures judged { JudgesCall result (took self.old bytes.now).fault }
+        ensures judged { JudgesButFor is_memory result (took self.old bytes.now).fault }
         ensures ok { OnOk result (self.new ≡ (took self.old bytes.now).manager) }
         ensures err { OnErr result (self.new ≡ self.old) }
     {
@@ -34,25 +36,25 @@ impl Manager {
             }
         };
         if is_for_sweep(&smp) {
-            self.take_reply(bytes)
+            self.take_reply(&smp)
         } else {
             self.take_answer(&smp)
         }
     }
 
     /// Takes a reply to the sweep.
-    fn take_reply(&mut self, bytes: &[u8; 256]) -> Result<(), ManagerFault>
-        ensures judged { JudgesCall result (sweep_answered self.old bytes.now self.old.sweep).fault }
-        ensures ok { OnOk result (self.new ≡ (sweep_answered self.old bytes.now self.old.sweep).manager) }
+    fn take_reply(&mut self, smp: &Smp) -> Result<(), ManagerFault>
+        ensures judged { JudgesButFor is_memory result (sweep_answered self.old smp.now self.old.sweep).fault }
+        ensures ok { OnOk result (self.new ≡ (sweep_answered self.old smp.now self.old.sweep).manager) }
         ensures err { OnErr result (self.new ≡ self.old) }
     {
         let Some(sweep) = &mut self.sweep else {
             return Err(ManagerFault::Unasked);
         };
         if self.outgoing.reserve(MOST).is_err() {
-            return Err(fault_without_room(sweep, bytes));
+            return Err(fault_without_room(sweep, smp));
         }
-        match sweep.on_reply_into(bytes, &mut self.store) {
+        match sweep.on_reply_into(smp, &mut self.store) {
             Ok(_) => {
                 send_queued(sweep, &mut self.outgoing);
                 self.has_swept = self.has_swept || sweep.is_done();
@@ -69,7 +71,7 @@ impl Manager {
     ///
     /// `Unasked`: no request of this TransactionID waits. `SequenceSpent` and `Memory`, where the next stage would go out.
     pub fn on_timeout(&mut self, transaction: u64) -> Result<(), ManagerFault>
-        ensures judged { JudgesCall result (gave_up self.old transaction).fault }
+        ensures judged { JudgesButFor is_memory result (gave_up self.old transaction).fault }
         ensures ok { OnOk result (self.new ≡ (gave_up self.old transaction).manager) }
         ensures err { OnErr result (self.new ≡ self.old) }
     {
@@ -84,7 +86,7 @@ impl Manager {
 
     /// A request of the sweep was not answered in time.
     fn end_request(&mut self, transaction: u64) -> Result<(), ManagerFault>
-        ensures judged { JudgesCall result (sweep_gave_up self.old transaction self.old.sweep).fault }
+        ensures judged { JudgesButFor is_memory result (sweep_gave_up self.old transaction self.old.sweep).fault }
         ensures ok { OnOk result (self.new
             ≡ (sweep_gave_up self.old transaction self.old.sweep).manager) }
         ensures err { OnErr result (self.new ≡ self.old) }
@@ -137,10 +139,10 @@ impl Manager {
 }
 
 /// Why a reply is not taken where there is no room for what it may bring up: memory is wanting only if it is not refused.
-fn fault_without_room(sweep: &Sweep, bytes: &[u8; 256]) -> ManagerFault
-    ensures { IsFaultWithoutRoom (judged sweep.now bytes.now) result }
+fn fault_without_room(sweep: &Sweep, smp: &Smp) -> ManagerFault
+    ensures { IsFaultWithoutRoom (judged sweep.now smp.now) result }
 {
-    match sweep.judge(bytes) {
+    match sweep.judge(smp) {
         Ok(_) => ManagerFault::Memory,
         Err(fault) => ManagerFault::Sweep(fault),
     }

@@ -1,11 +1,71 @@
-use plan_steps::Step;
+ghost use Rattle.std.specs.Prelude.{◌≡◌};
 
-/// A step of a writing that was sent, and waits for its answer.
+use request_table::Numbered;
+use smp_bytes::{AttributeId, Method, Path, Smp};
+
+/// What a request outside sweeps is for.
+#[derive(Clone, Copy, Debug, PartialEq, Eq)]
+pub enum Purpose {
+    /// It is a step of the last writing.
+    Step {
+        /// Whether the plan counts as written only where it was done.
+        counts: bool,
+    },
+}
+
+/// A request outside sweeps that was sent, and waits for its answer.
 #[derive(Debug, Drop)]
 pub struct Pending {
     /// The low half of its TransactionID, whose high half is 0.
     pub number: u32,
-    /// Whether the plan counts as written only where it was done.
-    pub counts: bool,
-    pub step: Step,
+    pub purpose: Purpose,
+    /// The number of the attribute.
+    pub attribute: u16,
+    pub modifier: u32,
+    /// The ports that lead to the agent; none where it went by LIDs.
+    pub path: Option<Path<63>>,
+}
+
+impl Numbered for Pending {
+    ghost number = { λ p. p.number };
+
+    fn number(&self) -> u32 {
+        self.number
+    }
+}
+
+impl Pending {
+    ghost use Rattle.sm_manager.specs.Requests.{counts, is_step};
+    ghost use Rattle.sm_manager.specs.Packets.{answers};
+
+    /// Whether it is a step of a writing.
+    pub(crate) fn is_step(&self) -> bool
+        ensures { result ≡ is_step self.now }
+    {
+        match self.purpose {
+            Purpose::Step { .. } => true,
+        }
+    }
+
+    /// Whether it is a step without which the plan is not written.
+    pub(crate) fn counts(&self) -> bool
+        ensures { result ≡ counts self.now }
+    {
+        match self.purpose {
+            Purpose::Step { counts } => counts,
+        }
+    }
+
+    /// Whether a packet is the answer to it.
+    pub(crate) fn is_answered_by(&self, smp: &Smp) -> bool
+        ensures { result ≡ answers smp.now self.now }
+    {
+        smp.method() == Method::GET_RESP
+            && smp.answers(
+                u64::from(self.number),
+                AttributeId(self.attribute),
+                self.modifier,
+                self.path.as_ref(),
+            )
+    }
 }

@@ -1,37 +1,36 @@
-ghost use Rattle.std.specs.Prelude.{◌≡◌, ◌+◌, ◌<◌, ◌≤◌, ◌^◌, [], ◌∷◌, ◌++◌, OnOk, Some, length, nat_le, nat_lt, option_copied, find, slice_get};
-ghost use Rattle.std.specs.List.{list_any};
+ghost use Rattle.std.specs.Prelude.{◌≡◌, ◌+◌, ◌<◌, ◌≤◌, ◌^◌, [], ◌∷◌, ◌++◌, OnOk, Some, length, nat_le, option_copied, find, slice_get};
 ghost use Rattle.plan_steps.specs.Step.{set_packet};
-ghost use Rattle.sweep.specs.Order.{IsPlace};
-ghost use Rattle.sm_manager.specs.Requests.{AreNumbered, AreRising, IsPlaceFor, with_number};
+ghost use Rattle.request_table.specs.Numbers.{IsPlaceFor};
+ghost use Rattle.sm_manager.specs.Requests.{AreNumbered, how_many, is_step, no_step_waits, none_counts, with_number, without_number};
 ghost use Rattle.sm_manager.specs.Packets.{answers};
-ghost use Rattle.sm_manager.specs.Writing.{is_none_pending, without_number};
+ghost use Rattle.sm_manager.specs.Writing.{pending_step};
 
-use crate::pending::Pending;
+use crate::pending::{Pending, Purpose};
 use plan_steps::Step;
-use smp_bytes::{Method, Smp};
+use request_table::RequestTable;
+use smp_bytes::Smp;
 use std::alloc::{AllocError, Global};
-use std::collections::VecDeque;
 use std::marker::Model;
 
 /// The requests of a manager outside its sweeps that wait for their answers. Contracts see them, the number of the next
 /// one, and for how many more there is memory.
 #[derive(Drop)]
 pub(crate) struct Requests {
-    counter: u64,
-    /// By rising numbers.
-    pending: VecDeque<Pending>,
+    table: RequestTable<Pending>,
+    /// How many of them are steps of the last writing.
+    steps: usize,
+    /// How many of these the plan is not written without.
+    counting: usize,
 }
 
 impl Model for Requests {
-    ghost use Rattle.std.specs.Prelude.{◌-◌};
-    ghost use Rattle.std.specs.VecDeque.{deque_capacity, deque_len};
-    ghost use Rattle.sm_manager.specs.Requests.{AreNumbered, Requests};
+    ghost use Rattle.sm_manager.specs.Requests.{AreCounted, Requests};
 
     ghost Value = { Requests };
 
-    ghost view = { λ a. record { counter = a.counter; pending = a.pending.items; room = deque_capacity a.pending - deque_len a.pending } };
+    ghost view = { λ a. record { counter = a.table.next; pending = a.table.requests; room = a.table.room } };
 
-    ghost invariant = { λ a. AreNumbered a.counter a.pending.items };
+    ghost invariant = { λ a. AreCounted a.table.requests a.steps a.counting };
 }
 
 impl Requests {
@@ -41,31 +40,38 @@ impl Requests {
         ensures pending { result.pending ≡ [] }
     {
         Requests {
-            counter: 1,
-            pending: VecDeque::new(alloc),
+            table: RequestTable::new(alloc, 1),
+            steps: 0,
+            counting: 0,
         }
     }
 
     /// How many wait.
     pub(crate) fn len(&self) -> usize
-        ensures count { result ≡ length self.now.pending }
-        ensures numbered { AreNumbered self.now.counter self.now.pending }
+        ensures { result ≡ length self.now.pending }
     {
-        self.pending.len()
+        self.table.len()
     }
 
-    /// Whether none waits.
-    pub(crate) fn is_empty(&self) -> bool
-        ensures { result ≡ is_none_pending self.now.pending }
+    /// How many steps of the last writing wait.
+    pub(crate) fn step_count(&self) -> usize
+        ensures { result ≡ how_many is_step self.now.pending }
     {
-        self.pending.is_empty()
+        self.steps
+    }
+
+    /// Whether no step of the last writing waits.
+    pub(crate) fn has_no_step(&self) -> bool
+        ensures { result ≡ no_step_waits self.now.pending }
+    {
+        self.steps == 0
     }
 
     /// Whether there are numbers for so many more.
     pub(crate) fn has_numbers(&self, count: usize) -> bool
         ensures { result ≡ nat_le (self.now.counter + count) (2 ^ 32) }
     {
-        count as u64 <= 0x1_0000_0000 - self.counter
+        self.table.has_numbers(count)
     }
 
     /// Memory for so many more.
@@ -74,7 +80,7 @@ impl Requests {
         ensures pending { self.new.pending ≡ self.old.pending }
         ensures room { OnOk result (count ≤ self.new.room) }
     {
-        self.pending.reserve(count)
+        self.table.reserve(count)
     }
 
     /// A step goes out under the next number. Takes no memory.
@@ -84,17 +90,22 @@ impl Requests {
         ensures packet { result ≡ set_packet self.old.counter step }
         ensures counter { self.new.counter ≡ self.old.counter + 1 }
         ensures pending { self.new.pending
-            ≡ self.old.pending ++ record { number = self.old.counter; counts = counts; step = step } ∷ [] }
+            ≡ self.old.pending ++ pending_step self.old.counter counts step ∷ [] }
         ensures room { self.old.room ≤ self.new.room + 1 }
     {
-        let number = self.counter as u32;
-        let packet = step.packet(self.counter);
-        self.pending.push_back_reserved(Pending {
-            number,
-            counts,
-            step,
+        let number = self.table.next();
+        let packet = step.packet(number);
+        self.table.push(Pending {
+            number: number as u32,
+            purpose: Purpose::Step { counts },
+            attribute: step.attribute,
+            modifier: step.modifier,
+            path: Some(step.path),
         });
-        self.counter += 1;
+        self.steps += 1;
+        if counts {
+            self.counting += 1;
+        }
         packet
     }
 
@@ -102,45 +113,30 @@ impl Requests {
     pub(crate) fn get(&self, place: usize) -> Option<&Pending>
         ensures { option_copied result ≡ slice_get self.now.pending place }
     {
-        self.pending.get(place)
+        self.table.get(place)
     }
 
-    /// Whether one that counts waits. Walks them.
-    pub(crate) fn any_counts(&self) -> bool
-        ensures { result ≡ list_any (λ p. p.counts) self.now.pending }
+    /// Whether no step that counts waits.
+    pub(crate) fn none_counts(&self) -> bool
+        ensures { result ≡ none_counts self.now.pending }
     {
-        self.pending.iter().any(|request| request.counts)
-    }
-
-    /// How many have a lower number. Halves the places at each step.
-    fn count_below(&self, transaction: u64) -> usize
-        ensures place { IsPlace (λ p. nat_lt p.number transaction) self.now.pending result }
-        ensures rising { AreRising 0 self.now.pending self.now.counter }
-    {
-        self.pending
-            .partition_point(|request| u64::from(request.number) < transaction)
+        self.counting == 0
     }
 
     /// The place of the one under a TransactionID. Takes a search.
     pub(crate) fn place_of(&self, transaction: u64) -> Option<usize>
         ensures { IsPlaceFor (with_number transaction self.now.pending) self.now.pending result }
     {
-        let place = self.count_below(transaction);
-        let request = self.get(place)?;
-        if u64::from(request.number) == transaction {
-            Some(place)
-        } else {
-            None
-        }
+        self.table.place_of(transaction)
     }
 
     /// The place of the one that a packet answers. Takes a search.
     pub(crate) fn place_for(&self, smp: &Smp) -> Option<usize>
         ensures { IsPlaceFor (find (answers smp.now) self.now.pending) self.now.pending result }
     {
-        let place = self.count_below(smp.transaction_id());
+        let place = self.table.count_below(smp.transaction_id());
         let request = self.get(place)?;
-        if is_answer(smp, request) {
+        if request.is_answered_by(smp) {
             Some(place)
         } else {
             None
@@ -154,14 +150,15 @@ impl Requests {
         ensures counter { self.new.counter ≡ self.old.counter }
         ensures pending { self.new.pending ≡ without_number result.number self.old.pending }
         ensures room { self.old.room ≤ self.new.room }
+        ensures numbered { AreNumbered self.old.counter self.old.pending }
     {
-        self.pending.remove(place).unwrap()
+        let ended = self.table.end(place);
+        if ended.is_step() {
+            self.steps -= 1;
+        }
+        if ended.counts() {
+            self.counting -= 1;
+        }
+        ended
     }
-}
-
-/// Whether a packet is the answer to a request.
-fn is_answer(smp: &Smp, request: &Pending) -> bool
-    ensures { result ≡ answers smp.now request.now }
-{
-    smp.method() == Method::GET_RESP && request.step.is_answered_by(u64::from(request.number), smp)
 }

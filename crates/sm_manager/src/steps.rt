@@ -1,10 +1,10 @@
 ghost use Rattle.std.specs.Prelude.{◌≡◌, ◌<◌, ◌+◌, ◌≤◌, false, None, Some, IfOk, OnOk, OnErr, length, slice_get};
 ghost use Rattle.std.specs.VecDeque.{deque_capacity, deque_len};
-ghost use Rattle.smp_bytes.specs.Judges.{Judges};
+ghost use Rattle.smp_bytes.specs.Judges.{Judges, JudgesButFor};
 ghost use Rattle.sm_manager.specs.declared.pending.Pending.{Pending};
-ghost use Rattle.sm_manager.specs.Packets.{JudgesCall, pending_for, step_answered, unless_spent};
+ghost use Rattle.sm_manager.specs.Fault.{is_memory};
+ghost use Rattle.sm_manager.specs.Packets.{pending_for, step_answered, unless_spent};
 ghost use Rattle.sm_manager.specs.Plans.{JudgesAfter, number_fault, planned_fault, writing_fault};
-ghost use Rattle.sm_manager.specs.Requests.{AreNumbered};
 ghost use Rattle.sm_manager.specs.Writing.{count_after, is_written, passed, phases_by, step_over, write_fault, writing_begun};
 
 use crate::fault::ManagerFault;
@@ -42,7 +42,7 @@ impl Manager {
         ensures { result ≡ is_written self.now }
     {
         match &self.writing {
-            Some(writing) => writing.is_sent() && !self.requests.any_counts(),
+            Some(writing) => writing.is_sent() && self.requests.none_counts(),
             None => false,
         }
     }
@@ -80,7 +80,7 @@ impl Manager {
         if !sweep.is_done() {
             return Err(ManagerFault::SweepRunning);
         }
-        if !self.requests.is_empty() {
+        if !self.requests.has_no_step() {
             return Err(ManagerFault::WritingRunning);
         }
         Ok(sweep)
@@ -88,7 +88,7 @@ impl Manager {
 
     /// Takes an answer to a step.
     pub(crate) fn take_answer(&mut self, smp: &Smp) -> Result<(), ManagerFault>
-        ensures judged { JudgesCall result (step_answered self.old smp.now (pending_for self.old smp.now)).fault }
+        ensures judged { JudgesButFor is_memory result (step_answered self.old smp.now (pending_for self.old smp.now)).fault }
         ensures ok { OnOk result (self.new
             ≡ (step_answered self.old smp.now (pending_for self.old smp.now)).manager) }
         ensures err { OnErr result (self.new ≡ self.old) }
@@ -103,7 +103,7 @@ impl Manager {
     pub(crate) fn end_step(&mut self, place: usize, was_done: bool) -> Result<(), ManagerFault>
         requires { place < length self.old.pending }
         ensures judged { (p : Pending) → slice_get self.old.pending place ≡ Some p
-            → JudgesCall result (unless_spent self.old (step_over self.old p was_done)).fault }
+            → JudgesButFor is_memory result (unless_spent self.old (step_over self.old p was_done)).fault }
         ensures ok { (p : Pending) → slice_get self.old.pending place ≡ Some p
             → OnOk result (self.new ≡ (unless_spent self.old (step_over self.old p was_done)).manager) }
         ensures err { OnErr result (self.new ≡ self.old) }
@@ -111,8 +111,8 @@ impl Manager {
         make_room(self.count_after(), &mut self.requests, &mut self.outgoing)?;
         let ended = self.requests.end(place);
         if let Some(writing) = &mut self.writing {
-            writing.note(ended.counts, was_done);
-            if self.requests.is_empty() {
+            writing.note(ended.counts(), was_done);
+            if self.requests.has_no_step() {
                 writing.send_next(&mut self.requests, &mut self.outgoing);
             }
         }
@@ -121,10 +121,9 @@ impl Manager {
 
     /// How many steps go out where one that waits ends.
     fn count_after(&self) -> usize
-        ensures count { result ≡ count_after self.now }
-        ensures numbered { AreNumbered self.now.counter self.now.pending }
+        ensures { result ≡ count_after self.now }
     {
-        if self.requests.len() > 1 {
+        if self.requests.step_count() > 1 {
             return 0;
         }
         match &self.writing {
@@ -140,7 +139,7 @@ fn make_room(
     requests: &mut Requests,
     outgoing: &mut VecDeque<Outgoing>,
 ) -> Result<(), ManagerFault>
-    ensures judged { JudgesAfter result (number_fault (requests.old.counter + count))
+    ensures judged { JudgesButFor is_memory result
         (number_fault (requests.old.counter + count)) }
     ensures counter { requests.new.counter ≡ requests.old.counter }
     ensures pending { requests.new.pending ≡ requests.old.pending }

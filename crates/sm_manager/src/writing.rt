@@ -70,7 +70,7 @@ impl Writing {
         ensures pending { requests.new.pending
             ≡ requests.old.pending ++ next_pending requests.old.counter self.old.later }
         ensures outgoing { outgoing.new.items
-            ≡ outgoing.old.items ++ steps_out (next_pending requests.old.counter self.old.later) }
+            ≡ outgoing.old.items ++ steps_out requests.old.counter (next_phase self.old.later).steps }
     {
         if let Some(Phase { counts, steps }) = self.later.pop_front() {
             send_steps(counts, steps, requests, outgoing);
@@ -119,7 +119,7 @@ fn send_steps(
     ensures pending { requests.new.pending
         ≡ requests.old.pending ++ numbered counts requests.old.counter steps.items }
     ensures outgoing { outgoing.new.items
-        ≡ outgoing.old.items ++ steps_out (numbered counts requests.old.counter steps.items) }
+        ≡ outgoing.old.items ++ steps_out requests.old.counter steps.items }
 {
     for step in steps {
         let packet = requests.send(counts, step);

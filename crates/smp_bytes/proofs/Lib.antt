@@ -11,6 +11,7 @@ pub mod Kept
 pub mod Made
 pub mod Members
 pub mod PlaceLaws
+pub mod Ports
 pub mod RequestLaws
 pub mod Shifts
 pub mod StatusLaws

@@ -1,3 +1,4 @@
+pub mod Answers
 pub mod Cables
 pub mod DirectedWalk
 pub mod Fabric

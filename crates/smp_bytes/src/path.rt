@@ -28,6 +28,17 @@ impl<const MAX: usize> Path<MAX> {
         }
     }
 
+    /// A path of its own with the same ports.
+    pub fn copy(&self) -> Self
+        ensures { result ≡ self.now }
+    {
+        let mut ports = ArrayVec::new();
+        match ports.try_extend_from_slice(self.ports.as_slice()) {
+            Ok(()) => Path { ports },
+            Err(_) => unreachable!(),
+        }
+    }
+
     /// Adds a port at the end.
     pub fn push(&mut self, port: PortNum)
         requires { length self.old < MAX }

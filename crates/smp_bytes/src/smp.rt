@@ -12,6 +12,7 @@ use crate::smp_fault::SmpFault;
 use crate::wire::{bits_at, u8_at, u16_at, u32_at, u64_at};
 use std::marker::Model;
 
+mod answers;
 mod requests;
 mod writers;
 

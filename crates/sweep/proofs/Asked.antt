@@ -1,8 +1,5 @@
 -- Questions that come up, one after the other, at the end of the queue.
-use Rattle.std.proofs.Common.{◌≡◌, ℕ, zero, suc, ◌+◌, true, false, ◌&&◌, List, [], ◌∷◌, ◌++◌, length, take, drop, refl, arith, ap, sym, ◌∙◌, append_assoc, length-append}
-use Rattle.std.specs.Prelude.{Some, slice_get, ◌==◌}
-use Rattle.smp_bytes.specs.Field.{number_in}
-use Rattle.smp_bytes.specs.Packet.{initial_path}
+use Rattle.std.proofs.Common.{◌≡◌, ℕ, zero, suc, ◌+◌, true, false, List, [], ◌∷◌, ◌++◌, length, take, drop, refl, arith, ap, sym, ◌∙◌, append_assoc, length-append}
 use Rattle.fact_store.specs.declared.report.Context.{Context}
 use Rattle.fact_store.specs.declared.report.Context.TheVariants.{About}
 use Rattle.smp_bytes.specs.NodeType.{is_switch}
@@ -10,7 +7,6 @@ use Rattle.std.proofs.lemmas.Bool.{cond-true, cond-false}
 use Rattle.sweep.specs.declared.request.Question.TheVariants as ask
 use Rattle.sweep.specs.declared.reached.Reached.{Reached}
 use Rattle.sweep.specs.Finding.{port_questions, vertex_questions}
-use Rattle.sweep.specs.Replies.{has_ports}
 use Rattle.sweep.specs.Requests.{HasAsked, Requests}
 use Rattle.sweep.specs.Sweep.{Asking, numbered}
 
@@ -35,22 +31,6 @@ drop_suc (suc n) (x ∷ xs) = drop_suc n xs
 
 pub drop_next : {T : Type 0} (n : ℕ) (xs : List T) → drop (n + 1) xs ≡ drop 1 (drop n xs)
 drop_next n xs = ap (λ k. drop k xs) (plus_one n) ∙ drop_suc n xs
-
-drop_at_suc : {T : Type 0} (n : ℕ) (xs : List T) (x : T) → slice_get xs n ≡ Some x → drop n xs ≡ x ∷ drop (suc n) xs
-drop_at_suc n [] x at = absurd (cc)
-drop_at_suc zero (y ∷ ys) x at = cc
-drop_at_suc (suc n) (y ∷ ys) x at = drop_at_suc n ys x at
-
-pub drop_at : {T : Type 0} (n : ℕ) (xs : List T) (x : T) → slice_get xs n ≡ Some x → drop n xs ≡ x ∷ drop (n + 1) xs
-drop_at n xs x at = drop_at_suc n xs x at ∙ ap (λ k. x ∷ drop k xs) (sym (plus_one n))
-
-pub take_at : {T : Type 0} (n : ℕ) (xs : List T) (x : T) → slice_get xs n ≡ Some x → take (n + 1) xs ≡ take n xs ++ x ∷ []
-take_at n xs x at = take_next n xs ∙ ap (λ rest. take n xs ++ take 1 rest) (drop_at n xs x at)
-
--- a path's ports -------------------------------------------------------------------------------
-
-pub ports_next : (packet : List ℕ) (n i : ℕ) (path : List ℕ) (port : ℕ) → slice_get path i ≡ Some port → has_ports packet n (drop i path) ≡ (number_in (initial_path n) packet == port && has_ports packet (n + 1) (drop (i + 1) path))
-ports_next packet n i path port at = ap (has_ports packet n) (drop_at i path port at)
 
 -- numbers --------------------------------------------------------------------------------------
 

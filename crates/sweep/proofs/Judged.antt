@@ -1,18 +1,21 @@
 -- What is answered to a reply without a fault.
-use Rattle.std.proofs.Common.{◌≡◌, ℕ, ◌+◌, ◌^◌, ◌<◌, ◌≤◌, Bool, true, false, List, [], ◌∷◌, length, refl, ap, sym, ◌∙◌, subst}
-use Rattle.std.specs.Prelude.{Some, None, Ok, Err, find, ◌==◌}
-use Rattle.std.proofs.lemmas.Bool.{and_parts, cond-true, cond-false, le-ltb, lt-ltb}
+use Rattle.std.proofs.Common.{◌≡◌, ℕ, ◌+◌, ◌^◌, ◌<◌, ◌≤◌, Bool, true, false, List, [], ◌∷◌, length, refl, ap, arith, sym, ◌∙◌, subst}
+use Rattle.std.specs.Prelude.{Option, Some, None, Ok, Err, find, option_map, ◌==◌}
+use Rattle.std.proofs.lemmas.Bool.{and_parts, cond-true, cond-false, le-ltb, lt-ltb, ne_eqb}
 use Rattle.smp_bytes.specs.Field.{number_in}
 use Rattle.smp_bytes.specs.Packet.{fault_of, transaction_id}
-use Rattle.fact_store.specs.Report.{report_fault}
+use Rattle.smp_bytes.specs.declared.smp_fault.SmpFault.{SmpFault}
+use Rattle.fact_store.specs.declared.report_fault.ReportFault.{ReportFault}
+use Rattle.fact_store.specs.declared.report_fault.ReportFault.TheVariants.{Generation, Smp}
+use Rattle.fact_store.specs.Report.{answer_fault, attribute_fault, or_else, packet_fault, reply_fault, report_fault}
 use Rattle.sweep.specs.declared.answer.Answer.TheVariants.{Facts}
-use Rattle.sweep.specs.declared.fault.SweepFault.TheVariants.{SequenceSpent}
+use Rattle.sweep.specs.declared.fault.SweepFault.TheVariants.{NotOutstanding, Bad, SequenceSpent}
 use Rattle.sweep.specs.declared.request.Request.{Request}
 use Rattle.sweep.specs.Finding.{finding, questions}
 use Rattle.sweep.specs.Replies.{belongs, is_for, is_spent, judged, judged_as, judged_by, judged_for, report_for, request_of}
 use Rattle.sweep.specs.Sweep.{Sweep, transaction_of}
 use Rattle.sweep.proofs.Few.{few_questions}
-use Rattle.sweep.proofs.Places.{some_is}
+use Rattle.request_table.proofs.Places.{some_is}
 
 -- what is found passes the test
 found_passes : {T : Type 0} (p : T → Bool) (xs : List T) (x : T) → find p xs ≡ Some x → p x ≡ true
@@ -22,6 +25,22 @@ found_passes {T} p (y ∷ ys) x e = by (p y) refl (found_passes p ys x)
     by : (b : Bool) → p y ≡ b → (find p ys ≡ Some x → p x ≡ true) → p x ≡ true
     by true f rest = subst (λ (z : T). p z ≡ true) (some_is y x (sym (cond-true _ _ _ f) ∙ e)) f
     by false f rest = rest (sym (cond-false _ _ _ f) ∙ e)
+
+-- a report of a packet is judged by the packet and the context
+pub reply_judged : (s : Sweep) (r : Request) (packet : List ℕ) → 0 < s.generation → fault_of packet ≡ None
+    → report_fault (report_for s r packet) ≡ reply_fault r.context packet
+reply_judged s r packet positive parses =
+    cond-false (s.generation == 0) (Some Generation) (or_else (packet_fault packet) (attribute_fault r.context packet))
+    (ne_eqb s.generation 0 (λ e. omega (arith, positive, e)))
+    ∙ ap (λ (f : Option SmpFault). or_else (or_else (option_map Smp f) (answer_fault packet)) (attribute_fault r.context packet)) parses
+
+pub judged_bad : (s : Sweep) (r : Request) (packet : List ℕ) (why : ReportFault) → request_of s packet ≡ Some r → fault_of packet ≡ None
+    → report_fault (report_for s r packet) ≡ Some why → judged s packet ≡ Err (Bad why)
+judged_bad s r packet why waits parses bad =
+    ap (judged_as s packet) parses ∙ ap (judged_for s packet) waits ∙ ap (judged_by s r packet) bad
+
+pub judged_lost : (s : Sweep) (packet : List ℕ) → request_of s packet ≡ None → fault_of packet ≡ None → judged s packet ≡ Err NotOutstanding
+judged_lost s packet none parses = ap (judged_as s packet) parses ∙ ap (judged_for s packet) none
 
 module _ (s : Sweep) (packet : List ℕ) (r : Request) (waits : request_of s packet ≡ Some r) (taken : report_fault (report_for s r packet) ≡ None) where
   pub few_asked : length (questions r.path (finding s r packet)) ≤ 256

@@ -3,7 +3,6 @@ pub mod Places
 pub mod Numbers
 pub mod Asked
 pub mod Valid
-pub mod Belonging
 pub mod Few
 pub mod Judged
 pub mod Taken

@@ -1,38 +1,30 @@
--- Requests by rising numbers: the place of one by its number, and what is left without it.
-use Rattle.std.proofs.Common.{◌≡◌, ◌≢◌, ℕ, zero, suc, ◌+◌, ◌-◌, ◌<◌, ◌≤◌, true, false, List, [], ◌∷◌, ◌++◌, inl, inr, length, take, drop, get_or, refl, arith, ap, sym, ◌∙◌, subst, length-append, length-take}
-use Rattle.std.specs.Prelude.{Some, None, remove, slice_get, nat_lt, ◌==◌}
+-- Requests of a sweep by rising numbers: new ones, the place of one by its TransactionID, and what remains without it.
+use Rattle.std.proofs.Common.{◌≡◌, ◌≢◌, ℕ, suc, ◌+◌, ◌-◌, ◌*◌, ◌^◌, ◌<◌, ◌≤◌, Bool, true, false, ◌&&◌, List, [], ◌∷◌, ◌++◌, length, take, drop, arith, ap, sym, ◌∙◌, subst, length-append, length-take}
+use Rattle.std.specs.Prelude.{Some, None, find, remove, slice_get, nat_lt, ◌==◌}
 use Rattle.std.specs.List.{AllByRecursion}
-use Rattle.std.specs.List.Sorted.{IsPartitionedBy}
-use Rattle.std.proofs.lemmas.Bool.{cond-true, cond-false, not_from_true, not_from_false, eq-eqb, ne_eqb, cases_lt, lt-ltb, ltb-true, ltb-false, eqb-false}
+use Rattle.std.proofs.lemmas.Bool.{ne_eqb}
 use Rattle.std.proofs.lemmas.List.{take-append-drop}
 use Rattle.std.proofs.Math.Seq.{take-append_seam, drop-append_seam}
 use Rattle.std.proofs.lemmas.List.Edits.{length-remove, remove-append_left}
-use Rattle.std.proofs.lemmas.Option.{slice_get-get_or, slice_get_within}
+use Rattle.std.proofs.lemmas.Option.{slice_get_within}
+use Rattle.smp_bytes.specs.Field.{number_in}
+use Rattle.smp_bytes.specs.Packet.{transaction_id}
+use Rattle.request_table.specs.Numbers.{AreNumbered}
+use Rattle.request_table.specs.Order.{AreOrdered, IsPlace}
+use Rattle.request_table.proofs.Numbers as numbers
+use Rattle.request_table.proofs.Places.{if_passes}
 use Rattle.sweep.specs.declared.request.Request.{Request}
-use Rattle.sweep.specs.Order.{AreOrdered, IsPlace}
-use Rattle.sweep.specs.Requests.{IsPlaceOf, is_below}
-use Rattle.sweep.specs.Sweep.{Asking, AreRising, is_numbered, numbered, request_with, transaction_of, without_number}
-use Rattle.sweep.proofs.Places.{all_at, all_map, found_in_first, if_passes, ordered_at, some_is}
+use Rattle.sweep.specs.Replies.{belongs, is_for}
+use Rattle.sweep.specs.Sweep.{Asking, AreRising, numbered, transaction_of, without_number}
+
+-- each number is below that of a later one
+abbrev pub AreBelow : List Request → Type 0
+AreBelow rs = numbers.AreBelow (λ (r : Request). r.number) rs
 
 -- chains --------------------------------------------------------------------------------------
 
-pub rising_least : (a b : ℕ) (rs : List Request) (next : ℕ) → a ≤ b → AreRising b rs next → AreRising a rs next
-rising_least a b [] next le rising = omega arith
-rising_least a b (r ∷ rs) next le rising = (omega (arith, rising.0), rising.1)
-
-pub rising_below : (least : ℕ) (rs : List Request) (next : ℕ) → AreRising least rs next → least ≤ next
-rising_below least [] next rising = rising
-rising_below least (r ∷ rs) next rising = let rest = rising_below (r.number + 1) rs next rising.1 in omega (arith, rest, rising.0)
-
-rising_all : (least : ℕ) (rs : List Request) (next : ℕ) → AreRising least rs next → AllByRecursion (λ r. least ≤ r.number) rs
-rising_all least [] next rising = tt
-rising_all least (r ∷ rs) next rising = (rising.0, all_map (λ x. r.number + 1 ≤ x.number) (λ x. least ≤ x.number) (λ x h. omega (arith, rising.0)) rs (rising_all (r.number + 1) rs next rising.1))
-
--- each number is below all later ones
-pub rising_ordered : (least : ℕ) (rs : List Request) (next : ℕ) → AreRising least rs next → AreOrdered (λ a b. a.number < b.number) rs
-rising_ordered least [] next rising = tt
-rising_ordered least (r ∷ rs) next rising =
-    (all_map (λ x. r.number + 1 ≤ x.number) (λ x. r.number < x.number) (λ x h. omega arith) rs (rising_all (r.number + 1) rs next rising.1), rising_ordered (r.number + 1) rs next rising.1)
+pub rising_ordered : (least : ℕ) (rs : List Request) (next : ℕ) → AreRising least rs next → AreBelow rs
+rising_ordered least rs next rising = numbers.rising_ordered (λ (r : Request). r.number) least rs next rising
 
 -- new ones
 pub rising_numbered : (next : ℕ) (asked : List Asking) → AreRising next (numbered next asked) (next + length asked)
@@ -42,16 +34,14 @@ rising_numbered next (a ∷ asked) =
     (omega arith, subst (AreRising (next + 1) (numbered (next + 1) asked)) count (rising_numbered (next + 1) asked))
 
 -- more at the end
-pub rising_asked : (least : ℕ) (rs : List Request) (next : ℕ) (asked : List Asking) → AreRising least rs next → AreRising least (rs ++ numbered next asked) (next + length asked)
-rising_asked least [] next asked rising = rising_least least next (numbered next asked) (next + length asked) rising (rising_numbered next asked)
-rising_asked least (r ∷ rs) next asked rising = (rising.0, rising_asked (r.number + 1) rs next asked rising.1)
+pub rising_asked : (least : ℕ) (rs : List Request) (next : ℕ) (asked : List Asking) → AreRising least rs next
+    → AreRising least (rs ++ numbered next asked) (next + length asked)
+rising_asked least rs next asked rising =
+    numbers.rising_more (λ (r : Request). r.number) least rs (numbered next asked) next (next + length asked) rising (rising_numbered next asked)
 
 -- one less
 pub rising_without : (least : ℕ) (rs : List Request) (next i : ℕ) → AreRising least rs next → AreRising least (remove rs i) next
-rising_without least [] next zero rising = rising
-rising_without least [] next (suc i) rising = rising
-rising_without least (r ∷ rs) next zero rising = rising_least least (r.number + 1) rs next (omega (arith, rising.0)) rising.1
-rising_without least (r ∷ rs) next (suc i) rising = (rising.0, rising_without (r.number + 1) rs next i rising.1)
+rising_without least rs next i rising = numbers.rising_without (λ (r : Request). r.number) least rs next i rising
 
 -- the first part of an ordered list
 all_first : {T : Type 0} (P : T → Type 0) (xs ys : List T) → AllByRecursion P (xs ++ ys) → AllByRecursion P xs
@@ -64,61 +54,40 @@ ordered_first R (x ∷ xs) ys ordered = (all_first (R x) xs ys ordered.0, ordere
 
 -- by TransactionID ------------------------------------------------------------------------------
 
--- once one is not below the TransactionID that is looked for, no later one is
-pub transactions_part : (generation transaction least : ℕ) (rs : List Request) (next : ℕ) → AreRising least rs next → IsPartitionedBy (is_below generation transaction) rs
-transactions_part generation transaction least rs next rising i j d le within before =
-    elim (cases_lt i j) [
-      | inl lt ↦ let up : (get_or rs i d).number < (get_or rs j d).number =
-          ordered_at (λ a b. a.number < b.number) rs i j (get_or rs i d) (get_or rs j d) (rising_ordered least rs next rising) lt (slice_get-get_or rs i d (omega arith)) (slice_get-get_or rs j d within) in
-          let low : transaction_of generation (get_or rs j d).number < transaction = ltb-true _ _ before in
-          lt-ltb _ _ (omega (arith, up, low))
-      | inr ge ↦ let n : i ≡ j = omega arith in subst (λ (k : ℕ). nat_lt (transaction_of generation (get_or rs k d).number) transaction ≡ true) (sym n) before
-    ]
+other_transaction : (generation transaction : ℕ) (r : Request) → r.number ≢ transaction - generation * 2 ^ 32
+    → (transaction_of generation r.number == transaction) ≡ false
+other_transaction generation transaction r ne = ne_eqb _ _ (λ e. ne (omega (arith, e)))
 
--- the request with a TransactionID stands at the place, if there is one
-pub located : (generation transaction : ℕ) (xs ys : List Request) (next i : ℕ) → AreRising 0 (xs ++ ys) next → IsPlace (is_below generation transaction) (xs ++ ys) i → request_with generation transaction xs ≡ if_passes (λ r. transaction_of generation r.number == transaction) (slice_get xs i)
-located generation transaction xs ys next i rising place =
-    found_in_first (λ a b. a.number < b.number) (is_below generation transaction) (λ r. transaction_of generation r.number == transaction)
-    (λ r e. let low : transaction_of generation r.number < transaction = ltb-true _ _ e in ne_eqb _ _ (λ n. omega (arith, low, n)))
-    (λ r q e f up. ne_eqb _ _ (behind r.number q.number (ltb-false _ _ e) f up))
-    xs ys i (ordered_first (λ a b. a.number < b.number) xs ys (rising_ordered 0 (xs ++ ys) next rising)) place
-  where
-    behind : (m n : ℕ) → transaction ≤ transaction_of generation m → (transaction_of generation m == transaction) ≡ false → m < n → transaction_of generation n ≢ transaction
-    behind m n le other up e = let ne : transaction_of generation m ≢ transaction = eqb-false _ _ other in omega (arith, le, up, e)
+-- only a request of its TransactionID is answered by a packet
+other_packet : (generation : ℕ) (packet : List ℕ) (r : Request) → r.number ≢ number_in transaction_id packet - generation * 2 ^ 32
+    → belongs generation packet r ≡ false
+other_packet generation packet r ne =
+    ap (λ (t : Bool). t && is_for packet r) (other_transaction generation (number_in transaction_id packet) r ne)
 
-module _ (generation transaction : ℕ) (xs : List Request) (i : ℕ) (e : request_with generation transaction xs ≡ if_passes (λ r. transaction_of generation r.number == transaction) (slice_get xs i)) where
-  pub place_none : slice_get xs i ≡ None → IsPlaceOf generation transaction xs None
-  place_none at = e ∙ ap (if_passes (λ r. transaction_of generation r.number == transaction)) at
+module _ (generation transaction : ℕ) (xs ys : List Request) (next i : ℕ) where
+  module _ (all : AreNumbered (λ (r : Request). r.number) (xs ++ ys) next)
+      (place : IsPlace (λ (r : Request). nat_lt r.number (transaction - generation * 2 ^ 32)) (xs ++ ys) i) where
+    ordered : AreBelow xs
+    ordered = ordered_first (λ (a : Request) (b : Request). a.number < b.number) xs ys (rising_ordered 0 (xs ++ ys) next all.rising)
 
-  pub place_other : (r : Request) → slice_get xs i ≡ Some r → transaction_of generation r.number ≢ transaction → IsPlaceOf generation transaction xs None
-  place_other r at ne = e ∙ ap (if_passes (λ r. transaction_of generation r.number == transaction)) at ∙ cond-false _ _ _ (ne_eqb _ _ ne)
+    -- the request with a TransactionID stands at the place, if there is one
+    pub located : find (λ r. transaction_of generation r.number == transaction) xs
+        ≡ if_passes (λ r. transaction_of generation r.number == transaction) (slice_get xs i)
+    located =
+        numbers.located_first (λ (r : Request). r.number) (transaction - generation * 2 ^ 32)
+        (λ r. transaction_of generation r.number == transaction) xs ys i (other_transaction generation transaction) ordered place
 
-  pub place_found : (r : Request) → slice_get xs i ≡ Some r → transaction_of generation r.number ≡ transaction → IsPlaceOf generation transaction xs (Some i)
-  place_found r at same = (r, at, e ∙ ap (if_passes (λ r. transaction_of generation r.number == transaction)) at ∙ cond-true _ _ _ (eq-eqb _ _ same))
+    -- and so does that which a packet with it answers
+    pub located_for : (packet : List ℕ) → transaction ≡ number_in transaction_id packet
+        → find (belongs generation packet) xs ≡ if_passes (belongs generation packet) (slice_get xs i)
+    located_for packet is =
+        numbers.located_first (λ (r : Request). r.number) (transaction - generation * 2 ^ 32) (belongs generation packet) xs ys i
+        (λ r ne. other_packet generation packet r (λ e. ne (omega (arith, e, is)))) ordered place
 
 -- one that has ended ----------------------------------------------------------------------------
 
-is_other : (r : Request) (number : ℕ) → r.number ≢ number → is_numbered number r ≡ false
-is_other r number ne = ne_eqb _ _ ne
-
-is_same : (r : Request) (number : ℕ) → r.number ≡ number → is_numbered number r ≡ true
-is_same r number e = eq-eqb _ _ e
-
-without_above : (number : ℕ) (rs : List Request) → AllByRecursion (λ r. number < r.number) rs → without_number number rs ≡ rs
-without_above number [] above = refl
-without_above number (r ∷ rs) above =
-    let up : number < r.number = above.0 in
-    cond-true _ _ _ (not_from_false _ (is_other r number (λ e. omega (arith, up, e)))) ∙ ap (λ rest. r ∷ rest) (without_above number rs above.1)
-
-pub without_at : (rs : List Request) (i : ℕ) (r : Request) → AreOrdered (λ a b. a.number < b.number) rs → slice_get rs i ≡ Some r → without_number r.number rs ≡ remove rs i
-without_at [] i r ordered at = absurd (cc)
-without_at (q ∷ rs) zero r ordered at =
-    let e : q ≡ r = some_is q r at in
-    cond-false _ _ _ (not_from_true _ (is_same q r.number (ap (λ z. z.number) e)))
-    ∙ without_above r.number rs (subst (λ (z : Request). AllByRecursion (λ y. z.number < y.number) rs) e ordered.0)
-without_at (q ∷ rs) (suc i) r ordered at =
-    let up : q.number < r.number = all_at (λ y. q.number < y.number) rs i r ordered.0 at in
-    cond-true _ _ _ (not_from_false _ (is_other q r.number (λ e. omega (arith, up, e)))) ∙ ap (λ rest. q ∷ rest) (without_at rs i r ordered.1 at)
+pub without_at : (rs : List Request) (i : ℕ) (r : Request) → AreBelow rs → slice_get rs i ≡ Some r → without_number r.number rs ≡ remove rs i
+without_at rs i r ordered at = numbers.without_at (λ (r : Request). r.number) rs i r ordered at
 
 -- what remains of all requests when one of the first has ended
 pub record Remains (rs : List Request) (sent i : ℕ) (r : Request) : Type 0 where

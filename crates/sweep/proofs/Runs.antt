@@ -6,12 +6,12 @@ use Rattle.sweep.specs.declared.answer.Answer.{Answer}
 use Rattle.sweep.specs.declared.fault.SweepFault.{SweepFault}
 use Rattle.sweep.specs.declared.request.Request.{Request}
 use Rattle.sweep.specs.Finding.{finding, questions}
-use Rattle.sweep.specs.Order.{AreOrdered}
+use Rattle.request_table.specs.Order.{AreOrdered}
 use Rattle.sweep.specs.Replies.{judged, replied_to, request_of}
 use Rattle.sweep.specs.Runs.{Event, Sends, Hears, TimesOut, NumbersRise, first_number, heard, numbers_sent}
 use Rattle.sweep.specs.Sweep.{AreRising, Sweep, first_question, request_with, sent_of, started, timed_out_of}
 use Rattle.sweep.proofs.Numbers.{rising_asked}
-use Rattle.sweep.proofs.Places.{all_map}
+use Rattle.request_table.proofs.Places.{all_map}
 
 -- the queue's numbers rise from the least on
 abbrev Rises : ℕ → Sweep → Type 0

@@ -1,12 +1,16 @@
 -- A reply that is taken: the requests and what was found afterwards, and that a sweep stays one.
 use Rattle.std.proofs.Common.{◌≡◌, ℕ, ◌+◌, ◌≤◌, Bool, true, false, List, ◌++◌, length, refl, arith, ap, sym, ◌∙◌, subst, length-append}
 use Rattle.std.specs.Prelude.{Option, Some, None, Ok, Err, slice_get}
+use Rattle.std.specs.Result.{result_err}
 use Rattle.std.proofs.lemmas.Bool.{cond-true, cond-false}
 use Rattle.smp_bytes.specs.declared.smp_fault.SmpFault.{SmpFault}
 use Rattle.smp_bytes.specs.Packet.{fault_of}
 use Rattle.fact_store.specs.declared.report_fault.ReportFault.{ReportFault}
 use Rattle.fact_store.specs.Report.{report_fault}
+use Rattle.smp_bytes.specs.Judges.{JudgesButFor}
+use Rattle.sweep.specs.declared.answer.Answer.{Answer}
 use Rattle.sweep.specs.declared.answer.Answer.TheVariants.{Facts}
+use Rattle.sweep.specs.Fault.{is_memory}
 use Rattle.sweep.specs.declared.fault.SweepFault.{SweepFault}
 use Rattle.sweep.specs.declared.fault.SweepFault.TheVariants.{NotOutstanding, Bad, SequenceSpent, Memory}
 use Rattle.sweep.specs.declared.finding.Finding.{Finding}
@@ -21,12 +25,13 @@ use Rattle.sweep.specs.Accepting.{IsAccepted}
 use Rattle.sweep.specs.Finding.{one_too_far, questions, too_far_by, with_reached, with_state}
 use Rattle.sweep.specs.Found.{Found}
 use Rattle.sweep.specs.Order.{AreInOrder}
-use Rattle.sweep.specs.Replies.{JudgesReply, is_spent, judged, judged_as, judged_by, judged_for, report_for, request_of}
+use Rattle.sweep.specs.Replies.{is_spent, judged, judged_as, judged_by, judged_for, report_for, request_of}
 use Rattle.sweep.specs.Requests.{Requests}
 use Rattle.sweep.specs.Sweep.{IsSweep, Sweep, numbered, state_key, vertex_key, without_number}
 use Rattle.sweep.specs.Taking.{HasTaken}
 use Rattle.sweep.proofs.Asked.{length_numbered}
-use Rattle.sweep.proofs.Places.{placed_ordered, some_is}
+use Rattle.request_table.proofs.Places.{some_is}
+use Rattle.sweep.proofs.Places.{placed_ordered}
 use Rattle.sweep.proofs.Valid.{valid_ended}
 
 -- want of memory is no judgement ---------------------------------------------------------------
@@ -47,10 +52,11 @@ never_as : (s : Sweep) (packet : List ℕ) (o : Option SmpFault) → judged_as s
 never_as s packet (Some why) e = cc
 never_as s packet None e = never_for s packet (request_of s packet) e
 
-pub judges_err : (s : Sweep) (packet : List ℕ) (why : SweepFault) → judged s packet ≡ Err why → JudgesReply (Err why) (judged s packet)
-judges_err s packet NotOutstanding e = e
-judges_err s packet (Bad why) e = e
-judges_err s packet SequenceSpent e = e
+pub judges_err : (s : Sweep) (packet : List ℕ) (why : SweepFault) → judged s packet ≡ Err why
+    → JudgesButFor {T = Answer} is_memory (Err why) (result_err (judged s packet))
+judges_err s packet NotOutstanding e = ap result_err e
+judges_err s packet (Bad why) e = ap result_err e
+judges_err s packet SequenceSpent e = ap result_err e
 judges_err s packet Memory e = absurd (never_as s packet (fault_of packet) e)
 
 -- what was found -----------------------------------------------------------------------------

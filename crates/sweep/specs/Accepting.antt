@@ -1,5 +1,6 @@
 -- A reply that a sweep takes.
-use Rattle.std.specs.Prelude.{◌≡◌, ℕ, ◌+◌, ◌^◌, ◌≤◌, List, length, slice_get, Option, None, Some, Ok}
+use Rattle.std.specs.Prelude.{◌≡◌, ℕ, ◌+◌, ◌^◌, ◌≤◌, List, length, slice_get, Some, Ok}
+use Rattle.fact_store.specs.Report.{sightings_of}
 use Rattle.sweep.specs.declared.answer.Answer.TheVariants.{Facts}
 use Rattle.sweep.specs.declared.replies.Accepted.{Accepted}
 use Rattle.sweep.specs.declared.request.Request.{Request}
@@ -7,12 +8,7 @@ use Rattle.sweep.specs.Sweep.{Sweep}
 use Rattle.sweep.specs.Finding.{finding, questions, IsWithinReach}
 use Rattle.sweep.specs.Replies.{judged, request_of}
 
--- where the request that waits for a packet stands among those that wait
-abbrev pub IsPlaceOfReply : Sweep → List ℕ → Option ℕ → Type 0
-IsPlaceOfReply s packet None = request_of s packet ≡ None
-IsPlaceOfReply s packet (Some place) = (r : Request) × (slice_get s.outstanding place ≡ Some r) × (request_of s packet ≡ Some r)
-
--- the place of the request, what the reply brings up, and what is answered
+-- the place of the request, what the reply brings up and tells, and what is answered
 pub record IsAccepted (s : Sweep) (packet : List ℕ) (accepted : Accepted) : Type 0 where
   pub request : Request
   pub waits : slice_get s.outstanding accepted.place ≡ Some request
@@ -22,3 +18,4 @@ pub record IsAccepted (s : Sweep) (packet : List ℕ) (accepted : Accepted) : Ty
   pub few : length (questions request.path accepted.finding) ≤ 256
   pub number : s.next + length (questions request.path accepted.finding) ≤ 2 ^ 32
   pub answer : judged s packet ≡ Ok (Facts accepted.report)
+  pub told : accepted.told.items ≡ sightings_of accepted.report

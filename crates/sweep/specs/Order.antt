@@ -1,18 +1,7 @@
--- Lists in an order, and the place of an item in it.
-use Rattle.std.specs.Prelude.{◌≡◌, ℕ, ◌≤◌, Bool, true, false, ◌&&◌, ◌||◌, List, [], ◌∷◌, length, find, nat_lt, slice_get, ◌==◌, if◌then◌else◌, Option}
+-- Lists in the order of GUIDs and ports, and the place of an item in it.
+use Rattle.std.specs.Prelude.{◌≡◌, ℕ, Bool, true, false, ◌&&◌, ◌||◌, List, [], ◌∷◌, find, nat_lt, slice_get, ◌==◌, if◌then◌else◌, Option}
 use Rattle.std.specs.Option.{option_map_or}
-use Rattle.std.specs.List.{AllByRecursion}
-use Rattle.std.specs.List.Sorted.{IsPartitionPoint}
-
--- each is related to all that come later
-abbrev pub AreOrdered : {T : Type 0} → (T → T → Type 0) → List T → Type 0
-AreOrdered R [] = Unit {0}
-AreOrdered R (x ∷ xs) = AllByRecursion (R x) xs × AreOrdered R xs
-
--- the test holds of all before the place, and of none from it on
-pub record IsPlace {T : Type 0} (test : T → Bool) (items : List T) (place : ℕ) : Type 0 where
-  pub within : place ≤ length items
-  pub parts : IsPartitionPoint (λ x. test x ≡ true) (λ x. test x ≡ false) items place
+use Rattle.request_table.specs.Order.{AreOrdered, IsPlace}
 
 -- the item at a place passes the test
 abbrev pub passes_at : {T : Type 0} → (T → Bool) → List T → ℕ → Bool

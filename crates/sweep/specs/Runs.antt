@@ -3,7 +3,7 @@ use Rattle.std.specs.Prelude.{◌≡◌, ℕ, ◌+◌, ◌<◌, List, [], ◌∷
 use Rattle.sweep.specs.declared.answer.Answer.{Answer}
 use Rattle.sweep.specs.declared.fault.SweepFault.{SweepFault}
 use Rattle.sweep.specs.declared.request.Request.{Request}
-use Rattle.sweep.specs.Order.{AreOrdered}
+use Rattle.request_table.specs.Order.{AreOrdered}
 use Rattle.sweep.specs.Replies.{judged, replied}
 use Rattle.sweep.specs.Sweep.{Sweep, sent, started, timed_out}
 

@@ -13,6 +13,7 @@ use Rattle.sweep.specs.declared.request.Question.TheVariants as ask
 use Rattle.sweep.specs.declared.request.Request.{Request}
 use Rattle.sweep.specs.declared.reached.Reached.{Reached}
 use Rattle.sweep.specs.declared.reached.SeenState.{SeenState}
+use Rattle.request_table.specs.Numbers as numbers
 use Rattle.sweep.specs.Order.{AreInOrder, found_at}
 
 -- The port that it goes out by and its generation; the number of the next request; the requests that are to be sent and
@@ -105,12 +106,9 @@ sent_of s (r ∷ queued) =
 abbrev pub sent : Sweep → Sent
 sent s = sent_of s s.queued
 
-abbrev pub is_numbered : ℕ → Request → Bool
-is_numbered number r = r.number == number
-
 -- without the request of a number
 abbrev pub without_number : ℕ → List Request → List Request
-without_number number requests = filter (λ r. not (is_numbered number r)) requests
+without_number number requests = numbers.without_number (λ r. r.number) number requests
 
 -- the request with this TransactionID
 abbrev pub request_with : ℕ → ℕ → List Request → Option Request
@@ -170,8 +168,7 @@ seen_state s guid port = state_at s.states guid port
 
 -- the numbers of requests rise, from the least on, and stay below the next
 abbrev pub AreRising : ℕ → List Request → ℕ → Type 0
-AreRising least [] next = least ≤ next
-AreRising least (r ∷ requests) next = (least ≤ r.number) × AreRising (r.number + 1) requests next
+AreRising least requests next = numbers.AreRising (λ r. r.number) least requests next
 
 -- No number is used twice, since those of the requests that wait and then of the queue rise, and the next is above all;
 -- what was found is in order; and each request counts once.

@@ -1,3 +1,5 @@
+ghost use Rattle.std.specs.Prelude.{◌≡◌};
+
 use fact_store::ReportFault;
 use std::alloc::AllocError;
 use thiserror::Error;
@@ -17,6 +19,22 @@ pub enum SweepFault {
     /// The memory that the call needs was refused.
     #[error("Memory")]
     Memory,
+}
+
+impl SweepFault {
+    ghost use Rattle.sweep.specs.Fault.{sweep_fault_name};
+
+    /// The name that `{}` writes; that of the report's fault where there is one.
+    pub fn name(self) -> &'static str
+        ensures { result.now ≡ sweep_fault_name self }
+    {
+        match self {
+            SweepFault::NotOutstanding => "NotOutstanding",
+            SweepFault::Bad(fault) => fault.name(),
+            SweepFault::SequenceSpent => "SequenceSpent",
+            SweepFault::Memory => "Memory",
+        }
+    }
 }
 
 impl From<AllocError> for SweepFault {

@@ -5,7 +5,7 @@ ghost use Rattle.fact_store.specs.Report.{is_up_state};
 ghost use Rattle.sweep.specs.Finding.{finding, goes_by, node_found, onward, port_found_of, questions, vertex_of, vertex_questions};
 
 use crate::reached::{Reached, SeenState};
-use crate::request::{Question, Request, copied};
+use crate::request::{Question, Request};
 use crate::sweep::Sweep;
 use attr_codec::{Attribute, NodeInfo, PortInfo, PortState};
 use fact_store::Context;
@@ -177,6 +177,6 @@ fn vertex_of(path: &Path<63>, info: &NodeInfo, kind: NodeType, ports: u8) -> Rea
         kind,
         ports,
         arrival: info.local_port_num,
-        path: copied(path),
+        path: path.copy(),
     }
 }

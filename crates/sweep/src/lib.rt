@@ -6,6 +6,7 @@ mod answer;
 mod fault;
 mod finding;
 mod found;
+mod keeper;
 pub mod laws;
 mod reached;
 mod replies;
@@ -16,8 +17,7 @@ mod sweep;
 pub use answer::Answer;
 pub use fault::SweepFault;
 pub use reached::{Reached, SeenState};
-pub use replies::has_ports;
-pub use request::{Question, Request, copied};
+pub use request::{Question, Request};
 pub use sweep::Sweep;
 
 #[cfg(test)]

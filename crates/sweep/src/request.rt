@@ -1,7 +1,9 @@
-ghost use Rattle.std.specs.Prelude.{◌≡◌, ◌<◌, ◌^◌};
+ghost use Rattle.std.specs.Prelude.{◌≡◌, ◌-◌, ◌*◌, ◌^◌};
+ghost use Rattle.sweep.specs.Replies.{belongs};
 ghost use Rattle.sweep.specs.Sweep.{attribute_asked, modifier_asked, packet_of, transaction_of};
 
 use fact_store::Context;
+use request_table::Numbered;
 use smp_bytes::{AttributeId, Generation, Method, Path, PortNum, Smp};
 
 /// What a request asks of a node.
@@ -27,11 +29,26 @@ pub struct Request {
     pub context: Context,
 }
 
+impl Numbered for Request {
+    ghost number = { λ r. r.number };
+
+    fn number(&self) -> u32 {
+        self.number
+    }
+}
+
 /// The TransactionID of a number: the generation is its high half.
 pub(crate) fn transaction_of(generation: Generation, number: u32) -> u64
     ensures { result ≡ transaction_of generation number }
 {
     u64::from(generation.number()) * 0x1_0000_0000 + u64::from(number)
+}
+
+/// The number that a TransactionID of this generation has; 0 below all of them.
+pub(crate) fn sequence_of(generation: Generation, transaction: u64) -> u64
+    ensures { result ≡ transaction - generation * 2 ^ 32 }
+{
+    transaction.saturating_sub(transaction_of(generation, 0))
 }
 
 impl Question {
@@ -71,15 +88,16 @@ impl Request {
             &[0; 64],
         )
     }
-}
 
-/// A path of its own with the same ports.
-pub fn copied(path: &Path<63>) -> Path<63>
-    ensures { result ≡ path.now }
-{
-    let mut copy = Path::new();
-    for i in 0..path.len() {
-        copy.push(path.get(i).unwrap());
+    /// Whether a packet has its TransactionID, and the attribute, the modifier and the path of it.
+    pub(crate) fn is_answered_by(&self, generation: Generation, smp: &Smp) -> bool
+        ensures { result ≡ belongs generation smp.now self.now }
+    {
+        smp.answers(
+            transaction_of(generation, self.number),
+            self.question.attribute(),
+            self.question.modifier(),
+            Some(&self.path),
+        )
     }
-    copy
 }

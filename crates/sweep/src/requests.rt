@@ -1,19 +1,21 @@
-ghost use Rattle.std.specs.Prelude.{◌≡◌, ◌&&◌, ◌+◌, ◌<◌, ◌≤◌, ◌^◌, [], ◌∷◌, ◌++◌, length, slice_get, option_copied, Some, OnOk, take, drop};
+ghost use Rattle.std.specs.Prelude.{◌≡◌, ◌&&◌, ◌+◌, ◌-◌, ◌*◌, ◌<◌, ◌≤◌, ◌^◌, [], ◌∷◌, ◌++◌, length, slice_get, option_copied, Some, OnOk, take, drop, find, nat_lt};
+ghost use Rattle.request_table.specs.Order.{IsPlace};
+ghost use Rattle.request_table.specs.Numbers.{AreNumbered, IsPlaceFor};
 ghost use Rattle.fact_store.specs.declared.report.Context.TheVariants.{About};
 ghost use Rattle.sweep.specs.declared.finding.Onward.TheVariants.{Leads};
 ghost use Rattle.sweep.specs.Finding.{port_questions, vertex_questions, onward_questions};
 ghost use Rattle.sweep.specs.Taking.{CanTake, HasTaken};
-ghost use Rattle.sweep.specs.Order.{IsPlace};
-ghost use Rattle.sweep.specs.Requests.{Requests, IsPlaceOf, HasAsked, is_below};
-ghost use Rattle.sweep.specs.Sweep.{AreRising, is_none_left, without_number};
+ghost use Rattle.sweep.specs.Replies.{belongs};
+ghost use Rattle.sweep.specs.Requests.{Requests, HasAsked};
+ghost use Rattle.sweep.specs.Sweep.{is_none_left, request_with, without_number};
 
 use crate::finding::{Finding, Onward};
 use crate::reached::{Reached, SeenState};
-use crate::request::{Question, Request, copied, transaction_of};
+use crate::request::{Question, Request, sequence_of, transaction_of};
 use fact_store::Context;
-use smp_bytes::{Generation, Path, PortNum};
+use request_table::RequestTable;
+use smp_bytes::{Generation, Path, PortNum, Smp};
 use std::alloc::{AllocError, Global};
-use std::collections::VecDeque;
 use std::marker::Model;
 
 /// A reply brings up no more requests than this: a switch has 254 ports, its management port and a
@@ -24,24 +26,21 @@ pub(crate) const MOST: usize = 256;
 /// of the next one, and for how many more there is memory.
 #[derive(Drop)]
 pub(crate) struct Requests {
-    /// The number of the next one.
-    next: u64,
-    /// By rising numbers: those that wait, and then those to be sent.
-    all: VecDeque<Request>,
+    /// Those that wait, and then those to be sent.
+    table: RequestTable<Request>,
     /// How many wait.
     sent: usize,
 }
 
 impl Model for Requests {
-    ghost use Rattle.std.specs.Prelude.{◌-◌, ◌≤◌, take, drop, length};
-    ghost use Rattle.std.specs.VecDeque.{deque_capacity, deque_len};
+    ghost use Rattle.std.specs.Prelude.{◌≤◌, take, drop, length};
     ghost use Rattle.sweep.specs.Requests.{Requests};
 
     ghost Value = { Requests };
 
-    ghost view = { λ a. record { next = a.next; outstanding = take a.sent a.all.items; queued = drop a.sent a.all.items; room = deque_capacity a.all - deque_len a.all } };
+    ghost view = { λ a. record { next = a.table.next; outstanding = take a.sent a.table.requests; queued = drop a.sent a.table.requests; room = a.table.room } };
 
-    ghost invariant = { λ a. a.sent ≤ length a.all.items };
+    ghost invariant = { λ a. a.sent ≤ length a.table.requests };
 }
 
 impl Requests {
@@ -52,8 +51,7 @@ impl Requests {
         ensures queued { result.queued ≡ [] }
     {
         Requests {
-            next: u64::from(first),
-            all: VecDeque::new(alloc),
+            table: RequestTable::new(alloc, first),
             sent: 0,
         }
     }
@@ -62,14 +60,14 @@ impl Requests {
     pub(crate) fn next(&self) -> u64
         ensures { result ≡ self.now.next }
     {
-        self.next
+        self.table.next()
     }
 
     /// Whether none waits and none is to be sent.
     pub(crate) fn is_empty(&self) -> bool
         ensures { result ≡ is_none_left self.now.queued && is_none_left self.now.outstanding }
     {
-        self.all.is_empty()
+        self.table.is_empty()
     }
 
     /// Memory for as many more as a reply can bring up.
@@ -79,19 +77,20 @@ impl Requests {
         ensures queued { self.new.queued ≡ self.old.queued }
         ensures room { OnOk result (MOST ≤ self.new.room) }
     {
-        self.all.reserve(MOST)
+        self.table.reserve(MOST)
     }
 
     /// The next one to be sent.
     pub(crate) fn first(&self) -> Option<&Request>
         ensures { option_copied result ≡ slice_get self.now.queued 0 }
     {
-        self.all.get(self.sent)
+        self.table.get(self.sent)
     }
 
     /// The next one to be sent waits from now on.
     pub(crate) fn send(&mut self)
-        requires { 0 < length self.old.queued }
+        requires queued { 0 < length self.old.queued }
+        requires few { length self.old.outstanding < 2 ^ 32 }
         ensures next { self.new.next ≡ self.old.next }
         ensures outstanding { self.new.outstanding
             ≡ self.old.outstanding ++ take 1 self.old.queued }
@@ -105,7 +104,7 @@ impl Requests {
         ensures { option_copied result ≡ slice_get self.now.outstanding place }
     {
         if place < self.sent {
-            self.all.get(place)
+            self.table.get(place)
         } else {
             None
         }
@@ -113,17 +112,18 @@ impl Requests {
 
     /// How many have a lower TransactionID. Halves the places at each step.
     fn count_below(&self, generation: Generation, transaction: u64) -> usize
-        requires { AreRising 0 (self.now.outstanding ++ self.now.queued) self.now.next }
-        ensures { IsPlace (is_below generation transaction)
+        ensures place { IsPlace (λ r. nat_lt r.number (transaction - generation * 2 ^ 32))
             (self.now.outstanding ++ self.now.queued) result }
+        ensures numbered { AreNumbered (λ r. r.number)
+            (self.now.outstanding ++ self.now.queued) self.now.next }
     {
-        self.all.partition_point(|request| transaction_of(generation, request.number) < transaction)
+        self.table.count_below(sequence_of(generation, transaction))
     }
 
     /// The place of the one that waits under a TransactionID. Takes a search.
     pub(crate) fn place_of(&self, generation: Generation, transaction: u64) -> Option<usize>
-        requires { AreRising 0 (self.now.outstanding ++ self.now.queued) self.now.next }
-        ensures { IsPlaceOf generation transaction self.now.outstanding result }
+        ensures { IsPlaceFor (request_with generation transaction self.now.outstanding)
+            self.now.outstanding result }
     {
         let place = self.count_below(generation, transaction);
         let request = self.get(place)?;
@@ -134,10 +134,23 @@ impl Requests {
         }
     }
 
+    /// The place of the one that waits for a packet. Takes a search.
+    pub(crate) fn place_for(&self, generation: Generation, smp: &Smp) -> Option<usize>
+        ensures { IsPlaceFor (find (belongs generation smp.now) self.now.outstanding)
+            self.now.outstanding result }
+    {
+        let place = self.count_below(generation, smp.transaction_id());
+        let request = self.get(place)?;
+        if request.is_answered_by(generation, smp) {
+            Some(place)
+        } else {
+            None
+        }
+    }
+
     /// One that waits has ended. Moves the requests on one side of it.
     pub(crate) fn end(&mut self, place: usize) -> Request
-        requires rising { AreRising 0 (self.old.outstanding ++ self.old.queued) self.old.next }
-        requires place { place < length self.old.outstanding }
+        requires { place < length self.old.outstanding }
         ensures request { Some result ≡ slice_get self.old.outstanding place }
         ensures next { self.new.next ≡ self.old.next }
         ensures outstanding { self.new.outstanding
@@ -146,7 +159,7 @@ impl Requests {
         ensures room { self.old.room ≤ self.new.room }
     {
         self.sent -= 1;
-        self.all.remove(place).unwrap()
+        self.table.end(place)
     }
 
     /// One more at the end of the queue. Takes no memory.
@@ -156,14 +169,13 @@ impl Requests {
         ensures { HasAsked (record { question = question; path = path; context = context } ∷ [])
             self.old self.new }
     {
-        let number = self.next as u32;
-        self.all.push_back_reserved(Request {
+        let number = self.table.next() as u32;
+        self.table.push(Request {
             number,
             question,
             path,
             context,
         });
-        self.next += 1;
     }
 
     /// PortInfo of all ports of a switch, from its management port on.
@@ -179,7 +191,7 @@ impl Requests {
             let context = Context::About(vertex.guid);
             self.ask(
                 Question::Port(PortNum::new(port)),
-                copied(&vertex.path),
+                vertex.path.copy(),
                 context,
             );
         }
@@ -194,10 +206,10 @@ impl Requests {
     {
         let context = Context::About(vertex.guid);
         if vertex.is_switch() {
-            self.ask(Question::Switch, copied(&vertex.path), context);
+            self.ask(Question::Switch, vertex.path.copy(), context);
             self.ask_ports(vertex);
         } else {
-            self.ask(Question::Port(vertex.port), copied(&vertex.path), context);
+            self.ask(Question::Port(vertex.port), vertex.path.copy(), context);
         }
     }
 
@@ -215,8 +227,7 @@ impl Requests {
 
     /// The request of a place has ended, and what its reply brings up is asked. Takes no memory.
     pub(crate) fn take(&mut self, place: usize, finding: &Finding)
-        requires rising { AreRising 0 (self.old.outstanding ++ self.old.queued) self.old.next }
-        requires fits { CanTake self.old place finding.now }
+        requires { CanTake self.old place finding.now }
         ensures { HasTaken place finding.now self.old self.new }
     {
         let Request { path, .. } = self.end(place);

@@ -25,6 +25,6 @@ loop-port-preserved c =
     let question : ℕ → List ℕ → Asking = λ port ports. record { question = ask.Port port; path = ports; context = context } in
     let one : HasAsked (question c.loop-port.port path ∷ []) c.loop-port.self c.ask.new.self =
     subst (λ (n : ℕ). HasAsked (question n path ∷ []) c.loop-port.self c.ask.new.self) c.new.ensures
-    (subst (λ (ports : List ℕ). HasAsked (question c.new.result ports ∷ []) c.loop-port.self c.ask.new.self) c.copied.ensures c.ask.ensures) in
+    (subst (λ (ports : List ℕ). HasAsked (question c.new.result ports ∷ []) c.loop-port.self c.ask.new.self) c.copy.ensures c.ask.ensures) in
     subst (λ (asked : List Asking). HasAsked asked c.args.self.now c.ask.new.self) (sym (ports_more c.loop-port.port path context))
     (asked_both (port_questions 0 c.loop-port.port path context) (question c.loop-port.port path ∷ []) c.args.self.now c.loop-port.self c.ask.new.self c.loop-port.invariant one)

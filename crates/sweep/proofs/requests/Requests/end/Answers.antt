@@ -1,6 +1,7 @@
-use Rattle.std.proofs.Common.{◌≡◌, ℕ, ◌-◌, ◌++◌, ◌<◌, List, length, take, drop, get_or, ap, sym, ◌∙◌, subst, arith, rules, length-take}
-use Rattle.std.specs.Prelude.{Some, remove, slice_get}
-use Rattle.std.proofs.lemmas.List.{get_or-take}
+-- The one that has ended was among those that wait; the others stay as they were.
+use Rattle.std.proofs.Common.{◌≡◌, ℕ, ◌-◌, ◌++◌, ◌<◌, ◌≤◌, List, length, take, drop, get_or, ap, sym, ◌∙◌, subst, arith, length-take}
+use Rattle.std.specs.Prelude.{Some, slice_get}
+use Rattle.std.proofs.lemmas.List.{get_or-take, take-append-drop}
 use Rattle.std.proofs.lemmas.Option.{slice_get-get_or}
 use Rattle.sweep.specs.declared.request.Request.{Request}
 use Rattle.sweep.specs.Requests.{Requests}
@@ -8,33 +9,32 @@ use Rattle.sweep.specs.Sweep.{AreRising, without_number}
 use Rattle.sweep.proofs.Numbers.{Remains, remains}
 use Rattle.sweep.proofs.requests.Requests.end.Goals as goal
 
-left : (c : goal.After-unwrap) → Remains c.self.inside.all.items c.self.inside.sent c.args.place c.unwrap.result
+left : (c : goal.After-end) → Remains c.self.inside.table.requests c.self.inside.sent c.args.place c.end.result
 left c =
-    let rs : List Request = c.self.inside.all.items in
+    let rs : List Request = c.self.inside.table.requests in
     let sent : ℕ = c.self.inside.sent in
-    let Waits : Requests → Type 0 = λ v. c.args.place < length v.outstanding in
-    let Rising : Requests → Type 0 = λ v. AreRising 0 (v.outstanding ++ v.queued) v.next in
-    let lt : c.args.place < length (take sent rs) = subst Waits (sym c.self.view_is) c.requires.place in
+    let lt : c.args.place < length (take sent rs) = subst (λ (v : Requests). c.args.place < length v.outstanding) (sym c.self.view_is) c.requires in
     let long = length-take sent rs in
     let within : c.args.place < sent = omega (arith, lt, long) in
-    let there : c.remove.result ≡ Some (get_or rs c.args.place c.unwrap.result) = c.remove.ensures.succeeds c.unwrap.result (omega (arith, within, c.self.invariant, c.self.inside.all.ok)) in
-    let at : slice_get (take sent rs) c.args.place ≡ Some c.unwrap.result =
-    slice_get-get_or (take sent rs) c.args.place c.unwrap.result lt
-    ∙ ap (λ x. Some x) (get_or-take sent rs c.args.place c.unwrap.result within)
-    ∙ sym there ∙ c.unwrap.ensures in
-    remains rs sent c.args.place c.self.inside.next c.unwrap.result (subst Rising (sym c.self.view_is) c.requires.rising) c.self.invariant at
+    let at : slice_get (take sent rs) c.args.place ≡ Some c.end.result =
+    slice_get-get_or (take sent rs) c.args.place c.end.result lt
+    ∙ ap (λ x. Some x) (get_or-take sent rs c.args.place c.end.result within)
+    ∙ sym (slice_get-get_or rs c.args.place c.end.result (omega (arith, within, c.self.invariant))) ∙ sym c.end.ensures.request in
+    let rising : AreRising 0 (take sent rs ++ drop sent rs) c.self.inside.table.next =
+    subst (λ (l : List Request). AreRising 0 l c.self.inside.table.next) (sym (take-append-drop sent rs)) c.end.ensures.numbered.rising in
+    remains rs sent c.args.place c.self.inside.table.next c.end.result rising c.self.invariant at
 
-gone : (c : goal.After-unwrap) → c.remove.new.self.items ≡ remove c.self.inside.all.items c.args.place
-gone c = search (rules, c.remove.ensures.items, c.unwrap.ensures)
+pub invariant_of-self : goal.invariant_of-self
+invariant_of-self c = subst (λ (l : List Request). c.self.inside.sent - 1 ≤ length l) (sym c.end.ensures.moved) (left c).within
 
 pub returns-clause-outstanding : goal.returns-clause-outstanding
 returns-clause-outstanding c =
-    ap (λ rs. take (c.self.inside.sent - 1) rs) (gone c)
+    ap (λ rs. take (c.self.inside.sent - 1) rs) c.end.ensures.moved
     ∙ (left c).first
-    ∙ ap (λ (v : Requests). without_number c.unwrap.result.number v.outstanding) c.self.view_is
+    ∙ ap (λ (v : Requests). without_number c.end.result.number v.outstanding) c.self.view_is
 
 pub returns-clause-queued : goal.returns-clause-queued
 returns-clause-queued c =
-    ap (λ rs. drop (c.self.inside.sent - 1) rs) (gone c)
+    ap (λ rs. drop (c.self.inside.sent - 1) rs) c.end.ensures.moved
     ∙ (left c).later
     ∙ ap (λ (v : Requests). v.queued) c.self.view_is

@@ -1,25 +1,38 @@
-use Rattle.std.proofs.Common.{◌≡◌, sym, ◌∙◌, ap, subst}
-use Rattle.std.specs.Prelude.{None, slice_get, option_copied}
+-- One place can have the TransactionID.
+use Rattle.std.proofs.Common.{◌≡◌, Bool, sym, ◌∙◌, ap, subst}
+use Rattle.std.proofs.lemmas.Bool.{eq-eqb, ne_eqb}
+use Rattle.std.specs.Prelude.{None, find, slice_get, option_copied, ◌==◌}
+use Rattle.request_table.specs.Numbers.{IsPlaceFor}
+use Rattle.request_table.proofs.Numbers.{place_none, place_other, place_found}
 use Rattle.sweep.specs.declared.request.Request.{Request}
-use Rattle.sweep.specs.Requests.{IsPlaceOf}
-use Rattle.sweep.proofs.Numbers.{located, place_none, place_other, place_found}
+use Rattle.sweep.specs.Sweep.{transaction_of}
+use Rattle.sweep.proofs.Numbers.{located}
 use Rattle.sweep.proofs.requests.Requests.place_of.Goals as goal
 
 pub returns-in_err-request : goal.returns-in_err-request
 returns-in_err-request c =
-    let none : slice_get c.args.self.now.outstanding c.count_below-place.result ≡ None = sym c.get.ensures ∙ ap (option_copied {T = Request}) (c.in_err-request.was) in
-    subst (IsPlaceOf c.args.generation c.args.transaction c.args.self.now.outstanding) (sym c.from_residual.ensures)
-    (place_none c.args.generation c.args.transaction c.args.self.now.outstanding c.count_below-place.result
-    (located c.args.generation c.args.transaction c.args.self.now.outstanding c.args.self.now.queued c.args.self.now.next c.count_below-place.result c.requires c.count_below-place.ensures) none)
+    let v = c.args.self.now in
+    let test : Request → Bool = λ r. transaction_of c.args.generation r.number == c.args.transaction in
+    let i = c.count_below-place.result in
+    let none : slice_get v.outstanding i ≡ None = sym c.get.ensures ∙ ap (option_copied {T = Request}) (c.in_err-request.was) in
+    subst (IsPlaceFor (find test v.outstanding) v.outstanding) (sym c.from_residual.ensures)
+    (place_none test v.outstanding i
+    (located c.args.generation c.args.transaction v.outstanding v.queued v.next i c.count_below-place.ensures.numbered c.count_below-place.ensures.place) none)
 
 pub returns-then-transaction_of-transaction : goal.returns-then-transaction_of-transaction
 returns-then-transaction_of-transaction c =
-    place_found c.args.generation c.args.transaction c.args.self.now.outstanding c.count_below-place.result
-    (located c.args.generation c.args.transaction c.args.self.now.outstanding c.args.self.now.queued c.args.self.now.next c.count_below-place.result c.requires c.count_below-place.ensures)
-    c.in_ok-request.request.now (sym (c.in_ok-request.ensures)) (sym c.transaction_of.ensures ∙ c.if-transaction_of-transaction.true)
+    let v = c.args.self.now in
+    let test : Request → Bool = λ r. transaction_of c.args.generation r.number == c.args.transaction in
+    let i = c.count_below-place.result in
+    place_found test v.outstanding i
+    (located c.args.generation c.args.transaction v.outstanding v.queued v.next i c.count_below-place.ensures.numbered c.count_below-place.ensures.place)
+    c.in_ok-request.request.now (sym (c.in_ok-request.ensures)) (eq-eqb _ _ (sym c.transaction_of.ensures ∙ c.if-transaction_of-transaction.true))
 
 pub returns-else-transaction_of-transaction : goal.returns-else-transaction_of-transaction
 returns-else-transaction_of-transaction c =
-    place_other c.args.generation c.args.transaction c.args.self.now.outstanding c.count_below-place.result
-    (located c.args.generation c.args.transaction c.args.self.now.outstanding c.args.self.now.queued c.args.self.now.next c.count_below-place.result c.requires c.count_below-place.ensures)
-    c.in_ok-request.request.now (sym (c.in_ok-request.ensures)) (λ e. c.if-transaction_of-transaction.false (c.transaction_of.ensures ∙ e))
+    let v = c.args.self.now in
+    let test : Request → Bool = λ r. transaction_of c.args.generation r.number == c.args.transaction in
+    let i = c.count_below-place.result in
+    place_other test v.outstanding i
+    (located c.args.generation c.args.transaction v.outstanding v.queued v.next i c.count_below-place.ensures.numbered c.count_below-place.ensures.place)
+    c.in_ok-request.request.now (sym (c.in_ok-request.ensures)) (ne_eqb _ _ (λ e. c.if-transaction_of-transaction.false (c.transaction_of.ensures ∙ e)))

@@ -3,11 +3,11 @@ use Rattle.std.proofs.lemmas.Result.{err_from_is_err_and}
 use Rattle.sweep.specs.Accepting.{IsAccepted}
 use Rattle.sweep.specs.Sweep.{Sweep}
 use Rattle.sweep.proofs.Taken.{IsReady, few_then, judges_err, valid_then}
-use Rattle.sweep.proofs.sweep.Sweep.on_reply_into.Goals as goal
-use Rattle.sweep.proofs.sweep.Sweep.on_reply_into.Goals.{After-put}
+use Rattle.sweep.proofs.sweep.Sweep.take_into.Goals as goal
+use Rattle.sweep.proofs.sweep.Sweep.take_into.Goals.{After-put}
 
-ready : (c : After-put) → IsReady c.args.self.now c.reserve.new.self c.reserve-2.new.self
-ready c =
+ready : (g : _) (c : After-put g) → IsReady c.args.self.now c.reserve.new.self c.reserve-2.new.self
+ready g c =
     record {
       next = c.reserve.ensures.next ∙ ap (λ (v : Sweep). v.next) c.self.view_is;
       outstanding = c.reserve.ensures.outstanding ∙ ap (λ (v : Sweep). v.outstanding) c.self.view_is;
@@ -18,14 +18,14 @@ ready c =
     }
 
 pub returns-in_err-accepted-clause-judged : goal.returns-in_err-accepted-clause-judged
-returns-in_err-accepted-clause-judged c =
+returns-in_err-accepted-clause-judged g c =
     let p = err_from_is_err_and c.from_residual.result c.from_residual.ensures.1 in
-    rw (p.1, p.2) (judges_err c.args.self.now c.args.bytes.now c.in_err-accepted.field-0.0 c.in_err-accepted.ensures.err)
+    rw (p.1, p.2) (judges_err c.args.self.now c.args.smp.now c.in_err-accepted.field-0.0 c.in_err-accepted.ensures.err)
 
 pub invariant_of-self-2 : goal.invariant_of-self-2
-invariant_of-self-2 c =
-    valid_then _ c.args.bytes.now c.in_ok-accepted.accepted
-    (subst (λ (s : Sweep). IsAccepted s c.args.bytes.now c.in_ok-accepted.accepted) (sym c.self.view_is) c.in_ok-accepted.ensures.ok)
+invariant_of-self-2 g c =
+    valid_then _ c.args.smp.now c.in_ok-accepted.accepted
+    (subst (λ (s : Sweep). IsAccepted s c.args.smp.now c.in_ok-accepted.accepted) (sym c.self.view_is) c.in_ok-accepted.ensures.ok)
     c.reserve.new.self c.take.new.self c.reserve-2.new.self c.put.new.self
     (record {
       next = c.reserve.ensures.next;
@@ -39,5 +39,5 @@ invariant_of-self-2 c =
     (record { reached = c.put.ensures.reached; states = c.put.ensures.states; too_far = c.put.ensures.too_far })
 
 pub returns-clause-few : goal.returns-clause-few
-returns-clause-few c =
-    few_then c.args.self.now c.args.bytes.now c.in_ok-accepted.accepted c.in_ok-accepted.ensures.ok c.reserve.new.self c.take.new.self c.reserve-2.new.self c.put.new.self (ready c) c.take.ensures
+returns-clause-few g c =
+    few_then c.args.self.now c.args.smp.now c.in_ok-accepted.accepted c.in_ok-accepted.ensures.ok c.reserve.new.self c.take.new.self c.reserve-2.new.self c.put.new.self (ready g c) c.take.ensures

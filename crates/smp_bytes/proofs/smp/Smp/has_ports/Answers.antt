@@ -2,9 +2,9 @@ use Rattle.std.proofs.Common.{◌≡◌, ℕ, ◌+◌, Bool, true, false, ◌&&�
 use Rattle.std.specs.Prelude.{Some, slice_get, ◌==◌}
 use Rattle.smp_bytes.specs.Field.{number_in}
 use Rattle.smp_bytes.specs.Packet.{initial_path}
-use Rattle.sweep.specs.Replies.{has_ports}
-use Rattle.sweep.proofs.Asked.{ports_next}
-use Rattle.sweep.proofs.replies.has_ports.Goals as goal
+use Rattle.smp_bytes.specs.Answers.{has_ports}
+use Rattle.smp_bytes.proofs.Ports.{ports_next}
+use Rattle.smp_bytes.proofs.smp.Smp.has_ports.Goals as goal
 
 not_is_true : (b : Bool) → not b ≡ true → b ≡ false
 not_is_true false e = refl
@@ -21,9 +21,9 @@ step packet i path port b so_far at same = so_far ∙ ports_next packet (i + 1) 
 pub returns-then-ne : goal.returns-then-ne
 returns-then-ne c =
     let other : (c.initial_path.result == c.unwrap.result) ≡ false = not_is_true _ (sym c.ne.ensures ∙ c.if-ne.true) in
-    sym (step c.args.smp.now c.loop-i.i c.args.path.now c.unwrap.result false c.loop-i.invariant (sym c.get.ensures ∙ c.unwrap.ensures) (ap (λ n. n == c.unwrap.result) (sym c.initial_path.ensures) ∙ other))
+    sym (step c.args.self.now c.loop-i.i c.args.path.now c.unwrap.result false c.loop-i.invariant (sym c.get.ensures ∙ c.unwrap.ensures) (ap (λ n. n == c.unwrap.result) (sym c.initial_path.ensures) ∙ other))
 
 pub loop-i-preserved : goal.loop-i-preserved
 loop-i-preserved c =
     let same : (c.initial_path.result == c.unwrap.result) ≡ true = not_is_false _ (sym c.ne.ensures ∙ c.if-ne.false) in
-    step c.args.smp.now c.loop-i.i c.args.path.now c.unwrap.result true c.loop-i.invariant (sym c.get.ensures ∙ c.unwrap.ensures) (ap (λ n. n == c.unwrap.result) (sym c.initial_path.ensures) ∙ same)
+    step c.args.self.now c.loop-i.i c.args.path.now c.unwrap.result true c.loop-i.invariant (sym c.get.ensures ∙ c.unwrap.ensures) (ap (λ n. n == c.unwrap.result) (sym c.initial_path.ensures) ∙ same)

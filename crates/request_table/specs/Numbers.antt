@@ -1,0 +1,31 @@
+-- Requests by rising numbers.
+use Rattle.std.specs.Prelude.{◌≡◌, ℕ, ◌+◌, ◌≤◌, ◌^◌, not, List, [], ◌∷◌, filter, find, slice_get, ◌==◌, Option, Some, None}
+
+-- the number of the next one, the requests, and for how many more there is memory
+pub record Table (T : Type 0) : Type 0 where
+  pub next : ℕ
+  pub requests : List T
+  pub room : ℕ
+
+-- the numbers rise, from the least on, and stay below the next
+abbrev pub AreRising : {T : Type 0} → (T → ℕ) → ℕ → List T → ℕ → Type 0
+AreRising number least [] next = least ≤ next
+AreRising number least (r ∷ requests) next = (least ≤ number r) × AreRising number (number r + 1) requests next
+
+-- 32 bits hold each number
+pub record AreNumbered {T : Type 0} (number : T → ℕ) (requests : List T) (next : ℕ) : Type 0 where
+  pub rising : AreRising number 0 requests next
+  pub bound : next ≤ 2 ^ 32
+
+-- the request of a number
+abbrev pub with_number : {T : Type 0} → (T → ℕ) → ℕ → List T → Option T
+with_number number n requests = find (λ r. number r == n) requests
+
+-- without the request of a number
+abbrev pub without_number : {T : Type 0} → (T → ℕ) → ℕ → List T → List T
+without_number number n requests = filter (λ r. not (number r == n)) requests
+
+-- the place of a request that was looked for, if it was found
+abbrev pub IsPlaceFor : {T : Type 0} → Option T → List T → Option ℕ → Type 0
+IsPlaceFor found requests None = found ≡ None
+IsPlaceFor {T} found requests (Some place) = (r : T) × (slice_get requests place ≡ Some r) × (found ≡ Some r)

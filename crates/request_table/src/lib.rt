@@ -1,0 +1,8 @@
+//! Requests that wait for their answers, by rising numbers.
+#![tactic(auto)]
+
+mod numbered;
+mod request_table;
+
+pub use numbered::Numbered;
+pub use request_table::RequestTable;

@@ -1,0 +1,9 @@
+ghost use Rattle.std.specs.Prelude.{◌≡◌, ℕ};
+
+/// A request that has a number of its own.
+pub trait Numbered {
+    ghost number: { Self → ℕ };
+
+    fn number(&self) -> u32
+        ensures { result ≡ number self.now };
+}

@@ -1,0 +1,136 @@
+ghost use Rattle.std.specs.Prelude.{◌≡◌, ◌+◌, ◌<◌, ◌≤◌, ◌^◌, [], ◌∷◌, ◌++◌, OnOk, Some, length, nat_le, nat_lt, option_copied, remove, slice_get, IsTrue, ◌↔◌};
+ghost use Rattle.request_table.specs.Order.{IsPlace};
+ghost use Rattle.request_table.specs.Numbers.{AreNumbered, IsPlaceFor, with_number, without_number};
+
+use crate::numbered::Numbered;
+use std::alloc::{AllocError, Global};
+use std::collections::VecDeque;
+use std::marker::Model;
+
+/// Requests by rising numbers, none of which is given twice. Contracts see them, the number of the
+/// next one, and for how many more there is memory.
+#[derive(Drop)]
+pub struct RequestTable<T: Numbered> {
+    next: u64,
+    requests: VecDeque<T>,
+}
+
+impl<T: Numbered> Model for RequestTable<T> {
+    ghost use Rattle.std.specs.Prelude.{◌-◌};
+    ghost use Rattle.std.specs.VecDeque.{deque_capacity, deque_len};
+    ghost use Rattle.request_table.specs.Numbers.{AreNumbered, Table};
+
+    ghost Value = { Table T };
+
+    ghost view = { λ a. record { next = a.next; requests = a.requests.items; room = deque_capacity a.requests - deque_len a.requests } };
+
+    ghost invariant = { λ a. AreNumbered T.number a.requests.items a.next };
+}
+
+impl<T: Numbered + Drop> RequestTable<T> {
+    /// None yet; the first will have this number. Takes no memory.
+    pub fn new(alloc: Global, first: u32) -> Self
+        ensures next { result.next ≡ first }
+        ensures requests { result.requests ≡ [] }
+    {
+        RequestTable {
+            next: u64::from(first),
+            requests: VecDeque::new(alloc),
+        }
+    }
+
+    /// The number of the next one, which 32 bits may not hold.
+    pub fn next(&self) -> u64
+        ensures next { result ≡ self.now.next }
+        ensures numbered { AreNumbered T.number self.now.requests self.now.next }
+    {
+        self.next
+    }
+
+    /// How many there are.
+    pub fn len(&self) -> usize
+        ensures count { result ≡ length self.now.requests }
+        ensures numbered { AreNumbered T.number self.now.requests self.now.next }
+    {
+        self.requests.len()
+    }
+
+    pub fn is_empty(&self) -> bool
+        ensures { IsTrue result ↔ (self.now.requests ≡ []) }
+    {
+        self.requests.is_empty()
+    }
+
+    /// Whether there are numbers for so many more.
+    pub fn has_numbers(&self, count: usize) -> bool
+        ensures { result ≡ nat_le (self.now.next + count) (2 ^ 32) }
+    {
+        count as u64 <= 0x1_0000_0000 - self.next
+    }
+
+    /// Memory for so many more.
+    pub fn reserve(&mut self, count: usize) -> Result<(), AllocError>
+        ensures next { self.new.next ≡ self.old.next }
+        ensures requests { self.new.requests ≡ self.old.requests }
+        ensures room { OnOk result (count ≤ self.new.room) }
+    {
+        self.requests.reserve(count)
+    }
+
+    /// One more, which has the next number. Takes no memory.
+    pub fn push(&mut self, request: T)
+        requires room { 0 < self.old.room }
+        requires number { T.number request ≡ self.old.next }
+        requires spare { self.old.next < 2 ^ 32 }
+        ensures next { self.new.next ≡ self.old.next + 1 }
+        ensures requests { self.new.requests ≡ self.old.requests ++ request ∷ [] }
+        ensures room { self.old.room ≤ self.new.room + 1 }
+    {
+        self.requests.push_back_reserved(request);
+        self.next += 1;
+    }
+
+    /// One, by its place in the order of their numbers.
+    pub fn get(&self, place: usize) -> Option<&T>
+        ensures { option_copied result ≡ slice_get self.now.requests place }
+    {
+        self.requests.get(place)
+    }
+
+    /// How many have a lower number: the place of the one with this number, if there is one. Halves
+    /// the places at each step.
+    pub fn count_below(&self, number: u64) -> usize
+        ensures place { IsPlace (λ r. nat_lt (T.number r) number) self.now.requests result }
+        ensures numbered { AreNumbered T.number self.now.requests self.now.next }
+    {
+        self.requests
+            .partition_point(|request| u64::from(request.number()) < number)
+    }
+
+    /// The place of the one with this number. Takes a search.
+    pub fn place_of(&self, number: u64) -> Option<usize>
+        ensures { IsPlaceFor (with_number T.number number self.now.requests) self.now.requests result }
+    {
+        let place = self.count_below(number);
+        let request = self.get(place)?;
+        if u64::from(request.number()) == number {
+            Some(place)
+        } else {
+            None
+        }
+    }
+
+    /// One has ended. Moves those on one side of it.
+    pub fn end(&mut self, place: usize) -> T
+        requires { place < length self.old.requests }
+        ensures request { Some result ≡ slice_get self.old.requests place }
+        ensures next { self.new.next ≡ self.old.next }
+        ensures requests { self.new.requests
+            ≡ without_number T.number (T.number result) self.old.requests }
+        ensures moved { self.new.requests ≡ remove self.old.requests place }
+        ensures numbered { AreNumbered T.number self.old.requests self.old.next }
+        ensures room { self.old.room ≤ self.new.room }
+    {
+        self.requests.remove(place).unwrap()
+    }
+}

@@ -1,0 +1,52 @@
+ghost use Rattle.std.specs.Prelude.{◌≡◌, option_copied};
+ghost use Rattle.smp_bytes.specs.Answers.{answers, goes_by, has_ports};
+
+use crate::header::{AttributeId, SmpClass};
+use crate::path::Path;
+use crate::smp::Smp;
+
+impl Smp {
+    /// Whether the packet has the TransactionID, the attribute, the modifier and the way of a request: over this path,
+    /// or by LIDs where there is none. Its method and its status are not looked at.
+    pub fn answers(
+        &self,
+        transaction: u64,
+        attribute: AttributeId,
+        modifier: u32,
+        path: Option<&Path<63>>,
+    ) -> bool
+        ensures { result
+            ≡ answers self.now transaction attribute.0 modifier (option_copied path.entry) }
+    {
+        transaction == self.transaction_id()
+            && self.attribute_id() == attribute
+            && self.attribute_modifier() == modifier
+            && self.goes_by(path)
+    }
+
+    /// Whether the packet goes over this path, or by LIDs where there is none.
+    fn goes_by(&self, path: Option<&Path<63>>) -> bool
+        ensures { result ≡ goes_by self.now (option_copied path.entry) }
+    {
+        match path {
+            None => self.class() == SmpClass::LidRouted,
+            Some(path) => {
+                self.class() == SmpClass::DirectedRoute
+                    && usize::from(self.hop_count()) == path.len()
+                    && self.has_ports(path)
+            }
+        }
+    }
+
+    /// Whether the ports of the packet's path are these.
+    fn has_ports(&self, path: &Path<63>) -> bool
+        ensures { result ≡ has_ports self.now 1 path.now }
+    {
+        for i in 0..path.len() {
+            if self.initial_path(i + 1) != path.get(i).unwrap() {
+                return false;
+            }
+        }
+        true
+    }
+}
