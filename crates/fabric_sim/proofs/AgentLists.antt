@@ -1,14 +1,13 @@
 -- What stays of the agents where one of them changes.
-use Rattle.std.proofs.Common.{◌≡◌, ◌≢◌, ℕ, zero, suc, ◌+◌, ◌<◌, ◌≤◌, Bool, true, false, ◌&&◌, List, [], ◌∷◌, length, refl, arith, ap, sym, ◌∙◌, subst, length-set}
-use Rattle.std.specs.Prelude.{Option, Some, None, All, slice_get, slice_set, nat_le, if◌then◌else◌}
+use Rattle.std.proofs.Common.{◌≡◌, ◌≢◌, ℕ, zero, suc, ◌<◌, ◌≤◌, true, false, ◌&&◌, List, [], ◌∷◌, length, refl, arith, ap, ◌∙◌, subst, length-set}
+use Rattle.std.specs.Prelude.{Option, Some, None, All, slice_get, slice_set, nat_le}
 use Rattle.std.specs.Option.{option_map_or}
-use Rattle.std.proofs.lemmas.Option.{slice_get_within, get_or_from_slice_get, slice_get-get_or}
+use Rattle.std.proofs.lemmas.Option.{slice_get_within, get_or_from_slice_get}
 use Rattle.std.proofs.lemmas.List.Elements.{All-set, All-get_or}
 use Rattle.std.proofs.lemmas.Bool.{and_parts, leb-true}
 use Rattle.smp_bytes.specs.declared.cable.NodePort.{NodePort}
-use Rattle.attr_codec.specs.declared.port_state.PortState.TheVariants.{Down, Initialize}
-use Rattle.node_agents.specs.declared.port.Port.{Port}
-use Rattle.node_agents.specs.Agent.{Agent, IsAgent, has_seat, state_at}
+use Rattle.attr_codec.specs.declared.port_state.PortState.TheVariants.{Down}
+use Rattle.node_agents.specs.Agent.{Agent, has_seat, state_at}
 use Rattle.node_agents.specs.AnswerLaws.{KeepsShape}
 use Rattle.fabric_sim.specs.Simulation.{has_cable_port}
 use Rattle.fabric_sim.specs.Delivery.{with_changed}

@@ -1,6 +1,6 @@
 -- The fabric of a topology: as its nodes are before any cable, and as its links are put in one after the other.
-use Rattle.std.proofs.Common.{◌≡◌, ◌≢◌, ℕ, zero, suc, ◌+◌, ◌-◌, ◌^◌, ◌<◌, ◌≤◌, ◌↔◌, ◌⊎◌, inl, inr, Bool, true, false, ◌&&◌, ◌==◌, List, [], ◌∷◌, ◌++◌, length, get_or, take, drop, replicate, refl, arith, ap, sym, ◌∙◌, subst}
-use Rattle.std.specs.Prelude.{Option, Some, None, option_map, is_none, All, AllPairs, map, slice_get, nat_le, IsTrue, if◌then◌else◌}
+use Rattle.std.proofs.Common.{◌≡◌, ◌≢◌, ℕ, zero, suc, ◌+◌, ◌-◌, ◌^◌, ◌<◌, ◌≤◌, inl, inr, Bool, true, false, List, [], ◌∷◌, ◌++◌, length, get_or, take, replicate, refl, arith, ap, sym, ◌∙◌, subst}
+use Rattle.std.specs.Prelude.{Option, Some, None, option_map, is_none, All, map, slice_get, nat_le, if◌then◌else◌}
 use Rattle.std.specs.Option.{option_map_or}
 use Rattle.std.proofs.lemmas.Bool.{and_parts, and_from, leb-true, le-leb, cond-true, cond-false}
 use Rattle.std.proofs.lemmas.Option.{slice_get-map, slice_get_within, slice_get_read, get_or_from_slice_get}
@@ -13,12 +13,9 @@ use Rattle.smp_bytes.specs.declared.cable.NodePort.{NodePort}
 use Rattle.smp_bytes.specs.declared.cable.Cable.{Cable}
 use Rattle.smp_bytes.specs.Cables.{is_same_port, other_end}
 use Rattle.smp_bytes.proofs.Cabled.{same_port-is, same_port-refl}
-use Rattle.attr_codec.specs.declared.port_state.PortState.{PortState}
 use Rattle.attr_codec.specs.declared.port_state.PortState.TheVariants.{Down}
 use Rattle.topo_file.specs.declared.node.Node.{Node}
 use Rattle.topo_file.specs.Topology.{Layout, IsTopology, IsNode, IsOfKind, IsPortIn, IsLinkIn, AreApart}
-use Rattle.node_agents.specs.declared.agent_node.AgentNode.{AgentNode}
-use Rattle.node_agents.specs.declared.port.Port.{Port}
 use Rattle.node_agents.specs.Agent.{Agent, IsAgent, IsAgentNode, fresh_agent, has_seat, state_at, port_in}
 use Rattle.node_agents.proofs.Made.{agents_are_made}
 use Rattle.fabric_sim.specs.Simulation.{Simulation, IsSimulation, across, has_cable_port}
@@ -38,7 +35,7 @@ of_kind Router ports guid cap h = absurd h
 pub is_agent_node : (node : Node) → IsNode node → IsAgentNode (agent_node node)
 is_agent_node node is =
     let kinds = of_kind node.kind node.ports node.guid node.cap is.of_kind in
-    record { ports = (is.some_ports, is.port_range); cap = kinds.0; no_table = kinds.1; port_guids = kinds.2 }
+    record { guid = is.guid_range; ports = (is.some_ports, is.port_range); cap = kinds.0; no_table = kinds.1; port_guids = kinds.2 }
 
 pub name_long : (node : Node) → IsNode node → length node.name ≤ 64
 name_long node is = leb-true _ _ (and_parts _ _ (and_parts _ _ is.named).0).1

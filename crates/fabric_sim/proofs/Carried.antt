@@ -1,5 +1,5 @@
 -- Packets stay on their courses, whatever is delivered, lost, copied or sent; and what is handed up was on its course.
-use Rattle.std.proofs.Common.{◌≡◌, ◌≢◌, inl, inr, ℕ, zero, suc, ◌+◌, ◌^◌, ◌<◌, ◌≤◌, Bool, true, false, cond, List, [], ◌∷◌, length, refl, sym, ap, ◌∙◌, subst, arith}
+use Rattle.std.proofs.Common.{◌≡◌, ◌≢◌, inl, inr, ℕ, zero, suc, ◌+◌, ◌<◌, ◌≤◌, Bool, true, false, cond, List, [], ◌∷◌, length, refl, sym, ap, ◌∙◌, subst, arith}
 use Rattle.std.proofs.lemmas.Bool.{and_parts, and_from, leb-true, le-leb}
 use Rattle.std.proofs.lemmas.Option.{same_Some, slice_get-map}
 use Rattle.std.specs.Prelude.{Option, Some, None, option_map, slice_get, slice_index, nat_le, ◌==◌, ◌||◌}
@@ -34,10 +34,6 @@ use Rattle.fabric_sim.proofs.TripEnds.{agent_by_port}
 use Rattle.fabric_sim.proofs.TripShapes.{IsAlong, agent_there, port_count_stays}
 use Rattle.fabric_sim.proofs.TripsOut.{IsPortOf}
 use Rattle.fabric_sim.proofs.Walks.{noted, stop_last}
-
--- GUIDs have 64 bits
-abbrev pub HaveGuids : Simulation → Type 0
-HaveGuids s = (place : ℕ) (a : Agent) → agent_at s place ≡ Some a → a.node.guid < 2 ^ 64
 
 -- what an agent says is so of the fabric -------------------------------------------------------
 
@@ -210,15 +206,12 @@ not_directed start p request given payload other holds =
     record { count = holds.count; course = λ directed. absurd (cc (sym directed ∙ holds.class ∙ other)) }
 
 -- the agent's answer to a request
-module _ {start s : Simulation} (cables : AreCables start) (counts : (place : ℕ) → port_count start place ≤ 254) (guids : HaveGuids start)
+module _ {start s : Simulation} (cables : AreCables start) (counts : (place : ℕ) → port_count start place ≤ 254)
     (along : IsAlong start s) (is : IsSimulation s) (p : NodePort) (request : List ℕ) (r : IsForAgent start p request) where
   by_agent : (a : Agent) → agent_at s p.node ≡ Some a → IsOnCourse start p (answered a request p.port).packet
   unfolding answered
   by_agent a there = by_class (is_directed request) refl
     where
-      small : a.node.guid < 2 ^ 64
-      small = let (b, at, same) = node_there along p.node a there in subst (λ (n : AgentNode). n.guid < 2 ^ 64) same (guids p.node b at)
-
       by_class : (b : Bool) → is_directed request ≡ b → IsOnCourse start p (answered a request p.port).packet
       by_class false e =
           let told = (met a request p.port).told in
@@ -230,7 +223,7 @@ module _ {start s : Simulation} (cables : AreCables start) (counts : (place : �
           let agent = agent_there s.agents p.node a along.agents there in
           turned start cables counts p request (status_told told) (payload_told told request) came (answers_hold a request p.port agent r.whole)
           (λ done_is. said_of along is p came.within a there (answered a request p.port).packet
-          (answers_say a request p.port agent r.whole small (upto along is p came.within a there) done_is))
+          (answers_say a request p.port agent r.whole (upto along is p came.within a there) done_is))
 
   pub agents_answer : is_cable_port s p ≡ true → IsOnCourse start p (answer_at s p request)
   agents_answer port =

@@ -18,7 +18,7 @@ use Rattle.fabric_sim.specs.Simulation.{Simulation, IsSimulation, AreCables, Can
 use Rattle.fabric_sim.specs.Delivery.{Called, refused, asked, answer_at, launched, brought, delivered_flight, delivered, outcome_of}
 use Rattle.fabric_sim.specs.Changes.{addressed, injected, copied, repeated, lost}
 use Rattle.fabric_sim.specs.Calls.{Inject, Deliver, Lose, Repeat}
-use Rattle.fabric_sim.proofs.Carried.{HaveGuids, agents_answer}
+use Rattle.fabric_sim.proofs.Carried.{agents_answer}
 use Rattle.fabric_sim.proofs.Courses.{IsOnCourse, IsForManager, Fares, fares_well}
 use Rattle.fabric_sim.proofs.Kept.{found_waits, delivered_is as delivered_stays, injected_is, repeated_is, lost_is}
 use Rattle.fabric_sim.proofs.TripCalls.{along_call}
@@ -80,7 +80,7 @@ answered_port (Seat p) = refl
 answered_port (Arrived p) = refl
 answered_port (Made p) = refl
 
-module _ {start : Simulation} (cables : AreCables start) (counts : (place : ℕ) → port_count start place ≤ 254) (guids : HaveGuids start)
+module _ {start : Simulation} (cables : AreCables start) (counts : (place : ℕ) → port_count start place ≤ 254)
     (s : Simulation) (c : Carries start s) where
   -- a delivery
   module _ (flight : Flight) (waits : CanWait s flight.place) where
@@ -91,7 +91,7 @@ module _ {start : Simulation} (cables : AreCables start) (counts : (place : ℕ)
         cond_both (s.next == 2 ^ 64) _ _ (λ (x : Called Delivered). AreOnCourse start x.fabric.flights) (λ _. c.flights)
         (λ _. on_one_more start (without_flight s.flights flight.serial) _ (on_without start s.flights flight.serial c.flights)
         (subst (λ p. IsOnCourse start p (answer_at s (port_of flight.place) request)) (sym (answered_port flight.place))
-        (agents_answer cables counts guids c.along c.is (port_of flight.place) request well waits.port)))
+        (agents_answer cables counts c.along c.is (port_of flight.place) request well waits.port)))
     brought_on (HandsUp packet) well = on_without start s.flights flight.serial c.flights
     brought_on (Drops reason) well = on_without start s.flights flight.serial c.flights
 

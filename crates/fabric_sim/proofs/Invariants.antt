@@ -1,6 +1,6 @@
 -- What holds of each simulation holds after each call.
-use Rattle.std.proofs.Common.{cond, ◌≡◌, ◌≢◌, ℕ, ◌+◌, ◌^◌, ◌<◌, ◌≤◌, ◌↔◌, ◌⊎◌, inl, inr, Bool, true, false, not, List, [], ◌∷◌, ◌++◌, length, get_or, refl, arith, ap, sym, ◌∙◌, subst}
-use Rattle.std.specs.Prelude.{Option, Some, None, option_map, All, AllPairs, map, filter, slice_get, slice_set, if◌then◌else◌, ◌==◌}
+use Rattle.std.proofs.Common.{◌≡◌, ◌≢◌, ℕ, ◌+◌, ◌^◌, ◌<◌, ◌≤◌, inl, inr, Bool, true, false, not, List, [], ◌∷◌, length, get_or, refl, arith, ap, sym, ◌∙◌, subst}
+use Rattle.std.specs.Prelude.{Option, Some, None, option_map, All, map, slice_get, slice_set, if◌then◌else◌}
 use Rattle.std.specs.Option.{option_map_or}
 use Rattle.std.proofs.lemmas.Bool.{eqb-true, cases_eq}
 use Rattle.std.proofs.lemmas.Option.{slice_get-map}
@@ -8,8 +8,7 @@ use Rattle.std.proofs.lemmas.List.Elements.{All-filter, All-push, All-weaker, Al
 use Rattle.std.proofs.lemmas.List.Kept.{AllPairs-cons, AllPairs-filter}
 use Rattle.std.proofs.lemmas.List.Quantifiers.{all_pairs_push}
 use Rattle.smp_bytes.specs.declared.cable.NodePort.{NodePort}
-use Rattle.attr_codec.specs.declared.port_state.PortState.TheVariants.{Down}
-use Rattle.node_agents.specs.Agent.{Agent, IsAgent, state_at, has_seat, is_switch, node_of, seated}
+use Rattle.node_agents.specs.Agent.{Agent, IsAgent, has_seat, is_switch, node_of, seated}
 use Rattle.node_agents.specs.Answers.{answered}
 use Rattle.node_agents.proofs.Made.{agents_are_made}
 use Rattle.node_agents.proofs.Shapes.{answered_keeps_shape, answered_is_agent}
@@ -19,10 +18,10 @@ use Rattle.fabric_sim.specs.declared.flight.Place.{Place}
 use Rattle.fabric_sim.specs.declared.flight.Place.TheVariants.{Seat, Arrived, Made}
 use Rattle.fabric_sim.specs.declared.flight.Flight.{Flight}
 use Rattle.fabric_sim.specs.declared.packet.Packet.{Packet}
-use Rattle.fabric_sim.specs.Simulation.{Simulation, IsSimulation, AreCables, FitsPorts, AreUncabledDown, CanWait, IsWaiting, AreRising, HasPeerPlace, agent_at, across, has_cable_port, is_numbered, with_moved, without_flight, fabric_of, port_of, answer_place}
+use Rattle.fabric_sim.specs.Simulation.{Simulation, IsSimulation, AreUncabledDown, CanWait, IsWaiting, AreRising, agent_at, across, has_cable_port, is_numbered, with_moved, fabric_of, port_of, answer_place}
 use Rattle.fabric_sim.specs.Delivery.{with_changed, with_flight, without, moved_to, asked}
 use Rattle.fabric_sim.specs.Changes.{changed_at}
-use Rattle.fabric_sim.proofs.AgentLists.{AllRelated, KeepsSeats, KeepsDown, Before, AtAgent, before, at_agent, cable_ports_stay, seats_stay, Related, keeps_down_same, keeps_down_from_shape, length-changed, all_changed, related_changed, NoNewSeats, no_new_seats_same, seats_before, changed_at_place, others_stay}
+use Rattle.fabric_sim.proofs.AgentLists.{AllRelated, KeepsSeats, KeepsDown, before, cable_ports_stay, seats_stay, Related, keeps_down_same, keeps_down_from_shape, length-changed, all_changed, related_changed, NoNewSeats, no_new_seats_same, seats_before, changed_at_place, others_stay}
 use Rattle.fabric_sim.proofs.PortChanges.{keeps_down-seated, seat-seated_other}
 use Rattle.fabric_sim.proofs.PeerLists.{same_or_apart, ports_differ}
 use Rattle.fabric_sim.proofs.Serials.{rising-head, rising-tail}

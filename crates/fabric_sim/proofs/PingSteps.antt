@@ -1,15 +1,15 @@
 -- A ping, wire by wire.
-use Rattle.std.proofs.Common.{◌≡◌, ℕ, zero, suc, ◌+◌, ◌-◌, ◌<◌, ◌≤◌, List, [], ◌∷◌, length, refl, arith, ap, sym, ◌∙◌, subst, inl, inr}
+use Rattle.std.proofs.Common.{◌≡◌, ℕ, zero, suc, ◌+◌, ◌-◌, ◌<◌, List, [], ◌∷◌, length, refl, arith, ap, ◌∙◌, inl, inr}
 use Rattle.std.specs.Prelude.{Option, Some, None, ◌⊎◌}
 use Rattle.std.specs.Option.{option_map_or}
 use Rattle.smp_bytes.specs.declared.cable.NodePort.{NodePort}
 use Rattle.smp_bytes.specs.declared.course.Course.{Course}
 use Rattle.smp_bytes.specs.declared.course.Course.TheVariants.{Delivers, LeavesBy, Drops}
 use Rattle.smp_bytes.specs.Fabric.{Fabric}
-use Rattle.smp_bytes.specs.Forwarding.{Standing, Hop, Goes, IsStuck, IsDelivered, IsLost, sent_from, arrived_at, course, wire_bound}
+use Rattle.smp_bytes.specs.Forwarding.{Standing, Hop, Goes, IsStuck, sent_from, arrived_at, course, wire_bound}
 use Rattle.fabric_sim.specs.declared.ping.Ping.{Ping}
 use Rattle.fabric_sim.specs.declared.ping.Ping.TheVariants.{Reached, Lost}
-use Rattle.fabric_sim.specs.Ping.{ping, ping_on, ping_by, PingsTell, DeliversOver}
+use Rattle.fabric_sim.specs.Ping.{ping_on, ping_by, PingsTell}
 
 -- the loop ------------------------------------------------------------------------------
 

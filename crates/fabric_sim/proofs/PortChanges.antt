@@ -1,11 +1,10 @@
 -- An agent that a port is wired at, or that a manager comes to sit at.
-use Rattle.std.proofs.Common.{◌≡◌, ◌≢◌, ℕ, zero, suc, ◌+◌, ◌<◌, ◌≤◌, Bool, true, false, List, [], ◌∷◌, length, get_or, set, refl, arith, ap, sym, ◌∙◌, subst, length-set, get_or-set_same, get_or-set_other}
+use Rattle.std.proofs.Common.{◌≡◌, ◌≢◌, ℕ, zero, suc, ◌<◌, ◌≤◌, Bool, true, List, [], ◌∷◌, length, get_or, set, refl, ap, sym, ◌∙◌, get_or-set_same, get_or-set_other}
 use Rattle.std.specs.Prelude.{if◌then◌else◌}
-use Rattle.std.proofs.lemmas.List.Elements.{All-set}
 use Rattle.attr_codec.specs.declared.port_state.PortState.{PortState}
-use Rattle.attr_codec.specs.declared.port_state.PortState.TheVariants.{NoChange, Down, Initialize}
+use Rattle.attr_codec.specs.declared.port_state.PortState.TheVariants.{Down, Initialize}
 use Rattle.node_agents.specs.declared.port.Port.{Port}
-use Rattle.node_agents.specs.Agent.{Agent, IsAgent, IsPort, is_switch, has_seat, state_at, port_at, port_in, with_port, wired, seated}
+use Rattle.node_agents.specs.Agent.{Agent, IsAgent, has_seat, state_at, port_at, port_in, wired, seated}
 use Rattle.node_agents.proofs.Made.{agents_are_made}
 use Rattle.fabric_sim.proofs.AgentLists.{KeepsSeats, KeepsDown, NoNewSeats}
 

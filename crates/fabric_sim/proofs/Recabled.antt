@@ -1,16 +1,16 @@
 -- A fabric with a cable more, or a cable less.
-use Rattle.std.proofs.Common.{◌≡◌, ◌≢◌, ℕ, ◌+◌, ◌<◌, ◌≤◌, ◌↔◌, ◌⊎◌, inl, inr, Bool, true, false, List, [], length, get_or, refl, arith, ap, sym, ◌∙◌, subst}
+use Rattle.std.proofs.Common.{◌≡◌, ◌≢◌, ℕ, ◌+◌, ◌≤◌, ◌↔◌, inl, inr, Bool, true, false, List, [], length, get_or, refl, arith, ap, sym, ◌∙◌, subst}
 use Rattle.std.specs.Prelude.{Option, Some, None, All, slice_get, slice_set}
 use Rattle.std.specs.Option.{option_map_or}
 use Rattle.std.proofs.lemmas.Bool.{cases_eq}
 use Rattle.smp_bytes.specs.declared.cable.NodePort.{NodePort}
 use Rattle.attr_codec.specs.declared.port_state.PortState.{PortState}
-use Rattle.attr_codec.specs.declared.port_state.PortState.TheVariants.{Down, Initialize}
+use Rattle.attr_codec.specs.declared.port_state.PortState.TheVariants.{Down}
 use Rattle.node_agents.specs.Agent.{Agent, IsAgent, state_at, wired}
-use Rattle.fabric_sim.specs.Simulation.{Simulation, IsSimulation, HasPeerPlace, AreUncabledDown, agent_at, across, has_cable_port}
+use Rattle.fabric_sim.specs.Simulation.{Simulation, IsSimulation, HasPeerPlace, across, has_cable_port}
 use Rattle.fabric_sim.specs.Delivery.{with_changed}
 use Rattle.fabric_sim.specs.Changes.{with_peer, joined, parted}
-use Rattle.fabric_sim.proofs.AgentLists.{AllRelated, Related, KeepsSeats, AtAgent, at_agent, all_at, length-changed, all_changed, related_changed, keeps_seats_same, changed_at_place, others_stay, cable_ports_stay, NoNewSeats, no_new_seats_same, seats_before}
+use Rattle.fabric_sim.proofs.AgentLists.{AllRelated, Related, KeepsSeats, at_agent, all_at, length-changed, all_changed, related_changed, keeps_seats_same, changed_at_place, others_stay, cable_ports_stay, NoNewSeats, no_new_seats_same, seats_before}
 use Rattle.fabric_sim.proofs.PeerLists.{same_or_apart, ports_differ, across_here, across_apart, length-row, length-with_peer, has_place_after}
 use Rattle.fabric_sim.proofs.PortChanges.{state_by, keeps_seats-wired, no_new_seats-wired, state-wired, state-wired_other, is_agent-wired}
 use Rattle.fabric_sim.proofs.Invariants.{recabled}

@@ -1,27 +1,26 @@
 -- What the bodies write is what the calls are to leave.
-use Rattle.std.proofs.Common.{◌≡◌, ◌≢◌, ℕ, ◌+◌, ◌^◌, ◌<◌, ◌≤◌, ◌*◌, Bool, true, false, List, [], ◌∷◌, ◌++◌, length, get_or, take, drop, refl, arith, ap, sym, ◌∙◌, subst, lit≤}
-use Rattle.std.specs.Prelude.{Option, Some, None, IfSome, OnSome, SomeIff, MatchOption, remove, slice_get, slice_set, nat_le, if◌then◌else◌, ◌==◌}
+use Rattle.std.proofs.Common.{◌≡◌, ℕ, ◌+◌, ◌^◌, ◌<◌, Bool, true, false, List, [], ◌∷◌, ◌++◌, length, get_or, take, drop, refl, arith, ap, sym, ◌∙◌, subst}
+use Rattle.std.specs.Prelude.{Option, Some, None, IfSome, OnSome, SomeIff, remove, slice_get, slice_set, ◌==◌}
 use Rattle.std.specs.Option.{option_map_or}
 use Rattle.std.proofs.lemmas.Bool.{ne_eqb}
 use Rattle.std.proofs.lemmas.List.{take_at}
 use Rattle.std.proofs.lemmas.Option.{slice_get_within, get_or_from_slice_get}
 use Rattle.smp_bytes.specs.declared.cable.NodePort.{NodePort}
-use Rattle.node_agents.specs.Agent.{Agent, IsAgent, has_seat, wired}
+use Rattle.node_agents.specs.Agent.{Agent, wired}
 use Rattle.node_agents.specs.Answers.{answered}
 use Rattle.fabric_sim.specs.declared.flight.Place.{Place}
 use Rattle.fabric_sim.specs.declared.flight.Place.TheVariants.{Seat, Arrived}
-use Rattle.fabric_sim.specs.declared.outcome.Outcome.{Outcome}
 use Rattle.fabric_sim.specs.declared.outcome.Outcome.TheVariants.{Moves, Drops}
 use Rattle.fabric_sim.specs.declared.delivered.Reason.TheVariants.{Down}
 use Rattle.fabric_sim.specs.declared.flight.Flight.{Flight}
 use Rattle.fabric_sim.specs.declared.packet.Packet.{Packet}
-use Rattle.fabric_sim.specs.Simulation.{Simulation, IsSimulation, CanWait, IsWaiting, IsFlightAt, without_flight, HasPeerPlace, is_seat_at, agent_at, across, has_cable_port, port_of, answer_place, next_serial}
+use Rattle.fabric_sim.specs.Simulation.{Simulation, IsSimulation, CanWait, IsWaiting, IsFlightAt, without_flight, HasPeerPlace, is_seat_at, across, has_cable_port, port_of, answer_place, next_serial}
 use Rattle.fabric_sim.specs.Delivery.{with_changed, with_flight, without, moved_to, asked, answer_at, leaving}
 use Rattle.fabric_sim.specs.Changes.{with_peer, changed_at}
-use Rattle.fabric_sim.proofs.AgentLists.{AtAgent, at_agent, all_at, length-changed, cable_ports_stay}
+use Rattle.fabric_sim.proofs.AgentLists.{at_agent, length-changed, cable_ports_stay}
 use Rattle.fabric_sim.proofs.PeerLists.{length-with_peer, has_place_after}
 use Rattle.fabric_sim.proofs.Recabled.{wired_at, keeps_wired}
-use Rattle.fabric_sim.proofs.Serials.{AtPlace, at_place, moved_at, without_at}
+use Rattle.fabric_sim.proofs.Serials.{at_place, moved_at, without_at}
 use Rattle.fabric_sim.proofs.Invariants.{moved_to_is, without_is, with_flight_is, asked_is}
 
 -- moved -------------------------------------------------------------------------------

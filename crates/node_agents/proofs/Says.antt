@@ -74,11 +74,11 @@ guid_small node arrival small fits within = by_kind (types.is_switch node.kind) 
     by_kind true e = small
     by_kind false e = let room = fits e in omega (arith, room, within)
 
-pub node_info_said : (a : Agent) (arrival : ℕ) → IsAgent a → a.node.guid < 2 ^ 64 → arrival ≤ a.node.ports
+pub node_info_said : (a : Agent) (arrival : ℕ) → IsAgent a → arrival ≤ a.node.ports
     → node_info_in (get_node_info a arrival) ≡ node_info_of a.node arrival
-node_info_said a arrival is small within =
+node_info_said a arrival is within =
     let ports = is.node.ports.1 in
-    let port = guid_small a.node arrival small is.node.port_guids within in
+    let port = guid_small a.node arrival is.node.guid is.node.port_guids within in
     let kind = type_small a.node.kind in
     node_info_reads_back (node_info_of a.node arrival) (
       omega arith,
@@ -89,9 +89,9 @@ node_info_said a arrival is small within =
           (
             omega (arith, ports),
             (
-              omega (arith, small),
+              omega (arith, is.node.guid),
               (
-                omega (arith, small),
+                omega (arith, is.node.guid),
                 (
                   omega (arith, port),
                   (omega arith, (omega arith, (omega arith, (omega (arith, ports, within), (omega arith, tt))))),
@@ -152,7 +152,7 @@ same_meant a b modifier arrival e = ap (λ n. meant_of n modifier arrival) e
 cap_said : (a : Agent) → a.node.cap ≤ 49152 → number_in linear_fdb_cap (get_switch_info a) ≡ a.node.cap
 cap_said a most = number_in-with_numbers 64 (switch_entries a) (replicate 64 0) 0 (record { field = linear_fdb_cap; number = a.node.cap }) refl refl refl (omega (arith, most))
 
-module _ (a : Agent) (packet : List ℕ) (arrival : ℕ) (is : IsAgent a) (small : a.node.guid < 2 ^ 64) (within : arrival ≤ a.node.ports)
+module _ (a : Agent) (packet : List ℕ) (arrival : ℕ) (is : IsAgent a) (within : arrival ≤ a.node.ports)
     (payload : List ℕ) (now : ToldNow a packet arrival payload) where
   of_node : number_in attribute_id packet ≡ node_info → node_info_in payload ≡ node_info_of a.node arrival
   of_node e =
@@ -160,7 +160,7 @@ module _ (a : Agent) (packet : List ℕ) (arrival : ℕ) (is : IsAgent a) (small
       let same = now.keeps.shape.node in
       let payload_is : ◌≡◌ {A = Result (List ℕ) Refusal} (Ok (get_node_info b arrival)) (Ok payload) = sym (get_of-node_info b packet arrival e) ∙ now.told in
       ap node_info_in (sym (ok_is payload_is))
-      ∙ node_info_said b arrival (now.keeps.is_agent is) (subst (λ (n : AgentNode). n.guid < 2 ^ 64) (sym same) small)
+      ∙ node_info_said b arrival (now.keeps.is_agent is)
       (subst (λ (n : AgentNode). arrival ≤ n.ports) (sym same) within)
       ∙ ap (λ n. node_info_of n arrival) same
     where
@@ -190,7 +190,7 @@ module _ (a : Agent) (packet : List ℕ) (arrival : ℕ) (is : IsAgent a) (small
       ok_is h = cc
 
 pub answers_say : AnswersSay
-answers_say a packet arrival is whole small within status_is =
+answers_say a packet arrival is whole within status_is =
     let told = (met a packet arrival).told in
     let holds = answers_hold a packet arrival is whole in
     let (payload, told_is) = is_told told (sym holds.status ∙ status_is) in
@@ -199,10 +199,10 @@ answers_say a packet arrival is whole small within status_is =
     let attribute = number_in-alike attribute_id (answered a packet arrival).packet packet (λ place from less. holds.kept place (inr (inl (omega (arith, from), omega (arith, less))))) in
     let modifier = number_in-alike attribute_modifier (answered a packet arrival).packet packet (λ place from less. holds.kept place (inr (inl (omega (arith, from), omega (arith, less))))) in
     record {
-      node = λ e. ap node_info_in payload_is ∙ of_node a packet arrival is small within payload now (sym attribute ∙ e);
+      node = λ e. ap node_info_in payload_is ∙ of_node a packet arrival is within payload now (sym attribute ∙ e);
       port = λ e. subst (λ m. SaysPort a m arrival (bits_in port_state (bytes_in attribute_data (answered a packet arrival).packet))) (sym modifier)
           (subst (λ d. SaysPort a (number_in attribute_modifier packet) arrival (bits_in port_state d)) (sym payload_is)
-          (of_port a packet arrival is small within payload now (sym attribute ∙ e)));
+          (of_port a packet arrival is within payload now (sym attribute ∙ e)));
       switch = λ e. subst (λ d. SaysSwitch a (number_in linear_fdb_cap d)) (sym payload_is)
-          (of_switch a packet arrival is small within payload now (sym attribute ∙ e));
+          (of_switch a packet arrival is within payload now (sym attribute ∙ e));
     }

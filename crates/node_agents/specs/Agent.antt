@@ -88,8 +88,10 @@ fresh_agent node =
       top = 0;
     }
 
--- nodes that can be built: 1 to 254 ports, a table of unicast LIDs at a switch alone, and a GUID for each port
+-- nodes that can be built: a GUID of 64 bits, 1 to 254 ports, a table of unicast LIDs at a switch alone, and a GUID for
+-- each port
 pub record IsAgentNode (node : AgentNode) : Type 0 where
+  pub guid : node.guid < 2 ^ 64
   pub ports : (1 ≤ node.ports) × (node.ports ≤ 254)
   pub cap : node.cap ≤ 49152
   pub no_table : types.is_switch node.kind ≡ false → node.cap ≡ 0

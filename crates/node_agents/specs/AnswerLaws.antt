@@ -1,5 +1,5 @@
 -- What an answer is, what it leaves of the agent, and what a Set that is taken does.
-use Rattle.std.specs.Prelude.{◌≡◌, ◌≢◌, ◌↔◌, ◌⊎◌, ℕ, ◌+◌, ◌*◌, ◌^◌, ◌<◌, ◌≤◌, Bool, true, false, List, length, slice_index, None, Some}
+use Rattle.std.specs.Prelude.{◌≡◌, ◌≢◌, ◌↔◌, ◌⊎◌, ℕ, ◌+◌, ◌*◌, ◌<◌, ◌≤◌, Bool, true, false, List, length, slice_index, None, Some}
 use Rattle.smp_bytes.specs.Header.{get, set, done, node_info, switch_info, port_info, linear_forwarding_table}
 use Rattle.smp_bytes.specs.Field.{number_in, bytes_in, bits_in}
 use Rattle.smp_bytes.specs.Packet.{method, attribute_id, attribute_modifier, attribute_data, status, fault_of}
@@ -80,7 +80,7 @@ pub record Says (a : Agent) (arrival : ℕ) (answer : List ℕ) : Type 0 where
 -- an answer with status 0, to a Get or a Set, says what is so of the node, but for LIDs and tables
 abbrev pub AnswersSay : Type 0
 AnswersSay =
-    (a : Agent) (packet : List ℕ) (arrival : ℕ) → IsAgent a → IsPacket packet → a.node.guid < 2 ^ 64 → arrival ≤ a.node.ports
+    (a : Agent) (packet : List ℕ) (arrival : ℕ) → IsAgent a → IsPacket packet → arrival ≤ a.node.ports
     → status (answered a packet arrival).packet ≡ done → Says a arrival (answered a packet arrival).packet
 
 -- Sets ------------------------------------------------------------------------------------

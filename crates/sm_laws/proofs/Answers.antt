@@ -31,7 +31,7 @@ use Rattle.attr_codec.specs.NodeInfo.{node_info_in}
 use Rattle.attr_codec.specs.PortInfo.{port_state}
 use Rattle.attr_codec.specs.SwitchInfo.{linear_fdb_cap}
 use Rattle.fabric_sim.specs.Tells.{path_of, port_asked, SaysNode, SaysPort, SaysSwitch, SaysOf, TellsOfEnd}
-use Rattle.fabric_sim.proofs.Carried.{HaveGuids, turned}
+use Rattle.fabric_sim.proofs.Carried.{turned}
 use Rattle.fabric_sim.proofs.Carries.{AreOnCourse, Carries, HandsUpOnCourse, deliveries_carry, deliveries_hand_up, injections_carry, copies_carry, losses_carry}
 use Rattle.fabric_sim.proofs.Courses.{IsAnswerFor, IsOnCourse, IsForManager}
 use Rattle.fabric_sim.proofs.TripEnds.{request_over, few_ports, along_itself, agent_by_port}
@@ -175,7 +175,7 @@ no_attribute start p within answer is_sm_info =
       switch_info = λ e. let clash : sm_info ≡ switch_info = sym is_sm_info ∙ e in absurd (omega (arith, clash));
     }
 
-module _ {start : Simulation} (cables : AreCables start) (counts : (place : ℕ) → port_count start place ≤ 254) (guids : HaveGuids start) where
+module _ {start : Simulation} (cables : AreCables start) (counts : (place : ℕ) → port_count start place ≤ 254) where
   manager_answers : (h : Handed) (seat : NodePort) (given : ℕ) (payload : List ℕ) → IsForManager start h.at h.packet.bytes → given < 2 ^ 15 → length payload ≡ 64
       → asks_manager seat h ≡ true → IsOnCourse start seat (answer_packet h.packet.bytes given payload)
   manager_answers h seat given payload is small whole asks = by_class (is_directed request) refl
@@ -225,7 +225,7 @@ module _ {start : Simulation} (cables : AreCables start) (counts : (place : ℕ)
 
   pub sends : (s : Scene) (seat : NodePort) (packet : Packet) → Continues start s → (is_seat_at s.fabric seat ≡ true → IsOnCourse start seat packet.bytes)
       → Continues start (sent_from s seat packet)
-  sends s seat packet c on = record { fabric = injections_carry cables counts guids s.fabric c.fabric seat packet on; handed = c.handed }
+  sends s seat packet c on = record { fabric = injections_carry cables counts s.fabric c.fabric seat packet on; handed = c.handed }
 
   answers : (s : Scene) (seat : NodePort) (given : ℕ) (payload : List ℕ) (m : Option Handed) → Continues start s → given < 2 ^ 15 → length payload ≡ 64
       → ((h : Handed) → m ≡ Some h → IsForManager start h.at h.packet.bytes) → Continues start (answered_from s seat given payload m)
@@ -238,12 +238,12 @@ module _ {start : Simulation} (cables : AreCables start) (counts : (place : ℕ)
   pub continued : (s : Scene) (event : Event) → Continues start s → CanHappen event → Continues start (after_event s event)
   continued s (Deliver serial) c can =
       record {
-        fabric = deliveries_carry cables counts guids s.fabric c.fabric serial;
+        fabric = deliveries_carry cables counts s.fabric c.fabric serial;
         handed = were_more start s.handed _ c.handed
-            (were_by start (delivered s.fabric serial).result (deliveries_hand_up cables counts guids s.fabric c.fabric serial));
+            (were_by start (delivered s.fabric serial).result (deliveries_hand_up cables counts s.fabric c.fabric serial));
       }
-  continued s (Lose serial) c can = record { fabric = losses_carry cables counts guids s.fabric c.fabric serial; handed = c.handed }
-  continued s (Repeat serial) c can = record { fabric = copies_carry cables counts guids s.fabric c.fabric serial; handed = c.handed }
+  continued s (Lose serial) c can = record { fabric = losses_carry cables counts s.fabric c.fabric serial; handed = c.handed }
+  continued s (Repeat serial) c can = record { fabric = copies_carry cables counts s.fabric c.fabric serial; handed = c.handed }
   continued s (Send seat (ByLid packet)) c can = sends s seat packet c (λ _. other_on start seat packet.bytes can.0 can.1)
   continued s (Send seat (ByPath method attribute modifier tid path payload)) c (fits, low, short, own) =
       sends s seat _ c (λ there. sent_on start seat method attribute modifier tid path payload fits low short own (seat_in_port s.fabric c.fabric seat there))
@@ -267,12 +267,6 @@ all_told : (start : Simulation) (handed : List Handed) → WereOnCourse start ha
 all_told start [] all = All-nil (λ h. IsBack h → TellsOfEnd (fabric_of start) h.at h.packet.bytes)
 all_told start (h ∷ handed) all = All-cons (λ x. IsBack x → TellsOfEnd (fabric_of start) x.at x.packet.bytes) h handed (is_told start h all.0) (all_told start handed all.1)
 
-pub guids_of : (agents : List Agent) → All (λ a. a.node.guid < 2 ^ 64) agents → (place : ℕ) (a : Agent) → slice_get agents place ≡ Some a → a.node.guid < 2 ^ 64
-guids_of [] all place a there = absurd (cc)
-guids_of (x ∷ agents) all zero a there =
-    let same : x ≡ a = cc in subst (λ (y : Agent). y.node.guid < 2 ^ 64) same (All-head (λ y. y.node.guid < 2 ^ 64) x agents all)
-guids_of (x ∷ agents) all (suc place) a there = guids_of agents (All-tail (λ y. y.node.guid < 2 ^ 64) x agents all) place a there
-
 -- at the beginning
 pub begun : (s : Scene) → IsQuiet s → Continues s.fabric s
 begun s quiet =
@@ -286,4 +280,4 @@ answers_tell s events quiet all =
     let start = s.fabric in
     let along = along_itself start quiet.fabric in
     all_told start _
-    (all_continue quiet.fabric.cables (few_ports start along.agents) (guids_of start.agents quiet.guids) events s (begun s quiet) all).handed
+    (all_continue quiet.fabric.cables (few_ports start along.agents) events s (begun s quiet) all).handed

@@ -21,7 +21,6 @@ use Rattle.fabric_sim.specs.Simulation.{Simulation, IsSimulation, AreCables, age
 use Rattle.fact_store.specs.declared.report.Context.TheVariants.{Start, Via, About}
 use Rattle.fabric_sim.specs.ThereAndBack.{BeginsWith, directed_packet}
 use Rattle.fabric_sim.specs.Tells.{SaysOf, TellsOfEnd}
-use Rattle.fabric_sim.proofs.Carried.{HaveGuids}
 use Rattle.fabric_sim.proofs.Courses.{IsForManager, IsOnCourse}
 use Rattle.fabric_sim.proofs.TripEnds.{few_ports, along_itself}
 use Rattle.fabric_sim.proofs.TripShapes.{agent_there}
@@ -36,7 +35,7 @@ use Rattle.sm_laws.specs.Scene.{Handed}
 use Rattle.sm_laws.specs.Truth.{AreGuidsDistinct, IsTrueSighting}
 use Rattle.sm_laws.specs.Sweeping.{Sweeping, SweepEvent, Around, Ask, Send, Hear, TimeOut, CanBe, asking_more, sending, report_of, with_answer, hearing, after_sweep_event, after_sweep_events, AcceptedFactsAreTrue}
 use Rattle.sm_laws.proofs.Accepted.{IsAccepted, accepted, IsFor, is_for_it, path_is, good_node}
-use Rattle.sm_laws.proofs.Answers.{Continues, was_there, sent_on, seat_in_port, sends, continued, is_told, guids_of, begun}
+use Rattle.sm_laws.proofs.Answers.{Continues, was_there, sent_on, seat_in_port, sends, continued, is_told, begun}
 use Rattle.sm_laws.proofs.Replied.{sound_without, FoundSound, found_sound, ended}
 use Rattle.sm_laws.proofs.Replied as replies
 use Rattle.sm_laws.proofs.Sound.{CanBeSwept, IsSound, IsSoundRequest, AreSound, IsSoundSweep, sound_append}
@@ -88,7 +87,7 @@ module _ (start : Simulation) (is : IsSimulation start) where
 
 -- a sweep that goes on -----------------------------------------------------------------------------
 
-module _ {start : Simulation} {seat : NodePort} (cables : AreCables start) (counts : (place : ℕ) → port_count start place ≤ 254) (guids : HaveGuids start)
+module _ {start : Simulation} {seat : NodePort} (cables : AreCables start) (counts : (place : ℕ) → port_count start place ≤ 254)
     (can : CanBeSwept (fabric_of start) seat) (cabled : IsCabled (fabric_of start)) where
   -- a request that was given out
   pub record WasAsked (packet : List ℕ) : Type 0 where
@@ -161,11 +160,11 @@ module _ {start : Simulation} {seat : NodePort} (cables : AreCables start) (coun
   sending_goes w (Some packet) g were =
       let asked = were packet refl in
       record {
-        scene = sends cables counts guids w.scene w.seat (directed_packet packet) g.scene
+        scene = sends cables counts w.scene w.seat (directed_packet packet) g.scene
             (λ there. subst (IsOnCourse start w.seat) (sym asked.is) (sent_on start w.seat get (attribute_asked asked.request.question) (modifier_asked asked.request.question)
             (transaction_of asked.generation asked.request.number) asked.request.path (replicate 64 0) (fits asked.generation asked.request asked.few asked.sound)
             (omega arith) asked.sound.sound.short (subst (λ (p : NodePort). BeginsWith p.port asked.request.path) (sym g.seat_is) asked.sound.sound.own)
-            (seat_in_port cables counts guids w.scene.fabric g.scene.fabric w.seat there)));
+            (seat_in_port cables counts w.scene.fabric g.scene.fabric w.seat there)));
         seat_is = g.seat_is;
         sound = g.sound;
         asked = g.asked;
@@ -287,7 +286,7 @@ module _ {start : Simulation} {seat : NodePort} (cables : AreCables start) (coun
   goes_on : (w : Sweeping) (event : SweepEvent) → Goes w → CanBe event → Goes (after_sweep_event w event)
   goes_on w (Around event) g can_be =
       record {
-        scene = continued cables counts guids w.scene event g.scene can_be;
+        scene = continued cables counts w.scene event g.scene can_be;
         seat_is = g.seat_is;
         sound = g.sound;
         asked = g.asked;
@@ -318,7 +317,6 @@ accepted_facts_are_true w generation first events begins all =
     let start = w.scene.fabric in
     let is = begins.quiet.fabric in
     let counts = few_ports start (along_itself start is).agents in
-    let guids = guids_of start.agents begins.quiet.guids in
     let can = can_be_swept start is w.seat begins.seat begins.distinct in
     let cabled = is_cabled start is in
     let sweep : IsSoundSweep (fabric_of start) w.seat (started w.seat.port generation first) = record {
@@ -329,11 +327,11 @@ accepted_facts_are_true w generation first events begins all =
       outstanding = tt;
       reached = tt;
     } in
-    let goes : Goes is.cables counts guids can cabled w = record {
+    let goes : Goes is.cables counts can cabled w = record {
       scene = begun w.scene begins.quiet;
       seat_is = refl;
       sound = subst (IsSoundSweep (fabric_of start) w.seat) (sym begins.sweep) sweep;
-      asked = subst (WereAsked is.cables counts guids can cabled) (sym begins.asked) tt;
-      reports = subst (AreTrueReports is.cables counts guids can cabled) (sym begins.reports) tt;
+      asked = subst (WereAsked is.cables counts can cabled) (sym begins.asked) tt;
+      reports = subst (AreTrueReports is.cables counts can cabled) (sym begins.reports) tt;
     } in
-    all_reports is.cables counts guids can cabled _ (all_go_on is.cables counts guids can cabled events w goes all).reports
+    all_reports is.cables counts can cabled _ (all_go_on is.cables counts can cabled events w goes all).reports

@@ -103,9 +103,8 @@ abbrev pub after_events : List Event → Scene → Scene
 after_events [] s = s
 after_events (event ∷ events) s = after_events events (after_event s event)
 
--- a fabric with agents in any state, whose GUIDs have 64 bits, nothing on its way, and nothing handed up
+-- a fabric with agents in any state, nothing on its way, and nothing handed up
 pub record IsQuiet (s : Scene) : Type 0 where
   pub fabric : IsSimulation s.fabric
-  pub guids : All (λ a. a.node.guid < 2 ^ 64) s.fabric.agents
   pub flights : s.fabric.flights ≡ []
   pub handed : s.handed ≡ []

@@ -1,4 +1,4 @@
-use Rattle.std.proofs.Common.{◌≡◌, ◌++◌, ℕ, length, drop, replicate, ap, ◌∙◌}
+use Rattle.std.proofs.Common.{◌++◌, ℕ, length, drop, replicate, ap, ◌∙◌}
 use Rattle.std.proofs.lemmas.List.{drop-replicate}
 use Rattle.fabric_sim.proofs.build.padded.Goals as goal
 

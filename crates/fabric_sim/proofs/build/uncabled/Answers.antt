@@ -1,8 +1,7 @@
-use Rattle.std.proofs.Common.{◌≡◌, ℕ, ◌<◌, ◌^◌, List, [], length, ap, sym, ◌∙◌, subst, rules}
+use Rattle.std.proofs.Common.{◌≡◌, ◌<◌, ◌^◌, List, length, ap, sym, ◌∙◌, subst, rules}
 use Rattle.std.specs.Prelude.{Some, None, slice_get}
 use Rattle.fabric_sim.specs.declared.flight.Flight.{Flight}
-use Rattle.fabric_sim.specs.Simulation.{Simulation, IsSimulation}
-use Rattle.fabric_sim.specs.Build.{new_agent, no_peers}
+use Rattle.fabric_sim.specs.Simulation.{IsSimulation}
 use Rattle.fabric_sim.proofs.Built.{nodes_in_more, all_nodes, all_nodes_are}
 use Rattle.fabric_sim.proofs.build.uncabled.Goals as goal
 

@@ -1,6 +1,6 @@
 use Rattle.std.proofs.Common.{◌≡◌, true, subst, rules}
 use Rattle.std.specs.Prelude.{IfSome}
-use Rattle.fabric_sim.specs.Simulation.{Simulation, is_cable_port, across}
+use Rattle.fabric_sim.specs.Simulation.{Simulation, is_cable_port}
 use Rattle.fabric_sim.proofs.Written.{other_is}
 use Rattle.fabric_sim.proofs.fabric.Fabric.across.Goals as goal
 

@@ -1,12 +1,12 @@
-use Rattle.std.proofs.Common.{◌≡◌, ◌<◌, ◌+◌, ◌^◌, Bool, true, List, [], ◌∷◌, ◌++◌, ap, sym, ◌∙◌, subst, rules}
+use Rattle.std.proofs.Common.{◌≡◌, ◌<◌, ◌^◌, true, [], ◌∷◌, ◌++◌, ap, sym, ◌∙◌, subst, rules}
 use Rattle.std.specs.Prelude.{remove, slice_get, slice_set, option_map, Some}
 use Rattle.fabric_sim.specs.declared.flight.Flight.{Flight}
-use Rattle.fabric_sim.specs.Simulation.{Simulation, IsFlightAt, next_serial, has_cable_port, port_of, answer_place}
+use Rattle.fabric_sim.specs.Simulation.{Simulation, next_serial, has_cable_port, port_of, answer_place}
 use Rattle.fabric_sim.specs.Delivery.{asked, refused, Called}
 use Rattle.fabric_sim.specs.declared.fault.FabricFault.TheVariants.{SerialsSpent}
 use Rattle.fabric_sim.specs.declared.delivered.Delivered.{Delivered}
 use Rattle.std.proofs.lemmas.Bool.{cond-false}
-use Rattle.fabric_sim.proofs.Written.{removed, next_after, waiting_at, asks, Asks, asked_now, asked_valid, is_left}
+use Rattle.fabric_sim.proofs.Written.{removed, next_after, waiting_at, asks, asked_now, asked_valid, is_left}
 use Rattle.fabric_sim.proofs.fabric.Fabric.ask.Goals as goal
 
 fits : (c : goal.After-self-2-1) → c.in-Some.serial < 2 ^ 64

@@ -1,7 +1,7 @@
 use Rattle.std.proofs.Common.{◌≡◌, true, sym, ◌∙◌, ap, subst, arith, length}
 use Rattle.std.specs.Prelude.{Some}
 use Rattle.std.proofs.lemmas.Grind.{common_steps}
-use Rattle.fabric_sim.specs.Simulation.{Simulation, IsSimulation, HasPeerPlace, has_cable_port, across}
+use Rattle.fabric_sim.specs.Simulation.{Simulation, IsSimulation, has_cable_port}
 use Rattle.fabric_sim.specs.Changes.{with_peer, joined}
 use Rattle.fabric_sim.proofs.Recabled.{place_of, joined_is}
 use Rattle.fabric_sim.proofs.Written.{place_then}

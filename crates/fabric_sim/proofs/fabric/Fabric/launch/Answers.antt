@@ -1,4 +1,4 @@
-use Rattle.std.proofs.Common.{◌≡◌, ◌<◌, ◌^◌, ap, rules}
+use Rattle.std.proofs.Common.{◌<◌, ◌^◌, ap, rules}
 use Rattle.fabric_sim.specs.Simulation.{next_serial}
 use Rattle.fabric_sim.proofs.Written.{launched_valid, next_after}
 use Rattle.fabric_sim.proofs.fabric.Fabric.launch.Goals as goal

@@ -1,4 +1,4 @@
-use Rattle.std.proofs.Common.{◌≡◌, ◌<◌, ◌≤◌, ◌^◌, length, take, arith, sym, ap, ◌∙◌, rules}
+use Rattle.std.proofs.Common.{◌≡◌, length, take, arith, ap, ◌∙◌, rules}
 use Rattle.std.proofs.lemmas.List.{take_all}
 use Rattle.smp_bytes.specs.Cables.{other_end}
 use Rattle.fabric_sim.specs.Build.{uncabled, cabled}

@@ -2,7 +2,7 @@ use Rattle.std.proofs.Common.{◌≡◌, true, false, sym, ◌∙◌, ap, subst,
 use Rattle.std.specs.Prelude.{Some, None}
 use Rattle.node_agents.specs.Agent.{wired}
 use Rattle.std.proofs.lemmas.Grind.{common_steps}
-use Rattle.fabric_sim.specs.Simulation.{Simulation, IsSimulation, HasPeerPlace, has_cable_port, across}
+use Rattle.fabric_sim.specs.Simulation.{Simulation, IsSimulation, has_cable_port, across}
 use Rattle.fabric_sim.specs.Delivery.{with_changed}
 use Rattle.fabric_sim.specs.Changes.{with_peer, parted}
 use Rattle.fabric_sim.proofs.Recabled.{place_of, parted_is}

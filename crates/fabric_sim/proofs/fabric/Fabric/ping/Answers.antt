@@ -1,4 +1,4 @@
-use Rattle.std.proofs.Common.{◌≡◌, ◌+◌, ◌*◌, ◌<◌, arith, sym, ◌∙◌}
+use Rattle.std.proofs.Common.{◌+◌, ◌*◌, arith, sym, ◌∙◌}
 use Rattle.fabric_sim.specs.Simulation.{fabric_of}
 use Rattle.fabric_sim.proofs.AgentLists.{within_agents}
 use Rattle.fabric_sim.proofs.PingSteps.{delivered_there, dropped_there, stuck_there, goes_on, given_up}

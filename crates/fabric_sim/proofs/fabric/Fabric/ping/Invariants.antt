@@ -1,5 +1,4 @@
 use Rattle.std.proofs.Common.{◌≡◌, ℕ, ◌+◌, ◌<◌, length}
-use Rattle.smp_bytes.specs.Forwarding.{Standing}
 use Rattle.fabric_sim.specs.Simulation.{fabric_of}
 use Rattle.fabric_sim.specs.Ping.{ping, ping_on}
 use Rattle.fabric_sim.proofs.fabric.Fabric.ping.Given as goal

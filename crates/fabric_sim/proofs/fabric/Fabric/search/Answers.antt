@@ -1,6 +1,5 @@
 use Rattle.std.proofs.lemmas.Fn.{always_returns_same}
-use Rattle.std.proofs.Common.{◌≡◌, ℕ, rules, of_calls, ap, sym, subst, ◌∙◌}
-use Rattle.std.specs.Prelude.{Result}
+use Rattle.std.proofs.Common.{◌≡◌, ℕ, rules, of_calls, sym, subst}
 use Rattle.fabric_sim.specs.declared.flight.Flight.{Flight}
 use Rattle.fabric_sim.specs.Simulation.{Simulation, Finds}
 use Rattle.fabric_sim.proofs.Serials.{searched}

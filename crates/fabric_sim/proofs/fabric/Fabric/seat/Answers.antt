@@ -1,5 +1,5 @@
-use Rattle.std.proofs.Common.{◌≡◌, true, false, sym, ◌∙◌, ap, subst, rules, arith}
-use Rattle.std.specs.Prelude.{Some, slice_get, slice_set}
+use Rattle.std.proofs.Common.{◌≡◌, true, false, sym, ◌∙◌, subst, rules}
+use Rattle.std.specs.Prelude.{slice_set}
 use Rattle.smp_bytes.specs.Fabric.{is_switch_at}
 use Rattle.node_agents.specs.Agent.{seated}
 use Rattle.fabric_sim.specs.Simulation.{Simulation, IsSimulation, is_cable_port, has_cable_port, fabric_of, next_serial}
