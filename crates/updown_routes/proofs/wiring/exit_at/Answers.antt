@@ -12,7 +12,7 @@ use Rattle.updown_routes.proofs.wiring.exit_at.Goals as goal
 
 pub returns-in_err-linked-clause-wire : goal.returns-in_err-linked-clause-wire
 returns-in_err-linked-clause-wire c =
-    ap (option_map (by_guid c.args.guids.now)) c.from_residual-in_err-linked.ensures
+    ap (option_map (by_guid c.args.guids.now)) c.from_residual.ensures
     ∙ sym (no_link (cells_of c.args.store.now) c.args.guid c.args.port (sym c.link.ensures ∙ c.in_err-linked.was))
 
 pub index_of-requires : goal.index_of-requires
