@@ -12,7 +12,7 @@ use port_graph::{Exit, Exits};
 use smp_bytes::{Guid, PortNum};
 use std::alloc::{AllocError, Global};
 use std::marker::Model;
-use subnet_view::{switches, wire};
+use subnet_view::{link, switches, wire};
 
 /// The usable switches and the wires between them.
 #[derive(Drop)]
@@ -36,7 +36,8 @@ impl Model for Wiring {
 }
 
 impl Wiring {
-    /// The usable switches of the view with the wires between them. Takes some ten searches a port.
+    /// The usable switches of the view with the wires between them. Takes some nine searches a port that is linked
+    /// to one of them, and one for another.
     pub(crate) fn of(alloc: Global, store: &Store) -> Result<Self, Refused>
         ensures { IfOk result (λ wiring. wiring ≡ graph_of (cells_of store.now)) }
     {
@@ -125,14 +126,16 @@ fn exits_of(
     Ok(found)
 }
 
-/// The wire in a port, where it leads to a switch. A search among the switches, and some ten more.
+/// The wire in a port, where it leads to a switch. A search and one among the switches, and eight more
+/// where the link in the port names one of these.
 fn exit_at(store: &Store, guids: &[Guid], guid: Guid, port: PortNum) -> Option<Exit>
     requires { guids.now ≡ switches (cells_of store.now) }
     ensures wire { option_map (by_guid guids.now) result ≡ exit_at (cells_of store.now) guid port }
     ensures to_switch { IfSome result (λ e. e.to < length guids.now) }
 {
-    let (far, _) = wire(store, guid, port)?;
-    let to = index_of(guids, far)?;
+    let (linked, _) = link(store, guid, port)?;
+    let to = index_of(guids, linked)?;
+    let _wired = wire(store, guid, port)?;
     Some(Exit { port, to })
 }
 
