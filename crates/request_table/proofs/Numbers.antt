@@ -1,6 +1,6 @@
 -- Requests by rising numbers: the place of one by its number, and what is left without it.
 use Rattle.std.proofs.Common.{◌≡◌, ◌≢◌, ℕ, zero, suc, ◌+◌, ◌<◌, ◌≤◌, Bool, true, false, List, [], ◌∷◌, ◌++◌, append-nil}
-use Rattle.std.proofs.Common.{inl, inr, get_or, refl, arith, ap, sym, ◌∙◌, subst}
+use Rattle.std.proofs.Common.{inl, inr, length, get_or, refl, arith, ap, sym, ◌∙◌, subst}
 use Rattle.std.specs.Prelude.{Some, None, ◌^◌, find, remove, slice_get, nat_lt, ◌==◌}
 use Rattle.std.specs.List.{AllByRecursion}
 use Rattle.std.specs.List.Sorted.{IsPartitionedBy}
@@ -26,6 +26,12 @@ module _ {T : Type 0} (number : T → ℕ) where
   rising_below least [] next rising = rising
   rising_below least (r ∷ rs) next rising =
       let rest = rising_below (number r + 1) rs next rising.1 in omega (arith, rest, rising.0)
+
+  -- so there are no more of them than numbers
+  pub rising_length : (least : ℕ) (rs : List T) (next : ℕ) → AreRising number least rs next → least + length rs ≤ next
+  rising_length least [] next rising = omega (arith, rising)
+  rising_length least (r ∷ rs) next rising =
+      let rest = rising_length (number r + 1) rs next rising.1 in omega (arith, rest, rising.0)
 
   rising_all : (least : ℕ) (rs : List T) (next : ℕ) → AreRising number least rs next → AllByRecursion (λ r. least ≤ number r) rs
   rising_all least [] next rising = tt

@@ -63,7 +63,8 @@ impl<T: Numbered + Drop> RequestTable<T> {
 
     /// Whether there are numbers for so many more.
     pub fn has_numbers(&self, count: usize) -> bool
-        ensures { result ≡ nat_le (self.now.next + count) (2 ^ 32) }
+        ensures enough { result ≡ nat_le (self.now.next + count) (2 ^ 32) }
+        ensures numbered { AreNumbered T.number self.now.requests self.now.next }
     {
         count as u64 <= 0x1_0000_0000 - self.next
     }

@@ -22,7 +22,8 @@ use Rattle.sweep.specs.declared.fault.SweepFault.TheVariants.{SequenceSpent}
 use Rattle.sweep.specs.declared.request.Request.{Request}
 use Rattle.sweep.specs.Sweep.{Sweep, attribute_asked, modifier_asked}
 use Rattle.sweep.specs.Finding.{finding, questions}
-use Rattle.sweep.specs.Replies.{has_ports, is_for, belongs, request_of, report_for, is_spent, judged_by, judged_for, judged_as, judged}
+use Rattle.smp_bytes.specs.Answers.{has_ports}
+use Rattle.sweep.specs.Replies.{is_for, belongs, request_of, report_for, is_spent, judged_by, judged_for, judged_as, judged}
 
 -- faults ------------------------------------------------------------------------------------------
 
@@ -112,7 +113,8 @@ is_for_it generation packet r e =
     let one = and_parts _ (is_for packet r) e in
     let two = and_parts (number_in attribute_id packet == attribute_asked r.question) _ one.1 in
     let three = and_parts (number_in attribute_modifier packet == modifier_asked r.question) _ two.1 in
-    let four = and_parts (number_in hop_count packet == length r.path) (has_ports packet 1 r.path) three.1 in
+    let way = and_parts (is_directed packet) (number_in hop_count packet == length r.path && has_ports packet 1 r.path) three.1 in
+    let four = and_parts (number_in hop_count packet == length r.path) (has_ports packet 1 r.path) way.1 in
     record { attribute = eqb-true _ _ two.0; modifier = eqb-true _ _ three.0; hops = eqb-true _ _ four.0; ports = four.1 }
 
 port_there : (packet path : List ℕ) (from : ℕ) → has_ports packet from path ≡ true → (i : ℕ) → i < length path

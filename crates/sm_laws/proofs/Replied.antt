@@ -2,7 +2,7 @@
 use Rattle.std.proofs.Common.{◌≡◌, ℕ, ◌+◌, ◌≤◌, ◌^◌, Bool, true, false, cond, List, [], ◌∷◌, length, not, refl, sym, ap, ◌∙◌, subst}
 use Rattle.std.proofs.lemmas.Bool.{cond_both, and_parts, leb-true}
 use Rattle.std.proofs.lemmas.Option.{same_Some}
-use Rattle.std.specs.Prelude.{Option, Some, None, find, ◌&&◌, nat_le}
+use Rattle.std.specs.Prelude.{Option, Some, None, find, ◌&&◌, ◌==◌, nat_le}
 use Rattle.smp_bytes.specs.declared.cable.NodePort.{NodePort}
 use Rattle.smp_bytes.specs.declared.node_type.NodeType.{NodeType}
 use Rattle.smp_bytes.specs.Header.{node_info}
@@ -22,7 +22,7 @@ use Rattle.sweep.specs.declared.request.Question.{Question}
 use Rattle.sweep.specs.declared.request.Question.TheVariants as ask
 use Rattle.sweep.specs.declared.request.Request.{Request}
 use Rattle.sweep.specs.declared.reached.Reached.{Reached}
-use Rattle.sweep.specs.Sweep.{Sweep, Asking, attribute_asked, asking, numbered, is_numbered, reached_first, without_number}
+use Rattle.sweep.specs.Sweep.{Sweep, Asking, attribute_asked, asking, numbered, reached_first, without_number}
 use Rattle.sweep.specs.Finding.{finding_of, questions, with_finding, node_found_of, found_anew, port_found_of}
 use Rattle.sm_laws.proofs.Accepted.{IsGoodNode, IsFor, type_read}
 use Rattle.sm_laws.proofs.Sound.{CanBeSwept, LeadsTo, IsSound, AreSoundQuestions, IsSoundRequest, AreSound, AreFound, IsSoundSweep, sound_numbered, sound_append, again_good, anew_good, sound_onward}
@@ -34,7 +34,7 @@ module _ (f : Fabric) (seat : NodePort) where
   sound_without n [] all = tt
   sound_without n (r ∷ requests) all =
       let rest = sound_without n requests all.1 in
-      cond_both (not (is_numbered n r)) _ _ (AreSound f seat) (λ _. (all.0, rest)) (λ _. rest)
+      cond_both (not (r.number == n)) _ _ (AreSound f seat) (λ _. (all.0, rest)) (λ _. rest)
 
   pub record FoundSound (t : Request → Bool) (r : Request) : Type 0 where
     pub sound : IsSoundRequest f seat r

@@ -21,8 +21,8 @@ use Rattle.sm_manager.specs.declared.outgoing.Outgoing.{Outgoing}
 use Rattle.sm_manager.specs.declared.pending.Pending.{Pending}
 use Rattle.sm_manager.specs.Packets.{Called, refused, done, answered_by, sweep_answered, step_answered, pending_for, unless_spent, packet_taken, sweep_timed_out, sweep_gave_up, step_gave_up, gave_up, is_for_sweep}
 use Rattle.sm_manager.specs.Plans.{writing_fault}
-use Rattle.sm_manager.specs.Requests.{with_number}
-use Rattle.sm_manager.specs.Writing.{is_none_pending, is_spent, noted, phase_sent, step_over, went_on_with, without_number, writing_begun}
+use Rattle.sm_manager.specs.Requests.{counts, no_step_waits, with_number, without_number}
+use Rattle.sm_manager.specs.Writing.{is_spent, noted, phase_sent, step_over, went_on_with, writing_begun}
 use Rattle.sm_manager.specs.Calls.{Call, BeginSweep, WriteSteps, Take, Packet, Timeout, Merge, after_call, after_calls, told_if, told_of_reply, told_of_packet, told_in, taken_in, KnowsWhatItTookIn, SameTakenInSamePlan}
 
 -- what a call takes in is merged with what was known -------------------------------------------
@@ -47,11 +47,11 @@ module _ (m : Manager) where
 
   phase_keeps : (w : Option Writing) → (went_on_with m w).store ≡ m.store
   phase_keeps None = refl
-  phase_keeps (Some w) = cond_both (is_none_pending m.pending) (phase_sent m w) m (λ (x : Manager). x.store ≡ m.store) (λ _. refl) (λ _. refl)
+  phase_keeps (Some w) = cond_both (no_step_waits m.pending) (phase_sent m w) m (λ (x : Manager). x.store ≡ m.store) (λ _. refl) (λ _. refl)
 
 over_keeps : (m : Manager) (p : Pending) (was_done : Bool) → (step_over m p was_done).store ≡ m.store
 over_keeps m p was_done =
-    let w = noted p.counts was_done m.writing in
+    let w = noted (counts p) was_done m.writing in
     phase_keeps (record m { pending = without_number p.number m.pending; writing = w }) w
 
 unless_keeps : (m : Manager) (after : Manager) → after.store ≡ m.store → (unless_spent m after).manager.store ≡ m.store

@@ -1,56 +1,60 @@
 -- A step is over: how many go out then, and whether there are numbers for them.
-use Rattle.std.proofs.Common.{◌≡◌, ℕ, ◌+◌, ◌≤◌, ◌^◌, Bool, true, false, cond, List, [], ◌∷◌, ◌++◌, length, refl}
+use Rattle.std.proofs.Common.{◌≡◌, ℕ, zero, suc, ◌+◌, ◌≤◌, ◌^◌, Bool, true, false, cond, List, [], ◌∷◌, ◌++◌, length, refl}
 use Rattle.std.proofs.Common.{sym, ap, ◌∙◌, subst, arith}
-use Rattle.sweep.proofs.Places.{some_is}
-use Rattle.std.proofs.lemmas.Bool.{cond-true, cond-false, cond_both, lt-ltb, le-ltb, ltb-false}
-use Rattle.std.proofs.lemmas.List.Edits.{length-remove}
-use Rattle.std.proofs.lemmas.Option.{slice_get_within}
-use Rattle.std.specs.Prelude.{Option, Some, None, Result, Ok, Err, ◌&&◌, ◌||◌, drop, not, nat_lt, slice_get}
-use Rattle.sm_manager.specs.declared.fault.ManagerFault.{ManagerFault}
+use Rattle.std.proofs.lemmas.Bool.{cond-true, cond-false, lt-ltb, le-ltb, ltb-false, ne_eqb}
+use Rattle.std.specs.Prelude.{Option, Some, None, ◌&&◌, ◌||◌, ◌==◌, drop, not, nat_lt, remove, slice_get}
+use Rattle.request_table.proofs.Numbers.{rising_ordered, without_at}
+use Rattle.request_table.proofs.Places.{some_is}
 use Rattle.sm_manager.specs.declared.fault.ManagerFault.TheVariants as fault
 use Rattle.sm_manager.specs.declared.outgoing.Outgoing.{Outgoing}
 use Rattle.sm_manager.specs.declared.pending.Pending.{Pending}
+use Rattle.sm_manager.specs.declared.pending.Purpose.{Purpose}
+use Rattle.sm_manager.specs.declared.pending.Purpose.TheVariants.{Step}
 use Rattle.sm_manager.specs.Manager.{Manager, Writing}
-use Rattle.sm_manager.specs.Packets.{Called, JudgesCall, refused, done, unless_spent}
-use Rattle.sm_manager.specs.Plans.{JudgesAfter, number_fault}
-use Rattle.sm_manager.specs.Requests.{AreNumbered}
-use Rattle.sm_manager.specs.Writing.{count_after, count_with, is_none_pending, is_spent, next_pending, next_phase, noted, passed}
-use Rattle.sm_manager.specs.Writing.{phase_sent, steps_out, step_over, went_on_with, without_number}
-use Rattle.sm_manager.proofs.Numbers.{rising_ordered, without_at}
+use Rattle.sm_manager.specs.Packets.{Called, refused, done, unless_spent}
+use Rattle.sm_manager.specs.Plans.{number_fault}
+use Rattle.sm_manager.specs.Requests.{AreNumbered, counts, how_many, is_for_step, is_step, no_step_waits, without_number}
+use Rattle.sm_manager.specs.Writing.{count_after, count_with, is_spent, next_pending, next_phase, noted, passed}
+use Rattle.sm_manager.specs.Writing.{phase_sent, steps_out, step_over, went_on_with}
+use Rattle.sm_manager.proofs.Numbers.{many_without, one_if}
 
--- a request waits alone, or it does not
-none_left : (ps rest : List Pending) → length rest + 1 ≡ length ps → is_none_pending rest ≡ not (nat_lt 1 (length ps))
-none_left ps [] e = sym (ap not (le-ltb 1 (length ps) (omega (arith, e))))
-none_left ps (p ∷ rest) e = sym (ap not (lt-ltb 1 (length ps) (omega (arith, e))))
+-- a step waits alone, or it does not
+alone : (n k : ℕ) → n + 1 ≡ k → (n == 0) ≡ not (nat_lt 1 k)
+alone zero k e = sym (ap not (le-ltb 1 k (omega (arith, e))))
+alone (suc n) k e = ne_eqb (suc n) 0 (λ z. omega (arith, z)) ∙ sym (ap not (lt-ltb 1 k (omega (arith, e))))
+
+counted_as_step : (why : Purpose) → one_if (is_for_step why) ≡ 1
+counted_as_step (Step counts) = refl
 
 pub left_alone : (counter : ℕ) (ps : List Pending) (i : ℕ) (p : Pending) → AreNumbered counter ps → slice_get ps i ≡ Some p
-    → is_none_pending (without_number p.number ps) ≡ not (nat_lt 1 (length ps))
+    → no_step_waits (without_number p.number ps) ≡ not (nat_lt 1 (how_many is_step ps))
 left_alone counter ps i p numbered at =
-    let within = slice_get_within ps i p at in
-    let gone = ap length (without_at ps i p (rising_ordered 0 ps counter numbered.rising) at) in
-    let less = length-remove ps i within in
-    none_left ps (without_number p.number ps) (omega (arith, within, gone, less))
+    let gone : without_number p.number ps ≡ remove ps i =
+    without_at (λ (q : Pending). q.number) ps i p (rising_ordered (λ (q : Pending). q.number) 0 ps counter numbered.rising) at in
+    let less = many_without is_step ps i p at in
+    let one = counted_as_step p.purpose in
+    ap no_step_waits gone ∙ alone (how_many is_step (remove ps i)) (how_many is_step ps) (omega (arith, less, one))
 
 -- one request less waits, and its writing knows whether it was done
 abbrev pub ended : Manager → Pending → Bool → Option Writing → Manager
-ended m p was_done w = record m { pending = without_number p.number m.pending; writing = noted p.counts was_done w }
+ended m p was_done w = record m { pending = without_number p.number m.pending; writing = noted (counts p) was_done w }
 
 abbrev pub marked : Pending → Bool → Writing → Writing
-marked p was_done w = record w { has_failed = w.has_failed || (p.counts && not was_done) }
+marked p was_done w = record w { has_failed = w.has_failed || (counts p && not was_done) }
 
 -- the next number then
 pub over_counter : (m : Manager) (i : ℕ) (p : Pending) (was_done : Bool) → AreNumbered m.counter m.pending → slice_get m.pending i ≡ Some p
     → (step_over m p was_done).counter ≡ m.counter + count_after m
 over_counter m i p was_done numbered at = by_writing m.writing
   where
-    by_writing : (w : Option Writing) → (went_on_with (ended m p was_done w) (noted p.counts was_done w)).counter
+    by_writing : (w : Option Writing) → (went_on_with (ended m p was_done w) (noted (counts p) was_done w)).counter
         ≡ m.counter + count_with m.pending w
     by_writing None = omega arith
     by_writing (Some w) =
         subst
         (λ (b : Bool). (cond b (phase_sent (ended m p was_done (Some w)) (marked p was_done w)) (ended m p was_done (Some w))).counter
         ≡ m.counter + count_with m.pending (Some w))
-        (sym (left_alone m.counter m.pending i p numbered at)) (by_count (nat_lt 1 (length m.pending)))
+        (sym (left_alone m.counter m.pending i p numbered at)) (by_count (nat_lt 1 (how_many is_step m.pending)))
       where
         by_count : (b : Bool) → (cond (not b) (phase_sent (ended m p was_done (Some w)) (marked p was_done w)) (ended m p was_done (Some w))).counter
             ≡ m.counter + cond b 0 (length (next_phase w.later).steps)
@@ -85,40 +89,27 @@ numbers_there n e = ltb-false _ _ (by_test (nat_lt (2 ^ 32) n) e)
 -- where the last that waits ends, the next phase goes out whole
 pub whole_phase : (m : Manager) (i : ℕ) (p : Pending) (w : Writing) → AreNumbered m.counter m.pending
     → slice_get m.pending i ≡ Some p → m.writing ≡ Some w
-    → is_none_pending (without_number p.number m.pending) ≡ true → count_after m ≡ length (next_phase w.later).steps
+    → no_step_waits (without_number p.number m.pending) ≡ true → count_after m ≡ length (next_phase w.later).steps
 whole_phase m i p w numbered at is alone =
-    ap (count_with m.pending) is ∙ cond-false _ _ _ (was_alone (nat_lt 1 (length m.pending)) (sym (left_alone m.counter m.pending i p numbered at) ∙ alone))
+    ap (count_with m.pending) is ∙ cond-false _ _ _ (was_alone (nat_lt 1 (how_many is_step m.pending)) (sym (left_alone m.counter m.pending i p numbered at) ∙ alone))
   where
     was_alone : (b : Bool) → not b ≡ true → b ≡ false
     was_alone true e = absurd (cc)
     was_alone false e = refl
 
--- with one reason only, memory aside
-pub judged_call : (r : Result (Unit {0}) ManagerFault) (why : Option ManagerFault) → JudgesAfter r why why → JudgesCall r why
-judged_call (Ok value) why h = h
-judged_call (Err fault.GenerationsSpent) why h = h
-judged_call (Err fault.SweepRunning) why h = h
-judged_call (Err fault.NotMaster) why h = h
-judged_call (Err fault.WritingRunning) why h = h
-judged_call (Err fault.SequenceSpent) why h = h
-judged_call (Err (fault.NoRoom endports most)) why h = h
-judged_call (Err (fault.Sweep given)) why h = h
-judged_call (Err fault.Unasked) why h = h
-judged_call (Err fault.Memory) why h = h
-
 -- what is there after the last that waits ended
 pub over_sent : (m : Manager) (p : Pending) (was_done : Bool) (w : Writing) → m.writing ≡ Some w
-    → is_none_pending (without_number p.number m.pending) ≡ true
+    → no_step_waits (without_number p.number m.pending) ≡ true
     → step_over m p was_done ≡ phase_sent (ended m p was_done m.writing) (marked p was_done w)
 over_sent m p was_done w is alone =
-    ap (λ (o : Option Writing). went_on_with (ended m p was_done m.writing) (noted p.counts was_done o)) is ∙ cond-true _ _ _ alone
+    ap (λ (o : Option Writing). went_on_with (ended m p was_done m.writing) (noted (counts p) was_done o)) is ∙ cond-true _ _ _ alone
 
 -- the manager after the next phase went out, by its parts
 pub parts_sent : (m : Manager) (p : Pending) (was_done : Bool) (w sent : Writing) (counter : ℕ) (pending : List Pending) (outgoing : List Outgoing)
-    → sent.later ≡ passed (drop 1 w.later) → sent.has_failed ≡ w.has_failed || (p.counts && not was_done)
+    → sent.later ≡ passed (drop 1 w.later) → sent.has_failed ≡ w.has_failed || (counts p && not was_done)
     → counter ≡ m.counter + length (next_phase w.later).steps
     → pending ≡ without_number p.number m.pending ++ next_pending m.counter w.later
-    → outgoing ≡ m.outgoing ++ steps_out (next_pending m.counter w.later)
+    → outgoing ≡ m.outgoing ++ steps_out m.counter (next_phase w.later).steps
     → record m { writing = Some sent; counter = counter; pending = pending; outgoing = outgoing }
     ≡ phase_sent (ended m p was_done m.writing) (marked p was_done w)
 parts_sent m p was_done w sent counter pending outgoing later failed number waits out =
@@ -129,18 +120,18 @@ pub record WasLast (m : Manager) (i : ℕ) (q : Pending) (w : Writing) : Type 0 
   pub numbered : AreNumbered m.counter m.pending
   pub there : slice_get m.pending i ≡ Some q
   pub writing : m.writing ≡ Some w
-  pub alone : is_none_pending (without_number q.number m.pending) ≡ true
+  pub alone : no_step_waits (without_number q.number m.pending) ≡ true
 
 pub was_last : (m : Manager) (i : ℕ) (q : Pending) (w : Writing) (before after : List Pending) (b : Bool)
     → AreNumbered m.counter m.pending → before ≡ m.pending
     → Some q ≡ slice_get before i → after ≡ without_number q.number before
-    → m.writing ≡ Some w → b ≡ is_none_pending after → b ≡ true → WasLast m i q w
+    → m.writing ≡ Some w → b ≡ no_step_waits after → b ≡ true → WasLast m i q w
 was_last m i q w before after b numbered same there without writing none yes_none =
     record {
       numbered = numbered;
       there = ap (λ ps. slice_get ps i) (sym same) ∙ sym there;
       writing = writing;
-      alone = ap (λ ps. is_none_pending (without_number q.number ps)) (sym same) ∙ ap is_none_pending (sym without) ∙ sym none ∙ yes_none;
+      alone = ap (λ ps. no_step_waits (without_number q.number ps)) (sym same) ∙ ap no_step_waits (sym without) ∙ sym none ∙ yes_none;
     }
 
 pub last_count : (m : Manager) (i : ℕ) (q : Pending) (w : Writing) → WasLast m i q w → count_after m ≡ length (next_phase w.later).steps
@@ -148,10 +139,10 @@ last_count m i q w h = whole_phase m i q w h.numbered h.there h.writing h.alone
 
 pub last_sent : (m : Manager) (i : ℕ) (q p : Pending) (was_done : Bool) (w sent : Writing) (counter : ℕ) (pending : List Pending) (outgoing : List Outgoing)
     → WasLast m i q w → number_fault (m.counter + count_after m) ≡ None → slice_get m.pending i ≡ Some p
-    → sent.later ≡ passed (drop 1 w.later) → sent.has_failed ≡ w.has_failed || (q.counts && not was_done)
+    → sent.later ≡ passed (drop 1 w.later) → sent.has_failed ≡ w.has_failed || (counts q && not was_done)
     → counter ≡ m.counter + length (next_phase w.later).steps
     → pending ≡ without_number q.number m.pending ++ next_pending m.counter w.later
-    → outgoing ≡ m.outgoing ++ steps_out (next_pending m.counter w.later)
+    → outgoing ≡ m.outgoing ++ steps_out m.counter (next_phase w.later).steps
     → record m { writing = Some sent; counter = counter; pending = pending; outgoing = outgoing } ≡ (unless_spent m (step_over m p was_done)).manager
 last_sent m i q p was_done w sent counter pending outgoing h fits at later failed number waits out =
     let same : q ≡ p = some_is q p (sym h.there ∙ at) in

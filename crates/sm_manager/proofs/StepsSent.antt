@@ -8,13 +8,13 @@ use Rattle.plan_steps.specs.Step.{set_packet}
 use Rattle.sm_manager.specs.declared.outgoing.Outgoing.{Outgoing}
 use Rattle.sm_manager.specs.declared.pending.Pending.{Pending}
 use Rattle.sm_manager.specs.Requests.{Requests}
-use Rattle.sm_manager.specs.Writing.{numbered, steps_out}
+use Rattle.sm_manager.specs.Writing.{numbered, pending_step, steps_out}
 
 -- what went out so far and what is left are what was to go out, and there are numbers and memory for what is left
 pub record AreGoing (counts : Bool) (rest : List Step) (now : Requests) (out : List Outgoing)
     (steps : List Step) (was : Requests) (before : List Outgoing) : Type 0 where
   pub pending : now.pending ++ numbered counts now.counter rest ≡ was.pending ++ numbered counts was.counter steps
-  pub outgoing : out ++ steps_out (numbered counts now.counter rest) ≡ before ++ steps_out (numbered counts was.counter steps)
+  pub outgoing : out ++ steps_out now.counter rest ≡ before ++ steps_out was.counter steps
   pub counter : now.counter + length rest ≡ was.counter + length steps
   pub bound : now.counter + length rest ≤ 2 ^ 32
   pub room : length rest ≤ now.room
@@ -22,7 +22,7 @@ pub record AreGoing (counts : Bool) (rest : List Step) (now : Requests) (out : L
 -- one more
 pub one_gone : (counts : Bool) (s : Step) (rest : List Step) (now next : Requests) (out : List Outgoing)
     (steps : List Step) (was : Requests) (before : List Outgoing) → AreGoing counts (s ∷ rest) now out steps was before
-    → next.pending ≡ now.pending ++ record { number = now.counter; counts = counts; step = s } ∷ []
+    → next.pending ≡ now.pending ++ pending_step now.counter counts s ∷ []
     → next.counter ≡ now.counter + 1 → now.room ≤ next.room + 1
     → AreGoing counts rest next (out ++ record { packet = set_packet now.counter s; to = None } ∷ []) steps was before
 one_gone counts s rest now next out steps was before h pending counter room =
@@ -30,11 +30,11 @@ one_gone counts s rest now next out steps was before h pending counter room =
     record {
       pending =
           (λ i. pending i ++ numbered counts (after i) rest)
-          ∙ append_assoc now.pending (record { number = now.counter; counts = counts; step = s } ∷ []) (numbered counts (suc now.counter) rest)
+          ∙ append_assoc now.pending (pending_step now.counter counts s ∷ []) (numbered counts (suc now.counter) rest)
           ∙ h.pending;
       outgoing =
-          ap (λ n. (out ++ record { packet = set_packet now.counter s; to = None } ∷ []) ++ steps_out (numbered counts n rest)) after
-          ∙ append_assoc out (record { packet = set_packet now.counter s; to = None } ∷ []) (steps_out (numbered counts (suc now.counter) rest))
+          ap (λ n. (out ++ record { packet = set_packet now.counter s; to = None } ∷ []) ++ steps_out n rest) after
+          ∙ append_assoc out (record { packet = set_packet now.counter s; to = None } ∷ []) (steps_out (suc now.counter) rest)
           ∙ h.outgoing;
       counter = let count = h.counter in omega (arith, count, after);
       bound = let bound = h.bound in omega (arith, bound, after);

@@ -1,5 +1,7 @@
 -- The names of a manager's faults, and which of them is want of memory.
 use Rattle.std.specs.Prelude.{ℕ, Bool, true, false, List, codes}
+use Rattle.sweep.specs.declared.fault.SweepFault.{SweepFault}
+use Rattle.sweep.specs.declared.fault.SweepFault.TheVariants as sweep
 use Rattle.sweep.specs.Fault.{sweep_fault_name}
 use Rattle.sm_manager.specs.declared.fault.ManagerFault.{ManagerFault}
 use Rattle.sm_manager.specs.declared.fault.ManagerFault.TheVariants as manager
@@ -11,7 +13,7 @@ manager_fault_name manager.SweepRunning = codes "SweepRunning"
 manager_fault_name manager.NotMaster = codes "NotMaster"
 manager_fault_name manager.WritingRunning = codes "WritingRunning"
 manager_fault_name manager.SequenceSpent = codes "SequenceSpent"
-manager_fault_name (manager.NoRoom endports room) = codes "NoRoom"
+manager_fault_name (manager.NoRoom why) = codes "NoRoom"
 manager_fault_name (manager.Sweep fault) = sweep_fault_name fault
 manager_fault_name manager.Unasked = codes "Unasked"
 manager_fault_name manager.Memory = codes "Memory"
@@ -19,3 +21,8 @@ manager_fault_name manager.Memory = codes "Memory"
 abbrev pub is_memory : ManagerFault → Bool
 is_memory manager.Memory = true
 is_memory _ = false
+
+-- the refusal of a sweep as the manager's own
+abbrev pub refusal_of : SweepFault → ManagerFault
+refusal_of sweep.Memory = manager.Memory
+refusal_of given = manager.Sweep given

@@ -1,36 +1,23 @@
 -- When a manager has no plan, and when it begins no writing.
-use Rattle.std.specs.Prelude.{◌≡◌, ℕ, ◌^◌, Bool, ◌&&◌, nat_lt, nat_le, if◌then◌else◌, Option, Some, None, Result, Ok, Err, length}
+use Rattle.std.specs.Prelude.{ℕ, ◌^◌, nat_lt, if◌then◌else◌, Option, Some, None, Result, Ok, Err}
+use Rattle.smp_bytes.specs.Judges.{JudgesButFor}
 use Rattle.fact_store.specs.View.{cells_of}
 use Rattle.subnet_view.specs.Reading.{Cells}
-use Rattle.subnet_view.specs.EndPorts.{end_ports}
-use Rattle.lid_assign.specs.Lids.{IsNoRoom, room}
+use Rattle.lid_assign.specs.declared.fault.NoRoom.{NoRoom}
+use Rattle.lid_assign.specs.LidFault.{no_room}
 use Rattle.sm_manager.specs.declared.fault.ManagerFault.{ManagerFault}
 use Rattle.sm_manager.specs.declared.fault.ManagerFault.TheVariants as fault
-use Rattle.smp_bytes.specs.Judges.{JudgesButFor}
 use Rattle.sm_manager.specs.Fault.{is_memory}
 use Rattle.sm_manager.specs.Manager.{Manager}
 use Rattle.sm_manager.specs.Writing.{write_fault, writing_begun}
 
--- it is refused exactly where there is no room for the LIDs, or memory is wanting
-abbrev pub JudgesPlan : {T : Type 0} → Result T ManagerFault → Cells → Type 0
-JudgesPlan (Ok value) cells = ¬ (IsNoRoom cells)
-JudgesPlan (Err (fault.NoRoom endports most)) cells = IsNoRoom cells × (endports ≡ length (end_ports cells)) × (most ≡ room cells)
-JudgesPlan (Err fault.Memory) cells = Unit {0}
-JudgesPlan (Err fault.GenerationsSpent) cells = ⊥
-JudgesPlan (Err fault.SweepRunning) cells = ⊥
-JudgesPlan (Err fault.NotMaster) cells = ⊥
-JudgesPlan (Err fault.WritingRunning) cells = ⊥
-JudgesPlan (Err fault.SequenceSpent) cells = ⊥
-JudgesPlan (Err (fault.Sweep why)) cells = ⊥
-JudgesPlan (Err fault.Unasked) cells = ⊥
-
--- there are end ports, and not fewer than the room for LIDs
-abbrev pub is_no_room : Cells → Bool
-is_no_room cells = nat_lt 0 (length (end_ports cells)) && nat_le (room cells) (length (end_ports cells))
+abbrev pub room_fault : Option NoRoom → Option ManagerFault
+room_fault None = None
+room_fault (Some why) = Some (fault.NoRoom why)
 
 -- why there is no plan
 abbrev pub plan_fault : Cells → Option ManagerFault
-plan_fault cells = if is_no_room cells then Some (fault.NoRoom (length (end_ports cells)) (room cells)) else None
+plan_fault cells = room_fault (no_room cells)
 
 abbrev pub or_else : Option ManagerFault → Option ManagerFault → Option ManagerFault
 or_else None other = other

@@ -1,5 +1,6 @@
 ghost use Rattle.std.specs.Prelude.{◌≡◌};
 
+use lid_assign::NoRoom;
 use std::alloc::AllocError;
 use sweep::SweepFault;
 use thiserror::Error;
@@ -22,14 +23,9 @@ pub enum ManagerFault {
     /// A request that is to go out needs a number that 32 bits do not hold.
     #[error("SequenceSpent")]
     SequenceSpent,
-    /// There are end ports, and no fewer of them than the smallest forwarding table has room for LIDs, 0 among them.
+    /// There is no room for the LIDs.
     #[error("NoRoom")]
-    NoRoom {
-        /// How many end ports there are.
-        endports: usize,
-        /// How many LIDs the table has room for, 0 among them.
-        room: u16,
-    },
+    NoRoom(NoRoom),
     /// The sweep refuses the reply, for another reason than want of memory.
     #[error("{0}")]
     Sweep(SweepFault),
@@ -54,7 +50,7 @@ impl ManagerFault {
             ManagerFault::NotMaster => "NotMaster",
             ManagerFault::WritingRunning => "WritingRunning",
             ManagerFault::SequenceSpent => "SequenceSpent",
-            ManagerFault::NoRoom { .. } => "NoRoom",
+            ManagerFault::NoRoom(_) => "NoRoom",
             ManagerFault::Sweep(fault) => fault.name(),
             ManagerFault::Unasked => "Unasked",
             ManagerFault::Memory => "Memory",

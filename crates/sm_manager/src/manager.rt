@@ -5,7 +5,7 @@ ghost use Rattle.lft_blocks.specs.Plan.{plan_of};
 ghost use Rattle.sm_manager.specs.Manager.{begin_fault, merged, new_manager, outstanding, progress_of, sweep_begun, taken};
 ghost use Rattle.smp_bytes.specs.Judges.{JudgesButFor};
 ghost use Rattle.sm_manager.specs.Fault.{is_memory};
-ghost use Rattle.sm_manager.specs.Plans.{JudgesPlan};
+ghost use Rattle.sm_manager.specs.Plans.{plan_fault};
 
 use crate::fault::ManagerFault;
 use crate::outgoing::{Outgoing, send_queued};
@@ -14,8 +14,7 @@ use crate::requests::Requests;
 use crate::writing::Writing;
 use attr_codec::Priority;
 use fact_store::Store;
-use lft_blocks::Plan;
-use lid_assign::LidFault;
+use lft_blocks::{Plan, PlanFault};
 use smp_bytes::{Generation, Guid, PortNum};
 use std::alloc::{AllocError, Global};
 use std::collections::VecDeque;
@@ -123,19 +122,16 @@ impl Manager {
     ///
     /// # Errors
     ///
-    /// `NoRoom` and `Memory`.
+    /// `NoRoom`, and `Memory` where there is room.
     pub fn plan(&self) -> Result<Plan, ManagerFault>
-        ensures judged { JudgesPlan result (cells_of self.now.store) }
+        ensures judged { JudgesButFor is_memory result (plan_fault (cells_of self.now.store)) }
         ensures plan { IfOk result (λ plan. plan ≡ plan_of (cells_of self.now.store)) }
         ensures arrives { IfOk result (λ plan. EveryPacketArrives (cells_of self.now.store) plan) }
     {
         match Plan::of(self.alloc, &self.store) {
             Ok(plan) => Ok(plan),
-            Err(LidFault::NoRoom { endports, room }) => Err(ManagerFault::NoRoom {
-                endports,
-                room,
-            }),
-            Err(LidFault::Memory) => Err(ManagerFault::Memory),
+            Err(PlanFault::NoRoom(why)) => Err(ManagerFault::NoRoom(why)),
+            Err(PlanFault::Memory) => Err(ManagerFault::Memory),
         }
     }
 

@@ -2,7 +2,7 @@ ghost use Rattle.std.specs.Prelude.{◌≡◌, ◌+◌, ◌-◌, ◌^◌, IfSome
 ghost use Rattle.sm_manager.specs.Manager.{is_running, newest_held};
 ghost use Rattle.sm_manager.specs.Packets.{IsFaultWithoutRoom, gave_up, is_for_sweep, sweep_answered, sweep_gave_up, took};
 ghost use Rattle.smp_bytes.specs.Judges.{JudgesButFor};
-ghost use Rattle.sm_manager.specs.Fault.{is_memory};
+ghost use Rattle.sm_manager.specs.Fault.{is_memory, refusal_of};
 ghost use Rattle.sweep.specs.Replies.{judged};
 
 use crate::fault::ManagerFault;
@@ -60,8 +60,7 @@ impl Manager {
                 self.has_swept = self.has_swept || sweep.is_done();
                 Ok(())
             }
-            Err(SweepFault::Memory) => Err(ManagerFault::Memory),
-            Err(fault) => Err(ManagerFault::Sweep(fault)),
+            Err(fault) => Err(refusal_of(fault)),
         }
     }
 
@@ -134,6 +133,18 @@ impl Manager {
             None
         } else {
             Generation::new(newest + 1)
+        }
+    }
+}
+
+/// The refusal of a sweep as the manager's own.
+fn refusal_of(fault: SweepFault) -> ManagerFault
+    ensures { result ≡ refusal_of fault }
+{
+    match fault {
+        SweepFault::Memory => ManagerFault::Memory,
+        SweepFault::NotOutstanding | SweepFault::Bad(_) | SweepFault::SequenceSpent => {
+            ManagerFault::Sweep(fault)
         }
     }
 }

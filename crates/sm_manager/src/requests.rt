@@ -69,7 +69,8 @@ impl Requests {
 
     /// Whether there are numbers for so many more.
     pub(crate) fn has_numbers(&self, count: usize) -> bool
-        ensures { result ≡ nat_le (self.now.counter + count) (2 ^ 32) }
+        ensures enough { result ≡ nat_le (self.now.counter + count) (2 ^ 32) }
+        ensures numbered { AreNumbered self.now.counter self.now.pending }
     {
         self.table.has_numbers(count)
     }
@@ -150,7 +151,6 @@ impl Requests {
         ensures counter { self.new.counter ≡ self.old.counter }
         ensures pending { self.new.pending ≡ without_number result.number self.old.pending }
         ensures room { self.old.room ≤ self.new.room }
-        ensures numbered { AreNumbered self.old.counter self.old.pending }
     {
         let ended = self.table.end(place);
         if ended.is_step() {

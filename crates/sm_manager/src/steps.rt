@@ -5,6 +5,7 @@ ghost use Rattle.sm_manager.specs.declared.pending.Pending.{Pending};
 ghost use Rattle.sm_manager.specs.Fault.{is_memory};
 ghost use Rattle.sm_manager.specs.Packets.{pending_for, step_answered, unless_spent};
 ghost use Rattle.sm_manager.specs.Plans.{JudgesAfter, number_fault, planned_fault, writing_fault};
+ghost use Rattle.sm_manager.specs.Requests.{AreNumbered};
 ghost use Rattle.sm_manager.specs.Writing.{count_after, is_written, passed, phases_by, step_over, write_fault, writing_begun};
 
 use crate::fault::ManagerFault;
@@ -26,7 +27,7 @@ impl Manager {
     ///
     /// `NotMaster`, `SweepRunning`, `WritingRunning`, `NoRoom`, `SequenceSpent` and `Memory`.
     pub fn write_steps(&mut self) -> Result<(), ManagerFault>
-        ensures judged { JudgesAfter result (write_fault self.old) (writing_fault self.old) }
+        ensures judged { JudgesAfter result (planned_fault self.old) (writing_fault self.old) }
         ensures ok { OnOk result (self.new ≡ writing_begun self.old) }
         ensures err { OnErr result (self.new ≡ self.old) }
     {
@@ -49,7 +50,7 @@ impl Manager {
 
     /// The writing of the plan of what is known, of which no step was sent.
     fn planned(&self) -> Result<Writing, ManagerFault>
-        ensures judged { JudgesAfter result (write_fault self.now) (planned_fault self.now) }
+        ensures judged { JudgesButFor is_memory result (planned_fault self.now) }
         ensures writing { IfOk result (λ w. w
             ≡ record { later = passed (phases_by self.now self.now.sweep); has_failed = false }) }
     {
@@ -141,6 +142,7 @@ fn make_room(
 ) -> Result<(), ManagerFault>
     ensures judged { JudgesButFor is_memory result
         (number_fault (requests.old.counter + count)) }
+    ensures numbered { AreNumbered requests.old.counter requests.old.pending }
     ensures counter { requests.new.counter ≡ requests.old.counter }
     ensures pending { requests.new.pending ≡ requests.old.pending }
     ensures outgoing { outgoing.new.items ≡ outgoing.old.items }

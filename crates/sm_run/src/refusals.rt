@@ -1,15 +1,13 @@
 //! What is printed of a call that is refused: its innermost fault's name.
 ghost use Rattle.std.specs.Prelude.{◌≡◌, ◌↔◌, Err, codes, ◌++◌};
 ghost use Rattle.record_file.specs.Writes.{Writes};
-ghost use Rattle.sm_run.specs.Refusals.{fabric_fault_name, manager_fault_name, refusal_line};
-ghost use Rattle.sm_run.specs.Refusals.{sweep_fault_name};
+ghost use Rattle.sm_run.specs.Refusals.{fabric_fault_name, refusal_line};
 ghost use Rattle.sm_run.specs.Stops.{StopsFor};
 
 use crate::run_fault::RunFault;
 use fabric_sim::FabricFault;
 use record_file::{Sink, WriteFault};
 use sm_manager::ManagerFault;
-use sweep::SweepFault;
 
 /// Prints that the fabric refuses a call. Want of memory is not printed, and ends the run.
 pub(crate) fn refuse_fabric<W: Sink>(sink: &mut W, fault: FabricFault) -> Result<(), RunFault>
@@ -31,7 +29,7 @@ pub(crate) fn refuse_manager<W: Sink>(sink: &mut W, fault: ManagerFault) -> Resu
     if fault == ManagerFault::Memory {
         return Err(RunFault::Memory);
     }
-    write_refusal(sink, manager_fault_name(fault))?;
+    write_refusal(sink, fault.name())?;
     Ok(())
 }
 
@@ -54,32 +52,5 @@ fn fabric_fault_name(fault: FabricFault) -> &'static str
         FabricFault::PortTaken => "PortTaken",
         FabricFault::Memory => "Memory",
         FabricFault::SerialsSpent => "SerialsSpent",
-    }
-}
-
-fn manager_fault_name(fault: ManagerFault) -> &'static str
-    ensures { result.now ≡ manager_fault_name fault }
-{
-    match fault {
-        ManagerFault::GenerationsSpent => "GenerationsSpent",
-        ManagerFault::SweepRunning => "SweepRunning",
-        ManagerFault::NotMaster => "NotMaster",
-        ManagerFault::WritingRunning => "WritingRunning",
-        ManagerFault::SequenceSpent => "SequenceSpent",
-        ManagerFault::NoRoom { .. } => "NoRoom",
-        ManagerFault::Sweep(fault) => sweep_fault_name(fault),
-        ManagerFault::Unasked => "Unasked",
-        ManagerFault::Memory => "Memory",
-    }
-}
-
-fn sweep_fault_name(fault: SweepFault) -> &'static str
-    ensures { result.now ≡ sweep_fault_name fault }
-{
-    match fault {
-        SweepFault::NotOutstanding => "NotOutstanding",
-        SweepFault::Bad(fault) => fault.name(),
-        SweepFault::SequenceSpent => "SequenceSpent",
-        SweepFault::Memory => "Memory",
     }
 }

@@ -66,5 +66,5 @@ returns-clause-pending c =
 pub returns-clause-outgoing : goal.returns-clause-outgoing
 returns-clause-outgoing c =
     sym (append-nil c.loop-step.outgoing.items)
-    ∙ ap (λ xs. c.loop-step.outgoing.items ++ steps_out (numbered c.args.counts c.loop-step.requests.counter xs)) (sym (none_left c))
+    ∙ ap (λ xs. c.loop-step.outgoing.items ++ steps_out c.loop-step.requests.counter xs) (sym (none_left c))
     ∙ c.loop-step.invariant.0.outgoing

@@ -1,45 +1,48 @@
 -- Where the last that waits ends, the next phase goes out, if there are numbers for it.
-use Rattle.std.proofs.Common.{◌≡◌, ℕ, ◌+◌, ◌≤◌, ◌^◌, true, Ok, Err, None, Some, sym, ap, ◌∙◌, subst, arith, length, ◌++◌}
+use Rattle.std.proofs.Common.{◌≡◌, ℕ, ◌+◌, ◌≤◌, ◌^◌, Bool, true, Ok, Err, None, Some, sym, ap, ◌∙◌, subst, arith, length, ◌++◌}
 use Rattle.std.proofs.lemmas.Result.{err_from_is_err_and}
-use Rattle.std.specs.Prelude.{drop, slice_get}
+use Rattle.std.specs.Prelude.{drop, not, slice_get, ◌&&◌, ◌||◌}
 use Rattle.sm_manager.specs.declared.fault.ManagerFault.{ManagerFault}
 use Rattle.sm_manager.specs.declared.pending.Pending.{Pending}
 use Rattle.sm_manager.specs.Manager.{Manager, Writing}
-use Rattle.sm_manager.specs.Packets.{JudgesCall, unless_spent}
-use Rattle.sm_manager.specs.Plans.{JudgesAfter, number_fault}
-use Rattle.sm_manager.specs.Requests.{AreNumbered}
-use Rattle.sm_manager.specs.Writing.{count_after, is_none_pending, next_pending, next_phase, passed, step_over, steps_out, without_number}
-use Rattle.sm_manager.proofs.Over.{WasLast, was_last, judged_call, last_count, last_sent, numbers_there, over_fault}
+use Rattle.sm_manager.specs.Packets.{unless_spent}
+use Rattle.sm_manager.specs.Plans.{number_fault}
+use Rattle.sm_manager.specs.Requests.{AreNumbered, without_number}
+use Rattle.sm_manager.specs.Writing.{count_after, next_pending, next_phase, passed, step_over, steps_out}
+use Rattle.sm_manager.proofs.Over.{WasLast, was_last, last_count, last_sent, numbers_there, over_fault}
 use Rattle.sm_manager.proofs.manager.Manager.end_step.Goals as goal
 use Rattle.sm_manager.specs.contracts.manager.Manager.{the_view}
+
+numbered_then : {before m : Manager} → before ≡ m → AreNumbered before.counter before.pending → AreNumbered m.counter m.pending
+numbered_then same numbered = subst (λ (x : Manager). AreNumbered x.counter x.pending) same numbered
 
 pub returns-in_err-make_room-clause-judged : goal.returns-in_err-make_room-clause-judged
 returns-in_err-make_room-clause-judged c p at =
     let q = err_from_is_err_and c.from_residual.result c.from_residual.ensures.1 in
-    let judged = judged_call (Err c.in_err-make_room.field-0.0) _ c.in_err-make_room.ensures.judged in
-    let same = over_fault c.args.self.now c.args.place p c.args.was_done c.count_after.ensures.numbered at in
+    let judged = c.in_err-make_room.ensures.judged in
+    let same = over_fault c.args.self.now c.args.place p c.args.was_done (numbered_then c.self.view_is c.make_room.ensures.numbered) at in
     let counter = ap (λ (x : Manager). x.counter) c.self.view_is in
     let all : c.self.inside.requests.counter + c.count_after.result ≡ c.args.self.now.counter + count_after c.args.self.now =
-    ap (λ n. n + c.count_after.result) counter ∙ ap (λ n. c.args.self.now.counter + n) c.count_after.ensures.count in
+    ap (λ n. n + c.count_after.result) counter ∙ ap (λ n. c.args.self.now.counter + n) c.count_after.ensures in
     rw (q.1, q.2, same, ← all) judged
 
-last_then : (c : goal.After-send_next-arg-then-is_empty-1) → WasLast (the_view c.self.inside) c.args.place c.end-ended.result c.in-Some.writing
+last_then : (c : goal.After-send_next-arg-then-has_no_step-1) → WasLast (the_view c.self.inside) c.args.place c.end-ended.result c.in-Some.writing
 last_then c =
     was_last (the_view c.self.inside) c.args.place c.end-ended.result c.in-Some.writing
-    c.make_room.new.requests.pending c.end-ended.new.self.pending c.is_empty.result
-    (subst (λ (x : Manager). AreNumbered x.counter x.pending) (sym c.self.view_is) c.count_after.ensures.numbered)
-    c.make_room.ensures.pending c.end-ended.ensures.request c.end-ended.ensures.pending c.in-Some.is c.is_empty.ensures c.if-is_empty.true
+    c.make_room.new.requests.pending c.end-ended.new.self.pending c.has_no_step.result
+    c.make_room.ensures.numbered
+    c.make_room.ensures.pending c.end-ended.ensures.request c.end-ended.ensures.pending c.in-Some.is c.has_no_step.ensures c.if-has_no_step.true
 
 last_sent_then : (c : goal.After-send_next) → WasLast (the_view c.self.inside) c.args.place c.end-ended.result c.in-Some.writing
 last_sent_then c =
     was_last (the_view c.self.inside) c.args.place c.end-ended.result c.in-Some.writing
-    c.make_room.new.requests.pending c.end-ended.new.self.pending c.is_empty.result
-    (subst (λ (x : Manager). AreNumbered x.counter x.pending) (sym c.self.view_is) c.count_after.ensures.numbered)
-    c.make_room.ensures.pending c.end-ended.ensures.request c.end-ended.ensures.pending c.in-Some.is c.is_empty.ensures c.if-is_empty.true
+    c.make_room.new.requests.pending c.end-ended.new.self.pending c.has_no_step.result
+    c.make_room.ensures.numbered
+    c.make_room.ensures.pending c.end-ended.ensures.request c.end-ended.ensures.pending c.in-Some.is c.has_no_step.ensures c.if-has_no_step.true
 
-whole : (c : goal.After-send_next-arg-then-is_empty-1) → c.count_after.result ≡ length (next_phase c.note.new.self.later).steps
+whole : (c : goal.After-send_next-arg-then-has_no_step-1) → c.count_after.result ≡ length (next_phase c.note.new.self.later).steps
 whole c =
-    c.count_after.ensures.count
+    c.count_after.ensures
     ∙ ap count_after (sym c.self.view_is)
     ∙ last_count (the_view c.self.inside) c.args.place c.end-ended.result c.in-Some.writing (last_then c)
     ∙ ap (λ ps. length (next_phase ps).steps) (sym c.note.ensures.later)
@@ -65,15 +68,15 @@ send_next-requires-clause-outgoing c =
     let more = c.in_ok-make_room.ensures.more in
     omega (arith, count, more)
 
-pub returns-then-is_empty-clause-judged : goal.returns-then-is_empty-clause-judged
-returns-then-is_empty-clause-judged c p at =
-    over_fault c.args.self.now c.args.place p c.args.was_done c.count_after.ensures.numbered at
+pub returns-then-has_no_step-clause-judged : goal.returns-then-has_no_step-clause-judged
+returns-then-has_no_step-clause-judged c p at =
+    over_fault c.args.self.now c.args.place p c.args.was_done (numbered_then c.self.view_is c.make_room.ensures.numbered) at
     ∙ sym (ap number_fault (ap (λ (x : Manager). x.counter + c.count_after.result) c.self.view_is
-    ∙ ap (λ n. c.args.self.now.counter + n) c.count_after.ensures.count))
+    ∙ ap (λ n. c.args.self.now.counter + n) c.count_after.ensures))
     ∙ c.in_ok-make_room.ensures.judged
 
-pub returns-then-is_empty-clause-ok : goal.returns-then-is_empty-clause-ok
-returns-then-is_empty-clause-ok c p at =
+pub returns-then-has_no_step-clause-ok : goal.returns-then-has_no_step-clause-ok
+returns-then-has_no_step-clause-ok c p at =
     let m = the_view c.self.inside in
     let w = c.in-Some.writing in
     let sent = c.send_next.new.self in
@@ -85,17 +88,17 @@ returns-then-is_empty-clause-ok c p at =
     c.self.view_is
     (last_sent m c.args.place c.end-ended.result p c.args.was_done w sent left.counter left.pending out.items
     (last_sent_then c)
-    (ap number_fault (ap (λ n. m.counter + n) (sym (c.count_after.ensures.count ∙ ap count_after (sym c.self.view_is))))
+    (ap number_fault (ap (λ n. m.counter + n) (sym (c.count_after.ensures ∙ ap count_after (sym c.self.view_is))))
     ∙ c.in_ok-make_room.ensures.judged)
     (subst (λ (x : Manager). slice_get x.pending c.args.place ≡ Some p) (sym c.self.view_is) at)
     (c.send_next.ensures.later ∙ ap (λ ps. passed (drop 1 ps)) c.note.ensures.later)
-    (c.send_next.ensures.failed ∙ c.note.ensures.failed)
+    (c.send_next.ensures.failed ∙ c.note.ensures.failed ∙ ap (λ (b : Bool). w.has_failed || (b && not c.args.was_done)) c.counts.ensures)
     (c.send_next.ensures.counter ∙ ap (λ n. n + length (next_phase c.note.new.self.later).steps) same_counter
     ∙ ap (λ ps. m.counter + length (next_phase ps).steps) c.note.ensures.later)
     (c.send_next.ensures.pending ∙ ap (λ ps. ps ++ next_pending c.end-ended.new.self.counter c.note.new.self.later)
     (c.end-ended.ensures.pending ∙ ap (without_number c.end-ended.result.number) c.make_room.ensures.pending)
     ∙ (λ i. without_number c.end-ended.result.number m.pending ++ next_pending (same_counter i) (c.note.ensures.later i)))
-    (c.send_next.ensures.outgoing ∙ (λ i. c.make_room.ensures.outgoing i ++ steps_out (next_pending (same_counter i) (c.note.ensures.later i)))))
+    (c.send_next.ensures.outgoing ∙ (λ i. c.make_room.ensures.outgoing i ++ steps_out (same_counter i) (next_phase (c.note.ensures.later i)).steps)))
   where
     same_counter : c.end-ended.new.self.counter ≡ c.self.inside.requests.counter
     same_counter = c.end-ended.ensures.counter ∙ c.make_room.ensures.counter

@@ -1,8 +1,10 @@
 -- The step at the place is the one that the packet answers.
 use Rattle.std.proofs.Common.{◌≡◌, Bool, sym, ap, ◌∙◌, subst}
 use Rattle.std.specs.Prelude.{Some, slice_get, OnOk, ◌==◌}
+use Rattle.smp_bytes.specs.Judges.{JudgesButFor}
+use Rattle.sm_manager.specs.Fault.{is_memory}
 use Rattle.sm_manager.specs.Manager.{Manager}
-use Rattle.sm_manager.specs.Packets.{Called, JudgesCall, pending_for, step_answered, unless_spent}
+use Rattle.sm_manager.specs.Packets.{Called, pending_for, step_answered, unless_spent}
 use Rattle.sm_manager.specs.Writing.{step_over}
 use Rattle.sm_manager.specs.contracts.manager.Manager.{the_view}
 use Rattle.sm_manager.proofs.manager.Manager.take_answer.Goals as goal
@@ -21,7 +23,7 @@ there c = ap (λ (x : Manager). slice_get x.pending c.in-Some.place) (sym c.self
 
 pub returns-in-Some-clause-judged : goal.returns-in-Some-clause-judged
 returns-in-Some-clause-judged c =
-    subst (λ (x : Called). JudgesCall c.end_step.result x.fault) (comes_to c) (c.end_step.ensures.judged (c.in-Some.ensures.0) (there c))
+    subst (λ (x : Called). JudgesButFor is_memory c.end_step.result x.fault) (comes_to c) (c.end_step.ensures.judged (c.in-Some.ensures.0) (there c))
 
 pub returns-in-Some-clause-ok : goal.returns-in-Some-clause-ok
 returns-in-Some-clause-ok c =

@@ -1,35 +1,51 @@
--- The numbers rise, so that one place is one number.
-use Rattle.std.proofs.Common.{◌≡◌, ℕ, ◌<◌, List, length, get_or, ap, sym, ◌∙◌, subst, arith, rules}
-use Rattle.std.specs.Prelude.{Some, remove, slice_get}
-use Rattle.std.proofs.lemmas.Option.{slice_get-get_or}
-use Rattle.sm_manager.specs.declared.pending.Pending.{Pending}
-use Rattle.sm_manager.specs.Requests.{AreNumbered, Requests}
-use Rattle.sm_manager.specs.Writing.{without_number}
-use Rattle.sm_manager.proofs.Numbers.{rising_ordered, rising_without, without_at}
+-- One request less, and one step less where it was one.
+use Rattle.std.proofs.Common.{◌≡◌, ◌-◌, ◌≤◌, ap, sym, ◌∙◌, subst, arith}
+use Rattle.sm_manager.specs.declared.requests.Requests.TheInside.{Inside}
+use Rattle.sm_manager.specs.Requests.{AreCounted, counts, is_step}
+use Rattle.sm_manager.proofs.Numbers.{counted_without, less_none, less_one, many_without, one_if}
 use Rattle.sm_manager.proofs.requests.Requests.end.Goals as goal
+use Rattle.sm_manager.proofs.requests.Requests.end.Goals.{then-is_step, else-is_step}
 
-within : (c : goal.After-unwrap) → c.args.place < length c.self.inside.pending.items
-within c = subst (λ (v : Requests). c.args.place < length v.pending) (sym c.self.view_is) c.requires
-
-there : (c : goal.After-unwrap) → slice_get c.self.inside.pending.items c.args.place ≡ Some c.unwrap.result
-there c =
-    slice_get-get_or c.self.inside.pending.items c.args.place c.unwrap.result (within c)
-    ∙ sym (c.remove.ensures.succeeds c.unwrap.result (omega (arith, within c, c.self.inside.pending.ok)))
-    ∙ c.unwrap.ensures
-
-gone : (c : goal.After-unwrap) → c.remove.new.self.items ≡ remove c.self.inside.pending.items c.args.place
-gone c = search (rules, c.remove.ensures.items, c.unwrap.ensures)
+pub overflow_sub-self-then-counts : goal.overflow_sub-self-then-counts
+overflow_sub-self-then-counts c =
+    let less = many_without counts c.self.inside.table.requests c.args.place c.end-ended.result (sym c.end-ended.ensures.request) in
+    let one : one_if (counts c.end-ended.result) ≡ 1 = ap one_if (sym c.counts.ensures ∙ c.if-counts.true) in
+    let some : 1 ≤ c.self.inside.counting = omega (arith, less, one, c.self.invariant.counting_are) in
+    elim c.if-is_step.branch [
+      then-is_step w ↦ subst (λ (x : Inside). 1 ≤ x.counting) (sym w.self-inside-is) some
+      | else-is_step w ↦ subst (λ (x : Inside). 1 ≤ x.counting) (sym w.self-inside-is) some
+    ]
 
 pub invariant_of-self : goal.invariant_of-self
 invariant_of-self c =
-    subst (λ (ps : List Pending). AreNumbered c.self.inside.counter ps) (sym (gone c))
-    (record { rising = rising_without 0 c.self.inside.pending.items c.self.inside.counter c.args.place c.self.invariant.rising; bound = c.self.invariant.bound })
+    elim c.if-is_step.branch [
+      then-is_step w ↦
+          subst (λ (x : Inside). AreCounted x.table.requests x.steps (x.counting - 1)) (sym w.self-inside-is)
+          (counted_without c.self.inside.table.requests c.end-ended.new.self.requests c.args.place c.end-ended.result
+          c.self.inside.steps c.self.inside.counting _ _ c.self.invariant (sym c.end-ended.ensures.request) c.end-ended.ensures.moved
+          (less_one c.self.inside.steps (is_step c.end-ended.result) (sym c.is_step.ensures ∙ w.if-is_step.true))
+          (less_one c.self.inside.counting (counts c.end-ended.result) (sym c.counts.ensures ∙ c.if-counts.true)))
+      | else-is_step w ↦
+          subst (λ (x : Inside). AreCounted x.table.requests x.steps (x.counting - 1)) (sym w.self-inside-is)
+          (counted_without c.self.inside.table.requests c.end-ended.new.self.requests c.args.place c.end-ended.result
+          c.self.inside.steps c.self.inside.counting _ _ c.self.invariant (sym c.end-ended.ensures.request) c.end-ended.ensures.moved
+          (less_none c.self.inside.steps (is_step c.end-ended.result) (sym c.is_step.ensures ∙ w.if-is_step.false))
+          (less_one c.self.inside.counting (counts c.end-ended.result) (sym c.counts.ensures ∙ c.if-counts.true)))
+    ]
 
-pub returns-clause-request : goal.returns-clause-request
-returns-clause-request c = sym (there c) ∙ ap (λ (v : Requests). slice_get v.pending c.args.place) c.self.view_is
-
-pub returns-clause-pending : goal.returns-clause-pending
-returns-clause-pending c =
-    gone c
-    ∙ sym (without_at c.self.inside.pending.items c.args.place c.unwrap.result (rising_ordered 0 c.self.inside.pending.items c.self.inside.counter c.self.invariant.rising) (there c))
-    ∙ ap (λ (v : Requests). without_number c.unwrap.result.number v.pending) c.self.view_is
+pub invariant_of-self-else-counts : goal.invariant_of-self-else-counts
+invariant_of-self-else-counts c =
+    elim c.if-is_step.branch [
+      then-is_step w ↦
+          subst (λ (x : Inside). AreCounted x.table.requests x.steps x.counting) (sym w.self-inside-is)
+          (counted_without c.self.inside.table.requests c.end-ended.new.self.requests c.args.place c.end-ended.result
+          c.self.inside.steps c.self.inside.counting _ _ c.self.invariant (sym c.end-ended.ensures.request) c.end-ended.ensures.moved
+          (less_one c.self.inside.steps (is_step c.end-ended.result) (sym c.is_step.ensures ∙ w.if-is_step.true))
+          (less_none c.self.inside.counting (counts c.end-ended.result) (sym c.counts.ensures ∙ c.if-counts.false)))
+      | else-is_step w ↦
+          subst (λ (x : Inside). AreCounted x.table.requests x.steps x.counting) (sym w.self-inside-is)
+          (counted_without c.self.inside.table.requests c.end-ended.new.self.requests c.args.place c.end-ended.result
+          c.self.inside.steps c.self.inside.counting _ _ c.self.invariant (sym c.end-ended.ensures.request) c.end-ended.ensures.moved
+          (less_none c.self.inside.steps (is_step c.end-ended.result) (sym c.is_step.ensures ∙ w.if-is_step.false))
+          (less_none c.self.inside.counting (counts c.end-ended.result) (sym c.counts.ensures ∙ c.if-counts.false)))
+    ]

@@ -1,42 +1,50 @@
 -- One place can have the packet's number.
-use Rattle.std.proofs.Common.{◌≡◌, ℕ, List, sym, ◌∙◌, ap, subst}
-use Rattle.std.specs.Prelude.{None, find, nat_lt, option_copied, slice_get, Option}
+use Rattle.std.proofs.Common.{◌≡◌, ℕ, sym, ◌∙◌, ap, subst}
+use Rattle.std.specs.Prelude.{None, find, nat_lt, option_copied, slice_get}
 use Rattle.smp_bytes.specs.Field.{number_in}
 use Rattle.smp_bytes.specs.Packet.{transaction_id}
-use Rattle.sweep.specs.Order.{IsPlace}
-use Rattle.sweep.proofs.Places.{if_passes}
+use Rattle.request_table.specs.Numbers.{IsPlaceFor}
+use Rattle.request_table.specs.Order.{IsPlace}
+use Rattle.request_table.proofs.Numbers.{located, place_none, place_other, place_found}
 use Rattle.sm_manager.specs.declared.pending.Pending.{Pending}
 use Rattle.sm_manager.specs.Packets.{answers}
-use Rattle.sm_manager.specs.Requests.{AreRising, IsPlaceFor}
-use Rattle.sm_manager.proofs.Numbers.{located, only_answered, place_none, place_other, place_found}
+use Rattle.sm_manager.specs.Requests.{AreNumbered, Requests}
+use Rattle.sm_manager.proofs.Numbers.{only_answered}
 use Rattle.sm_manager.proofs.requests.Requests.place_for.Goals as goal
-
-one_place : (packet : List ℕ) (ps : List Pending) (next i number : ℕ) → AreRising 0 ps next → IsPlace (λ p. nat_lt p.number number) ps i → number ≡ number_in transaction_id packet
-    → find (answers packet) ps ≡ if_passes (answers packet) (slice_get ps i)
-one_place packet ps next i number rising place e =
-    located (number_in transaction_id packet) (answers packet) ps next i (only_answered packet) rising (subst (λ (n : ℕ). IsPlace (λ p. nat_lt p.number n) ps i) e place)
 
 pub returns-in_err-request : goal.returns-in_err-request
 returns-in_err-request c =
     let packet = c.args.smp.now in
     let ps = c.args.self.now.pending in
-    let none : slice_get ps c.count_below-place.result ≡ None = sym c.get.ensures ∙ ap (option_copied {T = Pending}) (c.in_err-request.was) in
+    let i = c.count_below-place.result in
+    let none : slice_get ps i ≡ None = sym c.get.ensures ∙ ap (option_copied {T = Pending}) (c.in_err-request.was) in
     subst (IsPlaceFor (find (answers packet) ps) ps) (sym c.from_residual.ensures)
-    (place_none (answers packet) ps c.count_below-place.result
-    (one_place packet ps c.args.self.now.counter c.count_below-place.result c.transaction_id.result c.count_below-place.ensures.rising c.count_below-place.ensures.place c.transaction_id.ensures) none)
+    (place_none (answers packet) ps i
+    (located (λ (p : Pending). p.number) (number_in transaction_id packet) (answers packet) ps c.args.self.now.counter i (only_answered packet)
+    (subst (λ (v : Requests). AreNumbered v.counter v.pending) c.self.view_is c.count_below-place.ensures.numbered).rising
+    (subst (λ (n : ℕ). IsPlace (λ (p : Pending). nat_lt p.number n) ps i) c.transaction_id.ensures
+    (subst (λ (v : Requests). IsPlace (λ (p : Pending). nat_lt p.number c.transaction_id.result) v.pending i) c.self.view_is c.count_below-place.ensures.place))) none)
 
-pub returns-then-is_answer : goal.returns-then-is_answer
-returns-then-is_answer c =
+pub returns-then-is_answered_by : goal.returns-then-is_answered_by
+returns-then-is_answered_by c =
     let packet = c.args.smp.now in
     let ps = c.args.self.now.pending in
-    place_found (answers packet) ps c.count_below-place.result
-    (one_place packet ps c.args.self.now.counter c.count_below-place.result c.transaction_id.result c.count_below-place.ensures.rising c.count_below-place.ensures.place c.transaction_id.ensures)
-    c.in_ok-request.request.now (sym (c.in_ok-request.ensures)) (sym c.is_answer.ensures ∙ c.if-is_answer.true)
+    let i = c.count_below-place.result in
+    place_found (answers packet) ps i
+    (located (λ (p : Pending). p.number) (number_in transaction_id packet) (answers packet) ps c.args.self.now.counter i (only_answered packet)
+    (subst (λ (v : Requests). AreNumbered v.counter v.pending) c.self.view_is c.count_below-place.ensures.numbered).rising
+    (subst (λ (n : ℕ). IsPlace (λ (p : Pending). nat_lt p.number n) ps i) c.transaction_id.ensures
+    (subst (λ (v : Requests). IsPlace (λ (p : Pending). nat_lt p.number c.transaction_id.result) v.pending i) c.self.view_is c.count_below-place.ensures.place)))
+    c.in_ok-request.request.now (sym (c.in_ok-request.ensures)) (sym c.is_answered_by.ensures ∙ c.if-is_answered_by.true)
 
-pub returns-else-is_answer : goal.returns-else-is_answer
-returns-else-is_answer c =
+pub returns-else-is_answered_by : goal.returns-else-is_answered_by
+returns-else-is_answered_by c =
     let packet = c.args.smp.now in
     let ps = c.args.self.now.pending in
-    place_other (answers packet) ps c.count_below-place.result
-    (one_place packet ps c.args.self.now.counter c.count_below-place.result c.transaction_id.result c.count_below-place.ensures.rising c.count_below-place.ensures.place c.transaction_id.ensures)
-    c.in_ok-request.request.now (sym (c.in_ok-request.ensures)) (sym c.is_answer.ensures ∙ c.if-is_answer.false)
+    let i = c.count_below-place.result in
+    place_other (answers packet) ps i
+    (located (λ (p : Pending). p.number) (number_in transaction_id packet) (answers packet) ps c.args.self.now.counter i (only_answered packet)
+    (subst (λ (v : Requests). AreNumbered v.counter v.pending) c.self.view_is c.count_below-place.ensures.numbered).rising
+    (subst (λ (n : ℕ). IsPlace (λ (p : Pending). nat_lt p.number n) ps i) c.transaction_id.ensures
+    (subst (λ (v : Requests). IsPlace (λ (p : Pending). nat_lt p.number c.transaction_id.result) v.pending i) c.self.view_is c.count_below-place.ensures.place)))
+    c.in_ok-request.request.now (sym (c.in_ok-request.ensures)) (sym c.is_answered_by.ensures ∙ c.if-is_answered_by.false)

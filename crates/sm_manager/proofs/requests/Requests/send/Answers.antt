@@ -1,12 +1,21 @@
--- The number is the next one.
-use Rattle.std.proofs.Common.{◌≡◌, ◌+◌, ◌<◌, ◌^◌, List, sym, subst, arith, rules}
+-- There are no more steps than numbers.
+use Rattle.std.proofs.Common.{arith}
+use Rattle.request_table.proofs.Numbers.{rising_length}
 use Rattle.sm_manager.specs.declared.pending.Pending.{Pending}
-use Rattle.sm_manager.specs.Requests.{AreNumbered, Requests}
-use Rattle.sm_manager.proofs.Numbers.{rising_sent}
+use Rattle.sm_manager.specs.Requests.{counts, is_step}
+use Rattle.sm_manager.proofs.Numbers.{many_at_most}
 use Rattle.sm_manager.proofs.requests.Requests.send.Goals as goal
 
-pub invariant_of-self : goal.invariant_of-self
-invariant_of-self c =
-    let below : c.self.inside.counter < 2 ^ 32 = subst (λ (v : Requests). v.counter < 2 ^ 32) (sym c.self.view_is) c.requires.number in
-    subst (λ (ps : List Pending). AreNumbered (c.self.inside.counter + 1) ps) (sym c.push_back_reserved.ensures.items)
-    (record { rising = rising_sent 0 c.self.inside.pending.items c.self.inside.counter _ c.self.invariant.rising (search rules); bound = omega (arith, below) })
+pub overflow_add-self : goal.overflow_add-self
+overflow_add-self c =
+    let ps = c.self.inside.table.requests in
+    let most = many_at_most is_step ps in
+    let few = rising_length (λ (p : Pending). p.number) 0 ps c.self.inside.table.next c.next-number.ensures.numbered.rising in
+    omega (arith, c.self.invariant.steps_are, most, few, c.next-number.ensures.numbered.bound)
+
+pub overflow_add-self-then-counts : goal.overflow_add-self-then-counts
+overflow_add-self-then-counts c =
+    let ps = c.self.inside.table.requests in
+    let most = many_at_most counts ps in
+    let few = rising_length (λ (p : Pending). p.number) 0 ps c.self.inside.table.next c.next-number.ensures.numbered.rising in
+    omega (arith, c.self.invariant.counting_are, most, few, c.next-number.ensures.numbered.bound)
