@@ -208,16 +208,15 @@ fn seats_and_long_texts(rt: HostRuntime) -> Result<(), Fail> {
 
 #[test]
 fn texts_of_faults(rt: HostRuntime) -> Result<(), Fail> {
-    for (text, wanted) in [
-        ("x", "line 1: syntax"),
-        ("\nsweep A", "line 2: name"),
-        ("manager A \"S 1\"[1] 0", "line 1: seat"),
+    let line = 12;
+    for (fault, wanted) in [
+        (ScheduleFault::Syntax { line }, "line 12: syntax"),
+        (ScheduleFault::Name { line }, "line 12: name"),
+        (ScheduleFault::Seat { line }, "line 12: seat"),
+        (ScheduleFault::Memory, "out of memory"),
     ] {
-        let Some(fault) = fault(rt.alloc(), text)? else {
-            return Err("no fault")?;
-        };
         let said = format!(in rt.alloc(); "{fault}")?;
-        assert!(rt; said.as_str() == wanted);
+        assert!(rt; said.as_str() == wanted, "{wanted}");
     }
     Ok(())
 }
