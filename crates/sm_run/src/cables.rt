@@ -14,7 +14,7 @@ impl World<'_> {
     /// The cable in a port is cut.
     pub(crate) fn cut<W: Sink>(&mut self, port: NodePort, sink: &mut W) -> Result<(), RunFault>
         ensures managers { length self.new.managers.items ≡ length self.old.managers.items }
-        ensures stops { StopsFor result (W.has_failed sink.new) }
+        ensures stops { StopsFor W.written W.has_failed result sink.old sink.new }
     {
         match self.fabric.cut(port) {
             Ok(()) => Ok(()),
@@ -30,7 +30,7 @@ impl World<'_> {
         sink: &mut W,
     ) -> Result<(), RunFault>
         ensures managers { length self.new.managers.items ≡ length self.old.managers.items }
-        ensures stops { StopsFor result (W.has_failed sink.new) }
+        ensures stops { StopsFor W.written W.has_failed result sink.old sink.new }
     {
         match self.fabric.plug(one, other) {
             Ok(()) => Ok(()),
@@ -46,7 +46,7 @@ impl World<'_> {
         lid: Lid,
         sink: &mut W,
     ) -> Result<(), RunFault>
-        ensures stops { StopsFor result (W.has_failed sink.new) }
+        ensures stops { StopsFor W.written W.has_failed result sink.old sink.new }
     {
         match self.fabric.ping(from, lid) {
             Ok(ping) => {

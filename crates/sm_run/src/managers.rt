@@ -18,7 +18,7 @@ impl World<'_> {
     pub(crate) fn seat<W: Sink>(&mut self, seat: usize, sink: &mut W) -> Result<(), RunFault>
         requires { seat < length self.old.managers.items }
         ensures managers { length self.new.managers.items ≡ length self.old.managers.items }
-        ensures stops { StopsFor result (W.has_failed sink.new) }
+        ensures stops { StopsFor W.written W.has_failed result sink.old sink.new }
     {
         match self.fabric.seat(self.managers[seat].seat.at) {
             Ok(()) => Ok(()),
@@ -30,7 +30,7 @@ impl World<'_> {
     pub(crate) fn sweep<W: Sink>(&mut self, seat: usize, sink: &mut W) -> Result<(), RunFault>
         requires { seat < length self.old.managers.items }
         ensures managers { length self.new.managers.items ≡ length self.old.managers.items }
-        ensures stops { StopsFor result (W.has_failed sink.new) }
+        ensures stops { StopsFor W.written W.has_failed result sink.old sink.new }
     {
         if let Err(fault) = self.managers[seat].manager.begin_sweep() {
             return refuse_manager(sink, fault);
@@ -42,7 +42,7 @@ impl World<'_> {
     pub(crate) fn write<W: Sink>(&mut self, seat: usize, sink: &mut W) -> Result<(), RunFault>
         requires { seat < length self.old.managers.items }
         ensures managers { length self.new.managers.items ≡ length self.old.managers.items }
-        ensures stops { StopsFor result (W.has_failed sink.new) }
+        ensures stops { StopsFor W.written W.has_failed result sink.old sink.new }
     {
         if let Err(fault) = self.managers[seat].manager.write_steps() {
             return refuse_manager(sink, fault);
@@ -60,7 +60,7 @@ impl World<'_> {
         requires seat { seat < length self.old.managers.items }
         requires other { other < length self.old.managers.items }
         ensures managers { length self.new.managers.items ≡ length self.old.managers.items }
-        ensures stops { StopsFor result (W.has_failed sink.new) }
+        ensures stops { StopsFor W.written W.has_failed result sink.old sink.new }
     {
         if seat == other {
             return Ok(());
@@ -87,7 +87,7 @@ impl World<'_> {
     ) -> Result<(), RunFault>
         requires { seat < length self.old.managers.items }
         ensures managers { length self.new.managers.items ≡ length self.old.managers.items }
-        ensures stops { StopsFor result (W.has_failed sink.new) }
+        ensures stops { StopsFor W.written W.has_failed result sink.old sink.new }
     {
         let waiting = waiting(alloc, &self.managers[seat].manager)?;
         for transaction in &waiting {
@@ -101,7 +101,7 @@ impl World<'_> {
     /// Prints a manager's facts.
     pub(crate) fn show_facts<W: Sink>(&self, seat: usize, sink: &mut W) -> Result<(), RunFault>
         requires { seat < length self.now.managers.items }
-        ensures stops { StopsFor result (W.has_failed sink.new) }
+        ensures stops { StopsFor W.written W.has_failed result sink.old sink.new }
     {
         write_facts(sink, self.managers[seat].manager.store())?;
         Ok(())
@@ -110,7 +110,7 @@ impl World<'_> {
     /// Prints a manager's plan.
     pub(crate) fn show_plan<W: Sink>(&self, seat: usize, sink: &mut W) -> Result<(), RunFault>
         requires { seat < length self.now.managers.items }
-        ensures stops { StopsFor result (W.has_failed sink.new) }
+        ensures stops { StopsFor W.written W.has_failed result sink.old sink.new }
     {
         match self.managers[seat].manager.plan() {
             Ok(plan) => {
@@ -124,7 +124,7 @@ impl World<'_> {
     /// Prints how far a manager is with its sweep.
     pub(crate) fn show_progress<W: Sink>(&self, seat: usize, sink: &mut W) -> Result<(), RunFault>
         requires { seat < length self.now.managers.items }
-        ensures stops { StopsFor result (W.has_failed sink.new) }
+        ensures stops { StopsFor W.written W.has_failed result sink.old sink.new }
     {
         let seated = &self.managers[seat];
         write_progress(sink, seated.seat.name.as_str(), seated.manager.progress())?;

@@ -18,7 +18,7 @@ impl World<'_> {
     /// queues then goes out.
     pub(crate) fn deliver<W: Sink>(&mut self, which: Which, sink: &mut W) -> Result<(), RunFault>
         ensures managers { length self.new.managers.items ≡ length self.old.managers.items }
-        ensures stops { StopsFor result (W.has_failed sink.new) }
+        ensures stops { StopsFor W.written W.has_failed result sink.old sink.new }
     {
         match serial(&self.fabric, which) {
             Some(serial) => self.deliver_one(serial, sink),
@@ -29,7 +29,7 @@ impl World<'_> {
     /// A packet in flight is lost.
     pub(crate) fn lose<W: Sink>(&mut self, which: Which, sink: &mut W) -> Result<(), RunFault>
         ensures managers { length self.new.managers.items ≡ length self.old.managers.items }
-        ensures stops { StopsFor result (W.has_failed sink.new) }
+        ensures stops { StopsFor W.written W.has_failed result sink.old sink.new }
     {
         let Some(serial) = serial(&self.fabric, which) else {
             return refuse_fabric(sink, FabricFault::NoSuchPacket);
@@ -43,7 +43,7 @@ impl World<'_> {
     /// A packet in flight is there once more.
     pub(crate) fn repeat<W: Sink>(&mut self, which: Which, sink: &mut W) -> Result<(), RunFault>
         ensures managers { length self.new.managers.items ≡ length self.old.managers.items }
-        ensures stops { StopsFor result (W.has_failed sink.new) }
+        ensures stops { StopsFor W.written W.has_failed result sink.old sink.new }
     {
         let Some(serial) = serial(&self.fabric, which) else {
             return refuse_fabric(sink, FabricFault::NoSuchPacket);
@@ -57,7 +57,7 @@ impl World<'_> {
     /// The packet of the least serial number takes a step, at most so many times.
     pub(crate) fn drain<W: Sink>(&mut self, most: u32, sink: &mut W) -> Result<(), RunFault>
         ensures managers { length self.new.managers.items ≡ length self.old.managers.items }
-        ensures stops { StopsFor result (W.has_failed sink.new) }
+        ensures stops { StopsFor W.written W.has_failed result sink.old sink.new }
     {
         for _ in 0..most {
             let Some(first) = self.fabric.in_flight(0) else {
@@ -75,7 +75,7 @@ impl World<'_> {
         topology: &Topology,
         sink: &mut W,
     ) -> Result<(), RunFault>
-        ensures stops { StopsFor result (W.has_failed sink.new) }
+        ensures stops { StopsFor W.written W.has_failed result sink.old sink.new }
     {
         for i in 0..self.fabric.flight_count() {
             let flight = self.fabric.in_flight(i).unwrap();
@@ -87,7 +87,7 @@ impl World<'_> {
     /// The packet with a serial number takes one step.
     fn deliver_one<W: Sink>(&mut self, serial: u64, sink: &mut W) -> Result<(), RunFault>
         ensures managers { length self.new.managers.items ≡ length self.old.managers.items }
-        ensures stops { StopsFor result (W.has_failed sink.new) }
+        ensures stops { StopsFor W.written W.has_failed result sink.old sink.new }
     {
         match self.fabric.deliver(serial) {
             Ok(Delivered::ToManager(port, packet)) => self.hand_up(&port, &packet, sink),
@@ -105,7 +105,7 @@ impl World<'_> {
         sink: &mut W,
     ) -> Result<(), RunFault>
         ensures managers { length self.new.managers.items ≡ length self.old.managers.items }
-        ensures stops { StopsFor result (W.has_failed sink.new) }
+        ensures stops { StopsFor W.written W.has_failed result sink.old sink.new }
     {
         let Some(seat) = self.manager_at(port) else {
             return Ok(());

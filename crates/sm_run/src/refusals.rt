@@ -13,7 +13,7 @@ use sweep::SweepFault;
 
 /// Prints that the fabric refuses a call. Want of memory is not printed, and ends the run.
 pub(crate) fn refuse_fabric<W: Sink>(sink: &mut W, fault: FabricFault) -> Result<(), RunFault>
-    ensures stops { StopsFor result (W.has_failed sink.new) }
+    ensures stops { StopsFor W.written W.has_failed result sink.old sink.new }
     ensures memory { (result ≡ Err RunFault.Memory) ↔ (fault ≡ FabricFault.Memory) }
 {
     if fault == FabricFault::Memory {
@@ -25,7 +25,7 @@ pub(crate) fn refuse_fabric<W: Sink>(sink: &mut W, fault: FabricFault) -> Result
 
 /// Prints that a manager refuses a call. Want of memory is not printed, and ends the run.
 pub(crate) fn refuse_manager<W: Sink>(sink: &mut W, fault: ManagerFault) -> Result<(), RunFault>
-    ensures stops { StopsFor result (W.has_failed sink.new) }
+    ensures stops { StopsFor W.written W.has_failed result sink.old sink.new }
     ensures memory { (result ≡ Err RunFault.Memory) ↔ (fault ≡ ManagerFault.Memory) }
 {
     if fault == ManagerFault::Memory {

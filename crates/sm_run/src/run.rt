@@ -51,7 +51,7 @@ pub fn run_schedule<T: Source, S: Source, W: Sink>(
 /// Runs the commands of a schedule, and flushes.
 fn run<W: Sink>(alloc: Global, setting: &Setting, sink: &mut W) -> Result<(), RunFault>
     requires { IsScript setting.now.topology.nodes setting.now.schedule }
-    ensures stops { StopsFor result (W.has_failed sink.new) }
+    ensures stops { StopsFor W.written W.has_failed result sink.old sink.new }
     ensures flushed { OnOk result (IsTrue (W.is_flushed sink.new)) }
     ensures sink_works { OnOk result (W.has_failed sink.new ≡ false) }
 {
@@ -74,7 +74,7 @@ impl World<'_> {
     ) -> Result<(), RunFault>
         requires { NamesManagers (length self.old.managers.items) command }
         ensures managers { length self.new.managers.items ≡ length self.old.managers.items }
-        ensures stops { StopsFor result (W.has_failed sink.new) }
+        ensures stops { StopsFor W.written W.has_failed result sink.old sink.new }
     {
         match command {
             Command::Manager(seat) => self.seat(seat, sink),

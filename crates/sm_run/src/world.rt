@@ -61,7 +61,7 @@ impl<'s> World<'s> {
     pub(crate) fn send<W: Sink>(&mut self, seat: usize, sink: &mut W) -> Result<(), RunFault>
         requires { seat < length self.old.managers.items }
         ensures managers { length self.new.managers.items ≡ length self.old.managers.items }
-        ensures stops { StopsFor result (W.has_failed sink.new) }
+        ensures stops { StopsFor W.written W.has_failed result sink.old sink.new }
     {
         let Seated { seat, manager } = &mut self.managers[seat];
         send_queued(&mut self.fabric, &seat.at, manager, sink)
@@ -87,7 +87,7 @@ fn send_queued<W: Sink>(
     manager: &mut Manager,
     sink: &mut W,
 ) -> Result<(), RunFault>
-    ensures stops { StopsFor result (W.has_failed sink.new) }
+    ensures stops { StopsFor W.written W.has_failed result sink.old sink.new }
 {
     while let Some(outgoing) = manager.take_outgoing() {
         send_one(fabric, from, &outgoing, sink)?;
@@ -102,7 +102,7 @@ fn send_one<W: Sink>(
     outgoing: &Outgoing,
     sink: &mut W,
 ) -> Result<(), RunFault>
-    ensures stops { StopsFor result (W.has_failed sink.new) }
+    ensures stops { StopsFor W.written W.has_failed result sink.old sink.new }
 {
     match fabric.inject(*from, packet(outgoing)) {
         Ok(_) => Ok(()),
