@@ -57,7 +57,7 @@ impl Fabric {
         let agent = self.agent_in(at.node);
         if agent.is_switch() {
             switch_course(agent, at.node, lid)
-        } else if agent.base_lid(at.port) == lid {
+        } else if agent.owns(at.port, lid) {
             Course::Delivers(*at)
         } else if is_by_wire {
             Course::Drops

@@ -1,4 +1,4 @@
-ghost use Rattle.std.specs.Prelude.{◌≡◌, ◌+◌, ◌*◌, ◌≤◌, [], ◌∷◌, ◌↔◌, OnOk, OnErr, IfOk, IsNone, IfSome, max, slice_get, unwrap_or};
+ghost use Rattle.std.specs.Prelude.{◌≡◌, ◌+◌, ◌*◌, ◌≤◌, [], ◌∷◌, ◌↔◌, OnOk, OnErr, IfOk, IsNone, IfSome, length, max, slice_get, unwrap_or};
 ghost use Rattle.std.specs.FinMap.{len};
 ghost use Rattle.fact_store.specs.Cells.{HasDigits};
 ghost use Rattle.fact_store.specs.View.{IsNewestGeneration, cell_for, cells_of, no_facts, view};
@@ -177,7 +177,7 @@ impl Store {
 
     /// The number of keys that have a cell. It is held.
     pub fn count(&self) -> usize
-        ensures exact { result ≡ len self.now }
+        ensures exact { result ≡ length (cells_of self.now) }
         ensures in_range { AreInRange self.now }
     {
         self.cells.len()

@@ -8,7 +8,7 @@ use Rattle.smp_bytes.specs.declared.cable.NodePort.{NodePort}
 use Rattle.smp_bytes.specs.declared.course.Course.{Course}
 use Rattle.smp_bytes.specs.declared.course.Course.TheVariants.{Delivers, LeavesBy, Drops}
 use Rattle.smp_bytes.specs.NodeType.{is_switch as is_switch_type}
-use Rattle.smp_bytes.specs.Fabric.{Node, Fabric, is_switch_at}
+use Rattle.smp_bytes.specs.Fabric.{Node, Fabric, is_switch_at, owns}
 use Rattle.smp_bytes.specs.FabricWalks.{IsJoinedTo}
 use Rattle.smp_bytes.specs.Forwarding.{Standing, sent_from, arrived_at, course, adapter_course, entry_course, switch_course, Hop, Goes}
 use Rattle.smp_bytes.proofs.FabricWalks.{port_at}
@@ -76,26 +76,26 @@ module _ (f : Fabric) (lid : ℕ) where
   goes_on (h ∷ hops) others start middle end (leaves, wire, rest) k = (leaves, wire, goes_on hops others (arrived_at h.into) middle end rest k)
 
   at_node : (start : Standing) (node : Node) → slice_get f.nodes start.place.node ≡ Some node
-      → course f lid start ≡ cond (is_switch_type node.kind) (switch_goes f lid node start.place.node) (adapter_course (f.base_lid start.place) lid start)
+      → course f lid start ≡ cond (is_switch_type node.kind) (switch_goes f lid node start.place.node) (adapter_course (owns f start.place lid) start)
   at_node start node at =
       ap (λ o. option_map_or
-      (λ (n : Node). cond (is_switch_type n.kind) (switch_goes f lid n start.place.node) (adapter_course (f.base_lid start.place) lid start)) o Drops) at
+      (λ (n : Node). cond (is_switch_type n.kind) (switch_goes f lid n start.place.node) (adapter_course (owns f start.place lid) start)) o Drops) at
 
   -- an adapter port takes its own LID
   pub adapter_takes : (start : Standing) (node : Node) → slice_get f.nodes start.place.node ≡ Some node → is_switch_type node.kind ≡ false
-      → f.base_lid start.place ≡ lid → course f lid start ≡ Delivers start.place
+      → owns f start.place lid ≡ true → course f lid start ≡ Delivers start.place
   adapter_takes start node at kind own =
       at_node start node at
-      ∙ ap (λ t. cond t (switch_goes f lid node start.place.node) (adapter_course (f.base_lid start.place) lid start)) kind
-      ∙ ap (λ t. cond t (Delivers start.place) (cond start.by_wire Drops (LeavesBy start.place))) (eq-eqb (f.base_lid start.place) lid own)
+      ∙ ap (λ t. cond t (switch_goes f lid node start.place.node) (adapter_course (owns f start.place lid) start)) kind
+      ∙ ap (λ t. cond t (Delivers start.place) (cond start.by_wire Drops (LeavesBy start.place))) own
 
   -- and sends any other out
   pub adapter_sends : (p : NodePort) (node : Node) → slice_get f.nodes p.node ≡ Some node → is_switch_type node.kind ≡ false
-      → (f.base_lid p ≡ lid → ⊥) → course f lid (sent_from p) ≡ LeavesBy p
+      → owns f p lid ≡ false → course f lid (sent_from p) ≡ LeavesBy p
   adapter_sends p node at kind other =
       at_node (sent_from p) node at
-      ∙ ap (λ t. cond t (switch_goes f lid node p.node) (adapter_course (f.base_lid p) lid (sent_from p))) kind
-      ∙ ap (λ t. cond t (Delivers p) (LeavesBy p)) (ne_eqb (f.base_lid p) lid other)
+      ∙ ap (λ t. cond t (switch_goes f lid node p.node) (adapter_course (owns f p lid) (sent_from p))) kind
+      ∙ ap (λ t. cond t (Delivers p) (LeavesBy p)) other
 
 module _ {cells : Cells} {f : Fabric} {origin : NodePort} {lid : ℕ} {owner : EndPort} (told : IsTold cells f origin)
     (planned : IsPlanned cells f origin lid owner) where
@@ -116,7 +116,7 @@ module _ {cells : Cells} {f : Fabric} {origin : NodePort} {lid : ℕ} {owner : E
         s.node,
         s.at,
         at_node f lid start s.node (ap (slice_get f.nodes) here ∙ s.at)
-            ∙ ap (λ t. cond t (switch_goes f lid s.node start.place.node) (adapter_course (f.base_lid start.place) lid start)) s.is_switch
+            ∙ ap (λ t. cond t (switch_goes f lid s.node start.place.node) (adapter_course (owns f start.place lid) start)) s.is_switch
             ∙ ap (switch_goes f lid s.node) here
             ∙ ap (λ t. cond t Drops (entry_course s.node.ports place (f.entry place lid))) inside
             ∙ ap (entry_course s.node.ports place) its_entry,

@@ -1,10 +1,10 @@
 -- The owner of a LID is a port of the part that has it; who has it is the owner; and facts know where it lies.
 use Rattle.std.proofs.Common.{◌≡◌, ◌≢◌, ◌↔◌, ℕ, List, sym, ap, ◌∙◌, subst, true, false, cond}
-use Rattle.std.proofs.lemmas.Bool.{and_left}
+use Rattle.std.proofs.lemmas.Bool.{and_left, eq-eqb, eqb-true}
 use Rattle.std.proofs.lemmas.Option.{same_Some}
 use Rattle.std.specs.Prelude.{None, Some, Contains, is_some, option_and_then, slice_get}
 use Rattle.smp_bytes.specs.declared.cable.NodePort.{NodePort}
-use Rattle.smp_bytes.specs.Fabric.{Node, Fabric, IsEndPort, is_switch_at}
+use Rattle.smp_bytes.specs.Fabric.{Node, Fabric, IsEndPort, is_switch_at, owns}
 use Rattle.smp_bytes.specs.FabricWalks.{IsJoinedTo}
 use Rattle.smp_bytes.proofs.FabricWalks.{same_port, type_at, adapter_vertex}
 use Rattle.subnet_view.specs.declared.end_port.EndPort.{EndPort}
@@ -38,7 +38,7 @@ pub record OwnerPort (f : Fabric) (origin : NodePort) (lid : ℕ) (owner : EndPo
   pub named : IsPortNamed f owner.node owner.port port
   pub is_end : IsEndPort f port
   pub joined : IsJoinedTo f origin port
-  pub own_lid : f.base_lid port ≡ lid
+  pub own_lid : owns f port lid ≡ true
 
 name_is : (node : Node) (port : NodePort) (e : EndPort) → node.guid ≡ e.node → port.port ≡ e.port
     → ◌≡◌ {A = EndPort} (record { node = node.guid; port = port.port }) e
@@ -61,15 +61,15 @@ module _ {cells : Cells} {f : Fabric} {origin : NodePort} {lid : ℕ} {owner : E
       let held_lid : Some lid ≡ Some (f.base_lid it.port) =
       sym ((planned.inverse owner lid).0 planned.owned) ∙ ap (lid_of (lids cells)) (sym (name_is it.named.node it.port owner it.named.guid_is it.named.port_is))
       ∙ (planned.held it.port it.named.node here).lid in
-      record { port = it.port; named = it.named; is_end = it.end_port; joined = it.in_part; own_lid = same_Some (f.base_lid it.port) lid (sym held_lid) }
+      record { port = it.port; named = it.named; is_end = it.end_port; joined = it.in_part; own_lid = eq-eqb (f.base_lid it.port) lid (same_Some (f.base_lid it.port) lid (sym held_lid)) }
 
   -- an end port of the part that has the LID is the owner's
   pub lid_is_owners : (target : OwnerPort f origin lid owner) (v : NodePort) (node : Node) → IsEndPortIn (IsJoinedTo f origin) f v node
-      → f.base_lid v ≡ lid → v ≡ target.port
+      → owns f v lid ≡ true → v ≡ target.port
   lid_is_owners target v node here own =
       let name : EndPort = record { node = node.guid; port = v.port } in
       let owned_by_v : owner_of (lids cells) lid ≡ Some name = (planned.inverse name lid).1
-      ((planned.held v node here).lid ∙ ap (λ (n : ℕ). Some n) own) in
+      ((planned.held v node here).lid ∙ ap (λ (n : ℕ). Some n) (eqb-true (f.base_lid v) lid own)) in
       let same : name ≡ owner = same_Some name owner (sym owned_by_v ∙ planned.owned) in
       let guid : node.guid ≡ target.named.node.guid = ap (λ (e : EndPort). e.node) same ∙ sym target.named.guid_is in
       same_port v target.port (told.agrees.guids_distinct v target.port node target.named.node here (owner_in_part target) guid)

@@ -1,10 +1,10 @@
 -- By the plan's tables a packet comes from each end port of the part to its LID's owner.
 use Rattle.std.proofs.Common.{◌≡◌, ◌≤◌, ℕ, suc, List, [], ◌∷◌, ◌++◌, refl, sym, ap, ◌∙◌, subst, arith, Bool, true, false, cond, ◌==◌, not, map, length}
-use Rattle.std.proofs.lemmas.Bool.{and_left, and_right, eqb-true, eq-eqb}
+use Rattle.std.proofs.lemmas.Bool.{and_left, and_right, both_ways}
 use Rattle.std.specs.Prelude.{Some}
 use Rattle.smp_bytes.specs.declared.cable.NodePort.{NodePort}
 use Rattle.smp_bytes.specs.declared.course.Course.TheVariants.{Delivers}
-use Rattle.smp_bytes.specs.Fabric.{Fabric, IsEndPort, is_switch_at}
+use Rattle.smp_bytes.specs.Fabric.{Fabric, IsEndPort, is_switch_at, owns}
 use Rattle.smp_bytes.specs.FabricWalks.{IsJoinedTo}
 use Rattle.smp_bytes.specs.Forwarding.{Standing, sent_from, arrived_at, course, Hop, Goes, IsDelivered}
 use Rattle.smp_bytes.proofs.FabricWalks.{port_at, same_port, type_at}
@@ -64,7 +64,7 @@ module _ {cells : Cells} {f : Fabric} {origin : NodePort} {lid : ℕ} {owner : E
   abbrev Delivery : NodePort → Type 0
   Delivery source = (hops : List Hop) × IsDelivered f lid source hops target.port × IsRoutedWay cells f source hops
 
-  starts : (source : NodePort) {h : NodePort} {a : ℕ} → IsEndPort f source → (is_switch_at f source.node ≡ false → f.base_lid source ≡ lid → ⊥)
+  starts : (source : NodePort) {h : NodePort} {a : ℕ} → IsEndPort f source → (is_switch_at f source.node ≡ false → owns f source lid ≡ false)
       → HasHome f origin source h a → Started f lid source h a
   starts source {h = h} {a = a} (node, at, number) other home = from_port home.lies
     where
@@ -162,7 +162,7 @@ module _ {cells : Cells} {f : Fabric} {origin : NodePort} {lid : ℕ} {owner : E
       )
 
   -- over switches of one component
-  over_switches : (source : NodePort) {h k : NodePort} {a b : ℕ} → IsEndPort f source → (is_switch_at f source.node ≡ false → f.base_lid source ≡ lid → ⊥)
+  over_switches : (source : NodePort) {h k : NodePort} {a b : ℕ} → IsEndPort f source → (is_switch_at f source.node ≡ false → owns f source lid ≡ false)
       → HasHome f origin source h a → HasHome f origin target.port k b → in_one_component (graph_of cells) a b ≡ true → Delivery source
   over_switches source {a = a} {b = b} is_end other from to joins =
       let graph = graph_of cells in
@@ -183,9 +183,9 @@ module _ {cells : Cells} {f : Fabric} {origin : NodePort} {lid : ℕ} {owner : E
   from_switch source is_end j s (wired r t e) = absurd (cc)
   from_switch source is_end j s (apart h k a b from to e) = over_switches source is_end (λ r. absurd (cc)) from to e
 
-  from_adapter : (source : NodePort) → IsEndPort f source → is_switch_at f source.node ≡ false → (f.base_lid source ≡ lid → ⊥)
+  from_adapter : (source : NodePort) → IsEndPort f source → is_switch_at f source.node ≡ false → owns f source lid ≡ false
       → Meets cells f origin source target.port → Delivery source
-  from_adapter source is_end s other (same e) = absurd (other (ap f.base_lid e ∙ target.own_lid))
+  from_adapter source is_end s other (same e) = absurd (both_ways (owns f source lid) other (ap (λ p. owns f p lid) e ∙ target.own_lid))
   from_adapter source (node, at, number) s other (wired r t e) =
       let hop : Hop = record { out = source; into = target.port } in
       let arrived : List NodePort = cond (is_switch_at f target.port.node) (target.port ∷ []) [] in (
@@ -204,7 +204,7 @@ module _ {cells : Cells} {f : Fabric} {origin : NodePort} {lid : ℕ} {owner : E
   from_adapter source is_end s other (apart h k a b from to e) = over_switches source is_end (λ r. other) from to e
 
   -- an adapter port has the LID itself
-  to_itself : (source : NodePort) → IsEndPort f source → IsJoinedTo f origin source → is_switch_at f source.node ≡ false → f.base_lid source ≡ lid
+  to_itself : (source : NodePort) → IsEndPort f source → IsJoinedTo f origin source → is_switch_at f source.node ≡ false → owns f source lid ≡ true
       → Delivery source
   to_itself source (node, at, number) j s own =
       let is_target = lid_is_owners told planned target source node (record { node_there = at; end_port = (node, at, number); in_part = j }) own in (
@@ -218,9 +218,9 @@ module _ {cells : Cells} {f : Fabric} {origin : NodePort} {lid : ℕ} {owner : E
       let meets = joined_meet told is_origin source target.port j target.joined in
       elim (is_switch_at f source.node) as (λ t. is_switch_at f source.node ≡ t → Delivery source) [
         | true ↦ λ s. from_switch source is_end j s meets
-        | false ↦ λ s. (elim (f.base_lid source == lid) as (λ t. (f.base_lid source == lid) ≡ t → Delivery source) [
-          | true ↦ λ e. to_itself source is_end j s (eqb-true (f.base_lid source) lid e)
-          | false ↦ λ e. from_adapter source is_end s (λ own. cc (e, eq-eqb (f.base_lid source) lid own)) meets
+        | false ↦ λ s. (elim (owns f source lid) as (λ t. owns f source lid ≡ t → Delivery source) [
+          | true ↦ λ e. to_itself source is_end j s e
+          | false ↦ λ e. from_adapter source is_end s e meets
         ] refl)
       ] refl
 

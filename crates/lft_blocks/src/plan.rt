@@ -1,7 +1,8 @@
 ghost use Rattle.std.specs.Prelude.{◌≡◌, IfOk};
 ghost use Rattle.std.specs.Option.{option_copied};
 ghost use Rattle.fact_store.specs.View.{cells_of};
-ghost use Rattle.lid_assign.specs.LidFault.{JudgesRoom};
+ghost use Rattle.smp_bytes.specs.Judges.{JudgesButFor};
+ghost use Rattle.lid_assign.specs.LidFault.{is_memory, lid_fault, no_room};
 ghost use Rattle.lid_assign.specs.Lids.{top_of};
 ghost use Rattle.subnet_view.specs.Reading.{switches};
 ghost use Rattle.updown_routes.specs.Graph.{graph_of};
@@ -45,8 +46,12 @@ impl Plan {
     /// The plan of a view. It is refused where there is no room for the LIDs. Takes what LIDs and routes take,
     /// some twelve searches for each LID, and two steps for each entry. It holds 64 bytes for each block of
     /// each switch, and beside them while it is made 2 for each two switches.
+    ///
+    /// # Errors
+    ///
+    /// `NoRoom`, and `Memory` where there is room.
     pub fn of(alloc: Global, store: &Store) -> Result<Self, PlanFault>
-        ensures judged { JudgesRoom result (cells_of store.now) }
+        ensures judged { JudgesButFor is_memory result (lid_fault (no_room (cells_of store.now))) }
         ensures plan { IfOk result (λ plan. plan ≡ plan_of (cells_of store.now)) }
         ensures arrives { IfOk result (λ plan. EveryPacketArrives (cells_of store.now) plan) }
     {

@@ -1,4 +1,5 @@
 pub mod Rising
+pub mod LackOfRoom
 pub mod KeptClaims
 pub mod HandOut
 pub mod LidLaws

@@ -1,5 +1,5 @@
 -- Which LID each end port has (addressing chapter, unicast LIDs: 0x0001 to 0xBFFF).
-use Rattle.std.specs.Prelude.{◌≡◌, ◌≢◌, ◌↔◌, ◌<◌, ◌≤◌, ◌-◌, ℕ, zero, suc, Bool, false, List, [], ◌∷◌, ◌++◌, min, max, map, filter, length, Contains, Option, None, Some, ◌==◌, ◌&&◌, not, nat_le, nat_lt, option_map, is_some, if◌then◌else◌}
+use Rattle.std.specs.Prelude.{◌≡◌, ◌≢◌, ◌↔◌, ◌<◌, ◌≤◌, ◌-◌, ℕ, zero, suc, Bool, false, List, [], ◌∷◌, ◌++◌, min, max, map, filter, length, Contains, Option, None, Some, ◌==◌, ◌&&◌, not, nat_le, nat_lt, option_map, is_some, IsTrue, if◌then◌else◌}
 use Rattle.std.specs.Option.{option_map_or}
 use Rattle.std.specs.List.{filter_map, list_any, find, AllPairs}
 use Rattle.subnet_view.specs.declared.end_port.EndPort.{EndPort}
@@ -64,6 +64,14 @@ lids cells = hand_out (kept cells) (free_lids cells)
 -- there are end ports, and not fewer than the room
 abbrev pub IsNoRoom : Cells → Type 0
 IsNoRoom cells = (0 < length (end_ports cells)) × (room cells ≤ length (end_ports cells))
+
+-- the test of it
+abbrev pub is_no_room : Cells → Bool
+is_no_room cells = nat_lt 0 (length (end_ports cells)) && nat_le (room cells) (length (end_ports cells))
+
+-- which says what the words say
+abbrev pub NoRoomLaw : Type 0
+NoRoomLaw = (cells : Cells) → IsTrue (is_no_room cells) ↔ IsNoRoom cells
 
 -- the end port that has a LID
 abbrev pub owner_of : List (EndPort × ℕ) → ℕ → Option EndPort

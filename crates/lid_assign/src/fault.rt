@@ -4,18 +4,22 @@ use fact_store::Refused;
 use std::alloc::AllocError;
 use thiserror::Error;
 
+/// There are end ports, and no fewer of them than the smallest forwarding table has room for LIDs,
+/// 0 among them.
+#[derive(Clone, Copy, Debug, PartialEq, Eq)]
+pub struct NoRoom {
+    /// How many end ports there are.
+    pub endports: usize,
+    /// How many LIDs the table has room for, 0 among them.
+    pub room: u16,
+}
+
 /// Why no LIDs are given.
 #[derive(Clone, Copy, Debug, PartialEq, Eq, Error)]
 pub enum LidFault {
-    /// There are end ports, and no fewer of them than the smallest forwarding table has room for LIDs,
-    /// 0 among them.
+    /// There is no room for the LIDs.
     #[error("NoRoom")]
-    NoRoom {
-        /// How many end ports there are.
-        endports: usize,
-        /// How many LIDs the table has room for, 0 among them.
-        room: u16,
-    },
+    NoRoom(NoRoom),
     /// The memory that the LIDs need was refused.
     #[error("Memory")]
     Memory,
@@ -29,7 +33,7 @@ impl LidFault {
         ensures { result.now ≡ lid_fault_name self }
     {
         match self {
-            LidFault::NoRoom { .. } => "NoRoom",
+            LidFault::NoRoom(_) => "NoRoom",
             LidFault::Memory => "Memory",
         }
     }

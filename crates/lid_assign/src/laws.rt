@@ -1,6 +1,12 @@
 //! The laws of the LIDs that are given.
-ghost use Rattle.lid_assign.specs.Lids.{LidsLaw, LidsAreUnique, OwnersAreInverse, RisingLidsLaw};
+ghost use Rattle.lid_assign.specs.Lids.{LidsLaw, LidsAreUnique, NoRoomLaw, OwnersAreInverse, RisingLidsLaw};
 ghost use Rattle.lid_assign.specs.Stability.{LidsSettle, LidsStay};
+
+/// There is no room where there are end ports, and not fewer of them than LIDs below the room, 0 among
+/// them.
+pub fn no_room_law()
+    ensures { NoRoomLaw }
+{}
 
 /// Where there is room, each end port has one LID below it, and no two have the same; an end port keeps
 /// the claim that no earlier one makes; and the others have the least numbers that are left, rising.

@@ -9,6 +9,7 @@ mod lid_map;
 mod lids;
 mod room;
 
-pub use fault::LidFault;
+pub use fault::{LidFault, NoRoom};
 pub use lid_map::LidMap;
 pub use lids::assign;
+pub use room::no_room;

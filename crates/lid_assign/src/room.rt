@@ -1,33 +1,57 @@
-ghost use Rattle.std.specs.Prelude.{◌≡◌, IfOk};
+ghost use Rattle.std.specs.Prelude.{◌≡◌, length};
 ghost use Rattle.fact_store.specs.View.{cells_of};
-ghost use Rattle.std.specs.List.{filter_map};
-ghost use Rattle.subnet_view.specs.Reading.{cap_of};
-ghost use Rattle.lid_assign.specs.Lids.{room, least_room};
+ghost use Rattle.subnet_view.specs.EndPorts.{end_ports};
+ghost use Rattle.lid_assign.specs.LidFault.{no_room};
+ghost use Rattle.lid_assign.specs.Lids.{room};
+ghost use Rattle.lid_assign.specs.Rooms.{usable_cap};
 
-use fact_store::{Refused, Store};
-use smp_bytes::Guid;
-use std::alloc::Global;
-use subnet_view::{cap, switches};
+use crate::fault::NoRoom;
+use fact_store::{Sighting, Store};
+use subnet_view::{cap, count_end_ports, usable_guid};
 
 /// The first number that is no unicast LID.
 const END: u16 = 0xC000;
 
-/// The least table room of a usable switch, and at most the first number that is no unicast LID.
-pub(crate) fn room(alloc: Global, store: &Store) -> Result<u16, Refused>
-    ensures { IfOk result (λ most. most ≡ room (cells_of store.now)) }
+/// Whether the view's end ports have no room for LIDs, and how many they are then. Takes no memory. Walks the cells twice.
+pub fn no_room(store: &Store) -> Option<NoRoom>
+    ensures { result ≡ no_room (cells_of store.now) }
 {
-    Ok(least_room(store, &switches(alloc, store)?))
+    lack_of_room(store, count_end_ports(store), room(store))
 }
 
-/// The least table room of these switches.
-fn least_room(store: &Store, switches: &[Guid]) -> u16
-    ensures { result ≡ least_room (filter_map (cap_of (cells_of store.now)) switches.now) }
+/// Whether so many end ports have no room.
+pub(crate) fn lack_of_room(store: &Store, endports: usize, most: u16) -> Option<NoRoom>
+    requires ports { endports ≡ length (end_ports (cells_of store.now)) }
+    requires room { most ≡ room (cells_of store.now) }
+    ensures { result ≡ no_room (cells_of store.now) }
+{
+    if endports > 0 && usize::from(most) <= endports {
+        Some(NoRoom {
+            endports,
+            room: most,
+        })
+    } else {
+        None
+    }
+}
+
+/// The least table room of a usable switch, and at most the first number that is no unicast LID. Walks the
+/// cells.
+pub(crate) fn room(store: &Store) -> u16
+    ensures { result ≡ room (cells_of store.now) }
 {
     let mut least = END;
-    for guid in switches {
-        if let Some(cap) = cap(store, *guid) {
+    for sighting in store.cells() {
+        if let Some(cap) = usable_cap(store, &sighting) {
             least = least.min(cap);
         }
     }
     least
+}
+
+/// The table room of a cell's node, where that is a usable switch.
+fn usable_cap(store: &Store, sighting: &Sighting) -> Option<u16>
+    ensures { result ≡ usable_cap (cells_of store.now) sighting.now }
+{
+    cap(store, usable_guid(store, sighting)?)
 }

@@ -1,5 +1,5 @@
 -- The agent of a node: what it is made as, and what it holds.
-use Rattle.std.specs.Prelude.{◌≡◌, ◌≢◌, ℕ, ◌+◌, ◌*◌, ◌/◌, ◌^◌, ◌<◌, ◌≤◌, ◌⊎◌, Bool, true, false, List, All, length, replicate, slice_index_or, slice_set, ◌∷◌, if◌then◌else◌}
+use Rattle.std.specs.Prelude.{◌≡◌, ◌≢◌, ℕ, ◌+◌, ◌*◌, ◌/◌, ◌^◌, ◌<◌, ◌≤◌, ◌⊎◌, Bool, true, false, List, All, length, replicate, slice_index_or, slice_set, ◌∷◌, ◌==◌, if◌then◌else◌}
 use Rattle.smp_bytes.specs.declared.node_type.NodeType.{NodeType}
 use Rattle.smp_bytes.specs.NodeType as types
 use Rattle.smp_bytes.specs.Fabric.{Node}
@@ -33,6 +33,10 @@ state_at a port = (port_at a port).state
 
 abbrev pub base_lid_at : Agent → ℕ → ℕ
 base_lid_at a port = (port_at a port).base_lid
+
+-- the LID is the port's own
+abbrev pub owns : Agent → ℕ → ℕ → Bool
+owns a port lid = base_lid_at a port == lid
 
 -- a subnet manager sits at the port
 abbrev pub has_seat : Agent → ℕ → Bool

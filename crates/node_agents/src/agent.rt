@@ -1,5 +1,5 @@
 ghost use Rattle.std.specs.Prelude.{◌≡◌, ◌≤◌, false, IfOk};
-ghost use Rattle.node_agents.specs.Agent.{IsAgentNode, fresh_agent, is_switch, port_at, state_at, base_lid_at, has_seat, entry_at, wired, seated};
+ghost use Rattle.node_agents.specs.Agent.{IsAgentNode, fresh_agent, is_switch, port_at, state_at, base_lid_at, has_seat, entry_at, owns, wired, seated};
 ghost use Rattle.node_agents.specs.Answers.{answered};
 
 use crate::agent_node::AgentNode;
@@ -135,6 +135,13 @@ impl Agent {
         ensures { result ≡ base_lid_at self.now port }
     {
         self.port(port).base_lid
+    }
+
+    /// Whether a LID is a port's own: a packet for it has arrived there.
+    pub fn owns(&self, port: PortNum, lid: Lid) -> bool
+        ensures { result ≡ owns self.now port lid }
+    {
+        self.base_lid(port) == lid
     }
 
     /// Whether a subnet manager sits at a port.

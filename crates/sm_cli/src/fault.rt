@@ -2,7 +2,7 @@ ghost use Rattle.std.specs.Prelude.{◌≡◌};
 
 use crate::exit_status::ExitStatus;
 use crate::text_fault::TextFault;
-use lid_assign::LidFault;
+use lid_assign::{LidFault, NoRoom};
 use record_file::{FileFault, WriteFault};
 use thiserror::Error;
 
@@ -83,7 +83,7 @@ impl From<LidFault> for Fault {
 
     fn from(fault: LidFault) -> Self {
         match fault {
-            LidFault::NoRoom { endports, room } => Fault::NoRoom { endports, room },
+            LidFault::NoRoom(NoRoom { endports, room }) => Fault::NoRoom { endports, room },
             LidFault::Memory => Fault::Memory,
         }
     }

@@ -7,7 +7,7 @@ use Rattle.smp_bytes.specs.declared.cable.NodePort.{NodePort}
 use Rattle.smp_bytes.specs.declared.course.Course.{Course}
 use Rattle.smp_bytes.specs.declared.course.Course.TheVariants.{Delivers, LeavesBy, Drops}
 use Rattle.smp_bytes.specs.NodeType.{is_switch}
-use Rattle.smp_bytes.specs.Fabric.{Node, Fabric, is_switch_at, switch_count}
+use Rattle.smp_bytes.specs.Fabric.{Node, Fabric, is_switch_at, owns, switch_count}
 use Rattle.smp_bytes.specs.Forwarding.{Standing, arrived_at, course, adapter_course, switch_course, Hop, Goes, IsStuck, IsDelivered, IsLost}
 use Rattle.smp_bytes.specs.FabricLaws.{PacketsEndOnce}
 
@@ -59,7 +59,7 @@ of_node f lid s o =
     option_map_or
     (λ (node : Node).
     let place = s.place.node in
-    cond (is_switch node.kind) (switch_course node.ports place (f.top place) lid (f.entry place lid)) (adapter_course (f.base_lid s.place) lid s))
+    cond (is_switch node.kind) (switch_course node.ports place (f.top place) lid (f.entry place lid)) (adapter_course (owns f s.place lid) s))
     o
     Drops
 
@@ -88,16 +88,13 @@ module _ (f : Fabric) (lid : ℕ) where
   passed_on_by_switch : (q out : NodePort) → course f lid (arrived_at q) ≡ LeavesBy out → is_switch_at f q.node ≡ true
   passed_on_by_switch q out h = by_node (slice_get f.nodes q.node) refl
     where
-      never_leaves : (own : ℕ) → adapter_course own lid (arrived_at q) ≡ LeavesBy out → ⊥
-      never_leaves own e = by_own (own == lid) e
-        where
-          by_own : (b : Bool) → cond b (Delivers q) Drops ≡ LeavesBy out → ⊥
-          by_own true e = cc
-          by_own false e = cc
+      never_leaves : (own : Bool) → adapter_course own (arrived_at q) ≡ LeavesBy out → ⊥
+      never_leaves true e = cc
+      never_leaves false e = cc
 
-      by_kind : (b : Bool) (x : Course) → cond b x (adapter_course (f.base_lid q) lid (arrived_at q)) ≡ LeavesBy out → b ≡ true
+      by_kind : (b : Bool) (x : Course) → cond b x (adapter_course (owns f q lid) (arrived_at q)) ≡ LeavesBy out → b ≡ true
       by_kind true x e = refl
-      by_kind false x e = absurd (never_leaves (f.base_lid q) e)
+      by_kind false x e = absurd (never_leaves (owns f q lid) e)
 
       by_node : (o : Option Node) → slice_get f.nodes q.node ≡ o → is_switch_at f q.node ≡ true
       by_node None e = absurd (cc (h, ap (of_node f lid (arrived_at q)) e))

@@ -1,5 +1,5 @@
 -- A fabric: its nodes, the cables between their ports, and what its agents hold.
-use Rattle.std.specs.Prelude.{◌≡◌, ℕ, ◌≤◌, Bool, false, List, Option, Some, slice_get, count_by, MatchBool}
+use Rattle.std.specs.Prelude.{◌≡◌, ℕ, ◌≤◌, Bool, false, List, Option, Some, slice_get, ◌==◌, count_by, MatchBool}
 use Rattle.std.specs.Option.{option_map_or}
 use Rattle.smp_bytes.specs.declared.node_type.NodeType.{NodeType}
 use Rattle.smp_bytes.specs.declared.cable.NodePort.{NodePort}
@@ -21,6 +21,10 @@ pub record Fabric : Type 0 where
   pub base_lid : NodePort → ℕ
   pub entry : ℕ → ℕ → ℕ
   pub top : ℕ → ℕ
+
+-- the LID is the end port's own (addressing chapter)
+abbrev pub owns : Fabric → NodePort → ℕ → Bool
+owns f p lid = f.base_lid p == lid
 
 abbrev pub IsNodeAt : Fabric → ℕ → Node → Type 0
 IsNodeAt f place node = slice_get f.nodes place ≡ Some node

@@ -6,7 +6,7 @@ use Rattle.smp_bytes.specs.declared.cable.NodePort.{NodePort}
 use Rattle.smp_bytes.specs.declared.course.Course.{Course}
 use Rattle.smp_bytes.specs.declared.course.Course.TheVariants.{Delivers, LeavesBy, Drops}
 use Rattle.smp_bytes.specs.NodeType.{is_switch}
-use Rattle.smp_bytes.specs.Fabric.{Fabric, switch_count}
+use Rattle.smp_bytes.specs.Fabric.{Fabric, owns, switch_count}
 
 -- a packet at a port, and whether it came there by a wire
 pub record Standing : Type 0 where
@@ -20,8 +20,8 @@ abbrev pub arrived_at : NodePort → Standing
 arrived_at p = record { place = p; by_wire = true }
 
 -- an adapter port takes its own LID, and sends any other out when it is the sender
-abbrev pub adapter_course : ℕ → ℕ → Standing → Course
-adapter_course own lid s = if own == lid then Delivers s.place else if s.by_wire then Drops else LeavesBy s.place
+abbrev pub adapter_course : Bool → Standing → Course
+adapter_course is_own s = if is_own then Delivers s.place else if s.by_wire then Drops else LeavesBy s.place
 
 -- by its entry: 255 and ports that the switch lacks drop, 0 is the switch itself
 abbrev pub entry_course : ℕ → ℕ → ℕ → Course
@@ -39,7 +39,7 @@ abbrev pub course : Fabric → ℕ → Standing → Course
 course f lid s =
     let place = s.place.node in
     option_map_or
-    (λ node. if is_switch node.kind then switch_course node.ports place (f.top place) lid (f.entry place lid) else adapter_course (f.base_lid s.place) lid s)
+    (λ node. if is_switch node.kind then switch_course node.ports place (f.top place) lid (f.entry place lid) else adapter_course (owns f s.place lid) s)
     (slice_get f.nodes place)
     Drops
 

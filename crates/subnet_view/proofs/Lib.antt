@@ -10,3 +10,4 @@ pub mod WireEnds
 pub mod WireLaws
 pub mod Attachments
 pub mod BesideClaims
+pub mod Counting

@@ -1,4 +1,4 @@
-ghost use Rattle.std.specs.Prelude.{◌≡◌, map, IfOk};
+ghost use Rattle.std.specs.Prelude.{◌≡◌, length, map, IfOk};
 ghost use Rattle.std.specs.List.{filter_map};
 ghost use Rattle.std.specs.List.Sorted.{IsPermutation, IsSorted};
 ghost use Rattle.fact_store.specs.View.{cells_of};
@@ -31,6 +31,20 @@ pub fn end_ports(alloc: Global, store: &Store) -> Result<Vec<EndPort>, Refused>
     ensures { IfOk result (λ ports. ports.items ≡ end_ports (cells_of store.now)) }
 {
     Ok(listed_end_ports(alloc, store)?)
+}
+
+/// How many end ports there are. Takes no memory, and walks the cells: all of them count but those that
+/// are no end port's.
+pub fn count_end_ports(store: &Store) -> usize
+    ensures { result ≡ length (end_ports (cells_of store.now)) }
+{
+    let mut count = store.count();
+    for sighting in store.cells() {
+        if guid_and_port(store, &sighting).is_none() {
+            count -= 1;
+        }
+    }
+    count
 }
 
 /// The same, with the allocator's own refusal.

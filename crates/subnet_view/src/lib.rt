@@ -7,7 +7,7 @@ mod reading;
 mod switch;
 mod wire_end;
 
-pub use end_port::{EndPort, end_ports, is_end_port};
+pub use end_port::{EndPort, count_end_ports, end_ports, is_end_port};
 pub use reading::{cap, claim, port_guid};
-pub use switch::{is_usable, switches};
+pub use switch::{is_usable, switches, usable_guid};
 pub use wire_end::{attached, wire};

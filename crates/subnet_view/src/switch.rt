@@ -34,8 +34,8 @@ fn listed_switches(alloc: Global, store: &Store) -> Result<Vec<Guid>, AllocError
     Ok(found)
 }
 
-/// The node of a cell, where it is a usable switch.
-fn usable_guid(store: &Store, sighting: &Sighting) -> Option<Guid>
+/// The node of a cell, where it is a usable switch. Takes two searches.
+pub fn usable_guid(store: &Store, sighting: &Sighting) -> Option<Guid>
     ensures { result ≡ usable_guid (cells_of store.now) sighting.now }
 {
     match sighting.key() {

@@ -2,7 +2,7 @@
 use super::swept::told;
 use super::*;
 use fact_store::{Key, Store, Value};
-use lid_assign::{LidFault, LidMap, assign};
+use lid_assign::{LidFault, LidMap, NoRoom, assign};
 use smp_bytes::{Guid, Lid, PortNum};
 use subnet_view::EndPort;
 
@@ -57,7 +57,7 @@ fn claims_are_kept_and_the_rest_given(rt: HostRuntime) -> Result<(), Fail> {
 
 #[test]
 fn lids_want_room_and_end_ports(rt: HostRuntime) -> Result<(), Fail> {
-    let no_room = |room| LidFault::NoRoom { endports: 5, room };
+    let no_room = |room| LidFault::NoRoom(NoRoom { endports: 5, room });
     for room in [0, 1, 5] {
         let store = told(rt.alloc(), &[cap(0x20, room)])?;
         let fault = assign(rt.alloc(), &store).err();

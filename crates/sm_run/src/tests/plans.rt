@@ -3,6 +3,7 @@ use super::swept::told;
 use super::*;
 use fact_store::{Key, Store, Value};
 use lft_blocks::{Plan, PlanFault, write_plan};
+use lid_assign::NoRoom;
 use record_file::WriteFault;
 use smp_bytes::{Guid, Lid, PortNum};
 use std::alloc::AllocError;
@@ -115,7 +116,7 @@ fn nothing_has_an_empty_plan(rt: HostRuntime) -> Result<(), Fail> {
 
 #[test]
 fn plans_want_room_for_the_lids(rt: HostRuntime) -> Result<(), Fail> {
-    let no_room = |room| Some(PlanFault::NoRoom { endports: 5, room });
+    let no_room = |room| Some(PlanFault::NoRoom(NoRoom { endports: 5, room }));
     for (room, wanted) in [(1, no_room(1)), (5, no_room(5)), (6, None)] {
         assert!(rt; fault_of(rt.alloc(), room)? == wanted, "{room}");
     }

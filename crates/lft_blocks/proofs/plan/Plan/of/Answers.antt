@@ -1,6 +1,7 @@
 use Rattle.std.proofs.Common.{ap, sym, subst, ◌∙◌}
 use Rattle.fact_store.specs.View.{cells_of}
 use Rattle.lid_assign.specs.Lids.{top_of}
+use Rattle.lid_assign.proofs.LackOfRoom.{has_room}
 use Rattle.updown_routes.specs.Ranks.{slopes_of}
 use Rattle.lft_blocks.specs.Entries.{home_of_lid, block_count}
 use Rattle.lft_blocks.specs.Arrival.{EveryPacketArrives}
@@ -32,4 +33,4 @@ returns-clause-plan c =
 pub returns-clause-arrives : goal.returns-clause-arrives
 returns-clause-arrives c =
     let facts = c.args.store.now in
-    subst (λ (plan : PlanValue). EveryPacketArrives (cells_of facts) plan) (sym (returns-clause-plan c)) (every_packet_arrives facts c.in_ok-lids.ensures.judged)
+    subst (λ (plan : PlanValue). EveryPacketArrives (cells_of facts) plan) (sym (returns-clause-plan c)) (every_packet_arrives facts (has_room (cells_of facts) c.in_ok-lids.ensures.judged))

@@ -1,0 +1,5 @@
+use Rattle.lid_assign.proofs.LackOfRoom.{no_room_law}
+use Rattle.lid_assign.proofs.laws.no_room_law.Goals as goal
+
+pub returns : goal.returns
+returns c = no_room_law

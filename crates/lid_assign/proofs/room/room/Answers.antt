@@ -1,0 +1,23 @@
+-- The least of the usable switches' table rooms.
+use Rattle.std.proofs.Common.{◌≡◌, ap, sym, ◌∙◌, subst, arith, min}
+use Rattle.std.specs.List.{filter_map}
+use Rattle.fact_store.specs.View.{cells_of}
+use Rattle.fact_store.specs.Walk.{cells_left}
+use Rattle.lid_assign.specs.Lids.{least_room}
+use Rattle.lid_assign.specs.Rooms.{usable_cap}
+use Rattle.lid_assign.proofs.FreeLids.{at_most}
+use Rattle.lid_assign.proofs.LackOfRoom.{room_walked}
+use Rattle.lid_assign.proofs.room.room.Goals as goal
+
+pub loop-sighting-init : goal.loop-sighting-init
+loop-sighting-init c =
+    let cells = cells_of c.args.store.now in
+    let left = ap cells_left c.into_iter-sighting-iterator.ensures.into_iter_gives ∙ c.cells-sighting-items.ensures.cells in
+    let least = ap (λ xs. least_room (filter_map (usable_cap cells) xs)) left in
+    (omega arith, omega (arith, least, at_most (filter_map (usable_cap cells) cells)))
+
+pub returns : goal.returns
+returns c =
+    let cells = cells_of c.args.store.now in
+    let least = ap (λ xs. least_room (filter_map (usable_cap cells) xs)) c.in-None.ensures.steps.0 in
+    omega (arith, c.loop-sighting.invariant.0, c.loop-sighting.invariant.1, least, room_walked cells)

@@ -1,0 +1,13 @@
+use Rattle.std.proofs.Common.{◌≡◌, ◌≤◌, min}
+use Rattle.fact_store.specs.View.{cells_of}
+use Rattle.std.specs.List.{filter_map}
+use Rattle.fact_store.specs.Walk.{cells_left}
+use Rattle.lid_assign.specs.Lids.{least_room}
+use Rattle.lid_assign.specs.Rooms.{usable_cap}
+use Rattle.lid_assign.proofs.room.room.Given as goal
+
+-- the least so far, and the least of the rest
+abbrev pub invariant-loop-sighting : goal.invariant-loop-sighting
+invariant-loop-sighting l = (l.least ≤ 0xC000)
+    × (min l.least (least_room (filter_map (usable_cap (cells_of l.store)) (cells_left l.sighting-iterator)))
+        ≡ least_room (filter_map (usable_cap (cells_of l.store)) (cells_of l.store)))

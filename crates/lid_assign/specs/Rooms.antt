@@ -1,0 +1,15 @@
+-- The table rooms of usable switches, as a walk of the cells finds them.
+use Rattle.std.specs.Prelude.{ℕ, Option, None, Some}
+use Rattle.std.specs.List.{filter_map}
+use Rattle.fact_join.specs.declared.cell.Cell.{Cell}
+use Rattle.fact_store.specs.declared.key.Key.{Key}
+use Rattle.fact_store.specs.declared.value.Value.{Value}
+use Rattle.subnet_view.specs.Reading.{Cells, cap_of, usable_guid}
+
+abbrev pub cap_if : Cells → Option ℕ → Option ℕ
+cap_if cells None = None
+cap_if cells (Some guid) = cap_of cells guid
+
+-- the table room of a cell's node, where that is a usable switch
+abbrev pub usable_cap : Cells → Key × Cell Value → Option ℕ
+usable_cap cells cell = cap_if cells (usable_guid cells cell)
