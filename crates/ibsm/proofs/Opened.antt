@@ -1,7 +1,8 @@
 -- Files that are opened one after another.
-use Rattle.std.proofs.Common.{◌≡◌, ℕ, ◌+◌, ◌<◌, ◌≤◌, Bool, true, false, List, [], ◌∷◌, ◌++◌, Option, Some, Result, Ok, Err, length, length-append, refl, sym, ap, ◌∙◌, subst, inl, inr, arith}
+use Rattle.std.proofs.Common.{◌≡◌, ℕ, ◌+◌, ◌<◌, ◌≤◌, Bool, true, false, List, [], ◌∷◌, ◌++◌, Option, Some, Result, Ok, Err, length, length-append, get_or, refl, sym, ap, ◌∙◌, subst, inl, inr, arith}
 use Rattle.std.proofs.lemmas.Bool.{ltb-true, ltb-false}
-use Rattle.std.specs.Prelude.{nat_lt, slice_get}
+use Rattle.std.proofs.lemmas.Option.{slice_get-get_or}
+use Rattle.std.specs.Prelude.{is_err, is_ok, nat_lt, slice_get, if◌then◌else◌}
 use Rattle.std.specs.Borrow.{Bor}
 use Rattle.sm_cli.proofs.Runs.{front_of_more, last_of_more}
 use Rattle.ibsm.specs.Opening.{AreOpened, AreThere, IsThere, WasRefusedMemory}
@@ -55,24 +56,37 @@ held_more {S} answers names true place files name file at opened held = record {
 }
 
 -- one more was opened
-pub opened_more : {S : Type 0} (answers : List ℕ → Result S OpenFault → Type 0) (names : List (Bor (List ℕ))) (has_memory : Bool) (place : ℕ) (files files' : List S)
-    (name : Bor (List ℕ)) (file : S) → slice_get names place ≡ Some name → answers name.now (Ok file) → files' ≡ files ++ file ∷ []
-    → HaveAsked answers names has_memory place files → HaveAsked answers names has_memory (place + 1) files'
-opened_more {S} answers names has_memory place files files' name file at opened e h = record {
-  there = there_more answers names place name at h.there (inl (file, opened));
-  held = let Held : List S → Type 0 = λ fs. AreHeld answers names has_memory (place + 1) fs in
-      subst Held (sym e) (held_more answers names has_memory place files name file at opened h.held);
-}
+pub opened_more : {S : Type 0} (answers : List ℕ → Result S OpenFault → Type 0) (names : List (Bor (List ℕ))) (has_memory has_memory' : Bool) (place : ℕ) (files files' : List S)
+    (d : Bor (List ℕ)) (file : S) → place < length names → has_memory' ≡ has_memory → answers (get_or names place d).now (Ok file) → files' ≡ files ++ file ∷ []
+    → HaveAsked answers names has_memory place files → HaveAsked answers names has_memory' (place + 1) files'
+opened_more {S} answers names has_memory has_memory' place files files' d file within e opened f h =
+    let at : slice_get names place ≡ Some (get_or names place d) = slice_get-get_or names place d within in
+    let Held : Bool → Type 0 = λ b. AreHeld answers names b (place + 1) files' in
+    let More : List S → Type 0 = λ fs. AreHeld answers names has_memory (place + 1) fs in
+    record {
+      there = there_more answers names place (get_or names place d) at h.there (inl (file, opened));
+      held = subst Held (sym e) (subst More (sym f) (held_more answers names has_memory place files (get_or names place d) file at opened h.held));
+    }
 
 -- or memory was refused for one more
-pub refused_more : {S : Type 0} (answers : List ℕ → Result S OpenFault → Type 0) (names : List (Bor (List ℕ))) (has_memory : Bool) (place : ℕ) (files files' : List S)
-    (name : Bor (List ℕ)) → slice_get names place ≡ Some name → answers name.now (Err Memory)
-    → HaveAsked answers names has_memory place files → HaveAsked answers names false (place + 1) files'
-refused_more answers names has_memory place files files' name at refused h = record {
-  there = there_more answers names place name at h.there (inr refused);
-  held = record { place = place; name = name; there = at; refused = refused };
-}
+pub refused_more : {S : Type 0} (answers : List ℕ → Result S OpenFault → Type 0) (names : List (Bor (List ℕ))) (has_memory has_memory' : Bool) (place : ℕ) (files files' : List S)
+    (d : Bor (List ℕ)) (fault : OpenFault) → place < length names → has_memory' ≡ false → fault ≡ Memory → answers (get_or names place d).now (Err fault)
+    → HaveAsked answers names has_memory place files → HaveAsked answers names has_memory' (place + 1) files'
+refused_more {S} answers names has_memory has_memory' place files files' d fault within e f refused h =
+    let at : slice_get names place ≡ Some (get_or names place d) = slice_get-get_or names place d within in
+    let Held : Bool → Type 0 = λ b. AreHeld answers names b (place + 1) files' in
+    let Answered : OpenFault → Type 0 = λ x. answers (get_or names place d).now (Err x) in
+    let memory : answers (get_or names place d).now (Err Memory) = subst Answered f refused in
+    record {
+      there = there_more answers names place (get_or names place d) at h.there (inr memory);
+      held = subst Held (sym e) (record { place = place; name = get_or names place d; there = at; refused = memory });
+    }
 
 pub all_opened : {S : Type 0} (answers : List ℕ → Result S OpenFault → Type 0) (names : List (Bor (List ℕ))) (files : List S)
     → HaveAsked answers names true (length names) files → AreOpened answers names files
 all_opened answers names files h = record { one_each = h.held.one_each; opened = h.held.opened }
+
+-- an element was pushed
+pub pushed : {X E : Type 0} (r : Result (Unit {0}) E) (xs ys : List X) (x : X) → ys ≡ (if is_ok r then xs ++ x ∷ [] else xs) → is_err r ≡ false → ys ≡ xs ++ x ∷ []
+pushed (Ok u) xs ys x e h = e
+pushed (Err fault) xs ys x e h = absurd (cc)

@@ -48,9 +48,9 @@ impl<R: Files + AllocGlobal> Opener for R {
         let Ok(reader) = BufReader::new(self.alloc(), file) else {
             return Err(OpenFault::Memory);
         };
-        match files.push(FromRead::new(reader)) {
-            Ok(()) => Ok(()),
-            Err(_) => Err(OpenFault::Memory),
+        if files.push(FromRead::new(reader)).is_err() {
+            return Err(OpenFault::Memory);
         }
+        Ok(())
     }
 }
