@@ -1,5 +1,6 @@
 //! Texts of schedules, and what is wrong with others.
 use super::*;
+use crate::first_fault::first_fault;
 use smp_bytes::{Lid, NodePort, PortNum};
 use std::alloc::Global;
 use std::test::Fail;
@@ -202,6 +203,23 @@ fn seats_and_long_texts(rt: HostRuntime) -> Result<(), Fail> {
     }
     for (sweeps, wanted) in [(0, (2, 2)), (1000, (2, 1002))] {
         assert!(rt; counts(rt.alloc(), sweeps)? == wanted);
+    }
+    Ok(())
+}
+
+#[test]
+fn faults_are_found_with_no_memory(rt: HostRuntime) -> Result<(), Fail> {
+    let fabric = topo_file::parse(rt.alloc(), FABRIC)?;
+    for (text, wanted) in [
+        ("manager A \"H1\"[1] 1\nsweep A\n", None),
+        ("sweep A", Some(ScheduleFault::Name { line: 1 })),
+        ("# no\nmanager A", Some(ScheduleFault::Syntax { line: 2 })),
+        (
+            "manager A \"H1\"[1] 1\nmanager B \"H1\"[1] 1",
+            Some(ScheduleFault::Seat { line: 2 }),
+        ),
+    ] {
+        assert!(rt; first_fault(&fabric, text.as_bytes()) == wanted, "{text}");
     }
     Ok(())
 }
