@@ -6,7 +6,9 @@ use Rattle.std.specs.Io.KnownBytes.{Appends}
 use Rattle.record_file.specs.Writes.{Writes}
 use Rattle.record_file.specs.declared.stream.sink.WriteFault.{WriteFault}
 use Rattle.record_file.proofs.Writing.{appends_then}
-use Rattle.sm_run.specs.Stops.{HasGrown}
+use Rattle.sm_run.specs.Stops.{HasGrown, StopsFor}
+use Rattle.sm_run.specs.declared.run_fault.RunFault.{RunFault}
+use Rattle.sm_run.specs.declared.run_fault.RunFault.TheVariants.{Write, Memory}
 
 appends_none : (o : Option (List ℕ)) → Appends o o []
 appends_none None = tt
@@ -33,3 +35,18 @@ not_failed true u h = let e : IsErr (ok_of u) = h.1 refl in absurd (cc)
 pub wrote : {W : Type 0} (written : W → Option (List ℕ)) (has_failed : W → Bool) (u : Unit {0}) (old new : W) (text : List ℕ)
     → Writes written has_failed (Ok u) old new text → HasGrown written has_failed old new
 wrote written has_failed u old new text h = record { text = text; grown = h.ok; works = λ e. not_failed (has_failed new) u h.failed }
+
+-- one call, and then another that stops or goes on
+pub stops_then : {W T : Type 0} (written : W → Option (List ℕ)) (has_failed : W → Bool) (result : Result T RunFault) (old mid new : W)
+    → HasGrown written has_failed old mid → StopsFor written has_failed result mid new → StopsFor written has_failed result old new
+stops_then written has_failed (Ok value) old mid new a b = grown_then written has_failed old mid new a b
+stops_then written has_failed (Err Memory) old mid new a b = grown_then written has_failed old mid new a b
+stops_then written has_failed (Err Write) old mid new a b = b
+
+-- the fault of a call, as that of the call around it
+abbrev pub failed_with : RunFault → Result (Unit {0}) RunFault
+failed_with fault = Err fault
+
+pub fails_then : {W : Type 0} (written : W → Option (List ℕ)) (has_failed : W → Bool) (fault : RunFault) (old mid new : W)
+    → HasGrown written has_failed old mid → StopsFor written has_failed (failed_with fault) mid new → StopsFor written has_failed (failed_with fault) old new
+fails_then written has_failed fault old mid new a b = stops_then written has_failed (failed_with fault) old mid new a b

@@ -1,7 +1,7 @@
 //! The commands about packets in flight.
 ghost use Rattle.std.specs.Prelude.{◌≡◌, length};
 ghost use Rattle.sm_run.specs.Stops.{StopsFor};
-ghost use Rattle.sm_run.specs.Flights.{serial_of};
+ghost use Rattle.sm_run.specs.Flights.{serial_of, without};
 
 use crate::lines::write_flight;
 use crate::refusals::{refuse_fabric, refuse_manager};
@@ -28,7 +28,8 @@ impl World<'_> {
 
     /// A packet in flight is lost.
     pub(crate) fn lose<W: Sink>(&mut self, which: Which, sink: &mut W) -> Result<(), RunFault>
-        ensures managers { length self.new.managers.items ≡ length self.old.managers.items }
+        ensures fabric { self.new.fabric ≡ without self.old.fabric (serial_of self.old.fabric.flights which) }
+        ensures managers { self.new.managers ≡ self.old.managers }
         ensures stops { StopsFor W.written W.has_failed result sink.old sink.new }
     {
         let Some(serial) = serial(&self.fabric, which) else {
@@ -42,7 +43,7 @@ impl World<'_> {
 
     /// A packet in flight is there once more.
     pub(crate) fn repeat<W: Sink>(&mut self, which: Which, sink: &mut W) -> Result<(), RunFault>
-        ensures managers { length self.new.managers.items ≡ length self.old.managers.items }
+        ensures managers { self.new.managers ≡ self.old.managers }
         ensures stops { StopsFor W.written W.has_failed result sink.old sink.new }
     {
         let Some(serial) = serial(&self.fabric, which) else {
@@ -55,6 +56,7 @@ impl World<'_> {
     }
 
     /// The packet of the least serial number takes a step, at most so many times.
+    #[tactic(auto, using(crate::proofs::Growth::grown_then, crate::proofs::Growth::stops_then))]
     pub(crate) fn drain<W: Sink>(&mut self, most: u32, sink: &mut W) -> Result<(), RunFault>
         ensures managers { length self.new.managers.items ≡ length self.old.managers.items }
         ensures stops { StopsFor W.written W.has_failed result sink.old sink.new }
@@ -70,6 +72,7 @@ impl World<'_> {
     }
 
     /// Prints the packets in flight, by rising serial number.
+    #[tactic(auto, using(crate::proofs::Growth::grown_then, crate::proofs::Growth::wrote, crate::proofs::Growth::stops_then))]
     pub(crate) fn show_flight<W: Sink>(
         &self,
         topology: &Topology,
@@ -98,6 +101,7 @@ impl World<'_> {
 
     /// The manager at a port takes a packet in, and what it queues then goes out. Where none sits
     /// the packet is dropped.
+    #[tactic(auto, using(crate::proofs::Growth::grown_then, crate::proofs::Growth::stops_then))]
     fn hand_up<W: Sink>(
         &mut self,
         port: &NodePort,

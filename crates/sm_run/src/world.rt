@@ -81,6 +81,7 @@ impl<'s> World<'s> {
 }
 
 /// All that a manager at a port has queued goes out, in its order.
+#[tactic(auto, using(crate::proofs::Growth::grown_then, crate::proofs::Growth::stops_then))]
 fn send_queued<W: Sink>(
     fabric: &mut Fabric,
     from: &NodePort,

@@ -120,8 +120,9 @@ plan A
 sweep A
 drain 10000
 plan A
+write A
 "#,
-        "refused NoRoom\n",
+        "refused NoRoom\nrefused NoRoom\n",
     ),
 ];
 
