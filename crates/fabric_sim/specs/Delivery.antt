@@ -1,6 +1,6 @@
 -- One delivery: what becomes of a packet at the place where it waits.
 -- InfiniBand Architecture Specification, Volume 1: subnet management, directed routes; switches, unicast forwarding.
-use Rattle.std.specs.Prelude.{ℕ, ◌+◌, ◌^◌, Bool, ◌&&◌, ◌||◌, not, List, [], ◌∷◌, ◌++◌, slice_get, slice_set, ◌==◌, if◌then◌else◌, Option, Some, None, is_some, is_none, Result, Ok, Err}
+use Rattle.std.specs.Prelude.{◌≡◌, ℕ, ◌+◌, ◌^◌, Bool, ◌&&◌, ◌||◌, not, List, [], ◌∷◌, ◌++◌, slice_get, slice_set, ◌==◌, if◌then◌else◌, Option, Some, None, is_some, is_none, Result, Ok, Err, IsOk}
 use Rattle.std.specs.Option.{option_map_or}
 use Rattle.smp_bytes.specs.declared.cable.NodePort.{NodePort}
 use Rattle.smp_bytes.specs.declared.course.Course.{Course}
@@ -29,7 +29,7 @@ use Rattle.fabric_sim.specs.declared.delivered.Delivered.TheVariants as delivere
 use Rattle.fabric_sim.specs.declared.outcome.Outcome.{Outcome}
 use Rattle.fabric_sim.specs.declared.outcome.Outcome.TheVariants.{Moves, Asks, HandsUp, Drops}
 use Rattle.fabric_sim.specs.declared.fault.FabricFault.{FabricFault}
-use Rattle.fabric_sim.specs.declared.fault.FabricFault.TheVariants.{NoSuchPacket, SerialsSpent}
+use Rattle.fabric_sim.specs.declared.fault.FabricFault.TheVariants.{Memory, NoSuchPacket, SerialsSpent}
 use Rattle.fabric_sim.specs.Simulation.{Simulation, agent_at, port_count, is_seat_at, across, fabric_of, port_of, is_at_seat, is_by_wire, answer_place, flight_with, without_flight, with_moved, CanWait}
 
 -- where the packet goes ---------------------------------------------------------------------
@@ -113,6 +113,12 @@ CanFare s (Drops reason) = Unit {0}
 pub record Called (R : Type 0) : Type 0 where
   pub fabric : Simulation
   pub result : Result R FabricFault
+
+-- a call has come to this, but for want of memory: that is answered only where it is not refused, and leaves everything
+-- as it is
+abbrev pub ComesTo : {R : Type 0} → Result R FabricFault → Simulation → Simulation → Called R → Type 0
+ComesTo (Err Memory) old new called = (new ≡ old) × IsOk called.result
+ComesTo result old new called = (new ≡ called.fabric) × (result ≡ called.result)
 
 -- a refusal leaves everything as it is
 abbrev pub refused : {R : Type 0} → Simulation → FabricFault → Called R

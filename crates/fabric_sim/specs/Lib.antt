@@ -7,3 +7,4 @@ pub mod ThereAndBack
 pub mod Ping
 pub mod SeenFabric
 pub mod Tells
+pub mod FabricFault

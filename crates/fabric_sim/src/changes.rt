@@ -1,7 +1,7 @@
-ghost use Rattle.std.specs.Prelude.{◌≡◌, ◌≢◌, Err};
+ghost use Rattle.std.specs.Prelude.{◌≡◌};
 ghost use Rattle.fabric_sim.specs.Simulation.{is_cable_port};
 ghost use Rattle.fabric_sim.specs.Changes.{addressed, injected, repeated, lost, manager_seated};
-ghost use Rattle.fabric_sim.specs.declared.fault.FabricFault.TheVariants.{Memory};
+ghost use Rattle.fabric_sim.specs.Delivery.{ComesTo};
 
 use crate::fabric::Fabric;
 use crate::fault::FabricFault;
@@ -44,9 +44,7 @@ impl Fabric {
     /// `NoSuchPort` where no manager sits there, `SerialsSpent`, and `Memory`.
     #[tactic(auto, unfolding(crate::specs::Changes::injected))]
     pub fn inject(&mut self, from: NodePort, packet: Packet) -> Result<u64, FabricFault>
-        ensures fabric { result ≢ Err Memory → self.new ≡ (injected self.old from packet).fabric }
-        ensures result { result ≢ Err Memory → result ≡ (injected self.old from packet).result }
-        ensures memory { result ≡ Err Memory → self.new ≡ self.old }
+        ensures { ComesTo result self.old self.new (injected self.old from packet) }
     {
         if !self.is_seat(&from) {
             return Err(FabricFault::NoSuchPort);
@@ -94,9 +92,7 @@ impl Fabric {
     /// `NoSuchPacket`, `SerialsSpent`, and `Memory`.
     #[tactic(auto, unfolding(crate::specs::Changes::repeated))]
     pub fn repeat(&mut self, serial: u64) -> Result<u64, FabricFault>
-        ensures fabric { result ≢ Err Memory → self.new ≡ (repeated self.old serial).fabric }
-        ensures result { result ≢ Err Memory → result ≡ (repeated self.old serial).result }
-        ensures memory { result ≡ Err Memory → self.new ≡ self.old }
+        ensures { ComesTo result self.old self.new (repeated self.old serial) }
     {
         let Some(i) = self.find(serial) else {
             return Err(FabricFault::NoSuchPacket);

@@ -1,3 +1,5 @@
+ghost use Rattle.std.specs.Prelude.{◌≡◌};
+
 use std::alloc::AllocError;
 use thiserror::Error;
 
@@ -19,4 +21,21 @@ pub enum FabricFault {
     /// A serial number is needed, and all are spent.
     #[error("SerialsSpent")]
     SerialsSpent,
+}
+
+impl FabricFault {
+    ghost use Rattle.fabric_sim.specs.FabricFault.{fabric_fault_name};
+
+    /// The name that `{}` writes.
+    pub fn name(self) -> &'static str
+        ensures { result.now ≡ fabric_fault_name self }
+    {
+        match self {
+            FabricFault::NoSuchPacket => "NoSuchPacket",
+            FabricFault::NoSuchPort => "NoSuchPort",
+            FabricFault::PortTaken => "PortTaken",
+            FabricFault::Memory => "Memory",
+            FabricFault::SerialsSpent => "SerialsSpent",
+        }
+    }
 }

@@ -1,7 +1,6 @@
-ghost use Rattle.std.specs.Prelude.{◌≡◌, ◌≢◌, Err};
+ghost use Rattle.std.specs.Prelude.{◌≡◌};
 ghost use Rattle.fabric_sim.specs.Simulation.{Finds, IsFlightAt, CanWait, answer_place};
-ghost use Rattle.fabric_sim.specs.Delivery.{brought, launched, moved_to, without};
-ghost use Rattle.fabric_sim.specs.declared.fault.FabricFault.TheVariants.{Memory};
+ghost use Rattle.fabric_sim.specs.Delivery.{ComesTo, brought, launched, moved_to, without};
 
 use crate::fabric::Fabric;
 use crate::fault::FabricFault;
@@ -33,9 +32,7 @@ impl Fabric {
     /// One packet more.
     pub(crate) fn launch(&mut self, place: Place, packet: Packet) -> Result<u64, FabricFault>
         requires { CanWait self.old place }
-        ensures fabric { result ≢ Err Memory → self.new ≡ (launched self.old place packet).fabric }
-        ensures result { result ≢ Err Memory → result ≡ (launched self.old place packet).result }
-        ensures memory { result ≡ Err Memory → self.new ≡ self.old }
+        ensures { ComesTo result self.old self.new (launched self.old place packet) }
     {
         let Some(serial) = self.next else {
             return Err(FabricFault::SerialsSpent);

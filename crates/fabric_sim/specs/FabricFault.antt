@@ -1,0 +1,11 @@
+-- The names of refusals.
+use Rattle.std.specs.Prelude.{ℕ, List, codes}
+use Rattle.fabric_sim.specs.declared.fault.FabricFault.{FabricFault}
+use Rattle.fabric_sim.specs.declared.fault.FabricFault.TheVariants.{NoSuchPacket, NoSuchPort, PortTaken, Memory, SerialsSpent}
+
+abbrev pub fabric_fault_name : FabricFault → List ℕ
+fabric_fault_name NoSuchPacket = codes "NoSuchPacket"
+fabric_fault_name NoSuchPort = codes "NoSuchPort"
+fabric_fault_name PortTaken = codes "PortTaken"
+fabric_fault_name Memory = codes "Memory"
+fabric_fault_name SerialsSpent = codes "SerialsSpent"
