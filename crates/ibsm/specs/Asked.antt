@@ -1,5 +1,6 @@
 -- What the command line asks for.
-use Rattle.std.specs.Prelude.{◌≡◌, ◌⊎◌, List, ℕ, Option, Some, codes, find, length, option_map, option_and_then, slice_get}
+use Rattle.std.specs.Prelude.{◌≡◌, Bool, List, [], ◌∷◌, ℕ, Option, Some, Result, codes, find, map, option_map, option_and_then, slice_get}
+use Rattle.std.specs.Borrow.{Bor}
 use Rattle.std.specs.Str.{bytes_eq}
 use Rattle.clap.specs.Matches.{subcommand_name_of}
 use Rattle.clap.specs.Simple.{subcommand_rows_of}
@@ -7,7 +8,8 @@ use Rattle.clap.specs.Walk.{Row}
 use Rattle.clap.specs.declared.parser.matches.ArgMatches.{ArgMatches}
 use Rattle.sm_cli.specs.declared.run.Command.{Command}
 use Rattle.sm_cli.specs.declared.run.Command.TheVariants.{Facts, Join, Plan}
-use Rattle.ibsm.specs.Ending.{AnswersFiles, AreRun}
+use Rattle.ibsm.specs.declared.opener.OpenFault.{OpenFault}
+use Rattle.ibsm.specs.Ending.{AnswersFiles, RunsFiles}
 
 -- the subcommand that asks for a command
 abbrev pub word_of : Command → List ℕ
@@ -23,19 +25,25 @@ values_in name rows = option_map (λ r. r.values) (find (λ r. bytes_eq r.id nam
 abbrev pub files_named : ArgMatches → Option (List (List ℕ))
 files_named matches = option_and_then (λ s. values_in (codes "FILE") s.1) (subcommand_rows_of matches)
 
--- the words ask for a command, and for as many files as were read and answered
-pub record AnswersWords (matches : ArgMatches) (written written' : Option (List ℕ)) : Type 0 where
+-- the words ask for a command, and the files that they name were read and answered
+pub record AnswersWords {S : Type 0} (answers : List ℕ → Result S OpenFault → Type 0) (left : S → Option (List ℕ)) (has_failed : S → Bool)
+    (matches : ArgMatches) (written written' : Option (List ℕ)) : Type 0 where
   pub command : Command
   pub asked : subcommand_name_of matches ≡ Some (word_of command)
-  pub names : List (List ℕ)
-  pub named : files_named matches ≡ Some names
-  pub answered : AnswersFiles command (length names) written written'
+  pub names : List (Bor (List ℕ))
+  pub named : files_named matches ≡ Some (map (λ name. name.now) names)
+  pub answered : AnswersFiles answers left has_failed command names written written'
 
 -- the file that is the argument with this name behind the subcommand
 abbrev pub file_named : List ℕ → ArgMatches → Option (List ℕ)
 file_named name matches = option_and_then (λ s. option_and_then (λ values. slice_get values 0) (values_in name s.1)) (subcommand_rows_of matches)
 
--- the words ask for a run of a schedule, and it was run
-pub record RunsWords (matches : ArgMatches) : Type 0 where
+-- the words ask for a run of a schedule, and those that they name were run
+pub record RunsWords {S : Type 0} (answers : List ℕ → Result S OpenFault → Type 0) (left : S → Option (List ℕ)) (has_failed : S → Bool)
+    (matches : ArgMatches) : Type 0 where
   pub asked : subcommand_name_of matches ≡ Some (codes "run")
-  pub run : AreRun
+  pub topology : Bor (List ℕ)
+  pub schedule : Bor (List ℕ)
+  pub topology_named : file_named (codes "TOPOLOGY") matches ≡ Some topology.now
+  pub schedule_named : file_named (codes "SCHEDULE") matches ≡ Some schedule.now
+  pub run : RunsFiles answers left has_failed (topology ∷ schedule ∷ [])

@@ -1,39 +1,65 @@
 -- How a run over files ends: its status, and the line on standard error that says why.
-use Rattle.std.specs.Prelude.{◌≡◌, ◌⊎◌, ◌<◌, Bool, List, [], ℕ, Option, Some, None, Ok, IsTrue, length, slice_get}
+use Rattle.std.specs.Prelude.{◌≡◌, ◌⊎◌, Bool, List, [], ◌∷◌, ℕ, Option, Some, None, Result, IsTrue, slice_get}
 use Rattle.std.specs.Io.KnownBytes.{Appends}
 use Rattle.std.specs.Borrow.{Bor}
-use Rattle.record_file.specs.RecordFile.{outcome}
 use Rattle.sm_cli.specs.FaultText.{fault_text, program_line}
 use Rattle.sm_cli.specs.ExitStatus.{status_of}
-use Rattle.sm_cli.specs.Run.{IsAnswered, answer_to, facts_of}
-use Rattle.sm_run.specs.Run.{input_fault}
+use Rattle.sm_cli.specs.Run.{HasAnswered, IsFaultOf}
+use Rattle.sm_run.specs.Run.{HasRun, IsRunFault}
 use Rattle.sm_cli.specs.declared.fault.Fault.{Fault}
 use Rattle.sm_cli.specs.declared.fault.Fault.TheVariants.{Open, File, Text, NoRoom, Write, Memory}
 use Rattle.sm_cli.specs.declared.exit_status.ExitStatus.{ExitStatus}
 use Rattle.sm_cli.specs.declared.run.Command.{Command}
+use Rattle.ibsm.specs.declared.opener.OpenFault.{OpenFault}
+use Rattle.ibsm.specs.Opening.{AreOpened, IsOpenFault}
 
--- there were as many files, each accepted, and what they say together was written
-pub record AnswersFiles (command : Command) (count : ℕ) (written written' : Option (List ℕ)) : Type 0 where
-  pub files : List (List ℕ)
-  pub one_each : length files ≡ count
-  pub accepted : (place : ℕ) (file : List ℕ) → slice_get files place ≡ Some file → outcome file ≡ Ok tt
-  pub can_be : IsAnswered command (facts_of files)
-  pub answered : Appends written written' (answer_to command (facts_of files))
+-- the files with these names were opened and read, and what they say together was written
+pub record AnswersFiles {S : Type 0} (answers : List ℕ → Result S OpenFault → Type 0) (left : S → Option (List ℕ)) (has_failed : S → Bool)
+    (command : Command) (names : List (Bor (List ℕ))) (written written' : Option (List ℕ)) : Type 0 where
+  pub olds : List S
+  pub news : List S
+  pub opened : AreOpened answers names olds
+  pub answered : HasAnswered left has_failed command olds news written written'
 
--- there was the text of a topology and that of a schedule, and they have no fault
-pub record AreRun : Type 0 where
-  pub topology : List ℕ
-  pub schedule : List ℕ
-  pub sound : input_fault topology schedule ≡ None
+-- they were opened, and a run over them ends with the fault
+pub record FailsOverFiles {S : Type 0} (answers : List ℕ → Result S OpenFault → Type 0) (left : S → Option (List ℕ)) (has_failed : S → Bool)
+    (interruptions : S → ℕ) (command : Command) (names : List (Bor (List ℕ))) (output_failed : Bool) (fault : Fault) : Type 0 where
+  pub olds : List S
+  pub news : List S
+  pub opened : AreOpened answers names olds
+  pub fails : IsFaultOf left has_failed interruptions command olds news output_failed fault
 
--- a fault speaks of one of so many files, or of the output that has failed, or of memory
-abbrev pub IsFaultAmong : ℕ → Bool → Fault → Type 0
-IsFaultAmong count output_failed (Open place) = place < count
-IsFaultAmong count output_failed (File place fault) = place < count
-IsFaultAmong count output_failed (Text place fault) = place < count
-IsFaultAmong count output_failed (NoRoom endports room) = Unit {0}
-IsFaultAmong count output_failed Write = IsTrue output_failed
-IsFaultAmong count output_failed Memory = Unit {0}
+-- why the files with these names are not answered: they are not open, or a run over them ends early
+abbrev pub IsAnswersFault : {S : Type 0} → (List ℕ → Result S OpenFault → Type 0) → (S → Option (List ℕ)) → (S → Bool) → (S → ℕ)
+    → Command → List (Bor (List ℕ)) → Bool → Fault → Type 0
+IsAnswersFault answers left has_failed interruptions command names output_failed fault =
+    IsOpenFault answers names fault ⊎ FailsOverFiles answers left has_failed interruptions command names output_failed fault
+
+-- the files with both names were opened and read, and what they say was run
+pub record RunsFiles {S : Type 0} (answers : List ℕ → Result S OpenFault → Type 0) (left : S → Option (List ℕ)) (has_failed : S → Bool)
+    (names : List (Bor (List ℕ))) : Type 0 where
+  pub topology : S
+  pub topology' : S
+  pub schedule : S
+  pub schedule' : S
+  pub opened : AreOpened answers names (topology ∷ schedule ∷ [])
+  pub run : HasRun left has_failed left has_failed topology topology' schedule schedule'
+
+-- they were opened, and the run of them ends with the fault
+pub record FailsToRunFiles {S : Type 0} (answers : List ℕ → Result S OpenFault → Type 0) (left : S → Option (List ℕ)) (has_failed : S → Bool)
+    (interruptions : S → ℕ) (names : List (Bor (List ℕ))) (output_failed : Bool) (fault : Fault) : Type 0 where
+  pub topology : S
+  pub topology' : S
+  pub schedule : S
+  pub schedule' : S
+  pub opened : AreOpened answers names (topology ∷ schedule ∷ [])
+  pub fails : IsRunFault left has_failed interruptions left has_failed interruptions topology topology' schedule schedule' output_failed fault
+
+-- why the files with both names are not run: they are not open, or the run of them ends early
+abbrev pub IsRunsFault : {S : Type 0} → (List ℕ → Result S OpenFault → Type 0) → (S → Option (List ℕ)) → (S → Bool) → (S → ℕ)
+    → List (Bor (List ℕ)) → Bool → Fault → Type 0
+IsRunsFault answers left has_failed interruptions names output_failed fault =
+    IsOpenFault answers names fault ⊎ FailsToRunFiles answers left has_failed interruptions names output_failed fault
 
 -- the name of a file, and nothing where there is no file of that place
 abbrev pub name_at : Option (Bor (List ℕ)) → List ℕ
@@ -57,9 +83,10 @@ fault_line names fault = program_line (fault_text (name_of names fault) fault)
 abbrev pub IsSaid : Option (List ℕ) → Option (List ℕ) → Bool → List ℕ → Type 0
 IsSaid errors errors' has_failed line = IsTrue has_failed ⊎ Appends errors errors' line
 
--- a run over the files with these names ends with the status of a fault, which is said on standard error
-pub record SaysWhy (names : List (Bor (List ℕ))) (status : ExitStatus) (output_failed : Bool) (errors errors' : Option (List ℕ)) (errors_failed : Bool) : Type 0 where
+-- a run over the files with these names ends with the status of a fault that it has, which is said on standard error
+pub record SaysWhy (names : List (Bor (List ℕ))) (IsFault : Fault → Type 0) (status : ExitStatus) (errors errors' : Option (List ℕ))
+    (errors_failed : Bool) : Type 0 where
   pub fault : Fault
-  pub among : IsFaultAmong (length names) output_failed fault
+  pub why : IsFault fault
   pub ends : status ≡ status_of fault
   pub said : IsSaid errors errors' errors_failed (fault_line names fault)

@@ -1,16 +1,18 @@
 //! The subcommands that read files.
 ghost use Rattle.std.specs.Prelude.{◌≡◌, ◌⊎◌, Err, length, IfOk, IfErr, OnOk, OnErr, IsTrue};
 ghost use Rattle.sm_cli.specs.ExitStatus.{status_of};
-ghost use Rattle.ibsm.specs.Ending.{AnswersFiles, AreRun, IsFaultAmong, IsSaid, SaysWhy, fault_line, name_of};
+ghost use Rattle.ibsm.specs.Ending.{AnswersFiles, IsAnswersFault, IsRunsFault, IsSaid, RunsFiles, SaysWhy};
+ghost use Rattle.ibsm.specs.Ending.{fault_line, name_of};
+ghost use Rattle.ibsm.specs.Opening.{AreOpened, IsOpenFault};
 
-use record_file::{FromRead, Sink, ToWrite};
+use crate::opener::{OpenFault, Opener};
+use record_file::{Sink, ToWrite};
 use sm_cli::{Command, ExitStatus, Fault, run_files, write_fault};
 use sm_run::run_schedule;
-use std::io::{BufReader, Write};
-use std::rt::Files;
-use std::{fs, io};
+use std::io::Write;
 
 /// Does what the command asks for with the files of these names, and says on `errors` why it cannot.
+/// All are opened before the first is read.
 pub(crate) fn answer_or_explain<R, O, E>(
     rt: &R,
     command: Command,
@@ -19,15 +21,19 @@ pub(crate) fn answer_or_explain<R, O, E>(
     errors: &mut ToWrite<E>,
 ) -> ExitStatus
 where
-    R: Files + AllocGlobal,
+    R: Opener + AllocGlobal,
     O: Write,
     E: Write,
-    ensures done { result ≡ ExitStatus.Done → AnswersFiles command (length names.now)
+    ensures done { result ≡ ExitStatus.Done → AnswersFiles (R.answers rt.now)
+        R.Opened.left R.Opened.has_failed command names.now
         (⟦<ToWrite<O> as Sink>⟧.written output.old) (⟦<ToWrite<O> as Sink>⟧.written output.new) }
     ensures flushed { result ≡ ExitStatus.Done → IsTrue (⟦<ToWrite<O> as Sink>⟧.is_flushed output.new) }
     ensures silent { result ≡ ExitStatus.Done → errors.new ≡ errors.old }
-    ensures says_why { (result ≡ ExitStatus.Done) ⊎ SaysWhy names.now result (⟦<ToWrite<O> as Sink>⟧.has_failed output.new)
-        (⟦<ToWrite<E> as Sink>⟧.written errors.old) (⟦<ToWrite<E> as Sink>⟧.written errors.new) (⟦<ToWrite<E> as Sink>⟧.has_failed errors.new) }
+    ensures says_why { (result ≡ ExitStatus.Done) ⊎ SaysWhy names.now
+        (IsAnswersFault (R.answers rt.now) R.Opened.left R.Opened.has_failed R.Opened.interruptions
+        command names.now (⟦<ToWrite<O> as Sink>⟧.has_failed output.new))
+        result (⟦<ToWrite<E> as Sink>⟧.written errors.old)
+        (⟦<ToWrite<E> as Sink>⟧.written errors.new) (⟦<ToWrite<E> as Sink>⟧.has_failed errors.new) }
     ensures nothing_written { (result ≡ ExitStatus.Done)
         ⊎ IsTrue (⟦<ToWrite<O> as Sink>⟧.has_failed output.new) ⊎ (output.new ≡ output.old) }
 {
@@ -46,15 +52,19 @@ pub(crate) fn run_or_explain<R, O, E>(
     errors: &mut ToWrite<E>,
 ) -> ExitStatus
 where
-    R: Files + AllocGlobal,
+    R: Opener + AllocGlobal,
     O: Write,
     E: Write,
     requires { length names.now ≡ 2 }
-    ensures done { result ≡ ExitStatus.Done → AreRun }
+    ensures done { result ≡ ExitStatus.Done → RunsFiles (R.answers rt.now)
+        R.Opened.left R.Opened.has_failed names.now }
     ensures flushed { result ≡ ExitStatus.Done → IsTrue (⟦<ToWrite<O> as Sink>⟧.is_flushed output.new) }
     ensures silent { result ≡ ExitStatus.Done → errors.new ≡ errors.old }
-    ensures says_why { (result ≡ ExitStatus.Done) ⊎ SaysWhy names.now result (⟦<ToWrite<O> as Sink>⟧.has_failed output.new)
-        (⟦<ToWrite<E> as Sink>⟧.written errors.old) (⟦<ToWrite<E> as Sink>⟧.written errors.new) (⟦<ToWrite<E> as Sink>⟧.has_failed errors.new) }
+    ensures says_why { (result ≡ ExitStatus.Done) ⊎ SaysWhy names.now
+        (IsRunsFault (R.answers rt.now) R.Opened.left R.Opened.has_failed R.Opened.interruptions
+        names.now (⟦<ToWrite<O> as Sink>⟧.has_failed output.new))
+        result (⟦<ToWrite<E> as Sink>⟧.written errors.old)
+        (⟦<ToWrite<E> as Sink>⟧.written errors.new) (⟦<ToWrite<E> as Sink>⟧.has_failed errors.new) }
     ensures nothing_written { (result ≡ ExitStatus.Refused) → (output.new ≡ output.old) }
 {
     if let Err(fault) = run(rt, names, output) {
@@ -66,17 +76,24 @@ where
 /// Runs the schedule of the second file in the fabric of the first one.
 fn run<R, O>(rt: &R, names: &[&str], output: &mut ToWrite<O>) -> Result<(), Fault>
 where
-    R: Files + AllocGlobal,
+    R: Opener + AllocGlobal,
     O: Write,
     requires { length names.now ≡ 2 }
-    ensures done { OnOk result AreRun }
+    ensures done { OnOk result (RunsFiles (R.answers rt.now)
+        R.Opened.left R.Opened.has_failed names.now) }
     ensures flushed { OnOk result (IsTrue (⟦<ToWrite<O> as Sink>⟧.is_flushed output.new)) }
-    ensures refused { IfErr result (IsFaultAmong (length names.now) (⟦<ToWrite<O> as Sink>⟧.has_failed output.new)) }
+    ensures refused { IfErr result (IsRunsFault (R.answers rt.now)
+        R.Opened.left R.Opened.has_failed R.Opened.interruptions
+        names.now (⟦<ToWrite<O> as Sink>⟧.has_failed output.new)) }
     ensures nothing_written { OnErr result ((result ≡ Err Fault.Write) ⊎ (result ≡ Err Fault.Memory) ⊎ (output.new ≡ output.old)) }
 {
-    let mut topology = open(rt, 0, names[0])?;
-    let mut schedule = open(rt, 1, names[1])?;
-    run_schedule(rt.alloc(), &mut topology, &mut schedule, output)
+    match open_all(rt, names) {
+        Ok(mut files) => {
+            let (topology, schedule) = files.split_at_mut(1);
+            run_schedule(rt.alloc(), &mut topology[0], &mut schedule[0], output)
+        }
+        Err(fault) => Err(fault),
+    }
 }
 
 /// Says the fault of a run over the files with these names, and what the program ends with.
@@ -97,50 +114,44 @@ fn answer<R, O>(
     output: &mut ToWrite<O>,
 ) -> Result<(), Fault>
 where
-    R: Files + AllocGlobal,
+    R: Opener + AllocGlobal,
     O: Write,
-    ensures done { OnOk result (AnswersFiles command (length names.now)
+    ensures done { OnOk result (AnswersFiles (R.answers rt.now)
+        R.Opened.left R.Opened.has_failed command names.now
         (⟦<ToWrite<O> as Sink>⟧.written output.old) (⟦<ToWrite<O> as Sink>⟧.written output.new)) }
     ensures flushed { OnOk result (IsTrue (⟦<ToWrite<O> as Sink>⟧.is_flushed output.new)) }
-    ensures refused { IfErr result (IsFaultAmong (length names.now) (⟦<ToWrite<O> as Sink>⟧.has_failed output.new)) }
+    ensures refused { IfErr result (IsAnswersFault (R.answers rt.now)
+        R.Opened.left R.Opened.has_failed R.Opened.interruptions
+        command names.now (⟦<ToWrite<O> as Sink>⟧.has_failed output.new)) }
     ensures nothing_written { OnErr result ((result ≡ Err Fault.Write) ⊎ (output.new ≡ output.old)) }
 {
     match open_all(rt, names) {
-        Ok(mut sources) => run_files(rt.alloc(), &mut sources, command, output),
+        Ok(mut files) => run_files(rt.alloc(), &mut files, command, output),
         Err(fault) => Err(fault),
     }
 }
 
-/// Opens the files with these names, in their order.
-fn open_all<R>(rt: &R, names: &[&str]) -> Result<Vec<FromRead<BufReader<R::File>>>, Fault>
+/// Opens the files with these names, in their order. Where memory is wanting the names behind are
+/// still asked for: one that is missing counts first.
+fn open_all<R>(rt: &R, names: &[&str]) -> Result<Vec<R::Opened>, Fault>
 where
-    R: Files + AllocGlobal,
-    ensures one_each { IfOk result (λ sources. length sources.items ≡ length names.now) }
-    ensures refused { (failed : _) → IfErr result (IsFaultAmong (length names.now) failed) }
+    R: Opener + AllocGlobal,
+    ensures opened { IfOk result (λ files. AreOpened (R.answers rt.now) names.now files.items) }
+    ensures refused { IfErr result (IsOpenFault (R.answers rt.now) names.now) }
 {
-    let mut sources = Vec::new(rt.alloc());
+    let mut files = Vec::new(rt.alloc());
+    let mut has_memory = true;
     for (place, name) in names.iter().enumerate() {
-        let source = open(rt, place, name)?;
-        if sources.push(source).is_err() {
-            return Err(Fault::Memory);
+        match rt.open_behind(name, &mut files) {
+            Ok(()) => {}
+            Err(OpenFault::Memory) => has_memory = false,
+            Err(OpenFault::Missing) => return Err(Fault::Open { place }),
         }
     }
-    Ok(sources)
-}
-
-/// Opens the file with this name, which stands at this place among those that were named.
-fn open<R>(rt: &R, place: usize, name: &str) -> Result<FromRead<BufReader<R::File>>, Fault>
-where
-    R: Files + AllocGlobal,
-    ensures { IfErr result (λ fault. (fault ≡ Fault.Open place) ⊎ (fault ≡ Fault.Memory)) }
-{
-    match fs::open(rt, name) {
-        Ok(file) => match BufReader::new(rt.alloc(), file) {
-            Ok(reader) => Ok(FromRead::new(reader)),
-            Err(_) => Err(Fault::Memory),
-        },
-        Err(error) if error.kind() == io::ErrorKind::OutOfMemory => Err(Fault::Memory),
-        Err(_) => Err(Fault::Open { place }),
+    if has_memory {
+        Ok(files)
+    } else {
+        Err(Fault::Memory)
     }
 }
 

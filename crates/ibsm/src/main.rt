@@ -3,6 +3,7 @@
 
 mod arguments;
 mod files;
+mod opener;
 mod run;
 
 use std::process::ExitCode;

@@ -5,19 +5,20 @@ ghost use Rattle.ibsm.specs.Asked.{AnswersWords, RunsWords, file_named, files_na
 
 use crate::arguments::{FACTS, FILE, JOIN, PLAN, RUN, SCHEDULE, TOPOLOGY, command_line};
 use crate::files::{answer_or_explain, run_or_explain, say};
+use crate::opener::Opener;
 use clap::error::ErrorKind;
 use clap::{ArgMatches, Error};
 use record_file::{Sink, ToWrite};
 use sm_cli::{Command, ExitStatus, Fault};
 use std::alloc::AllocError;
 use std::io::{BufWriter, Write};
-use std::rt::{Env, Files};
+use std::rt::Env;
 use std::{env, io};
 
 /// Does what the command line asks for, and says on `errors` why it cannot.
 pub(crate) fn run<R, O, E>(rt: &R, output: O, errors: E) -> ExitStatus
 where
-    R: Env + Files + Print + Eprint + AllocGlobal,
+    R: Env + Opener + Print + Eprint + AllocGlobal,
     O: Write + Drop,
     E: Write + Drop,
 {
@@ -31,7 +32,7 @@ where
 /// The same; an `Err` is want of memory, of which nothing has been said yet.
 fn try_run<R, O, E>(rt: &R, output: O, errors: &mut ToWrite<E>) -> Result<ExitStatus, AllocError>
 where
-    R: Env + Files + Print + Eprint + AllocGlobal,
+    R: Env + Opener + Print + Eprint + AllocGlobal,
     O: Write + Drop,
     E: Write + Drop,
 {
@@ -65,10 +66,12 @@ fn obey<R, O, E>(
     errors: &mut ToWrite<E>,
 ) -> ExitStatus
 where
-    R: Files + AllocGlobal,
+    R: Opener + AllocGlobal,
     O: Write,
     E: Write,
-    ensures done { result ≡ ExitStatus.Done → RunsWords matches.now ⊎ AnswersWords matches.now
+    ensures done { result ≡ ExitStatus.Done
+        → RunsWords (R.answers rt.now) R.Opened.left R.Opened.has_failed matches.now
+        ⊎ AnswersWords (R.answers rt.now) R.Opened.left R.Opened.has_failed matches.now
         (⟦<ToWrite<O> as Sink>⟧.written output.old) (⟦<ToWrite<O> as Sink>⟧.written output.new) }
 {
     if let Some((topology, schedule)) = run_asked(matches) {

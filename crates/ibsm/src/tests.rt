@@ -6,10 +6,11 @@ use clap::error::ErrorKind;
 use record_file::ToWrite;
 use sm_cli::{Command, ExitStatus};
 use std::alloc::AllocError;
+use std::fmt::Display;
 use std::io::BufWriter;
 use std::process::Abort;
 use std::test::Fail;
-use std::{env, fs};
+use std::{env, fs, io};
 
 /// What is said of these words where they are refused or ask for help.
 fn refusal(rt: &HostRuntime, words: &[&str]) -> Result<Error, Fail> {
@@ -214,6 +215,63 @@ fn all_files_are_read_and_the_first_fault_counts(rt: HostRuntime) -> Result<(), 
     }
     for name in [node, port_guid, none, bad, cut] {
         fs::remove_file(&rt, name)?;
+    }
+    Ok(())
+}
+
+#[test]
+fn the_last_of_seventy_files_is_read(rt: HostRuntime) -> Result<(), Fail> {
+    let (node, port_guid) = (file(&rt, "first", NODE)?, file(&rt, "last", PORT_GUID)?);
+    let mut names = [node.as_str(); 70];
+    names[69] = port_guid.as_str();
+    let (status, output, errors) = answered(&rt, Command::Join, &names)?;
+    assert!(rt; status == ExitStatus::Done && output.as_slice() == BOTH && errors.is_empty());
+    for name in [node, port_guid] {
+        fs::remove_file(&rt, name.as_str())?;
+    }
+    Ok(())
+}
+
+/// A terminal that takes nothing.
+struct Full;
+
+impl Print for Full {
+    fn print<D: Display + Drop>(&self, _value: D) -> io::Result<()> {
+        self.write_all(b"")
+    }
+
+    fn println<D: Display + Drop>(&self, _value: D) -> io::Result<()> {
+        self.write_all(b"")
+    }
+
+    fn write_all(&self, _bytes: &[u8]) -> io::Result<()> {
+        Err(io::Error::from(io::ErrorKind::StorageFull))
+    }
+}
+
+impl Eprint for Full {
+    fn eprint<D: Display + Drop>(&self, _value: D) -> io::Result<()> {
+        self.write_all(b"")
+    }
+
+    fn eprintln<D: Display + Drop>(&self, _value: D) -> io::Result<()> {
+        self.write_all(b"")
+    }
+}
+
+#[test]
+fn help_to_a_full_device_is_a_failed_write(rt: HostRuntime) -> Result<(), Fail> {
+    for (words, ends, says) in [
+        (
+            ["ibsm", "--help"],
+            ExitStatus::InputOutput,
+            b"ibsm: write failed\n".as_slice(),
+        ),
+        (["ibsm", "fact"], ExitStatus::Usage, b""),
+    ] {
+        let mut errors = ToWrite::new(Vec::new(rt.alloc()));
+        let status = explain(&Full, &refusal(&rt, &words)?, &mut errors)?;
+        assert!(rt; status == ends && errors.into_inner().as_slice() == says);
     }
     Ok(())
 }

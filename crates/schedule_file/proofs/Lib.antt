@@ -1,3 +1,4 @@
+pub mod FirstFault
 pub mod NameBytes
 pub mod Scripts
 pub mod Serials

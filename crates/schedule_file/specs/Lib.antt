@@ -2,3 +2,4 @@ pub mod Command
 pub mod ManagerName
 pub mod Schedule
 pub mod ScheduleFault
+pub mod FirstFault

@@ -3,6 +3,7 @@
 
 mod command;
 mod fault;
+mod first_fault;
 mod line;
 mod manager_name;
 mod names;

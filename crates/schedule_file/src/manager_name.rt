@@ -52,6 +52,13 @@ impl ManagerName {
     }
 }
 
+/// What fills the unused places of a vector of fixed capacity.
+impl Default for ManagerName {
+    fn default() -> Self {
+        ManagerName { text: text(b"0") }
+    }
+}
+
 /// Whether the bytes are a name.
 fn is_manager_name(name: &[u8]) -> bool
     ensures { result ≡ is_manager_name name.now }

@@ -1,16 +1,18 @@
-ghost use Rattle.std.specs.Prelude.{◌≡◌, [], Ok, IfOk};
+ghost use Rattle.std.specs.Prelude.{◌≡◌, [], Ok, Err, IfOk};
 ghost use Rattle.text_words.specs.Text.{lines};
 ghost use Rattle.schedule_file.specs.Command.{line_of};
 ghost use Rattle.schedule_file.specs.Schedule.{IsScript, schedule_of, told_by, with_line, with_command, new_seat, with_seat};
+ghost use Rattle.schedule_file.specs.FirstFault.{IsSoundOrCrowded};
 ghost use Rattle.schedule_file.specs.ScheduleFault.{Reads};
 
 use crate::command::Command;
 use crate::fault::ScheduleFault;
+use crate::first_fault::first_fault;
 use crate::line::{Line, NewManager, read_line};
 use crate::manager_name::ManagerName;
 use crate::names::{command, is_free, port, seat};
 use attr_codec::Priority;
-use smp_bytes::NodePort;
+use smp_bytes::{NodePort, PortNum};
 use std::alloc::Global;
 use std::marker::Model;
 use text_words::split_line;
@@ -23,6 +25,20 @@ pub struct Seat {
     /// The port at which it sits.
     pub at: NodePort,
     pub priority: Priority,
+}
+
+/// What fills the unused places of a vector of fixed capacity.
+impl Default for Seat {
+    fn default() -> Self {
+        Seat {
+            name: ManagerName::default(),
+            at: NodePort {
+                node: 0,
+                port: PortNum::new(0),
+            },
+            priority: Priority::new(0).unwrap(),
+        }
+    }
 }
 
 /// The subnet managers of a simulated fabric, and the commands that are run in it.
@@ -113,7 +129,7 @@ impl Schedule {
 }
 
 /// The seat of a new manager. A search, and a walk over the seats.
-fn new_seat(
+pub(crate) fn new_seat(
     topology: &Topology,
     seats: &[Seat],
     line: usize,
@@ -157,11 +173,23 @@ fn new_seat(
 ///
 /// A manager sits at an adapter's port, and has a name of 1 to 16 ASCII letters and digits, known from its line on.
 /// Takes a search and a walk over the managers for each line.
+///
+/// Want of memory is answered only where no line has a fault, or more than 64 managers stand above it: once memory is
+/// refused, the lines are judged with none, and so many managers are known then.
 pub fn parse(alloc: Global, text: &str, topology: &Topology) -> Result<Schedule, ScheduleFault>
     ensures reads { Reads result (schedule_of topology.now.nodes text.now) }
     ensures script { IfOk result (IsScript topology.now.nodes) }
+    ensures memory { result ≡ Err ScheduleFault.Memory
+        → IsSoundOrCrowded topology.now.nodes (lines text.now) }
 {
-    read_lines(alloc, text.as_bytes(), topology)
+    match read_lines(alloc, text.as_bytes(), topology) {
+        Ok(schedule) => Ok(schedule),
+        Err(fault) if fault != ScheduleFault::Memory => Err(fault),
+        Err(_) => match first_fault(topology, text.as_bytes()) {
+            Some(fault) => Err(fault),
+            None => Err(ScheduleFault::Memory),
+        },
+    }
 }
 
 /// What a text's lines tell.

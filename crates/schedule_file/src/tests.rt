@@ -1,5 +1,6 @@
 //! Texts of schedules, and what is wrong with others.
 use super::*;
+use crate::first_fault::first_fault;
 use smp_bytes::{Lid, NodePort, PortNum};
 use std::alloc::Global;
 use std::test::Fail;
@@ -207,17 +208,33 @@ fn seats_and_long_texts(rt: HostRuntime) -> Result<(), Fail> {
 }
 
 #[test]
-fn texts_of_faults(rt: HostRuntime) -> Result<(), Fail> {
+fn faults_are_found_with_no_memory(rt: HostRuntime) -> Result<(), Fail> {
+    let fabric = topo_file::parse(rt.alloc(), FABRIC)?;
     for (text, wanted) in [
-        ("x", "line 1: syntax"),
-        ("\nsweep A", "line 2: name"),
-        ("manager A \"S 1\"[1] 0", "line 1: seat"),
+        ("manager A \"H1\"[1] 1\nsweep A\n", None),
+        ("sweep A", Some(ScheduleFault::Name { line: 1 })),
+        ("# no\nmanager A", Some(ScheduleFault::Syntax { line: 2 })),
+        (
+            "manager A \"H1\"[1] 1\nmanager B \"H1\"[1] 1",
+            Some(ScheduleFault::Seat { line: 2 }),
+        ),
     ] {
-        let Some(fault) = fault(rt.alloc(), text)? else {
-            return Err("no fault")?;
-        };
+        assert!(rt; first_fault(&fabric, text.as_bytes()) == wanted, "{text}");
+    }
+    Ok(())
+}
+
+#[test]
+fn texts_of_faults(rt: HostRuntime) -> Result<(), Fail> {
+    let line = 12;
+    for (fault, wanted) in [
+        (ScheduleFault::Syntax { line }, "line 12: syntax"),
+        (ScheduleFault::Name { line }, "line 12: name"),
+        (ScheduleFault::Seat { line }, "line 12: seat"),
+        (ScheduleFault::Memory, "out of memory"),
+    ] {
         let said = format!(in rt.alloc(); "{fault}")?;
-        assert!(rt; said.as_str() == wanted);
+        assert!(rt; said.as_str() == wanted, "{wanted}");
     }
     Ok(())
 }

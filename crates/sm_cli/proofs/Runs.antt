@@ -35,12 +35,12 @@ earlier (x ∷ sources) (suc place) after zero h = refl
 earlier (x ∷ sources) (suc place) after (suc k) h = earlier sources place after k (omega arith)
 
 -- an element of a list with one more at its end
-front_of_more : {X : Type 0} (xs : List X) (last : X) (k : ℕ) → k < length xs → slice_get (xs ++ last ∷ []) k ≡ slice_get xs k
+pub front_of_more : {X : Type 0} (xs : List X) (last : X) (k : ℕ) → k < length xs → slice_get (xs ++ last ∷ []) k ≡ slice_get xs k
 front_of_more [] last k h = absurd (omega arith)
 front_of_more (x ∷ xs) last zero h = refl
 front_of_more (x ∷ xs) last (suc k) h = front_of_more xs last k (omega arith)
 
-last_of_more : {X : Type 0} (xs : List X) (last : X) (k : ℕ) → length xs ≤ k → (x : X) → slice_get (xs ++ last ∷ []) k ≡ Some x → (k ≡ length xs) × (last ≡ x)
+pub last_of_more : {X : Type 0} (xs : List X) (last : X) (k : ℕ) → length xs ≤ k → (x : X) → slice_get (xs ++ last ∷ []) k ≡ Some x → (k ≡ length xs) × (last ≡ x)
 last_of_more [] last zero h x e = (refl, cc)
 last_of_more [] last (suc k) h x e = absurd (cc)
 last_of_more (y ∷ xs) last zero h x e = absurd (omega arith)
@@ -125,6 +125,7 @@ module _ {S : Type 0} (left : S → Option (List ℕ)) (has_failed : S → Bool)
     consumed = a.consumed;
     answered = tt;
     decided = tt;
+    bounded = a.bounded;
     no_fault_before = λ e. accepted_has_no_fault a.taken a.answered;
     read = (λ e. absurd (cc), λ failed. let f : IsTrue false = subst IsTrue works failed in absurd (cc));
     known = nothing_known (left old) (left new);

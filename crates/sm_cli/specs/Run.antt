@@ -1,18 +1,16 @@
 -- What a run over files does: it reads all of them, and writes what they say together, or says which one it refuses.
-use Rattle.std.specs.Prelude.{◌≡◌, ◌↔◌, ℕ, Bool, false, List, [], Option, Some, Ok, Err, IsTrue, length, slice_get}
+use Rattle.std.specs.Prelude.{◌≡◌, ◌↔◌, ℕ, Bool, false, List, [], Option, None, Some, Ok, Err, IsTrue, length, slice_get}
 use Rattle.std.specs.List.{flat_map}
 use Rattle.std.specs.Io.KnownBytes.{Appends, Consumes, IsAtEnd}
 use Rattle.fact_store.specs.Sighting.{AreInRange}
 use Rattle.fact_store.specs.Merge.{merge}
 use Rattle.fact_store.specs.View.{Facts, view, cells_of}
-use Rattle.record_file.specs.Absorbs.{AnswersKnown, AnswersOutcome, HasNoFaultYet, IsDecided, WasInterruptedTooOften}
+use Rattle.record_file.specs.Absorbs.{AnswersKnown, AnswersOutcome, HasNoFaultYet, IsBounded, IsDecided, WasInterruptedTooOften}
 use Rattle.record_file.specs.RecordFile.{kept, outcome}
 use Rattle.record_file.specs.StoreFile.{store_bytes}
 use Rattle.record_file.specs.declared.file_fault.FileFault.{FileFault}
 use Rattle.record_file.specs.declared.file_fault.FileFault.TheVariants.{Read, Memory as NoMemory}
-use Rattle.subnet_view.specs.Reading.{Cells}
-use Rattle.subnet_view.specs.EndPorts.{end_ports}
-use Rattle.lid_assign.specs.Lids.{IsNoRoom, room}
+use Rattle.lid_assign.specs.LidFault.{no_room}
 use Rattle.lft_blocks.specs.Plan.{plan_of}
 use Rattle.lft_blocks.specs.PlanText.{plan_text}
 use Rattle.sm_cli.specs.declared.fault.Fault.{Fault}
@@ -35,22 +33,17 @@ answer_to commands.Plan facts = plan_text (plan_of (cells_of facts))
 abbrev pub IsAnswered : Command → Facts → Type 0
 IsAnswered commands.Facts facts = AreInRange facts
 IsAnswered commands.Join facts = AreInRange facts
-IsAnswered commands.Plan facts = ¬ (IsNoRoom (cells_of facts))
-
--- there are so many end ports, for which the LIDs below so much room are too few
-pub record LacksRoom (cells : Cells) (endports most : ℕ) : Type 0 where
-  pub lacks : IsNoRoom cells
-  pub counted : endports ≡ length (end_ports cells)
-  pub least : most ≡ room cells
+IsAnswered commands.Plan facts = no_room (cells_of facts) ≡ None
 
 -- why a command does not answer the facts
 abbrev pub IsAnswerFault : Command → Facts → Bool → Fault → Type 0
 IsAnswerFault command facts sink_failed (Open place) = ⊥
 IsAnswerFault command facts sink_failed (File place fault) = ⊥
 IsAnswerFault command facts sink_failed (Text place fault) = ⊥
-IsAnswerFault command facts sink_failed (NoRoom endports most) = (command ≡ commands.Plan) × LacksRoom (cells_of facts) endports most
+IsAnswerFault command facts sink_failed (NoRoom endports most) =
+    (command ≡ commands.Plan) × (no_room (cells_of facts) ≡ Some (record { endports = endports; room = most }))
 IsAnswerFault command facts sink_failed Write = IsTrue sink_failed
-IsAnswerFault command facts sink_failed Memory = command ≡ commands.Plan
+IsAnswerFault command facts sink_failed Memory = (command ≡ commands.Plan) × (no_room (cells_of facts) ≡ None)
 
 -- the source was read to its end: this was its file, which is accepted
 pub record IsReadAs {S : Type 0} (left : S → Option (List ℕ)) (has_failed : S → Bool) (old new : S) (file : List ℕ) : Type 0 where
@@ -98,6 +91,7 @@ pub record Refuses {S : Type 0} (left : S → Option (List ℕ)) (has_failed : S
   pub consumed : Consumes (left old) (left new) taken
   pub answered : AnswersOutcome (Err fault) taken (WasInterruptedTooOften taken [] (interruptions old) (interruptions new))
   pub decided : IsDecided (Err fault) taken (IsAtEnd (left new))
+  pub bounded : IsBounded (Err fault) (length taken) (interruptions old) (interruptions new)
   pub no_fault_before : fault ≡ NoMemory → HasNoFaultYet taken
   pub read : (fault ≡ Read) ↔ IsTrue (has_failed new)
   pub known : AnswersKnown left interruptions (Err fault) old new

@@ -72,6 +72,7 @@ fn write_answer<W: Sink>(
 }
 
 /// Writes the plan of the facts that a store holds, and flushes.
+#[tactic(auto, using(crate::proofs::Plans::has_room, crate::proofs::Plans::plan_fault))]
 fn answer_plan<W: Sink>(alloc: Global, sink: &mut W, store: &Store) -> Result<(), Fault>
     ensures answered { OnOk result (Appends (W.written sink.old) (W.written sink.new)
         (answer_to Command.Plan store.now)) }

@@ -1,3 +1,4 @@
+pub mod Growth
 pub mod Judging
 pub mod Ports
 pub mod Written

@@ -3,12 +3,17 @@ use Rattle.std.specs.Prelude.{◌≡◌, ◌⊎◌, ◌<◌, ℕ, Bool, true, Li
 use Rattle.std.specs.Str.{is_utf8}
 use Rattle.record_file.specs.Whole.{IsReadWhole, FailsToRead}
 use Rattle.record_file.specs.declared.file_fault.FileFault.{FileFault}
+use Rattle.topo_file.specs.FirstFault.{first_line_fault}
 use Rattle.topo_file.specs.Reading.{topology_of}
 use Rattle.topo_file.specs.Topology.{Layout}
 use Rattle.topo_file.specs.declared.fault.TopoFault.{TopoFault}
+use Rattle.topo_file.specs.declared.fault.TopoFault.TheVariants as topologies
 use Rattle.topo_file.specs.declared.node.Node.{Node}
+use Rattle.text_words.specs.Text.{lines}
+use Rattle.schedule_file.specs.FirstFault.{IsSoundOrCrowded}
 use Rattle.schedule_file.specs.Schedule.{Script, schedule_of}
 use Rattle.schedule_file.specs.declared.fault.ScheduleFault.{ScheduleFault}
+use Rattle.schedule_file.specs.declared.fault.ScheduleFault.TheVariants as schedules
 use Rattle.sm_cli.specs.TextFault.{is_of_text}
 use Rattle.sm_cli.specs.declared.fault.Fault.{Fault}
 use Rattle.sm_cli.specs.declared.fault.Fault.TheVariants.{Open, File, Text, NoRoom, Write, Memory}
@@ -44,9 +49,27 @@ abbrev pub IsRefused : Option Fault → Fault → Type 0
 IsRefused found (Text place fault) = (place < 2) × (is_of_text fault ≡ true → found ≡ Some (Text place fault))
 IsRefused found fault = ⊥
 
+-- want of memory for a topology hides no fault of a line, but for a link's peer and ports
+abbrev pub HidesLinksAlone : List ℕ → Fault → Type 0
+HidesLinksAlone topology (Text place (Topology topologies.Memory)) = first_line_fault topology ≡ None
+HidesLinksAlone topology _ = Unit {0}
+
+-- want of memory for a schedule hides no fault, but below more than 64 managers
+abbrev pub HidesBelowManagers : List Node → List ℕ → Fault → Type 0
+HidesBelowManagers nodes schedule (Text place (Schedule schedules.Memory)) = IsSoundOrCrowded nodes (lines schedule)
+HidesBelowManagers nodes schedule _ = Unit {0}
+
+-- the text of a schedule is refused for its first fault, or memory was wanting as it was judged
+pub record RefusesScript (nodes : List Node) (text : List ℕ) (fault : Fault) : Type 0 where
+  pub refused : IsRefused (schedule_fault nodes text) fault
+  pub hides : HidesBelowManagers nodes text fault
+  pub no_topology : (topology : List ℕ) → HidesLinksAlone topology fault
+
 -- the texts are refused for their first fault, or memory was wanting as they were judged
-abbrev pub RefusesTexts : List ℕ → List ℕ → Fault → Type 0
-RefusesTexts topology schedule fault = IsRefused (input_fault topology schedule) fault
+pub record RefusesTexts (topology schedule : List ℕ) (fault : Fault) : Type 0 where
+  pub refused : IsRefused (input_fault topology schedule) fault
+  pub hides : HidesLinksAlone topology fault
+  pub hides_in_schedule : (layout : Layout) → TellsTopology topology layout → HidesBelowManagers layout.nodes schedule fault
 
 -- reading ---------------------------------------------------------------------------------------
 

@@ -1,5 +1,6 @@
 //! The commands about cables and ports.
 ghost use Rattle.std.specs.Prelude.{◌≡◌, length};
+ghost use Rattle.fabric_sim.specs.Changes.{cut, plugged};
 ghost use Rattle.sm_run.specs.Stops.{StopsFor};
 
 use crate::lines::write_ping;
@@ -13,8 +14,9 @@ use topo_file::Topology;
 impl World<'_> {
     /// The cable in a port is cut.
     pub(crate) fn cut<W: Sink>(&mut self, port: NodePort, sink: &mut W) -> Result<(), RunFault>
-        ensures managers { length self.new.managers.items ≡ length self.old.managers.items }
-        ensures stops { StopsFor result (W.has_failed sink.new) }
+        ensures fabric { self.new.fabric ≡ (cut self.old.fabric port).fabric }
+        ensures managers { self.new.managers ≡ self.old.managers }
+        ensures stops { StopsFor W.written W.has_failed result sink.old sink.new }
     {
         match self.fabric.cut(port) {
             Ok(()) => Ok(()),
@@ -29,8 +31,9 @@ impl World<'_> {
         other: NodePort,
         sink: &mut W,
     ) -> Result<(), RunFault>
-        ensures managers { length self.new.managers.items ≡ length self.old.managers.items }
-        ensures stops { StopsFor result (W.has_failed sink.new) }
+        ensures fabric { self.new.fabric ≡ (plugged self.old.fabric one other).fabric }
+        ensures managers { self.new.managers ≡ self.old.managers }
+        ensures stops { StopsFor W.written W.has_failed result sink.old sink.new }
     {
         match self.fabric.plug(one, other) {
             Ok(()) => Ok(()),
@@ -46,7 +49,7 @@ impl World<'_> {
         lid: Lid,
         sink: &mut W,
     ) -> Result<(), RunFault>
-        ensures stops { StopsFor result (W.has_failed sink.new) }
+        ensures stops { StopsFor W.written W.has_failed result sink.old sink.new }
     {
         match self.fabric.ping(from, lid) {
             Ok(ping) => {

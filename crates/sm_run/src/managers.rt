@@ -1,6 +1,11 @@
 //! The commands to managers.
-ghost use Rattle.std.specs.Prelude.{◌≡◌, ◌<◌, length, IfOk};
-ghost use Rattle.sm_manager.specs.Manager.{outstanding};
+ghost use Rattle.std.specs.Prelude.{◌≡◌, ◌<◌, Some, length, slice_get, IfOk, OnOk};
+ghost use Rattle.std.specs.Io.KnownBytes.{Appends};
+ghost use Rattle.fabric_sim.specs.Changes.{manager_seated};
+ghost use Rattle.fact_store.specs.View.{cells_of};
+ghost use Rattle.sm_cli.specs.FactsText.{facts_text};
+ghost use Rattle.sm_run.specs.Lines.{progress_line};
+ghost use Rattle.sm_manager.specs.Manager.{outstanding, progress_of};
 ghost use Rattle.sm_run.specs.Stops.{StopsFor};
 
 use crate::lines::write_progress;
@@ -17,8 +22,10 @@ impl World<'_> {
     /// A manager comes to sit at its port.
     pub(crate) fn seat<W: Sink>(&mut self, seat: usize, sink: &mut W) -> Result<(), RunFault>
         requires { seat < length self.old.managers.items }
-        ensures managers { length self.new.managers.items ≡ length self.old.managers.items }
-        ensures stops { StopsFor result (W.has_failed sink.new) }
+        ensures seated { (s : _) → slice_get self.old.managers.items seat ≡ Some s
+            → self.new.fabric ≡ (manager_seated self.old.fabric s.seat.now.at).fabric }
+        ensures managers { self.new.managers ≡ self.old.managers }
+        ensures stops { StopsFor W.written W.has_failed result sink.old sink.new }
     {
         match self.fabric.seat(self.managers[seat].seat.at) {
             Ok(()) => Ok(()),
@@ -30,7 +37,7 @@ impl World<'_> {
     pub(crate) fn sweep<W: Sink>(&mut self, seat: usize, sink: &mut W) -> Result<(), RunFault>
         requires { seat < length self.old.managers.items }
         ensures managers { length self.new.managers.items ≡ length self.old.managers.items }
-        ensures stops { StopsFor result (W.has_failed sink.new) }
+        ensures stops { StopsFor W.written W.has_failed result sink.old sink.new }
     {
         if let Err(fault) = self.managers[seat].manager.begin_sweep() {
             return refuse_manager(sink, fault);
@@ -42,7 +49,7 @@ impl World<'_> {
     pub(crate) fn write<W: Sink>(&mut self, seat: usize, sink: &mut W) -> Result<(), RunFault>
         requires { seat < length self.old.managers.items }
         ensures managers { length self.new.managers.items ≡ length self.old.managers.items }
-        ensures stops { StopsFor result (W.has_failed sink.new) }
+        ensures stops { StopsFor W.written W.has_failed result sink.old sink.new }
     {
         if let Err(fault) = self.managers[seat].manager.write_steps() {
             return refuse_manager(sink, fault);
@@ -60,7 +67,7 @@ impl World<'_> {
         requires seat { seat < length self.old.managers.items }
         requires other { other < length self.old.managers.items }
         ensures managers { length self.new.managers.items ≡ length self.old.managers.items }
-        ensures stops { StopsFor result (W.has_failed sink.new) }
+        ensures stops { StopsFor W.written W.has_failed result sink.old sink.new }
     {
         if seat == other {
             return Ok(());
@@ -79,6 +86,7 @@ impl World<'_> {
     }
 
     /// A manager waits no more for the answers that it waits for now. What that brings up goes out.
+    #[tactic(auto, using(crate::proofs::Growth::grown_then, crate::proofs::Growth::stops_then))]
     pub(crate) fn time_out<W: Sink>(
         &mut self,
         alloc: Global,
@@ -87,7 +95,7 @@ impl World<'_> {
     ) -> Result<(), RunFault>
         requires { seat < length self.old.managers.items }
         ensures managers { length self.new.managers.items ≡ length self.old.managers.items }
-        ensures stops { StopsFor result (W.has_failed sink.new) }
+        ensures stops { StopsFor W.written W.has_failed result sink.old sink.new }
     {
         let waiting = waiting(alloc, &self.managers[seat].manager)?;
         for transaction in &waiting {
@@ -101,7 +109,10 @@ impl World<'_> {
     /// Prints a manager's facts.
     pub(crate) fn show_facts<W: Sink>(&self, seat: usize, sink: &mut W) -> Result<(), RunFault>
         requires { seat < length self.now.managers.items }
-        ensures stops { StopsFor result (W.has_failed sink.new) }
+        ensures prints { OnOk result ((s : _) → slice_get self.now.managers.items seat ≡ Some s
+            → Appends (W.written sink.old) (W.written sink.new)
+            (facts_text (cells_of s.manager.store))) }
+        ensures stops { StopsFor W.written W.has_failed result sink.old sink.new }
     {
         write_facts(sink, self.managers[seat].manager.store())?;
         Ok(())
@@ -110,7 +121,7 @@ impl World<'_> {
     /// Prints a manager's plan.
     pub(crate) fn show_plan<W: Sink>(&self, seat: usize, sink: &mut W) -> Result<(), RunFault>
         requires { seat < length self.now.managers.items }
-        ensures stops { StopsFor result (W.has_failed sink.new) }
+        ensures stops { StopsFor W.written W.has_failed result sink.old sink.new }
     {
         match self.managers[seat].manager.plan() {
             Ok(plan) => {
@@ -124,7 +135,10 @@ impl World<'_> {
     /// Prints how far a manager is with its sweep.
     pub(crate) fn show_progress<W: Sink>(&self, seat: usize, sink: &mut W) -> Result<(), RunFault>
         requires { seat < length self.now.managers.items }
-        ensures stops { StopsFor result (W.has_failed sink.new) }
+        ensures prints { OnOk result ((s : _) → slice_get self.now.managers.items seat ≡ Some s
+            → Appends (W.written sink.old) (W.written sink.new)
+            (progress_line s.seat.now.name (progress_of s.manager.sweep))) }
+        ensures stops { StopsFor W.written W.has_failed result sink.old sink.new }
     {
         let seated = &self.managers[seat];
         write_progress(sink, seated.seat.name.as_str(), seated.manager.progress())?;

@@ -1,5 +1,6 @@
 //! What is printed of a call that is refused: its innermost fault's name.
-ghost use Rattle.std.specs.Prelude.{◌≡◌, ◌↔◌, Err, codes, ◌++◌};
+ghost use Rattle.std.specs.Prelude.{◌≡◌, ◌↔◌, Err, OnOk, codes, ◌++◌};
+ghost use Rattle.std.specs.Io.KnownBytes.{Appends};
 ghost use Rattle.record_file.specs.Writes.{Writes};
 ghost use Rattle.sm_run.specs.Refusals.{fabric_fault_name, refusal_line};
 ghost use Rattle.sm_run.specs.Stops.{StopsFor};
@@ -11,8 +12,10 @@ use sm_manager::ManagerFault;
 
 /// Prints that the fabric refuses a call. Want of memory is not printed, and ends the run.
 pub(crate) fn refuse_fabric<W: Sink>(sink: &mut W, fault: FabricFault) -> Result<(), RunFault>
-    ensures stops { StopsFor result (W.has_failed sink.new) }
+    ensures stops { StopsFor W.written W.has_failed result sink.old sink.new }
     ensures memory { (result ≡ Err RunFault.Memory) ↔ (fault ≡ FabricFault.Memory) }
+    ensures prints { OnOk result (Appends (W.written sink.old) (W.written sink.new)
+        (refusal_line (fabric_fault_name fault))) }
 {
     if fault == FabricFault::Memory {
         return Err(RunFault::Memory);
@@ -23,8 +26,10 @@ pub(crate) fn refuse_fabric<W: Sink>(sink: &mut W, fault: FabricFault) -> Result
 
 /// Prints that a manager refuses a call. Want of memory is not printed, and ends the run.
 pub(crate) fn refuse_manager<W: Sink>(sink: &mut W, fault: ManagerFault) -> Result<(), RunFault>
-    ensures stops { StopsFor result (W.has_failed sink.new) }
+    ensures stops { StopsFor W.written W.has_failed result sink.old sink.new }
     ensures memory { (result ≡ Err RunFault.Memory) ↔ (fault ≡ ManagerFault.Memory) }
+    ensures prints { OnOk result (Appends (W.written sink.old) (W.written sink.new)
+        (refusal_line (manager_fault_name fault))) }
 {
     if fault == ManagerFault::Memory {
         return Err(RunFault::Memory);

@@ -2,7 +2,7 @@
 ghost use Rattle.std.specs.Prelude.{◌≡◌, ◌⊎◌, Err, false, length, IfErr, OnOk, OnErr, IsTrue};
 ghost use Rattle.schedule_file.specs.Schedule.{IsScript, NamesManagers};
 ghost use Rattle.sm_run.specs.Run.{HasRun, IsRunFault};
-ghost use Rattle.sm_run.specs.Stops.{StopsFor};
+ghost use Rattle.sm_run.specs.Stops.{HasGrown, StopsFor};
 
 use crate::run_fault::RunFault;
 use crate::texts::{Setting, judge, read_texts};
@@ -36,6 +36,8 @@ pub fn run_schedule<T: Source, S: Source, W: Sink>(
         topology.old topology.new schedule.old schedule.new) }
     ensures flushed { OnOk result (IsTrue (W.is_flushed sink.new)) }
     ensures sink_works { OnOk result (W.has_failed sink.new ≡ false) }
+    ensures grown { OnOk result (HasGrown W.written W.has_failed sink.old sink.new) }
+    ensures memory { result ≡ Err Fault.Memory → HasGrown W.written W.has_failed sink.old sink.new }
     ensures refused { IfErr result (IsRunFault T.left T.has_failed T.interruptions
         S.left S.has_failed S.interruptions
         topology.old topology.new schedule.old schedule.new (W.has_failed sink.new)) }
@@ -49,9 +51,10 @@ pub fn run_schedule<T: Source, S: Source, W: Sink>(
 }
 
 /// Runs the commands of a schedule, and flushes.
+#[tactic(auto, using(crate::proofs::Growth::grown_then, crate::proofs::Growth::wrote, crate::proofs::Growth::stops_then))]
 fn run<W: Sink>(alloc: Global, setting: &Setting, sink: &mut W) -> Result<(), RunFault>
     requires { IsScript setting.now.topology.nodes setting.now.schedule }
-    ensures stops { StopsFor result (W.has_failed sink.new) }
+    ensures stops { StopsFor W.written W.has_failed result sink.old sink.new }
     ensures flushed { OnOk result (IsTrue (W.is_flushed sink.new)) }
     ensures sink_works { OnOk result (W.has_failed sink.new ≡ false) }
 {
@@ -74,7 +77,7 @@ impl World<'_> {
     ) -> Result<(), RunFault>
         requires { NamesManagers (length self.old.managers.items) command }
         ensures managers { length self.new.managers.items ≡ length self.old.managers.items }
-        ensures stops { StopsFor result (W.has_failed sink.new) }
+        ensures stops { StopsFor W.written W.has_failed result sink.old sink.new }
     {
         match command {
             Command::Manager(seat) => self.seat(seat, sink),

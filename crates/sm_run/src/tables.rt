@@ -16,8 +16,9 @@ use subnet_view::EndPort;
 
 impl World<'_> {
     /// Prints the LIDs that ports hold, and then the forwarding tables of all switches.
+    #[tactic(auto, using(crate::proofs::Growth::grown_then, crate::proofs::Growth::wrote, crate::proofs::Growth::stops_then))]
     pub(crate) fn show_tables<W: Sink>(&self, alloc: Global, sink: &mut W) -> Result<(), RunFault>
-        ensures stops { StopsFor result (W.has_failed sink.new) }
+        ensures stops { StopsFor W.written W.has_failed result sink.old sink.new }
     {
         let lids = held_lids(alloc, &self.fabric)?;
         for (lid, node, port) in &lids {
@@ -73,8 +74,9 @@ fn switches<'f>(alloc: Global, fabric: &'f Fabric) -> Result<Vec<&'f Agent>, All
 }
 
 /// Prints a switch's GUID and the top of its table, and the blocks up to the top's.
+#[tactic(auto, using(crate::proofs::Growth::grown_then, crate::proofs::Growth::wrote, crate::proofs::Growth::stops_then))]
 fn write_table<W: Sink>(sink: &mut W, agent: &Agent) -> Result<(), RunFault>
-    ensures stops { StopsFor result (W.has_failed sink.new) }
+    ensures stops { StopsFor W.written W.has_failed result sink.old sink.new }
 {
     let top = agent.top();
     write_switch(sink, top, agent.guid())?;

@@ -1,7 +1,7 @@
 //! The two texts of a run: they are read, and then judged.
 ghost use Rattle.std.specs.Prelude.{◌≡◌, ℕ, List, IfOk, IfErr, OnOk, None};
 ghost use Rattle.schedule_file.specs.Schedule.{IsScript};
-ghost use Rattle.sm_run.specs.Run.{AreRead, FailsToReadThem, IsRefused, RefusesTexts};
+ghost use Rattle.sm_run.specs.Run.{AreRead, FailsToReadThem, RefusesScript, RefusesTexts};
 ghost use Rattle.sm_run.specs.Run.{TellsTopology, input_fault, schedule_fault};
 
 use record_file::{Source, read_whole};
@@ -59,7 +59,7 @@ pub(crate) fn read_texts<T: Source, S: Source>(
     Ok(Texts { topology, schedule })
 }
 
-#[tactic(auto, using(crate::proofs::Judging::behind))]
+#[tactic(auto, using(crate::proofs::Judging::behind, crate::proofs::Judging::refused_behind))]
 /// What both texts tell, or their first fault: the topology is judged first.
 pub(crate) fn judge(alloc: Global, texts: &Texts) -> Result<Setting, Fault>
     ensures sound { OnOk result
@@ -91,7 +91,7 @@ fn judge_topology(alloc: Global, bytes: &[u8]) -> Result<Topology, Fault>
 fn judge_schedule(alloc: Global, topology: &Topology, bytes: &[u8]) -> Result<Schedule, Fault>
     ensures sound { OnOk result (schedule_fault topology.now.nodes bytes.now ≡ None) }
     ensures script { IfOk result (IsScript topology.now.nodes) }
-    ensures refused { IfErr result (IsRefused (schedule_fault topology.now.nodes bytes.now)) }
+    ensures refused { IfErr result (RefusesScript topology.now.nodes bytes.now) }
 {
     let Ok(text) = str::from_utf8(bytes) else {
         return Err(refused(SCHEDULE, TextFault::NotUtf8));

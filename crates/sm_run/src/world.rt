@@ -61,7 +61,7 @@ impl<'s> World<'s> {
     pub(crate) fn send<W: Sink>(&mut self, seat: usize, sink: &mut W) -> Result<(), RunFault>
         requires { seat < length self.old.managers.items }
         ensures managers { length self.new.managers.items ≡ length self.old.managers.items }
-        ensures stops { StopsFor result (W.has_failed sink.new) }
+        ensures stops { StopsFor W.written W.has_failed result sink.old sink.new }
     {
         let Seated { seat, manager } = &mut self.managers[seat];
         send_queued(&mut self.fabric, &seat.at, manager, sink)
@@ -81,13 +81,14 @@ impl<'s> World<'s> {
 }
 
 /// All that a manager at a port has queued goes out, in its order.
+#[tactic(auto, using(crate::proofs::Growth::grown_then, crate::proofs::Growth::stops_then))]
 fn send_queued<W: Sink>(
     fabric: &mut Fabric,
     from: &NodePort,
     manager: &mut Manager,
     sink: &mut W,
 ) -> Result<(), RunFault>
-    ensures stops { StopsFor result (W.has_failed sink.new) }
+    ensures stops { StopsFor W.written W.has_failed result sink.old sink.new }
 {
     while let Some(outgoing) = manager.take_outgoing() {
         send_one(fabric, from, &outgoing, sink)?;
@@ -102,7 +103,7 @@ fn send_one<W: Sink>(
     outgoing: &Outgoing,
     sink: &mut W,
 ) -> Result<(), RunFault>
-    ensures stops { StopsFor result (W.has_failed sink.new) }
+    ensures stops { StopsFor W.written W.has_failed result sink.old sink.new }
 {
     match fabric.inject(*from, packet(outgoing)) {
         Ok(_) => Ok(()),

@@ -1,3 +1,4 @@
+pub mod FirstFault
 pub mod Folds
 pub mod Grammar
 pub mod Guids

@@ -1,3 +1,4 @@
+pub mod FirstFault
 pub mod Line
 pub mod Places
 pub mod Printed

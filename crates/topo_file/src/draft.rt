@@ -80,8 +80,8 @@ impl Draft {
 }
 
 /// The node that a line tells.
-fn node(number: usize, line: NodeLine) -> Result<Node, TopoFault>
-    ensures { Reads result (node_of number line) }
+pub(crate) fn node(number: usize, line: NodeLine) -> Result<Node, TopoFault>
+    ensures { result ≡ node_of number line }
 {
     let (Some(ports), Some(cap)) = (line.ports, line.cap) else {
         return Err(TopoFault::Ports { line: number });

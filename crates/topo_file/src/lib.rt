@@ -3,6 +3,7 @@
 
 mod draft;
 mod fault;
+mod first_fault;
 pub mod laws;
 mod line;
 mod links;

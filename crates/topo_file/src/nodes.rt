@@ -12,7 +12,7 @@ use std::marker::Model;
 use text_words::NodeName;
 
 /// The most nodes that a topology may have.
-const MAX_NODES: usize = 1024;
+pub(crate) const MAX_NODES: usize = 1024;
 
 /// Nodes by place, each with a name of its own.
 #[derive(Drop)]

@@ -1,5 +1,6 @@
 //! Texts of topologies, and what is wrong with others.
 use super::*;
+use crate::first_fault::first_line_fault;
 use smp_bytes::NodeType;
 use std::alloc::Global;
 use std::test::Fail;
@@ -256,5 +257,27 @@ fn at_most_1024_nodes(rt: HostRuntime) -> Result<(), Fail> {
     let text = many(rt.alloc(), 1025)?;
     let wanted = Some(TopoFault::TooManyNodes { line: 1025 });
     assert!(rt; fault(rt.alloc(), text.as_str()) == wanted);
+    // The same is found with no memory.
+    assert!(rt; first_line_fault(text.as_bytes()) == wanted);
+    Ok(())
+}
+
+#[test]
+fn texts_of_faults(rt: HostRuntime) -> Result<(), Fail> {
+    let line = 12;
+    for (fault, wanted) in [
+        (TopoFault::Syntax { line }, "line 12: syntax"),
+        (TopoFault::Name { line }, "line 12: name"),
+        (TopoFault::Ports { line }, "line 12: ports"),
+        (TopoFault::Peer { line }, "line 12: peer"),
+        (TopoFault::Port { line }, "line 12: port"),
+        (TopoFault::Linked { line }, "line 12: linked"),
+        (TopoFault::GuidRange { line }, "line 12: guid"),
+        (TopoFault::TooManyNodes { line }, "line 12: too many nodes"),
+        (TopoFault::Memory, "out of memory"),
+    ] {
+        let said = format!(in rt.alloc(); "{fault}")?;
+        assert!(rt; said.as_str() == wanted, "{wanted}");
+    }
     Ok(())
 }

@@ -1,12 +1,14 @@
-ghost use Rattle.std.specs.Prelude.{◌≡◌, ◌↔◌, length, slice_get, IsTrue, IfOk, IfSome, option_copied};
+ghost use Rattle.std.specs.Prelude.{◌≡◌, ◌↔◌, Err, None, length, slice_get, IsTrue, IfOk, IfSome, option_copied};
 ghost use Rattle.text_words.specs.Text.{lines};
 ghost use Rattle.topo_file.specs.Topology.{place_of, IsFound, IsNode, IsTopology, GuidsDiffer};
 ghost use Rattle.topo_file.specs.Reading.{topology_of, topology_in, told_by};
 ghost use Rattle.topo_file.specs.ReadingLaws.{IsDraft};
+ghost use Rattle.topo_file.specs.FirstFault.{first_line_fault};
 ghost use Rattle.topo_file.specs.TopoFault.{Reads};
 
 use crate::draft::Draft;
 use crate::fault::TopoFault;
+use crate::first_fault::first_line_fault;
 use crate::links::Links;
 use crate::node::Node;
 use crate::nodes::Nodes;
@@ -88,10 +90,22 @@ impl Topology {
 /// A node has a port count, a name and a GUID, and a switch may have the room of its forwarding
 /// table. A link has a port, and its peer's name and port. Takes a search for each node and each
 /// link.
+///
+/// Want of memory is answered only where no line has a fault but for its link: whether a link's peer
+/// and ports are there, and free, is judged by indexes that take memory. Once memory is refused, the
+/// lines are judged with none, by a walk over at most 1,024 names for each node.
 pub fn parse(alloc: Global, text: &str) -> Result<Topology, TopoFault>
-    ensures { Reads result (topology_of text.now) }
+    ensures reads { Reads result (topology_of text.now) }
+    ensures memory { result ≡ Err TopoFault.Memory → first_line_fault text.now ≡ None }
 {
-    finish(alloc, read_lines(alloc, text.as_bytes())?)
+    match read_lines(alloc, text.as_bytes()) {
+        Ok(draft) => finish(alloc, draft),
+        Err(fault) if fault != TopoFault::Memory => Err(fault),
+        Err(_) => match first_line_fault(text.as_bytes()) {
+            Some(fault) => Err(fault),
+            None => Err(TopoFault::Memory),
+        },
+    }
 }
 
 /// The nodes and the links of a text's lines.

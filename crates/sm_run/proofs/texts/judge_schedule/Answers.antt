@@ -1,4 +1,6 @@
-use Rattle.std.proofs.Common.{◌∙◌, sym, ap, subst, List, ℕ}
+use Rattle.std.proofs.Common.{◌∙◌, Err, sym, ap, subst, List, ℕ}
+use Rattle.text_words.specs.Text.{lines}
+use Rattle.schedule_file.specs.FirstFault.{IsSoundOrCrowded}
 use Rattle.schedule_file.specs.Schedule.{schedule_of}
 use Rattle.schedule_file.specs.ScheduleFault.{IsRefused}
 use Rattle.sm_run.proofs.Judging.{script_spelled_badly, script_found, schedule_refused}
@@ -15,4 +17,5 @@ returns-in-Ok-parse-clause-sound c =
 pub returns-in-Err-clause-refused : goal.returns-in-Err-clause-refused
 returns-in-Err-clause-refused c =
     rw c.refused-in-Err.ensures (schedule_refused c.args.topology.now.nodes c.args.bytes.now c.in-Err.fault c.in-Ok.ensures.cases.1
-    (subst (λ (t : List ℕ). IsRefused c.in-Err.fault (schedule_of c.args.topology.now.nodes t)) c.in-Ok.ensures.cases.0 c.in-Err.ensures.reads))
+    (subst (λ (t : List ℕ). IsRefused c.in-Err.fault (schedule_of c.args.topology.now.nodes t)) c.in-Ok.ensures.cases.0 c.in-Err.ensures.reads)
+    (λ e. subst (λ (t : List ℕ). IsSoundOrCrowded c.args.topology.now.nodes (lines t)) c.in-Ok.ensures.cases.0 (c.in-Err.ensures.memory (ap Err e))))

@@ -1,6 +1,10 @@
 use Rattle.std.proofs.Common.{◌≡◌, length}
+use Rattle.sm_run.specs.Stops.{HasGrown}
 use Rattle.sm_run.proofs.world.World.time_out.Given as goal
 
 -- the managers are still there
 abbrev pub invariant-loop-transaction : goal.invariant-loop-transaction
-invariant-loop-transaction g l = length l.self.managers.items ≡ length l.initial.self.managers.items
+invariant-loop-transaction g l = record {
+  managers : length l.self.managers.items ≡ length l.initial.self.managers.items;
+  grown : HasGrown g.W.Sink.written g.W.Sink.has_failed l.initial.sink l.sink;
+}

@@ -1,0 +1,51 @@
+-- Opening files by their names, in their order. What opens them is known by its answers to names.
+use Rattle.std.specs.Prelude.{◌≡◌, ◌⊎◌, ◌<◌, ℕ, List, [], ◌∷◌, ◌++◌, Option, Some, Result, Ok, Err, length, slice_get}
+use Rattle.std.specs.Borrow.{Bor}
+use Rattle.sm_cli.specs.declared.fault.Fault.{Fault}
+use Rattle.sm_cli.specs.declared.fault.Fault.TheVariants as faults
+use Rattle.ibsm.specs.declared.opener.OpenFault.{OpenFault}
+use Rattle.ibsm.specs.declared.opener.OpenFault.TheVariants.{Missing, Memory}
+
+-- a file was opened, and stands behind the others; or none was, and they are as they were
+abbrev pub OpensBehind : {S : Type 0} → (Result S OpenFault → Type 0) → Result (Unit {0}) OpenFault → List S → List S → Type 0
+OpensBehind {S} answers (Ok u) old new = (file : S) × answers (Ok file) × (new ≡ old ++ file ∷ [])
+OpensBehind answers (Err fault) old new = answers (Err fault) × (new ≡ old)
+
+-- these files were opened by these names, one by each, in their order
+pub record AreOpened {S : Type 0} (answers : List ℕ → Result S OpenFault → Type 0) (names : List (Bor (List ℕ))) (files : List S) : Type 0 where
+  pub one_each : length files ≡ length names
+  pub opened : (place : ℕ) (name : Bor (List ℕ)) (file : S) → slice_get names place ≡ Some name → slice_get files place ≡ Some file
+      → answers name.now (Ok file)
+
+-- a name was asked for, and is not missing: its file was opened, or memory was refused for that
+abbrev pub IsThere : {S : Type 0} → (Result S OpenFault → Type 0) → Type 0
+IsThere {S} answers = ((file : S) × answers (Ok file)) ⊎ answers (Err Memory)
+
+-- the names before a place are there
+abbrev pub AreThere : {S : Type 0} → (List ℕ → Result S OpenFault → Type 0) → List (Bor (List ℕ)) → ℕ → Type 0
+AreThere answers names place = (k : ℕ) (name : Bor (List ℕ)) → k < place → slice_get names k ≡ Some name → IsThere (answers name.now)
+
+-- the name at a place is missing, and none before it
+pub record IsFirstMissing {S : Type 0} (answers : List ℕ → Result S OpenFault → Type 0) (names : List (Bor (List ℕ))) (place : ℕ) : Type 0 where
+  pub name : Bor (List ℕ)
+  pub there : slice_get names place ≡ Some name
+  pub missing : answers name.now (Err Missing)
+  pub before : AreThere answers names place
+
+-- memory was refused as a name was asked for
+pub record WasRefusedMemory {S : Type 0} (answers : List ℕ → Result S OpenFault → Type 0) (names : List (Bor (List ℕ))) : Type 0 where
+  pub place : ℕ
+  pub name : Bor (List ℕ)
+  pub there : slice_get names place ≡ Some name
+  pub refused : answers name.now (Err Memory)
+
+-- so it was, and none of the names is missing
+pub record LacksMemory {S : Type 0} (answers : List ℕ → Result S OpenFault → Type 0) (names : List (Bor (List ℕ))) : Type 0 where
+  pub refused : WasRefusedMemory answers names
+  pub there : AreThere answers names (length names)
+
+-- why the files with these names are not open
+abbrev pub IsOpenFault : {S : Type 0} → (List ℕ → Result S OpenFault → Type 0) → List (Bor (List ℕ)) → Fault → Type 0
+IsOpenFault answers names (faults.Open place) = IsFirstMissing answers names place
+IsOpenFault answers names faults.Memory = LacksMemory answers names
+IsOpenFault answers names _ = ⊥

@@ -1,0 +1,235 @@
+-- The managers alone tell the first fault of a text.
+use Rattle.std.proofs.Common.{◌≡◌, ℕ, ◌+◌, ◌<◌, ◌≤◌, Bool, true, false, List, [], ◌∷◌, ◌++◌, Option, None, Some, Result, Ok, Err, length, length-append, refl, sym, ap, subst, ◌∙◌, append_assoc, inl, inr, arith}
+use Rattle.text_words.specs.Text.{lines}
+use Rattle.topo_file.specs.declared.node.Node.{Node}
+use Rattle.schedule_file.specs.declared.command.Command.{Command}
+use Rattle.schedule_file.specs.declared.fault.ScheduleFault.{ScheduleFault}
+use Rattle.schedule_file.specs.declared.fault.ScheduleFault.TheVariants as fault
+use Rattle.schedule_file.specs.declared.line.Line.{Line}
+use Rattle.schedule_file.specs.declared.line.NewManager.{NewManager}
+use Rattle.smp_bytes.specs.declared.cable.NodePort.{NodePort}
+use Rattle.std.specs.Prelude.{is_some, if◌then◌else◌}
+use Rattle.schedule_file.specs.ScheduleFault.{IsRefused}
+use Rattle.schedule_file.specs.declared.line.Line.TheVariants as line
+use Rattle.schedule_file.specs.declared.schedule.Seat.{Seat}
+use Rattle.schedule_file.specs.Command.{line_of}
+use Rattle.schedule_file.specs.Schedule.{◌>>=◌, Script, command_of, is_free, new_seat, port_of, schedule_of, seat_at, seat_of, told_by, with_command, with_line, with_lines, with_seat}
+use Rattle.schedule_file.specs.FirstFault.{IsCrowded, IsSoundOrCrowded, Leaves, fault_of, seats_with, where_known}
+
+-- the managers of lines that count from this number, behind those before them
+abbrev pub seats_in : List Node → ℕ → List Seat → List (List ℕ) → Result (List Seat) ScheduleFault
+seats_in nodes number seats [] = Ok seats
+seats_in nodes number seats (l ∷ ls) = seats_with nodes number seats (line_of l) >>= λ now. seats_in nodes (number + 1) now ls
+
+-- what lines tell, by its managers
+abbrev seen : Result Script ScheduleFault → Result (List Seat) ScheduleFault
+seen (Ok script) = Ok script.seats
+seen (Err fault) = Err fault
+
+command_same : (number : ℕ) (before : Script) (given : Option Command) → seen (with_command number before given) ≡ where_known number before.seats given
+command_same number before None = refl
+command_same number before (Some given) = refl
+
+manager_same : (before : Script) (seat : Result Seat ScheduleFault)
+    → seen (seat >>= λ s. Ok (with_seat before s)) ≡ (seat >>= λ s. Ok (before.seats ++ s ∷ []))
+manager_same before (Ok seat) = refl
+manager_same before (Err fault) = refl
+
+line_same : (nodes : List Node) (number : ℕ) (before : Script) (told : Option Line) → seen (with_line nodes number before told) ≡ seats_with nodes number before.seats told
+line_same nodes number before None = refl
+line_same nodes number before (Some line.Empty) = refl
+line_same nodes number before (Some (line.Manager new)) = manager_same before (new_seat nodes before.seats number new)
+line_same nodes number before (Some (line.Command spoken)) = command_same number before (command_of nodes before.seats spoken)
+
+then_same : (told : Result Script ScheduleFault) (seats : Result (List Seat) ScheduleFault)
+    (f : Script → Result Script ScheduleFault) (g : List Seat → Result (List Seat) ScheduleFault)
+    → seen told ≡ seats → ((now : Script) → seen (f now) ≡ g now.seats) → seen (told >>= f) ≡ (seats >>= g)
+then_same (Ok now) seats f g e h = h now ∙ ap (λ r. r >>= g) e
+then_same (Err fault) seats f g e h = ap (λ r. r >>= g) e
+
+lines_same : (nodes : List Node) (number : ℕ) (before : Script) (ls : List (List ℕ)) → seen (with_lines nodes number before ls) ≡ seats_in nodes number before.seats ls
+lines_same nodes number before [] = refl
+lines_same nodes number before (l ∷ ls) =
+    then_same (with_line nodes number before (line_of l)) (seats_with nodes number before.seats (line_of l)) (λ now. with_lines nodes (number + 1) now ls) (λ now. seats_in nodes (number + 1) now ls)
+    (line_same nodes number before (line_of l)) (λ now. lines_same nodes (number + 1) now ls)
+
+told_same : (nodes : List Node) (ls : List (List ℕ)) → seen (told_by nodes ls) ≡ seats_in nodes 1 [] ls
+told_same nodes ls = lines_same nodes 1 (record { seats = []; commands = [] }) ls
+
+-- lines, and then another: where the first tell these managers
+one_more : (nodes : List Node) (number : ℕ) (seats kept : List Seat) (front : List (List ℕ)) (l : List ℕ) (ls : List (List ℕ))
+    → seats_in nodes number seats front ≡ Ok kept
+    → seats_in nodes number seats (front ++ l ∷ ls) ≡ (seats_with nodes (number + length front) kept (line_of l) >>= λ now. seats_in nodes (number + length front + 1) now ls)
+one_more nodes number seats kept [] l ls e =
+    let same : seats ≡ kept = cc in
+    let none_more : number ≡ number + 0 = omega arith in
+    ap (λ ks. seats_with nodes number ks (line_of l) >>= λ now. seats_in nodes (number + 1) now ls) same
+    ∙ ap (λ n. seats_with nodes n kept (line_of l) >>= λ now. seats_in nodes (n + 1) now ls) none_more
+one_more nodes number seats kept (f ∷ front) l ls e =
+    elim (seats_with nodes number seats (line_of f)) as (λ r. (r >>= λ now. seats_in nodes (number + 1) now front) ≡ Ok kept
+    → (r >>= λ now. seats_in nodes (number + 1) now (front ++ l ∷ ls))
+    ≡ (seats_with nodes (number + length (f ∷ front)) kept (line_of l) >>= λ now. seats_in nodes (number + length (f ∷ front) + 1) now ls)) [
+      | Ok now ↦ λ h.
+          let shift : (number + 1) + length front ≡ number + length (f ∷ front) = omega arith in
+          one_more nodes (number + 1) now kept front l ls h
+          ∙ ap (λ n. seats_with nodes n kept (line_of l) >>= λ now. seats_in nodes (n + 1) now ls) shift
+      | Err fault ↦ λ h. absurd (cc)
+    ] e
+
+fault_seen : (told : Result Script ScheduleFault) → fault_of (seen told) ≡ fault_of told
+fault_seen (Ok script) = refl
+fault_seen (Err fault) = refl
+
+-- the first fault is that of the managers
+fault_same : (nodes : List Node) (ls : List (List ℕ)) → fault_of (told_by nodes ls) ≡ fault_of (seats_in nodes 1 [] ls)
+fault_same nodes ls = sym (fault_seen (told_by nodes ls)) ∙ ap fault_of (told_same nodes ls)
+
+-- the lines so far tell these managers, and have no fault
+pub record HasJudged (nodes : List Node) (text rest : List ℕ) (seats : List Seat) (number : ℕ) : Type 0 where
+  pub front : List (List ℕ)
+  pub parts : lines text ≡ front ++ lines rest
+  pub kept : seats_in nodes 1 [] front ≡ Ok seats
+  pub lines_counted : 1 + length front ≡ number + 1
+  pub counted : number + length rest ≤ length text
+
+pub judged_none : (nodes : List Node) (text : List ℕ) → HasJudged nodes text text [] 0
+judged_none nodes text = record { front = []; parts = refl; kept = refl; lines_counted = refl; counted = omega arith }
+
+-- the next line
+next_line : (nodes : List Node) (text rest later : List ℕ) (seats : List Seat) (number : ℕ) (l : List ℕ) (h : HasJudged nodes text rest seats number)
+    → lines rest ≡ l ∷ lines later
+    → seats_in nodes 1 [] (lines text) ≡ (seats_with nodes (number + 1) seats (line_of l) >>= λ now. seats_in nodes (number + 1 + 1) now (lines later))
+next_line nodes text rest later seats number l h e =
+    ap (seats_in nodes 1 []) (h.parts ∙ ap (λ ls. h.front ++ ls) e) ∙ one_more nodes 1 [] seats h.front l (lines later) h.kept
+    ∙ ap (λ n. seats_with nodes n seats (line_of l) >>= λ now. seats_in nodes (n + 1) now (lines later)) h.lines_counted
+
+kept_more : (nodes : List Node) (text rest : List ℕ) (seats now : List Seat) (number : ℕ) (l : List ℕ) (h : HasJudged nodes text rest seats number)
+    → seats_with nodes (number + 1) seats (line_of l) ≡ Ok now → seats_in nodes 1 [] (h.front ++ l ∷ []) ≡ Ok now
+kept_more nodes text rest seats now number l h e =
+    one_more nodes 1 [] seats h.front l [] h.kept
+    ∙ ap (λ n. seats_with nodes n seats (line_of l) >>= λ x. Ok x) h.lines_counted
+    ∙ ap (λ r. r >>= λ x. Ok x) e
+
+left_ok : (told : Result (List Seat) ScheduleFault) (seats : List Seat) → Leaves told (Ok true) seats → told ≡ Ok seats
+left_ok (Ok now) seats e = ap Ok (sym e)
+left_ok (Err fault) seats e = absurd e
+
+-- it was kept
+pub judged_more : (nodes : List Node) (text rest later : List ℕ) (seats seats' : List Seat) (number : ℕ) (l : List ℕ) → HasJudged nodes text rest seats number
+    → lines rest ≡ l ∷ lines later → length later < length rest → Leaves (seats_with nodes (number + 1) seats (line_of l)) (Ok true) seats'
+    → HasJudged nodes text later seats' (number + 1)
+judged_more nodes text rest later seats seats' number l h e shorter left = record {
+  front = h.front ++ l ∷ [];
+  parts = h.parts ∙ ap (λ ls. h.front ++ ls) e ∙ sym (append_assoc h.front (l ∷ []) (lines later));
+  kept = kept_more nodes text rest seats seats' number l h (left_ok _ seats' left);
+  lines_counted = let longer = length-append h.front (l ∷ []) in let before = h.lines_counted in omega arith;
+  counted = let before = h.counted in omega arith;
+}
+
+left_err : (told : Result (List Seat) ScheduleFault) (fault : ScheduleFault) (seats : List Seat) → Leaves told (Err fault) seats → told ≡ Err fault
+left_err (Ok now) fault seats e = absurd e
+left_err (Err f) fault seats e = ap Err (sym e)
+
+-- it has a fault
+pub first_found : (nodes : List Node) (text rest later : List ℕ) (seats seats' : List Seat) (number : ℕ) (l : List ℕ) (fault : ScheduleFault) → HasJudged nodes text rest seats number
+    → lines rest ≡ l ∷ lines later → Leaves (seats_with nodes (number + 1) seats (line_of l)) (Err fault) seats'
+    → fault_of (told_by nodes (lines text)) ≡ Some fault
+first_found nodes text rest later seats seats' number l fault h e left =
+    fault_same nodes (lines text) ∙ ap fault_of (next_line nodes text rest later seats number l h e)
+    ∙ ap (λ r. fault_of (r >>= λ now. seats_in nodes (number + 1 + 1) now (lines later))) (left_err _ fault seats' left)
+
+script_of : (told : Result Script ScheduleFault) (seats : List Seat) → seen told ≡ Ok seats → (script : Script) × (told ≡ Ok script) × (script.seats ≡ seats)
+script_of (Ok script) seats e = (script, refl, cc)
+script_of (Err fault) seats e = absurd (cc)
+
+left_full : (told : Result (List Seat) ScheduleFault) (seats : List Seat) → Leaves told (Ok false) seats → (now : List Seat) × (told ≡ Ok now) × (64 < length now)
+left_full (Ok now) seats h = (now, refl, h)
+left_full (Err fault) seats h = absurd h
+
+-- it has one manager too many
+pub is_crowded : (nodes : List Node) (text rest later : List ℕ) (seats seats' : List Seat) (number : ℕ) (l : List ℕ) → HasJudged nodes text rest seats number
+    → lines rest ≡ l ∷ lines later → Leaves (seats_with nodes (number + 1) seats (line_of l)) (Ok false) seats'
+    → IsSoundOrCrowded nodes (lines text)
+is_crowded nodes text rest later seats seats' number l h e left =
+    let full = left_full _ seats' left in
+    let s = script_of (told_by nodes (h.front ++ l ∷ [])) full.0 (told_same nodes (h.front ++ l ∷ []) ∙ kept_more nodes text rest seats full.0 number l h full.1) in
+    let Many : List Seat → Type 0 = λ xs. 64 < length xs in
+    inr (record {
+      front = h.front ++ l ∷ [];
+      back = lines later;
+      parts = h.parts ∙ ap (λ ls. h.front ++ ls) e ∙ sym (append_assoc h.front (l ∷ []) (lines later));
+      script = s.0;
+      told = s.1;
+      many = subst Many (sym s.2) full.2;
+    })
+
+append_none : (xs : List (List ℕ)) → xs ++ [] ≡ xs
+append_none [] = refl
+append_none (x ∷ xs) = ap (λ ys. x ∷ ys) (append_none xs)
+
+-- there is no line more
+pub is_sound : (nodes : List Node) (text rest : List ℕ) (seats : List Seat) (number : ℕ) → HasJudged nodes text rest seats number → lines rest ≡ []
+    → IsSoundOrCrowded nodes (lines text)
+is_sound nodes text rest seats number h e =
+    inl (fault_same nodes (lines text)
+    ∙ ap (λ ls. fault_of (seats_in nodes 1 [] ls)) (h.parts ∙ ap (λ ls. h.front ++ ls) e ∙ append_none h.front)
+    ∙ ap fault_of h.kept)
+
+-- no text says that memory is wanting -----------------------------------------------------------
+
+-- it is a value, or a fault that is not want of memory
+abbrev IsPlain : {T : Type 0} → Result T ScheduleFault → Type 0
+IsPlain (Err fault.Memory) = ⊥
+IsPlain _ = Unit {0}
+
+plain_then : {A B : Type 0} (r : Result A ScheduleFault) (f : A → Result B ScheduleFault) → IsPlain r → ((x : A) → IsPlain (f x)) → IsPlain (r >>= f)
+plain_then (Ok x) f p q = q x
+plain_then (Err fault.Memory) f p q = absurd p
+plain_then (Err (fault.Syntax line)) f p q = tt
+plain_then (Err (fault.Name line)) f p q = tt
+plain_then (Err (fault.Seat line)) f p q = tt
+
+plain_either : {T : Type 0} (b : Bool) (x y : Result T ScheduleFault) → IsPlain x → IsPlain y → IsPlain (if b then x else y)
+plain_either true x y p q = p
+plain_either false x y p q = q
+
+at_plain : (nodes : List Node) (seats : List Seat) (number : ℕ) (new : NewManager) (p : Option NodePort) → IsPlain (seat_at nodes seats number new p)
+at_plain nodes seats number new None = tt
+at_plain nodes seats number new (Some p) = plain_either (is_free nodes seats p) _ _ tt tt
+
+seat_plain : (nodes : List Node) (seats : List Seat) (number : ℕ) (new : NewManager) → IsPlain (new_seat nodes seats number new)
+seat_plain nodes seats number new = plain_either (is_some (seat_of seats new.name)) _ _ tt (at_plain nodes seats number new (port_of nodes new.at))
+
+command_plain : (number : ℕ) (before : Script) (given : Option Command) → IsPlain (with_command number before given)
+command_plain number before None = tt
+command_plain number before (Some given) = tt
+
+line_plain : (nodes : List Node) (number : ℕ) (before : Script) (told : Option Line) → IsPlain (with_line nodes number before told)
+line_plain nodes number before None = tt
+line_plain nodes number before (Some line.Empty) = tt
+line_plain nodes number before (Some (line.Manager new)) = plain_then (new_seat nodes before.seats number new) _ (seat_plain nodes before.seats number new) (λ seat. tt)
+line_plain nodes number before (Some (line.Command spoken)) = command_plain number before (command_of nodes before.seats spoken)
+
+lines_plain : (nodes : List Node) (number : ℕ) (before : Script) (ls : List (List ℕ)) → IsPlain (with_lines nodes number before ls)
+lines_plain nodes number before [] = tt
+lines_plain nodes number before (l ∷ ls) = plain_then (with_line nodes number before (line_of l)) _ (line_plain nodes number before (line_of l)) (λ now. lines_plain nodes (number + 1) now ls)
+
+told_fault : (told : Result Script ScheduleFault) (why : ScheduleFault) → fault_of told ≡ Some why → told ≡ Err why
+told_fault (Ok told) why e = absurd (cc)
+told_fault (Err f) why e = cc
+
+refuses : (why : ScheduleFault) (told : Result Script ScheduleFault) → told ≡ Err why → IsRefused why told
+refuses fault.Memory told e = tt
+refuses (fault.Syntax line) told e = e
+refuses (fault.Name line) told e = e
+refuses (fault.Seat line) told e = e
+
+-- the text is refused for its first fault
+pub first_refuses : (nodes : List Node) (text : List ℕ) (why : ScheduleFault) → fault_of (told_by nodes (lines text)) ≡ Some why → IsRefused why (schedule_of nodes text)
+unfolding schedule_of
+first_refuses nodes text why e = refuses why (told_by nodes (lines text)) (told_fault (told_by nodes (lines text)) why e)
+
+-- and that is never want of memory
+pub first_plain : (nodes : List Node) (text : List ℕ) → fault_of (told_by nodes (lines text)) ≡ Some fault.Memory → ⊥
+first_plain nodes text e =
+    subst (λ (r : Result Script ScheduleFault). IsPlain r) (told_fault (told_by nodes (lines text)) fault.Memory e) (lines_plain nodes 1 (record { seats = []; commands = [] }) (lines text))

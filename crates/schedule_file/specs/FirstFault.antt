@@ -1,0 +1,48 @@
+-- The first fault of a text, by the managers alone.
+use Rattle.std.specs.Prelude.{◌≡◌, ◌⊎◌, ◌<◌, ℕ, ◌+◌, Bool, true, false, List, [], ◌∷◌, ◌++◌, Option, None, Some, Result, Ok, Err, length}
+use Rattle.topo_file.specs.declared.node.Node.{Node}
+use Rattle.schedule_file.specs.declared.command.Command.{Command}
+use Rattle.schedule_file.specs.declared.fault.ScheduleFault.{ScheduleFault}
+use Rattle.schedule_file.specs.declared.fault.ScheduleFault.TheVariants.{Syntax, Name}
+use Rattle.schedule_file.specs.declared.line.Line.{Line}
+use Rattle.schedule_file.specs.declared.line.Line.TheVariants as line
+use Rattle.schedule_file.specs.declared.schedule.Seat.{Seat}
+use Rattle.schedule_file.specs.Command.{line_of}
+use Rattle.schedule_file.specs.Schedule.{◌>>=◌, Script, command_of, new_seat, told_by}
+
+-- the fault of what is told, where it has one
+abbrev pub fault_of : {T : Type 0} → Result T ScheduleFault → Option ScheduleFault
+fault_of (Ok value) = None
+fault_of (Err fault) = Some fault
+
+-- some of the lines, from the first on, tell more than 64 managers, and have no fault
+pub record IsCrowded (nodes : List Node) (lines : List (List ℕ)) : Type 0 where
+  pub front : List (List ℕ)
+  pub back : List (List ℕ)
+  pub parts : lines ≡ front ++ back
+  pub script : Script
+  pub told : told_by nodes front ≡ Ok script
+  pub many : 64 < length script.seats
+
+-- the lines have no fault, or more than 64 managers stand above it
+abbrev pub IsSoundOrCrowded : List Node → List (List ℕ) → Type 0
+IsSoundOrCrowded nodes lines = (fault_of (told_by nodes lines) ≡ None) ⊎ IsCrowded nodes lines
+
+-- a command keeps the managers, where its names are known
+abbrev pub where_known : ℕ → List Seat → Option Command → Result (List Seat) ScheduleFault
+where_known number seats (Some command) = Ok seats
+where_known number seats None = Err (Name number)
+
+-- the managers with that of a line
+abbrev pub seats_with : List Node → ℕ → List Seat → Option Line → Result (List Seat) ScheduleFault
+seats_with nodes number seats None = Err (Syntax number)
+seats_with nodes number seats (Some line.Empty) = Ok seats
+seats_with nodes number seats (Some (line.Manager new)) = new_seat nodes seats number new >>= λ seat. Ok (seats ++ seat ∷ [])
+seats_with nodes number seats (Some (line.Command spoken)) = where_known number seats (command_of nodes seats spoken)
+
+-- a call left these managers, or there was no room for all of them, or it answered the fault
+abbrev pub Leaves : Result (List Seat) ScheduleFault → Result Bool ScheduleFault → List Seat → Type 0
+Leaves (Ok now) (Ok true) new = new ≡ now
+Leaves (Ok now) (Ok false) new = 64 < length now
+Leaves (Err fault) (Err answered) new = answered ≡ fault
+Leaves _ _ new = ⊥

@@ -1,0 +1,62 @@
+//! The first fault of a text, found with no memory from the allocator.
+ghost use Rattle.std.specs.Prelude.{◌≡◌, None, Some, IfSome};
+ghost use Rattle.text_words.specs.Text.{lines};
+ghost use Rattle.schedule_file.specs.Command.{line_of};
+ghost use Rattle.schedule_file.specs.FirstFault.{IsSoundOrCrowded, Leaves, fault_of, seats_with};
+ghost use Rattle.schedule_file.specs.Schedule.{told_by};
+
+use crate::fault::ScheduleFault;
+use crate::line::{Line, read_line};
+use crate::names::command;
+use crate::schedule::{Seat, new_seat};
+use arrayvec::ArrayVec;
+use text_words::split_line;
+use topo_file::Topology;
+
+/// The managers so far, as many as are known with no memory from the allocator.
+type Seats = ArrayVec<Seat, 64>;
+
+/// The first fault of a text. `None` also where more than 64 managers stand above it. Takes a search
+/// and a walk over the managers for each line.
+pub(crate) fn first_fault(topology: &Topology, text: &[u8]) -> Option<ScheduleFault>
+    ensures found { IfSome result (λ fault.
+        fault_of (told_by topology.now.nodes (lines text.now)) ≡ Some fault) }
+    ensures none { result ≡ None → IsSoundOrCrowded topology.now.nodes (lines text.now) }
+{
+    let mut seats = Seats::new();
+    let mut number = 0;
+    let mut rest = text;
+    while let Some((line, later)) = split_line(rest) {
+        number += 1;
+        match judge_line(topology, &mut seats, number, line) {
+            Ok(true) => rest = later,
+            Ok(false) => return None,
+            Err(fault) => return Some(fault),
+        }
+    }
+    None
+}
+
+/// Judges a line below these managers, and whether there is room for its own.
+fn judge_line(
+    topology: &Topology,
+    seats: &mut Seats,
+    number: usize,
+    line: &[u8],
+) -> Result<bool, ScheduleFault>
+    ensures { Leaves (seats_with topology.now.nodes number seats.old.items (line_of line.now))
+        result seats.new.items }
+{
+    match read_line(line) {
+        None => Err(ScheduleFault::Syntax { line: number }),
+        Some(Line::Empty) => Ok(true),
+        Some(Line::Manager(new)) => {
+            let seat = new_seat(topology, seats.as_slice(), number, new)?;
+            Ok(seats.try_push(seat).is_ok())
+        }
+        Some(Line::Command(spoken)) => match command(topology, seats.as_slice(), spoken) {
+            Some(_) => Ok(true),
+            None => Err(ScheduleFault::Name { line: number }),
+        },
+    }
+}

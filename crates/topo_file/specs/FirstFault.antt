@@ -1,0 +1,54 @@
+-- The first fault of a text's lines, apart from those of its links, by the names of the nodes alone.
+use Rattle.std.specs.Prelude.{◌≡◌, ℕ, ◌+◌, Bool, false, List, [], ◌∷◌, ◌++◌, Option, None, Some, Result, Ok, Err, length, nat_lt, if◌then◌else◌}
+use Rattle.std.specs.List.{list_any}
+use Rattle.std.specs.Option.{option_map_or}
+use Rattle.std.specs.Str.{bytes_eq}
+use Rattle.text_words.specs.Text.{lines}
+use Rattle.topo_file.specs.declared.fault.TopoFault.{TopoFault}
+use Rattle.topo_file.specs.declared.fault.TopoFault.TheVariants.{Syntax, Name, TooManyNodes}
+use Rattle.topo_file.specs.declared.line.Line.{Line}
+use Rattle.topo_file.specs.declared.line.Line.TheVariants as line
+use Rattle.topo_file.specs.Line.{line_of}
+use Rattle.topo_file.specs.Reading.{◌>>=◌, node_of, told_by}
+
+-- the fault of what is told, where it has one
+abbrev pub fault_of : {T : Type 0} → Result T TopoFault → Option TopoFault
+fault_of (Ok value) = None
+fault_of (Err fault) = Some fault
+
+-- the first fault of a text's lines, apart from those of its links: a peer or a port that is not there, or a port with two links
+unfoldable pub first_line_fault : List ℕ → Option TopoFault
+first_line_fault text = fault_of (told_by (lines text))
+
+-- a name is among those that are there
+abbrev pub is_used : List (Option (List ℕ)) → List ℕ → Bool
+is_used names name = list_any (λ used. option_map_or (λ n. bytes_eq n name) used false) names
+
+-- the names of the nodes with one more
+abbrev pub with_new_name : ℕ → List (Option (List ℕ)) → List ℕ → Result (List (Option (List ℕ))) TopoFault
+with_new_name number names name =
+    if is_used names name then Err (Name number)
+    else (if nat_lt (length names) 1024 then Ok (names ++ Some name ∷ []) else Err (TooManyNodes number))
+
+-- a link stands below a node
+abbrev pub below_node : ℕ → List (Option (List ℕ)) → Result (List (Option (List ℕ))) TopoFault
+below_node number [] = Err (Syntax number)
+below_node number (name ∷ names) = Ok (name ∷ names)
+
+-- the names with that of a line
+abbrev pub with_name : ℕ → List (Option (List ℕ)) → Option Line → Result (List (Option (List ℕ))) TopoFault
+with_name number names None = Err (Syntax number)
+with_name number names (Some line.Empty) = Ok names
+with_name number names (Some (line.Node node)) = node_of number node >>= λ n. with_new_name number names n.name
+with_name number names (Some (line.Link link)) = below_node number names
+
+-- and those of lines that count from this number
+abbrev pub with_names : ℕ → List (Option (List ℕ)) → List (List ℕ) → Result (List (Option (List ℕ))) TopoFault
+with_names number names [] = Ok names
+with_names number names (line ∷ later) = with_name number names (line_of line) >>= λ now. with_names (number + 1) now later
+
+-- a call left these names, or answered the fault
+abbrev pub Leaves : {T : Type 0} → Result T TopoFault → Result (Unit {0}) TopoFault → T → Type 0
+Leaves (Ok now) (Ok u) new = new ≡ now
+Leaves (Err fault) (Err answered) new = answered ≡ fault
+Leaves _ _ new = ⊥

@@ -1,0 +1,73 @@
+//! The first fault of a text's lines, found with no memory from the allocator.
+ghost use Rattle.std.specs.Prelude.{◌≡◌};
+ghost use Rattle.topo_file.specs.FirstFault.{Leaves, first_line_fault, is_used, with_name, with_new_name};
+ghost use Rattle.topo_file.specs.Line.{line_of};
+
+use crate::draft::node;
+use crate::fault::TopoFault;
+use crate::line::{Line, read_line};
+use crate::node::Node;
+use crate::nodes::MAX_NODES;
+use arrayvec::ArrayVec;
+use text_words::{NodeName, split_line};
+
+/// The names of the nodes so far; each is there.
+type Names = ArrayVec<Option<NodeName>, MAX_NODES>;
+
+/// The first fault of a text's lines, apart from those of its links. Takes a walk over the names for
+/// each node.
+pub(crate) fn first_line_fault(text: &[u8]) -> Option<TopoFault>
+    ensures { result ≡ first_line_fault text.now }
+{
+    let mut names = Names::new();
+    let mut number = 0;
+    let mut rest = text;
+    while let Some((line, later)) = split_line(rest) {
+        number += 1;
+        if let Err(fault) = judge_line(&mut names, number, line) {
+            return Some(fault);
+        }
+        rest = later;
+    }
+    None
+}
+
+/// Judges a line behind those of the nodes with these names.
+fn judge_line(names: &mut Names, number: usize, line: &[u8]) -> Result<(), TopoFault>
+    ensures { Leaves (with_name number names.old.items (line_of line.now)) result names.new.items }
+{
+    match read_line(line) {
+        None => Err(TopoFault::Syntax { line: number }),
+        Some(Line::Empty) => Ok(()),
+        Some(Line::Node(line)) => judge_node(names, number, node(number, line)?),
+        Some(Line::Link(_)) => {
+            if names.is_empty() {
+                return Err(TopoFault::Syntax { line: number });
+            }
+            Ok(())
+        }
+    }
+}
+
+/// Judges a node behind those with these names.
+fn judge_node(names: &mut Names, line: usize, node: Node) -> Result<(), TopoFault>
+    ensures { Leaves (with_new_name line names.old.items node.name) result names.new.items }
+{
+    if is_used(names.as_slice(), &node.name) {
+        return Err(TopoFault::Name { line });
+    }
+    match names.try_push(Some(node.name)) {
+        Ok(()) => Ok(()),
+        Err(_) => Err(TopoFault::TooManyNodes { line }),
+    }
+}
+
+/// Whether a node has the name.
+fn is_used(names: &[Option<NodeName>], name: &NodeName) -> bool
+    ensures { result ≡ is_used names.now name.now }
+{
+    names.iter().any(|used| match used {
+        Some(used) => used.as_str().as_bytes() == name.as_str().as_bytes(),
+        None => false,
+    })
+}
