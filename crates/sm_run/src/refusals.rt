@@ -1,8 +1,10 @@
 //! What is printed of a call that is refused: its innermost fault's name.
-ghost use Rattle.std.specs.Prelude.{◌≡◌, ◌↔◌, Err, OnOk, codes, ◌++◌};
+ghost use Rattle.std.specs.Prelude.{◌≡◌, ◌↔◌, Err, OnOk};
 ghost use Rattle.std.specs.Io.KnownBytes.{Appends};
 ghost use Rattle.record_file.specs.Writes.{Writes};
-ghost use Rattle.sm_run.specs.Refusals.{fabric_fault_name, refusal_line};
+ghost use Rattle.fabric_sim.specs.FabricFault.{fabric_fault_name};
+ghost use Rattle.sm_manager.specs.Fault.{manager_fault_name};
+ghost use Rattle.sm_run.specs.Refusals.{refusal_line};
 ghost use Rattle.sm_run.specs.Stops.{StopsFor};
 
 use crate::run_fault::RunFault;
@@ -20,7 +22,7 @@ pub(crate) fn refuse_fabric<W: Sink>(sink: &mut W, fault: FabricFault) -> Result
     if fault == FabricFault::Memory {
         return Err(RunFault::Memory);
     }
-    write_refusal(sink, fabric_fault_name(fault))?;
+    write_refusal(sink, fault.name())?;
     Ok(())
 }
 
@@ -46,16 +48,4 @@ fn write_refusal<W: Sink>(sink: &mut W, name: &str) -> Result<(), WriteFault>
     sink.write(b"refused ")?;
     sink.write(name.as_bytes())?;
     sink.write(b"\n")
-}
-
-fn fabric_fault_name(fault: FabricFault) -> &'static str
-    ensures { result.now ≡ fabric_fault_name fault }
-{
-    match fault {
-        FabricFault::NoSuchPacket => "NoSuchPacket",
-        FabricFault::NoSuchPort => "NoSuchPort",
-        FabricFault::PortTaken => "PortTaken",
-        FabricFault::Memory => "Memory",
-        FabricFault::SerialsSpent => "SerialsSpent",
-    }
 }

@@ -12,14 +12,14 @@ overflow_sub-self-then-counts c =
     let one : one_if (counts c.end-ended.result) ≡ 1 = ap one_if (sym c.counts.ensures ∙ c.if-counts.true) in
     let some : 1 ≤ c.self.inside.counting = omega (arith, less, one, c.self.invariant.counting_are) in
     elim c.if-is_step.branch [
-      then-is_step w ↦ subst (λ (x : Inside). 1 ≤ x.counting) (sym w.self-inside-is) some
+      | then-is_step w ↦ subst (λ (x : Inside). 1 ≤ x.counting) (sym w.self-inside-is) some
       | else-is_step w ↦ subst (λ (x : Inside). 1 ≤ x.counting) (sym w.self-inside-is) some
     ]
 
 pub invariant_of-self : goal.invariant_of-self
 invariant_of-self c =
     elim c.if-is_step.branch [
-      then-is_step w ↦
+      | then-is_step w ↦
           subst (λ (x : Inside). AreCounted x.table.requests x.steps (x.counting - 1)) (sym w.self-inside-is)
           (counted_without c.self.inside.table.requests c.end-ended.new.self.requests c.args.place c.end-ended.result
           c.self.inside.steps c.self.inside.counting _ _ c.self.invariant (sym c.end-ended.ensures.request) c.end-ended.ensures.moved
@@ -36,7 +36,7 @@ invariant_of-self c =
 pub invariant_of-self-else-counts : goal.invariant_of-self-else-counts
 invariant_of-self-else-counts c =
     elim c.if-is_step.branch [
-      then-is_step w ↦
+      | then-is_step w ↦
           subst (λ (x : Inside). AreCounted x.table.requests x.steps x.counting) (sym w.self-inside-is)
           (counted_without c.self.inside.table.requests c.end-ended.new.self.requests c.args.place c.end-ended.result
           c.self.inside.steps c.self.inside.counting _ _ c.self.invariant (sym c.end-ended.ensures.request) c.end-ended.ensures.moved
