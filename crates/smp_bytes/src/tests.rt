@@ -182,3 +182,35 @@ fn prints_numbers_and_kinds(rt: HostRuntime) -> Result<(), Fail> {
     assert!(rt; text.as_str() == "00ab000000000101 49151 254 7 ca switch router");
     Ok(())
 }
+
+#[test]
+fn answers_over_its_way(rt: HostRuntime) -> Result<(), Fail> {
+    let (set, sm) = (AttributeId::PORT_INFO, AttributeId::SM_INFO);
+    let mut path = Path::new();
+    path.push(PortNum::new(3));
+    let request = Smp::directed(Method::SET, set, 1, 7, &path, &[0; 64]);
+    let reply = request.answer(Status::INVALID_FIELD, &[9; 64]);
+    for (place, value, is_answer) in [
+        (4, 0x80, true),
+        (5, 0, true),
+        (1, 0x01, false),
+        (7, 2, false),
+        (14, 1, false),
+        (15, 8, false),
+        (17, 0x12, false),
+        (23, 2, false),
+        (129, 1, false),
+        (130, 1, true),
+    ] {
+        let mut bytes = *reply.bytes();
+        if let Some(byte) = bytes.get_mut(place) {
+            *byte = value;
+        }
+        let smp = Smp::parse(&bytes).ok().ok_or("no packet")?;
+        assert!(rt; smp.answers(7, set, 1, Some(&path)) == is_answer, "{place}");
+    }
+    let routed = Smp::lid_routed(Method::GET, sm, 0, 7, &[0; 64]);
+    let by_lids = routed.answers(7, sm, 0, None) && !request.answers(7, set, 1, None);
+    assert!(rt; by_lids && !routed.answers(7, sm, 0, Some(&Path::new())));
+    Ok(())
+}

@@ -83,7 +83,7 @@ fn asks_in_order(rt: HostRuntime) -> Result<(), Fail> {
             held && asked == (0x1_0000_0000 + u64::from(number), attribute, modifier),
             "{number}"
         );
-        let refused = refusal(sweep.on_reply_into(answer(&smp, 1).bytes(), &mut store));
+        let refused = refusal(sweep.on_reply_into(&answer(&smp, 1), &mut store));
         assert!(rt; refused == None, "{number}");
     }
     let far = sweep
@@ -130,7 +130,7 @@ fn spoilt() -> [(usize, u8, SweepFault); 10] {
         (15, 2, SweepFault::NotOutstanding),
         (17, 0x12, SweepFault::NotOutstanding),
         (23, 1, SweepFault::NotOutstanding),
-        (1, 0x01, SweepFault::Bad(ReportFault::Class)),
+        (1, 0x01, SweepFault::NotOutstanding),
         (3, 0x01, SweepFault::Bad(ReportFault::Method)),
         (4, 0x00, SweepFault::Bad(ReportFault::Direction)),
         (5, 0x1C, SweepFault::Bad(ReportFault::Status)),
@@ -149,7 +149,10 @@ fn refuses_in_order(rt: HostRuntime) -> Result<(), Fail> {
         if let Some(byte) = bytes.get_mut(place) {
             *byte = value;
         }
-        let judged = refusal(sweep.judge(&bytes));
+        let judged = match Smp::parse(&bytes) {
+            Ok(smp) => refusal(sweep.judge(&smp)),
+            Err(why) => Some(SweepFault::Bad(ReportFault::Smp(why))),
+        };
         let refused = refusal(sweep.on_reply(&bytes));
         assert!(rt; judged == Some(fault) && refused == Some(fault), "{place}");
     }
