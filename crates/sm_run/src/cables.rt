@@ -1,6 +1,10 @@
 //! The commands about cables and ports.
-ghost use Rattle.std.specs.Prelude.{◌≡◌, length};
+ghost use Rattle.std.specs.Prelude.{◌≡◌, None, OnOk};
+ghost use Rattle.std.specs.Io.KnownBytes.{Appends};
 ghost use Rattle.fabric_sim.specs.Changes.{cut, plugged};
+ghost use Rattle.fabric_sim.specs.Ping.{ping, ping_fault};
+ghost use Rattle.fabric_sim.specs.Simulation.{fabric_of};
+ghost use Rattle.sm_run.specs.Lines.{ping_line};
 ghost use Rattle.sm_run.specs.Stops.{StopsFor};
 
 use crate::lines::write_ping;
@@ -49,6 +53,9 @@ impl World<'_> {
         lid: Lid,
         sink: &mut W,
     ) -> Result<(), RunFault>
+        ensures reached { OnOk result (ping_fault self.now.fabric from ≡ None
+            → Appends (W.written sink.old) (W.written sink.new)
+            (ping_line topology.now.nodes from lid (ping (fabric_of self.now.fabric) lid from))) }
         ensures stops { StopsFor W.written W.has_failed result sink.old sink.new }
     {
         match self.fabric.ping(from, lid) {
