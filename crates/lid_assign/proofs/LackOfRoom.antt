@@ -19,8 +19,8 @@ tests_no_room n r e = let parts = and_parts _ _ e in (ltb-true 0 n parts.0, leb-
 -- the test says what the words say
 pub no_room_law : NoRoomLaw
 no_room_law cells = (
-    tests_no_room (length (end_ports cells)) (room cells),
-    λ h. and_from _ _ (lt-ltb 0 _ h.0) (le-leb (room cells) _ h.1),
+  tests_no_room (length (end_ports cells)) (room cells),
+  λ h. and_from _ _ (lt-ltb 0 _ h.0) (le-leb (room cells) _ h.1),
 )
 
 -- where LIDs are not refused, there is room

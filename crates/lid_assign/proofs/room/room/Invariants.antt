@@ -10,5 +10,5 @@ use Rattle.lid_assign.proofs.room.room.Given as goal
 abbrev pub invariant-loop-sighting : goal.invariant-loop-sighting
 invariant-loop-sighting l = (l.least ≤ 0xC000)
     × (min l.least (least_room (filter_map (usable_cap (cells_of l.store)) (cells_left l.sighting-iterator)))
-        ≡ least_room (filter_map (usable_cap (cells_of l.store)) (cells_of l.store)))
+    ≡ least_room (filter_map (usable_cap (cells_of l.store)) (cells_of l.store)))
     × (l.yielded ++ cells_left l.sighting-iterator ≡ cells_of l.store)

@@ -9,5 +9,5 @@ use Rattle.subnet_view.proofs.end_port.count_end_ports.Given as goal
 abbrev pub invariant-loop-sighting : goal.invariant-loop-sighting
 invariant-loop-sighting l =
     (l.count + length (filter_map (guid_and_port (cells_of l.store)) (cells_left l.sighting-iterator))
-      ≡ length (cells_left l.sighting-iterator) + length (filter_map (guid_and_port (cells_of l.store)) (cells_of l.store)))
+    ≡ length (cells_left l.sighting-iterator) + length (filter_map (guid_and_port (cells_of l.store)) (cells_of l.store)))
     × (l.yielded ++ cells_left l.sighting-iterator ≡ cells_of l.store)
