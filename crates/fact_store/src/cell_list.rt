@@ -52,7 +52,8 @@ pub(crate) fn merge_cells(
     ensures cells { IfOk result (λ cells. AreCells cells.items) }
     ensures merged { IfOk result (λ cells.
         view cells.items ≡ merge (view first.now.items) (view second.now.items)) }
-    ensures counted { IfOk result (λ _. steps.new ≡ compared_by_walk first.now.items second.now.items) }
+    ensures counted { IfOk result (λ _.
+        steps.new ≡ compared_by_walk first.now.items second.now.items) }
     ensures fewer { steps.new ≤ length first.now.items + length second.now.items }
 {
     let mut cells = PageList::new(first.allocator());

@@ -4,7 +4,8 @@ ghost use Rattle.page_list.specs.Split.{IsSplit};
 use crate::page_list::PageList;
 use crate::place::place_near;
 
-/// The pages in which a part of a list lies. They say where to look first, and no answer depends on them.
+/// The pages in which a part of a list lies, where a search looks first. A split is fair whatever they
+/// say.
 #[derive(Clone, Copy)]
 pub struct Pages {
     first: usize,
@@ -37,10 +38,10 @@ impl<T: Copy> PageList<T> {
         }
     }
 
-    /// An item from place `low` on and before `high` with no more than `most` on either side: the first of the
-    /// page in the middle of `pages`, where that is such a one, so that searches read the same few items, and
-    /// else the one in the middle. Takes one step where the part lies in one page, and mostly otherwise; else
-    /// as many as the number of pages has binary digits.
+    /// An item from place `low` on and before `high` with no more than `most` on either side: the first
+    /// of the page in the middle of `pages`, where that is such a one, so that searches read the same
+    /// few items, and else the one in the middle. Takes one step where the part lies in one page, and
+    /// mostly otherwise; else as many as the number of pages has binary digits.
     pub fn split(&self, low: usize, high: usize, most: usize, pages: Pages) -> Split<T>
         requires part { low < high }
         requires within { high ≤ length self.now.items }

@@ -113,7 +113,8 @@ fn guid_and_port(store: &Store, sighting: &Sighting) -> Option<(Guid, EndPort)>
     }
 }
 
-/// Whether the port is port 0 of a switch, or a port from 1 to the count of another node. Takes a search.
+/// Whether the port is port 0 of a switch, or a port from 1 to the count of another node. Takes a
+/// search.
 fn is_end_port_place(store: &Store, node: Guid, port: PortNum) -> bool
     ensures { result ≡ is_end_port_place (cells_of store.now) node port }
 {

@@ -35,7 +35,8 @@ fn listed_switches(alloc: Global, store: &Store) -> Result<Vec<Guid>, AllocError
     Ok(found)
 }
 
-/// The node of a cell of the store, where it is a usable switch. Takes a search where it is a switch.
+/// The node of a cell of the store, where it is a usable switch. Takes a search where it is a
+/// switch.
 pub fn usable_guid(store: &Store, sighting: &Sighting) -> Option<Guid>
     requires { cell_for store.now sighting.now.0 ≡ Some sighting.now.1 }
     ensures { result ≡ usable_guid (cells_of store.now) sighting.now }

@@ -34,8 +34,8 @@ impl Model for Graph {
 }
 
 impl Graph {
-    /// The usable switches of the view with the wires between them. Takes some nine searches a port that is
-    /// linked to one of them, one for another, and a search in breadth for each component.
+    /// The usable switches of the view with the wires between them. Takes some nine searches a port
+    /// that is linked to one of them, one for another, and a search in breadth for each component.
     pub fn of(alloc: Global, store: &Store) -> Result<Self, Refused>
         ensures { IfOk result (λ graph. graph ≡ graph_of (cells_of store.now)) }
     {

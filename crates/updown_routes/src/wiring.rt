@@ -36,8 +36,8 @@ impl Model for Wiring {
 }
 
 impl Wiring {
-    /// The usable switches of the view with the wires between them. Takes some nine searches a port that is linked
-    /// to one of them, and one for another.
+    /// The usable switches of the view with the wires between them. Takes some nine searches a port
+    /// that is linked to one of them, and one for another.
     pub(crate) fn of(alloc: Global, store: &Store) -> Result<Self, Refused>
         ensures { IfOk result (λ wiring. wiring ≡ graph_of (cells_of store.now)) }
     {
@@ -126,8 +126,8 @@ fn exits_of(
     Ok(found)
 }
 
-/// The wire in a port, where it leads to a switch. A search and one among the switches, and eight more
-/// where the link in the port names one of these.
+/// The wire in a port, where it leads to a switch. A search and one among the switches, and eight
+/// more where the link in the port names one of these.
 fn exit_at(store: &Store, guids: &[Guid], guid: Guid, port: PortNum) -> Option<Exit>
     requires { guids.now ≡ switches (cells_of store.now) }
     ensures wire { option_map (by_guid guids.now) result ≡ exit_at (cells_of store.now) guid port }
