@@ -110,7 +110,8 @@ impl<T: Numbered + Drop> RequestTable<T> {
 
     /// The place of the one with this number. Takes a search.
     pub fn place_of(&self, number: u64) -> Option<usize>
-        ensures { IsPlaceFor (with_number T.number number self.now.requests) self.now.requests result }
+        ensures { IsPlaceFor (with_number T.number number self.now.requests)
+            self.now.requests result }
     {
         let place = self.count_below(number);
         let request = self.get(place)?;

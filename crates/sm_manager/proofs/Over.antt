@@ -1,5 +1,5 @@
 -- A step is over: how many go out then, and whether there are numbers for them.
-use Rattle.std.proofs.Common.{◌≡◌, ℕ, zero, suc, ◌+◌, ◌≤◌, ◌^◌, Bool, true, false, cond, List, [], ◌∷◌, ◌++◌, length, refl}
+use Rattle.std.proofs.Common.{◌≡◌, ℕ, zero, suc, ◌+◌, ◌≤◌, ◌^◌, Bool, true, false, cond, List, ◌++◌, length, refl}
 use Rattle.std.proofs.Common.{sym, ap, ◌∙◌, subst, arith}
 use Rattle.std.proofs.lemmas.Bool.{cond-true, cond-false, lt-ltb, le-ltb, ltb-false, ne_eqb}
 use Rattle.std.specs.Prelude.{Option, Some, None, ◌&&◌, ◌||◌, ◌==◌, drop, not, nat_lt, remove, slice_get}
@@ -11,7 +11,7 @@ use Rattle.sm_manager.specs.declared.pending.Pending.{Pending}
 use Rattle.sm_manager.specs.declared.pending.Purpose.{Purpose}
 use Rattle.sm_manager.specs.declared.pending.Purpose.TheVariants.{Step}
 use Rattle.sm_manager.specs.Manager.{Manager, Writing}
-use Rattle.sm_manager.specs.Packets.{Called, refused, done, unless_spent}
+use Rattle.sm_manager.specs.Packets.{refused, done, unless_spent}
 use Rattle.sm_manager.specs.Plans.{number_fault}
 use Rattle.sm_manager.specs.Requests.{AreNumbered, counts, how_many, is_for_step, is_step, no_step_waits, without_number}
 use Rattle.sm_manager.specs.Writing.{count_after, count_with, is_spent, next_pending, next_phase, noted, passed}

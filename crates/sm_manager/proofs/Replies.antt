@@ -1,5 +1,5 @@
 -- A reply to the sweep, by how the sweep judges it.
-use Rattle.std.proofs.Common.{◌≡◌, ℕ, true, false, List, refl, sym, ap, ◌∙◌, subst}
+use Rattle.std.proofs.Common.{ℕ, List, refl, sym, ap, subst}
 use Rattle.std.specs.Prelude.{Some, None, Result, Ok, Err}
 use Rattle.std.specs.Result.{result_err}
 use Rattle.request_table.proofs.Places.{some_is}

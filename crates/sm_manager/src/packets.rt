@@ -44,8 +44,10 @@ impl Manager {
 
     /// Takes a reply to the sweep.
     fn take_reply(&mut self, smp: &Smp) -> Result<(), ManagerFault>
-        ensures judged { JudgesButFor is_memory result (sweep_answered self.old smp.now self.old.sweep).fault }
-        ensures ok { OnOk result (self.new ≡ (sweep_answered self.old smp.now self.old.sweep).manager) }
+        ensures judged { JudgesButFor is_memory result
+            (sweep_answered self.old smp.now self.old.sweep).fault }
+        ensures ok { OnOk result (self.new
+            ≡ (sweep_answered self.old smp.now self.old.sweep).manager) }
         ensures err { OnErr result (self.new ≡ self.old) }
     {
         let Some(sweep) = &mut self.sweep else {
@@ -85,7 +87,8 @@ impl Manager {
 
     /// A request of the sweep was not answered in time.
     fn end_request(&mut self, transaction: u64) -> Result<(), ManagerFault>
-        ensures judged { JudgesButFor is_memory result (sweep_gave_up self.old transaction self.old.sweep).fault }
+        ensures judged { JudgesButFor is_memory result
+            (sweep_gave_up self.old transaction self.old.sweep).fault }
         ensures ok { OnOk result (self.new
             ≡ (sweep_gave_up self.old transaction self.old.sweep).manager) }
         ensures err { OnErr result (self.new ≡ self.old) }

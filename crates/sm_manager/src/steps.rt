@@ -89,7 +89,8 @@ impl Manager {
 
     /// Takes an answer to a step.
     pub(crate) fn take_answer(&mut self, smp: &Smp) -> Result<(), ManagerFault>
-        ensures judged { JudgesButFor is_memory result (step_answered self.old smp.now (pending_for self.old smp.now)).fault }
+        ensures judged { JudgesButFor is_memory result
+            (step_answered self.old smp.now (pending_for self.old smp.now)).fault }
         ensures ok { OnOk result (self.new
             ≡ (step_answered self.old smp.now (pending_for self.old smp.now)).manager) }
         ensures err { OnErr result (self.new ≡ self.old) }
@@ -104,7 +105,8 @@ impl Manager {
     pub(crate) fn end_step(&mut self, place: usize, was_done: bool) -> Result<(), ManagerFault>
         requires { place < length self.old.pending }
         ensures judged { (p : Pending) → slice_get self.old.pending place ≡ Some p
-            → JudgesButFor is_memory result (unless_spent self.old (step_over self.old p was_done)).fault }
+            → JudgesButFor is_memory result
+                (unless_spent self.old (step_over self.old p was_done)).fault }
         ensures ok { (p : Pending) → slice_get self.old.pending place ≡ Some p
             → OnOk result (self.new ≡ (unless_spent self.old (step_over self.old p was_done)).manager) }
         ensures err { OnErr result (self.new ≡ self.old) }

@@ -6,7 +6,6 @@ use Rattle.std.specs.List.{AllByRecursion, AllWithin}
 use Rattle.std.specs.List.Sorted.{IsPartitionedBy}
 use Rattle.std.proofs.lemmas.Bool.{and_parts, cond-true, cond-false, cases_lt, eqb-true}
 use Rattle.std.proofs.lemmas.Option.{slice_get-get_or, slice_get_within}
-use Rattle.request_table.specs.Order.{IsPlace}
 use Rattle.request_table.proofs.Places.{all_map, found_in_place, if_passes, ordered_at, place_head, place_here, place_tail, some_is}
 use Rattle.sweep.specs.Order.{AreInOrder, IsPlaceFor, found_at, has_key, is_before, passes_at, placed}
 use Rattle.sweep.proofs.Keys.{before_trans, first_later, first_other, level_same, not_before_same, same_key, other_key, later_key}

@@ -1,5 +1,5 @@
 -- What a sweep answers to a reply, and what it has then.
-use Rattle.std.specs.Prelude.{◌≡◌, ℕ, ◌+◌, ◌^◌, Bool, true, ◌&&◌, List, [], ◌∷◌, length, find, nat_lt, ◌==◌, if◌then◌else◌, Option, Some, None, Result, Ok, Err}
+use Rattle.std.specs.Prelude.{ℕ, ◌+◌, ◌^◌, Bool, List, length, find, nat_lt, if◌then◌else◌, Option, Some, None, Result, Ok, Err}
 use Rattle.smp_bytes.specs.declared.smp_fault.SmpFault.{SmpFault}
 use Rattle.smp_bytes.specs.Answers.{answers, is_of}
 use Rattle.smp_bytes.specs.Packet.{fault_of}

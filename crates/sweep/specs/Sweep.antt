@@ -1,6 +1,6 @@
 -- A sweep: what it has asked, what it waits for, and what it has found.
 -- InfiniBand Architecture Specification, Volume 1: subnet management, topology discovery; directed route SMPs.
-use Rattle.std.specs.Prelude.{ℕ, ◌+◌, ◌*◌, ◌^◌, ◌≤◌, Bool, true, false, ◌&&◌, not, List, [], ◌∷◌, ◌++◌, length, find, filter, replicate, ◌==◌, if◌then◌else◌, Option, Some, None, option_map, is_some, slice_get}
+use Rattle.std.specs.Prelude.{ℕ, ◌+◌, ◌*◌, ◌^◌, ◌≤◌, Bool, true, false, ◌&&◌, List, [], ◌∷◌, ◌++◌, length, find, replicate, ◌==◌, if◌then◌else◌, Option, Some, None, option_map, is_some, slice_get}
 use Rattle.smp_bytes.specs.Header.{get, node_info, switch_info, port_info}
 use Rattle.smp_bytes.specs.Requests.{directed}
 use Rattle.attr_codec.specs.declared.port_state.PortState.{PortState}

@@ -1,10 +1,8 @@
 -- Where the last that waits ends, the next phase goes out, if there are numbers for it.
-use Rattle.std.proofs.Common.{◌≡◌, ℕ, ◌+◌, ◌≤◌, ◌^◌, Bool, true, Ok, Err, None, Some, sym, ap, ◌∙◌, subst, arith, length, ◌++◌}
+use Rattle.std.proofs.Common.{◌≡◌, ◌+◌, Bool, Some, sym, ap, ◌∙◌, subst, arith, length, ◌++◌}
 use Rattle.std.proofs.lemmas.Result.{err_from_is_err_and}
 use Rattle.std.specs.Prelude.{drop, not, slice_get, ◌&&◌, ◌||◌}
-use Rattle.sm_manager.specs.declared.fault.ManagerFault.{ManagerFault}
-use Rattle.sm_manager.specs.declared.pending.Pending.{Pending}
-use Rattle.sm_manager.specs.Manager.{Manager, Writing}
+use Rattle.sm_manager.specs.Manager.{Manager}
 use Rattle.sm_manager.specs.Packets.{unless_spent}
 use Rattle.sm_manager.specs.Plans.{number_fault}
 use Rattle.sm_manager.specs.Requests.{AreNumbered, without_number}

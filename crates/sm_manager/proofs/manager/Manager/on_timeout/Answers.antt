@@ -1,5 +1,5 @@
 -- The step at the place is the one of the number.
-use Rattle.std.proofs.Common.{◌≡◌, ◌<◌, length, sym, ap, ◌∙◌, subst}
+use Rattle.std.proofs.Common.{◌<◌, length, subst}
 use Rattle.std.proofs.lemmas.Option.{slice_get_within}
 use Rattle.sm_manager.specs.Manager.{Manager}
 use Rattle.sm_manager.proofs.manager.Manager.on_timeout.Goals as goal

@@ -1,6 +1,6 @@
 -- The phases are those of the store's plan, over the last sweep.
 use Rattle.std.proofs.Common.{◌≡◌, List, false, sym, ap, ◌∙◌}
-use Rattle.fact_store.specs.View.{Facts, cells_of}
+use Rattle.fact_store.specs.View.{cells_of}
 use Rattle.plan_steps.specs.Phases.{Phase, phases_of}
 use Rattle.sm_manager.specs.Manager.{Manager, Writing}
 use Rattle.sm_manager.specs.Writing.{passed, phases_by}

@@ -6,7 +6,6 @@ use Rattle.sm_manager.specs.Fault.{is_memory}
 use Rattle.sm_manager.specs.Manager.{Manager}
 use Rattle.sm_manager.specs.Packets.{Called, pending_for, step_answered, unless_spent}
 use Rattle.sm_manager.specs.Writing.{step_over}
-use Rattle.sm_manager.specs.contracts.manager.Manager.{the_view}
 use Rattle.sm_manager.proofs.manager.Manager.take_answer.Goals as goal
 
 -- what the answer comes to

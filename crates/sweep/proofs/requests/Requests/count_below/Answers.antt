@@ -1,5 +1,5 @@
 -- Those that wait and those that are to be sent are the table.
-use Rattle.std.proofs.Common.{◌≡◌, ℕ, ◌-◌, ◌*◌, ◌^◌, Bool, List, ◌++◌, take, drop, sym, subst}
+use Rattle.std.proofs.Common.{ℕ, ◌-◌, ◌*◌, ◌^◌, Bool, List, ◌++◌, sym, subst}
 use Rattle.std.proofs.lemmas.List.{take-append-drop}
 use Rattle.std.specs.Prelude.{nat_lt}
 use Rattle.request_table.specs.Numbers.{AreNumbered}

@@ -2,7 +2,7 @@
 use Rattle.std.proofs.Common.{◌≡◌, ℕ, ◌+◌, ◌^◌, ◌<◌, ◌≤◌, List, length, ap, sym, subst, ◌∙◌, arith}
 use Rattle.std.specs.Prelude.{Some, None, Ok, option_copied, slice_get}
 use Rattle.fact_store.specs.declared.report.Report.{Report}
-use Rattle.fact_store.specs.Report.{Told, reply_fault, report_fault, sightings_of, told_by_packet}
+use Rattle.fact_store.specs.Report.{reply_fault, report_fault, told_by_packet}
 use Rattle.request_table.specs.Numbers.{IsPlaceFor}
 use Rattle.sweep.specs.declared.answer.Answer.TheVariants.{Facts}
 use Rattle.sweep.specs.declared.finding.Finding.{Finding}
