@@ -106,7 +106,7 @@ impl Manager {
         requires { place < length self.old.pending }
         ensures judged { (p : Pending) → slice_get self.old.pending place ≡ Some p
             → JudgesButFor is_memory result
-                (unless_spent self.old (step_over self.old p was_done)).fault }
+            (unless_spent self.old (step_over self.old p was_done)).fault }
         ensures ok { (p : Pending) → slice_get self.old.pending place ≡ Some p
             → OnOk result (self.new ≡ (unless_spent self.old (step_over self.old p was_done)).manager) }
         ensures err { OnErr result (self.new ≡ self.old) }
