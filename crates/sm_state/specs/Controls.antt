@@ -1,0 +1,19 @@
+-- The controls of one subnet manager by another, by their attribute modifiers.
+-- InfiniBand Architecture Specification, Volume 1: subnet management, SMInfo.
+use Rattle.std.specs.Prelude.{ℕ, List, [], ◌∷◌, find, ◌==◌, Option}
+use Rattle.sm_state.specs.declared.control.Control.{Control}
+use Rattle.sm_state.specs.declared.control.Control.TheVariants.{Handover, Acknowledge, Disable, Standby, Discover}
+
+abbrev pub modifier_of_control : Control → ℕ
+modifier_of_control Handover = 1
+modifier_of_control Acknowledge = 2
+modifier_of_control Disable = 3
+modifier_of_control Standby = 4
+modifier_of_control Discover = 5
+
+abbrev pub controls : List Control
+controls = Handover ∷ Acknowledge ∷ Disable ∷ Standby ∷ Discover ∷ []
+
+-- the one of this modifier
+abbrev pub control_of_modifier : ℕ → Option Control
+control_of_modifier modifier = find (λ control. modifier == modifier_of_control control) controls

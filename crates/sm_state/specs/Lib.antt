@@ -1,0 +1,5 @@
+pub mod Controls
+pub mod States
+pub mod Steps
+pub mod Ranks
+pub mod StateLaws

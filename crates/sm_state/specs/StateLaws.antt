@@ -1,0 +1,46 @@
+-- What the moves of managers come to, in words.
+use Rattle.std.specs.Prelude.{◌≡◌, ◌↔◌, ◌⊎◌, ℕ, Bool, true, false, Option, Some, None}
+use Rattle.sm_state.specs.declared.control.Control.{Control}
+use Rattle.sm_state.specs.declared.control.Control.TheVariants as control
+use Rattle.sm_state.specs.declared.event.Event.{Event}
+use Rattle.sm_state.specs.declared.event.Event.TheVariants as event
+use Rattle.sm_state.specs.declared.event.Message.TheVariants as message
+use Rattle.sm_state.specs.declared.state.SmState.{SmState}
+use Rattle.sm_state.specs.declared.state.SmState.TheVariants.{NotActive, Discovering, Standby, Master}
+use Rattle.sm_state.specs.Controls.{control_of_modifier}
+use Rattle.sm_state.specs.States.{number_of_state, state_of_number}
+use Rattle.sm_state.specs.Steps.{stepped}
+
+-- the event is this control
+abbrev pub Is : Control → Event → Type 0
+Is which e = (modifier : ℕ) × (e ≡ event.Control modifier) × (control_of_modifier modifier ≡ Some which)
+
+-- the table has a row for the event in this state
+abbrev pub IsNamed : SmState → Event → Type 0
+IsNamed Discovering e = (e ≡ event.Outranked) ⊎ (e ≡ event.Unrivalled)
+IsNamed Standby e = Is control.Handover e ⊎ (Is control.Disable e ⊎ (Is control.Discover e ⊎ (e ≡ event.PollsUnanswered)))
+IsNamed NotActive e = Is control.Standby e
+IsNamed Master e = Is control.Handover e ⊎ (Is control.Acknowledge e ⊎ (Is control.Discover e ⊎ (e ≡ event.HandoverWanted)))
+
+-- an event that the table does not name changes nothing
+abbrev pub NothingElseMoves : Type 0
+NothingElseMoves =
+    (state : SmState) (e : Event) → (IsNamed state e → ⊥)
+    → ((stepped state e).state ≡ state) × ((stepped state e).message ≡ None)
+
+-- a master steps down for an acknowledgement and for the control to discover alone
+abbrev pub MastersStay : Type 0
+MastersStay =
+    (e : Event) → ((stepped Master e).state ≡ Master → ⊥)
+    → (Is control.Acknowledge e × ((stepped Master e).state ≡ Standby))
+    ⊎ (Is control.Discover e × ((stepped Master e).state ≡ Discovering))
+
+-- an acknowledgement goes out exactly where a handover came to a manager that is standby or master, which is master then
+abbrev pub OthersAreTold : Type 0
+OthersAreTold =
+    (state : SmState) (e : Event) → (stepped state e).message ≡ Some message.Acknowledge
+    → Is control.Handover e × ((stepped state e).state ≡ Master)
+
+-- a state's number is read as that state
+abbrev pub StatesAreNumbered : Type 0
+StatesAreNumbered = (state : SmState) → state_of_number (number_of_state state) ≡ Some state

@@ -1,0 +1,24 @@
+-- The states of a subnet manager, their numbers and their words.
+-- InfiniBand Architecture Specification, Volume 1: subnet management, SMInfo (SMState).
+use Rattle.std.specs.Prelude.{ℕ, List, [], ◌∷◌, codes, find, ◌==◌, Option}
+use Rattle.sm_state.specs.declared.state.SmState.{SmState}
+use Rattle.sm_state.specs.declared.state.SmState.TheVariants.{NotActive, Discovering, Standby, Master}
+
+abbrev pub number_of_state : SmState → ℕ
+number_of_state NotActive = 0
+number_of_state Discovering = 1
+number_of_state Standby = 2
+number_of_state Master = 3
+
+abbrev pub states : List SmState
+states = NotActive ∷ Discovering ∷ Standby ∷ Master ∷ []
+
+-- the one of this number
+abbrev pub state_of_number : ℕ → Option SmState
+state_of_number number = find (λ state. number == number_of_state state) states
+
+abbrev pub state_word : SmState → List ℕ
+state_word NotActive = codes "not-active"
+state_word Discovering = codes "discovering"
+state_word Standby = codes "standby"
+state_word Master = codes "master"

@@ -1,0 +1,48 @@
+ghost use Rattle.std.specs.Prelude.{◌≡◌};
+ghost use Rattle.sm_state.specs.Controls.{control_of_modifier, modifier_of_control};
+
+/// What one subnet manager tells another to do, by a Set(SMInfo) (subnet management, SMInfo: controls).
+#[derive(Clone, Copy, Debug, PartialEq, Eq)]
+pub enum Control {
+    /// Be master in the sender's place.
+    Handover,
+    /// The sender is master in your place.
+    Acknowledge,
+    Disable,
+    Standby,
+    Discover,
+}
+
+/// All controls, by rising modifier.
+const CONTROLS: [Control; 5] = [
+    Control::Handover,
+    Control::Acknowledge,
+    Control::Disable,
+    Control::Standby,
+    Control::Discover,
+];
+
+impl Control {
+    /// The control of an attribute modifier, or None for 0 and for 6 and above.
+    pub fn from_modifier(modifier: u32) -> Option<Self>
+        ensures { result ≡ control_of_modifier modifier }
+    {
+        CONTROLS
+            .iter()
+            .copied()
+            .find(|control| modifier == control.modifier())
+    }
+
+    /// The attribute modifier, 1 to 5.
+    pub fn modifier(self) -> u32
+        ensures { result ≡ modifier_of_control self }
+    {
+        match self {
+            Control::Handover => 1,
+            Control::Acknowledge => 2,
+            Control::Disable => 3,
+            Control::Standby => 4,
+            Control::Discover => 5,
+        }
+    }
+}

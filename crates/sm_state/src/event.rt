@@ -1,0 +1,21 @@
+/// What may move a subnet manager from one state to another: a control that came, by its attribute
+/// modifier, or its own affairs.
+#[derive(Clone, Copy, Debug, PartialEq, Eq)]
+pub enum Event {
+    Control(u32),
+    /// A sweep is done, and saw a master, or a manager that is not inactive and wins.
+    Outranked,
+    /// A sweep is done, and saw no such manager.
+    Unrivalled,
+    /// Three polls in a row were not answered.
+    PollsUnanswered,
+    /// Another manager is to be master.
+    HandoverWanted,
+}
+
+/// The control that a manager sends as it moves.
+#[derive(Clone, Copy, Debug, PartialEq, Eq)]
+pub enum Message {
+    Handover,
+    Acknowledge,
+}

@@ -1,0 +1,62 @@
+ghost use Rattle.std.specs.Prelude.{◌≡◌};
+ghost use Rattle.sm_state.specs.States.{number_of_state, state_of_number, state_word};
+
+use attr_codec::SmStateNumber;
+
+/// The state of a subnet manager (subnet management, SMInfo: SMState).
+#[derive(Clone, Copy, Debug, PartialEq, Eq)]
+pub enum SmState {
+    NotActive,
+    Discovering,
+    Standby,
+    Master,
+}
+
+/// All states, by rising number.
+const STATES: [SmState; 4] = [
+    SmState::NotActive,
+    SmState::Discovering,
+    SmState::Standby,
+    SmState::Master,
+];
+
+impl SmState {
+    /// The state of a number, or None for the reserved numbers, 4 and above.
+    pub fn from_number(number: SmStateNumber) -> Option<Self>
+        ensures { result ≡ state_of_number number }
+    {
+        let number = number.number();
+        STATES.iter().copied().find(|state| number == state.code())
+    }
+
+    /// The number as SMInfo spells it.
+    pub fn number(self) -> SmStateNumber
+        ensures { result ≡ number_of_state self }
+    {
+        SmStateNumber::new(self.code()).unwrap()
+    }
+
+    /// The same as a number below 4.
+    fn code(self) -> u8
+        ensures { result ≡ number_of_state self }
+    {
+        match self {
+            SmState::NotActive => 0,
+            SmState::Discovering => 1,
+            SmState::Standby => 2,
+            SmState::Master => 3,
+        }
+    }
+
+    /// `not-active`, `discovering`, `standby` or `master`.
+    pub fn word(self) -> &'static str
+        ensures { result.now ≡ state_word self }
+    {
+        match self {
+            SmState::NotActive => "not-active",
+            SmState::Discovering => "discovering",
+            SmState::Standby => "standby",
+            SmState::Master => "master",
+        }
+    }
+}
