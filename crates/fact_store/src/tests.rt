@@ -277,20 +277,30 @@ fn caps(alloc: Global, guids: &[u64]) -> Result<Store, Fail> {
     Ok(store)
 }
 
+/// How many keys a search for the switch compares, among these.
+fn searched(alloc: Global, guids: &[u64], guid: u64) -> Result<u32, Fail> {
+    Ok(caps(alloc, guids)?.get_steps(Key::Cap(node(guid))).1)
+}
+
+/// How many keys a merge of these compares.
+fn merged(alloc: Global, one: &[u64], other: &[u64]) -> Result<u128, Fail> {
+    let other = caps(alloc, other)?;
+    Ok(caps(alloc, one)?.merge_steps(&other)?)
+}
+
 #[test]
 fn steps_are_comparisons(rt: HostRuntime) -> Result<(), Fail> {
-    let mut three = caps(rt.alloc(), &[1, 3, 5])?;
     // that in the middle, and then one beside it
     for (guid, steps) in [(3, 1), (1, 2), (5, 2), (0, 2), (2, 2), (4, 2), (6, 2)] {
-        let counted = three.get_steps(Key::Cap(node(guid))).1;
-        assert!(rt; counted == steps, "{guid}");
+        let is_right = searched(rt.alloc(), &[1, 3, 5], guid)? == steps;
+        assert!(rt; is_right, "{guid}");
     }
-    assert_eq!(rt; Store::new(rt.alloc()).get_steps(Key::Cap(node(1))).1, 0);
-    // 1 with 2, 3 with 2, 3 with 7 and 5 with 7; then 1, 2, 3, 5 and 7 with themselves; then none
-    let two = caps(rt.alloc(), &[2, 7])?;
-    assert_eq!(rt; three.merge_steps(&two)?, 4);
-    let all = three.try_clone()?;
-    assert_eq!(rt; three.merge_steps(&all)?, 5);
-    assert_eq!(rt; three.merge_steps(&Store::new(rt.alloc()))?, 0);
+    let none = searched(rt.alloc(), &[], 1)?;
+    // 1 with 2, 3 with 2, 3 with 7 and 5 with 7; then each with itself; then none
+    let apart = merged(rt.alloc(), &[1, 3, 5], &[2, 7])?;
+    let alike = merged(rt.alloc(), &[1, 2, 3, 5, 7], &[1, 2, 3, 5, 7])?;
+    let alone = merged(rt.alloc(), &[1, 2], &[])?;
+    let are_right = none == 0 && apart == 4 && alike == 5 && alone == 0;
+    assert!(rt; are_right);
     Ok(())
 }
