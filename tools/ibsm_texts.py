@@ -52,6 +52,8 @@ def lines_of(path):
 
 def put(path, text):
     """Writes a file under another name and renames it, so that it is whole or as it was."""
+    if os.path.exists(path) and not os.path.isfile(path):
+        raise OSError(f"{path}: it is no regular file")
     temporary = f"{path}.{os.getpid()}"
     try:
         with open(temporary, "x", encoding="utf-8") as file:

@@ -249,6 +249,8 @@ int main(int count, char **texts)
 	signal(SIGINT, on_signal);
 	signal(SIGTERM, on_signal);
 	signal(SIGHUP, on_signal);
+	signal(SIGXFSZ, SIG_IGN);	/* the write fails instead */
+	signal(SIGPIPE, SIG_IGN);
 	open_port();
 	begin_file(&report, options.file);
 	if (options.tables)

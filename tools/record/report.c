@@ -2,6 +2,7 @@
 #include <errno.h>
 #include <stdlib.h>
 #include <string.h>
+#include <sys/stat.h>
 #include <unistd.h>
 #include "record.h"
 
@@ -31,7 +32,10 @@ static char **place_of(const char *temporary)
 void begin_file(struct whole_file *file, char *name)
 {
 	size_t size = strlen(name) + 32;
+	struct stat found;
 
+	if (!stat(name, &found) && !S_ISREG(found.st_mode))	/* renaming would replace a device */
+		end(NO_FABRIC, "cannot write %s: it is no regular file", name);
 	file->name = name;
 	file->temporary = more(NULL, size, 1);
 	snprintf(file->temporary, size, "%s.%ld", name, (long) getpid());
