@@ -44,7 +44,8 @@ def lines_of(path):
         try:
             text = file.read()
         except UnicodeDecodeError:
-            raise Refused(f"{path}: not a text: is it a report or store file, and not what ibsm printed of it?") from None
+            fault = f"{path}: not a text: is it a report or store file, and not what ibsm printed of it?"
+            raise Refused(fault) from None
     if text and not text.endswith("\n"):
         raise Refused(f"{path}: its last line has no end: is it cut?")
     return text.split("\n")[:-1]

@@ -55,12 +55,13 @@ class Routes:
         if port == NO_WAY:
             return None, False, None
         if port == 0:
-            return None, False, f"ends at switch {self.guids[at]:016x}, which does not own it"
+            return None, False, f"it ends at switch {self.guids[at]:016x}, which does not own it"
         end = self.far[at].get(port)
         if end is None:
             return None, False, f"port {port} of switch {self.guids[at]:016x} has no cable that is up"
         if end[0] not in self.place:
-            return None, False, f"port {port} of switch {self.guids[at]:016x} leads to {name_of(end)}, which does not own it"
+            far = name_of(end)
+            return None, False, f"port {port} of switch {self.guids[at]:016x} leads to {far}, which does not own it"
         return self.place[end[0]], None, None
 
     def walk(self, home, column):
@@ -80,7 +81,7 @@ class Routes:
             else:
                 ended = arrives[at]
                 if ended is None:
-                    wrong.append(f"goes round, through switch {self.guids[at]:016x}")
+                    wrong.append(f"it goes round, through switch {self.guids[at]:016x}")
                     ended = False
             for at in passed:
                 arrives[at] = ended
@@ -92,27 +93,52 @@ class Routes:
         for (home, column), lids in self.groups.items():
             missing, wrong = self.walk(home, column)
             without += missing * len(lids)
-            alike = f", and of {len(lids) - 1} others" if len(lids) > 1 else ""
-            found += [f"a packet for LID {lids[0]}{alike} {fault}" for fault in wrong[:MOST_SAID]]
+            alike = f", and {len(lids) - 1} others" if len(lids) > 1 else ""
+            found += [f"a packet for LID {lids[0]}{alike}: {fault}" for fault in wrong[:MOST_SAID]]
         return found, without
 
-    def channels(self):
-        """How many routes each channel carries, and the channels that packets take after it.
-
-        A channel is a switch and a port of it with a cable to another switch; a route is a pair of a switch and a LID.
-        """
-        ends = {(i, port): self.place[end[0]] for i, ports in enumerate(self.far) for port, end in ports.items()
+    def ends(self):
+        """The channels, each a switch and a port of it with a cable to another switch, with that switch."""
+        return {(i, port): self.place[end[0]] for i, ports in enumerate(self.far) for port, end in ports.items()
                 if end[0] in self.place}
-        carried, after = dict.fromkeys(ends, 0), collections.defaultdict(set)
-        for (home, column), lids in self.groups.items():
+
+    def after(self):
+        """For each channel those that packets take next."""
+        ends, found = self.ends(), collections.defaultdict(set)
+        for home, column in self.groups:
             for at, port in enumerate(column):
                 far = ends.get((at, port)) if at != home else None
-                if far is None:
-                    continue
-                carried[at, port] += len(lids)
-                if far != home and (far, column[far]) in ends:
-                    after[at, port].add((far, column[far]))
-        return carried, after
+                if far is not None and far != home and (far, column[far]) in ends:
+                    found[at, port].add((far, column[far]))
+        return found
+
+    def carried(self):
+        """For each channel how many routes it carries, of each adapter port's packets to each other one."""
+        ends = self.ends()
+        carried = dict.fromkeys(ends, 0)
+        sources = collections.Counter(self.home[end][0] for end in self.owners.values() if end in self.home)
+        for (home, column), lids in self.groups.items():
+            count = sum(self.owners[lid] in self.home for lid in lids)
+            if count and home is not None:
+                self.carry(home, column, ends, sources, count, carried)
+        return carried
+
+    def carry(self, home, column, ends, sources, count, carried):
+        """Adds the routes of one column, from the switches that no other one sends to on."""
+        ahead = [ends.get((at, port)) if at != home else None for at, port in enumerate(column)]
+        waits = collections.Counter(ahead)
+        routes = [sources[at] for at in range(len(column))]
+        ready = [at for at in range(len(column)) if not waits[at]]
+        while ready:
+            at = ready.pop()
+            far = ahead[at]
+            if far is None:
+                continue
+            carried[at, column[at]] += count * routes[at]
+            routes[far] += routes[at]
+            waits[far] -= 1
+            if not waits[far]:
+                ready.append(far)
 
     def spelled(self, ring):
         return " > ".join(name_of((self.guids[at], port)) for at, port in [*ring, ring[0]])

@@ -3,6 +3,8 @@ import collections
 import random
 
 ADAPTER, SWITCH = "ca", "switch"
+# How many entries a forwarding table has: as many as there are LIDs of one port.
+ROOM = 49152
 
 
 class Fabric:
@@ -44,15 +46,17 @@ class Fabric:
 
     def ends(self):
         """The end ports, switches first, in the order in which the texts give them LIDs."""
-        adapters = [(name, p) for name in self.nodes if not self.is_switch(name) for p in range(1, self.ports(name) + 1)]
-        return [(name, 0) for name in self.nodes if self.is_switch(name)] + [end for end in adapters if end in self.peers]
+        adapters = [name for name in self.nodes if not self.is_switch(name)]
+        ports = [(name, port) for name in adapters for port in range(1, self.ports(name) + 1)]
+        return [(name, 0) for name in self.nodes if self.is_switch(name)] + [end for end in ports if end in self.peers]
 
     def ibsim(self):
         """The topology in the form of ibsim, the seat H1 first."""
         texts = []
         for name in sorted(self.nodes, key=lambda name: name != "H1"):
             head = "switchguid" if self.is_switch(name) else "hcaguids"
-            lines = [f"{head}=0x{self.guid(name):x}", f'{"Switch" if self.is_switch(name) else "Hca"}\t{self.ports(name)} "{name}"']
+            kind = "Switch" if self.is_switch(name) else "Hca"
+            lines = [f"{head}=0x{self.guid(name):x}", f'{kind}\t{self.ports(name)} "{name}"']
             for port in range(1, self.ports(name) + 1):
                 if (name, port) in self.peers:
                     far, at = self.peers[name, port]
@@ -60,8 +64,20 @@ class Fabric:
             texts.append("\n".join(lines) + "\n")
         return "\n".join(texts)
 
-    def facts(self, generation=1):
-        """What `ibsm facts` prints of a fabric without LIDs."""
+    def topology(self):
+        """The same for `ibsm run`."""
+        lines = []
+        for name, (kind, guid, _) in self.nodes.items():
+            head = f'{self.ports(name)} "{name}" guid 0x{guid:x}'
+            lines.append(f"Switch {head} cap {ROOM}" if kind == SWITCH else f"Hca {head}")
+            for port in range(1, self.ports(name) + 1):
+                if (name, port) in self.peers:
+                    far, at = self.peers[name, port]
+                    lines.append(f'[{port}] "{far}"[{at}]')
+        return "\n".join(lines) + "\n"
+
+    def facts(self):
+        """What `ibsm facts` prints of a first sweep, where there are no LIDs and tables have room for 1,024."""
         found = collections.defaultdict(list)
         for name, (kind, guid, _) in self.nodes.items():
             least = 0 if kind == SWITCH else 1
@@ -76,12 +92,13 @@ class Fabric:
                 if (name, port) in self.peers:
                     far, at = self.peers[name, port]
                     found["link"].append((guid, port, f"{end} {self.guid(far):016x}/{at}"))
-                found["port"].append((guid, port, f"{end} {'up' if port == 0 or (name, port) in self.peers else 'down'}"))
+                state = "up" if port == 0 or (name, port) in self.peers else "down"
+                found["port"].append((guid, port, f"{end} {state}"))
         kinds = ("node", "portguid", "link", "port", "claim", "cap")
-        return "".join(f"{kind} {text} @{generation}\n" for kind in kinds for _, _, text in sorted(found[kind]))
+        return "".join(f"{kind} {text} @1\n" for kind in kinds for _, _, text in sorted(found[kind]))
 
     def shortest(self):
-        """Tables by which each packet takes a shortest way, by the least port: where there are rings, packets can wait."""
+        """Tables by which each packet takes a shortest way: where there are rings, packets can wait."""
         tables = {name: [255] * (len(self.ends()) // 64 + 1) * 64 for name in self.nodes if self.is_switch(name)}
         for lid, (name, port) in enumerate(self.ends(), 1):
             at, out = (name, 0) if port == 0 else self.peers[name, port]

@@ -6,6 +6,7 @@
  */
 #include <errno.h>
 #include <getopt.h>
+#include <inttypes.h>
 #include <signal.h>
 #include <stdarg.h>
 #include <stdlib.h>
@@ -38,8 +39,8 @@ static const char usage_text[] =
 "  -h, --help             this text\n"
 "  -V, --version          the version\n"
 "\n"
-"The exit status is 0 where all answered; 1 where FILE is written and something is missing; 2 where the command line is\n"
-"wrong; 4 without a subnet, or where a file cannot be written; 5 without memory.\n";
+"The exit status is 0 where all answered; 1 where FILE is written and something is missing; 2 where the command\n"
+"line is wrong; 4 without a subnet, or where a file cannot be written; 5 without memory.\n";
 
 static int has_terminal(void)
 {
@@ -148,7 +149,7 @@ void progress(size_t nodes, size_t waiting)
 		counts.kept, nodes, waiting, counts.silent);
 }
 
-static unsigned long long number_in(const char *text, const char *what, unsigned long long least, unsigned long long most)
+static uint64_t number_in(const char *text, const char *what, uint64_t least, uint64_t most)
 {
 	unsigned long long value;
 	char *rest;
@@ -156,7 +157,7 @@ static unsigned long long number_in(const char *text, const char *what, unsigned
 	errno = 0;
 	value = strtoull(text, &rest, 0);
 	if (errno || rest == text || *rest || strchr(text, '-') || value < least || value > most)
-		end(USAGE, "%s takes a number from %llu to %llu, not %s", what, least, most, text);
+		end(USAGE, "%s takes a number from %" PRIu64 " to %" PRIu64 ", not %s", what, least, most, text);
 	return value;
 }
 

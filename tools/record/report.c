@@ -1,5 +1,6 @@
-/* The report file, and which replies it takes. Files are written under another name, and renamed when they are whole. */
+/* The report file, and which replies it takes. Files are written under another name, and renamed once whole. */
 #include <errno.h>
+#include <signal.h>
 #include <stdlib.h>
 #include <string.h>
 #include <sys/stat.h>
@@ -33,16 +34,21 @@ void begin_file(struct whole_file *file, char *name)
 {
 	size_t size = strlen(name) + 32;
 	struct stat found;
+	sigset_t all, before;
 
 	if (!stat(name, &found) && !S_ISREG(found.st_mode))	/* renaming would replace a device */
 		end(NO_FABRIC, "cannot write %s: it is no regular file", name);
 	file->name = name;
 	file->temporary = more(NULL, size, 1);
 	snprintf(file->temporary, size, "%s.%ld", name, (long) getpid());
+	sigfillset(&all);	/* no signal may end it between the file and the note that it is there */
+	sigprocmask(SIG_BLOCK, &all, &before);
 	file->file = fopen(file->temporary, "wbx");
+	if (file->file)
+		*place_of(NULL) = file->temporary;
+	sigprocmask(SIG_SETMASK, &before, NULL);
 	if (!file->file)
 		end(NO_FABRIC, "cannot write %s: %s", file->temporary, strerror(errno));
-	*place_of(NULL) = file->temporary;
 }
 
 void commit_file(struct whole_file *file)

@@ -85,7 +85,7 @@ static void ask_port(const struct request *request, uint64_t guid, uint8_t type,
 	asked->type = type;
 }
 
-/* A switch is asked for all its ports, an adapter for the one that was reached: port 0 of it would mean that one too. */
+/* A switch is asked for all its ports, an adapter for the one that was reached, by its number: 0 would mean it too. */
 static void on_node_info(const struct request *request, const uint8_t *info)
 {
 	uint64_t guid = get(info + 12, 8);
