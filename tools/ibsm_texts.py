@@ -1,0 +1,163 @@
+"""The texts that `ibsm facts` and `ibsm plan` print, read. docs/FORMATS.md has their forms.
+
+An end is a pair of a node's GUID and a port. A text that is not whole or not in its form raises `Refused`.
+"""
+import os
+import re
+
+GUID = "([0-9a-f]{16})"
+NUMBER = "([0-9]{1,10})"
+END = f"{GUID}/{NUMBER}"
+# By kind of fact, what it is about and its value.
+FACTS = {
+    "node": (GUID, f"(ca|switch|router) {NUMBER}"),
+    "portguid": (END, GUID),
+    "link": (END, END),
+    "port": (END, "(up|down)"),
+    "claim": (END, NUMBER),
+    "cap": (GUID, NUMBER),
+}
+FORMS = {
+    kind: re.compile(f"{kind} {about} (?:(disputed)|{value}) @{NUMBER}") for kind, (about, value) in FACTS.items()
+}
+NO_WAY = 255
+ENTRIES = 64
+
+
+class Refused(Exception):
+    """What a tool was given is not what it takes, or must not be done."""
+
+
+def name_of(end):
+    return f"{end[0]:016x}/{end[1]}"
+
+
+def end_in(word):
+    """The end that a text `G/p` names, with or without 0x before its hex digits; None where it names none."""
+    form = re.fullmatch(r"(?:0x)?([0-9a-fA-F]{1,16})/([0-9]{1,3})", word)
+    return (int(form[1], 16), int(form[2])) if form else None
+
+
+def lines_of(path):
+    """The lines of a text, which has to end with one."""
+    with open(path, encoding="ascii") as file:
+        try:
+            text = file.read()
+        except UnicodeDecodeError:
+            fault = f"{path}: not a text: is it a report or store file, and not what ibsm printed of it?"
+            raise Refused(fault) from None
+    if text and not text.endswith("\n"):
+        raise Refused(f"{path}: its last line has no end: is it cut?")
+    return text.split("\n")[:-1]
+
+
+def put(path, text):
+    """Writes a file under another name and renames it, so that it is whole or as it was."""
+    if os.path.exists(path) and not os.path.isfile(path):
+        raise OSError(f"{path}: it is no regular file")
+    temporary = f"{path}.{os.getpid()}"
+    try:
+        with open(temporary, "x", encoding="utf-8") as file:
+            file.write(text)
+            file.flush()
+            os.fsync(file.fileno())
+        os.rename(temporary, path)
+    except BaseException:
+        if os.path.exists(temporary):
+            os.unlink(temporary)
+        raise
+
+
+class Facts:
+    """The text of `ibsm facts`."""
+
+    def __init__(self, path):
+        self.nodes = {}  # GUID: type, ports
+        self.port_guids = {}
+        self.links = {}  # end: far end
+        self.up = {}
+        self.claims = {}
+        self.caps = {}
+        self.disputed = []  # kind, GUID, port
+        self.generations = set()
+        for number, line in enumerate(lines_of(path), 1):
+            if not self.take(line):
+                raise Refused(f"{path}: line {number} is no fact: {line[:60]}")
+
+    def take(self, line):
+        kind = line.split(" ", 1)[0]
+        form = kind in FORMS and FORMS[kind].fullmatch(line)
+        if not form:
+            return False
+        *words, generation = form.groups()
+        self.generations.add(int(generation))
+        guid = int(words.pop(0), 16)
+        port = 0 if kind in ("node", "cap") else int(words.pop(0))
+        if words.pop(0):
+            self.disputed.append((kind, guid, port))
+        elif kind == "node":
+            self.nodes[guid] = words[0], int(words[1])
+        elif kind == "portguid":
+            self.port_guids[guid, port] = int(words[0], 16)
+        elif kind == "link":
+            self.links[guid, port] = int(words[0], 16), int(words[1])
+        elif kind == "port":
+            self.up[guid, port] = words[0] == "up"
+        elif kind == "claim":
+            self.claims[guid, port] = int(words[0])
+        else:
+            self.caps[guid] = int(words[0])
+        return True
+
+    def type_of(self, guid):
+        return self.nodes.get(guid, ("", 0))[0]
+
+    def is_switch(self, guid):
+        return self.type_of(guid) == "switch"
+
+    def wire(self, end):
+        """The far end of the cable in a port, where both ends tell of it and are up, and else None."""
+        far = self.links.get(end)
+        if far is None or far == end or self.links.get(far) != end or not (self.up.get(end) and self.up.get(far)):
+            return None
+        return far
+
+
+class Plan:
+    """The text of `ibsm plan`, or what a fabric holds in the same form: LIDs, and each switch's top and entries."""
+
+    def __init__(self, path):
+        self.owners = {}  # LID: end
+        self.shared = []  # LIDs that a second end has, with that end
+        self.tops = {}
+        self.tables = {}  # GUID: entries from LID 0 on, in whole blocks
+        self.last = None
+        for number, line in enumerate(lines_of(path), 1):
+            if not self.take(line):
+                raise Refused(f"{path}: line {number} is no line of a plan: {line[:60]}")
+        for guid, table in self.tables.items():
+            if len(table) != (self.tops[guid] // ENTRIES + 1) * ENTRIES:
+                blocks = len(table) // ENTRIES
+                raise Refused(f"{path}: switch {guid:016x} has {blocks} blocks for top {self.tops[guid]}: is it cut?")
+
+    def take(self, line):
+        if form := re.fullmatch(f"lid {NUMBER} {END}", line):
+            end = int(form[2], 16), int(form[3])
+            if self.owners.setdefault(int(form[1]), end) != end:
+                self.shared.append((int(form[1]), end))
+        elif form := re.fullmatch(f"switch {GUID} top {NUMBER}", line):
+            self.last = int(form[1], 16)
+            if self.last in self.tables:
+                return False
+            self.tables[self.last], self.tops[self.last] = b"", int(form[2])
+        elif form := re.fullmatch(f"block {NUMBER} ([0-9a-f]{{{2 * ENTRIES}}})", line):
+            if self.last is None or int(form[1]) * ENTRIES != len(self.tables[self.last]):
+                return False
+            self.tables[self.last] += bytes.fromhex(form[2])
+        else:
+            return False
+        return True
+
+    def entry(self, guid, lid):
+        """By which port a switch sends packets for a LID; NO_WAY above its top, and where there is no such switch."""
+        return self.tables[guid][lid] if lid <= self.tops.get(guid, -1) else NO_WAY

@@ -1,0 +1,261 @@
+/* What is asked: each node breadth first, each port of it, and what lies behind those that are up; then the tables. */
+#include <stdlib.h>
+#include <string.h>
+#include "record.h"
+
+enum { DOWN = 1, ACTIVE = 4 };
+
+struct node {
+	uint64_t guid;
+	uint8_t type;
+	struct path path;	/* the first that reached it */
+	uint16_t top;		/* of a switch, and its table in whole blocks up to there */
+	uint8_t *table;
+	uint8_t asked[256];	/* of an adapter: ports whose PortInfo was asked */
+};
+
+struct lid {
+	uint16_t lid;
+	uint64_t guid;
+	uint8_t port;
+};
+
+static struct node *nodes;
+static size_t node_count, node_room;
+static uint32_t *index_of, index_room;	/* open addressing: place in nodes + 1 */
+static struct lid *lids;
+static size_t lid_count, lid_room;
+static struct whole_file *report;
+static int missing;	/* replies about nodes that are known */
+
+size_t known_nodes(void)
+{
+	return node_count;
+}
+
+static uint32_t *place_of(uint64_t guid)
+{
+	uint32_t i = (guid * 0x9e3779b97f4a7c15u >> 32) & (index_room - 1);
+
+	while (index_of[i] && nodes[index_of[i] - 1].guid != guid)
+		i = (i + 1) & (index_room - 1);
+	return &index_of[i];
+}
+
+static struct node *find(uint64_t guid)
+{
+	uint32_t at = index_room ? *place_of(guid) : 0;
+
+	return at ? &nodes[at - 1] : NULL;
+}
+
+static void make_room(void)
+{
+	size_t i;
+
+	node_room = node_room ? 2 * node_room : 256;
+	nodes = more(nodes, node_room, sizeof *nodes);
+	index_room = 2 * node_room;
+	index_of = more(index_of, index_room, sizeof *index_of);
+	memset(index_of, 0, index_room * sizeof *index_of);
+	for (i = 0; i < node_count; i++)
+		*place_of(nodes[i].guid) = i + 1;
+}
+
+static struct node *learn(uint64_t guid, uint8_t type, const struct path *path)
+{
+	struct node *node;
+
+	if (node_count == node_room)
+		make_room();
+	node = &nodes[node_count];
+	memset(node, 0, sizeof *node);
+	node->guid = guid;
+	node->type = type;
+	node->path = *path;
+	*place_of(guid) = ++node_count;
+	return node;
+}
+
+static void ask_port(const struct request *request, uint64_t guid, uint8_t type, uint8_t arrival, int port)
+{
+	struct request *asked = ask(&request->path, PORT_INFO, port, guid);
+
+	asked->arrival = arrival;
+	asked->type = type;
+}
+
+/* A switch is asked for all its ports, an adapter for the one that was reached, by its number: 0 would mean it too. */
+static void on_node_info(const struct request *request, const uint8_t *info)
+{
+	uint64_t guid = get(info + 12, 8);
+	uint8_t type = info[2], ports = info[3], local = info[36];
+	struct node *node = find(guid);
+	int port, is_new = !node;
+
+	if (is_new)
+		node = learn(guid, type, &request->path);
+	if (node->type == SWITCH) {
+		if (!is_new)
+			return;
+		ask(&request->path, SWITCH_INFO, 0, guid);
+		for (port = 0; port <= ports; port++)
+			ask_port(request, guid, type, local, port);
+	} else if (!node->asked[local]) {
+		node->asked[local] = 1;
+		ask_port(request, guid, type, local, local);
+	}
+}
+
+static void note_lid(const struct request *request, const uint8_t *info)
+{
+	if (lid_count == lid_room) {
+		lid_room = lid_room ? 2 * lid_room : 256;
+		lids = more(lids, lid_room, sizeof *lids);
+	}
+	lids[lid_count++] = (struct lid) { get(info + 16, 2), request->guid, request->modifier };
+	counts.several_lids += (info[34] & 7) != 0;
+}
+
+static void on_port_info(const struct request *request, const uint8_t *info)
+{
+	uint8_t state = info[32] & 15, port = request->modifier;
+	struct path path = request->path;
+	struct request *asked;
+
+	if (request->type != SWITCH || port == 0)
+		note_lid(request, info);
+	if (state <= DOWN || state > ACTIVE)
+		return;
+	if (request->type == SWITCH ? port == 0 || port == request->arrival : path.hops > 0)
+		return;
+	if (path.hops == MOST_HOPS) {
+		counts.too_far++;
+		return;
+	}
+	path.port[++path.hops] = port;
+	asked = ask(&path, NODE_INFO, 0, request->guid);
+	asked->context = VIA;
+	asked->via_port = port;
+}
+
+/* Whether there is a reply that ibsm takes; says why not. */
+static int is_good(const struct request *request, uint8_t *reply)
+{
+	const char *fault;
+	char text[80];
+
+	if (!reply) {
+		counts.silent++;
+		missing += request->attribute != NODE_INFO;
+		say_of(request, "no answer");
+		return 0;
+	}
+	/*
+	 * A request over no hops never leaves the machine. Linux raises its hop pointer to 1 on the way to the local
+	 * agent, and drivers with an agent in software hand the answer back so; where a path ends, the standard has 0.
+	 */
+	if (reply[7] == 0 && reply[6] == 1) {
+		reply[6] = 0;
+		counts.pointers++;
+	}
+	fault = fault_of(request, reply);
+	if (!fault)
+		return 1;
+	if (strcmp(fault, "Status"))
+		snprintf(text, sizeof text, "left out: %s", fault);
+	else
+		snprintf(text, sizeof text, "left out: Status 0x%04x", (unsigned) get(reply + 4, 2) & 0x7fff);
+	counts.left_out++;
+	missing += request->attribute != NODE_INFO;
+	say_of(request, text);
+	return 0;
+}
+
+static void take(const struct request *request, uint8_t *reply)
+{
+	if (!is_good(request, reply))
+		return;
+	keep(report, request, reply);
+	if (request->attribute == NODE_INFO)
+		on_node_info(request, reply + ATTRIBUTE);
+	else if (request->attribute == PORT_INFO)
+		on_port_info(request, reply + ATTRIBUTE);
+	else
+		find(request->guid)->top = get(reply + ATTRIBUTE + 6, 2);
+}
+
+void sweep(struct whole_file *file)
+{
+	struct path here = { 0 };
+
+	report = file;
+	ask(&here, NODE_INFO, 0, 0)->context = START;
+	ask_all(take);
+}
+
+static void take_block(const struct request *request, uint8_t *reply)
+{
+	if (is_good(request, reply))
+		memcpy(find(request->guid)->table + BLOCK * request->modifier, reply + ATTRIBUTE, BLOCK);
+}
+
+int read_tables(void)
+{
+	size_t i, blocks, block;
+
+	for (i = 0; i < node_count; i++)
+		if (nodes[i].type == SWITCH) {
+			blocks = nodes[i].top / BLOCK + 1;
+			nodes[i].table = more(NULL, blocks, BLOCK);
+			for (block = 0; block < blocks; block++)
+				ask(&nodes[i].path, FORWARDING_TABLE, block, nodes[i].guid);
+		}
+	ask_all(take_block);
+	return !missing;
+}
+
+static int by_lid(const void *one, const void *other)
+{
+	const struct lid *a = one, *b = other;
+
+	if (a->lid != b->lid)
+		return a->lid < b->lid ? -1 : 1;
+	if (a->guid != b->guid)
+		return a->guid < b->guid ? -1 : 1;
+	return a->port - b->port;
+}
+
+static int by_guid(const void *one, const void *other)
+{
+	const struct node *a = one, *b = other;
+
+	return (a->guid > b->guid) - (a->guid < b->guid);
+}
+
+static void print_switch(FILE *file, const struct node *node)
+{
+	int i, entries = (node->top / BLOCK + 1) * BLOCK;
+
+	fprintf(file, "switch %016llx top %u\n", (unsigned long long) node->guid, node->top);
+	for (i = 0; i < entries; i++) {
+		if (i % BLOCK == 0)
+			fprintf(file, "block %d ", i / BLOCK);
+		fprintf(file, i % BLOCK == BLOCK - 1 ? "%02x\n" : "%02x", node->table[i]);
+	}
+}
+
+/* In the form of a plan. Sorts the nodes, so that none is found by its GUID afterwards. */
+void print_tables(FILE *file)
+{
+	size_t i;
+
+	qsort(lids, lid_count, sizeof *lids, by_lid);
+	qsort(nodes, node_count, sizeof *nodes, by_guid);
+	for (i = 0; i < lid_count; i++)
+		if (lids[i].lid)
+			fprintf(file, "lid %u %016llx/%u\n", lids[i].lid, (unsigned long long) lids[i].guid, lids[i].port);
+	for (i = 0; i < node_count; i++)
+		if (nodes[i].type == SWITCH)
+			print_switch(file, &nodes[i]);
+}

@@ -1,0 +1,196 @@
+"""Fabrics for the tests of the tools: their facts and tables as texts, and as ibsim reads them."""
+import collections
+import random
+
+ADAPTER, SWITCH = "ca", "switch"
+# How many entries a forwarding table has: as many as there are LIDs of one port.
+ROOM = 49152
+
+
+class Fabric:
+    def __init__(self):
+        self.nodes = {}  # name: type, GUID, ports
+        self.peers = {}  # (name, port): the same of the other end
+        self.used = collections.Counter()  # name: ports with a cable
+
+    def add(self, kind, name, guid, ports=0):
+        """A node; without a number of ports it gets one for each cable, and a switch one more."""
+        self.nodes[name] = kind, guid, ports
+        return name
+
+    def switches(self, count, ports=0):
+        return [self.add(SWITCH, f"S{i}", 16 * i, ports) for i in range(1, count + 1)]
+
+    def hosts(self, switches):
+        """An adapter of one port at each of the switches named."""
+        for i, switch in enumerate(switches, 1):
+            self.join(self.add(ADAPTER, f"H{i}", 0x1000000 + 16 * i, 1), switch)
+
+    def take(self, name):
+        self.used[name] += 1
+        return name, self.used[name]
+
+    def join(self, one, other):
+        a, b = self.take(one), self.take(other)
+        self.peers[a], self.peers[b] = b, a
+
+    def ports(self, name):
+        kind, _, ports = self.nodes[name]
+        return ports or self.used[name] + (kind == SWITCH)
+
+    def guid(self, name):
+        return self.nodes[name][1]
+
+    def is_switch(self, name):
+        return self.nodes[name][0] == SWITCH
+
+    def ends(self):
+        """The end ports, switches first, in the order in which the texts give them LIDs."""
+        adapters = [name for name in self.nodes if not self.is_switch(name)]
+        ports = [(name, port) for name in adapters for port in range(1, self.ports(name) + 1)]
+        return [(name, 0) for name in self.nodes if self.is_switch(name)] + [end for end in ports if end in self.peers]
+
+    def ibsim(self):
+        """The topology in the form of ibsim, the seat H1 first."""
+        texts = []
+        for name in sorted(self.nodes, key=lambda name: name != "H1"):
+            head = "switchguid" if self.is_switch(name) else "hcaguids"
+            kind = "Switch" if self.is_switch(name) else "Hca"
+            lines = [f"{head}=0x{self.guid(name):x}", f'{kind}\t{self.ports(name)} "{name}"']
+            for port in range(1, self.ports(name) + 1):
+                if (name, port) in self.peers:
+                    far, at = self.peers[name, port]
+                    lines.append(f'[{port}]\t"{far}"[{at}]\t# lid 0 4xSDR')
+            texts.append("\n".join(lines) + "\n")
+        return "\n".join(texts)
+
+    def topology(self):
+        """The same for `ibsm run`."""
+        lines = []
+        for name, (kind, guid, _) in self.nodes.items():
+            head = f'{self.ports(name)} "{name}" guid 0x{guid:x}'
+            lines.append(f"Switch {head} cap {ROOM}" if kind == SWITCH else f"Hca {head}")
+            for port in range(1, self.ports(name) + 1):
+                if (name, port) in self.peers:
+                    far, at = self.peers[name, port]
+                    lines.append(f'[{port}] "{far}"[{at}]')
+        return "\n".join(lines) + "\n"
+
+    def facts(self):
+        """What `ibsm facts` prints of a first sweep, where there are no LIDs and tables have room for 1,024."""
+        found = collections.defaultdict(list)
+        for name, (kind, guid, _) in self.nodes.items():
+            least = 0 if kind == SWITCH else 1
+            found["node"].append((guid, 0, f"{guid:016x} {kind} {self.ports(name)}"))
+            if kind == SWITCH:
+                found["cap"].append((guid, 0, f"{guid:016x} 1024"))
+            for port in range(least, self.ports(name) + 1):
+                end = f"{guid:016x}/{port}"
+                if port == 0 or kind == ADAPTER:
+                    found["portguid"].append((guid, port, f"{end} {guid + port:016x}"))
+                found["claim"].append((guid, port, f"{end} 0"))
+                if (name, port) in self.peers:
+                    far, at = self.peers[name, port]
+                    found["link"].append((guid, port, f"{end} {self.guid(far):016x}/{at}"))
+                state = "up" if port == 0 or (name, port) in self.peers else "down"
+                found["port"].append((guid, port, f"{end} {state}"))
+        kinds = ("node", "portguid", "link", "port", "claim", "cap")
+        return "".join(f"{kind} {text} @1\n" for kind in kinds for _, _, text in sorted(found[kind]))
+
+    def shortest(self):
+        """Tables by which each packet takes a shortest way: where there are rings, packets can wait."""
+        tables = {name: [255] * (len(self.ends()) // 64 + 1) * 64 for name in self.nodes if self.is_switch(name)}
+        for lid, (name, port) in enumerate(self.ends(), 1):
+            at, out = (name, 0) if port == 0 else self.peers[name, port]
+            tables[at][lid] = out
+            waiting = collections.deque([at])
+            while waiting:
+                near = waiting.popleft()
+                for p in range(1, self.ports(near) + 1):
+                    far, back = self.peers.get((near, p), ("", 0))
+                    if far in tables and tables[far][lid] == 255:
+                        tables[far][lid] = back
+                        waiting.append(far)
+        return tables
+
+    def plan(self, tables):
+        """What a fabric with these tables holds, in the form of a plan."""
+        ends = self.ends()
+        lines = [f"lid {lid} {self.guid(name):016x}/{port}" for lid, (name, port) in enumerate(ends, 1)]
+        for name in sorted(tables, key=self.guid):
+            lines.append(f"switch {self.guid(name):016x} top {len(ends)}")
+            table = bytes(tables[name])
+            lines += [f"block {i // 64} {table[i : i + 64].hex()}" for i in range(0, len(table), 64)]
+        return "\n".join(lines) + "\n"
+
+
+def triangle():
+    fabric = Fabric()
+    for i in (1, 2, 3):
+        fabric.add(SWITCH, f"S{i}", 16 * i, 4)
+    for one, other in (("S1", "S2"), ("S1", "S3"), ("S2", "S3")):
+        fabric.join(one, other)
+    for i in (1, 2):
+        fabric.join(fabric.add(ADAPTER, f"H{i}", 256 * i, 1), f"S{i + 1}")
+    return fabric
+
+
+def random_fabric(count, degree, hosts, seed=7):
+    """A random tree, further cables up to the mean degree, and adapters at random switches."""
+    fabric, chance = Fabric(), random.Random(seed)
+    switches = fabric.switches(count)
+    for i in range(1, count):
+        fabric.join(chance.choice(switches[:i]), switches[i])
+    for _ in range(count * degree // 2 - count + 1):
+        fabric.join(*chance.sample(switches, 2))
+    fabric.hosts([chance.choice(switches) for _ in range(hosts)])
+    return fabric
+
+
+def fat_tree(k, hosts):
+    """Three levels of switches with k ports, and as many adapters as said below each of the lowest."""
+    fabric, half = Fabric(), k // 2
+    switches = fabric.switches(5 * half * half)
+    low, middle, top = switches[: k * half], switches[k * half : 2 * k * half], switches[2 * k * half :]
+    fabric.hosts([switch for switch in low for _ in range(hosts)])
+    for i, switch in enumerate(middle):
+        pod = i // half * half
+        for j in range(half):
+            fabric.join(low[pod + j], switch)
+        for j in range(half):
+            fabric.join(switch, top[i % half * half + j])
+    return fabric
+
+
+def line(count):
+    """Switches in a row, and an adapter at the first."""
+    fabric = Fabric()
+    switches = fabric.switches(count)
+    fabric.hosts(switches[:1])
+    for one, other in zip(switches, switches[1:]):
+        fabric.join(one, other)
+    return fabric
+
+
+def ring(count):
+    fabric = Fabric()
+    switches = fabric.switches(count)
+    fabric.hosts(switches)
+    for one, other in zip(switches, switches[1:] + switches[:1]):
+        fabric.join(one, other)
+    return fabric
+
+
+def two_ports(count):
+    """Two rows of switches, joined at one end, and adapters with a port in each."""
+    fabric = Fabric()
+    switches = fabric.switches(2 * count)
+    for row in (switches[:count], switches[count:]):
+        for one, other in zip(row, row[1:]):
+            fabric.join(one, other)
+    fabric.join(switches[0], switches[count])
+    for i in range(count):
+        host = fabric.add(ADAPTER, f"H{i + 1}", 0x1000000 + 16 * i)
+        fabric.join(host, switches[i])
+        fabric.join(host, switches[count + i])
+    return fabric
