@@ -71,7 +71,7 @@ abbrev pub name_of : List (Bor (List ℕ)) → Fault → List ℕ
 name_of names (Open place) = name_at (slice_get names place)
 name_of names (File place fault) = name_at (slice_get names place)
 name_of names (Text place fault) = name_at (slice_get names place)
-name_of names (NoRoom endports room) = []
+name_of names (NoRoom why) = []
 name_of names Write = []
 name_of names Memory = []
 

@@ -164,6 +164,6 @@ fn name_of<'a>(names: &[&'a str], fault: &Fault) -> &'a str
             .get(*place)
             .copied()
             .unwrap_or(""),
-        Fault::NoRoom { .. } | Fault::Write | Fault::Memory => "",
+        Fault::NoRoom(_) | Fault::Write | Fault::Memory => "",
     }
 }

@@ -14,7 +14,7 @@ use Rattle.schedule_file.specs.declared.line.Line.TheVariants as line
 use Rattle.schedule_file.specs.declared.schedule.Seat.{Seat}
 use Rattle.schedule_file.specs.Command.{line_of}
 use Rattle.schedule_file.specs.Schedule.{◌>>=◌, Script, command_of, is_free, new_seat, port_of, schedule_of, seat_at, seat_of, told_by, with_command, with_line, with_lines, with_seat}
-use Rattle.schedule_file.specs.FirstFault.{IsCrowded, IsSoundOrCrowded, Leaves, fault_of, seats_with, where_known}
+use Rattle.schedule_file.specs.FirstFault.{IsSoundOrCrowded, Leaves, fault_of, seats_with, where_known}
 
 -- the managers of lines that count from this number, behind those before them
 abbrev pub seats_in : List Node → ℕ → List Seat → List (List ℕ) → Result (List Seat) ScheduleFault

@@ -1,7 +1,7 @@
 -- The schedules that texts tell: their commands name managers that there are, at ports of adapters.
 use Rattle.std.proofs.Common.{◌≡◌, ℕ, ◌+◌, ◌<◌, Bool, true, false, cond, List, [], ◌∷◌}
 use Rattle.std.proofs.Common.{◌++◌, length, get_or, Option, None, Some, Result, Ok, Err, refl, arith, length-append}
-use Rattle.std.specs.Prelude.{IfSome, IfOk, All, is_some, option_map, option_and_then, position, codes, not, if◌then◌else◌}
+use Rattle.std.specs.Prelude.{IfSome, IfOk, is_some, option_and_then, codes, not}
 use Rattle.std.proofs.lemmas.Result.{IfOk-at_ok}
 use Rattle.std.proofs.lemmas.List.Elements.{All-push, All-nil}
 use Rattle.std.proofs.lemmas.List.Quantifiers.{position-Some}
@@ -9,7 +9,7 @@ use Rattle.std.specs.Str.{bytes_eq}
 use Rattle.smp_bytes.specs.declared.cable.NodePort.{NodePort}
 use Rattle.text_words.specs.Text.{words}
 use Rattle.text_words.proofs.Names.{both}
-use Rattle.text_words.proofs.Ranges.{then_some, mapped, tested, always}
+use Rattle.text_words.proofs.Ranges.{then_some, mapped, always}
 use Rattle.topo_file.specs.declared.node.Node.{Node}
 use Rattle.schedule_file.specs.declared.command.Command.{Command}
 use Rattle.schedule_file.specs.declared.command.Command.TheVariants as command
@@ -20,10 +20,10 @@ use Rattle.schedule_file.specs.declared.line.Line.TheVariants as line
 use Rattle.schedule_file.specs.declared.line.NewManager.{NewManager}
 use Rattle.schedule_file.specs.declared.schedule.Seat.{Seat}
 use Rattle.schedule_file.specs.declared.spoken.Spoken.{Spoken}
-use Rattle.schedule_file.specs.declared.spoken.Spoken.TheVariants.{Plain, OfOne, Merge, Cut, Plug, Ping}
+use Rattle.schedule_file.specs.declared.spoken.Spoken.TheVariants.{Plain, OfOne, Merge, Poll, Cut, Plug, Ping}
 use Rattle.schedule_file.specs.declared.spoken.Verb.{Verb}
-use Rattle.schedule_file.specs.declared.spoken.Verb.TheVariants.{Sweep, Write, Timeout, Facts, Plan, Progress}
-use Rattle.schedule_file.specs.Command.{only, pair, number_up_to, which_of, port_name, verb_of, of_one, merge, cut, plug, ping, bare_of, packet_of, plain_of}
+use Rattle.schedule_file.specs.declared.spoken.Verb.TheVariants.{Sweep, Write, Handover, Timeout, Facts, Plan, Progress, State}
+use Rattle.schedule_file.specs.Command.{only, pair, number_up_to, which_of, port_name, verb_of, merge, poll, cut, plug, ping, bare_of, packet_of, plain_of}
 use Rattle.schedule_file.specs.Command.{other_of, spoken_with, spoken_of, new_manager, line_in, line_of}
 use Rattle.schedule_file.specs.ManagerName.{manager_name_in}
 use Rattle.schedule_file.specs.Schedule.{◌>>=◌, Script, IsScript, NamesManagers, seat_of, is_seat, is_taken}
@@ -71,6 +71,12 @@ merge_range args =
     then_some (λ _. Unit {0}) IsSpoken (manager_name_in x.0) _ (always _) (λ m _.
     mapped (λ _. Unit {0}) IsSpoken (manager_name_in x.1) _ (always _) (λ n _. tt)))
 
+poll_range : (args : List (List ℕ)) → IfSome (poll args) IsSpoken
+poll_range args =
+    then_some (λ _. Unit {0}) IsSpoken (pair args) _ (always _) (λ x _.
+    then_some (λ _. Unit {0}) IsSpoken (manager_name_in x.0) _ (always _) (λ m _.
+    mapped (λ _. Unit {0}) IsSpoken (number_up_to 0xFFFF x.1) _ (always _) (λ l _. tt)))
+
 cut_range : (args : List (List ℕ)) → IfSome (cut args) IsSpoken
 cut_range args = mapped (λ _. Unit {0}) IsSpoken (option_and_then port_name (only args)) _ (always _) (λ p _. tt)
 
@@ -89,10 +95,11 @@ ping_range args =
 other_range : (word : List ℕ) (args : List (List ℕ)) → IfSome (other_of word args) IsSpoken
 other_range word args =
     either IsSpoken (bytes_eq word (codes "merge")) _ _ (merge_range args)
+    (either IsSpoken (bytes_eq word (codes "poll")) _ _ (poll_range args)
     (either IsSpoken (bytes_eq word (codes "cut")) _ _ (cut_range args)
     (either IsSpoken (bytes_eq word (codes "plug")) _ _ (plug_range args)
     (either IsSpoken (bytes_eq word (codes "ping")) _ _ (ping_range args)
-    (mapped NamesNone IsSpoken (plain_of word args) Plain (plain_range word args) (λ c h. h)))))
+    (mapped NamesNone IsSpoken (plain_of word args) Plain (plain_range word args) (λ c h. h))))))
 
 spoken_range : (verb : Option Verb) (word : List ℕ) (args : List (List ℕ)) → IfSome (spoken_with verb word args) IsSpoken
 spoken_range (Some verb) word args = mapped (λ _. Unit {0}) IsSpoken (option_and_then manager_name_in (only args)) _ (always _) (λ n _. tt)
@@ -121,10 +128,12 @@ seat_range seats name = place_range (seat_of seats name) seats name refl
 verb_names : (verb : Verb) (count i : ℕ) → i < count → NamesManagers count (of_verb verb i)
 verb_names Sweep count i h = h
 verb_names Write count i h = h
+verb_names Handover count i h = h
 verb_names Timeout count i h = h
 verb_names Facts count i h = h
 verb_names Plan count i h = h
 verb_names Progress count i h = h
+verb_names State count i h = h
 
 command_range : (nodes : List Node) (seats : List Seat) (spoken : Spoken) → IsSpoken spoken
     → IfSome (command_of nodes seats spoken) (NamesManagers (length seats))
@@ -134,6 +143,8 @@ command_range nodes seats (OfOne verb name) h =
 command_range nodes seats (Merge one other) h =
     then_some (λ i. i < length seats) (NamesManagers (length seats)) (seat_of seats one) _ (seat_range seats one) (λ i k.
     mapped (λ j. j < length seats) (NamesManagers (length seats)) (seat_of seats other) _ (seat_range seats other) (λ j l. (k, l)))
+command_range nodes seats (Poll name lid) h =
+    mapped (λ i. i < length seats) (NamesManagers (length seats)) (seat_of seats name) _ (seat_range seats name) (λ i k. k)
 command_range nodes seats (Cut name) h = mapped (λ _. Unit {0}) (NamesManagers (length seats)) (port_of nodes name) _ (always _) (λ p _. tt)
 command_range nodes seats (Plug one other) h =
     then_some (λ _. Unit {0}) (NamesManagers (length seats)) (port_of nodes one) _ (always _) (λ p _.
@@ -171,6 +182,8 @@ more : (count : ℕ) (given : Command) → NamesManagers count given → NamesMa
 more count (command.Manager seat) h = omega arith
 more count (command.Sweep seat) h = omega arith
 more count (command.Write seat) h = omega arith
+more count (command.Handover seat) h = omega arith
+more count (command.Poll seat lid) h = omega arith
 more count (command.Merge seat other) h = let one = h.0 in let two = h.1 in (omega arith, omega arith)
 more count (command.Deliver which) h = tt
 more count (command.Lose which) h = tt
@@ -183,6 +196,7 @@ more count (command.Ping p lid) h = tt
 more count (command.Facts seat) h = omega arith
 more count (command.Plan seat) h = omega arith
 more count (command.Progress seat) h = omega arith
+more count (command.State seat) h = omega arith
 more count command.Tables h = tt
 more count command.Flight h = tt
 

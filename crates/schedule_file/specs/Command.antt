@@ -14,9 +14,9 @@ use Rattle.schedule_file.specs.declared.line.Line.TheVariants as line
 use Rattle.schedule_file.specs.declared.line.NewManager.{NewManager}
 use Rattle.schedule_file.specs.declared.spoken.PortName.{PortName}
 use Rattle.schedule_file.specs.declared.spoken.Spoken.{Spoken}
-use Rattle.schedule_file.specs.declared.spoken.Spoken.TheVariants.{Plain, OfOne, Merge, Cut, Plug, Ping}
+use Rattle.schedule_file.specs.declared.spoken.Spoken.TheVariants.{Plain, OfOne, Merge, Poll, Cut, Plug, Ping}
 use Rattle.schedule_file.specs.declared.spoken.Verb.{Verb}
-use Rattle.schedule_file.specs.declared.spoken.Verb.TheVariants.{Sweep, Write, Timeout, Facts, Plan, Progress}
+use Rattle.schedule_file.specs.declared.spoken.Verb.TheVariants.{Sweep, Write, Handover, Timeout, Facts, Plan, Progress, State}
 use Rattle.schedule_file.specs.ManagerName.{manager_name_in}
 
 -- the only word
@@ -59,10 +59,12 @@ abbrev pub verb_of : List ℕ → Option Verb
 verb_of word =
     if bytes_eq word (codes "sweep") then Some Sweep
     else if bytes_eq word (codes "write") then Some Write
+    else if bytes_eq word (codes "handover") then Some Handover
     else if bytes_eq word (codes "timeout") then Some Timeout
     else if bytes_eq word (codes "facts") then Some Facts
     else if bytes_eq word (codes "plan") then Some Plan
     else if bytes_eq word (codes "progress") then Some Progress
+    else if bytes_eq word (codes "state") then Some State
     else None
 
 abbrev pub of_one : Verb → List (List ℕ) → Option Spoken
@@ -70,6 +72,9 @@ of_one verb args = option_map (OfOne verb) (option_and_then manager_name_in (onl
 
 abbrev pub merge : List (List ℕ) → Option Spoken
 merge args = option_and_then (λ x. option_and_then (λ m. option_map (Merge m) (manager_name_in x.1)) (manager_name_in x.0)) (pair args)
+
+abbrev pub poll : List (List ℕ) → Option Spoken
+poll args = option_and_then (λ x. option_and_then (λ m. option_map (Poll m) (number_up_to 0xFFFF x.1)) (manager_name_in x.0)) (pair args)
 
 abbrev pub cut : List (List ℕ) → Option Spoken
 cut args = option_map Cut (option_and_then port_name (only args))
@@ -106,6 +111,7 @@ plain_of word _ = None
 abbrev pub other_of : List ℕ → List (List ℕ) → Option Spoken
 other_of word args =
     if bytes_eq word (codes "merge") then merge args
+    else if bytes_eq word (codes "poll") then poll args
     else if bytes_eq word (codes "cut") then cut args
     else if bytes_eq word (codes "plug") then plug args
     else if bytes_eq word (codes "ping") then ping args

@@ -1,5 +1,5 @@
 -- The first fault of a text, by the managers alone.
-use Rattle.std.specs.Prelude.{◌≡◌, ◌⊎◌, ◌<◌, ℕ, ◌+◌, Bool, true, false, List, [], ◌∷◌, ◌++◌, Option, None, Some, Result, Ok, Err, length}
+use Rattle.std.specs.Prelude.{◌≡◌, ◌⊎◌, ◌<◌, ℕ, Bool, true, false, List, [], ◌∷◌, ◌++◌, Option, None, Some, Result, Ok, Err, length}
 use Rattle.topo_file.specs.declared.node.Node.{Node}
 use Rattle.schedule_file.specs.declared.command.Command.{Command}
 use Rattle.schedule_file.specs.declared.fault.ScheduleFault.{ScheduleFault}
@@ -7,7 +7,6 @@ use Rattle.schedule_file.specs.declared.fault.ScheduleFault.TheVariants.{Syntax,
 use Rattle.schedule_file.specs.declared.line.Line.{Line}
 use Rattle.schedule_file.specs.declared.line.Line.TheVariants as line
 use Rattle.schedule_file.specs.declared.schedule.Seat.{Seat}
-use Rattle.schedule_file.specs.Command.{line_of}
 use Rattle.schedule_file.specs.Schedule.{◌>>=◌, Script, command_of, new_seat, told_by}
 
 -- the fault of what is told, where it has one

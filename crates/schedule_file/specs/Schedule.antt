@@ -20,9 +20,9 @@ use Rattle.schedule_file.specs.declared.line.NewManager.{NewManager}
 use Rattle.schedule_file.specs.declared.schedule.Seat.{Seat}
 use Rattle.schedule_file.specs.declared.spoken.PortName.{PortName}
 use Rattle.schedule_file.specs.declared.spoken.Spoken.{Spoken}
-use Rattle.schedule_file.specs.declared.spoken.Spoken.TheVariants.{Plain, OfOne, Merge, Cut, Plug, Ping}
+use Rattle.schedule_file.specs.declared.spoken.Spoken.TheVariants.{Plain, OfOne, Merge, Poll, Cut, Plug, Ping}
 use Rattle.schedule_file.specs.declared.spoken.Verb.{Verb}
-use Rattle.schedule_file.specs.declared.spoken.Verb.TheVariants.{Sweep, Write, Timeout, Facts, Plan, Progress}
+use Rattle.schedule_file.specs.declared.spoken.Verb.TheVariants.{Sweep, Write, Handover, Timeout, Facts, Plan, Progress, State}
 use Rattle.schedule_file.specs.Command.{line_of}
 
 -- the managers and the commands
@@ -64,16 +64,19 @@ port_of nodes name = option_map (λ place. record { node = place; port = name.po
 abbrev pub of_verb : Verb → ℕ → Command
 of_verb Sweep seat = command.Sweep seat
 of_verb Write seat = command.Write seat
+of_verb Handover seat = command.Handover seat
 of_verb Timeout seat = command.Timeout seat
 of_verb Facts seat = command.Facts seat
 of_verb Plan seat = command.Plan seat
 of_verb Progress seat = command.Progress seat
+of_verb State seat = command.State seat
 
 -- the command, where all its names are known
 abbrev pub command_of : List Node → List Seat → Spoken → Option Command
 command_of nodes seats (Plain command) = Some command
 command_of nodes seats (OfOne verb name) = option_map (of_verb verb) (seat_of seats name)
 command_of nodes seats (Merge one other) = option_and_then (λ a. option_map (command.Merge a) (seat_of seats other)) (seat_of seats one)
+command_of nodes seats (Poll name lid) = option_map (λ seat. command.Poll seat lid) (seat_of seats name)
 command_of nodes seats (Cut name) = option_map command.Cut (port_of nodes name)
 command_of nodes seats (Plug one other) = option_and_then (λ p. option_map (command.Plug p) (port_of nodes other)) (port_of nodes one)
 command_of nodes seats (Ping name lid) = option_map (λ p. command.Ping p lid) (port_of nodes name)
@@ -127,11 +130,14 @@ abbrev pub NamesManagers : ℕ → Command → Type 0
 NamesManagers count (command.Manager seat) = seat < count
 NamesManagers count (command.Sweep seat) = seat < count
 NamesManagers count (command.Write seat) = seat < count
+NamesManagers count (command.Handover seat) = seat < count
+NamesManagers count (command.Poll seat lid) = seat < count
 NamesManagers count (command.Merge seat other) = (seat < count) × (other < count)
 NamesManagers count (command.Timeout seat) = seat < count
 NamesManagers count (command.Facts seat) = seat < count
 NamesManagers count (command.Plan seat) = seat < count
 NamesManagers count (command.Progress seat) = seat < count
+NamesManagers count (command.State seat) = seat < count
 NamesManagers count _ = Unit {0}
 
 -- its managers sit at ports of the fabric's adapters, and its commands name no others

@@ -10,6 +10,10 @@ pub enum Command {
     Sweep(usize),
     /// The manager writes the plan of what it knows.
     Write(usize),
+    /// The manager hands over to the greatest that wins over it.
+    Handover(usize),
+    /// The manager asks the one at a LID whether it is there.
+    Poll(usize, Lid),
     /// The second manager's records go to the first.
     Merge(usize, usize),
     /// A packet in flight arrives.
@@ -34,6 +38,8 @@ pub enum Command {
     Plan(usize),
     /// How far the manager is with its sweep is shown.
     Progress(usize),
+    /// The manager's state is shown.
+    State(usize),
     /// The forwarding tables are shown.
     Tables,
     /// The packets in flight are shown.

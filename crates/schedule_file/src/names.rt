@@ -19,6 +19,7 @@ pub(crate) fn command(topology: &Topology, seats: &[Seat], spoken: Spoken) -> Op
             let one = seat(seats, &one)?;
             Some(Command::Merge(one, seat(seats, &other)?))
         }
+        Spoken::Poll(name, lid) => Some(Command::Poll(seat(seats, &name)?, lid)),
         Spoken::Cut(name) => Some(Command::Cut(port(topology, &name)?)),
         Spoken::Plug(one, other) => {
             let one = port(topology, &one)?;
@@ -35,10 +36,12 @@ fn of_verb(verb: Verb, seat: usize) -> Command
     match verb {
         Verb::Sweep => Command::Sweep(seat),
         Verb::Write => Command::Write(seat),
+        Verb::Handover => Command::Handover(seat),
         Verb::Timeout => Command::Timeout(seat),
         Verb::Facts => Command::Facts(seat),
         Verb::Plan => Command::Plan(seat),
         Verb::Progress => Command::Progress(seat),
+        Verb::State => Command::State(seat),
     }
 }
 

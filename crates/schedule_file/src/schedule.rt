@@ -163,7 +163,9 @@ pub(crate) fn new_seat(
 /// | Command | Numbers |
 /// |---|---|
 /// | `manager NAME "node"[port] PRIORITY` | priority 0 to 15 |
-/// | `sweep NAME`, `write NAME`, `timeout NAME`, `facts NAME`, `plan NAME`, `progress NAME` | |
+/// | `sweep NAME`, `write NAME`, `handover NAME`, `timeout NAME` | |
+/// | `poll NAME LID` | LID 0 to 65,535 |
+/// | `facts NAME`, `plan NAME`, `progress NAME`, `state NAME` | |
 /// | `merge NAME NAME` | |
 /// | `deliver PACKET`, `lose PACKET`, `repeat PACKET` | `last`, or a serial number of 64 bits |
 /// | `drain COUNT` | 0 to 1,000,000 |

@@ -1,6 +1,6 @@
 ghost use Rattle.std.specs.Prelude.{◌≡◌, option_map};
 ghost use Rattle.text_words.specs.Text.{words};
-ghost use Rattle.schedule_file.specs.Command.{only, pair, port_name, bracketed_number, verb_of, of_one, merge, cut, plug, ping, other_of, spoken_of};
+ghost use Rattle.schedule_file.specs.Command.{only, pair, port_name, bracketed_number, verb_of, of_one, merge, number_up_to, poll, cut, plug, ping, other_of, spoken_of};
 
 use crate::command::Command;
 use crate::manager_name::ManagerName;
@@ -21,10 +21,12 @@ pub(crate) struct PortName {
 pub(crate) enum Verb {
     Sweep,
     Write,
+    Handover,
     Timeout,
     Facts,
     Plan,
     Progress,
+    State,
 }
 
 /// A command with the names that its line tells.
@@ -34,6 +36,7 @@ pub(crate) enum Spoken {
     Plain(Command),
     OfOne(Verb, ManagerName),
     Merge(ManagerName, ManagerName),
+    Poll(ManagerName, Lid),
     Cut(PortName),
     Plug(PortName, PortName),
     Ping(PortName, Lid),
@@ -57,6 +60,8 @@ fn read_verb(word: &[u8]) -> Option<Verb>
         Some(Verb::Sweep)
     } else if is_word(word, "write") {
         Some(Verb::Write)
+    } else if is_word(word, "handover") {
+        Some(Verb::Handover)
     } else if is_word(word, "timeout") {
         Some(Verb::Timeout)
     } else if is_word(word, "facts") {
@@ -65,6 +70,8 @@ fn read_verb(word: &[u8]) -> Option<Verb>
         Some(Verb::Plan)
     } else if is_word(word, "progress") {
         Some(Verb::Progress)
+    } else if is_word(word, "state") {
+        Some(Verb::State)
     } else {
         None
     }
@@ -76,6 +83,8 @@ fn other(word: &[u8], line: &[u8]) -> Option<Spoken>
 {
     if is_word(word, "merge") {
         merge(line)
+    } else if is_word(word, "poll") {
+        poll(line)
     } else if is_word(word, "cut") {
         cut(line)
     } else if is_word(word, "plug") {
@@ -102,6 +111,14 @@ fn merge(line: &[u8]) -> Option<Spoken>
     Some(Spoken::Merge(one, ManagerName::new(other)?))
 }
 
+fn poll(line: &[u8]) -> Option<Spoken>
+    ensures { result ≡ poll (words line.now) }
+{
+    let (name, lid) = pair(line)?;
+    let name = ManagerName::new(name)?;
+    Some(Spoken::Poll(name, lid_of(lid)?))
+}
+
 fn cut(line: &[u8]) -> Option<Spoken>
     ensures { result ≡ cut (words line.now) }
 {
@@ -122,8 +139,14 @@ fn ping(line: &[u8]) -> Option<Spoken>
 {
     let (from, lid) = pair(line)?;
     let from = port_name(from)?;
-    let lid = number_up_to(lid, 0xFFFF)?;
-    Some(Spoken::Ping(from, Lid::new(lid as u16)))
+    Some(Spoken::Ping(from, lid_of(lid)?))
+}
+
+/// A LID up to 65,535 in decimal.
+fn lid_of(word: &[u8]) -> Option<Lid>
+    ensures { result ≡ number_up_to 0xFFFF word.now }
+{
+    Some(Lid::new(number_up_to(word, 0xFFFF)? as u16))
 }
 
 /// A node's name in quotes, and at once behind it a port up to 255 in brackets.

@@ -32,6 +32,6 @@ abbrev pub status_of : Fault → ExitStatus
 status_of (Open place) = InputOutput
 status_of (File place fault) = file_status fault
 status_of (Text place fault) = if is_of_text fault then Refused else Memory
-status_of (NoRoom endports room) = Refused
+status_of (NoRoom why) = Refused
 status_of Write = InputOutput
 status_of NoMemory = Memory

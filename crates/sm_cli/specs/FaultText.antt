@@ -4,6 +4,7 @@ use Rattle.fact_store.specs.declared.report_fault.ReportFault.{ReportFault}
 use Rattle.fact_store.specs.ReportFault.{report_fault_name}
 use Rattle.record_file.specs.declared.file_fault.FileFault.{FileFault}
 use Rattle.record_file.specs.FileFault.{fault_words, fault_number, fault_of_report, is_of_file}
+use Rattle.lid_assign.specs.declared.fault.NoRoom.{NoRoom as Lack}
 use Rattle.sm_cli.specs.declared.fault.Fault.{Fault}
 use Rattle.sm_cli.specs.declared.fault.Fault.TheVariants.{Open, File, Text, NoRoom, Write, Memory}
 use Rattle.sm_cli.specs.declared.text_fault.TextFault.{TextFault}
@@ -44,15 +45,15 @@ abbrev pub count_text : ℕ → List ℕ
 count_text endports = decimal endports ++ codes " end ports"
 
 -- how many end ports there are, and how much room for them
-abbrev pub no_room_text : ℕ → ℕ → List ℕ
-no_room_text endports room = codes "no room: " ++ count_text endports ++ codes ", room " ++ decimal room
+abbrev pub no_room_text : Lack → List ℕ
+no_room_text why = codes "no room: " ++ count_text why.endports ++ codes ", room " ++ decimal why.room
 
 -- what is said of a run that ends with the fault, where that is the name of the file that it speaks of
 abbrev pub fault_text : List ℕ → Fault → List ℕ
 fault_text name (Open place) = named_text name (codes "cannot open")
 fault_text name (File place fault) = file_fault_text name fault
 fault_text name (Text place fault) = text_fault_text name fault
-fault_text name (NoRoom endports room) = no_room_text endports room
+fault_text name (NoRoom why) = no_room_text why
 fault_text name Write = codes "write failed"
 fault_text name Memory = codes "out of memory"
 

@@ -6,5 +6,5 @@ use Rattle.sm_cli.specs.declared.fault.Fault.TheVariants.{NoRoom, Memory}
 
 -- why LIDs are not given, as a fault of a run
 abbrev pub fault_of_lids : LidFault → Fault
-fault_of_lids (lids.NoRoom why) = NoRoom why.endports why.room
+fault_of_lids (lids.NoRoom why) = NoRoom why
 fault_of_lids lids.Memory = Memory

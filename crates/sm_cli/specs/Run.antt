@@ -40,8 +40,7 @@ abbrev pub IsAnswerFault : Command → Facts → Bool → Fault → Type 0
 IsAnswerFault command facts sink_failed (Open place) = ⊥
 IsAnswerFault command facts sink_failed (File place fault) = ⊥
 IsAnswerFault command facts sink_failed (Text place fault) = ⊥
-IsAnswerFault command facts sink_failed (NoRoom endports most) =
-    (command ≡ commands.Plan) × (no_room (cells_of facts) ≡ Some (record { endports = endports; room = most }))
+IsAnswerFault command facts sink_failed (NoRoom why) = (command ≡ commands.Plan) × (no_room (cells_of facts) ≡ Some why)
 IsAnswerFault command facts sink_failed Write = IsTrue sink_failed
 IsAnswerFault command facts sink_failed Memory = (command ≡ commands.Plan) × (no_room (cells_of facts) ≡ None)
 
@@ -119,6 +118,6 @@ abbrev pub IsFaultOf : {S : Type 0} → (S → Option (List ℕ)) → (S → Boo
 IsFaultOf left has_failed interruptions command olds news sink_failed (Open place) = ⊥
 IsFaultOf left has_failed interruptions command olds news sink_failed (File place fault) = RefusesFile left has_failed interruptions olds news place fault
 IsFaultOf left has_failed interruptions command olds news sink_failed (Text place fault) = ⊥
-IsFaultOf left has_failed interruptions command olds news sink_failed (NoRoom endports most) = FailsToAnswer left has_failed command olds news sink_failed (NoRoom endports most)
+IsFaultOf left has_failed interruptions command olds news sink_failed (NoRoom why) = FailsToAnswer left has_failed command olds news sink_failed (NoRoom why)
 IsFaultOf left has_failed interruptions command olds news sink_failed Write = FailsToAnswer left has_failed command olds news sink_failed Write
 IsFaultOf left has_failed interruptions command olds news sink_failed Memory = FailsToAnswer left has_failed command olds news sink_failed Memory

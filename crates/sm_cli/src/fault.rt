@@ -27,13 +27,8 @@ pub enum Fault {
         fault: TextFault,
     },
     /// There are end ports, and no fewer of them than the smallest forwarding table has room for LIDs, 0 among them.
-    #[error("no room: {endports} end ports, room {room}")]
-    NoRoom {
-        /// How many end ports there are.
-        endports: usize,
-        /// How many LIDs the table has room for, 0 among them.
-        room: u16,
-    },
+    #[error("no room: {} end ports, room {}", .0.endports, .0.room)]
+    NoRoom(NoRoom),
     /// The output took no more.
     #[error("write failed")]
     Write,
@@ -58,7 +53,7 @@ impl Fault {
             },
             Fault::Text { fault, .. } if fault.is_of_text() => ExitStatus::Refused,
             Fault::Text { .. } => ExitStatus::Memory,
-            Fault::NoRoom { .. } => ExitStatus::Refused,
+            Fault::NoRoom(_) => ExitStatus::Refused,
             Fault::Memory => ExitStatus::Memory,
         }
     }
@@ -83,7 +78,7 @@ impl From<LidFault> for Fault {
 
     fn from(fault: LidFault) -> Self {
         match fault {
-            LidFault::NoRoom(NoRoom { endports, room }) => Fault::NoRoom { endports, room },
+            LidFault::NoRoom(why) => Fault::NoRoom(why),
             LidFault::Memory => Fault::Memory,
         }
     }

@@ -6,6 +6,7 @@ ghost use Rattle.sm_cli.specs.TextFault.{line_text, said_of_text};
 use crate::fault::Fault;
 use crate::text_fault::TextFault;
 use fact_store::ReportFault;
+use lid_assign::NoRoom;
 use record_file::{FileFault, Sink, WriteFault, write_number};
 
 /// Writes the line of a fault; `name` is that of the file that it speaks of.
@@ -29,20 +30,20 @@ fn write_fault_text<W: Sink>(sink: &mut W, fault: &Fault, name: &[u8]) -> Result
         }
         Fault::File { fault, .. } => write_file_fault(sink, fault, name),
         Fault::Text { fault, .. } => write_text_fault(sink, *fault, name),
-        Fault::NoRoom { endports, room } => write_no_room(sink, *endports, *room),
+        Fault::NoRoom(why) => write_no_room(sink, *why),
         Fault::Write => sink.write(b"write failed"),
         Fault::Memory => sink.write(b"out of memory"),
     }
 }
 
 /// Writes how many end ports there are, and how much room for them.
-fn write_no_room<W: Sink>(sink: &mut W, endports: usize, room: u16) -> Result<(), WriteFault>
-    ensures writes { Writes W.written W.has_failed result sink.old sink.new (no_room_text endports room) }
+fn write_no_room<W: Sink>(sink: &mut W, why: NoRoom) -> Result<(), WriteFault>
+    ensures writes { Writes W.written W.has_failed result sink.old sink.new (no_room_text why) }
 {
     sink.write(b"no room: ")?;
-    write_count(sink, endports)?;
+    write_count(sink, why.endports)?;
     sink.write(b", room ")?;
-    write_number(sink, u64::from(room))
+    write_number(sink, u64::from(why.room))
 }
 
 /// Writes how many end ports there are.

@@ -2,6 +2,7 @@
 //! the formats.
 use super::*;
 use fact_store::ReportFault;
+use lid_assign::NoRoom;
 use record_file::{FileFault, FromBytes, FromRead, Sink, ToRoom, ToWrite, write_number};
 use schedule_file::ScheduleFault;
 use smp_bytes::SmpFault;
@@ -296,10 +297,10 @@ fn fault_lines() -> [(Fault, &'static str); 18] {
         (file(FileFault::Read), "4 ibsm: FILE: read failed\n"),
         (file(FileFault::Memory), "5 ibsm: out of memory\n"),
         (
-            Fault::NoRoom {
+            Fault::NoRoom(NoRoom {
                 endports: 7,
                 room: 49152,
-            },
+            }),
             "3 ibsm: no room: 7 end ports, room 49152\n",
         ),
         (text(TextFault::NotUtf8), "3 ibsm: OTHER: not UTF-8\n"),

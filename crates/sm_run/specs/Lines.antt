@@ -6,6 +6,8 @@ use Rattle.topo_file.specs.declared.node.Node.{Node}
 use Rattle.topo_file.specs.Printed.{name_at}
 use Rattle.fabric_sim.specs.declared.ping.Ping.{Ping}
 use Rattle.fabric_sim.specs.declared.ping.Ping.TheVariants.{Reached, Lost}
+use Rattle.sm_state.specs.declared.state.SmState.{SmState}
+use Rattle.sm_state.specs.States.{state_word}
 use Rattle.sm_manager.specs.declared.progress.Progress.{Progress}
 use Rattle.sm_manager.specs.declared.progress.Progress.TheVariants.{Never, Running, Done}
 
@@ -17,14 +19,18 @@ count_text words count = words ++ decimal count
 unfoldable pub counts_text : ℕ → ℕ → List ℕ
 counts_text unanswered too_far = count_text (codes " unanswered ") unanswered ++ count_text (codes " toofar ") too_far
 
-abbrev pub state_text : Progress → List ℕ
-state_text Never = codes " never"
-state_text (Running unanswered too_far) = codes " running" ++ counts_text unanswered too_far
-state_text (Done unanswered too_far) = codes " done" ++ counts_text unanswered too_far
+abbrev pub stage_text : Progress → List ℕ
+stage_text Never = codes " never"
+stage_text (Running unanswered too_far) = codes " running" ++ counts_text unanswered too_far
+stage_text (Done unanswered too_far) = codes " done" ++ counts_text unanswered too_far
 
 -- how far the manager of a name is with its sweep
 abbrev pub progress_line : List ℕ → Progress → List ℕ
-progress_line manager progress = codes "progress " ++ manager ++ state_text progress ++ codes "\n"
+progress_line manager progress = codes "progress " ++ manager ++ stage_text progress ++ codes "\n"
+
+-- the manager of a name is in this state
+abbrev pub state_line : List ℕ → SmState → List ℕ
+state_line manager state = codes "state " ++ manager ++ codes " " ++ state_word state ++ codes "\n"
 
 -- a port: its node's name in quotes, and its number in brackets
 abbrev pub port_text : List Node → NodePort → List ℕ

@@ -137,7 +137,7 @@ IsRunFault left has_failed interruptions left' has_failed' interruptions' old ne
     FailsToReadThem left has_failed interruptions left' has_failed' interruptions' old new old' new' (File place fault)
 IsRunFault left has_failed interruptions left' has_failed' interruptions' old new old' new' sink_failed (Text place fault) =
     IsRefusedInput left has_failed left' has_failed' old new old' new' (Text place fault)
-IsRunFault left has_failed interruptions left' has_failed' interruptions' old new old' new' sink_failed (NoRoom endports room) = ⊥
+IsRunFault left has_failed interruptions left' has_failed' interruptions' old new old' new' sink_failed (NoRoom why) = ⊥
 IsRunFault left has_failed interruptions left' has_failed' interruptions' old new old' new' sink_failed Write =
     FailsToWrite left has_failed left' has_failed' old new old' new' sink_failed
 IsRunFault left has_failed interruptions left' has_failed' interruptions' old new old' new' sink_failed Memory =

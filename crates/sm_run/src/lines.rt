@@ -4,11 +4,12 @@ ghost use Rattle.record_file.specs.Writes.{Writes};
 ghost use Rattle.text_words.specs.Printed.{named_text, quoted_text};
 ghost use Rattle.topo_file.specs.Printed.{name_at};
 ghost use Rattle.sm_run.specs.Lines.{count_text, counts_text, end_text, flight_line, ping_line};
-ghost use Rattle.sm_run.specs.Lines.{port_text, progress_line, start_text, state_text};
+ghost use Rattle.sm_run.specs.Lines.{port_text, progress_line, start_text, stage_text, state_line};
 
 use fabric_sim::Ping;
 use record_file::{Sink, WriteFault, write_number};
 use sm_manager::Progress;
+use sm_state::SmState;
 use smp_bytes::{Lid, NodePort};
 use topo_file::Topology;
 
@@ -33,12 +34,12 @@ pub(crate) fn write_progress<W: Sink>(
 {
     sink.write(b"progress ")?;
     sink.write(manager.as_bytes())?;
-    write_state(sink, progress)?;
+    write_stage(sink, progress)?;
     sink.write(b"\n")
 }
 
-fn write_state<W: Sink>(sink: &mut W, progress: Progress) -> Result<(), WriteFault>
-    ensures writes { Writes W.written W.has_failed result sink.old sink.new (state_text progress) }
+fn write_stage<W: Sink>(sink: &mut W, progress: Progress) -> Result<(), WriteFault>
+    ensures writes { Writes W.written W.has_failed result sink.old sink.new (stage_text progress) }
 {
     match progress {
         Progress::Never => sink.write(b" never"),
@@ -57,6 +58,22 @@ fn write_state<W: Sink>(sink: &mut W, progress: Progress) -> Result<(), WriteFau
             write_counts(sink, unanswered, too_far)
         }
     }
+}
+
+/// Prints a manager's state.
+pub(crate) fn write_state<W: Sink>(
+    sink: &mut W,
+    manager: &str,
+    state: SmState,
+) -> Result<(), WriteFault>
+    ensures writes { Writes W.written W.has_failed result sink.old sink.new
+        (state_line manager.now state) }
+{
+    sink.write(b"state ")?;
+    sink.write(manager.as_bytes())?;
+    sink.write(b" ")?;
+    sink.write(state.word().as_bytes())?;
+    sink.write(b"\n")
 }
 
 /// Prints how many requests were not answered, and how many ports lead too far.

@@ -4,11 +4,11 @@ ghost use Rattle.std.specs.Io.KnownBytes.{Appends};
 ghost use Rattle.fabric_sim.specs.Changes.{manager_seated};
 ghost use Rattle.fact_store.specs.View.{cells_of};
 ghost use Rattle.sm_cli.specs.FactsText.{facts_text};
-ghost use Rattle.sm_run.specs.Lines.{progress_line};
+ghost use Rattle.sm_run.specs.Lines.{progress_line, state_line};
 ghost use Rattle.sm_manager.specs.Manager.{outstanding, progress_of};
 ghost use Rattle.sm_run.specs.Stops.{StopsFor};
 
-use crate::lines::write_progress;
+use crate::lines::{write_progress, write_state};
 use crate::refusals::{refuse_fabric, refuse_manager};
 use crate::run_fault::RunFault;
 use crate::world::World;
@@ -16,6 +16,7 @@ use lft_blocks::write_plan;
 use record_file::Sink;
 use sm_cli::write_facts;
 use sm_manager::Manager;
+use smp_bytes::Lid;
 use std::alloc::{AllocError, Global};
 
 impl World<'_> {
@@ -52,6 +53,35 @@ impl World<'_> {
         ensures stops { StopsFor W.written W.has_failed result sink.old sink.new }
     {
         if let Err(fault) = self.managers[seat].manager.write_steps() {
+            return refuse_manager(sink, fault);
+        }
+        self.send(seat, sink)
+    }
+
+    /// A manager hands over to another.
+    pub(crate) fn hand_over<W: Sink>(&mut self, seat: usize, sink: &mut W) -> Result<(), RunFault>
+        requires { seat < length self.old.managers.items }
+        ensures managers { length self.new.managers.items ≡ length self.old.managers.items }
+        ensures stops { StopsFor W.written W.has_failed result sink.old sink.new }
+    {
+        if let Err(fault) = self.managers[seat].manager.handover() {
+            return refuse_manager(sink, fault);
+        }
+        self.send(seat, sink)
+    }
+
+    /// A manager asks the one at a LID whether it is there.
+    pub(crate) fn poll<W: Sink>(
+        &mut self,
+        seat: usize,
+        lid: Lid,
+        sink: &mut W,
+    ) -> Result<(), RunFault>
+        requires { seat < length self.old.managers.items }
+        ensures managers { length self.new.managers.items ≡ length self.old.managers.items }
+        ensures stops { StopsFor W.written W.has_failed result sink.old sink.new }
+    {
+        if let Err(fault) = self.managers[seat].manager.poll(lid) {
             return refuse_manager(sink, fault);
         }
         self.send(seat, sink)
@@ -142,6 +172,19 @@ impl World<'_> {
     {
         let seated = &self.managers[seat];
         write_progress(sink, seated.seat.name.as_str(), seated.manager.progress())?;
+        Ok(())
+    }
+
+    /// Prints a manager's state.
+    pub(crate) fn show_state<W: Sink>(&self, seat: usize, sink: &mut W) -> Result<(), RunFault>
+        requires { seat < length self.now.managers.items }
+        ensures prints { OnOk result ((s : _) → slice_get self.now.managers.items seat ≡ Some s
+            → Appends (W.written sink.old) (W.written sink.new)
+            (state_line s.seat.now.name s.manager.state)) }
+        ensures stops { StopsFor W.written W.has_failed result sink.old sink.new }
+    {
+        let seated = &self.managers[seat];
+        write_state(sink, seated.seat.name.as_str(), seated.manager.state())?;
         Ok(())
     }
 }

@@ -114,7 +114,8 @@ impl World<'_> {
         let Some(seat) = self.manager_at(port) else {
             return Ok(());
         };
-        if let Err(fault) = self.managers[seat].manager.on_packet(&packet.bytes) {
+        let manager = &mut self.managers[seat].manager;
+        if let Err(fault) = manager.on_packet(&packet.bytes, Some(packet.slid)) {
             refuse_manager(sink, fault)?;
         }
         self.send(seat, sink)

@@ -83,6 +83,8 @@ impl World<'_> {
             Command::Manager(seat) => self.seat(seat, sink),
             Command::Sweep(seat) => self.sweep(seat, sink),
             Command::Write(seat) => self.write(seat, sink),
+            Command::Handover(seat) => self.hand_over(seat, sink),
+            Command::Poll(seat, lid) => self.poll(seat, lid, sink),
             Command::Merge(seat, other) => self.merge(seat, other, sink),
             Command::Deliver(which) => self.deliver(which, sink),
             Command::Lose(which) => self.lose(which, sink),
@@ -95,6 +97,7 @@ impl World<'_> {
             Command::Facts(seat) => self.show_facts(seat, sink),
             Command::Plan(seat) => self.show_plan(seat, sink),
             Command::Progress(seat) => self.show_progress(seat, sink),
+            Command::State(seat) => self.show_state(seat, sink),
             Command::Tables => self.show_tables(alloc, sink),
             Command::Flight => self.show_flight(topology, sink),
         }

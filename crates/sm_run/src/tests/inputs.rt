@@ -54,7 +54,7 @@ Switch 4 \"S2\" guid 0x20\nSwitch 4 \"S3\" guid 0x30\n",
     (
         b"",
         b"tables\nhandover A\n",
-        "3 ibsm: SCHEDULE: line 2: syntax\n",
+        "3 ibsm: SCHEDULE: line 2: name\n",
     ),
     (b"", b"\n\nsweep A\n", "3 ibsm: SCHEDULE: line 3: name\n"),
     (
