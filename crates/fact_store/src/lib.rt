@@ -22,7 +22,7 @@ pub use report::{Context, Report};
 pub use report_fault::ReportFault;
 pub use sighting::Sighting;
 pub use store::{Refused, Store};
-pub use told::{sightings, sightings_in};
+pub use told::{answer_fault, is_up, sightings, sightings_in};
 pub use value::Value;
 pub use walk::Cells;
 

@@ -48,7 +48,7 @@ pub fn sightings_in(
 }
 
 /// The fault of a packet that is no answer, over a directed route, of an agent that did what was asked.
-fn answer_fault(smp: &Smp) -> Option<ReportFault>
+pub fn answer_fault(smp: &Smp) -> Option<ReportFault>
     ensures { result ≡ answer_fault smp.now }
 {
     if smp.class() != SmpClass::DirectedRoute {
@@ -190,7 +190,7 @@ fn told_by_port_info(
 }
 
 /// Whether the port is up: Initialize, Armed and Active are, all else is not.
-fn is_up(info: &PortInfo) -> bool
+pub fn is_up(info: &PortInfo) -> bool
     ensures { result ≡ is_up_state (bits_in port_state info.now) }
 {
     match info.port_state() {

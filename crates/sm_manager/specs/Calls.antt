@@ -10,7 +10,8 @@ use Rattle.sweep.specs.Replies.{judged, told_by}
 use Rattle.sweep.specs.Sweep.{Sweep}
 use Rattle.lft_blocks.specs.Plan.{plan_of}
 use Rattle.sm_manager.specs.Manager.{Manager, new_manager, begin_fault, sweep_begun, merged, taken}
-use Rattle.sm_manager.specs.Packets.{took, gave_up, is_for_sweep}
+use Rattle.sm_manager.specs.Election.{handed_over, handover_fault, poll_fault, poll_sent}
+use Rattle.sm_manager.specs.Packets.{took, gave_up, is_for_sweep, is_info_request}
 use Rattle.sm_manager.specs.Plans.{writing_fault}
 use Rattle.sm_manager.specs.Writing.{writing_begun}
 
@@ -19,18 +20,22 @@ pub data Call : Type 0 where
   BeginSweep : Call
   WriteSteps : Call
   Take : Call
-  Packet : (bytes : List ℕ) → Call
+  Packet : (bytes : List ℕ) → (from : Option ℕ) → Call
   Timeout : (transaction : ℕ) → Call
   Merge : (sightings : Told) → Call
+  Poll : (lid : ℕ) → Call
+  Handover : Call
 
 -- a refused call leaves the manager, and so does one that is refused memory: that is a life without this call
 abbrev pub after_call : Manager → Call → Manager
 after_call m BeginSweep = if is_none (begin_fault m) then sweep_begun m else m
 after_call m WriteSteps = if is_none (writing_fault m) then writing_begun m else m
 after_call m Take = (taken m).manager
-after_call m (Packet bytes) = (took m bytes).manager
+after_call m (Packet bytes from) = (took m bytes from).manager
 after_call m (Timeout transaction) = (gave_up m transaction).manager
 after_call m (Merge sightings) = merged m (view sightings)
+after_call m (Poll lid) = if is_none (poll_fault m) then poll_sent m lid else m
+after_call m Handover = if is_none (handover_fault m) then handed_over m else m
 
 abbrev pub after_calls : List Call → Manager → Manager
 after_calls [] m = m
@@ -48,16 +53,21 @@ told_of_reply bytes (Some s) = told_if (judged s bytes)
 
 abbrev pub told_of_packet : Manager → List ℕ → Option SmpFault → Told
 told_of_packet m bytes (Some why) = []
-told_of_packet m bytes None = if is_for_sweep bytes then told_of_reply bytes m.sweep else []
+told_of_packet m bytes None =
+    if is_info_request bytes then []
+    else if is_for_sweep bytes then told_of_reply bytes m.sweep
+    else []
 
 -- the sightings of the report that a call accepts, or of the store that it merges
 abbrev pub told_in : Manager → Call → Told
 told_in m BeginSweep = []
 told_in m WriteSteps = []
 told_in m Take = []
-told_in m (Packet bytes) = told_of_packet m bytes (fault_of bytes)
+told_in m (Packet bytes from) = told_of_packet m bytes (fault_of bytes)
 told_in m (Timeout transaction) = []
 told_in m (Merge sightings) = sightings
+told_in m (Poll lid) = []
+told_in m Handover = []
 
 -- all sightings that the calls took in
 abbrev pub taken_in : List Call → Manager → Told

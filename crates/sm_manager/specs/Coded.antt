@@ -9,6 +9,10 @@ use Rattle.sm_manager.specs.declared.outgoing.Outgoing.{Outgoing}
 use Rattle.sm_manager.specs.contracts.outgoing.Outgoing as outgoing
 use Rattle.sm_manager.specs.declared.pending.Pending.{Pending}
 use Rattle.sm_manager.specs.contracts.pending.Pending as pending
+use Rattle.sm_manager.specs.declared.seen.SeenManager.{SeenManager}
+use Rattle.sm_manager.specs.contracts.seen.SeenManager as seen
+use Rattle.sm_manager.specs.declared.standing.Standing.{Standing}
+use Rattle.sm_manager.specs.contracts.standing.Standing as standing
 use Rattle.plan_steps.specs.Phases.{Phase}
 use Rattle.plan_steps.specs.contracts.phase.Phase as phase
 use Rattle.sm_manager.specs.Manager.{Manager, Writing}
@@ -24,18 +28,17 @@ writing_code =
 
 abbrev pub manager_code : Coded Manager
 manager_code =
-    code_by ((ℕ × (ℕ × (ℕ × Facts))) × ((Option Sweep × (Bool × Option Writing)) × (ℕ × (List Pending × List Outgoing))))
-    (coded× (coded× coded_ℕ (coded× coded_ℕ (coded× coded_ℕ facts_code)))
-    (coded× (coded× (coded_option (sweep.the_row).coded) (coded× coded_bool (coded_option writing_code)))
+    code_by ((Standing × (ℕ × Facts)) × ((Option Sweep × (List SeenManager × Option Writing)) × (ℕ × (List Pending × List Outgoing))))
+    (coded× (coded× (standing.the_row).coded (coded× coded_ℕ facts_code))
+    (coded× (coded× (coded_option (sweep.the_row).coded) (coded× (coded_list (seen.the_row).coded) (coded_option writing_code)))
     (coded× coded_ℕ (coded× (coded_list (pending.the_row).coded) (coded_list (outgoing.the_row).coded)))))
-    (λ m. ((m.port_guid, (m.port, (m.priority, m.store))), ((m.sweep, (m.has_swept, m.writing)), (m.counter, (m.pending, m.outgoing)))))
+    (λ m. ((m.standing, (m.port, m.store)), ((m.sweep, (m.seen, m.writing)), (m.counter, (m.pending, m.outgoing)))))
     (λ p. record {
-      port_guid = p.0.0;
+      standing = p.0.0;
       port = p.0.1.0;
-      priority = p.0.1.1.0;
-      store = p.0.1.1.1;
+      store = p.0.1.1;
       sweep = p.1.0.0;
-      has_swept = p.1.0.1.0;
+      seen = p.1.0.1.0;
       writing = p.1.0.1.1;
       counter = p.1.1.0;
       pending = p.1.1.1.0;

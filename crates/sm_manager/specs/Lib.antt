@@ -1,8 +1,12 @@
 pub mod Calls
 pub mod Coded
+pub mod Election
 pub mod Fault
 pub mod Manager
 pub mod Packets
 pub mod Plans
 pub mod Requests
+pub mod Seen
+pub mod Served
+pub mod Standing
 pub mod Writing

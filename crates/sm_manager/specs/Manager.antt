@@ -1,6 +1,6 @@
 -- A subnet manager: what it knows, its last sweep, and what it is about to send; and what it is asked to do.
 -- InfiniBand Architecture Specification, Volume 1: subnet management, subnet manager; topology discovery.
-use Rattle.std.specs.Prelude.{◌≡◌, ℕ, ◌+◌, ◌-◌, ◌^◌, Bool, false, ◌||◌, not, List, [], ◌∷◌, ◌++◌, map, ◌==◌, if◌then◌else◌, Option, Some, None}
+use Rattle.std.specs.Prelude.{◌≡◌, ℕ, ◌+◌, ◌-◌, ◌^◌, Bool, false, not, List, [], ◌∷◌, ◌++◌, map, ◌==◌, if◌then◌else◌, Option, Some, None}
 use Rattle.fact_store.specs.View.{Facts, newest_of, cells_of, no_facts}
 use Rattle.plan_steps.specs.Phases.{Phase}
 use Rattle.fact_store.specs.Merge.{merge}
@@ -12,23 +12,26 @@ use Rattle.sm_manager.specs.declared.outgoing.Outgoing.{Outgoing}
 use Rattle.sm_manager.specs.declared.pending.Pending.{Pending}
 use Rattle.sm_manager.specs.declared.progress.Progress.{Progress}
 use Rattle.sm_manager.specs.declared.progress.Progress.TheVariants.{Never, Running, Done}
+use Rattle.sm_manager.specs.declared.seen.SeenManager.{SeenManager}
+use Rattle.sm_manager.specs.declared.standing.Standing.{Standing}
+use Rattle.sm_manager.specs.Seen.{verdict}
+use Rattle.sm_manager.specs.Standing.{active_once_more, info_of, moved_by, new_standing}
 
 -- A plan that is being written, or was: the phases that have not been sent, and whether a step that counts was not done.
 pub record Writing : Type 0 where
   pub later : List Phase
   pub has_failed : Bool
 
--- The GUID and the number of the port that it sits at, its priority, all facts that it took in, the last sweep that it
--- began, whether a sweep of it got done, the last writing that it began, the number of its next request outside sweeps,
--- the requests outside sweeps that wait for their answers, by rising numbers, and the packets that it is about to send,
--- first in, first out.
+-- What it is among the managers of its subnet, the number of the port that it sits at, all facts that it took in, the last
+-- sweep that it began, the managers that this sweep saw, in the order in which it did, the last writing that it began, the
+-- number of its next request outside sweeps, the requests outside sweeps that wait for their answers, by rising numbers,
+-- and the packets that it is about to send, first in, first out.
 pub record Manager : Type 0 where
-  pub port_guid : ℕ
+  pub standing : Standing
   pub port : ℕ
-  pub priority : ℕ
   pub store : Facts
   pub sweep : Option Sweep
-  pub has_swept : Bool
+  pub seen : List SeenManager
   pub writing : Option Writing
   pub counter : ℕ
   pub pending : List Pending
@@ -38,12 +41,11 @@ pub record Manager : Type 0 where
 abbrev pub new_manager : ℕ → ℕ → ℕ → Manager
 new_manager port_guid port priority =
     record {
-      port_guid = port_guid;
+      standing = new_standing port_guid priority;
       port = port;
-      priority = priority;
       store = no_facts;
       sweep = None;
-      has_swept = false;
+      seen = [];
       writing = None;
       counter = 1;
       pending = [];
@@ -85,9 +87,13 @@ abbrev pub is_over : Option Sweep → Bool
 is_over None = false
 is_over (Some s) = is_done s
 
--- a sweep that got done is remembered
+-- what the end of a sweep that saw these means for the state
+abbrev pub swept : List SeenManager → Standing → Standing
+swept seen s = moved_by (verdict (info_of s) seen) s
+
+-- replies come and requests are given up only while a sweep runs: where it is done then, it ended by that
 abbrev pub after_sweep : Manager → Manager
-after_sweep m = record m { has_swept = m.has_swept || is_over m.sweep }
+after_sweep m = record m { standing = if is_over m.sweep then swept m.seen m.standing else m.standing }
 
 -- the greatest generation of a fact, 0 where there is none
 abbrev pub newest_held : Facts → ℕ
@@ -97,9 +103,10 @@ newest_held facts = newest_of (map (λ e. e.1) (cells_of facts))
 abbrev pub begin_fault : Manager → Option ManagerFault
 begin_fault m = if is_running m.sweep then Some SweepRunning else (if newest_held m.store == 2 ^ 32 - 1 then Some GenerationsSpent else None)
 
--- a sweep by the manager's own port, of a generation after all that it knows
+-- a sweep by the manager's own port, of a generation after all that it knows; it has seen no manager yet
 abbrev pub sweep_begun : Manager → Manager
-sweep_begun m = with_sweep m (started m.port (newest_held m.store + 1) 1)
+sweep_begun m =
+    with_sweep (record m { standing = active_once_more m.standing; seen = [] }) (started m.port (newest_held m.store + 1) 1)
 
 -- other calls ------------------------------------------------------------------------------------
 

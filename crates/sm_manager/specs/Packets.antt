@@ -1,10 +1,11 @@
 -- What a manager does with a packet that comes to its port, and with a timeout.
 -- InfiniBand Architecture Specification, Volume 1: subnet management methods; directed route SMPs.
-use Rattle.std.specs.Prelude.{◌≡◌, ℕ, ◌^◌, Bool, false, ◌&&◌, List, find, nat_le, ◌==◌, if◌then◌else◌, Option, Some, None, Result, Ok, Err}
+use Rattle.std.specs.Prelude.{◌≡◌, ℕ, ◌^◌, Bool, true, false, ◌&&◌, not, List, find, nat_le, ◌==◌, if◌then◌else◌, Option, Some, None, is_some, IsSome, option_map, Result, Ok, Err}
 use Rattle.smp_bytes.specs.Answers as smp
-use Rattle.smp_bytes.specs.Header.{get_resp}
+use Rattle.smp_bytes.specs.Header.{get_resp, sm_info}
 use Rattle.smp_bytes.specs.Field.{number_in}
-use Rattle.smp_bytes.specs.Packet.{fault_of, method, status, transaction_id, is_directed}
+use Rattle.smp_bytes.specs.Packet.{fault_of, method, status, transaction_id, attribute_id, is_directed, is_lid_routed, is_response}
+use Rattle.smp_bytes.specs.declared.header.Status.{Status}
 use Rattle.smp_bytes.specs.declared.smp_fault.SmpFault.{SmpFault}
 use Rattle.fact_store.specs.Merge.{merge}
 use Rattle.fact_store.specs.View.{view}
@@ -17,9 +18,15 @@ use Rattle.sweep.specs.Sweep.{Sweep, timed_out, timeout_fault}
 use Rattle.sm_manager.specs.declared.fault.ManagerFault.{ManagerFault}
 use Rattle.sm_manager.specs.declared.fault.ManagerFault.TheVariants as fault
 use Rattle.sm_manager.specs.declared.pending.Pending.{Pending}
+use Rattle.sm_manager.specs.declared.pending.Purpose.{Purpose}
+use Rattle.sm_manager.specs.declared.pending.Purpose.TheVariants.{Poll, Control, Step}
+use Rattle.sm_manager.specs.declared.standing.Standing.{Standing}
 use Rattle.sm_manager.specs.Manager.{Manager, with_sweep, after_sweep}
 use Rattle.sm_manager.specs.Requests.{with_number}
-use Rattle.sm_manager.specs.Writing.{is_spent, step_over}
+use Rattle.sm_manager.specs.Seen.{with_seen}
+use Rattle.sm_manager.specs.Served.{served}
+use Rattle.sm_manager.specs.Standing.{poll_answered, poll_lost}
+use Rattle.sm_manager.specs.Writing.{is_done_by, is_spent, step_over, without}
 
 -- a call's outcome: the manager afterwards, and why it was refused, if it was
 pub record Called : Type 0 where
@@ -35,9 +42,10 @@ done m = record { manager = m; fault = None }
 
 -- packets -------------------------------------------------------------------------------------
 
--- the facts of an answer are merged with what is known, and what it brings up goes out
+-- the facts of an answer are merged with what is known, a manager that it shows is noted, and what it brings up goes out
 abbrev pub with_answer : Manager → Sweep → List ℕ → Answer → Manager
-with_answer m s packet answer = after_sweep (with_sweep (record m { store = merge m.store (view (told_by answer)) }) (replied s packet))
+with_answer m s packet answer =
+    after_sweep (with_sweep (record m { store = merge m.store (view (told_by answer)); seen = with_seen answer m.seen }) (replied s packet))
 
 abbrev pub answered_by : Manager → Sweep → List ℕ → Result Answer SweepFault → Called
 answered_by m s packet (Ok answer) = done (with_answer m s packet answer)
@@ -60,22 +68,51 @@ answers packet p = number_in method packet == get_resp && smp.answers packet p.n
 abbrev pub pending_for : Manager → List ℕ → Option Pending
 pending_for m packet = find (answers packet) m.pending
 
--- a step was done where its answer says so; the next stage may go out, if there are numbers for it
+-- what a call sends goes out, if there are numbers for it
 abbrev pub unless_spent : Manager → Manager → Called
 unless_spent m after = if is_spent after then refused m fault.SequenceSpent else done after
 
-abbrev pub step_answered : Manager → List ℕ → Option Pending → Called
-step_answered m packet None = refused m fault.Unasked
-step_answered m packet (Some p) = unless_spent m (step_over m p (status packet == 0))
+-- a poll was answered, or was not
+abbrev pub poll_over : Bool → Standing → Standing
+poll_over true s = poll_answered s
+poll_over false s = poll_lost s
+
+-- the number of a status
+abbrev pub status_number : Option Status → Option ℕ
+status_number status = option_map (λ s. s.0) status
+
+-- a request waits no more: it was answered with this status, or nothing answered it; a step was done where its answer
+-- says so, and the next phase may go out
+abbrev pub request_over : Manager → Pending → Option ℕ → Purpose → Called
+request_over m p answer Poll = done (record (without m p) { standing = poll_over (is_some answer) m.standing })
+request_over m p answer Control = done (without m p)
+request_over m p answer (Step counts) = unless_spent m (step_over m p (is_done_by answer))
+
+abbrev pub request_answered : Manager → List ℕ → Option Pending → Called
+request_answered m packet None = refused m fault.Unasked
+request_answered m packet (Some p) = request_over m p (Some (status packet)) p.purpose
+
+-- requests of other managers --------------------------------------------------------------------
+
+-- of a packet that came by LIDs the sender's LID is known
+abbrev pub HasSender : List ℕ → Option ℕ → Type 0
+HasSender packet from = fault_of packet ≡ None → is_lid_routed packet ≡ true → IsSome from
+
+-- a request for SMInfo
+abbrev pub is_info_request : List ℕ → Bool
+is_info_request packet = not (is_response packet) && number_in attribute_id packet == sm_info
 
 -- bytes that are no packet are refused by what is wrong with them, and what answers nothing as not asked for
-abbrev pub packet_taken : Manager → List ℕ → Option SmpFault → Called
-packet_taken m packet (Some why) = refused m (fault.Sweep (Bad (Smp why)))
-packet_taken m packet None = if is_for_sweep packet then sweep_answered m packet m.sweep else step_answered m packet (pending_for m packet)
+abbrev pub packet_taken : Manager → List ℕ → Option ℕ → Option SmpFault → Called
+packet_taken m packet from (Some why) = refused m (fault.Sweep (Bad (Smp why)))
+packet_taken m packet from None =
+    if is_info_request packet then unless_spent m (served m packet from)
+    else if is_for_sweep packet then sweep_answered m packet m.sweep
+    else request_answered m packet (pending_for m packet)
 
--- a packet that comes to the manager's port
-abbrev pub took : Manager → List ℕ → Called
-took m packet = packet_taken m packet (fault_of packet)
+-- a packet that comes to the manager's port, from this LID
+abbrev pub took : Manager → List ℕ → Option ℕ → Called
+took m packet from = packet_taken m packet from (fault_of packet)
 
 -- timeouts --------------------------------------------------------------------------------------
 
@@ -87,15 +124,15 @@ abbrev pub sweep_gave_up : Manager → ℕ → Option Sweep → Called
 sweep_gave_up m transaction None = refused m fault.Unasked
 sweep_gave_up m transaction (Some s) = sweep_timed_out m s transaction (timeout_fault s transaction)
 
-abbrev pub step_gave_up : Manager → Option Pending → Called
-step_gave_up m None = refused m fault.Unasked
-step_gave_up m (Some p) = unless_spent m (step_over m p false)
+abbrev pub request_gave_up : Manager → Option Pending → Called
+request_gave_up m None = refused m fault.Unasked
+request_gave_up m (Some p) = request_over m p None p.purpose
 
--- nothing answered a request in time: one of the sweep, whose TransactionID has its generation in the high half, or a step
+-- nothing answered a request in time: one of the sweep, whose TransactionID has its generation in the high half, or another
 abbrev pub gave_up : Manager → ℕ → Called
 gave_up m transaction =
     if nat_le (2 ^ 32) transaction then sweep_gave_up m transaction m.sweep
-    else step_gave_up m (with_number transaction m.pending)
+    else request_gave_up m (with_number transaction m.pending)
 
 -- where there is no room for what a reply may bring up, it is refused as it would be, or else memory is wanting
 abbrev pub IsFaultWithoutRoom : Result Answer SweepFault → ManagerFault → Type 0

@@ -1,5 +1,5 @@
 -- The requests of a manager outside its sweeps, by rising numbers.
-use Rattle.std.specs.Prelude.{◌≡◌, ℕ, Bool, true, List, filter, length, ◌==◌, Option}
+use Rattle.std.specs.Prelude.{◌≡◌, ℕ, Bool, true, false, List, filter, length, ◌==◌, Option}
 use Rattle.request_table.specs.Numbers as numbers
 use Rattle.sm_manager.specs.declared.pending.Pending.{Pending}
 use Rattle.sm_manager.specs.declared.pending.Purpose.{Purpose}
@@ -26,6 +26,8 @@ without_number number pending = numbers.without_number (λ (p : Pending). p.numb
 -- what they are for ------------------------------------------------------------------------------
 
 abbrev pub is_for_step : Purpose → Bool
+is_for_step purpose.Poll = false
+is_for_step purpose.Control = false
 is_for_step (purpose.Step counts) = true
 
 -- a step of the last writing
@@ -33,6 +35,8 @@ abbrev pub is_step : Pending → Bool
 is_step p = is_for_step p.purpose
 
 abbrev pub counts_as : Purpose → Bool
+counts_as purpose.Poll = false
+counts_as purpose.Control = false
 counts_as (purpose.Step counts) = counts
 
 -- a step without which the plan is not written

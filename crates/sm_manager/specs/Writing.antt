@@ -4,6 +4,7 @@ use Rattle.std.specs.Prelude.{ℕ, suc, ◌+◌, ◌^◌, Bool, false, ◌&&◌,
 use Rattle.std.specs.List.{list_any}
 use Rattle.fact_store.specs.View.{cells_of}
 use Rattle.lft_blocks.specs.Plan.{plan_of}
+use Rattle.smp_bytes.specs.Header.{done}
 use Rattle.plan_steps.specs.declared.step.Step.{Step}
 use Rattle.plan_steps.specs.Phases.{Phase, phases_of}
 use Rattle.plan_steps.specs.Step.{set_packet}
@@ -14,6 +15,8 @@ use Rattle.sm_manager.specs.declared.outgoing.Outgoing.{Outgoing}
 use Rattle.sm_manager.specs.declared.pending.Pending.{Pending}
 use Rattle.sm_manager.specs.declared.pending.Purpose.TheVariants.{Step as IsStep}
 use Rattle.sm_manager.specs.Manager.{Manager, Writing}
+use Rattle.sm_state.specs.declared.state.SmState.TheVariants.{Master}
+use Rattle.sm_manager.specs.Standing.{is_in}
 use Rattle.sm_manager.specs.Requests.{counts, how_many, is_step, no_step_waits, none_counts, without_number}
 
 -- a phase goes out --------------------------------------------------------------------------------
@@ -74,19 +77,19 @@ is_spent m = nat_lt (2 ^ 32) m.counter
 abbrev pub write_fault_with : Manager → Option Sweep → Option ManagerFault
 write_fault_with m None = Some NotMaster
 write_fault_with m (Some s) =
-    if not m.has_swept then Some NotMaster
+    if not (is_in Master m.standing) then Some NotMaster
     else if not (is_done s) then Some SweepRunning
     else if not (no_step_waits m.pending) then Some WritingRunning
     else None
 
--- a manager is the master once a sweep of it got done; it writes where neither a sweep nor a writing of it goes on
+-- a master writes where neither a sweep nor a writing of it goes on; who never began a sweep is no master
 abbrev pub write_fault : Manager → Option ManagerFault
 write_fault m = write_fault_with m m.sweep
 
 -- the phases of the plan of what it knows, over the paths of its last sweep
 abbrev pub phases_by : Manager → Option Sweep → List Phase
 phases_by m None = []
-phases_by m (Some s) = phases_of (plan_of (cells_of m.store)) (cells_of m.store) s m.port_guid m.port
+phases_by m (Some s) = phases_of (plan_of (cells_of m.store)) (cells_of m.store) s m.standing.guid m.port
 
 -- the first of these phases is sent
 abbrev pub begun_with : Manager → List Phase → Manager
@@ -112,6 +115,15 @@ is_written m = is_written_by m.pending m.writing
 abbrev pub noted : Bool → Bool → Option Writing → Option Writing
 noted counts was_done None = None
 noted counts was_done (Some w) = Some (record w { has_failed = w.has_failed || (counts && not was_done) })
+
+-- a request waits no more
+abbrev pub without : Manager → Pending → Manager
+without m p = record m { pending = without_number p.number m.pending }
+
+-- a step was done where its answer says so
+abbrev pub is_done_by : Option ℕ → Bool
+is_done_by None = false
+is_done_by (Some status) = status == done
 
 -- a step waits no more, and what comes next goes out
 abbrev pub step_over : Manager → Pending → Bool → Manager

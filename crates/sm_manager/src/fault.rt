@@ -14,12 +14,18 @@ pub enum ManagerFault {
     /// A sweep was begun and is not done.
     #[error("SweepRunning")]
     SweepRunning,
-    /// No sweep of this manager has got done yet.
+    /// The manager is not in the state Master.
     #[error("NotMaster")]
     NotMaster,
     /// A plan is being written.
     #[error("WritingRunning")]
     WritingRunning,
+    /// The manager is not in the state Standby.
+    #[error("NotStandby")]
+    NotStandby,
+    /// No manager that the last sweep saw can take over, or the plan gives the one that would no LID where it was seen.
+    #[error("Nobody")]
+    Nobody,
     /// A request that is to go out needs a number that 32 bits do not hold.
     #[error("SequenceSpent")]
     SequenceSpent,
@@ -49,6 +55,8 @@ impl ManagerFault {
             ManagerFault::SweepRunning => "SweepRunning",
             ManagerFault::NotMaster => "NotMaster",
             ManagerFault::WritingRunning => "WritingRunning",
+            ManagerFault::NotStandby => "NotStandby",
+            ManagerFault::Nobody => "Nobody",
             ManagerFault::SequenceSpent => "SequenceSpent",
             ManagerFault::NoRoom(_) => "NoRoom",
             ManagerFault::Sweep(fault) => fault.name(),

@@ -1,6 +1,7 @@
 //! A subnet manager as a state machine: it is asked what to send and told what came, and does no input or output.
 #![tactic(auto)]
 
+mod election;
 mod fault;
 pub mod laws;
 mod manager;
@@ -8,7 +9,11 @@ mod outgoing;
 mod packets;
 mod pending;
 mod progress;
+mod replies;
 mod requests;
+mod seen;
+mod served;
+mod standing;
 mod steps;
 mod writing;
 

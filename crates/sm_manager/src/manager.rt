@@ -11,28 +11,30 @@ use crate::fault::ManagerFault;
 use crate::outgoing::{Outgoing, send_queued};
 use crate::progress::Progress;
 use crate::requests::Requests;
+use crate::seen::SeenManager;
+use crate::standing::Standing;
 use crate::writing::Writing;
 use attr_codec::Priority;
 use fact_store::Store;
 use lft_blocks::{Plan, PlanFault};
+use sm_state::SmState;
 use smp_bytes::{Generation, Guid, PortNum};
 use std::alloc::{AllocError, Global};
 use std::collections::VecDeque;
 use std::marker::Model;
 use sweep::Sweep;
 
-/// A subnet manager at an adapter's port: what it knows of the subnet, the last sweep that it began, and what it is about
-/// to send. Contracts see each part.
+/// A subnet manager at an adapter's port: its state, what it knows of the subnet, the last sweep that it began, and what it
+/// is about to send. Contracts see each part.
 #[derive(Drop)]
 pub struct Manager {
     pub(crate) alloc: Global,
-    pub(crate) port_guid: Guid,
+    pub(crate) standing: Standing,
     pub(crate) port: PortNum,
-    pub(crate) priority: Priority,
     pub(crate) store: Store,
     pub(crate) sweep: Option<Sweep>,
-    /// Whether a sweep got done.
-    pub(crate) has_swept: bool,
+    /// The managers that this sweep saw.
+    pub(crate) seen: Vec<SeenManager>,
     pub(crate) writing: Option<Writing>,
     pub(crate) requests: Requests,
     pub(crate) outgoing: VecDeque<Outgoing>,
@@ -46,32 +48,31 @@ impl Model for Manager {
 
     ghost coded = { manager_code };
 
-    ghost view = { λ a. record { port_guid = a.port_guid; port = a.port; priority = a.priority; store = a.store; sweep = a.sweep; has_swept = a.has_swept; writing = a.writing; counter = a.requests.counter; pending = a.requests.pending; outgoing = a.outgoing.items } };
+    ghost view = { λ a. record { standing = a.standing; port = a.port; store = a.store; sweep = a.sweep; seen = a.seen.items; writing = a.writing; counter = a.requests.counter; pending = a.requests.pending; outgoing = a.outgoing.items } };
 
     ghost invariant = { λ a. IsSentWhole a.sweep };
 }
 
 impl Manager {
-    /// A manager that knows nothing, at the port of a GUID and a number. Takes no memory yet.
+    /// A manager that knows nothing, at the port of a GUID and a number; its state is Discovering. Takes no memory yet.
     pub fn new(alloc: Global, port_guid: Guid, port: PortNum, priority: Priority) -> Self
         ensures { result ≡ new_manager port_guid port priority }
     {
         Manager {
             alloc,
-            port_guid,
+            standing: Standing::new(port_guid, priority),
             port,
-            priority,
             store: Store::new(alloc),
             sweep: None,
-            has_swept: false,
+            seen: Vec::new(alloc),
             writing: None,
             requests: Requests::new(alloc),
             outgoing: VecDeque::new(alloc),
         }
     }
 
-    /// Begins a sweep, of the generation after the newest that is held, or of the first; what it asks first goes out. Walks
-    /// the store once.
+    /// Begins a sweep, of the generation after the newest that is held, or of the first; what it asks first goes out. The
+    /// managers that the sweep before it saw are forgotten. Walks the store once.
     ///
     /// # Errors
     ///
@@ -91,6 +92,8 @@ impl Manager {
         let mut sweep = Sweep::start(self.alloc, self.port, generation, 1)?;
         send_queued(&mut sweep, &mut self.outgoing);
         self.sweep = Some(sweep);
+        self.seen.clear();
+        self.standing.count_sweep();
         Ok(())
     }
 
@@ -156,6 +159,13 @@ impl Manager {
         ensures { result.now ≡ self.now.store }
     {
         &self.store
+    }
+
+    /// The state among the managers of the subnet.
+    pub fn state(&self) -> SmState
+        ensures { result ≡ self.now.standing.state }
+    {
+        self.standing.state
     }
 
     /// How the last sweep goes.

@@ -6,6 +6,10 @@ use smp_bytes::{AttributeId, Method, Path, Smp};
 /// What a request outside sweeps is for.
 #[derive(Clone, Copy, Debug, PartialEq, Eq)]
 pub enum Purpose {
+    /// It asks the master whether it is still there.
+    Poll,
+    /// It tells another manager to take over, or that this one has.
+    Control,
     /// It is a step of the last writing.
     Step {
         /// Whether the plan counts as written only where it was done.
@@ -44,6 +48,7 @@ impl Pending {
     {
         match self.purpose {
             Purpose::Step { .. } => true,
+            Purpose::Poll | Purpose::Control => false,
         }
     }
 
@@ -53,6 +58,7 @@ impl Pending {
     {
         match self.purpose {
             Purpose::Step { counts } => counts,
+            Purpose::Poll | Purpose::Control => false,
         }
     }
 

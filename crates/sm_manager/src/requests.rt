@@ -1,14 +1,17 @@
-ghost use Rattle.std.specs.Prelude.{◌≡◌, ◌+◌, ◌<◌, ◌≤◌, ◌^◌, [], ◌∷◌, ◌++◌, OnOk, Some, length, nat_le, option_copied, find, slice_get};
+ghost use Rattle.std.specs.Prelude.{◌≡◌, ◌+◌, ◌<◌, ◌≤◌, ◌^◌, [], ◌∷◌, ◌++◌, false, OnOk, Some, length, nat_le, option_copied, option_map, find, slice_get};
 ghost use Rattle.plan_steps.specs.Step.{set_packet};
 ghost use Rattle.request_table.specs.Numbers.{IsPlaceFor};
-ghost use Rattle.sm_manager.specs.Requests.{AreNumbered, how_many, is_step, no_step_waits, none_counts, with_number, without_number};
+ghost use Rattle.smp_bytes.specs.Header.{sm_info};
+ghost use Rattle.smp_bytes.specs.Requests.{lid_routed};
+ghost use Rattle.sm_manager.specs.Election.{info_pending};
+ghost use Rattle.sm_manager.specs.Requests.{AreNumbered, how_many, is_for_step, is_step, no_step_waits, none_counts, with_number, without_number};
 ghost use Rattle.sm_manager.specs.Packets.{answers};
 ghost use Rattle.sm_manager.specs.Writing.{pending_step};
 
 use crate::pending::{Pending, Purpose};
 use plan_steps::Step;
 use request_table::RequestTable;
-use smp_bytes::Smp;
+use smp_bytes::{AttributeId, Method, Smp};
 use std::alloc::{AllocError, Global};
 use std::marker::Model;
 
@@ -110,11 +113,48 @@ impl Requests {
         packet
     }
 
+    /// A request for SMInfo goes out by LIDs under the next number. Takes no memory.
+    pub(crate) fn send_info(
+        &mut self,
+        purpose: Purpose,
+        method: Method,
+        modifier: u32,
+        payload: &[u8; 64],
+    ) -> Smp
+        requires purpose { is_for_step purpose ≡ false }
+        requires room { 0 < self.old.room }
+        requires number { self.old.counter < 2 ^ 32 }
+        ensures packet { result
+            ≡ lid_routed method.0 sm_info modifier self.old.counter payload.now }
+        ensures counter { self.new.counter ≡ self.old.counter + 1 }
+        ensures pending { self.new.pending
+            ≡ self.old.pending ++ info_pending self.old.counter purpose modifier ∷ [] }
+    {
+        let number = self.table.next();
+        self.table.push(Pending {
+            number: number as u32,
+            purpose,
+            attribute: AttributeId::SM_INFO.0,
+            modifier,
+            path: None,
+        });
+        Smp::lid_routed(method, AttributeId::SM_INFO, modifier, number, payload)
+    }
+
     /// One that waits, by its place in the order of their numbers.
     pub(crate) fn get(&self, place: usize) -> Option<&Pending>
         ensures { option_copied result ≡ slice_get self.now.pending place }
     {
         self.table.get(place)
+    }
+
+    /// What one that waits is for.
+    pub(crate) fn purpose(&self, place: usize) -> Purpose
+        requires { place < length self.now.pending }
+        ensures { Some result
+            ≡ option_map (λ p. p.purpose) (slice_get self.now.pending place) }
+    {
+        self.table.get(place).unwrap().purpose
     }
 
     /// Whether no step that counts waits.

@@ -1,11 +1,11 @@
-ghost use Rattle.std.specs.Prelude.{◌≡◌, ◌<◌, ◌+◌, ◌≤◌, false, None, Some, IfOk, OnOk, OnErr, length, slice_get};
+ghost use Rattle.std.specs.Prelude.{◌≡◌, ◌<◌, ◌+◌, ◌≤◌, true, false, None, Some, IfOk, OnOk, OnErr, length, slice_get};
 ghost use Rattle.std.specs.VecDeque.{deque_capacity, deque_len};
 ghost use Rattle.smp_bytes.specs.Judges.{Judges, JudgesButFor};
 ghost use Rattle.sm_manager.specs.declared.pending.Pending.{Pending};
 ghost use Rattle.sm_manager.specs.Fault.{is_memory};
-ghost use Rattle.sm_manager.specs.Packets.{pending_for, step_answered, unless_spent};
+ghost use Rattle.sm_manager.specs.Packets.{unless_spent};
 ghost use Rattle.sm_manager.specs.Plans.{JudgesAfter, number_fault, planned_fault, writing_fault};
-ghost use Rattle.sm_manager.specs.Requests.{AreNumbered};
+ghost use Rattle.sm_manager.specs.Requests.{AreNumbered, is_step};
 ghost use Rattle.sm_manager.specs.Writing.{count_after, is_written, passed, phases_by, step_over, write_fault, writing_begun};
 
 use crate::fault::ManagerFault;
@@ -13,7 +13,7 @@ use crate::manager::Manager;
 use crate::outgoing::Outgoing;
 use crate::requests::Requests;
 use crate::writing::Writing;
-use smp_bytes::{Smp, Status};
+use sm_state::SmState;
 use std::alloc::AllocError;
 use std::collections::VecDeque;
 use sweep::Sweep;
@@ -32,7 +32,8 @@ impl Manager {
         ensures err { OnErr result (self.new ≡ self.old) }
     {
         let mut writing = self.planned()?;
-        make_room(writing.next_count(), &mut self.requests, &mut self.outgoing)?;
+        let count = writing.next_count();
+        make_room(count, count, &mut self.requests, &mut self.outgoing)?;
         writing.send_next(&mut self.requests, &mut self.outgoing);
         self.writing = Some(writing);
         Ok(())
@@ -61,7 +62,7 @@ impl Manager {
             &plan,
             &self.store,
             sweep,
-            self.port_guid,
+            self.standing.guid,
             self.port,
         )?;
         Ok(Writing::new(phases))
@@ -75,7 +76,7 @@ impl Manager {
         let Some(sweep) = &self.sweep else {
             return Err(ManagerFault::NotMaster);
         };
-        if !self.has_swept {
+        if !self.standing.is_in(SmState::Master) {
             return Err(ManagerFault::NotMaster);
         }
         if !sweep.is_done() {
@@ -87,23 +88,11 @@ impl Manager {
         Ok(sweep)
     }
 
-    /// Takes an answer to a step.
-    pub(crate) fn take_answer(&mut self, smp: &Smp) -> Result<(), ManagerFault>
-        ensures judged { JudgesButFor is_memory result
-            (step_answered self.old smp.now (pending_for self.old smp.now)).fault }
-        ensures ok { OnOk result (self.new
-            ≡ (step_answered self.old smp.now (pending_for self.old smp.now)).manager) }
-        ensures err { OnErr result (self.new ≡ self.old) }
-    {
-        match self.requests.place_for(smp) {
-            Some(place) => self.end_step(place, smp.status() == Status::DONE),
-            None => Err(ManagerFault::Unasked),
-        }
-    }
-
     /// A step waits no more, and the next phase goes out where it was the last of its own.
     pub(crate) fn end_step(&mut self, place: usize, was_done: bool) -> Result<(), ManagerFault>
-        requires { place < length self.old.pending }
+        requires within { place < length self.old.pending }
+        requires step { (p : Pending) → slice_get self.old.pending place ≡ Some p
+            → is_step p ≡ true }
         ensures judged { (p : Pending) → slice_get self.old.pending place ≡ Some p
             → JudgesButFor is_memory result
             (unless_spent self.old (step_over self.old p was_done)).fault }
@@ -111,7 +100,8 @@ impl Manager {
             → OnOk result (self.new ≡ (unless_spent self.old (step_over self.old p was_done)).manager) }
         ensures err { OnErr result (self.new ≡ self.old) }
     {
-        make_room(self.count_after(), &mut self.requests, &mut self.outgoing)?;
+        let count = self.count_after();
+        make_room(count, count, &mut self.requests, &mut self.outgoing)?;
         let ended = self.requests.end(place);
         if let Some(writing) = &mut self.writing {
             writing.note(ended.counts(), was_done);
@@ -136,9 +126,10 @@ impl Manager {
     }
 }
 
-/// Numbers and memory for so many steps more.
-fn make_room(
+/// Numbers and memory for so many requests more, and memory for so many packets.
+pub(crate) fn make_room(
     count: usize,
+    packets: usize,
     requests: &mut Requests,
     outgoing: &mut VecDeque<Outgoing>,
 ) -> Result<(), ManagerFault>
@@ -149,12 +140,12 @@ fn make_room(
     ensures pending { requests.new.pending ≡ requests.old.pending }
     ensures outgoing { outgoing.new.items ≡ outgoing.old.items }
     ensures room { OnOk result (count ≤ requests.new.room) }
-    ensures more { OnOk result (deque_len outgoing.new + count ≤ deque_capacity outgoing.new) }
+    ensures more { OnOk result (deque_len outgoing.new + packets ≤ deque_capacity outgoing.new) }
 {
     if !requests.has_numbers(count) {
         return Err(ManagerFault::SequenceSpent);
     }
     requests.reserve(count)?;
-    outgoing.reserve(count)?;
+    outgoing.reserve(packets)?;
     Ok(())
 }

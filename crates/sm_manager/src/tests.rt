@@ -36,7 +36,7 @@ fn answer(smp: &Smp) -> Smp {
 /// Takes the next packet and answers it; its TransactionID and what the answer came to.
 fn answered(manager: &mut Manager) -> Option<(u64, Option<ManagerFault>)> {
     let out = manager.take_outgoing()?;
-    let fault = manager.on_packet(answer(&out.packet).bytes()).err();
+    let fault = manager.on_packet(answer(&out.packet).bytes(), None).err();
     Some((out.packet.transaction_id(), fault))
 }
 
@@ -94,11 +94,12 @@ fn refuses_in_order(rt: HostRuntime) -> Result<(), Fail> {
         if let Some(byte) = bytes.get_mut(place) {
             *byte = value;
         }
-        assert!(rt; manager.on_packet(&bytes) == Err(fault), "{place}");
+        assert!(rt; manager.on_packet(&bytes, None) == Err(fault), "{place}");
     }
-    assert!(rt; manager.on_packet(reply.bytes()).is_ok() && manager.store().count() == 2);
+    assert!(rt; manager.on_packet(reply.bytes(), None).is_ok() && manager.store().count() == 2);
     assert!(rt;
-        manager.on_packet(reply.bytes()) == Err(ManagerFault::Sweep(SweepFault::NotOutstanding))
+        manager.on_packet(reply.bytes(), None)
+            == Err(ManagerFault::Sweep(SweepFault::NotOutstanding))
     );
     Ok(())
 }
@@ -180,7 +181,7 @@ fn end(manager: &mut Manager, set: &Smp, was_done: Option<bool>) -> Option<Manag
         Some(false) => set.answer(Status(0x1C), &[0; 64]),
         None => return manager.on_timeout(set.transaction_id()).err(),
     };
-    manager.on_packet(answer.bytes()).err()
+    manager.on_packet(answer.bytes(), None).err()
 }
 
 #[test]
@@ -241,10 +242,10 @@ fn takes_answers_to_its_steps(rt: HostRuntime) -> Result<(), Fail> {
             *byte = value;
         }
         assert!(rt;
-            manager.on_packet(&bytes) == Err(ManagerFault::Unasked) && !manager.written(),
+            manager.on_packet(&bytes, None) == Err(ManagerFault::Unasked) && !manager.written(),
             "{place}"
         );
     }
-    assert!(rt; manager.on_packet(answer.bytes()).is_ok() && manager.written());
+    assert!(rt; manager.on_packet(answer.bytes(), None).is_ok() && manager.written());
     Ok(())
 }

@@ -3,6 +3,8 @@
 use Rattle.std.specs.Prelude.{ℕ, List, [], ◌∷◌, find, ◌==◌, Option}
 use Rattle.sm_state.specs.declared.control.Control.{Control}
 use Rattle.sm_state.specs.declared.control.Control.TheVariants.{Handover, Acknowledge, Disable, Standby, Discover}
+use Rattle.sm_state.specs.declared.event.Message.{Message}
+use Rattle.sm_state.specs.declared.event.Message.TheVariants as message
 
 abbrev pub modifier_of_control : Control → ℕ
 modifier_of_control Handover = 1
@@ -17,3 +19,8 @@ controls = Handover ∷ Acknowledge ∷ Disable ∷ Standby ∷ Discover ∷ []
 -- the one of this modifier
 abbrev pub control_of_modifier : ℕ → Option Control
 control_of_modifier modifier = find (λ control. modifier == modifier_of_control control) controls
+
+-- what a manager sends as it moves is one of them
+abbrev pub control_of_message : Message → Control
+control_of_message message.Handover = Handover
+control_of_message message.Acknowledge = Acknowledge

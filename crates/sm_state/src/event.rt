@@ -1,3 +1,8 @@
+ghost use Rattle.std.specs.Prelude.{◌≡◌};
+ghost use Rattle.sm_state.specs.Controls.{control_of_message};
+
+use crate::control::Control;
+
 /// What may move a subnet manager from one state to another: a control that came, by its attribute
 /// modifier, or its own affairs.
 #[derive(Clone, Copy, Debug, PartialEq, Eq)]
@@ -18,4 +23,16 @@ pub enum Event {
 pub enum Message {
     Handover,
     Acknowledge,
+}
+
+impl Message {
+    /// The control that it is.
+    pub fn control(self) -> Control
+        ensures { result ≡ control_of_message self }
+    {
+        match self {
+            Message::Handover => Control::Handover,
+            Message::Acknowledge => Control::Acknowledge,
+        }
+    }
 }

@@ -1,12 +1,10 @@
 -- A reply that a sweep takes.
 use Rattle.std.specs.Prelude.{◌≡◌, ℕ, ◌+◌, ◌^◌, ◌≤◌, List, length, slice_get, Some, Ok}
-use Rattle.fact_store.specs.Report.{sightings_of}
-use Rattle.sweep.specs.declared.answer.Answer.TheVariants.{Facts}
 use Rattle.sweep.specs.declared.replies.Accepted.{Accepted}
 use Rattle.sweep.specs.declared.request.Request.{Request}
 use Rattle.sweep.specs.Sweep.{Sweep}
 use Rattle.sweep.specs.Finding.{finding, questions, IsWithinReach}
-use Rattle.sweep.specs.Replies.{judged, request_of}
+use Rattle.sweep.specs.Replies.{judged, request_of, told_by}
 
 -- the place of the request, what the reply brings up and tells, and what is answered
 pub record IsAccepted (s : Sweep) (packet : List ℕ) (accepted : Accepted) : Type 0 where
@@ -17,5 +15,5 @@ pub record IsAccepted (s : Sweep) (packet : List ℕ) (accepted : Accepted) : Ty
   pub reach : IsWithinReach request.path accepted.finding
   pub few : length (questions request.path accepted.finding) ≤ 256
   pub number : s.next + length (questions request.path accepted.finding) ≤ 2 ^ 32
-  pub answer : judged s packet ≡ Ok (Facts accepted.report)
-  pub told : accepted.told.items ≡ sightings_of accepted.report
+  pub answer : judged s packet ≡ Ok accepted.answer
+  pub told : accepted.told.items ≡ told_by accepted.answer

@@ -9,7 +9,7 @@ use Rattle.smp_bytes.specs.Packet.{max_hops}
 use Rattle.attr_codec.specs.declared.node_info.NodeInfo.{NodeInfo}
 use Rattle.attr_codec.specs.declared.port_state.PortState.{PortState}
 use Rattle.attr_codec.specs.NodeTypeNumber.{type_of_number}
-use Rattle.attr_codec.specs.PortInfo.{port_state, number_of_state, state_of_number}
+use Rattle.attr_codec.specs.PortInfo.{is_sm_bit, port_state, state_of_number}
 use Rattle.fact_store.specs.declared.report.Context.{Context}
 use Rattle.fact_store.specs.declared.report.Context.TheVariants.{Via, About}
 use Rattle.fact_store.specs.Report.{about_of, guid_port, is_up_state, node_info_of, payload_of}
@@ -21,6 +21,7 @@ use Rattle.sweep.specs.declared.reached.SeenState.{SeenState}
 use Rattle.sweep.specs.declared.finding.Finding.{Finding}
 use Rattle.sweep.specs.declared.finding.Finding.TheVariants.{Nothing, Vertex, Port}
 use Rattle.sweep.specs.declared.finding.Onward.{Onward}
+use Rattle.sweep.specs.declared.finding.PortFinding.{PortFinding}
 use Rattle.sweep.specs.declared.finding.Onward.TheVariants.{Stays, Leads, TooFar}
 use Rattle.sweep.specs.Order.{placed}
 use Rattle.sweep.specs.Sweep.{Sweep, Asking, asking, reached_first, reached_at, vertex_key, state_key}
@@ -72,32 +73,51 @@ is_way_on s guid port =
 abbrev pub goes_by : Sweep → List ℕ → ℕ → ℕ → Bool
 goes_by s path guid port = (is_start path && port == s.origin) || is_way_on s guid port
 
--- by a port that is up and leads on, as far as a path can be
-abbrev pub onward : Sweep → List ℕ → ℕ → ℕ → PortState → Onward
-onward s path guid port state =
-    if not (is_up_state (number_of_state state) && goes_by s path guid port) then Stays
+-- by a port that is up
+abbrev pub leads_on : Sweep → List ℕ → ℕ → ℕ → List ℕ → Bool
+leads_on s path guid port info = is_up_state (bits_in port_state info) && goes_by s path guid port
+
+-- by a port that leads on, as far as a path can be
+abbrev pub onward : Sweep → List ℕ → ℕ → ℕ → List ℕ → Onward
+onward s path guid port info =
+    if not (leads_on s path guid port info) then Stays
     else if nat_lt (length path) max_hops then Leads
     else TooFar
 
--- a reserved number is no state
-abbrev pub port_found_of : Sweep → List ℕ → ℕ → ℕ → Option PortState → Finding
-port_found_of s path guid port None = Nothing
-port_found_of s path guid port (Some state) = Port (record { guid = guid; port = port; state = state }) (onward s path guid port state)
+-- the port says that a manager sits there
+abbrev pub has_manager : List ℕ → Bool
+has_manager info = bits_in is_sm_bit info == 1
 
-abbrev pub port_found_at : Sweep → List ℕ → Option ℕ → ℕ → Option PortState → Finding
-port_found_at s path None port state = Nothing
-port_found_at s path (Some guid) port state = port_found_of s path guid port state
+-- as the first reply of the node said
+abbrev pub is_of_adapter : Sweep → ℕ → Bool
+is_of_adapter s guid = option_map_or (λ first. not (is_switch first.kind)) (reached_first s.reached guid) false
+
+-- of an adapter's port, but not of the sweep's own
+abbrev pub asks_manager : Sweep → List ℕ → ℕ → List ℕ → Bool
+asks_manager s path guid info = has_manager info && (not (is_start path) && is_of_adapter s guid)
+
+abbrev pub port_found_of : Sweep → List ℕ → ℕ → ℕ → List ℕ → Finding
+port_found_of s path guid port info =
+    Port (record {
+      guid = guid;
+      port = port;
+      state = state_of_number (bits_in port_state info);
+      has_manager = asks_manager s path guid info;
+      onward = onward s path guid port info;
+    })
 
 -- a port of the node that the request was about
-abbrev pub port_found : Sweep → List ℕ → Context → ℕ → List ℕ → Finding
-port_found s path context port packet = port_found_at s path (about_of context) port (state_of_number (bits_in port_state (payload_of packet)))
+abbrev pub port_found : Sweep → List ℕ → Option ℕ → ℕ → List ℕ → Finding
+port_found s path None port info = Nothing
+port_found s path (Some guid) port info = port_found_of s path guid port info
 
 -- by any reply -----------------------------------------------------------------------------------
 
 abbrev pub finding_of : Sweep → Request → List ℕ → Question → Finding
 finding_of s r packet ask.Node = node_found s r.path (node_info_of packet)
 finding_of s r packet ask.Switch = Nothing
-finding_of s r packet (ask.Port port) = port_found s r.path r.context port packet
+finding_of s r packet (ask.Port port) = port_found s r.path (about_of r.context) port (payload_of packet)
+finding_of s r packet (ask.Manager guid port) = Nothing
 
 -- what the reply to a request brings up
 abbrev pub finding : Sweep → Request → List ℕ → Finding
@@ -118,28 +138,44 @@ vertex_questions v =
     then record { question = ask.Switch; path = v.path; context = About v.guid } ∷ port_questions 0 (v.ports + 1) v.path (About v.guid)
     else record { question = ask.Port v.port; path = v.path; context = About v.guid } ∷ []
 
+-- the manager at the port, over the same path
+abbrev pub manager_questions : List ℕ → PortFinding → List Asking
+manager_questions path found =
+    if found.has_manager
+    then record { question = ask.Manager found.guid found.port; path = path; context = About found.guid } ∷ []
+    else []
+
 -- the node across the port, over the path with the port at its end
-abbrev pub onward_questions : List ℕ → SeenState → Onward → List Asking
-onward_questions path seen Stays = []
-onward_questions path seen Leads = record { question = ask.Node; path = path ++ seen.port ∷ []; context = Via seen.guid seen.port } ∷ []
-onward_questions path seen TooFar = []
+abbrev pub onward_questions : List ℕ → ℕ → ℕ → Onward → List Asking
+onward_questions path guid port Stays = []
+onward_questions path guid port Leads = record { question = ask.Node; path = path ++ port ∷ []; context = Via guid port } ∷ []
+onward_questions path guid port TooFar = []
+
+-- the manager before the node across
+abbrev pub port_found_questions : List ℕ → PortFinding → List Asking
+port_found_questions path found = manager_questions path found ++ onward_questions path found.guid found.port found.onward
 
 abbrev pub questions : List ℕ → Finding → List Asking
 questions path Nothing = []
 questions path (Vertex v) = vertex_questions v
-questions path (Port seen onward) = onward_questions path seen onward
+questions path (Port found) = port_found_questions path found
 
 -- what the sweep has then ----------------------------------------------------------------------------
 
 abbrev pub with_reached : Finding → List Reached → List Reached
 with_reached Nothing reached = reached
 with_reached (Vertex v) reached = placed vertex_key v reached
-with_reached (Port seen onward) reached = reached
+with_reached (Port found) reached = reached
+
+-- a reserved number is no state
+abbrev pub with_state_of : ℕ → ℕ → Option PortState → List SeenState → List SeenState
+with_state_of guid port None states = states
+with_state_of guid port (Some state) states = placed state_key (record { guid = guid; port = port; state = state }) states
 
 abbrev pub with_state : Finding → List SeenState → List SeenState
 with_state Nothing states = states
 with_state (Vertex v) states = states
-with_state (Port seen onward) states = placed state_key seen states
+with_state (Port found) states = with_state_of found.guid found.port found.state states
 
 abbrev pub one_too_far : Onward → ℕ
 one_too_far Stays = 0
@@ -149,7 +185,7 @@ one_too_far TooFar = 1
 abbrev pub too_far_by : Finding → ℕ
 too_far_by Nothing = 0
 too_far_by (Vertex v) = 0
-too_far_by (Port seen onward) = one_too_far onward
+too_far_by (Port found) = one_too_far found.onward
 
 -- with what was found, and the questions that it brings up
 abbrev pub with_finding : Sweep → List ℕ → Finding → Sweep
@@ -157,7 +193,10 @@ with_finding s path found =
     record (asking s (questions path found)) { reached = with_reached found s.reached; states = with_state found s.states; too_far = s.too_far + too_far_by found }
 
 -- a path goes on only where it is not at its greatest length
+abbrev pub IsPathWithinReach : List ℕ → Onward → Type 0
+IsPathWithinReach path onward = onward ≡ Leads → length path < max_hops
+
 abbrev pub IsWithinReach : List ℕ → Finding → Type 0
 IsWithinReach path Nothing = Unit {0}
 IsWithinReach path (Vertex v) = Unit {0}
-IsWithinReach path (Port seen onward) = onward ≡ Leads → length path < max_hops
+IsWithinReach path (Port found) = IsPathWithinReach path found.onward

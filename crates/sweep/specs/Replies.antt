@@ -1,16 +1,19 @@
 -- What a sweep answers to a reply, and what it has then.
-use Rattle.std.specs.Prelude.{ℕ, ◌+◌, ◌^◌, Bool, List, length, find, nat_lt, if◌then◌else◌, Option, Some, None, Result, Ok, Err}
+use Rattle.std.specs.Prelude.{ℕ, ◌+◌, ◌^◌, Bool, List, [], length, find, nat_lt, if◌then◌else◌, Option, Some, None, Result, Ok, Err}
 use Rattle.smp_bytes.specs.declared.smp_fault.SmpFault.{SmpFault}
 use Rattle.smp_bytes.specs.Answers.{answers, is_of}
 use Rattle.smp_bytes.specs.Packet.{fault_of}
 use Rattle.fact_store.specs.declared.report.Report.{Report}
 use Rattle.fact_store.specs.declared.report_fault.ReportFault.{ReportFault}
 use Rattle.fact_store.specs.declared.report_fault.ReportFault.TheVariants as fault
-use Rattle.fact_store.specs.Report.{Told, report_fault, sightings_of}
+use Rattle.attr_codec.specs.SmInfo.{sm_info_in}
+use Rattle.fact_store.specs.Report.{Told, packet_fault, payload_of, report_fault, sightings_of}
 use Rattle.sweep.specs.declared.answer.Answer.{Answer}
-use Rattle.sweep.specs.declared.answer.Answer.TheVariants.{Facts}
+use Rattle.sweep.specs.declared.answer.Answer.TheVariants.{Facts, Seen}
 use Rattle.sweep.specs.declared.fault.SweepFault.{SweepFault}
 use Rattle.sweep.specs.declared.fault.SweepFault.TheVariants.{NotOutstanding, Bad, SequenceSpent}
+use Rattle.sweep.specs.declared.request.Question.{Question}
+use Rattle.sweep.specs.declared.request.Question.TheVariants as ask
 use Rattle.sweep.specs.declared.request.Request.{Request}
 use Rattle.sweep.specs.Sweep.{Sweep, attribute_asked, modifier_asked, transaction_of, without_number}
 use Rattle.sweep.specs.Finding.{finding, questions, with_finding}
@@ -35,17 +38,37 @@ request_of s packet = find (belongs s.generation packet) s.outstanding
 abbrev pub report_for : Sweep → Request → List ℕ → Report
 report_for s r packet = record { generation = s.generation; context = r.context; bytes = packet }
 
+-- a reply to SMInfo is no report: its packet is judged alone
+abbrev pub fault_of_reply : Sweep → Request → List ℕ → Question → Option ReportFault
+fault_of_reply s r packet ask.Node = report_fault (report_for s r packet)
+fault_of_reply s r packet ask.Switch = report_fault (report_for s r packet)
+fault_of_reply s r packet (ask.Port port) = report_fault (report_for s r packet)
+fault_of_reply s r packet (ask.Manager guid port) = packet_fault packet
+
+abbrev pub fault_for : Sweep → Request → List ℕ → Option ReportFault
+fault_for s r packet = fault_of_reply s r packet r.question
+
+-- of SMInfo what the manager at the port tells of itself, and else a report
+abbrev pub answer_of_reply : Sweep → Request → List ℕ → Question → Answer
+answer_of_reply s r packet ask.Node = Facts (report_for s r packet)
+answer_of_reply s r packet ask.Switch = Facts (report_for s r packet)
+answer_of_reply s r packet (ask.Port port) = Facts (report_for s r packet)
+answer_of_reply s r packet (ask.Manager guid port) = Seen guid port (sm_info_in (payload_of packet))
+
+abbrev pub answer_for : Sweep → Request → List ℕ → Answer
+answer_for s r packet = answer_of_reply s r packet r.question
+
 -- a request that the reply brings up needs a number that 32 bits don't hold
 abbrev pub is_spent : Sweep → Request → List ℕ → Bool
 is_spent s r packet = nat_lt (2 ^ 32) (s.next + length (questions r.path (finding s r packet)))
 
 abbrev pub judged_by : Sweep → Request → List ℕ → Option ReportFault → Result Answer SweepFault
 judged_by s r packet (Some why) = Err (Bad why)
-judged_by s r packet None = if is_spent s r packet then Err SequenceSpent else Ok (Facts (report_for s r packet))
+judged_by s r packet None = if is_spent s r packet then Err SequenceSpent else Ok (answer_for s r packet)
 
 abbrev pub judged_for : Sweep → List ℕ → Option Request → Result Answer SweepFault
 judged_for s packet None = Err NotOutstanding
-judged_for s packet (Some r) = judged_by s r packet (report_fault (report_for s r packet))
+judged_for s packet (Some r) = judged_by s r packet (fault_for s r packet)
 
 abbrev pub judged_as : Sweep → List ℕ → Option SmpFault → Result Answer SweepFault
 judged_as s packet (Some why) = Err (Bad (fault.Smp why))
@@ -55,9 +78,10 @@ judged_as s packet None = judged_for s packet (request_of s packet)
 abbrev pub judged : Sweep → List ℕ → Result Answer SweepFault
 judged s packet = judged_as s packet (fault_of packet)
 
--- the facts that an answer tells
+-- the facts that an answer tells; what a manager tells of itself is none
 abbrev pub told_by : Answer → Told
 told_by (Facts report) = sightings_of report
+told_by (Seen guid port info) = []
 
 -- what the sweep has then -----------------------------------------------------------------------
 

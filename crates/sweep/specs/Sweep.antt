@@ -1,7 +1,7 @@
 -- A sweep: what it has asked, what it waits for, and what it has found.
 -- InfiniBand Architecture Specification, Volume 1: subnet management, topology discovery; directed route SMPs.
 use Rattle.std.specs.Prelude.{ℕ, ◌+◌, ◌*◌, ◌^◌, ◌≤◌, Bool, true, false, ◌&&◌, List, [], ◌∷◌, ◌++◌, length, find, replicate, ◌==◌, if◌then◌else◌, Option, Some, None, option_map, is_some, slice_get}
-use Rattle.smp_bytes.specs.Header.{get, node_info, switch_info, port_info}
+use Rattle.smp_bytes.specs.Header.{get, node_info, switch_info, port_info, sm_info}
 use Rattle.smp_bytes.specs.Requests.{directed}
 use Rattle.attr_codec.specs.declared.port_state.PortState.{PortState}
 use Rattle.fact_store.specs.declared.report.Context.{Context}
@@ -36,11 +36,13 @@ abbrev pub attribute_asked : Question → ℕ
 attribute_asked ask.Node = node_info
 attribute_asked ask.Switch = switch_info
 attribute_asked (ask.Port port) = port_info
+attribute_asked (ask.Manager guid port) = sm_info
 
 abbrev pub modifier_asked : Question → ℕ
 modifier_asked ask.Node = 0
 modifier_asked ask.Switch = 0
 modifier_asked (ask.Port port) = port
+modifier_asked (ask.Manager guid port) = 0
 
 -- the generation in the high half, the sequence number in the low half
 abbrev pub transaction_of : ℕ → ℕ → ℕ

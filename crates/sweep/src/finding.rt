@@ -1,14 +1,13 @@
 ghost use Rattle.std.specs.Prelude.{◌≡◌, ◌&&◌, ◌≤◌, ℕ, List, length};
 ghost use Rattle.smp_bytes.specs.Field.{bits_in};
-ghost use Rattle.attr_codec.specs.PortInfo.{number_of_state, port_state, state_of_number};
-ghost use Rattle.fact_store.specs.Report.{is_up_state};
-ghost use Rattle.sweep.specs.Finding.{finding, goes_by, node_found, onward, port_found_of, questions, vertex_of, vertex_questions};
+ghost use Rattle.attr_codec.specs.PortInfo.{is_sm_bit};
+ghost use Rattle.sweep.specs.Finding.{asks_manager, finding, goes_by, has_manager, is_of_adapter, leads_on, node_found, onward, port_found_questions, port_found_of, questions, vertex_of, vertex_questions};
 
-use crate::reached::{Reached, SeenState};
+use crate::reached::Reached;
 use crate::request::{Question, Request};
 use crate::sweep::Sweep;
 use attr_codec::{Attribute, NodeInfo, PortInfo, PortState};
-use fact_store::Context;
+use fact_store::{Context, is_up};
 use smp_bytes::{Guid, NodeType, Path, PortNum, Smp};
 
 /// What a reply brings up.
@@ -18,8 +17,20 @@ pub(crate) enum Finding {
     Nothing,
     /// A node, or another port of an adapter.
     Vertex(Reached),
-    /// A port's state, and whether the sweep goes on by the port.
-    Port(SeenState, Onward),
+    /// What a port says of itself.
+    Port(PortFinding),
+}
+
+/// What a port says of itself.
+#[derive(Clone, Copy, Debug)]
+pub(crate) struct PortFinding {
+    pub(crate) guid: Guid,
+    pub(crate) port: PortNum,
+    /// None where its number is reserved.
+    pub(crate) state: Option<PortState>,
+    /// Whether a manager sits there that is asked.
+    pub(crate) has_manager: bool,
+    pub(crate) onward: Onward,
 }
 
 /// Whether a sweep goes on by a port.
@@ -41,9 +52,23 @@ impl Finding {
     {
         match self {
             Finding::Vertex(vertex) => vertex.question_count(),
-            Finding::Port(_, Onward::Leads) => 1,
-            Finding::Port(..) | Finding::Nothing => 0,
+            Finding::Port(found) => found.question_count(),
+            Finding::Nothing => 0,
         }
+    }
+}
+
+impl PortFinding {
+    /// How many requests a port brings up.
+    fn question_count(&self) -> u64
+        ensures count { (path : List ℕ) → result ≡ length (port_found_questions path self.now) }
+        ensures within { result ≤ 257 }
+    {
+        let across = match self.onward {
+            Onward::Leads => 1,
+            Onward::Stays | Onward::TooFar => 0,
+        };
+        u64::from(self.has_manager) + across
     }
 }
 
@@ -69,7 +94,7 @@ impl Sweep {
         let data = smp.attribute_data();
         match request.question {
             Question::Node => self.node_found(&request.path, &NodeInfo::decode(&data)),
-            Question::Switch => Finding::Nothing,
+            Question::Switch | Question::Manager(..) => Finding::Nothing,
             Question::Port(port) => match request.context {
                 Context::About(guid) => self.port_found(
                     &request.path,
@@ -103,24 +128,42 @@ impl Sweep {
         Finding::Vertex(vertex_of(path, info, first.kind, first.ports))
     }
 
-    /// What PortInfo brings up: the port's state, and whether the sweep goes on by the port.
+    /// What PortInfo brings up: the port's state, whether a manager sits there that is asked, and
+    /// whether the sweep goes on by the port.
     fn port_found(&self, path: &Path<63>, guid: Guid, port: PortNum, info: &PortInfo) -> Finding
-        ensures { result
-            ≡ port_found_of self.now path.now guid port (state_of_number (bits_in port_state info.now)) }
+        ensures { result ≡ port_found_of self.now path.now guid port info.now }
     {
-        match info.port_state() {
-            Some(state) => {
-                let onward = self.onward(path, guid, port, state);
-                Finding::Port(SeenState { guid, port, state }, onward)
-            }
-            None => Finding::Nothing,
+        Finding::Port(PortFinding {
+            guid,
+            port,
+            state: info.port_state(),
+            has_manager: self.asks_manager(path, guid, info),
+            onward: self.onward(path, guid, port, info),
+        })
+    }
+
+    /// Whether the manager at a port is asked: where the port, one of an adapter and not the one
+    /// that the sweep sits at, says that there is one.
+    fn asks_manager(&self, path: &Path<63>, guid: Guid, info: &PortInfo) -> bool
+        ensures { result ≡ asks_manager self.now path.now guid info.now }
+    {
+        has_manager(info) && !path.is_empty() && self.is_of_adapter(guid)
+    }
+
+    /// Whether the first reply of the node of a GUID said that it is no switch.
+    fn is_of_adapter(&self, guid: Guid) -> bool
+        ensures { result ≡ is_of_adapter self.now guid }
+    {
+        match self.found.first_of(guid) {
+            Some(first) => !first.is_switch(),
+            None => false,
         }
     }
 
-    fn onward(&self, path: &Path<63>, guid: Guid, port: PortNum, state: PortState) -> Onward
-        ensures { result ≡ onward self.now path.now guid port state }
+    fn onward(&self, path: &Path<63>, guid: Guid, port: PortNum, info: &PortInfo) -> Onward
+        ensures { result ≡ onward self.now path.now guid port info.now }
     {
-        if !self.leads_on(path, guid, port, state) {
+        if !self.leads_on(path, guid, port, info) {
             Onward::Stays
         } else if path.len() < 63 {
             Onward::Leads
@@ -130,11 +173,10 @@ impl Sweep {
     }
 
     /// Whether a port is up and the sweep goes on by it.
-    fn leads_on(&self, path: &Path<63>, guid: Guid, port: PortNum, state: PortState) -> bool
-        ensures { result
-            ≡ is_up_state (number_of_state state) && goes_by self.now path.now guid port }
+    fn leads_on(&self, path: &Path<63>, guid: Guid, port: PortNum, info: &PortInfo) -> bool
+        ensures { result ≡ leads_on self.now path.now guid port info.now }
     {
-        is_up(state) && self.goes_by(path, guid, port)
+        is_up(info) && self.goes_by(path, guid, port)
     }
 
     /// Whether the sweep goes on by a port: the one that it goes out by, or one of a switch that
@@ -152,14 +194,11 @@ impl Sweep {
     }
 }
 
-/// A port in one of these states is up.
-fn is_up(state: PortState) -> bool
-    ensures { result ≡ is_up_state (number_of_state state) }
+/// Whether a port says that a manager sits there.
+fn has_manager(info: &PortInfo) -> bool
+    ensures { result ≡ has_manager info.now }
 {
-    match state {
-        PortState::Initialize | PortState::Armed | PortState::Active => true,
-        PortState::NoChange | PortState::Down => false,
-    }
+    info.is_sm()
 }
 
 /// The vertex of a node that answered: of a switch its management port, of an adapter the port that

@@ -224,9 +224,12 @@ impl Found {
         match finding {
             Finding::Nothing => {}
             Finding::Vertex(vertex) => put_vertex(&mut self.vertices, vertex),
-            Finding::Port(seen, onward) => {
-                put_state(&mut self.seen, seen);
-                if let Onward::TooFar = onward {
+            Finding::Port(found) => {
+                if let Some(state) = found.state {
+                    let (guid, port) = (found.guid, found.port);
+                    put_state(&mut self.seen, SeenState { guid, port, state });
+                }
+                if let Onward::TooFar = found.onward {
                     self.too_far += 1;
                 }
             }

@@ -2,26 +2,28 @@ ghost use Rattle.std.specs.Prelude.{◌≡◌, ◌+◌, ◌≤◌, length, IfOk,
 ghost use Rattle.std.specs.Result.{result_err};
 ghost use Rattle.fact_store.specs.Merge.{merge};
 ghost use Rattle.fact_store.specs.View.{view};
-ghost use Rattle.smp_bytes.specs.Judges.{JudgesButFor};
+ghost use Rattle.smp_bytes.specs.Judges.{Judges, JudgesButFor};
 ghost use Rattle.sweep.specs.Accepting.{IsAccepted};
 ghost use Rattle.sweep.specs.Fault.{is_memory};
-ghost use Rattle.sweep.specs.Replies.{judged, replied, told_by};
+ghost use Rattle.sweep.specs.Replies.{answer_for, fault_for, judged, replied, told_by};
 
 use crate::answer::Answer;
 use crate::fault::SweepFault;
 use crate::finding::Finding;
 use crate::keeper::{Keeper, Nowhere};
+use crate::request::{Question, Request};
 use crate::sweep::Sweep;
 use arrayvec::ArrayVec;
-use fact_store::{Report, ReportFault, Sighting, Store, sightings_in};
+use attr_codec::{Attribute, SmInfo};
+use fact_store::{Report, ReportFault, Sighting, Store, answer_fault, sightings_in};
 use smp_bytes::Smp;
 
-/// A reply that is taken: the place of its request among those that wait, the report of it, the
+/// A reply that is taken: the place of its request among those that wait, what is answered, the
 /// facts that it tells, and what it brings up.
 #[derive(Drop)]
 pub(crate) struct Accepted {
     pub(crate) place: usize,
-    pub(crate) report: Report,
+    pub(crate) answer: Answer,
     pub(crate) told: ArrayVec<Sighting, 4>,
     pub(crate) finding: Finding,
 }
@@ -32,15 +34,16 @@ impl Sweep {
         ensures { result ≡ judged self.now smp.now }
     {
         match self.accept(smp) {
-            Ok(accepted) => Ok(Answer::Facts(accepted.report)),
+            Ok(accepted) => Ok(accepted.answer),
             Err(fault) => Err(fault),
         }
     }
 
     /// Takes the reply to a request that waits for it, and queues what it brings up: of a new node
-    /// its ports, and of a port that leads on the node across it. Refused are, in this order: bytes
-    /// that are no packet; what no request waits for; a reply from which facts are not read; one
-    /// that brings up a request for which no number is left; and want of memory.
+    /// its ports; of a port the manager that sits there and the node across it. Refused are, in this
+    /// order: bytes that are no packet; what no request waits for; a reply from which facts are not
+    /// read or, of SMInfo, that is no answer of an agent that did what was asked; one that brings up
+    /// a request for which no number is left; and want of memory.
     pub fn on_reply(&mut self, bytes: &[u8; 256]) -> Result<Answer, SweepFault>
         ensures judged { JudgesButFor is_memory result (result_err (judged self.old bytes.now)) }
         ensures answer { IfOk result (λ answer. judged self.old bytes.now ≡ Ok answer) }
@@ -87,7 +90,7 @@ impl Sweep {
         }
         self.requests.take(accepted.place, &accepted.finding);
         self.found.put(accepted.finding);
-        Ok(Answer::Facts(accepted.report))
+        Ok(accepted.answer)
     }
 
     /// What is to be done about a reply, or the first reason to refuse it.
@@ -95,17 +98,11 @@ impl Sweep {
         ensures ok { IfOk result (λ accepted. IsAccepted self.now smp.now accepted) }
         ensures err { IfErr result (λ fault. judged self.now smp.now ≡ Err fault) }
     {
-        let bytes = smp.bytes();
         let Some(place) = self.requests.place_for(self.generation, smp) else {
             return Err(SweepFault::NotOutstanding);
         };
         let request = self.requests.get(place).unwrap();
-        let report = Report {
-            generation: self.generation.number(),
-            context: request.context,
-            bytes: *bytes,
-        };
-        let told = match sightings_in(self.generation, &request.context, smp) {
+        let told = match self.told_by(request, smp) {
             Ok(told) => told,
             Err(fault) => return Err(SweepFault::Bad(fault)),
         };
@@ -115,9 +112,40 @@ impl Sweep {
         }
         Ok(Accepted {
             place,
-            report,
+            answer: self.answer_to(request, smp),
             told,
             finding,
+        })
+    }
+
+    /// The facts that the reply to a request tells, or the first fault that it has. SMInfo tells
+    /// none, whatever it says.
+    fn told_by(&self, request: &Request, smp: &Smp) -> Result<ArrayVec<Sighting, 4>, ReportFault>
+        ensures judged { Judges result (fault_for self.now request.now smp.now) }
+        ensures told { IfOk result
+            (λ told. told.items ≡ told_by (answer_for self.now request.now smp.now)) }
+    {
+        if let Question::Manager(..) = request.question {
+            match answer_fault(smp) {
+                Some(fault) => Err(fault),
+                None => Ok(ArrayVec::new()),
+            }
+        } else {
+            sightings_in(self.generation, &request.context, smp)
+        }
+    }
+
+    /// What the reply to a request is good for.
+    fn answer_to(&self, request: &Request, smp: &Smp) -> Answer
+        ensures { result ≡ answer_for self.now request.now smp.now }
+    {
+        if let Question::Manager(guid, port) = request.question {
+            return Answer::Seen(guid, port, SmInfo::decode(&smp.attribute_data()));
+        }
+        Answer::Facts(Report {
+            generation: self.generation.number(),
+            context: request.context,
+            bytes: *smp.bytes(),
         })
     }
 }

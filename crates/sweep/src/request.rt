@@ -4,7 +4,7 @@ ghost use Rattle.sweep.specs.Sweep.{attribute_asked, modifier_asked, packet_of, 
 
 use fact_store::Context;
 use request_table::Numbered;
-use smp_bytes::{AttributeId, Generation, Method, Path, PortNum, Smp};
+use smp_bytes::{AttributeId, Generation, Guid, Method, Path, PortNum, Smp};
 
 /// What a request asks of a node.
 #[derive(Clone, Copy, Debug, PartialEq, Eq)]
@@ -15,6 +15,8 @@ pub enum Question {
     Switch,
     /// PortInfo of one of its ports.
     Port(PortNum),
+    /// SMInfo: what the manager tells of itself that sits at this port of the adapter of that GUID.
+    Manager(Guid, PortNum),
 }
 
 /// A Get that a sweep makes over a directed route.
@@ -60,6 +62,7 @@ impl Question {
             Question::Node => AttributeId::NODE_INFO,
             Question::Switch => AttributeId::SWITCH_INFO,
             Question::Port(_) => AttributeId::PORT_INFO,
+            Question::Manager(..) => AttributeId::SM_INFO,
         }
     }
 
@@ -68,7 +71,7 @@ impl Question {
         ensures { result ≡ modifier_asked self }
     {
         match self {
-            Question::Node | Question::Switch => 0,
+            Question::Node | Question::Switch | Question::Manager(..) => 0,
             Question::Port(port) => u32::from(port.number()),
         }
     }

@@ -3,18 +3,18 @@ ghost use Rattle.request_table.specs.Order.{IsPlace};
 ghost use Rattle.request_table.specs.Numbers.{AreNumbered, IsPlaceFor};
 ghost use Rattle.fact_store.specs.declared.report.Context.TheVariants.{About};
 ghost use Rattle.sweep.specs.declared.finding.Onward.TheVariants.{Leads};
-ghost use Rattle.sweep.specs.Finding.{port_questions, vertex_questions, onward_questions};
+ghost use Rattle.sweep.specs.Finding.{IsPathWithinReach, manager_questions, onward_questions, port_found_questions, port_questions, vertex_questions};
 ghost use Rattle.sweep.specs.Taking.{CanTake, HasTaken};
 ghost use Rattle.sweep.specs.Replies.{belongs};
 ghost use Rattle.sweep.specs.Requests.{Requests, HasAsked};
 ghost use Rattle.sweep.specs.Sweep.{is_none_left, request_with, without_number};
 
-use crate::finding::{Finding, Onward};
-use crate::reached::{Reached, SeenState};
+use crate::finding::{Finding, Onward, PortFinding};
+use crate::reached::Reached;
 use crate::request::{Question, Request, sequence_of, transaction_of};
 use fact_store::Context;
 use request_table::RequestTable;
-use smp_bytes::{Generation, Path, PortNum, Smp};
+use smp_bytes::{Generation, Guid, Path, PortNum, Smp};
 use std::alloc::{AllocError, Global};
 use std::marker::Model;
 
@@ -213,16 +213,45 @@ impl Requests {
         }
     }
 
+    /// The manager at a port, over the path to the port.
+    fn ask_manager(&mut self, path: &Path<63>, found: &PortFinding)
+        requires room { length (manager_questions path.now found.now) ≤ self.old.room }
+        requires number { self.old.next + length (manager_questions path.now found.now) ≤ 2 ^ 32 }
+        ensures { HasAsked (manager_questions path.now found.now) self.old self.new }
+    {
+        if found.has_manager {
+            self.ask(
+                Question::Manager(found.guid, found.port),
+                path.copy(),
+                Context::About(found.guid),
+            );
+        }
+    }
+
     /// The node across a port, over the path to the port with it at the end.
-    fn ask_across(&mut self, path: Path<63>, seen: &SeenState)
+    fn ask_across(&mut self, path: Path<63>, guid: Guid, port: PortNum)
         requires path { length path < 63 }
         requires room { 0 < self.old.room }
         requires number { self.old.next < 2 ^ 32 }
-        ensures { HasAsked (onward_questions path seen.now Leads) self.old self.new }
+        ensures { HasAsked (onward_questions path guid port Leads) self.old self.new }
     {
         let mut path = path;
-        path.push(seen.port);
-        self.ask(Question::Node, path, Context::Via(seen.guid, seen.port));
+        path.push(port);
+        self.ask(Question::Node, path, Context::Via(guid, port));
+    }
+
+    /// What a port brings up.
+    fn ask_of_port(&mut self, path: Path<63>, found: &PortFinding)
+        requires reach { IsPathWithinReach path found.now.onward }
+        requires room { length (port_found_questions path found.now) ≤ self.old.room }
+        requires number { self.old.next + length (port_found_questions path found.now) ≤ 2 ^ 32 }
+        ensures { HasAsked (port_found_questions path found.now) self.old self.new }
+    {
+        self.ask_manager(&path, found);
+        match found.onward {
+            Onward::Leads => self.ask_across(path, found.guid, found.port),
+            Onward::Stays | Onward::TooFar => {}
+        }
     }
 
     /// The request of a place has ended, and what its reply brings up is asked. Takes no memory.
@@ -233,8 +262,8 @@ impl Requests {
         let Request { path, .. } = self.end(place);
         match finding {
             Finding::Vertex(vertex) => self.ask_vertex(vertex),
-            Finding::Port(seen, Onward::Leads) => self.ask_across(path, seen),
-            Finding::Port(..) | Finding::Nothing => {}
+            Finding::Port(found) => self.ask_of_port(path, found),
+            Finding::Nothing => {}
         }
     }
 }

@@ -50,7 +50,7 @@ fn answer(smp: &Smp, switches: u8) -> Smp {
 /// Why a reply was refused, if it was.
 fn refusal(answered: Result<Answer, SweepFault>) -> Option<SweepFault> {
     match answered {
-        Ok(Answer::Facts(_)) => None,
+        Ok(_) => None,
         Err(fault) => Some(fault),
     }
 }

@@ -1,0 +1,108 @@
+-- What a manager sends to other managers: polls, and controls as it hands over or takes over.
+-- InfiniBand Architecture Specification, Volume 1: subnet management, subnet manager (polling, handover); SMInfo.
+use Rattle.std.specs.Prelude.{ℕ, ◌+◌, not, List, [], ◌∷◌, ◌++◌, replicate, is_none, if◌then◌else◌, Option, Some, None, option_and_then}
+use Rattle.smp_bytes.specs.Header.{get, set, sm_info}
+use Rattle.smp_bytes.specs.Requests.{lid_routed}
+use Rattle.attr_codec.specs.SmInfo.{sm_info_bytes}
+use Rattle.fact_store.specs.View.{cells_of}
+use Rattle.subnet_view.specs.Reading.{Cells}
+use Rattle.lid_assign.specs.Lids.{lid_of}
+use Rattle.lft_blocks.specs.Plan.{plan_of}
+use Rattle.sm_state.specs.declared.control.Control.{Control}
+use Rattle.sm_state.specs.declared.control.Control.TheVariants.{Handover}
+use Rattle.sm_state.specs.declared.event.Message.{Message}
+use Rattle.sm_state.specs.declared.state.SmState.TheVariants.{Standby, Master}
+use Rattle.sm_state.specs.Controls.{control_of_message, modifier_of_control}
+use Rattle.sm_manager.specs.declared.fault.ManagerFault.{ManagerFault}
+use Rattle.sm_manager.specs.declared.fault.ManagerFault.TheVariants as fault
+use Rattle.sm_manager.specs.declared.outgoing.Outgoing.{Outgoing}
+use Rattle.sm_manager.specs.declared.pending.Pending.{Pending}
+use Rattle.sm_manager.specs.declared.pending.Purpose.{Purpose}
+use Rattle.sm_manager.specs.declared.pending.Purpose.TheVariants as purpose
+use Rattle.sm_manager.specs.declared.seen.SeenManager.{SeenManager}
+use Rattle.sm_manager.specs.declared.standing.Standing.{Standing}
+use Rattle.sm_manager.specs.Manager.{Manager}
+use Rattle.sm_manager.specs.Plans.{number_fault, or_else, plan_fault}
+use Rattle.sm_manager.specs.Seen.{heir_of}
+use Rattle.sm_manager.specs.Standing.{info_of, is_in}
+
+-- requests for SMInfo ---------------------------------------------------------------------------
+
+-- one by LIDs as the request of a number
+abbrev pub info_pending : ℕ → Purpose → ℕ → Pending
+info_pending number purpose modifier =
+    record { number = number; purpose = purpose; attribute = sm_info; modifier = modifier; path = None }
+
+-- a poll goes out as a Get with no data
+abbrev pub poll_out : ℕ → ℕ → Outgoing
+poll_out number lid = record { packet = lid_routed get sm_info 0 number (replicate 64 0); to = Some lid }
+
+-- a control as a Set with what its sender tells of itself
+abbrev pub control_out : Standing → ℕ → ℕ → Control → Outgoing
+control_out s number lid control =
+    record { packet = lid_routed set sm_info (modifier_of_control control) number (sm_info_bytes (info_of s)); to = Some lid }
+
+-- a request goes out under the next number, and waits for its answer
+abbrev pub asked : Manager → Pending → Outgoing → Manager
+asked m waits out = record m { counter = m.counter + 1; pending = m.pending ++ waits ∷ []; outgoing = m.outgoing ++ out ∷ [] }
+
+abbrev pub poll_sent : Manager → ℕ → Manager
+poll_sent m lid = asked m (info_pending m.counter purpose.Poll 0) (poll_out m.counter lid)
+
+abbrev pub control_sent : Manager → ℕ → Control → Manager
+control_sent m lid control =
+    asked m (info_pending m.counter purpose.Control (modifier_of_control control)) (control_out m.standing m.counter lid control)
+
+-- how many requests a message comes to; there may be none, or nobody to send it to
+abbrev pub message_count : Option ℕ → Option Message → ℕ
+message_count None message = 0
+message_count (Some lid) None = 0
+message_count (Some lid) (Some message) = 1
+
+-- a message goes out as a control
+abbrev pub told : Manager → Option ℕ → Option Message → Manager
+told m None message = m
+told m (Some lid) None = m
+told m (Some lid) (Some message) = control_sent m lid (control_of_message message)
+
+-- polls -----------------------------------------------------------------------------------------
+
+-- why no poll is sent, want of memory aside
+abbrev pub poll_fault : Manager → Option ManagerFault
+poll_fault m = if is_in Standby m.standing then number_fault (m.counter + 1) else Some fault.NotStandby
+
+-- handing over ----------------------------------------------------------------------------------
+
+-- of the managers that the last sweep saw
+abbrev pub heir : Manager → Option SeenManager
+heir m = heir_of (info_of m.standing) m.seen
+
+-- the LID that the plan gives to the port where a manager was seen
+abbrev pub lid_seen : Cells → SeenManager → Option ℕ
+lid_seen cells s = lid_of (plan_of cells).given (record { node = s.guid; port = s.port })
+
+abbrev pub heir_lid : Manager → Option ℕ
+heir_lid m = option_and_then (lid_seen (cells_of m.store)) (heir m)
+
+-- why nobody can take over, or there is no plan that gives a LID
+abbrev pub heir_fault : Manager → Option ManagerFault
+heir_fault m =
+    if not (is_in Master m.standing) then Some fault.NotMaster
+    else if is_none (heir m) then Some fault.Nobody
+    else plan_fault (cells_of m.store)
+
+-- nor has the heir a LID
+abbrev pub heir_lid_fault : Manager → Option ManagerFault
+heir_lid_fault m = or_else (heir_fault m) (if is_none (heir_lid m) then Some fault.Nobody else None)
+
+-- why nothing is handed over, want of memory aside
+abbrev pub handover_fault : Manager → Option ManagerFault
+handover_fault m = or_else (heir_lid_fault m) (number_fault (m.counter + 1))
+
+-- the heir is told to take over; the state moves once it has acknowledged
+abbrev pub handed_to : Manager → Option ℕ → Manager
+handed_to m None = m
+handed_to m (Some lid) = control_sent m lid Handover
+
+abbrev pub handed_over : Manager → Manager
+handed_over m = handed_to m (heir_lid m)

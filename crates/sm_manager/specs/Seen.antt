@@ -1,0 +1,67 @@
+-- The managers that a sweep saw: which of them outrank a manager, and which it hands over to.
+-- InfiniBand Architecture Specification, Volume 1: subnet management, subnet manager (states, priorities).
+use Rattle.std.specs.Prelude.{◌≡◌, ℕ, Bool, true, false, ◌&&◌, ◌||◌, not, List, [], ◌∷◌, ◌++◌, filter, ◌==◌, if◌then◌else◌, Option, Some, None}
+use Rattle.std.specs.List.{AllByRecursion, list_any}
+use Rattle.attr_codec.specs.declared.sm_info.SmInfo.{SmInfo}
+use Rattle.sm_state.specs.declared.event.Event.{Event}
+use Rattle.sm_state.specs.declared.event.Event.TheVariants.{Outranked, Unrivalled}
+use Rattle.sm_state.specs.declared.state.SmState.{SmState}
+use Rattle.sm_state.specs.declared.state.SmState.TheVariants.{NotActive, Standby, Master}
+use Rattle.sm_state.specs.Ranks.{wins}
+use Rattle.sm_state.specs.States.{number_of_state}
+use Rattle.sweep.specs.declared.answer.Answer.{Answer}
+use Rattle.sweep.specs.declared.answer.Answer.TheVariants.{Facts, Seen}
+use Rattle.sm_manager.specs.declared.seen.SeenManager.{SeenManager}
+
+-- what a sweep saw, in the order in which it did
+abbrev pub with_seen : Answer → List SeenManager → List SeenManager
+with_seen (Facts report) seen = seen
+with_seen (Seen guid port info) seen = seen ++ record { guid = guid; port = port; info = info } ∷ []
+
+-- it says that it is in this state; a reserved number is none
+abbrev pub says : SmState → SmInfo → Bool
+says state info = info.state == number_of_state state
+
+-- after a sweep ------------------------------------------------------------------------------------
+
+-- a master, or one that wins and is not inactive
+abbrev pub outranks : SmInfo → SmInfo → Bool
+outranks own other = says Master other || (not (says NotActive other) && wins other own)
+
+-- what the end of a sweep that saw these means for a manager
+abbrev pub verdict : SmInfo → List SeenManager → Event
+verdict own seen = if list_any (λ s. outranks own s.info) seen then Outranked else Unrivalled
+
+-- whom to hand over to -----------------------------------------------------------------------------
+
+-- standby or master, and it wins
+abbrev pub is_candidate : SmInfo → SeenManager → Bool
+is_candidate own s = (says Standby s.info || says Master s.info) && wins s.info own
+
+abbrev pub better : Option SeenManager → SeenManager → SeenManager
+better None s = s
+better (Some best) s = if wins s.info best.info then s else best
+
+abbrev pub best_with : SmInfo → List SeenManager → Option SeenManager → Option SeenManager
+best_with own [] best = best
+best_with own (s ∷ seen) best = best_with own seen (if is_candidate own s then Some (better best s) else best)
+
+-- the greatest of the candidates, and of equals the first
+abbrev pub heir_of : SmInfo → List SeenManager → Option SeenManager
+heir_of own seen = best_with own seen None
+
+-- in words: it is a candidate, it wins over each candidate that was seen before it, and none that was seen after it wins over it
+pub record IsHeir (own : SmInfo) (seen : List SeenManager) (heir : SeenManager) : Type 0 where
+  pub before : List SeenManager
+  pub after : List SeenManager
+  pub among : filter (is_candidate own) seen ≡ before ++ heir ∷ after
+  pub greater : AllByRecursion (λ s. wins heir.info s.info ≡ true) before
+  pub unbeaten : AllByRecursion (λ s. wins s.info heir.info ≡ false) after
+
+-- there is none only where there is no candidate
+abbrev pub IsHeirOrNone : SmInfo → List SeenManager → Option SeenManager → Type 0
+IsHeirOrNone own seen None = filter (is_candidate own) seen ≡ []
+IsHeirOrNone own seen (Some heir) = IsHeir own seen heir
+
+abbrev pub HeirLaw : Type 0
+HeirLaw = (own : SmInfo) (seen : List SeenManager) → IsHeirOrNone own seen (heir_of own seen)

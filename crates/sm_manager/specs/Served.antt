@@ -1,0 +1,57 @@
+-- What a manager answers where another one asks for its SMInfo or would control it.
+-- InfiniBand Architecture Specification, Volume 1: subnet management, SMInfo; management methods and status.
+use Rattle.std.specs.Prelude.{ℕ, Bool, ◌&&◌, not, List, [], ◌∷◌, ◌++◌, ◌==◌, if◌then◌else◌, Option, None}
+use Rattle.smp_bytes.specs.Field.{bytes_in, number_in}
+use Rattle.smp_bytes.specs.Header.{get, set, done, invalid_field, method_not_supported}
+use Rattle.smp_bytes.specs.Packet.{method, attribute_modifier, attribute_data, is_directed}
+use Rattle.smp_bytes.specs.Requests.{answer_packet}
+use Rattle.attr_codec.specs.SmInfo.{sm_info_bytes}
+use Rattle.sm_state.specs.declared.event.Event.TheVariants as event
+use Rattle.sm_state.specs.declared.transition.Transition.{Transition}
+use Rattle.sm_state.specs.Steps.{status_of, stepped}
+use Rattle.sm_manager.specs.declared.outgoing.Outgoing.{Outgoing}
+use Rattle.sm_manager.specs.declared.standing.Standing.{Standing}
+use Rattle.sm_manager.specs.Election.{told}
+use Rattle.sm_manager.specs.Manager.{Manager}
+use Rattle.sm_manager.specs.Standing.{info_of, moved_to}
+
+-- answers ---------------------------------------------------------------------------------------
+
+-- an answer carries what the manager tells of itself, and a refusal what the request carried
+abbrev pub answer_data : Standing → List ℕ → ℕ → List ℕ
+answer_data s packet status = if status == done then sm_info_bytes (info_of s) else bytes_in attribute_data packet
+
+-- a directed request is answered by its path, and another one by the LID of its sender
+abbrev pub answer_out : Standing → List ℕ → Option ℕ → ℕ → Outgoing
+answer_out s packet from status =
+    record { packet = answer_packet packet status (answer_data s packet status); to = if is_directed packet then None else from }
+
+abbrev pub answering : Manager → List ℕ → Option ℕ → ℕ → Manager
+answering m packet from status = record m { outgoing = m.outgoing ++ answer_out m.standing packet from status ∷ [] }
+
+-- controls ----------------------------------------------------------------------------------------
+
+-- a Set by LIDs may be obeyed
+abbrev pub is_control : List ℕ → Bool
+is_control packet = number_in method packet == set && not (is_directed packet)
+
+-- the state moves, the answer goes out, and then what the sender is told
+abbrev pub moved_on : Manager → List ℕ → Option ℕ → Transition → Manager
+moved_on m packet from move =
+    told (answering (record m { standing = moved_to move.state m.standing }) packet from (status_of move)) from move.message
+
+-- as the table of states says
+abbrev pub controlled : Manager → List ℕ → Option ℕ → Manager
+controlled m packet from = moved_on m packet from (stepped m.standing.state (event.Control (number_in attribute_modifier packet)))
+
+-- any request for SMInfo --------------------------------------------------------------------------
+
+-- the status of the answer to what is no control: a Get is answered
+abbrev pub status_for : List ℕ → ℕ
+status_for packet =
+    if number_in method packet == get then done
+    else if number_in method packet == set then invalid_field
+    else method_not_supported
+
+abbrev pub served : Manager → List ℕ → Option ℕ → Manager
+served m packet from = if is_control packet then controlled m packet from else answering m packet from (status_for packet)

@@ -1,0 +1,149 @@
+//! What a manager sends to other managers.
+ghost use Rattle.std.specs.Prelude.{◌≡◌, ◌<◌, ◌+◌, ◌≤◌, ◌^◌, ◌∷◌, ◌++◌, [], None, Some, IfOk, OnOk, OnErr};
+ghost use Rattle.std.specs.VecDeque.{deque_capacity, deque_len};
+ghost use Rattle.fact_store.specs.View.{cells_of};
+ghost use Rattle.lid_assign.specs.Lids.{lids};
+ghost use Rattle.smp_bytes.specs.Judges.{Judges, JudgesButFor};
+ghost use Rattle.sm_manager.specs.Election.{handed_over, handover_fault, heir, heir_fault, heir_lid, heir_lid_fault};
+ghost use Rattle.sm_manager.specs.Election.{control_out, info_pending, poll_fault, poll_out, poll_sent};
+ghost use Rattle.sm_manager.specs.declared.pending.Purpose.TheVariants.{Control as ForControl, Poll as ForPoll};
+ghost use Rattle.sm_state.specs.Controls.{modifier_of_control};
+ghost use Rattle.sm_manager.specs.Fault.{is_memory};
+ghost use Rattle.sm_manager.specs.Plans.{JudgesAfter, plan_fault};
+
+use crate::fault::ManagerFault;
+use crate::manager::Manager;
+use crate::outgoing::Outgoing;
+use crate::pending::Purpose;
+use crate::requests::Requests;
+use crate::seen::heir;
+use crate::standing::Standing;
+use crate::steps::make_room;
+use attr_codec::Attribute;
+use lid_assign::{LidFault, LidMap, assign};
+use sm_state::{Control, SmState};
+use smp_bytes::{Lid, Method};
+use std::collections::VecDeque;
+use subnet_view::EndPort;
+
+impl Manager {
+    /// Asks the manager at a LID, the master, whether it is there. The answer or its absence counts once it comes.
+    ///
+    /// # Errors
+    ///
+    /// `NotStandby`, `SequenceSpent` and `Memory`, in this order.
+    pub fn poll(&mut self, lid: Lid) -> Result<(), ManagerFault>
+        ensures judged { JudgesButFor is_memory result (poll_fault self.old) }
+        ensures ok { OnOk result (self.new ≡ poll_sent self.old lid) }
+        ensures err { OnErr result (self.new ≡ self.old) }
+    {
+        if !self.standing.is_in(SmState::Standby) {
+            return Err(ManagerFault::NotStandby);
+        }
+        make_room(1, 1, &mut self.requests, &mut self.outgoing)?;
+        send_poll(lid, &mut self.requests, &mut self.outgoing);
+        Ok(())
+    }
+
+    /// Tells the greatest of the managers that the last sweep saw in Standby or Master, and that win over this one, to take
+    /// over; of equals the first that was seen. It goes to the LID of the port where it was seen. The state stays Master,
+    /// until that manager acknowledges. Plans LIDs, and walks what the sweep saw.
+    ///
+    /// # Errors
+    ///
+    /// `NotMaster`; `Nobody`, where there is no such manager; `NoRoom`; `Nobody`, where the plan gives that port no LID;
+    /// `SequenceSpent`; `Memory`.
+    pub fn handover(&mut self) -> Result<(), ManagerFault>
+        ensures judged { JudgesAfter result (heir_fault self.old) (handover_fault self.old) }
+        ensures ok { OnOk result (self.new ≡ handed_over self.old) }
+        ensures err { OnErr result (self.new ≡ self.old) }
+    {
+        let lid = self.heir_lid()?;
+        make_room(1, 1, &mut self.requests, &mut self.outgoing)?;
+        send_control(
+            lid,
+            Control::Handover,
+            &self.standing,
+            &mut self.requests,
+            &mut self.outgoing,
+        );
+        Ok(())
+    }
+
+    /// The LID of the manager that is to take over.
+    fn heir_lid(&self) -> Result<Lid, ManagerFault>
+        ensures judged { JudgesAfter result (heir_fault self.now) (heir_lid_fault self.now) }
+        ensures lid { IfOk result (λ lid. heir_lid self.now ≡ Some lid) }
+    {
+        if !self.standing.is_in(SmState::Master) {
+            return Err(ManagerFault::NotMaster);
+        }
+        let Some(heir) = heir(&self.standing.info(), &self.seen) else {
+            return Err(ManagerFault::Nobody);
+        };
+        let port = EndPort {
+            node: heir.guid,
+            port: heir.port,
+        };
+        match self.plan_lids()?.lid_of(port) {
+            Some(lid) => Ok(lid),
+            None => Err(ManagerFault::Nobody),
+        }
+    }
+
+    /// The LIDs of the plan.
+    fn plan_lids(&self) -> Result<LidMap, ManagerFault>
+        ensures judged { JudgesButFor is_memory result (plan_fault (cells_of self.now.store)) }
+        ensures lids { IfOk result (λ map. map ≡ lids (cells_of self.now.store)) }
+    {
+        match assign(self.alloc, &self.store) {
+            Ok(lids) => Ok(lids),
+            Err(LidFault::NoRoom(why)) => Err(ManagerFault::NoRoom(why)),
+            Err(LidFault::Memory) => Err(ManagerFault::Memory),
+        }
+    }
+}
+
+/// A poll goes out to a LID. Takes no memory.
+fn send_poll(to: Lid, requests: &mut Requests, outgoing: &mut VecDeque<Outgoing>)
+    requires number { requests.old.counter < 2 ^ 32 }
+    requires room { 0 < requests.old.room }
+    requires outgoing { deque_len outgoing.old < deque_capacity outgoing.old }
+    ensures counter { requests.new.counter ≡ requests.old.counter + 1 }
+    ensures pending { requests.new.pending
+        ≡ requests.old.pending ++ info_pending requests.old.counter ForPoll 0 ∷ [] }
+    ensures outgoing { outgoing.new.items
+        ≡ outgoing.old.items ++ poll_out requests.old.counter to ∷ [] }
+{
+    let packet = requests.send_info(Purpose::Poll, Method::GET, 0, &[0; 64]);
+    outgoing.push_back_reserved(Outgoing {
+        packet,
+        to: Some(to),
+    });
+}
+
+/// A control goes out to a LID. Takes no memory.
+pub(crate) fn send_control(
+    to: Lid,
+    control: Control,
+    standing: &Standing,
+    requests: &mut Requests,
+    outgoing: &mut VecDeque<Outgoing>,
+)
+    requires number { requests.old.counter < 2 ^ 32 }
+    requires room { 0 < requests.old.room }
+    requires outgoing { deque_len outgoing.old < deque_capacity outgoing.old }
+    ensures counter { requests.new.counter ≡ requests.old.counter + 1 }
+    ensures pending { requests.new.pending ≡ requests.old.pending
+        ++ info_pending requests.old.counter ForControl (modifier_of_control control) ∷ [] }
+    ensures outgoing { outgoing.new.items
+        ≡ outgoing.old.items ++ control_out standing.now requests.old.counter to control ∷ [] }
+{
+    let modifier = control.modifier();
+    let data = standing.info().encode();
+    let packet = requests.send_info(Purpose::Control, Method::SET, modifier, &data);
+    outgoing.push_back_reserved(Outgoing {
+        packet,
+        to: Some(to),
+    });
+}

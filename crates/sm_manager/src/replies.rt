@@ -1,0 +1,69 @@
+//! How requests outside sweeps end.
+ghost use Rattle.std.specs.Prelude.{◌≡◌, ◌<◌, OnOk, OnErr, length, slice_get, option_map, is_some};
+ghost use Rattle.smp_bytes.specs.Judges.{JudgesButFor};
+ghost use Rattle.sm_manager.specs.declared.pending.Pending.{Pending};
+ghost use Rattle.sm_manager.specs.Fault.{is_memory};
+ghost use Rattle.sm_manager.specs.Packets.{pending_for, poll_over, request_answered, request_over, status_number};
+ghost use Rattle.sm_manager.specs.Writing.{is_done_by};
+
+use crate::fault::ManagerFault;
+use crate::manager::Manager;
+use crate::pending::Purpose;
+use crate::standing::Standing;
+use smp_bytes::{Smp, Status};
+
+impl Manager {
+    /// Takes an answer to a request outside sweeps.
+    pub(crate) fn take_answer(&mut self, smp: &Smp) -> Result<(), ManagerFault>
+        ensures judged { JudgesButFor is_memory result
+            (request_answered self.old smp.now (pending_for self.old smp.now)).fault }
+        ensures ok { OnOk result (self.new
+            ≡ (request_answered self.old smp.now (pending_for self.old smp.now)).manager) }
+        ensures err { OnErr result (self.new ≡ self.old) }
+    {
+        match self.requests.place_for(smp) {
+            Some(place) => self.end_request(place, Some(smp.status())),
+            None => Err(ManagerFault::Unasked),
+        }
+    }
+
+    /// A request outside sweeps waits no more: it was answered with a status, or was not answered in time.
+    pub(crate) fn end_request(
+        &mut self,
+        place: usize,
+        answer: Option<Status>,
+    ) -> Result<(), ManagerFault>
+        requires { place < length self.old.pending }
+        ensures judged { (p : Pending) → slice_get self.old.pending place ≡ Some p
+            → JudgesButFor is_memory result
+            (request_over self.old p (status_number answer) p.purpose).fault }
+        ensures ok { (p : Pending) → slice_get self.old.pending place ≡ Some p
+            → OnOk result (self.new
+            ≡ (request_over self.old p (status_number answer) p.purpose).manager) }
+        ensures err { OnErr result (self.new ≡ self.old) }
+    {
+        match self.requests.purpose(place) {
+            Purpose::Step { .. } => self.end_step(place, answer == Some(Status::DONE)),
+            Purpose::Poll => {
+                self.requests.end(place);
+                end_poll(&mut self.standing, answer.is_some());
+                Ok(())
+            }
+            Purpose::Control => {
+                self.requests.end(place);
+                Ok(())
+            }
+        }
+    }
+}
+
+/// A poll was answered, or was not.
+fn end_poll(standing: &mut Standing, was_answered: bool)
+    ensures { standing.new ≡ poll_over was_answered standing.old }
+{
+    if was_answered {
+        standing.hear_poll();
+    } else {
+        standing.lose_poll();
+    }
+}

@@ -1,0 +1,93 @@
+//! The managers that a sweep saw.
+ghost use Rattle.std.specs.Prelude.{◌≡◌, ◌<◌, Some, if◌then◌else◌};
+ghost use Rattle.std.specs.Prelude.{vec_capacity, vec_len};
+ghost use Rattle.sm_manager.specs.Seen.{better, heir_of, is_candidate, outranks, says, verdict, with_seen};
+
+use attr_codec::SmInfo;
+use sm_state::{Event, SmState, wins};
+use smp_bytes::{Guid, PortNum};
+use sweep::Answer;
+
+/// A manager that the last sweep saw.
+#[derive(Clone, Copy, Debug)]
+pub(crate) struct SeenManager {
+    /// The GUID of the node that it sits at.
+    pub(crate) guid: Guid,
+    /// The port of the node, as the sweep asked for it.
+    pub(crate) port: PortNum,
+    /// What it told of itself.
+    pub(crate) info: SmInfo,
+}
+
+/// Notes the manager that an answer shows, if it shows one. Takes no memory.
+pub(crate) fn note_seen(seen: &mut Vec<SeenManager>, answer: &Answer)
+    requires { vec_len seen.old < vec_capacity seen.old }
+    ensures { seen.new.items ≡ with_seen answer.now seen.old.items }
+{
+    if let Answer::Seen(guid, port, info) = *answer {
+        seen.push_reserved(SeenManager { guid, port, info });
+    }
+}
+
+/// What the end of a sweep that saw these means for a manager that tells this of itself.
+pub(crate) fn verdict(own: &SmInfo, seen: &[SeenManager]) -> Event
+    ensures { result ≡ verdict own.now seen.now }
+{
+    if seen.iter().any(|other| outranks(own, &other.info)) {
+        Event::Outranked
+    } else {
+        Event::Unrivalled
+    }
+}
+
+/// The one to hand over to: of those in Standby or Master that win over this one the greatest, and of equals the first.
+/// Walks all of them.
+pub(crate) fn heir(own: &SmInfo, seen: &[SeenManager]) -> Option<SeenManager>
+    ensures { result ≡ heir_of own.now seen.now }
+{
+    let mut best = None;
+    for other in seen {
+        if is_candidate(own, other) {
+            best = Some(better(best, *other));
+        }
+    }
+    best
+}
+
+/// The one that wins, and the former where neither does.
+fn better(best: Option<SeenManager>, other: SeenManager) -> SeenManager
+    ensures { result ≡ better best other }
+{
+    match best {
+        None => other,
+        Some(best) => {
+            if wins(&other.info, &best.info) {
+                other
+            } else {
+                best
+            }
+        }
+    }
+}
+
+/// Whether a manager that tells this of itself may be handed over to.
+fn is_candidate(own: &SmInfo, other: &SeenManager) -> bool
+    ensures { result ≡ is_candidate own.now other.now }
+{
+    let is_ready = says(SmState::Standby, &other.info) || says(SmState::Master, &other.info);
+    is_ready && wins(&other.info, own)
+}
+
+/// Whether it is a master, or wins and is not inactive.
+fn outranks(own: &SmInfo, other: &SmInfo) -> bool
+    ensures { result ≡ outranks own.now other.now }
+{
+    says(SmState::Master, other) || (!says(SmState::NotActive, other) && wins(other, own))
+}
+
+/// Whether a manager says that it is in this state; a reserved number is none.
+fn says(state: SmState, info: &SmInfo) -> bool
+    ensures { result ≡ says state info.now }
+{
+    info.state == state.number()
+}
