@@ -46,8 +46,8 @@ ping "H2"[1] 4 reached "H1"[1] hops 3
     ),
     // The answer to the handover is lost: its heir is master all the same.
     (
-        "handover A\ndrain 4\nflight\nlose 245\ndrain 100\nstate A\nstate B\n",
-        "",
+        "handover A\ndrain 4\nflight\nlose 230\ndrain 100\nstate A\nstate B\ntimeout A\nstate A\n",
+        "packet 230 \"H2\"\npacket 231 \"H2\"\nstate A standby\nstate B master\nstate A standby\n",
     ),
     // Nobody answers three polls in a row.
     (
