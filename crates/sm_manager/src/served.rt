@@ -4,7 +4,7 @@ ghost use Rattle.smp_bytes.specs.Judges.{JudgesButFor};
 ghost use Rattle.sm_manager.specs.Election.{message_count};
 ghost use Rattle.sm_manager.specs.Fault.{is_memory};
 ghost use Rattle.sm_manager.specs.Packets.{unless_spent};
-ghost use Rattle.sm_manager.specs.Served.{answer_data, answer_out, controlled, is_control, served, status_for};
+ghost use Rattle.sm_manager.specs.Served.{answer_data, answer_out, controlled, is_control, replying, served, status_for};
 ghost use Rattle.sm_manager.specs.Standing.{moved_to};
 ghost use Rattle.sm_state.specs.Steps.{status_of};
 
@@ -30,9 +30,21 @@ impl Manager {
         ensures err { OnErr result (self.new ≡ self.old) }
     {
         if is_control(smp) {
-            return self.obey(smp, from);
+            self.obey(smp, from)
+        } else {
+            self.reply(smp, from)
         }
-        self.outgoing.reserve(1)?;
+    }
+
+    /// Answers a request that is no control.
+    fn reply(&mut self, smp: &Smp, from: Option<Lid>) -> Result<(), ManagerFault>
+        ensures judged { JudgesButFor is_memory result
+            (unless_spent self.old (replying self.old smp.now from)).fault }
+        ensures ok { OnOk result (self.new
+            ≡ (unless_spent self.old (replying self.old smp.now from)).manager) }
+        ensures err { OnErr result (self.new ≡ self.old) }
+    {
+        make_room(0, 1, &mut self.requests, &mut self.outgoing)?;
         let answer = answer(smp, &from, status_for(smp), &self.standing);
         self.outgoing.push_back_reserved(answer);
         Ok(())
