@@ -22,7 +22,7 @@ pub(crate) enum Finding {
 }
 
 /// What a port says of itself.
-#[derive(Clone, Copy, Debug)]
+#[derive(Debug, Drop)]
 pub(crate) struct PortFinding {
     pub(crate) guid: Guid,
     pub(crate) port: PortNum,
