@@ -3,13 +3,12 @@ use Rattle.std.proofs.Common.{◌≡◌, ℕ, ◌≤◌, Bool, true, false, ◌&
 use Rattle.std.specs.Prelude.{Option, Some, None, nat_le, nat_lt, ◌==◌, if◌then◌else◌, is_some}
 use Rattle.std.proofs.lemmas.Bool.{and_parts, cond-true, leb-true, ltb-true}
 use Rattle.smp_bytes.specs.declared.node_type.NodeType.{NodeType}
-use Rattle.smp_bytes.specs.Field.{bits_in, number_in}
+use Rattle.smp_bytes.specs.Field.{number_in}
 use Rattle.smp_bytes.specs.Header.{node_info}
 use Rattle.smp_bytes.specs.NodeType.{is_switch}
 use Rattle.smp_bytes.specs.Packet.{attribute_id, hop_count, max_hops}
 use Rattle.attr_codec.specs.declared.node_info.NodeInfo.{NodeInfo}
 use Rattle.attr_codec.specs.NodeTypeNumber.{type_of_number}
-use Rattle.attr_codec.specs.PortInfo.{port_state, state_of_number}
 use Rattle.fact_store.specs.declared.report.Context.{Context}
 use Rattle.fact_store.specs.declared.report.Context.TheVariants.{About}
 use Rattle.fact_store.specs.declared.report.Report.{Report}
@@ -25,7 +24,7 @@ use Rattle.sweep.specs.declared.finding.Finding.TheVariants.{Nothing, Vertex}
 use Rattle.sweep.specs.declared.finding.Onward.{Onward}
 use Rattle.sweep.specs.declared.finding.PortFinding.{PortFinding}
 use Rattle.sweep.specs.declared.finding.Onward.TheVariants.{Stays, Leads, TooFar}
-use Rattle.sweep.specs.Finding.{IsWithinReach, asks_manager, finding, finding_of, found_again, found_anew, leads_on, manager_questions, node_found_of, onward, onward_questions, port_found, port_found_questions, questions, vertex_of, vertex_questions}
+use Rattle.sweep.specs.Finding.{IsWithinReach, finding, finding_of, found_again, found_anew, leads_on, manager_questions, node_found_of, onward_questions, port_finding_of, port_found, port_found_questions, questions, vertex_of, vertex_questions}
 use Rattle.sweep.specs.Replies.{fault_by, fault_for, is_for, report_for}
 use Rattle.sweep.specs.Sweep.{Asking, Sweep, attribute_asked, reached_at, reached_first}
 use Rattle.sweep.proofs.Asked.{length_adapter, length_switch}
@@ -106,7 +105,7 @@ port_found_few path found =
 
 port_few : (s : Sweep) (path : List ℕ) (about : Option ℕ) (port : ℕ) (info : List ℕ) → length (questions path (port_found s path about port info)) ≤ 256
 port_few s path None port info = omega arith
-port_few s path (Some guid) port info = port_found_few path (record { guid = guid; port = port; state = state_of_number (bits_in port_state info); has_manager = asks_manager s path guid info; onward = onward s path guid port info })
+port_few s path (Some guid) port info = port_found_few path (port_finding_of s path guid port info)
 
 -- what any reply brings up ---------------------------------------------------------------------
 

@@ -1,6 +1,4 @@
-ghost use Rattle.std.specs.Prelude.{◌≡◌, ◌&&◌, ◌≤◌, ℕ, List, length};
-ghost use Rattle.smp_bytes.specs.Field.{bits_in};
-ghost use Rattle.attr_codec.specs.PortInfo.{is_sm_bit};
+ghost use Rattle.std.specs.Prelude.{◌≡◌, ◌≤◌, ℕ, List, length};
 ghost use Rattle.sweep.specs.Finding.{asks_manager, finding, goes_by, has_manager, is_of_adapter, leads_on, node_found, onward, port_found_questions, port_found_of, questions, vertex_of, vertex_questions};
 
 use crate::reached::Reached;
