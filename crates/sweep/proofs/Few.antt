@@ -89,7 +89,7 @@ one_or_none true a = omega arith
 one_or_none false a = omega arith
 
 manager_few : (path : List ℕ) (found : PortFinding) → length (manager_questions path found) ≤ 1
-manager_few path found = one_or_none found.has_manager (record { question = ask.Manager found.guid found.port; path = path; context = About found.guid })
+manager_few path found = one_or_none found.asks_manager (record { question = ask.Manager found.guid found.port; path = path; context = About found.guid })
 
 onward_few : (path : List ℕ) (guid port : ℕ) (way : Onward) → length (onward_questions path guid port way) ≤ 1
 onward_few path guid port Stays = omega arith

@@ -102,7 +102,7 @@ port_finding_of s path guid port info =
       guid = guid;
       port = port;
       state = state_of_number (bits_in port_state info);
-      has_manager = asks_manager s path guid info;
+      asks_manager = asks_manager s path guid info;
       onward = onward s path guid port info;
     }
 
@@ -144,7 +144,7 @@ vertex_questions v =
 -- the manager at the port, over the same path
 abbrev pub manager_questions : List ℕ → PortFinding → List Asking
 manager_questions path found =
-    if found.has_manager
+    if found.asks_manager
     then record { question = ask.Manager found.guid found.port; path = path; context = About found.guid } ∷ []
     else []
 

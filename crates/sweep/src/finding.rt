@@ -27,7 +27,7 @@ pub(crate) struct PortFinding {
     /// None where its number is reserved.
     pub(crate) state: Option<PortState>,
     /// Whether a manager sits there that is asked.
-    pub(crate) has_manager: bool,
+    pub(crate) asks_manager: bool,
     pub(crate) onward: Onward,
 }
 
@@ -66,7 +66,7 @@ impl PortFinding {
             Onward::Leads => 1,
             Onward::Stays | Onward::TooFar => 0,
         };
-        u64::from(self.has_manager) + across
+        u64::from(self.asks_manager) + across
     }
 }
 
@@ -135,7 +135,7 @@ impl Sweep {
             guid,
             port,
             state: info.port_state(),
-            has_manager: self.asks_manager(path, guid, info),
+            asks_manager: self.asks_manager(path, guid, info),
             onward: self.onward(path, guid, port, info),
         })
     }

@@ -65,11 +65,13 @@ fn refusal(answered: Result<Answer, SweepFault>) -> Option<SweepFault> {
     }
 }
 
-/// The manager that a reply told of.
-fn seen(answered: Result<Answer, SweepFault>) -> Option<(Guid, PortNum, SmInfo)> {
+/// Whether a reply told of the manager at port 1 of the adapter behind one switch.
+fn is_seen(answered: &Result<Answer, SweepFault>) -> bool {
     match answered {
-        Ok(Answer::Seen(guid, port, info)) => Some((guid, port, info)),
-        Ok(Answer::Facts(_)) | Err(_) => None,
+        Ok(Answer::Seen(guid, port, info)) => {
+            *guid == Guid::new(0x102) && *port == PortNum::new(1) && *info == manager()
+        }
+        Ok(Answer::Facts(_)) | Err(_) => false,
     }
 }
 
@@ -113,8 +115,8 @@ fn asks_in_order(rt: HostRuntime) -> Result<(), Fail> {
     );
     let empty = smp.hop_count() == 2 && smp.attribute_data() == [0; 64];
     assert!(rt; empty && asked == (0x1_0000_0010, 0x20, 0));
-    let told = seen(sweep.on_reply_into(&answer(&smp, 1), &mut store));
-    assert!(rt; told == Some((Guid::new(0x102), PortNum::new(1), manager())));
+    let answered = sweep.on_reply_into(&answer(&smp, 1), &mut store);
+    assert!(rt; is_seen(&answered));
     let far = sweep
         .path_to(Guid::new(0x102), PortNum::new(1))
         .ok_or("no path")?;
