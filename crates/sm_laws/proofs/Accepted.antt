@@ -2,7 +2,7 @@
 use Rattle.std.proofs.Common.{◌≡◌, ℕ, zero, suc, ◌+◌, ◌<◌, ◌≤◌, ◌^◌, Bool, true, false, cond, List, [], ◌∷◌, length, get_or, refl, sym, ap, ◌∙◌, arith}
 use Rattle.std.proofs.lemmas.Bool.{and_parts, eqb-true, ltb-false}
 use Rattle.std.proofs.lemmas.List.{ext_get_or, get_or-drop, get_or-take, length-drop, length-take-le}
-use Rattle.std.specs.Prelude.{Option, Some, None, Ok, Err, take, drop, option_map, slice_index, not, ◌==◌, ◌&&◌}
+use Rattle.std.specs.Prelude.{Option, Some, None, Result, Ok, Err, take, drop, option_map, slice_index, not, ◌==◌, ◌&&◌}
 use Rattle.smp_bytes.specs.declared.node_type.NodeType.{NodeType}
 use Rattle.smp_bytes.specs.declared.node_type.NodeType.TheVariants.{ChannelAdapter, Switch, Router}
 use Rattle.smp_bytes.specs.declared.smp_fault.SmpFault.{SmpFault}
@@ -12,18 +12,21 @@ use Rattle.smp_bytes.specs.Packet.{fault_of, method, status, is_directed, is_ret
 use Rattle.smp_bytes.proofs.BitLaws.{byte-number_in}
 use Rattle.attr_codec.specs.NodeTypeNumber.{number_of_type, type_of_number}
 use Rattle.fact_store.specs.declared.report.Context.{Context}
+use Rattle.fact_store.specs.declared.report.Report.{Report}
 use Rattle.fact_store.specs.declared.report_fault.ReportFault.{ReportFault}
 use Rattle.fact_store.specs.declared.report_fault.ReportFault.TheVariants as fault
 use Rattle.fact_store.specs.Report.{or_else, answer_fault, are_ports_in_range, fits_node_info, kind_fault, node_info_of, node_info_fault, port_info_fault, about_fault, attribute_fault, packet_fault, report_fault}
 use Rattle.fabric_sim.specs.Tells.{path_of}
 use Rattle.sweep.specs.declared.answer.Answer.{Answer}
-use Rattle.sweep.specs.declared.answer.Answer.TheVariants.{Facts}
+use Rattle.sweep.specs.declared.fault.SweepFault.{SweepFault}
 use Rattle.sweep.specs.declared.fault.SweepFault.TheVariants.{SequenceSpent}
+use Rattle.sweep.specs.declared.request.Question.{Question}
+use Rattle.sweep.specs.declared.request.Question.TheVariants as ask
 use Rattle.sweep.specs.declared.request.Request.{Request}
 use Rattle.sweep.specs.Sweep.{Sweep, attribute_asked, modifier_asked}
 use Rattle.sweep.specs.Finding.{finding, questions}
 use Rattle.smp_bytes.specs.Answers.{has_ports}
-use Rattle.sweep.specs.Replies.{is_for, belongs, request_of, report_for, is_spent, judged_by, judged_for, judged_as, judged}
+use Rattle.sweep.specs.Replies.{is_for, belongs, request_of, report_for, fault_by, fault_for, answer_for, is_spent, judged_by, judged_for, judged_as, judged}
 
 -- faults ------------------------------------------------------------------------------------------
 
@@ -57,41 +60,59 @@ good_answer packet e =
       done_is = eqb-true (status packet) done (passes _ stat.0);
     }
 
+same_Ok : (r : Result Answer SweepFault) (x y : Answer) → r ≡ Ok x → r ≡ Ok y → x ≡ y
+same_Ok r x y e f = cc
+
 -- a sweep's answer ------------------------------------------------------------------------------------
 
 pub record IsAccepted (s : Sweep) (packet : List ℕ) (answer : Answer) : Type 0 where
   pub request : Request
   pub belongs : request_of s packet ≡ Some request
   pub good : IsGoodAnswer packet
-  pub attribute : attribute_fault request.context packet ≡ None
+  pub judged_is : fault_for s request packet ≡ None
   pub room : s.next + length (questions request.path (finding s request packet)) ≤ 2 ^ 32
-  pub answer_is : answer ≡ Facts (report_for s request packet)
+  pub answer_is : answer ≡ answer_for s request packet
+
+-- the report of a reply has no fault, nor has its packet
+report_parts : (report : Report) → report_fault report ≡ None → (packet_fault report.bytes ≡ None) × (attribute_fault report.context report.bytes ≡ None)
+report_parts report e = or_none (packet_fault report.bytes) (attribute_fault report.context report.bytes) (chosen_none (report.generation == 0) fault.Generation _ e).1
+
+packet_good : (q : Question) (report : Report) → fault_by q report ≡ None → packet_fault report.bytes ≡ None
+packet_good ask.Node report e = (report_parts report e).0
+packet_good ask.Switch report e = (report_parts report e).0
+packet_good (ask.Port port) report e = (report_parts report e).0
+packet_good (ask.Manager guid port) report e = e
+
+-- where a node was asked what it is, so is the attribute judged
+pub attribute_good : (q : Question) (report : Report) → fault_by q report ≡ None → attribute_asked q ≡ node_info → attribute_fault report.context report.bytes ≡ None
+attribute_good ask.Node report e asked = (report_parts report e).1
+attribute_good ask.Switch report e asked = (report_parts report e).1
+attribute_good (ask.Port port) report e asked = (report_parts report e).1
+attribute_good (ask.Manager guid port) report e asked = absurd (omega (arith, asked))
 
 module _ (s : Sweep) (packet : List ℕ) (answer : Answer) where
-  by_room : (r : Request) → request_of s packet ≡ Some r → report_fault (report_for s r packet) ≡ None → (b : Bool) → is_spent s r packet ≡ b
-      → cond b (Err SequenceSpent) (Ok (Facts (report_for s r packet))) ≡ Ok answer → IsAccepted s packet answer
+  by_room : (r : Request) → request_of s packet ≡ Some r → fault_for s r packet ≡ None → (b : Bool) → is_spent s r packet ≡ b
+      → cond b (Err SequenceSpent) (Ok (answer_for s r packet)) ≡ Ok answer → IsAccepted s packet answer
   by_room r found none true e h = cc
   by_room r found none false e h =
-      let ranked = chosen_none _ fault.Generation _ none in
-      let parts = or_none (packet_fault packet) (attribute_fault r.context packet) ranked.1 in
-      let answered = or_none (option_map fault.Smp (fault_of packet)) (answer_fault packet) parts.0 in
+      let answered = or_none (option_map fault.Smp (fault_of packet)) (answer_fault packet) (packet_good r.question (report_for s r packet) none) in
       record {
         request = r;
         belongs = found;
         good = good_answer packet answered.1;
-        attribute = parts.1;
+        judged_is = none;
         room = ltb-false _ _ e;
-        answer_is = let same : Facts (report_for s r packet) ≡ answer = cc in sym same;
+        answer_is = let same : answer_for s r packet ≡ answer = same_Ok (Ok (answer_for s r packet)) (answer_for s r packet) answer refl h in sym same;
       }
 
-  by_fault : (r : Request) → request_of s packet ≡ Some r → (why : Option ReportFault) → report_fault (report_for s r packet) ≡ why
+  by_fault : (r : Request) → request_of s packet ≡ Some r → (why : Option ReportFault) → fault_for s r packet ≡ why
       → judged_by s r packet why ≡ Ok answer → IsAccepted s packet answer
   by_fault r found (Some why) e h = cc
   by_fault r found None e h = by_room r found e (is_spent s r packet) refl h
 
   by_request : (m : Option Request) → request_of s packet ≡ m → judged_for s packet m ≡ Ok answer → IsAccepted s packet answer
   by_request None e h = cc
-  by_request (Some r) e h = by_fault r e (report_fault (report_for s r packet)) refl h
+  by_request (Some r) e h = by_fault r e (fault_for s r packet) refl h
 
   by_bytes : (why : Option SmpFault) → judged_as s packet why ≡ Ok answer → IsAccepted s packet answer
   by_bytes (Some why) h = cc

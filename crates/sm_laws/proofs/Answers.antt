@@ -18,7 +18,7 @@ use Rattle.smp_bytes.proofs.BitLaws.{byte-number_in}
 use Rattle.smp_bytes.proofs.Made.{directed_reads_back}
 use Rattle.smp_bytes.proofs.FieldLaws.{number_in-alike}
 use Rattle.smp_bytes.proofs.PlaceLaws.{bytes_in-alike}
-use Rattle.node_agents.specs.Agent.{Agent, node_of}
+use Rattle.node_agents.specs.Agent.{node_of}
 use Rattle.dr_forward.proofs.Trips.{field_kept}
 use Rattle.fabric_sim.specs.declared.packet.Packet.{Packet}
 use Rattle.fabric_sim.specs.declared.delivered.Delivered.{Delivered}

@@ -6,13 +6,11 @@ use Rattle.std.specs.Prelude.{Option, Some, None, find, ◌&&◌, ◌==◌, nat_
 use Rattle.smp_bytes.specs.declared.cable.NodePort.{NodePort}
 use Rattle.smp_bytes.specs.declared.node_type.NodeType.{NodeType}
 use Rattle.smp_bytes.specs.Header.{node_info}
-use Rattle.smp_bytes.specs.Field.{number_in, bits_in}
+use Rattle.smp_bytes.specs.Field.{number_in}
 use Rattle.smp_bytes.specs.Packet.{attribute_id}
 use Rattle.smp_bytes.specs.Fabric.{Fabric}
 use Rattle.smp_bytes.specs.DirectedWalk.{directed_end}
-use Rattle.attr_codec.specs.declared.port_state.PortState.{PortState}
 use Rattle.attr_codec.specs.NodeTypeNumber.{type_of_number}
-use Rattle.attr_codec.specs.PortInfo.{port_state, state_of_number}
 use Rattle.fact_store.specs.declared.report.Context.{Context}
 use Rattle.fact_store.specs.declared.report.Context.TheVariants.{Start, Via, About}
 use Rattle.fact_store.specs.Report.{may_be_asked_by, node_info_of, payload_of}
@@ -25,7 +23,7 @@ use Rattle.sweep.specs.declared.reached.Reached.{Reached}
 use Rattle.sweep.specs.Sweep.{Sweep, Asking, attribute_asked, asking, numbered, reached_first, without_number}
 use Rattle.sweep.specs.Finding.{finding_of, questions, with_finding, node_found_of, found_anew, port_found_of}
 use Rattle.sm_laws.proofs.Accepted.{IsGoodNode, IsFor, type_read}
-use Rattle.sm_laws.proofs.Sound.{CanBeSwept, LeadsTo, IsSound, AreSoundQuestions, IsSoundRequest, AreSound, AreFound, IsSoundSweep, sound_numbered, sound_append, again_good, anew_good, sound_onward}
+use Rattle.sm_laws.proofs.Sound.{CanBeSwept, LeadsTo, IsSound, AreSoundQuestions, IsSoundRequest, AreSound, AreFound, IsSoundSweep, sound_numbered, sound_append, again_good, anew_good, sound_port}
 
 module _ (f : Fabric) (seat : NodePort) where
   -- requests that end -----------------------------------------------------------------------------
@@ -107,14 +105,13 @@ module _ (f : Fabric) (seat : NodePort) where
             grown _ _ _ _ (record { questions = g.questions; reached = g.found; room = room })
 
       -- a port
-      by_state : (guid port : ℕ) (m : Option PortState) → LeadsTo f seat r.path guid
-          → s.next + length (questions r.path (port_found_of s r.path guid port m)) ≤ 2 ^ 32
-          → IsSoundSweep f seat (with_finding ended r.path (port_found_of s r.path guid port m))
+      by_port : (guid port : ℕ) (info : List ℕ) → LeadsTo f seat r.path guid
+          → s.next + length (questions r.path (port_found_of s r.path guid port info)) ≤ 2 ^ 32
+          → IsSoundSweep f seat (with_finding ended r.path (port_found_of s r.path guid port info))
       unfolding ended
-      by_state guid port None leads_there room = grown [] s.reached _ _ (record { questions = tt; reached = is.reached; room = room })
-      by_state guid port (Some state) leads_there room =
+      by_port guid port info leads_there room =
           grown _ s.reached _ _
-          (record { questions = sound_onward f seat can r.path sound.sound.own sound.sound.short s guid port state is leads_there; reached = is.reached; room = room })
+          (record { questions = sound_port f seat can r.path sound.sound.own sound.sound.short s guid port info is leads_there; reached = is.reached; room = room })
 
       pub by_question : (q : Question) → r.question ≡ q → (context : Context) → r.context ≡ context → IsSound f seat q r.path context
           → s.next + length (questions r.path (finding_of s (record r { context = context }) packet q)) ≤ 2 ^ 32
@@ -128,4 +125,5 @@ module _ (f : Fabric) (seat : NodePort) where
       by_question (ask.Port port) e Start c asks room good = absurd asks.asks
       by_question (ask.Port port) e (Via guid via) c asks room good = absurd asks.asks
       by_question (ask.Port port) e (About guid) c asks room good =
-          by_state guid port (state_of_number (bits_in port_state (payload_of packet))) asks.asks.to room
+          by_port guid port (payload_of packet) asks.asks.to room
+      by_question (ask.Manager guid port) e context c asks room good = grown [] s.reached _ _ (record { questions = tt; reached = is.reached; room = room })

@@ -9,9 +9,9 @@ use Rattle.smp_bytes.specs.declared.node_type.NodeType.{NodeType}
 use Rattle.smp_bytes.specs.NodeType.{is_switch}
 use Rattle.smp_bytes.specs.Fabric.{Node, Fabric, IsNodeAt}
 use Rattle.smp_bytes.specs.DirectedWalk.{directed_end}
+use Rattle.smp_bytes.specs.Field.{bits_in}
 use Rattle.attr_codec.specs.declared.node_info.NodeInfo.{NodeInfo}
-use Rattle.attr_codec.specs.declared.port_state.PortState.{PortState}
-use Rattle.attr_codec.specs.PortInfo.{number_of_state}
+use Rattle.attr_codec.specs.PortInfo.{port_state}
 use Rattle.fact_store.specs.declared.report.Context.{Context}
 use Rattle.fact_store.specs.declared.report.Context.TheVariants.{Start, Via, About}
 use Rattle.fact_store.specs.Report.{guid_port, is_up_state}
@@ -23,7 +23,7 @@ use Rattle.sweep.specs.declared.request.Request.{Request}
 use Rattle.sweep.specs.declared.reached.Reached.{Reached}
 use Rattle.sweep.specs.Order.{is_before, placed}
 use Rattle.sweep.specs.Sweep.{Sweep, Asking, numbered, reached_first, reached_at, vertex_key}
-use Rattle.sweep.specs.Finding.{vertex_of, found_again, is_start, is_way_on, goes_by, onward, port_questions, vertex_questions, onward_questions, questions, with_reached}
+use Rattle.sweep.specs.Finding.{asks_manager, vertex_of, found_again, is_start, is_way_on, goes_by, leads_on, onward, port_finding_of, port_found_of, port_questions, vertex_questions, manager_questions, onward_questions, questions, with_reached}
 use Rattle.sm_laws.specs.Truth.{HasNode, AreGuidsDistinct}
 
 -- what the fabric has to be: GUIDs differ, nodes have up to 254 ports, and the seat is at no switch
@@ -62,6 +62,7 @@ module _ (f : Fabric) (seat : NodePort) where
   Asks path (ask.Port port) Start = ⊥
   Asks path (ask.Port port) (Via guid via) = ⊥
   Asks path (ask.Port port) (About guid) = AsksPort path guid port
+  Asks path (ask.Manager guid port) context = Unit {0}
 
   pub record IsSound (question : Question) (path : List ℕ) (context : Context) : Type 0 where
     pub own : BeginsWith seat.port path
@@ -189,17 +190,17 @@ module _ (f : Fabric) (seat : NodePort) where
             ]
         by_path (p ∷ ports) e = subst (BeginsWith seat.port) e own
 
-    pub sound_onward : (s : Sweep) (guid port : ℕ) (state : PortState) → IsSoundSweep s → LeadsTo path guid
-        → AreSoundQuestions (onward_questions path (record { guid = guid; port = port; state = state }) (onward s path guid port state))
-    sound_onward s guid port state is to =
-        cond_both (not (is_up_state (number_of_state state) && goes_by s path guid port)) _ _
-        (λ o. AreSoundQuestions (onward_questions path (record { guid = guid; port = port; state = state }) o))
+    sound_onward : (s : Sweep) (guid port : ℕ) (info : List ℕ) → IsSoundSweep s → LeadsTo path guid
+        → AreSoundQuestions (onward_questions path guid port (onward s path guid port info))
+    sound_onward s guid port info is to =
+        cond_both (not (leads_on s path guid port info)) _ _
+        (λ o. AreSoundQuestions (onward_questions path guid port o))
         (λ _. tt)
         (λ goes. cond_both (nat_lt (length path) 63) _ _
-        (λ o. AreSoundQuestions (onward_questions path (record { guid = guid; port = port; state = state }) o))
+        (λ o. AreSoundQuestions (onward_questions path guid port o))
         (λ less. let room : length path < 63 = ltb-true _ _ less in (
           record {
-            own = longer_own s guid port is to (and_parts (is_up_state (number_of_state state)) (goes_by s path guid port) (from_not _ goes)).1;
+            own = longer_own s guid port is to (and_parts (is_up_state (bits_in port_state info)) (goes_by s path guid port) (from_not _ goes)).1;
             short = omega (arith, room, length-append path (port ∷ []));
             asks = record { front = path; is = refl; to = to };
           },
@@ -210,6 +211,19 @@ module _ (f : Fabric) (seat : NodePort) where
         from_not : (b : Bool) → not b ≡ false → b ≡ true
         from_not true e = refl
         from_not false e = cc
+
+    both_sound : (first later : List Asking) → AreSoundQuestions first → AreSoundQuestions later → AreSoundQuestions (first ++ later)
+    both_sound [] later all also = also
+    both_sound (a ∷ first) later all also = (all.0, both_sound first later all.1 also)
+
+    -- a manager is asked over the path to its port
+    sound_manager : (s : Sweep) (guid port : ℕ) (info : List ℕ) → AreSoundQuestions (manager_questions path (port_finding_of s path guid port info))
+    sound_manager s guid port info =
+        cond_both (asks_manager s path guid info) _ _ AreSoundQuestions (λ _. (record { own = own; short = short; asks = tt }, tt)) (λ _. tt)
+
+    pub sound_port : (s : Sweep) (guid port : ℕ) (info : List ℕ) → IsSoundSweep s → LeadsTo path guid → AreSoundQuestions (questions path (port_found_of s path guid port info))
+    sound_port s guid port info is to =
+        both_sound _ _ (sound_manager s guid port info) (sound_onward s guid port info is to)
 
     -- what was found, and what is asked then ---------------------------------------------------------
 

@@ -8,7 +8,9 @@ use Rattle.std.specs.Prelude.{Option, Some, None, Result, Ok, Err, All, option_m
 use Rattle.std.specs.Option.{option_map_or}
 use Rattle.smp_bytes.specs.declared.cable.NodePort.{NodePort}
 use Rattle.smp_bytes.specs.Cables.{is_same_port}
-use Rattle.smp_bytes.specs.Header.{get}
+use Rattle.smp_bytes.specs.Field.{number_in}
+use Rattle.smp_bytes.specs.Header.{get, node_info}
+use Rattle.smp_bytes.specs.Packet.{attribute_id}
 use Rattle.smp_bytes.specs.NodeType as types
 use Rattle.smp_bytes.specs.Fabric.{Node, IsNodeAt}
 use Rattle.smp_bytes.specs.ReadBack.{FitsRequest}
@@ -25,16 +27,17 @@ use Rattle.fabric_sim.proofs.Courses.{IsForManager, IsOnCourse}
 use Rattle.fabric_sim.proofs.TripEnds.{few_ports, along_itself}
 use Rattle.fabric_sim.proofs.TripShapes.{agent_there}
 use Rattle.sweep.specs.declared.answer.Answer.{Answer}
+use Rattle.sweep.specs.declared.answer.Answer.TheVariants.{Facts, Seen}
 use Rattle.sweep.specs.declared.fault.SweepFault.{SweepFault}
 use Rattle.sweep.specs.declared.request.Question.{Question}
 use Rattle.sweep.specs.declared.request.Question.TheVariants as ask
 use Rattle.sweep.specs.declared.request.Request.{Request}
 use Rattle.sweep.specs.Sweep.{attribute_asked, modifier_asked, transaction_of, packet_of, request_with, sent_of, sent, started, timed_out_of, timed_out}
-use Rattle.sweep.specs.Replies.{belongs, judged, replied_to, replied}
+use Rattle.sweep.specs.Replies.{belongs, judged, replied_to, replied, report_for, told_by}
 use Rattle.sm_laws.specs.Scene.{Handed}
 use Rattle.sm_laws.specs.Truth.{AreGuidsDistinct, IsTrueSighting}
-use Rattle.sm_laws.specs.Sweeping.{Sweeping, SweepEvent, Around, Ask, Send, Hear, TimeOut, CanBe, asking_more, sending, report_of, with_answer, hearing, after_sweep_event, after_sweep_events, AcceptedFactsAreTrue}
-use Rattle.sm_laws.proofs.Accepted.{IsAccepted, accepted, IsFor, is_for_it, path_is, good_node}
+use Rattle.sm_laws.specs.Sweeping.{Sweeping, SweepEvent, Around, Ask, Send, Hear, TimeOut, CanBe, asking_more, sending, reports_of, with_answer, hearing, after_sweep_event, after_sweep_events, AcceptedFactsAreTrue}
+use Rattle.sm_laws.proofs.Accepted.{IsAccepted, IsGoodNode, accepted, IsFor, is_for_it, path_is, attribute_good, good_node}
 use Rattle.sm_laws.proofs.Answers.{Continues, was_there, sent_on, seat_in_port, sends, continued, is_told, begun}
 use Rattle.sm_laws.proofs.Replied.{sound_without, FoundSound, found_sound, ended}
 use Rattle.sm_laws.proofs.Replied as replies
@@ -123,15 +126,17 @@ module _ {start : Simulation} {seat : NodePort} (cables : AreCables start) (coun
   asked_more [] packet all is = (is, tt)
   asked_more (x ∷ asked) packet all is = (all.0, asked_more asked packet all.1 is)
 
-  reports_more : (reports : List Report) (report : Report) → AreTrueReports reports → AreTrue (fabric_of start) (sightings_of report)
-      → AreTrueReports (reports ++ report ∷ [])
-  reports_more [] report all is = (is, tt)
-  reports_more (x ∷ reports) report all is = (all.0, reports_more reports report all.1 is)
+  reports_more : (reports : List Report) (answer : Answer) → AreTrueReports reports → AreTrue (fabric_of start) (told_by answer)
+      → AreTrueReports (reports ++ reports_of answer)
+  reports_more [] (Facts report) all is = (is, tt)
+  reports_more [] (Seen guid port info) all is = tt
+  reports_more (x ∷ reports) answer all is = (all.0, reports_more reports answer all.1 is)
 
   attribute_small : (q : Question) → attribute_asked q < 2 ^ 16
   attribute_small ask.Node = omega arith
   attribute_small ask.Switch = omega arith
   attribute_small (ask.Port port) = omega arith
+  attribute_small (ask.Manager guid port) = omega arith
 
   modifier_small : (r : Request) → IsSoundRequest (fabric_of start) seat r → modifier_asked r.question < 2 ^ 32
   modifier_small r sound = by_question r.question r.context sound.sound
@@ -141,6 +146,7 @@ module _ {start : Simulation} {seat : NodePort} (cables : AreCables start) (coun
       by_question ask.Switch context is = omega arith
       by_question (ask.Port port) Start is = absurd is.asks
       by_question (ask.Port port) (Via guid via) is = absurd is.asks
+      by_question (ask.Manager guid port) context is = omega arith
       by_question (ask.Port port) (About guid) is = let small = is.asks.small in omega (arith, small)
 
   fits : (generation : ℕ) (r : Request) → generation < 2 ^ 32 → IsSoundRequest (fabric_of start) seat r
@@ -240,27 +246,32 @@ module _ {start : Simulation} {seat : NodePort} (cables : AreCables start) (coun
     says : SaysOf (fabric_of start) told.end bytes
     says = told.says a.good.done_is
 
+    node_good : number_in attribute_id bytes ≡ node_info → IsGoodNode a.request.context bytes
+    node_good attribute =
+        good_node a.request.context bytes attribute
+        (attribute_good a.request.question (report_for w.sweep a.request bytes) a.judged_is (sym for.attribute ∙ attribute))
+
     reply_sound : IsSoundSweep (fabric_of start) seat (replied w.sweep bytes)
     unfolding ended
     reply_sound =
         subst (λ m. IsSoundSweep (fabric_of start) seat (replied_to w.sweep bytes m)) (sym a.belongs)
         (replies.by_question (fabric_of start) seat w.sweep g.sound a.request can bytes told.end leads says for found.sound a.request.question refl
-        a.request.context refl found.sound.sound a.room (λ attribute. good_node a.request.context bytes attribute a.attribute))
+        a.request.context refl found.sound.sound a.room node_good)
 
-    reply_true : AreTrue (fabric_of start) (sightings_of (report_of answer))
+    reply_true : AreTrue (fabric_of start) (told_by answer)
     reply_true =
-        subst (λ x. AreTrue (fabric_of start) (sightings_of (report_of x))) (sym a.answer_is)
+        subst (λ x. AreTrue (fabric_of start) (told_by x)) (sym a.answer_is)
         (facts.by_question (fabric_of start) seat cabled w.sweep.generation a.request bytes told.end leads says for
-        (λ attribute. good_node a.request.context bytes attribute a.attribute) a.request.question refl a.request.context refl found.sound.sound.asks)
+        node_good a.request.question refl a.request.context refl found.sound.sound.asks)
 
-    reply_goes : Goes (record w { sweep = replied w.sweep bytes; reports = w.reports ++ report_of answer ∷ [] })
+    reply_goes : Goes (record w { sweep = replied w.sweep bytes; reports = w.reports ++ reports_of answer })
     reply_goes =
         record {
           scene = g.scene;
           seat_is = g.seat_is;
           sound = reply_sound;
           asked = g.asked;
-          reports = reports_more w.reports (report_of answer) g.reports reply_true;
+          reports = reports_more w.reports answer g.reports reply_true;
         }
 
   hearing_goes : (w : Sweeping) (m : Option Handed) → Goes w → ((h : Handed) → m ≡ Some h → IsForManager start h.at h.packet.bytes) → Goes (hearing w m)

@@ -18,13 +18,14 @@ use Rattle.attr_codec.specs.NodeTypeNumber.{type_of_number}
 use Rattle.attr_codec.specs.PortInfo.{port_state}
 use Rattle.fact_store.specs.declared.report.Context.{Context}
 use Rattle.fact_store.specs.declared.report.Context.TheVariants.{Start, Via, About}
-use Rattle.fact_store.specs.Report.{Told, guid_port, may_be_asked_by, are_ports_in_range, node_info_of, payload_of, is_up_state, told_of_link, told_of_kind, told_by_node_info, told_by_port_info, told_by_switch_info, told_by_packet}
+use Rattle.fact_store.specs.Report.{Told, guid_port, may_be_asked_by, are_ports_in_range, node_info_of, payload_of, is_up_state, told_of_link, told_of_kind, told_by_node_info, told_by_port_info, told_by_switch_info}
 use Rattle.fact_store.specs.Sighting.{is_cabled_port}
 use Rattle.fabric_sim.specs.Tells.{SaysNode, SaysPort, SaysOf, IsUpState, port_asked}
 use Rattle.sm_laws.proofs.Ends.{end_before}
 use Rattle.sweep.specs.declared.request.Question.{Question}
 use Rattle.sweep.specs.declared.request.Question.TheVariants as ask
 use Rattle.sweep.specs.declared.request.Request.{Request}
+use Rattle.sweep.specs.Replies.{answer_by, told_by}
 use Rattle.sweep.specs.Sweep.{attribute_asked, modifier_asked}
 use Rattle.sm_laws.specs.Truth.{HasNode, IsTrueSighting}
 use Rattle.sm_laws.proofs.Accepted.{IsGoodNode, IsFor, type_read}
@@ -161,7 +162,7 @@ module _ (f : Fabric) (seat : NodePort) (cabled : IsCabled f) (generation : ℕ)
         (ends, record { there = says.there; named = ap (λ (n : fabric.Node). n.guid) (sym same) ∙ to.has.named })
 
     pub by_question : (q : Question) → r.question ≡ q → (context : Context) → r.context ≡ context → Asks f seat r.path q context
-        → AreTrue f (told_by_packet generation context packet)
+        → AreTrue f (told_by (answer_by q (record { generation = generation; context = context; bytes = packet })))
     by_question ask.Node e context c asks =
         let attribute : number_in attribute_id packet ≡ node_info = for.attribute ∙ ap attribute_asked e in
         let node = says.node_info attribute in
@@ -197,3 +198,4 @@ module _ (f : Fabric) (seat : NodePort) (cabled : IsCabled f) (generation : ℕ)
         subst (AreTrue f) (sym (ap (λ n. cond (n == node_info) (told_by_node_info generation (About guid) packet)
         (cond (n == port_info) (told_by_port_info generation (About guid) packet) (told_by_switch_info generation (About guid) packet))) attribute))
         ((end.node, says.node, has, about.within, (λ e. about.up.0 (test.0 e), λ up. test.1 (about.up.1 up))), (tt, tt))
+    by_question (ask.Manager guid port) e context c asks = tt

@@ -5,7 +5,7 @@ use Rattle.smp_bytes.specs.Cables.{is_same_port}
 use Rattle.fact_store.specs.declared.report.Report.{Report}
 use Rattle.fact_store.specs.Report.{sightings_of}
 use Rattle.sweep.specs.declared.answer.Answer.{Answer}
-use Rattle.sweep.specs.declared.answer.Answer.TheVariants.{Facts}
+use Rattle.sweep.specs.declared.answer.Answer.TheVariants.{Facts, Seen}
 use Rattle.sweep.specs.declared.fault.SweepFault.{SweepFault}
 use Rattle.sweep.specs.Replies.{judged, replied}
 use Rattle.sweep.specs.Sweep.{Sweep, Sent, sent, started, timed_out}
@@ -51,11 +51,13 @@ abbrev pub sending : Sweeping → Option (List ℕ) → Sweeping
 sending w None = w
 sending w (Some packet) = record w { scene = sent_from w.scene w.seat (directed_packet packet) }
 
-abbrev pub report_of : Answer → Report
-report_of (Facts report) = report
+-- what a manager tells of itself is no report
+abbrev pub reports_of : Answer → List Report
+reports_of (Facts report) = report ∷ []
+reports_of (Seen guid port info) = []
 
 abbrev pub with_answer : Sweeping → List ℕ → Result Answer SweepFault → Sweeping
-with_answer w packet (Ok answer) = record w { sweep = replied w.sweep packet; reports = w.reports ++ report_of answer ∷ [] }
+with_answer w packet (Ok answer) = record w { sweep = replied w.sweep packet; reports = w.reports ++ reports_of answer }
 with_answer w packet (Err fault) = w
 
 abbrev pub hearing : Sweeping → Option Handed → Sweeping

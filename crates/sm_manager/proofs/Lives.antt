@@ -19,11 +19,16 @@ use Rattle.sm_manager.specs.Manager.{Manager, Writing, new_manager, begin_fault,
 use Rattle.sm_manager.specs.declared.fault.ManagerFault.TheVariants.{SequenceSpent}
 use Rattle.sm_manager.specs.declared.outgoing.Outgoing.{Outgoing}
 use Rattle.sm_manager.specs.declared.pending.Pending.{Pending}
-use Rattle.sm_manager.specs.Packets.{Called, refused, done, answered_by, sweep_answered, step_answered, pending_for, unless_spent, packet_taken, sweep_timed_out, sweep_gave_up, step_gave_up, gave_up, is_for_sweep}
+use Rattle.sm_manager.specs.Packets.{Called, refused, done, answered_by, sweep_answered, request_answered, request_over, pending_for, unless_spent, packet_taken, sweep_timed_out, sweep_gave_up, request_gave_up, gave_up, is_for_sweep, is_info_request}
+use Rattle.sm_manager.specs.declared.pending.Purpose.{Purpose}
+use Rattle.sm_manager.specs.declared.pending.Purpose.TheVariants as purpose
+use Rattle.sm_manager.specs.Election.{handed_over, handed_to, handover_fault, heir_lid, poll_fault, poll_sent, told}
+use Rattle.sm_manager.specs.Served.{answering, controlled, is_control, served, status_for}
 use Rattle.sm_manager.specs.Plans.{writing_fault}
 use Rattle.sm_manager.specs.Requests.{counts, no_step_waits, with_number, without_number}
-use Rattle.sm_manager.specs.Writing.{is_spent, noted, phase_sent, step_over, went_on_with, writing_begun}
-use Rattle.sm_manager.specs.Calls.{Call, BeginSweep, WriteSteps, Take, Packet, Timeout, Merge, after_call, after_calls, told_if, told_of_reply, told_of_packet, told_in, taken_in, KnowsWhatItTookIn, SameTakenInSamePlan}
+use Rattle.sm_state.specs.declared.event.Message.{Message}
+use Rattle.sm_manager.specs.Writing.{is_done_by, is_spent, noted, phase_sent, step_over, went_on_with, writing_begun}
+use Rattle.sm_manager.specs.Calls.{Call, BeginSweep, WriteSteps, Take, Packet, Timeout, Merge, Poll, Handover, after_call, after_calls, told_if, told_of_reply, told_of_packet, told_in, taken_in, KnowsWhatItTookIn, SameTakenInSamePlan}
 
 -- what a call takes in is merged with what was known -------------------------------------------
 
@@ -57,19 +62,36 @@ over_keeps m p was_done =
 unless_keeps : (m : Manager) (after : Manager) → after.store ≡ m.store → (unless_spent m after).manager.store ≡ m.store
 unless_keeps m after e = cond_both (is_spent after) (refused m SequenceSpent) (done after) (λ (x : Called). x.manager.store ≡ m.store) (λ _. refl) (λ _. e)
 
-module _ (m : Manager) where
-  answer_keeps : (bytes : List ℕ) (p : Option Pending) → (step_answered m bytes p).manager.store ≡ m.store
-  answer_keeps bytes None = refl
-  answer_keeps bytes (Some p) = unless_keeps m _ (over_keeps m p (status bytes == 0))
+telling_keeps : (m : Manager) (to : Option ℕ) (message : Option Message) → (told m to message).store ≡ m.store
+telling_keeps m None message = refl
+telling_keeps m (Some lid) None = refl
+telling_keeps m (Some lid) (Some message) = refl
 
-  takes_packet : (bytes : List ℕ) (why : Option SmpFault) → Takes m (told_of_packet m bytes why) (packet_taken m bytes why).manager
+module _ (m : Manager) where
+  ending_keeps : (p : Pending) (answer : Option ℕ) (why : Purpose) → (request_over m p answer why).manager.store ≡ m.store
+  ending_keeps p answer purpose.Poll = refl
+  ending_keeps p answer purpose.Control = refl
+  ending_keeps p answer (purpose.Step counts) = unless_keeps m _ (over_keeps m p (is_done_by answer))
+
+  answer_keeps : (bytes : List ℕ) (p : Option Pending) → (request_answered m bytes p).manager.store ≡ m.store
+  answer_keeps bytes None = refl
+  answer_keeps bytes (Some p) = ending_keeps p (Some (status bytes)) p.purpose
+
+  serving_keeps : (bytes : List ℕ) (from : Option ℕ) → (served m bytes from).store ≡ m.store
+  serving_keeps bytes from =
+      cond_both (is_control bytes) (controlled m bytes from) (answering m bytes from (status_for bytes)) (λ (x : Manager). x.store ≡ m.store)
+      (λ _. telling_keeps _ from _) (λ _. refl)
+
+  takes_packet : (bytes : List ℕ) (from : Option ℕ) (why : Option SmpFault) → Takes m (told_of_packet m bytes why) (packet_taken m bytes from why).manager
   unfolding Takes
-  takes_packet bytes (Some why) = nothing_taken m m.store refl
-  takes_packet bytes None = by_test (is_for_sweep bytes)
+  takes_packet bytes from (Some why) = nothing_taken m m.store refl
+  takes_packet bytes from None = by_tests (is_info_request bytes) (is_for_sweep bytes)
     where
-      by_test : (b : Bool) → Takes m (cond b (told_of_reply bytes m.sweep) []) (cond b (sweep_answered m bytes m.sweep) (step_answered m bytes (pending_for m bytes))).manager
-      by_test true = takes_reply m bytes m.sweep
-      by_test false = nothing_taken m _ (answer_keeps bytes (pending_for m bytes))
+      by_tests : (a b : Bool) → Takes m (cond a [] (cond b (told_of_reply bytes m.sweep) []))
+          (cond a (unless_spent m (served m bytes from)) (cond b (sweep_answered m bytes m.sweep) (request_answered m bytes (pending_for m bytes)))).manager
+      by_tests true b = nothing_taken m _ (unless_keeps m _ (serving_keeps bytes from))
+      by_tests false true = takes_reply m bytes m.sweep
+      by_tests false false = nothing_taken m _ (answer_keeps bytes (pending_for m bytes))
 
   sweep_timeout_keeps : (transaction : ℕ) (s : Option Sweep) → (sweep_gave_up m transaction s).manager.store ≡ m.store
   sweep_timeout_keeps transaction None = refl
@@ -79,18 +101,22 @@ module _ (m : Manager) where
       by_fault (Some why) = refl
       by_fault None = refl
 
-  step_timeout_keeps : (p : Option Pending) → (step_gave_up m p).manager.store ≡ m.store
-  step_timeout_keeps None = refl
-  step_timeout_keeps (Some p) = unless_keeps m _ (over_keeps m p false)
+  request_timeout_keeps : (p : Option Pending) → (request_gave_up m p).manager.store ≡ m.store
+  request_timeout_keeps None = refl
+  request_timeout_keeps (Some p) = ending_keeps p None p.purpose
 
   timeout_keeps : (transaction : ℕ) → (gave_up m transaction).manager.store ≡ m.store
   timeout_keeps transaction =
-      cond_both (nat_le (2 ^ 32) transaction) (sweep_gave_up m transaction m.sweep) (step_gave_up m (with_number transaction m.pending)) (λ (x : Called). x.manager.store ≡ m.store)
-      (λ _. sweep_timeout_keeps transaction m.sweep) (λ _. step_timeout_keeps (with_number transaction m.pending))
+      cond_both (nat_le (2 ^ 32) transaction) (sweep_gave_up m transaction m.sweep) (request_gave_up m (with_number transaction m.pending)) (λ (x : Called). x.manager.store ≡ m.store)
+      (λ _. sweep_timeout_keeps transaction m.sweep) (λ _. request_timeout_keeps (with_number transaction m.pending))
 
   taking_keeps : (packets : List Outgoing) → (taken_of m packets).manager.store ≡ m.store
   taking_keeps [] = refl
   taking_keeps (packet ∷ packets) = refl
+
+  handing_keeps : (lid : Option ℕ) → (handed_to m lid).store ≡ m.store
+  handing_keeps None = refl
+  handing_keeps (Some lid) = refl
 
   takes_call : (call : Call) → (after_call m call).store ≡ merge m.store (view (told_in m call))
   unfolding Takes
@@ -99,9 +125,13 @@ module _ (m : Manager) where
   takes_call WriteSteps =
       nothing_taken m _ (cond_both (is_none (writing_fault m)) (writing_begun m) m (λ (x : Manager). x.store ≡ m.store) (λ _. refl) (λ _. refl))
   takes_call Take = nothing_taken m _ (taking_keeps m.outgoing)
-  takes_call (Packet bytes) = takes_packet bytes (fault_of bytes)
+  takes_call (Packet bytes from) = takes_packet bytes from (fault_of bytes)
   takes_call (Timeout transaction) = nothing_taken m _ (timeout_keeps transaction)
   takes_call (Merge sightings) = refl
+  takes_call (Poll lid) =
+      nothing_taken m _ (cond_both (is_none (poll_fault m)) (poll_sent m lid) m (λ (x : Manager). x.store ≡ m.store) (λ _. refl) (λ _. refl))
+  takes_call Handover =
+      nothing_taken m _ (cond_both (is_none (handover_fault m)) (handed_over m) m (λ (x : Manager). x.store ≡ m.store) (λ _. handing_keeps (heir_lid m)) (λ _. refl))
 
 -- the laws ------------------------------------------------------------------------------------------
 

@@ -28,9 +28,12 @@ says state info = info.state == number_of_state state
 abbrev pub outranks : SmInfo → SmInfo → Bool
 outranks own other = says Master other || (not (says NotActive other) && wins other own)
 
+abbrev pub any_outranks : SmInfo → List SeenManager → Bool
+any_outranks own seen = list_any (λ s. outranks own s.info) seen
+
 -- what the end of a sweep that saw these means for a manager
 abbrev pub verdict : SmInfo → List SeenManager → Event
-verdict own seen = if list_any (λ s. outranks own s.info) seen then Outranked else Unrivalled
+verdict own seen = if any_outranks own seen then Outranked else Unrivalled
 
 -- whom to hand over to -----------------------------------------------------------------------------
 
@@ -42,9 +45,12 @@ abbrev pub better : Option SeenManager → SeenManager → SeenManager
 better None s = s
 better (Some best) s = if wins s.info best.info then s else best
 
+abbrev pub next_best : SmInfo → Option SeenManager → SeenManager → Option SeenManager
+next_best own best s = if is_candidate own s then Some (better best s) else best
+
 abbrev pub best_with : SmInfo → List SeenManager → Option SeenManager → Option SeenManager
 best_with own [] best = best
-best_with own (s ∷ seen) best = best_with own seen (if is_candidate own s then Some (better best s) else best)
+best_with own (s ∷ seen) best = best_with own seen (next_best own best s)
 
 -- the greatest of the candidates, and of equals the first
 abbrev pub heir_of : SmInfo → List SeenManager → Option SeenManager

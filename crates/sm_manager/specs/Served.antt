@@ -53,5 +53,8 @@ status_for packet =
     else if number_in method packet == set then invalid_field
     else method_not_supported
 
+abbrev pub replying : Manager → List ℕ → Option ℕ → Manager
+replying m packet from = answering m packet from (status_for packet)
+
 abbrev pub served : Manager → List ℕ → Option ℕ → Manager
-served m packet from = if is_control packet then controlled m packet from else answering m packet from (status_for packet)
+served m packet from = if is_control packet then controlled m packet from else replying m packet from

@@ -2,6 +2,7 @@
 #![tactic(auto)]
 
 mod election;
+mod endings;
 mod fault;
 pub mod laws;
 mod manager;
@@ -9,7 +10,6 @@ mod outgoing;
 mod packets;
 mod pending;
 mod progress;
-mod replies;
 mod requests;
 mod seen;
 mod served;

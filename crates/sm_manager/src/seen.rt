@@ -1,7 +1,7 @@
 //! The managers that a sweep saw.
 ghost use Rattle.std.specs.Prelude.{◌≡◌, ◌<◌, Some, if◌then◌else◌};
 ghost use Rattle.std.specs.Prelude.{vec_capacity, vec_len};
-ghost use Rattle.sm_manager.specs.Seen.{better, heir_of, is_candidate, outranks, says, verdict, with_seen};
+ghost use Rattle.sm_manager.specs.Seen.{any_outranks, better, next_best, heir_of, is_candidate, outranks, says, verdict, with_seen};
 
 use attr_codec::SmInfo;
 use sm_state::{Event, SmState, wins};
@@ -33,11 +33,17 @@ pub(crate) fn note_seen(seen: &mut Vec<SeenManager>, answer: &Answer)
 pub(crate) fn verdict(own: &SmInfo, seen: &[SeenManager]) -> Event
     ensures { result ≡ verdict own.now seen.now }
 {
-    if seen.iter().any(|other| outranks(own, &other.info)) {
+    if any_outranks(own, seen) {
         Event::Outranked
     } else {
         Event::Unrivalled
     }
+}
+
+fn any_outranks(own: &SmInfo, seen: &[SeenManager]) -> bool
+    ensures { result ≡ any_outranks own.now seen.now }
+{
+    seen.iter().any(|other| outranks(own, &other.info))
 }
 
 /// The one to hand over to: of those in Standby or Master that win over this one the greatest, and of equals the first.
@@ -47,11 +53,20 @@ pub(crate) fn heir(own: &SmInfo, seen: &[SeenManager]) -> Option<SeenManager>
 {
     let mut best = None;
     for other in seen {
-        if is_candidate(own, other) {
-            best = Some(better(best, *other));
-        }
+        best = next_best(own, best, *other);
     }
     best
+}
+
+/// The best so far, with one more.
+fn next_best(own: &SmInfo, best: Option<SeenManager>, other: SeenManager) -> Option<SeenManager>
+    ensures { result ≡ next_best own.now best other }
+{
+    if is_candidate(own, &other) {
+        Some(better(best, other))
+    } else {
+        best
+    }
 }
 
 /// The one that wins, and the former where neither does.

@@ -1,11 +1,12 @@
 //! What a manager answers other managers.
-ghost use Rattle.std.specs.Prelude.{◌≡◌, ◌<◌, ◌^◌, [], ◌∷◌, ◌++◌, OnOk, OnErr};
-ghost use Rattle.std.specs.VecDeque.{deque_capacity, deque_len};
+ghost use Rattle.std.specs.Prelude.{◌≡◌, ◌<◌, ◌^◌, OnOk, OnErr};
 ghost use Rattle.smp_bytes.specs.Judges.{JudgesButFor};
 ghost use Rattle.sm_manager.specs.Election.{message_count};
 ghost use Rattle.sm_manager.specs.Fault.{is_memory};
 ghost use Rattle.sm_manager.specs.Packets.{unless_spent};
-ghost use Rattle.sm_manager.specs.Served.{answer_data, answer_out, controlled, is_control, served, status_for};
+ghost use Rattle.sm_manager.specs.Served.{answer_data, answer_out, controlled, is_control, replying, served, status_for};
+ghost use Rattle.sm_manager.specs.Standing.{moved_to};
+ghost use Rattle.sm_state.specs.Steps.{status_of};
 
 use crate::election::send_control;
 use crate::fault::ManagerFault;
@@ -14,7 +15,7 @@ use crate::outgoing::Outgoing;
 use crate::standing::Standing;
 use crate::steps::make_room;
 use attr_codec::Attribute;
-use sm_state::{Event, Message, step};
+use sm_state::{Event, Message, Transition, step};
 use smp_bytes::{Lid, Method, Smp, SmpClass, Status};
 use std::alloc::AllocError;
 use std::collections::VecDeque;
@@ -29,11 +30,23 @@ impl Manager {
         ensures err { OnErr result (self.new ≡ self.old) }
     {
         if is_control(smp) {
-            return self.obey(smp, from);
+            self.obey(smp, from)
+        } else {
+            self.reply(smp, from)
         }
-        self.outgoing.reserve(1)?;
-        let status = status_for(smp);
-        send_answer(smp, from, status, &self.standing, &mut self.outgoing);
+    }
+
+    /// Answers a request that is no control.
+    fn reply(&mut self, smp: &Smp, from: Option<Lid>) -> Result<(), ManagerFault>
+        ensures judged { JudgesButFor is_memory result
+            (unless_spent self.old (replying self.old smp.now from)).fault }
+        ensures ok { OnOk result (self.new
+            ≡ (unless_spent self.old (replying self.old smp.now from)).manager) }
+        ensures err { OnErr result (self.new ≡ self.old) }
+    {
+        make_room(0, 1, &mut self.requests, &mut self.outgoing)?;
+        let answer = answer(smp, &from, status_for(smp), &self.standing);
+        self.outgoing.push_back_reserved(answer);
         Ok(())
     }
 
@@ -49,50 +62,52 @@ impl Manager {
             self.standing.state,
             Event::Control(smp.attribute_modifier()),
         );
-        let count = message_count(from, transition.message);
+        let message = transition.message;
+        let count = message_count(&from, &message);
         make_room(count, count + 1, &mut self.requests, &mut self.outgoing)?;
-        self.standing.move_to(transition.state);
-        send_answer(
-            smp,
-            from,
-            transition.status(),
-            &self.standing,
-            &mut self.outgoing,
-        );
-        if let (Some(lid), Some(message)) = (from, transition.message) {
-            send_control(
-                lid,
-                message.control(),
-                &self.standing,
-                &mut self.requests,
-                &mut self.outgoing,
-            );
+        let answer = move_on(&transition, smp, &from, &mut self.standing);
+        self.outgoing.push_back_reserved(answer);
+        if let Some(lid) = from {
+            if let Some(message) = message {
+                send_control(
+                    lid,
+                    message.control(),
+                    &self.standing,
+                    &mut self.requests,
+                    &mut self.outgoing,
+                );
+            }
         }
         Ok(())
     }
 }
 
-/// The answer to a request goes out. Takes no memory.
-fn send_answer(
+/// The state moves, and the answer to the control tells of it.
+fn move_on(
+    transition: &Transition,
     smp: &Smp,
-    from: Option<Lid>,
-    status: Status,
-    standing: &Standing,
-    outgoing: &mut VecDeque<Outgoing>,
-)
-    requires status { status.0 < 2 ^ 15 }
-    requires room { deque_len outgoing.old < deque_capacity outgoing.old }
-    ensures items { outgoing.new.items
-        ≡ outgoing.old.items ++ answer_out standing.now smp.now from status.0 ∷ [] }
-    ensures len { deque_len outgoing.new ≡ deque_len outgoing.old + 1 }
-    ensures capacity { deque_capacity outgoing.new ≡ deque_capacity outgoing.old }
+    from: &Option<Lid>,
+    standing: &mut Standing,
+) -> Outgoing
+    ensures standing { standing.new ≡ moved_to transition.now.state standing.old }
+    ensures answer { result
+        ≡ answer_out (moved_to transition.now.state standing.old) smp.now from.now (status_of transition.now) }
+{
+    standing.move_to(transition.state);
+    answer(smp, from, transition.status(), standing)
+}
+
+/// The answer to a request: by its path where it came directed, and to the LID of its sender otherwise.
+fn answer(smp: &Smp, from: &Option<Lid>, status: Status, standing: &Standing) -> Outgoing
+    requires { status.0 < 2 ^ 15 }
+    ensures { result ≡ answer_out standing.now smp.now from.now status.0 }
 {
     let to = match smp.class() {
         SmpClass::DirectedRoute => None,
-        SmpClass::LidRouted => from,
+        SmpClass::LidRouted => *from,
     };
     let packet = smp.answer(status, &answer_data(smp, status, standing));
-    outgoing.push_back_reserved(Outgoing { packet, to });
+    Outgoing { packet, to }
 }
 
 /// What an answer carries: what the manager tells of itself, and in a refusal what the request carried.
@@ -129,8 +144,8 @@ fn status_for(smp: &Smp) -> Status
 }
 
 /// How many requests go out for a message: none where there is none, or nobody to send it to.
-fn message_count(to: Option<Lid>, message: Option<Message>) -> usize
-    ensures { result ≡ message_count to message }
+fn message_count(to: &Option<Lid>, message: &Option<Message>) -> usize
+    ensures { result ≡ message_count to.now message.now }
 {
     if to.is_some() && message.is_some() {
         1

@@ -1,32 +1,32 @@
 -- How many questions a reply brings up, and that a path goes on only where it can.
-use Rattle.std.proofs.Common.{◌≡◌, ℕ, ◌≤◌, Bool, true, false, ◌&&◌, ◌||◌, not, List, length, refl, arith, sym, ◌∙◌}
+use Rattle.std.proofs.Common.{◌≡◌, ℕ, ◌≤◌, Bool, true, false, ◌&&◌, ◌||◌, not, List, [], ◌∷◌, length, refl, arith, sym, ◌∙◌, length-append}
 use Rattle.std.specs.Prelude.{Option, Some, None, nat_le, nat_lt, ◌==◌, if◌then◌else◌, is_some}
 use Rattle.std.proofs.lemmas.Bool.{and_parts, cond-true, leb-true, ltb-true}
 use Rattle.smp_bytes.specs.declared.node_type.NodeType.{NodeType}
-use Rattle.smp_bytes.specs.Field.{bits_in, number_in}
+use Rattle.smp_bytes.specs.Field.{number_in}
 use Rattle.smp_bytes.specs.Header.{node_info}
 use Rattle.smp_bytes.specs.NodeType.{is_switch}
 use Rattle.smp_bytes.specs.Packet.{attribute_id, hop_count, max_hops}
 use Rattle.attr_codec.specs.declared.node_info.NodeInfo.{NodeInfo}
-use Rattle.attr_codec.specs.declared.port_state.PortState.{PortState}
 use Rattle.attr_codec.specs.NodeTypeNumber.{type_of_number}
-use Rattle.attr_codec.specs.PortInfo.{number_of_state, port_state, state_of_number}
 use Rattle.fact_store.specs.declared.report.Context.{Context}
+use Rattle.fact_store.specs.declared.report.Context.TheVariants.{About}
+use Rattle.fact_store.specs.declared.report.Report.{Report}
 use Rattle.fact_store.specs.declared.report_fault.ReportFault.{ReportFault}
 use Rattle.fact_store.specs.declared.report_fault.ReportFault.TheVariants as fault
-use Rattle.fact_store.specs.Report.{about_of, are_ports_in_range, attribute_fault, fits_node_info, kind_fault, may_be_asked_by, is_up_state, node_info_of, or_else, payload_of, packet_fault, report_fault}
+use Rattle.fact_store.specs.Report.{about_of, are_ports_in_range, attribute_fault, fits_node_info, kind_fault, may_be_asked_by, node_info_of, or_else, payload_of, packet_fault, report_fault}
 use Rattle.fact_store.specs.Sighting.{is_cabled_port}
 use Rattle.sweep.specs.declared.reached.Reached.{Reached}
 use Rattle.sweep.specs.declared.request.Question.{Question}
 use Rattle.sweep.specs.declared.request.Question.TheVariants as ask
 use Rattle.sweep.specs.declared.request.Request.{Request}
-use Rattle.sweep.specs.declared.reached.SeenState.{SeenState}
 use Rattle.sweep.specs.declared.finding.Finding.TheVariants.{Nothing, Vertex}
 use Rattle.sweep.specs.declared.finding.Onward.{Onward}
+use Rattle.sweep.specs.declared.finding.PortFinding.{PortFinding}
 use Rattle.sweep.specs.declared.finding.Onward.TheVariants.{Stays, Leads, TooFar}
-use Rattle.sweep.specs.Finding.{IsWithinReach, finding, finding_of, found_again, found_anew, goes_by, node_found_of, onward, onward_questions, port_found_at, port_found_of, questions, vertex_of, vertex_questions}
-use Rattle.sweep.specs.Replies.{is_for, report_for}
-use Rattle.sweep.specs.Sweep.{Sweep, attribute_asked, reached_at, reached_first}
+use Rattle.sweep.specs.Finding.{IsWithinReach, finding, finding_of, found_again, found_anew, leads_on, manager_questions, node_found_of, onward_questions, port_finding_of, port_found, port_found_questions, questions, vertex_of, vertex_questions}
+use Rattle.sweep.specs.Replies.{fault_by, fault_for, is_for, report_for}
+use Rattle.sweep.specs.Sweep.{Asking, Sweep, attribute_asked, reached_at, reached_first}
 use Rattle.sweep.proofs.Asked.{length_adapter, length_switch}
 
 -- faults ---------------------------------------------------------------------------------------
@@ -84,18 +84,28 @@ node_few s context path info (Some first) e = again_few s path info first
 
 -- what PortInfo brings up ----------------------------------------------------------------------
 
-onward_few : (path : List ℕ) (seen : SeenState) (way : Onward) → length (onward_questions path seen way) ≤ 256
-onward_few path seen Stays = omega arith
-onward_few path seen Leads = omega arith
-onward_few path seen TooFar = omega arith
+one_or_none : (b : Bool) (a : Asking) → length (if b then a ∷ [] else []) ≤ 1
+one_or_none true a = omega arith
+one_or_none false a = omega arith
 
-state_few : (s : Sweep) (path : List ℕ) (guid port : ℕ) (state : Option PortState) → length (questions path (port_found_of s path guid port state)) ≤ 256
-state_few s path guid port None = omega arith
-state_few s path guid port (Some state) = onward_few path (record { guid = guid; port = port; state = state }) (onward s path guid port state)
+manager_few : (path : List ℕ) (found : PortFinding) → length (manager_questions path found) ≤ 1
+manager_few path found = one_or_none found.asks_manager (record { question = ask.Manager found.guid found.port; path = path; context = About found.guid })
 
-port_few : (s : Sweep) (path : List ℕ) (about : Option ℕ) (port : ℕ) (state : Option PortState) → length (questions path (port_found_at s path about port state)) ≤ 256
-port_few s path None port state = omega arith
-port_few s path (Some guid) port state = state_few s path guid port state
+onward_few : (path : List ℕ) (guid port : ℕ) (way : Onward) → length (onward_questions path guid port way) ≤ 1
+onward_few path guid port Stays = omega arith
+onward_few path guid port Leads = omega arith
+onward_few path guid port TooFar = omega arith
+
+port_found_few : (path : List ℕ) (found : PortFinding) → length (port_found_questions path found) ≤ 256
+port_found_few path found =
+    let both = length-append (manager_questions path found) (onward_questions path found.guid found.port found.onward) in
+    let first = manager_few path found in
+    let second = onward_few path found.guid found.port found.onward in
+    omega (arith, both, first, second)
+
+port_few : (s : Sweep) (path : List ℕ) (about : Option ℕ) (port : ℕ) (info : List ℕ) → length (questions path (port_found s path about port info)) ≤ 256
+port_few s path None port info = omega arith
+port_few s path (Some guid) port info = port_found_few path (port_finding_of s path guid port info)
 
 -- what any reply brings up ---------------------------------------------------------------------
 
@@ -103,16 +113,20 @@ node_kind_fault : (context : Context) (packet : List ℕ) → (number_in attribu
 node_kind_fault context packet e f =
     no_fault (not (fits_node_info context (number_in hop_count packet))) fault.Context _ (sym (cond-true (number_in attribute_id packet == node_info) _ _ e) ∙ f)
 
-few_of : (s : Sweep) (r : Request) (packet : List ℕ) (q : Question) → (number_in attribute_id packet == attribute_asked q) ≡ true → attribute_fault r.context packet ≡ None → length (questions r.path (finding_of s r packet q)) ≤ 256
+no_attribute : (report : Report) → report_fault report ≡ None → attribute_fault report.context report.bytes ≡ None
+no_attribute report f =
+    or_else_none (packet_fault report.bytes) (attribute_fault report.context report.bytes) (no_fault (report.generation == 0) fault.Generation _ f)
+
+few_of : (s : Sweep) (r : Request) (packet : List ℕ) (q : Question) → (number_in attribute_id packet == attribute_asked q) ≡ true → fault_by q (report_for s r packet) ≡ None → length (questions r.path (finding_of s r packet q)) ≤ 256
 few_of s r packet ask.Node e f =
-    node_few s r.context r.path (node_info_of packet) (reached_first s.reached (node_info_of packet).node_guid) (node_kind_fault r.context packet e f)
+    node_few s r.context r.path (node_info_of packet) (reached_first s.reached (node_info_of packet).node_guid) (node_kind_fault r.context packet e (no_attribute (report_for s r packet) f))
 few_of s r packet ask.Switch e f = omega arith
-few_of s r packet (ask.Port port) e f = port_few s r.path (about_of r.context) port (state_of_number (bits_in port_state (payload_of packet)))
+few_of s r packet (ask.Port port) e f = port_few s r.path (about_of r.context) port (payload_of packet)
+few_of s r packet (ask.Manager guid port) e f = omega arith
 
 -- of a reply without a fault
-pub few_questions : (s : Sweep) (r : Request) (packet : List ℕ) → is_for packet r ≡ true → report_fault (report_for s r packet) ≡ None → length (questions r.path (finding s r packet)) ≤ 256
-few_questions s r packet e f =
-    few_of s r packet r.question (and_parts _ _ e).0 (or_else_none (packet_fault packet) (attribute_fault r.context packet) (no_fault (s.generation == 0) fault.Generation _ f))
+pub few_questions : (s : Sweep) (r : Request) (packet : List ℕ) → is_for packet r ≡ true → fault_for s r packet ≡ None → length (questions r.path (finding s r packet)) ≤ 256
+few_questions s r packet e f = few_of s r packet r.question (and_parts _ _ e).0 f
 
 -- a path goes on only where it can --------------------------------------------------------------
 
@@ -133,19 +147,16 @@ reach_node : (s : Sweep) (path : List ℕ) (info : NodeInfo) (first : Option Rea
 reach_node s path info None = reach_anew path info (type_of_number info.node_type)
 reach_node s path info (Some first) = reach_if path (vertex_of path info first.kind first.ports) (is_switch first.kind || is_some (reached_at s.reached info.node_guid info.local_port_num))
 
-reach_state : (s : Sweep) (path : List ℕ) (guid port : ℕ) (state : Option PortState) → IsWithinReach path (port_found_of s path guid port state)
-reach_state s path guid port None = tt
-reach_state s path guid port (Some state) =
-    λ e. ltb-true _ _ (leads_within (is_up_state (number_of_state state) && goes_by s path guid port) (nat_lt (length path) max_hops) e)
-
-reach_port : (s : Sweep) (path : List ℕ) (about : Option ℕ) (port : ℕ) (state : Option PortState) → IsWithinReach path (port_found_at s path about port state)
-reach_port s path None port state = tt
-reach_port s path (Some guid) port state = reach_state s path guid port state
+reach_port : (s : Sweep) (path : List ℕ) (about : Option ℕ) (port : ℕ) (info : List ℕ) → IsWithinReach path (port_found s path about port info)
+reach_port s path None port info = tt
+reach_port s path (Some guid) port info =
+    λ e. ltb-true _ _ (leads_within (leads_on s path guid port info) (nat_lt (length path) max_hops) e)
 
 reach_of : (s : Sweep) (r : Request) (packet : List ℕ) (q : Question) → IsWithinReach r.path (finding_of s r packet q)
 reach_of s r packet ask.Node = reach_node s r.path (node_info_of packet) (reached_first s.reached (node_info_of packet).node_guid)
 reach_of s r packet ask.Switch = tt
-reach_of s r packet (ask.Port port) = reach_port s r.path (about_of r.context) port (state_of_number (bits_in port_state (payload_of packet)))
+reach_of s r packet (ask.Port port) = reach_port s r.path (about_of r.context) port (payload_of packet)
+reach_of s r packet (ask.Manager guid port) = tt
 
 pub within_reach : (s : Sweep) (r : Request) (packet : List ℕ) → IsWithinReach r.path (finding s r packet)
 within_reach s r packet = reach_of s r packet r.question

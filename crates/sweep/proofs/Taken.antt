@@ -5,11 +5,10 @@ use Rattle.std.specs.Result.{result_err}
 use Rattle.std.proofs.lemmas.Bool.{cond-true, cond-false}
 use Rattle.smp_bytes.specs.declared.smp_fault.SmpFault.{SmpFault}
 use Rattle.smp_bytes.specs.Packet.{fault_of}
+use Rattle.attr_codec.specs.declared.port_state.PortState.{PortState}
 use Rattle.fact_store.specs.declared.report_fault.ReportFault.{ReportFault}
-use Rattle.fact_store.specs.Report.{report_fault}
 use Rattle.smp_bytes.specs.Judges.{JudgesButFor}
 use Rattle.sweep.specs.declared.answer.Answer.{Answer}
-use Rattle.sweep.specs.declared.answer.Answer.TheVariants.{Facts}
 use Rattle.sweep.specs.Fault.{is_memory}
 use Rattle.sweep.specs.declared.fault.SweepFault.{SweepFault}
 use Rattle.sweep.specs.declared.fault.SweepFault.TheVariants.{NotOutstanding, Bad, SequenceSpent, Memory}
@@ -22,10 +21,10 @@ use Rattle.sweep.specs.declared.reached.SeenState.{SeenState}
 use Rattle.sweep.specs.declared.replies.Accepted.{Accepted}
 use Rattle.sweep.specs.declared.request.Request.{Request}
 use Rattle.sweep.specs.Accepting.{IsAccepted}
-use Rattle.sweep.specs.Finding.{one_too_far, questions, too_far_by, with_reached, with_state}
+use Rattle.sweep.specs.Finding.{one_too_far, questions, too_far_by, with_reached, with_state, with_state_of}
 use Rattle.sweep.specs.Found.{Found}
 use Rattle.sweep.specs.Order.{AreInOrder}
-use Rattle.sweep.specs.Replies.{is_spent, judged, judged_as, judged_by, judged_for, report_for, request_of}
+use Rattle.sweep.specs.Replies.{answer_for, fault_for, is_spent, judged, judged_as, judged_by, judged_for, request_of}
 use Rattle.sweep.specs.Requests.{Requests}
 use Rattle.sweep.specs.Sweep.{IsSweep, Sweep, numbered, state_key, vertex_key, without_number}
 use Rattle.sweep.specs.Taking.{HasTaken}
@@ -41,12 +40,12 @@ never_by s r packet (Some why) e = cc
 never_by s r packet None e = by (is_spent s r packet) refl
   where
     by : (b : Bool) → is_spent s r packet ≡ b → ⊥
-    by true f = cc (e, cond-true (is_spent s r packet) (Err SequenceSpent) (Ok (Facts (report_for s r packet))) f)
-    by false f = cc (e, cond-false (is_spent s r packet) (Err SequenceSpent) (Ok (Facts (report_for s r packet))) f)
+    by true f = cc (e, cond-true (is_spent s r packet) (Err SequenceSpent) (Ok (answer_for s r packet)) f)
+    by false f = cc (e, cond-false (is_spent s r packet) (Err SequenceSpent) (Ok (answer_for s r packet)) f)
 
 never_for : (s : Sweep) (packet : List ℕ) (o : Option Request) → judged_for s packet o ≡ Err Memory → ⊥
 never_for s packet None e = cc
-never_for s packet (Some r) e = never_by s r packet (report_fault (report_for s r packet)) e
+never_for s packet (Some r) e = never_by s r packet (fault_for s r packet) e
 
 never_as : (s : Sweep) (packet : List ℕ) (o : Option SmpFault) → judged_as s packet o ≡ Err Memory → ⊥
 never_as s packet (Some why) e = cc
@@ -64,12 +63,16 @@ judges_err s packet Memory e = absurd (never_as s packet (fault_of packet) e)
 pub reached_ordered : (f : Finding) (reached : List Reached) → AreInOrder vertex_key reached → AreInOrder vertex_key (with_reached f reached)
 reached_ordered Nothing reached ordered = ordered
 reached_ordered (Vertex v) reached ordered = placed_ordered vertex_key v reached ordered
-reached_ordered (Port seen onward) reached ordered = ordered
+reached_ordered (Port found) reached ordered = ordered
+
+state_ordered : (guid port : ℕ) (state : Option PortState) (states : List SeenState) → AreInOrder state_key states → AreInOrder state_key (with_state_of guid port state states)
+state_ordered guid port None states ordered = ordered
+state_ordered guid port (Some state) states ordered = placed_ordered state_key (record { guid = guid; port = port; state = state }) states ordered
 
 pub states_ordered : (f : Finding) (states : List SeenState) → AreInOrder state_key states → AreInOrder state_key (with_state f states)
 states_ordered Nothing states ordered = ordered
 states_ordered (Vertex v) states ordered = ordered
-states_ordered (Port seen onward) states ordered = placed_ordered state_key seen states ordered
+states_ordered (Port found) states ordered = state_ordered found.guid found.port found.state states ordered
 
 one_at_most : (onward : Onward) → one_too_far onward ≤ 1
 one_at_most Stays = omega arith
@@ -79,7 +82,7 @@ one_at_most TooFar = omega arith
 pub too_far_once : (f : Finding) → too_far_by f ≤ 1
 too_far_once Nothing = omega arith
 too_far_once (Vertex v) = omega arith
-too_far_once (Port seen onward) = one_at_most onward
+too_far_once (Port found) = one_at_most found.onward
 
 -- the requests -----------------------------------------------------------------------------------
 

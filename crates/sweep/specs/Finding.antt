@@ -96,15 +96,18 @@ is_of_adapter s guid = option_map_or (λ first. not (is_switch first.kind)) (rea
 abbrev pub asks_manager : Sweep → List ℕ → ℕ → List ℕ → Bool
 asks_manager s path guid info = has_manager info && (not (is_start path) && is_of_adapter s guid)
 
-abbrev pub port_found_of : Sweep → List ℕ → ℕ → ℕ → List ℕ → Finding
-port_found_of s path guid port info =
-    Port (record {
+abbrev pub port_finding_of : Sweep → List ℕ → ℕ → ℕ → List ℕ → PortFinding
+port_finding_of s path guid port info =
+    record {
       guid = guid;
       port = port;
       state = state_of_number (bits_in port_state info);
-      has_manager = asks_manager s path guid info;
+      asks_manager = asks_manager s path guid info;
       onward = onward s path guid port info;
-    })
+    }
+
+abbrev pub port_found_of : Sweep → List ℕ → ℕ → ℕ → List ℕ → Finding
+port_found_of s path guid port info = Port (port_finding_of s path guid port info)
 
 -- a port of the node that the request was about
 abbrev pub port_found : Sweep → List ℕ → Option ℕ → ℕ → List ℕ → Finding
@@ -141,7 +144,7 @@ vertex_questions v =
 -- the manager at the port, over the same path
 abbrev pub manager_questions : List ℕ → PortFinding → List Asking
 manager_questions path found =
-    if found.has_manager
+    if found.asks_manager
     then record { question = ask.Manager found.guid found.port; path = path; context = About found.guid } ∷ []
     else []
 

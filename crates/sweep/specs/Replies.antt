@@ -38,25 +38,25 @@ request_of s packet = find (belongs s.generation packet) s.outstanding
 abbrev pub report_for : Sweep → Request → List ℕ → Report
 report_for s r packet = record { generation = s.generation; context = r.context; bytes = packet }
 
--- a reply to SMInfo is no report: its packet is judged alone
-abbrev pub fault_of_reply : Sweep → Request → List ℕ → Question → Option ReportFault
-fault_of_reply s r packet ask.Node = report_fault (report_for s r packet)
-fault_of_reply s r packet ask.Switch = report_fault (report_for s r packet)
-fault_of_reply s r packet (ask.Port port) = report_fault (report_for s r packet)
-fault_of_reply s r packet (ask.Manager guid port) = packet_fault packet
+-- of SMInfo no attribute is judged: what a manager tells of itself may be anything
+abbrev pub fault_by : Question → Report → Option ReportFault
+fault_by ask.Node report = report_fault report
+fault_by ask.Switch report = report_fault report
+fault_by (ask.Port port) report = report_fault report
+fault_by (ask.Manager guid port) report = packet_fault report.bytes
 
 abbrev pub fault_for : Sweep → Request → List ℕ → Option ReportFault
-fault_for s r packet = fault_of_reply s r packet r.question
+fault_for s r packet = fault_by r.question (report_for s r packet)
 
--- of SMInfo what the manager at the port tells of itself, and else a report
-abbrev pub answer_of_reply : Sweep → Request → List ℕ → Question → Answer
-answer_of_reply s r packet ask.Node = Facts (report_for s r packet)
-answer_of_reply s r packet ask.Switch = Facts (report_for s r packet)
-answer_of_reply s r packet (ask.Port port) = Facts (report_for s r packet)
-answer_of_reply s r packet (ask.Manager guid port) = Seen guid port (sm_info_in (payload_of packet))
+-- of SMInfo what the manager tells, with the port that was asked
+abbrev pub answer_by : Question → Report → Answer
+answer_by ask.Node report = Facts report
+answer_by ask.Switch report = Facts report
+answer_by (ask.Port port) report = Facts report
+answer_by (ask.Manager guid port) report = Seen guid port (sm_info_in (payload_of report.bytes))
 
 abbrev pub answer_for : Sweep → Request → List ℕ → Answer
-answer_for s r packet = answer_of_reply s r packet r.question
+answer_for s r packet = answer_by r.question (report_for s r packet)
 
 -- a request that the reply brings up needs a number that 32 bits don't hold
 abbrev pub is_spent : Sweep → Request → List ℕ → Bool

@@ -1,6 +1,4 @@
-ghost use Rattle.std.specs.Prelude.{◌≡◌, ◌&&◌, ◌≤◌, ℕ, List, length};
-ghost use Rattle.smp_bytes.specs.Field.{bits_in};
-ghost use Rattle.attr_codec.specs.PortInfo.{is_sm_bit};
+ghost use Rattle.std.specs.Prelude.{◌≡◌, ◌≤◌, ℕ, List, length};
 ghost use Rattle.sweep.specs.Finding.{asks_manager, finding, goes_by, has_manager, is_of_adapter, leads_on, node_found, onward, port_found_questions, port_found_of, questions, vertex_of, vertex_questions};
 
 use crate::reached::Reached;
@@ -22,14 +20,14 @@ pub(crate) enum Finding {
 }
 
 /// What a port says of itself.
-#[derive(Clone, Copy, Debug)]
+#[derive(Debug, Drop)]
 pub(crate) struct PortFinding {
     pub(crate) guid: Guid,
     pub(crate) port: PortNum,
     /// None where its number is reserved.
     pub(crate) state: Option<PortState>,
     /// Whether a manager sits there that is asked.
-    pub(crate) has_manager: bool,
+    pub(crate) asks_manager: bool,
     pub(crate) onward: Onward,
 }
 
@@ -68,7 +66,7 @@ impl PortFinding {
             Onward::Leads => 1,
             Onward::Stays | Onward::TooFar => 0,
         };
-        u64::from(self.has_manager) + across
+        u64::from(self.asks_manager) + across
     }
 }
 
@@ -137,7 +135,7 @@ impl Sweep {
             guid,
             port,
             state: info.port_state(),
-            has_manager: self.asks_manager(path, guid, info),
+            asks_manager: self.asks_manager(path, guid, info),
             onward: self.onward(path, guid, port, info),
         })
     }

@@ -1,11 +1,11 @@
 ghost use Rattle.std.specs.Prelude.{◌≡◌, ◌==◌, ◌+◌, ◌<◌, ◌≤◌, ◌^◌, [], length, slice_get, option_copied, option_map, OnOk, true};
-ghost use Rattle.sweep.specs.Finding.{too_far_by, with_reached, with_state};
+ghost use Rattle.sweep.specs.Finding.{too_far_by, with_reached, with_state, with_state_of};
 ghost use Rattle.std.specs.Vec.{vec_capacity, vec_len};
 ghost use Rattle.sweep.specs.Found.{Found};
 ghost use Rattle.sweep.specs.Order.{AreInOrder, IsPlaceFor, has_key, is_before, passes_at, placed};
 ghost use Rattle.sweep.specs.Sweep.{reached_at, reached_first, state_at, state_key, vertex_key};
 
-use crate::finding::{Finding, Onward};
+use crate::finding::{Finding, Onward, PortFinding};
 use crate::reached::{Reached, SeenState};
 use attr_codec::PortState;
 use page_list::PageList;
@@ -225,11 +225,8 @@ impl Found {
             Finding::Nothing => {}
             Finding::Vertex(vertex) => put_vertex(&mut self.vertices, vertex),
             Finding::Port(found) => {
-                if let Some(state) = found.state {
-                    let (guid, port) = (found.guid, found.port);
-                    put_state(&mut self.seen, SeenState { guid, port, state });
-                }
-                if let Onward::TooFar = found.onward {
+                put_state_of(&mut self.seen, &found);
+                if found.onward == Onward::TooFar {
                     self.too_far += 1;
                 }
             }
@@ -250,6 +247,19 @@ fn put_vertex(vertices: &mut Vec<Reached>, vertex: Reached)
     match vertices.insert(place, vertex) {
         Ok(()) => {}
         Err(_) => unreachable!(),
+    }
+}
+
+/// Puts the state that a port says in at its place, unless its number is reserved.
+fn put_state_of(states: &mut PageList<SeenState>, found: &PortFinding)
+    requires order { AreInOrder state_key states.old.items }
+    requires room { 0 < states.old.room }
+    ensures { states.new.items
+        ≡ with_state_of found.now.guid found.now.port found.now.state states.old.items }
+{
+    if let Some(state) = found.state {
+        let (guid, port) = (found.guid, found.port);
+        put_state(states, SeenState { guid, port, state });
     }
 }
 

@@ -1,11 +1,13 @@
-ghost use Rattle.std.specs.Prelude.{◌≡◌, ◌+◌, ◌≤◌, length, IfOk, IfErr, OnOk, OnErr, Ok, Err};
+ghost use Rattle.std.specs.Prelude.{◌≡◌, ◌+◌, ◌≤◌, length, IfOk, IfErr, IsTrue, OnOk, OnErr, None, Ok, Err};
 ghost use Rattle.std.specs.Result.{result_err};
 ghost use Rattle.fact_store.specs.Merge.{merge};
+ghost use Rattle.fact_store.specs.Sighting.{is_generation};
 ghost use Rattle.fact_store.specs.View.{view};
 ghost use Rattle.smp_bytes.specs.Judges.{Judges, JudgesButFor};
+ghost use Rattle.smp_bytes.specs.Packet.{fault_of};
 ghost use Rattle.sweep.specs.Accepting.{IsAccepted};
 ghost use Rattle.sweep.specs.Fault.{is_memory};
-ghost use Rattle.sweep.specs.Replies.{answer_for, fault_for, judged, replied, told_by};
+ghost use Rattle.sweep.specs.Replies.{answer_by, answer_for, fault_for, judged, replied, told_by};
 
 use crate::answer::Answer;
 use crate::fault::SweepFault;
@@ -98,10 +100,16 @@ impl Sweep {
         ensures ok { IfOk result (λ accepted. IsAccepted self.now smp.now accepted) }
         ensures err { IfErr result (λ fault. judged self.now smp.now ≡ Err fault) }
     {
+        let bytes = smp.bytes();
         let Some(place) = self.requests.place_for(self.generation, smp) else {
             return Err(SweepFault::NotOutstanding);
         };
         let request = self.requests.get(place).unwrap();
+        let report = Report {
+            generation: self.generation.number(),
+            context: request.context,
+            bytes: *bytes,
+        };
         let told = match self.told_by(request, smp) {
             Ok(told) => told,
             Err(fault) => return Err(SweepFault::Bad(fault)),
@@ -112,7 +120,7 @@ impl Sweep {
         }
         Ok(Accepted {
             place,
-            answer: self.answer_to(request, smp),
+            answer: answer_by(request.question, report, smp),
             told,
             finding,
         })
@@ -121,6 +129,8 @@ impl Sweep {
     /// The facts that the reply to a request tells, or the first fault that it has. SMInfo tells
     /// none, whatever it says.
     fn told_by(&self, request: &Request, smp: &Smp) -> Result<ArrayVec<Sighting, 4>, ReportFault>
+        requires generation { IsTrue (is_generation self.now.generation) }
+        requires packet { fault_of smp.now ≡ None }
         ensures judged { Judges result (fault_for self.now request.now smp.now) }
         ensures told { IfOk result
             (λ told. told.items ≡ told_by (answer_for self.now request.now smp.now)) }
@@ -134,18 +144,17 @@ impl Sweep {
             sightings_in(self.generation, &request.context, smp)
         }
     }
+}
 
-    /// What the reply to a request is good for.
-    fn answer_to(&self, request: &Request, smp: &Smp) -> Answer
-        ensures { result ≡ answer_for self.now request.now smp.now }
-    {
-        if let Question::Manager(guid, port) = request.question {
-            return Answer::Seen(guid, port, SmInfo::decode(&smp.attribute_data()));
+/// What a reply without a fault is good for, by what was asked.
+fn answer_by(question: Question, report: Report, smp: &Smp) -> Answer
+    requires { report.bytes ≡ smp.now }
+    ensures { result ≡ answer_by question report }
+{
+    match question {
+        Question::Manager(guid, port) => {
+            Answer::Seen(guid, port, SmInfo::decode(&smp.attribute_data()))
         }
-        Answer::Facts(Report {
-            generation: self.generation.number(),
-            context: request.context,
-            bytes: *smp.bytes(),
-        })
+        Question::Node | Question::Switch | Question::Port(_) => Answer::Facts(report),
     }
 }

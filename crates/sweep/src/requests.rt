@@ -219,7 +219,7 @@ impl Requests {
         requires number { self.old.next + length (manager_questions path.now found.now) ≤ 2 ^ 32 }
         ensures { HasAsked (manager_questions path.now found.now) self.old self.new }
     {
-        if found.has_manager {
+        if found.asks_manager {
             self.ask(
                 Question::Manager(found.guid, found.port),
                 path.copy(),

@@ -1,6 +1,6 @@
 //! Sweeps from an adapter along a row of switches to another adapter, and from a switch.
 use super::*;
-use attr_codec::{Attribute, NodeInfo, NodeTypeNumber, PortInfo, PortState, SwitchInfo};
+use attr_codec::{Attribute, NodeInfo, NodeTypeNumber, PortInfo, PortState, SmInfo, SwitchInfo};
 use fact_store::{ReportFault, Store};
 use smp_bytes::{AttributeId, Generation, Guid, NodeType, PortNum, Smp, SmpFault, Status};
 use std::alloc::Global;
@@ -21,8 +21,14 @@ fn node_info(guid: u64, kind: NodeType, ports: u8) -> [u8; 64] {
     info.encode()
 }
 
+/// What a manager says of itself.
+fn manager() -> SmInfo {
+    SmInfo::decode(&[0x31; 64])
+}
+
 /// What the node says that is so many hops away: an adapter at the start, switches in a row behind
-/// it, whose ports 1 and 2 are cabled, and another adapter behind them.
+/// it, whose ports 1 and 2 are cabled, and another adapter behind them. Each port says that a
+/// manager sits there.
 fn told(attribute: AttributeId, hops: u8, switches: u8) -> [u8; 64] {
     let guid = 0x100 + u64::from(hops);
     if attribute == AttributeId::NODE_INFO {
@@ -34,8 +40,12 @@ fn told(attribute: AttributeId, hops: u8, switches: u8) -> [u8; 64] {
     if attribute == AttributeId::SWITCH_INFO {
         return SwitchInfo::decode(&[4; 64]).encode();
     }
+    if attribute == AttributeId::SM_INFO {
+        return manager().encode();
+    }
     let mut info = PortInfo::decode(&[0; 64]);
     info.set_port_state(PortState::Initialize);
+    info.set_is_sm(true);
     info.encode()
 }
 
@@ -55,7 +65,18 @@ fn refusal(answered: Result<Answer, SweepFault>) -> Option<SweepFault> {
     }
 }
 
-/// The number, attribute, modifier and hops of each request over a row of one switch.
+/// Whether a reply told of the manager at port 1 of the adapter behind one switch.
+fn is_seen(answered: &Result<Answer, SweepFault>) -> bool {
+    match answered {
+        Ok(Answer::Seen(guid, port, info)) => {
+            *guid == Guid::new(0x102) && *port == PortNum::new(1) && *info == manager()
+        }
+        Ok(Answer::Facts(_)) | Err(_) => false,
+    }
+}
+
+/// The number, attribute, modifier and hops of each request over a row of one switch, but for the
+/// last, which asks the manager at the far adapter.
 fn requests() -> [(u32, u16, u32, u8); 9] {
     [
         (7, 0x11, 0, 0),
@@ -86,6 +107,16 @@ fn asks_in_order(rt: HostRuntime) -> Result<(), Fail> {
         let refused = refusal(sweep.on_reply_into(&answer(&smp, 1), &mut store));
         assert!(rt; refused == None, "{number}");
     }
+    let smp = sweep.next_request().ok_or("no request")?;
+    let asked = (
+        smp.transaction_id(),
+        smp.attribute_id().0,
+        smp.attribute_modifier(),
+    );
+    let empty = smp.hop_count() == 2 && smp.attribute_data() == [0; 64];
+    assert!(rt; empty && asked == (0x1_0000_0010, 0x20, 0));
+    let answered = sweep.on_reply_into(&answer(&smp, 1), &mut store);
+    assert!(rt; is_seen(&answered));
     let far = sweep
         .path_to(Guid::new(0x102), PortNum::new(1))
         .ok_or("no path")?;
@@ -119,44 +150,67 @@ fn takes_a_reply_once(rt: HostRuntime) -> Result<(), Fail> {
     Ok(())
 }
 
-/// A byte of the reply to the first request, another value, and the refusal that this brings.
-fn spoilt() -> [(usize, u8, SweepFault); 10] {
+/// How many replies a sweep over a row of one switch took; a byte of the next one, another value,
+/// and the refusal that this brings.
+fn spoilt() -> [(u8, usize, u8, SweepFault); 14] {
     [
         (
+            0,
             0,
             2,
             SweepFault::Bad(ReportFault::Smp(SmpFault::BaseVersion)),
         ),
-        (15, 2, SweepFault::NotOutstanding),
-        (17, 0x12, SweepFault::NotOutstanding),
-        (23, 1, SweepFault::NotOutstanding),
-        (1, 0x01, SweepFault::NotOutstanding),
-        (3, 0x01, SweepFault::Bad(ReportFault::Method)),
-        (4, 0x00, SweepFault::Bad(ReportFault::Direction)),
-        (5, 0x1C, SweepFault::Bad(ReportFault::Status)),
-        (66, 9, SweepFault::Bad(ReportFault::NodeType)),
-        (67, 0, SweepFault::Bad(ReportFault::Port)),
+        (0, 15, 2, SweepFault::NotOutstanding),
+        (0, 17, 0x12, SweepFault::NotOutstanding),
+        (0, 23, 1, SweepFault::NotOutstanding),
+        (0, 1, 0x01, SweepFault::NotOutstanding),
+        (0, 3, 0x01, SweepFault::Bad(ReportFault::Method)),
+        (0, 4, 0x00, SweepFault::Bad(ReportFault::Direction)),
+        (0, 5, 0x1C, SweepFault::Bad(ReportFault::Status)),
+        (0, 66, 9, SweepFault::Bad(ReportFault::NodeType)),
+        (0, 67, 0, SweepFault::Bad(ReportFault::Port)),
+        (9, 17, 0x15, SweepFault::NotOutstanding),
+        (9, 23, 1, SweepFault::NotOutstanding),
+        (9, 6, 1, SweepFault::Bad(ReportFault::Direction)),
+        (9, 5, 0x1C, SweepFault::Bad(ReportFault::Status)),
     ]
+}
+
+/// A sweep over a row of one switch that took so many replies, and the next one, with a byte spoilt
+/// and as it is.
+fn spoilt_reply(
+    alloc: Global,
+    taken: u8,
+    place: usize,
+    value: u8,
+) -> Result<(Sweep, [u8; 256], Smp), Fail> {
+    let mut sweep = start(alloc, 1)?;
+    for _ in 0..taken {
+        let smp = sweep.next_request().ok_or("no request")?;
+        let _ = refusal(sweep.on_reply(answer(&smp, 1).bytes()));
+    }
+    let next = sweep.next_request().ok_or("no request")?;
+    let reply = answer(&next, 1);
+    let mut bytes = *reply.bytes();
+    if let Some(byte) = bytes.get_mut(place) {
+        *byte = value;
+    }
+    Ok((sweep, bytes, reply))
 }
 
 #[test]
 fn refuses_in_order(rt: HostRuntime) -> Result<(), Fail> {
-    let mut sweep = start(rt.alloc(), 1)?;
-    let first = sweep.next_request().ok_or("no request")?;
-    let reply = answer(&first, 1);
-    for (place, value, fault) in spoilt() {
-        let mut bytes = *reply.bytes();
-        if let Some(byte) = bytes.get_mut(place) {
-            *byte = value;
-        }
+    for (taken, place, value, fault) in spoilt() {
+        let (mut sweep, bytes, reply) = spoilt_reply(rt.alloc(), taken, place, value)?;
         let judged = match Smp::parse(&bytes) {
             Ok(smp) => refusal(sweep.judge(&smp)),
             Err(why) => Some(SweepFault::Bad(ReportFault::Smp(why))),
         };
         let refused = refusal(sweep.on_reply(&bytes));
-        assert!(rt; judged == Some(fault) && refused == Some(fault), "{place}");
+        let both = judged == Some(fault) && refused == Some(fault);
+        let waits = refusal(sweep.on_reply(reply.bytes())) == None;
+        assert!(rt; both && waits, "{taken} {place}");
     }
-    assert!(rt; refusal(sweep.on_reply(reply.bytes())) == None);
     Ok(())
 }
 

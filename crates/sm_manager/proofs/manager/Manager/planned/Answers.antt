@@ -14,7 +14,7 @@ unfolding begins
 returns-clause-writing c =
     let m = c.args.self.now in
     let store : c.self.inside.store ≡ m.store = ap (λ (x : Manager). x.store) c.self.view_is in
-    let guid : c.self.inside.port_guid ≡ m.port_guid = ap (λ (x : Manager). x.port_guid) c.self.view_is in
+    let guid : c.self.inside.standing.guid ≡ m.standing.guid = ap (λ (x : Manager). x.standing.guid) c.self.view_is in
     let port : c.self.inside.port ≡ m.port = ap (λ (x : Manager). x.port) c.self.view_is in
     c.new.ensures
     ∙ ap begins

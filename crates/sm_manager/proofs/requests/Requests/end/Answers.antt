@@ -6,6 +6,12 @@ use Rattle.sm_manager.proofs.Numbers.{counted_without, less_none, less_one, many
 use Rattle.sm_manager.proofs.requests.Requests.end.Goals as goal
 use Rattle.sm_manager.proofs.requests.Requests.end.Goals.{then-is_step, else-is_step}
 
+pub overflow_sub-self : goal.overflow_sub-self
+overflow_sub-self c =
+    let less = many_without is_step c.self.inside.table.requests c.args.place c.end-ended.result (sym c.end-ended.ensures.request) in
+    let one : one_if (is_step c.end-ended.result) ≡ 1 = ap one_if (sym c.is_step.ensures ∙ c.if-is_step.true) in
+    omega (arith, less, one, c.self.invariant.steps_are)
+
 pub overflow_sub-self-then-counts : goal.overflow_sub-self-then-counts
 overflow_sub-self-then-counts c =
     let less = many_without counts c.self.inside.table.requests c.args.place c.end-ended.result (sym c.end-ended.ensures.request) in

@@ -43,7 +43,7 @@ impl Manager {
         ensures err { OnErr result (self.new ≡ self.old) }
     {
         match self.requests.purpose(place) {
-            Purpose::Step { .. } => self.end_step(place, answer == Some(Status::DONE)),
+            Purpose::Step { .. } => self.end_step(place, is_done_by(answer)),
             Purpose::Poll => {
                 self.requests.end(place);
                 end_poll(&mut self.standing, answer.is_some());
@@ -54,6 +54,16 @@ impl Manager {
                 Ok(())
             }
         }
+    }
+}
+
+/// Whether a step was done: its answer says so.
+fn is_done_by(answer: Option<Status>) -> bool
+    ensures { result ≡ is_done_by (status_number answer) }
+{
+    match answer {
+        Some(status) => status == Status::DONE,
+        None => false,
     }
 }
 
