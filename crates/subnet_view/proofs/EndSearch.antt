@@ -47,9 +47,11 @@ place_total = then_total (on_total (λ (x : ℕ × ℕ). x.0) nat_cmp_total) (on
 abbrev end_at : ℕ → ℕ → ℕ × ℕ → End
 end_at g p y = ((g, p), y)
 
-with_port : (g p h q : ℕ) (o : Option (ℕ × ℕ)) (x : ℕ × ℕ) → option_map (end_at g p) o ≡ Some (end_at h q x) → (g ≡ h) × (p ≡ q) × (o ≡ Some x)
+with_port : (g p h q : ℕ) (o : Option (ℕ × ℕ)) (x : ℕ × ℕ) → option_map (end_at g p) o ≡ Some (end_at h q x)
+    → (g ≡ h) × (p ≡ q) × (o ≡ Some x)
 with_port g p h q None x e = absurd (cc)
-with_port g p h q (Some y) x e = let s : end_at g p y ≡ end_at h q x = cc in (ap (λ (z : End). z.0.0) s, ap (λ (z : End). z.0.1) s, ap (λ (z : End). Some z.1) s)
+with_port g p h q (Some y) x e = let s : end_at g p y ≡ end_at h q x = cc in
+    (ap (λ (z : End). z.0.0) s, ap (λ (z : End). z.0.1) s, ap (λ (z : End). Some z.1) s)
 
 -- a port of the list has its link there
 pub listed_end : (cells : Cells) (e : End) → Contains (wire_ends cells) e → end_link cells e.0.0 e.0.1 ≡ Some e.1
@@ -70,9 +72,11 @@ some_link false o x e = absurd (cc)
 -- and each port that has one is in the list
 pub end_listed : (cells : Cells) (g p : ℕ) (x : ℕ × ℕ) → end_link cells g p ≡ Some x → Contains (wire_ends cells) ((g, p), x)
 end_listed cells g p x e =
-    elim (find key_cmp (Link g p) cells) as (λ o. find key_cmp (Link g p) cells ≡ o → peer_in (value_in o) ≡ Some x → Contains (wire_ends cells) ((g, p), x)) [
+    elim (find key_cmp (Link g p) cells) as (λ o. find key_cmp (Link g p) cells ≡ o → peer_in (value_in o) ≡ Some x
+    → Contains (wire_ends cells) ((g, p), x)) [
       | None ↦ λ i k. absurd (cc)
-      | Some c ↦ λ i k. is_taken (wire_end cells) cells (Link g p, c) ((g, p), x) (found_in (Link g p) cells c i) (ap (option_map (end_at g p)) e)
+      | Some c ↦ λ i k. is_taken (wire_end cells) cells (Link g p, c) ((g, p), x) (found_in (Link g p) cells c i)
+          (ap (option_map (end_at g p)) e)
     ] refl (some_link (is_wire_end cells g p) (link_of cells g p) x e)
 
 -- the list is in order ----------------------------------------------------------------------
@@ -102,18 +106,21 @@ rise cells (x ∷ es) s =
     let i = rise cells es (second_true _ _ s) in
     elim (wire_end cells x) as (λ o. wire_end cells x ≡ o → AllPairs IsBefore (cons_option o (filter_map (wire_end cells) es))) [
       | None ↦ λ e. i
-      | Some a ↦ λ e. AllPairs-cons IsBefore a (filter_map (wire_end cells) es) (all_from (IsBefore a) (filter_map (wire_end cells) es) (λ b h.
+      | Some a ↦ λ e. AllPairs-cons IsBefore a (filter_map (wire_end cells) es)
+          (all_from (IsBefore a) (filter_map (wire_end cells) es) (λ b h.
           let from = taken_from (wire_end cells) es b h in
           let here = by_link cells x.0 x.1 a e in
           let there = by_link cells from.0.0 from.0.1 b from.2 in
-          let below : key_cmp (Link a.0.0 a.0.1) (Link b.0.0 b.0.1) ≡ Less = sym (λ j. key_cmp (here j) (there j)) ∙ below_at x.0 es (first_true _ _ s) from.0 from.1 in
+          let below : key_cmp (Link a.0.0 a.0.1) (Link b.0.0 b.0.1) ≡ Less
+          = sym (λ j. key_cmp (here j) (there j)) ∙ below_at x.0 es (first_true _ _ s) from.0 from.1 in
           less_place (nat_cmp a.0.0 b.0.0) (nat_cmp a.0.1 b.0.1) below)) i
     ] refl
 
 sorted : (facts : Facts) → IsSortedBy (λ a b. is_lt (place_cmp a.0 b.0)) (wire_ends (cells_of facts))
 sorted facts k d from within =
     let ends = wire_ends (cells_of facts) in
-    ap is_lt (place_total.antisymm (get_or ends (k + 1) d).0 (get_or ends k d).0 ∙ ap ordering_reverse (rise (cells_of facts) (cells_of facts) (cells_in_order facts) k (k + 1) d (omega arith) within))
+    ap is_lt (place_total.antisymm (get_or ends (k + 1) d).0 (get_or ends k d).0
+    ∙ ap ordering_reverse (rise (cells_of facts) (cells_of facts) (cells_in_order facts) k (k + 1) d (omega arith) within))
 
 -- so a search among it by node and port can be trusted
 searchable : (facts : Facts) (x : ℕ × ℕ) → IsNonDecreasingBy (λ (e : End). ordering_index (place_cmp e.0 x)) (wire_ends (cells_of facts))
@@ -121,7 +128,9 @@ searchable facts x = searchable_from_sorted place_total (λ (e : End). e.0) (wir
 
 -- what it finds -----------------------------------------------------------------------------
 
-nowhere : (ends : List End) (x : ℕ × ℕ) (i : ℕ) → IsPartitionPoint (λ (e : End). place_cmp e.0 x ≡ Less) (λ (e : End). place_cmp e.0 x ≡ Greater) ends i → (y : ℕ × ℕ) → Contains ends (x, y) → ⊥
+nowhere : (ends : List End) (x : ℕ × ℕ) (i : ℕ)
+    → IsPartitionPoint (λ (e : End). place_cmp e.0 x ≡ Less) (λ (e : End). place_cmp e.0 x ≡ Greater) ends i → (y : ℕ × ℕ)
+    → Contains ends (x, y) → ⊥
 nowhere ends x i parts y h =
     let tied : place_cmp (get_or ends h.0 (x, y)).0 x ≡ Equal = ap (λ (e : End). place_cmp e.0 x) h.2 ∙ tied_itself place_total x in
     elim (cases_lt h.0 i) [
@@ -130,11 +139,13 @@ nowhere ends x i parts y h =
     ]
 
 module _ (facts : Facts) (ends : List End) (g p : ℕ) (are : ends ≡ wire_ends (cells_of facts)) where
-  link_at : (i : ℕ) (d : End) → i < length ends → place_cmp (get_or ends i d).0 (g, p) ≡ Equal → Some (get_or ends i d).1 ≡ end_link (cells_of facts) g p
+  link_at : (i : ℕ) (d : End) → i < length ends → place_cmp (get_or ends i d).0 (g, p) ≡ Equal
+      → Some (get_or ends i d).1 ≡ end_link (cells_of facts) g p
   link_at i d within tied =
       let e = get_or ends i d in
       let same : e.0 ≡ (g, p) = exact_pairs nat_cmp nat_cmp nat_cmp-IsAntisymmetric nat_cmp-IsAntisymmetric e.0 (g, p) tied in
-      sym (sym (ap (λ (x : ℕ × ℕ). end_link (cells_of facts) x.0 x.1) same) ∙ listed_end (cells_of facts) e (subst (λ (es : List End). Contains es e) are (Contains-get_or ends i d within)))
+      sym (sym (ap (λ (x : ℕ × ℕ). end_link (cells_of facts) x.0 x.1) same)
+      ∙ listed_end (cells_of facts) e (subst (λ (es : List End). Contains es e) are (Contains-get_or ends i d within)))
 
   no_link_listed : ((x : ℕ × ℕ) → Contains ends ((g, p), x) → ⊥) → end_link (cells_of facts) g p ≡ None
   no_link_listed none =
@@ -147,13 +158,16 @@ module _ (facts : Facts) (ends : List End) (g p : ℕ) (are : ends ≡ wire_ends
   IsSearched r = IsBinarySearchResult (λ (e : End). place_cmp e.0 (g, p)) ends r
 
   -- what is found there is the port's link
-  pub one_found : (r : Result ℕ ℕ) (i : ℕ) (d : End) → IsSearchInRange r (length ends) → IsSearched r → result_ok r ≡ Some i → Some (get_or ends i d).1 ≡ end_link (cells_of facts) g p
-  one_found (Ok j) i d within found e = let same : j ≡ i = cc in subst (λ (k : ℕ). Some (get_or ends k d).1 ≡ end_link (cells_of facts) g p) same (link_at j d within (found d))
+  pub one_found : (r : Result ℕ ℕ) (i : ℕ) (d : End) → IsSearchInRange r (length ends) → IsSearched r → result_ok r ≡ Some i
+      → Some (get_or ends i d).1 ≡ end_link (cells_of facts) g p
+  one_found (Ok j) i d within found e = let same : j ≡ i = cc in subst
+      (λ (k : ℕ). Some (get_or ends k d).1 ≡ end_link (cells_of facts) g p) same (link_at j d within (found d))
   one_found (Err j) i d within found e = absurd (cc)
 
   -- and where nothing is found it has none
   pub none_found : (r : Result ℕ ℕ) → IsSearched r → result_ok r ≡ None → end_link (cells_of facts) g p ≡ None
   none_found (Ok j) found e = absurd (cc)
   none_found (Err j) found e =
-      let rising = subst (λ (es : List End). IsNonDecreasingBy (λ (e : End). ordering_index (place_cmp e.0 (g, p))) es) (sym are) (searchable facts (g, p)) in
+      let rising = subst (λ (es : List End). IsNonDecreasingBy (λ (e : End). ordering_index (place_cmp e.0 (g, p))) es) (sym are)
+      (searchable facts (g, p)) in
       no_link_listed (nowhere ends (g, p) j (found rising))

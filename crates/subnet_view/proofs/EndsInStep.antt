@@ -36,8 +36,10 @@ said_twice false b false room guid at_zero = refl
 -- where nothing of a port was passed, it can have a wire by what is left where it can
 pub end_is_read : (cells : Cells) (r : PortReader) (g p : ℕ) → HasNotPassed cells r g p → is_end_read r g p ≡ is_wire_end cells g p
 end_is_read cells r g p h =
-    (λ i. by_parts (kind_in (value_in (h.node i))) (option_map_or (λ up. up) (up_in (value_in (h.port i))) false) (is_some (count_in (value_in (h.cap i)))) (is_some (guid_in (value_in (h.guid i)))) p)
-    ∙ said_twice (is_up cells g p) (is_port_of cells g p) (is_switch_node cells g) (is_some (cap_of cells g)) (is_some (port_guid_of cells g p)) (p == 0)
+    (λ i. by_parts (kind_in (value_in (h.node i))) (option_map_or (λ up. up) (up_in (value_in (h.port i))) false)
+    (is_some (count_in (value_in (h.cap i)))) (is_some (guid_in (value_in (h.guid i)))) p)
+    ∙ said_twice (is_up cells g p) (is_port_of cells g p) (is_switch_node cells g) (is_some (cap_of cells g))
+    (is_some (port_guid_of cells g p)) (p == 0)
 
 -- nothing that the links that are left need was passed
 abbrev pub IsAhead : Cells → Cells → PortReader → Type 0
@@ -54,13 +56,16 @@ ahead_at_first cells left r all h q c k =
     }
 
 -- and once the first of them was read
-pub ahead_then : (cells : Cells) (x : Key × Cell Value) (rest : Cells) (old new : PortReader) → T (is_sorted key_cmp (x ∷ rest)) → IsAhead cells (x ∷ rest) old → PassesNone x.0 old new
+pub ahead_then : (cells : Cells) (x : Key × Cell Value) (rest : Cells) (old new : PortReader) → T (is_sorted key_cmp (x ∷ rest))
+    → IsAhead cells (x ∷ rest) old → PassesNone x.0 old new
     → IsAhead cells rest new
 ahead_then cells x rest old new s a passes h q c k =
-    passes cells h q (ap is_lt (greater_back x.0 (Link h q) (below_at x.0 rest (first_true _ _ s) (Link h q, c) k))) (a h q c (contains_later x (Link h q, c) rest k))
+    passes cells h q (ap is_lt (greater_back x.0 (Link h q) (below_at x.0 rest (first_true _ _ s) (Link h q, c) k)))
+    (a h q c (contains_later x (Link h q, c) rest k))
 
 -- so what is read of a cell is its port with where the link leads
-pub cell_is_read : (facts : Facts) (x : Key × Cell Value) (rest : Cells) (r : PortReader) → cell_for facts x.0 ≡ Some x.1 → IsAhead (cells_of facts) (x ∷ rest) r
+pub cell_is_read : (facts : Facts) (x : Key × Cell Value) (rest : Cells) (r : PortReader) → cell_for facts x.0 ≡ Some x.1
+    → IsAhead (cells_of facts) (x ∷ rest) r
     → end_read r x ≡ wire_end (cells_of facts) x
 cell_is_read facts ((Link g p), c) rest r held a =
     let cells = cells_of facts in
@@ -84,8 +89,10 @@ pub record IsWalked (facts : Facts) (found : List ((ℕ × ℕ) × (ℕ × ℕ))
   pub ahead : IsAhead (cells_of facts) left r
 
 -- a cell more
-pub walked_more : (facts : Facts) (found : List ((ℕ × ℕ) × (ℕ × ℕ))) (given left rest : Cells) (x : Key × Cell Value) (old new : PortReader) (o : Option ((ℕ × ℕ) × (ℕ × ℕ)))
-    → IsWalked facts found given left old → left ≡ x ∷ rest → o ≡ end_read old x → PassesNone x.0 old new → IsWalked facts (found ++ cons_option o []) (given ++ x ∷ []) rest new
+pub walked_more : (facts : Facts) (found : List ((ℕ × ℕ) × (ℕ × ℕ))) (given left rest : Cells) (x : Key × Cell Value) (old new : PortReader)
+    (o : Option ((ℕ × ℕ) × (ℕ × ℕ)))
+    → IsWalked facts found given left old → left ≡ x ∷ rest → o ≡ end_read old x → PassesNone x.0 old new
+    → IsWalked facts (found ++ cons_option o []) (given ++ x ∷ []) rest new
 walked_more facts found given left rest x old new o w next read passes =
     let cells = cells_of facts in
     let ahead : IsAhead cells (x ∷ rest) old = subst (λ (es : Cells). IsAhead cells es old) next w.ahead in
@@ -94,7 +101,8 @@ walked_more facts found given left rest x old new o w next read passes =
     let later = filter_map (wire_end cells) rest in
     record {
       all = append_assoc found (cons_option o []) later ∙ ap (λ (ends : List ((ℕ × ℕ) × (ℕ × ℕ))). found ++ ends) (behind o later)
-          ∙ ap (λ (e : Option ((ℕ × ℕ) × (ℕ × ℕ))). found ++ cons_option e later) end ∙ ap (λ (es : Cells). found ++ filter_map (wire_end cells) es) (sym next) ∙ w.all;
+          ∙ ap (λ (e : Option ((ℕ × ℕ) × (ℕ × ℕ))). found ++ cons_option e later) end
+          ∙ ap (λ (es : Cells). found ++ filter_map (wire_end cells) es) (sym next) ∙ w.all;
       cells = given_more cells given left rest x w.cells next;
       in_order = second_true _ _ sorted;
       ahead = ahead_then cells x rest old new sorted ahead passes;
@@ -105,18 +113,23 @@ walked_more facts found given left rest x old new o w next read passes =
     behind (Some e) ends = refl
 
 -- at first all is left
-pub walked_at_first : (facts : Facts) (found : List ((ℕ × ℕ) × (ℕ × ℕ))) (left : Cells) (r : PortReader) → found ≡ [] → left ≡ cells_of facts → ReadsAll (cells_of facts) r → IsWalked facts found [] left r
+pub walked_at_first : (facts : Facts) (found : List ((ℕ × ℕ) × (ℕ × ℕ))) (left : Cells) (r : PortReader) → found ≡ []
+    → left ≡ cells_of facts → ReadsAll (cells_of facts) r → IsWalked facts found [] left r
 walked_at_first facts found left r none all reads =
     record {
-      all = ap (λ (ends : List ((ℕ × ℕ) × (ℕ × ℕ))). ends ++ filter_map (wire_end (cells_of facts)) left) none ∙ ap (filter_map (wire_end (cells_of facts))) all;
+      all = ap (λ (ends : List ((ℕ × ℕ) × (ℕ × ℕ))). ends ++ filter_map (wire_end (cells_of facts)) left) none
+          ∙ ap (filter_map (wire_end (cells_of facts))) all;
       cells = all;
       in_order = subst (λ (es : Cells). T (is_sorted key_cmp es)) (sym all) (cells_in_order facts);
       ahead = ahead_at_first (cells_of facts) left r reads;
     }
 
 -- where a cell is an end of a wire, it was found
-pub found_more : (facts : Facts) (found : List ((ℕ × ℕ) × (ℕ × ℕ))) (given left rest : Cells) (x : Key × Cell Value) (old new : PortReader) (o : Option ((ℕ × ℕ) × (ℕ × ℕ)))
-    (more : List ((ℕ × ℕ) × (ℕ × ℕ))) → more ≡ found ++ cons_option o [] → IsWalked facts found given left old → left ≡ x ∷ rest → o ≡ end_read old x → PassesNone x.0 old new
+pub found_more : (facts : Facts) (found : List ((ℕ × ℕ) × (ℕ × ℕ))) (given left rest : Cells) (x : Key × Cell Value) (old new : PortReader)
+    (o : Option ((ℕ × ℕ) × (ℕ × ℕ)))
+    (more : List ((ℕ × ℕ) × (ℕ × ℕ))) → more ≡ found ++ cons_option o [] → IsWalked facts found given left old → left ≡ x ∷ rest
+    → o ≡ end_read old x → PassesNone x.0 old new
     → IsWalked facts more (given ++ x ∷ []) rest new
 found_more facts found given left rest x old new o more is w next read passes =
-    subst (λ (ends : List ((ℕ × ℕ) × (ℕ × ℕ))). IsWalked facts ends (given ++ x ∷ []) rest new) (sym is) (walked_more facts found given left rest x old new o w next read passes)
+    subst (λ (ends : List ((ℕ × ℕ) × (ℕ × ℕ))). IsWalked facts ends (given ++ x ∷ []) rest new) (sym is)
+    (walked_more facts found given left rest x old new o w next read passes)

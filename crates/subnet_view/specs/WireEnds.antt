@@ -40,7 +40,8 @@ count_of node = option_map_or (λ n. n.1) node 0
 
 -- a port that can have a wire, by what was not passed yet
 abbrev pub is_end_read : PortReader → ℕ → ℕ → Bool
-is_end_read r g p = let node = node_of r.nodes g in is_up r.ports g p && is_counted p (count_of node) && (if is_switch_in node then is_some (cap_of r.caps g) else is_some (port_guid_of r.guids g p))
+is_end_read r g p = let node = node_of r.nodes g in is_up r.ports g p && is_counted p (count_of node)
+    && (if is_switch_in node then is_some (cap_of r.caps g) else is_some (port_guid_of r.guids g p))
 
 -- the same of a cell, with where its link leads
 abbrev pub end_read : PortReader → Key × Cell Value → Option ((ℕ × ℕ) × (ℕ × ℕ))
@@ -56,7 +57,8 @@ pub record HasNotPassed (cells : Cells) (r : PortReader) (g p : ℕ) : Type 0 wh
 
 -- nor is it then, of this port or a later one
 abbrev pub PassesNone : Key → PortReader → PortReader → Type 0
-PassesNone key old new = (cells : Cells) (h q : ℕ) → is_before (Link h q) key ≡ false → HasNotPassed cells old h q → HasNotPassed cells new h q
+PassesNone key old new = (cells : Cells) (h q : ℕ) → is_before (Link h q) key ≡ false → HasNotPassed cells old h q
+    → HasNotPassed cells new h q
 
 -- nothing of a port or of a later one was passed
 pub record KeepsPort (g p : ℕ) (old new : PortReader) : Type 0 where

@@ -30,7 +30,8 @@ not_fall xs rise i j h l =
     ]
 
 -- what a search among rising numbers finds
-pub index_found : (xs : List ℕ) (x : ℕ) (r : Result ℕ ℕ) → IsBinarySearchResult (λ y. nat_cmp y x) xs r → IsStrictlyIncreasing xs → IsIndexIn xs x (result_ok r)
+pub index_found : (xs : List ℕ) (x : ℕ) (r : Result ℕ ℕ) → IsBinarySearchResult (λ y. nat_cmp y x) xs r → IsStrictlyIncreasing xs
+    → IsIndexIn xs x (result_ok r)
 index_found xs x (Ok i) s rise = searched xs x (Ok i) s (not_fall xs rise)
 index_found xs x (Err i) s rise = λ h.
     let a = searched xs x (Err i) s (not_fall xs rise) in
@@ -51,7 +52,8 @@ module _ (facts : Facts) (g p : ℕ) (q : ℕ × ℕ) (wire : across (cells_of f
   guids = switches (cells_of facts)
 
   exit_by_test : exit_at (cells_of facts) g p ≡ cond (is_switch_node (cells_of facts) q.0) (Some (record { port = p; to = q.0 })) None
-  exit_by_test = ap (option_and_then (λ (x : ℕ × ℕ). cond (is_switch_node (cells_of facts) x.0) (Some (record { port = p; to = x.0 })) None)) wire
+  exit_by_test = ap (option_and_then
+      (λ (x : ℕ × ℕ). cond (is_switch_node (cells_of facts) x.0) (Some (record { port = p; to = x.0 })) None)) wire
 
   abbrev test : Bool
   test = is_switch_node (cells_of facts) q.0
@@ -62,7 +64,8 @@ module _ (facts : Facts) (g p : ℕ) (q : ℕ × ℕ) (wire : across (cells_of f
       let exit : Option Exit = Some (record { port = p; to = q.0 }) in
       let nothing : Option Exit = None in
       exit_by_test ∙ (elim test as (λ t. test ≡ t → cond t exit nothing ≡ nothing) [
-        | true ↦ λ e. absurd (none (usable_switch facts q.0 (exit_to_usable (cells_of facts) g p q.0 (record { end_port = q.1; wire = wire; is_switch = e }))))
+        | true ↦ λ e. absurd (none
+            (usable_switch facts q.0 (exit_to_usable (cells_of facts) g p q.0 (record { end_port = q.1; wire = wire; is_switch = e }))))
         | false ↦ λ e. refl
       ] refl)
 
@@ -75,4 +78,5 @@ module _ (facts : Facts) (g p : ℕ) (q : ℕ × ℕ) (wire : across (cells_of f
 
 -- a port without a wire has no exit
 pub no_wire : (cells : Cells) (g p : ℕ) → across cells g p ≡ None → exit_at cells g p ≡ None
-no_wire cells g p e = ap (option_and_then (λ (q : ℕ × ℕ). if is_switch_node cells q.0 then Some (record { port = p; to = q.0 }) else None)) e
+no_wire cells g p e = ap (option_and_then
+    (λ (q : ℕ × ℕ). if is_switch_node cells q.0 then Some (record { port = p; to = q.0 }) else None)) e

@@ -20,14 +20,17 @@ index_of-requires c = subst IsStrictlyIncreasing (sym c.requires) (switches_incr
 
 pub returns-in_err-to-clause-wire : goal.returns-in_err-to-clause-wire
 returns-in_err-to-clause-wire c =
-    let wire : across (cells_of c.args.wires.now) c.args.guid c.args.port ≡ Some (c.in_ok-far.far, c.in_ok-far.field-0-1) = sym c.across.ensures ∙ c.in_ok-far.was in
+    let wire : across (cells_of c.args.wires.now) c.args.guid c.args.port ≡ Some (c.in_ok-far.far, c.in_ok-far.field-0-1)
+    = sym c.across.ensures ∙ c.in_ok-far.was in
     let none = subst (λ (guids : List ℕ). Contains guids c.in_ok-far.far → ⊥) c.requires c.in_err-to.ensures in
     ap (option_map (by_guid c.args.guids.now)) c.from_residual-in_err-to.ensures
     ∙ sym (no_exit c.args.wires.now c.args.guid c.args.port (c.in_ok-far.far, c.in_ok-far.field-0-1) wire none)
 
 pub returns-clause-wire : goal.returns-clause-wire
 returns-clause-wire c =
-    let wire : across (cells_of c.args.wires.now) c.args.guid c.args.port ≡ Some (c.in_ok-far.far, c.in_ok-far.field-0-1) = sym c.across.ensures ∙ c.in_ok-far.was in
+    let wire : across (cells_of c.args.wires.now) c.args.guid c.args.port ≡ Some (c.in_ok-far.far, c.in_ok-far.field-0-1)
+    = sym c.across.ensures ∙ c.in_ok-far.was in
     let found = subst (λ (guids : List ℕ). IsIndexOf guids c.in_ok-far.far c.in_ok-to.to) c.requires c.in_ok-to.ensures in
     let exit : List ℕ → Option Exit = λ guids. Some (by_guid guids (record { port = c.args.port; to = c.in_ok-to.to })) in
-    ap exit c.requires ∙ exit_to_index c.args.wires.now c.args.guid c.args.port (c.in_ok-far.far, c.in_ok-far.field-0-1) wire c.in_ok-to.to found
+    ap exit c.requires ∙ exit_to_index c.args.wires.now c.args.guid c.args.port
+    (c.in_ok-far.far, c.in_ok-far.field-0-1) wire c.in_ok-to.to found

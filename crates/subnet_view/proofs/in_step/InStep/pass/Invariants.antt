@@ -8,7 +8,8 @@ use Rattle.subnet_view.proofs.in_step.InStep.pass.Given as goal
 abbrev pub invariant-loop-self : goal.invariant-loop-self
 invariant-loop-self l =
     AreLeft l.self-inside.next (cells_left l.self-inside.later)
-    × KeepsFrom l.key (cons_option l.initial.self-inside.next (cells_left l.initial.self-inside.later)) (cons_option l.self-inside.next (cells_left l.self-inside.later))
+    × KeepsFrom l.key (cons_option l.initial.self-inside.next (cells_left l.initial.self-inside.later))
+    (cons_option l.self-inside.next (cells_left l.self-inside.later))
 
 abbrev pub decreases-loop-self : goal.decreases-loop-self
 decreases-loop-self l = length (cons_option l.self-inside.next (cells_left l.self-inside.later))

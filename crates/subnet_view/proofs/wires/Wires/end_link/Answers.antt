@@ -12,14 +12,16 @@ returns-in_err-place c =
     let found = c.binary_search_by_key.ensures.position (λ end. end.0) (answers_always _ _ _ (λ f a r g called. search rules)) in
     let are = c.deref.ensures.value ∙ c.self.invariant ∙ ap (λ (f : Facts). wire_ends (cells_of f)) c.self.view_is in
     c.from_residual.ensures
-    ∙ sym (none_found c.args.self.now c.deref.result.now c.args.node c.args.port are c.binary_search_by_key.result found (sym c.ok.ensures.value ∙ c.in_err-place.was))
+    ∙ sym (none_found c.args.self.now c.deref.result.now c.args.node c.args.port are c.binary_search_by_key.result found
+    (sym c.ok.ensures.value ∙ c.in_err-place.was))
 
 pub returns : goal.returns
 returns c =
     let found = c.binary_search_by_key.ensures.position (λ end. end.0) (answers_always _ _ _ (λ f a r g called. search rules)) in
     let are = c.deref.ensures.value ∙ c.self.invariant ∙ ap (λ (f : Facts). wire_ends (cells_of f)) c.self.view_is in
     let there : c.index.result.now ≡ get_or c.deref.result.now c.in_ok-place.place c.index.result.now
-    = c.index.ensures ∙ ap (λ (es : List ((ℕ × ℕ) × (ℕ × ℕ))). get_or es c.in_ok-place.place c.index.result.now) (sym c.deref.ensures.value) in
+    = c.index.ensures ∙ ap (λ (es : List ((ℕ × ℕ) × (ℕ × ℕ))). get_or es c.in_ok-place.place c.index.result.now)
+    (sym c.deref.ensures.value) in
     ap (λ (e : (ℕ × ℕ) × (ℕ × ℕ)). Some e.1) there
     ∙ one_found c.args.self.now c.deref.result.now c.args.node c.args.port are c.binary_search_by_key.result c.in_ok-place.place c.index.result.now
     c.binary_search_by_key.ensures.bound found (sym c.ok.ensures.value ∙ c.in_ok-place.was)
