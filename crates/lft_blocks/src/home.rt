@@ -7,11 +7,10 @@ ghost use Rattle.updown_routes.specs.Wiring.{IsIndexIn};
 ghost use Rattle.lft_blocks.specs.Entries.{home_of, home_of_lid, block_count};
 ghost use Rattle.lft_blocks.specs.Homes.{IsPlaced, ArePlaced};
 
-use fact_store::Store;
 use lid_assign::LidMap;
 use smp_bytes::{Guid, Lid, PortNum};
 use std::alloc::{AllocError, Global};
-use subnet_view::{EndPort, attached, is_usable};
+use subnet_view::{EndPort, Wires, is_usable};
 
 /// Where an end port lies.
 #[derive(Clone, Copy)]
@@ -25,42 +24,42 @@ pub(crate) struct Home {
 /// The home of each LID that has an entry in one of so many blocks, at the LID.
 pub(crate) fn homes(
     alloc: Global,
-    store: &Store,
+    wires: &Wires,
     guids: &[Guid],
     lids: &LidMap,
     count: usize,
 ) -> Result<Vec<Option<Home>>, AllocError>
-    requires switches { guids.now ≡ switches (cells_of store.now) }
+    requires switches { guids.now ≡ switches (cells_of wires.now) }
     requires count { count ≡ block_count (top_of lids.now) }
     requires few { count ≤ 1024 }
     ensures { IfOk result (λ homes.
-        ArePlaced guids.now (home_of_lid (cells_of store.now) lids.now) homes.items) }
+        ArePlaced guids.now (home_of_lid (cells_of wires.now) lids.now) homes.items) }
 {
     let mut homes = Vec::with_capacity(alloc, 64 * count)?;
     for lid in 0..64 * count {
-        homes.push(home_of_lid(store, guids, lids, Lid::new(lid as u16)))?;
+        homes.push(home_of_lid(wires, guids, lids, Lid::new(lid as u16)))?;
     }
     Ok(homes)
 }
 
-/// The home of a LID. Takes some twelve searches.
-fn home_of_lid(store: &Store, guids: &[Guid], lids: &LidMap, lid: Lid) -> Option<Home>
-    requires { guids.now ≡ switches (cells_of store.now) }
-    ensures { IsPlaced guids.now (home_of_lid (cells_of store.now) lids.now lid) result }
+/// The home of a LID. Takes some six searches.
+fn home_of_lid(wires: &Wires, guids: &[Guid], lids: &LidMap, lid: Lid) -> Option<Home>
+    requires { guids.now ≡ switches (cells_of wires.now) }
+    ensures { IsPlaced guids.now (home_of_lid (cells_of wires.now) lids.now lid) result }
 {
-    let (guid, port) = home_of(store, lids.owner(lid)?)?;
+    let (guid, port) = home_of(wires, lids.owner(lid)?)?;
     let switch = index_of(guids, guid)?;
     Some(Home { switch, port })
 }
 
 /// The usable switch and the port of it at which an end port lies.
-fn home_of(store: &Store, port: EndPort) -> Option<(Guid, PortNum)>
-    ensures { result ≡ home_of (cells_of store.now) port }
+fn home_of(wires: &Wires, port: EndPort) -> Option<(Guid, PortNum)>
+    ensures { result ≡ home_of (cells_of wires.now) port }
 {
-    if is_usable(store, port.node) {
+    if is_usable(wires.store(), port.node) {
         Some((port.node, PortNum::new(0)))
     } else {
-        attached(store, port.node, port.port)
+        wires.attached(port.node, port.port)
     }
 }
 

@@ -4,8 +4,7 @@ ghost use Rattle.fact_store.specs.View.{cells_of};
 ghost use Rattle.smp_bytes.specs.Judges.{JudgesButFor};
 ghost use Rattle.lid_assign.specs.LidFault.{is_memory, lid_fault, no_room};
 ghost use Rattle.lid_assign.specs.Lids.{top_of};
-ghost use Rattle.subnet_view.specs.Reading.{switches};
-ghost use Rattle.updown_routes.specs.Graph.{graph_of};
+ghost use Rattle.updown_routes.specs.Graph.{graph_of, guids_of};
 ghost use Rattle.updown_routes.specs.Ranks.{slopes_of};
 ghost use Rattle.lft_blocks.specs.Entries.{home_of_lid, block_count};
 ghost use Rattle.lft_blocks.specs.Arrival.{EveryPacketArrives};
@@ -14,12 +13,12 @@ ghost use Rattle.lft_blocks.specs.Plan.{tables_of, plan_of, block_at, switches_o
 use crate::block::block_count;
 use crate::home::{homes, index_of};
 use crate::table::{Table, tables};
-use fact_store::Store;
+use fact_store::{Refused, Store};
 use lid_assign::{LidFault as PlanFault, LidMap, assign};
 use smp_bytes::{Guid, Lid};
-use std::alloc::{AllocError, Global};
+use std::alloc::Global;
 use std::marker::Model;
-use subnet_view::switches;
+use subnet_view::Wires;
 use updown_routes::{Graph, Routes};
 
 /// The plan of a view: the LID of each end port, and the blocks of each usable switch.
@@ -44,7 +43,7 @@ impl Model for Plan {
 
 impl Plan {
     /// The plan of a view. It is refused where there is no room for the LIDs. Takes what LIDs and routes take,
-    /// some twelve searches for each LID, and two steps for each entry. It holds 64 bytes for each block of
+    /// some six searches for each LID, and two steps for each entry. It holds 64 bytes for each block of
     /// each switch, and beside them while it is made 2 for each two switches.
     ///
     /// # Errors
@@ -56,13 +55,12 @@ impl Plan {
         ensures arrives { IfOk result (λ plan. EveryPacketArrives (cells_of store.now) plan) }
     {
         let lids = assign(alloc, store)?;
-        let switches = switches(alloc, store)?;
-        let graph = Graph::of(alloc, store)?;
-        let routes = Routes::of(alloc, &graph)?;
-        let tables = tables_of(alloc, store, &routes, &switches, &lids)?;
+        let wires = Wires::of(alloc, store)?;
+        let graph = Graph::of(alloc, &wires)?;
+        let tables = tables_of(alloc, &wires, &graph, &lids)?;
         Ok(Plan {
             lids,
-            switches,
+            switches: graph.into_switches(),
             tables,
         })
     }
@@ -110,18 +108,18 @@ impl Plan {
 /// The table of each usable switch, by rising GUID.
 fn tables_of(
     alloc: Global,
-    store: &Store,
-    routes: &Routes,
-    guids: &[Guid],
+    wires: &Wires,
+    graph: &Graph,
     lids: &LidMap,
-) -> Result<Vec<Table>, AllocError>
-    requires switches { guids.now ≡ switches (cells_of store.now) }
-    requires routes { routes.now ≡ graph_of (cells_of store.now) }
+) -> Result<Vec<Table>, Refused>
+    requires { graph.now ≡ graph_of (cells_of wires.now) }
     ensures { IfOk result (λ tables. tables.items
-        ≡ tables_of (home_of_lid (cells_of store.now) lids.now) (slopes_of routes.now)
-        (block_count (top_of lids.now)) guids.now) }
+        ≡ tables_of (home_of_lid (cells_of wires.now) lids.now) (slopes_of graph.now)
+        (block_count (top_of lids.now)) (guids_of graph.now)) }
 {
+    let routes = Routes::of(alloc, graph)?;
+    let guids = graph.switches();
     let count = block_count(lids.top());
-    let homes = homes(alloc, store, guids, lids, count)?;
-    tables(alloc, routes, &homes, guids, count)
+    let homes = homes(alloc, wires, guids, lids, count)?;
+    Ok(tables(alloc, &routes, &homes, guids, count)?)
 }

@@ -12,3 +12,7 @@ pub mod WireLaws
 pub mod Attachments
 pub mod BesideClaims
 pub mod Counting
+pub mod Passing
+pub mod EndsInStep
+pub mod EndSearch
+pub mod EndPairs

@@ -1,4 +1,6 @@
 pub mod Reading
+pub mod InStep
 pub mod EndPorts
 pub mod Wires
+pub mod WireEnds
 pub mod Agreement

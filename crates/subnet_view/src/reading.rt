@@ -1,5 +1,5 @@
 ghost use Rattle.std.specs.Prelude.{◌≡◌, Some};
-ghost use Rattle.fact_store.specs.Known.{guid_in, kind_in, value_in};
+ghost use Rattle.fact_store.specs.Known.{guid_in, kind_in, peer_in, value_in};
 ghost use Rattle.fact_store.specs.View.{cells_of};
 ghost use Rattle.subnet_view.specs.Reading.{node_of, port_guid_of, link_of, claim_of, cap_of, up_of, is_up, is_switch_in, is_switch_node, is_counted};
 
@@ -89,8 +89,18 @@ pub(crate) fn guid_said(sighting: &Sighting) -> Option<Guid>
     }
 }
 
+/// The port that a cell says is at the other end of the link.
+pub(crate) fn peer_said(sighting: &Sighting) -> Option<(Guid, PortNum)>
+    ensures { result ≡ peer_in (value_in (Some sighting.now.1)) }
+{
+    match value_said(sighting)? {
+        Value::Peer(node, port) => Some((node, port)),
+        _ => None,
+    }
+}
+
 /// The value of a cell. None where it is disputed.
-fn value_said(sighting: &Sighting) -> Option<Value>
+pub(crate) fn value_said(sighting: &Sighting) -> Option<Value>
     ensures { result ≡ value_in (Some sighting.now.1) }
 {
     match sighting.cell() {

@@ -12,9 +12,8 @@ use Rattle.std.specs.declared.result.Result.TheVariants.{Ok, Err}
 use Rattle.std.specs.List.Sorted.{IsStrictlyIncreasing, IsBinarySearchResult}
 use Rattle.std.specs.Ordering.{nat_cmp}
 use Rattle.fact_store.specs.View.{Facts, cells_of}
-use Rattle.subnet_view.specs.Reading.{Cells, is_switch_node, cap_of, link_of, switches}
-use Rattle.subnet_view.specs.Wires.{across, is_wire}
-use Rattle.subnet_view.proofs.WireLaws.{wire_law}
+use Rattle.subnet_view.specs.Reading.{Cells, is_switch_node, cap_of, switches}
+use Rattle.subnet_view.specs.Wires.{across}
 use Rattle.port_graph.specs.declared.exit.Exit.{Exit}
 use Rattle.updown_routes.specs.Graph.{exit_at}
 use Rattle.updown_routes.specs.Wiring.{by_guid, IsIndexOf, IsIndexIn}
@@ -31,7 +30,8 @@ not_fall xs rise i j h l =
     ]
 
 -- what a search among rising numbers finds
-pub index_found : (xs : List ℕ) (x : ℕ) (r : Result ℕ ℕ) → IsBinarySearchResult (λ y. nat_cmp y x) xs r → IsStrictlyIncreasing xs → IsIndexIn xs x (result_ok r)
+pub index_found : (xs : List ℕ) (x : ℕ) (r : Result ℕ ℕ) → IsBinarySearchResult (λ y. nat_cmp y x) xs r → IsStrictlyIncreasing xs
+    → IsIndexIn xs x (result_ok r)
 index_found xs x (Ok i) s rise = searched xs x (Ok i) s (not_fall xs rise)
 index_found xs x (Err i) s rise = λ h.
     let a = searched xs x (Err i) s (not_fall xs rise) in
@@ -52,7 +52,8 @@ module _ (facts : Facts) (g p : ℕ) (q : ℕ × ℕ) (wire : across (cells_of f
   guids = switches (cells_of facts)
 
   exit_by_test : exit_at (cells_of facts) g p ≡ cond (is_switch_node (cells_of facts) q.0) (Some (record { port = p; to = q.0 })) None
-  exit_by_test = ap (option_and_then (λ (x : ℕ × ℕ). cond (is_switch_node (cells_of facts) x.0) (Some (record { port = p; to = x.0 })) None)) wire
+  exit_by_test = ap (option_and_then
+      (λ (x : ℕ × ℕ). cond (is_switch_node (cells_of facts) x.0) (Some (record { port = p; to = x.0 })) None)) wire
 
   abbrev test : Bool
   test = is_switch_node (cells_of facts) q.0
@@ -63,7 +64,8 @@ module _ (facts : Facts) (g p : ℕ) (q : ℕ × ℕ) (wire : across (cells_of f
       let exit : Option Exit = Some (record { port = p; to = q.0 }) in
       let nothing : Option Exit = None in
       exit_by_test ∙ (elim test as (λ t. test ≡ t → cond t exit nothing ≡ nothing) [
-        | true ↦ λ e. absurd (none (usable_switch facts q.0 (exit_to_usable (cells_of facts) g p q.0 (record { end_port = q.1; wire = wire; is_switch = e }))))
+        | true ↦ λ e. absurd (none
+            (usable_switch facts q.0 (exit_to_usable (cells_of facts) g p q.0 (record { end_port = q.1; wire = wire; is_switch = e }))))
         | false ↦ λ e. refl
       ] refl)
 
@@ -74,36 +76,7 @@ module _ (facts : Facts) (g p : ℕ) (q : ℕ × ℕ) (wire : across (cells_of f
       let exit : ℕ → Option Exit = λ x. Some (record { port = p; to = x }) in
       ap exit found.1 ∙ sym (ap (λ t. cond t (exit q.0) None) is.0) ∙ sym exit_by_test
 
--- an exit where a wire leads to a switch
-abbrev to_switch_at : Cells → ℕ → Option (ℕ × ℕ) → Option Exit
-to_switch_at cells p far = option_and_then (λ (q : ℕ × ℕ). if is_switch_node cells q.0 then Some (record { port = p; to = q.0 }) else None) far
-
--- the other end of a wire is where the link leads
-across_link : (cells : Cells) (g p : ℕ) (q r : ℕ × ℕ) → link_of cells g p ≡ Some q → across cells g p ≡ Some r → r ≡ q
-across_link cells g p q r link wire = some_is r q (sym ((wire_law cells g p r.0 r.1).0 wire).named_there ∙ link)
-  where
-    some_is : (a b : ℕ × ℕ) → Some a ≡ Some b → a ≡ b
-    some_is a b e = cc
-
--- a port that is linked to nothing has no exit
-pub no_link : (cells : Cells) (g p : ℕ) → link_of cells g p ≡ None → exit_at cells g p ≡ None
-no_link cells g p e = ap (λ (o : Option (ℕ × ℕ)). to_switch_at cells p (option_and_then (λ q. if is_wire cells g p q then Some q else None) o)) e
-
--- nor has one without a wire
+-- a port without a wire has no exit
 pub no_wire : (cells : Cells) (g p : ℕ) → across cells g p ≡ None → exit_at cells g p ≡ None
-no_wire cells g p e = ap (to_switch_at cells p) e
-
--- nor has one that is linked to no switch
-pub no_switch_linked : (facts : Facts) (g p : ℕ) (q : ℕ × ℕ) → link_of (cells_of facts) g p ≡ Some q → (Contains (switches (cells_of facts)) q.0 → ⊥)
-    → exit_at (cells_of facts) g p ≡ None
-no_switch_linked facts g p q link none =
-    elim (across (cells_of facts) g p) as (λ (o : Option (ℕ × ℕ)). across (cells_of facts) g p ≡ o → exit_at (cells_of facts) g p ≡ None) [
-      | None ↦ λ e. no_wire (cells_of facts) g p e
-      | Some r ↦ λ e. no_exit facts g p r e (λ k. none (subst (λ (x : ℕ × ℕ). Contains (switches (cells_of facts)) x.0) (across_link (cells_of facts) g p q r link e) k))
-    ] refl
-
--- a wire where the link leads to the switch at an index
-pub linked_to_index : (facts : Facts) (g p : ℕ) (q r : ℕ × ℕ) → link_of (cells_of facts) g p ≡ Some q → across (cells_of facts) g p ≡ Some r → (i : ℕ)
-    → IsIndexOf (switches (cells_of facts)) q.0 i → Some (by_guid (switches (cells_of facts)) (record { port = p; to = i })) ≡ exit_at (cells_of facts) g p
-linked_to_index facts g p q r link wire i found =
-    exit_to_index facts g p r wire i (subst (λ (x : ℕ × ℕ). IsIndexOf (switches (cells_of facts)) x.0 i) (sym (across_link (cells_of facts) g p q r link wire)) found)
+no_wire cells g p e = ap (option_and_then
+    (λ (q : ℕ × ℕ). if is_switch_node cells q.0 then Some (record { port = p; to = q.0 }) else None)) e

@@ -7,11 +7,12 @@ ghost use Rattle.updown_routes.specs.Wiring.{AreExitsAt, IsIndexIn, LeadBelow};
 
 use crate::rank::ranks;
 use crate::wiring::Wiring;
-use fact_store::{Refused, Store};
+use fact_store::Refused;
 use port_graph::Exit;
 use smp_bytes::Guid;
 use std::alloc::Global;
 use std::marker::Model;
+use subnet_view::Wires;
 
 /// The usable switches of a subnet, the wires between them, and their ranks.
 #[derive(Drop)]
@@ -34,12 +35,13 @@ impl Model for Graph {
 }
 
 impl Graph {
-    /// The usable switches of the view with the wires between them. Takes some nine searches a port
-    /// that is linked to one of them, one for another, and a search in breadth for each component.
-    pub fn of(alloc: Global, store: &Store) -> Result<Self, Refused>
-        ensures { IfOk result (λ graph. graph ≡ graph_of (cells_of store.now)) }
+    /// The usable switches of the view with the wires between them. Takes two searches among the
+    /// wires for each port of a switch, one among the switches for each wire, and a search in breadth
+    /// for each component.
+    pub fn of(alloc: Global, wires: &Wires) -> Result<Self, Refused>
+        ensures { IfOk result (λ graph. graph ≡ graph_of (cells_of wires.now)) }
     {
-        let wiring = Wiring::of(alloc, store)?;
+        let wiring = Wiring::of(alloc, wires)?;
         let ranks = ranks(alloc, &wiring)?;
         Ok(Graph { wiring, ranks })
     }
@@ -50,6 +52,20 @@ impl Graph {
         ensures is_graph { IsGraph self.now }
     {
         self.wiring.len()
+    }
+
+    /// The switches, by rising GUID.
+    pub fn switches(&self) -> &[Guid]
+        ensures { result.now ≡ guids_of self.now }
+    {
+        self.wiring.guids()
+    }
+
+    /// The same, handed out.
+    pub fn into_switches(self) -> Vec<Guid>
+        ensures { result.items ≡ guids_of self }
+    {
+        self.wiring.into_guids()
     }
 
     /// The switch at an index, by rising GUID from 0 on. Takes one step.

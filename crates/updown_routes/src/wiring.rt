@@ -12,7 +12,7 @@ use port_graph::{Exit, Exits};
 use smp_bytes::{Guid, PortNum};
 use std::alloc::{AllocError, Global};
 use std::marker::Model;
-use subnet_view::{link, switches, wire};
+use subnet_view::{Wires, switches};
 
 /// The usable switches and the wires between them.
 #[derive(Drop)]
@@ -36,13 +36,13 @@ impl Model for Wiring {
 }
 
 impl Wiring {
-    /// The usable switches of the view with the wires between them. Takes some nine searches a port
-    /// that is linked to one of them, and one for another.
-    pub(crate) fn of(alloc: Global, store: &Store) -> Result<Self, Refused>
-        ensures { IfOk result (λ wiring. wiring ≡ graph_of (cells_of store.now)) }
+    /// The usable switches of the view with the wires between them. Takes two searches among the
+    /// wires for each port of a switch, and one among the switches for each wire.
+    pub(crate) fn of(alloc: Global, wires: &Wires) -> Result<Self, Refused>
+        ensures { IfOk result (λ wiring. wiring ≡ graph_of (cells_of wires.now)) }
     {
-        let guids = switches(alloc, store)?;
-        let exits = exits(alloc, store, &guids)?;
+        let guids = switches(alloc, wires.store())?;
+        let exits = exits(alloc, wires, &guids)?;
         Ok(Wiring { guids, exits })
     }
 
@@ -52,6 +52,20 @@ impl Wiring {
         ensures is_graph { IsGraph self.now }
     {
         self.guids.len()
+    }
+
+    /// The switches, by rising GUID.
+    pub(crate) fn guids(&self) -> &[Guid]
+        ensures { result.now ≡ guids_of self.now }
+    {
+        &self.guids
+    }
+
+    /// The same, handed out.
+    pub(crate) fn into_guids(self) -> Vec<Guid>
+        ensures { result.items ≡ guids_of self }
+    {
+        self.guids
     }
 
     /// The switch at an index. Takes one step.
@@ -91,15 +105,15 @@ impl Wiring {
 }
 
 /// The exits of each switch, where the GUIDs are those of the usable switches.
-fn exits(alloc: Global, store: &Store, guids: &[Guid]) -> Result<Exits, AllocError>
-    requires { guids.now ≡ switches (cells_of store.now) }
+fn exits(alloc: Global, wires: &Wires, guids: &[Guid]) -> Result<Exits, AllocError>
+    requires { guids.now ≡ switches (cells_of wires.now) }
     ensures wires { IfOk result (λ exits.
-        map (map (by_guid guids.now)) exits ≡ map (exits_of (cells_of store.now)) guids.now) }
+        map (map (by_guid guids.now)) exits ≡ map (exits_of (cells_of wires.now)) guids.now) }
     ensures to_switches { IfOk result (λ exits. LeadToVertices exits) }
 {
     let mut exits = Exits::new(alloc);
     for guid in guids {
-        let found = exits_of(alloc, store, guids, *guid)?;
+        let found = exits_of(alloc, wires, guids, *guid)?;
         exits.push_vertex(&found)?;
     }
     Ok(exits)
@@ -108,34 +122,33 @@ fn exits(alloc: Global, store: &Store, guids: &[Guid]) -> Result<Exits, AllocErr
 /// The wires from a switch to switches, by rising port.
 fn exits_of(
     alloc: Global,
-    store: &Store,
+    wires: &Wires,
     guids: &[Guid],
     guid: Guid,
 ) -> Result<Vec<Exit>, AllocError>
-    requires { guids.now ≡ switches (cells_of store.now) }
+    requires { guids.now ≡ switches (cells_of wires.now) }
     ensures wires { IfOk result (λ found.
-        map (by_guid guids.now) found.items ≡ exits_of (cells_of store.now) guid) }
+        map (by_guid guids.now) found.items ≡ exits_of (cells_of wires.now) guid) }
     ensures to_switches { IfOk result (λ found. LeadBelow (length guids.now) found.items) }
 {
     let mut found = Vec::new(alloc);
-    for before in 0..port_count(store, guid) {
-        if let Some(exit) = exit_at(store, guids, guid, PortNum::new(before + 1)) {
+    for before in 0..port_count(wires.store(), guid) {
+        if let Some(exit) = exit_at(wires, guids, guid, PortNum::new(before + 1)) {
             found.push(exit)?;
         }
     }
     Ok(found)
 }
 
-/// The wire in a port, where it leads to a switch. A search and one among the switches, and eight
-/// more where the link in the port names one of these.
-fn exit_at(store: &Store, guids: &[Guid], guid: Guid, port: PortNum) -> Option<Exit>
-    requires { guids.now ≡ switches (cells_of store.now) }
-    ensures wire { option_map (by_guid guids.now) result ≡ exit_at (cells_of store.now) guid port }
+/// The wire in a port, where it leads to a switch. Takes two searches among the wires, and one among
+/// the switches where there is one.
+fn exit_at(wires: &Wires, guids: &[Guid], guid: Guid, port: PortNum) -> Option<Exit>
+    requires { guids.now ≡ switches (cells_of wires.now) }
+    ensures wire { option_map (by_guid guids.now) result ≡ exit_at (cells_of wires.now) guid port }
     ensures to_switch { IfSome result (λ e. e.to < length guids.now) }
 {
-    let (linked, _) = link(store, guid, port)?;
-    let to = index_of(guids, linked)?;
-    let _wired = wire(store, guid, port)?;
+    let (far, _) = wires.across(guid, port)?;
+    let to = index_of(guids, far)?;
     Some(Exit { port, to })
 }
 

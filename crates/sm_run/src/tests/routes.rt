@@ -3,6 +3,7 @@ use super::swept::swept;
 use super::*;
 use fact_store::{Cell, Key, Sighting, Store, Value};
 use smp_bytes::{Generation, Guid, NodeType, PortNum};
+use subnet_view::Wires;
 use updown_routes::{Graph, Routes};
 
 /// A port of a switch, and the port at the other end of its wire.
@@ -80,7 +81,8 @@ fn has_hops(graph: &Graph, routes: &Routes, hops: &[Hop]) -> bool {
 #[test]
 fn routes_of_a_swept_subnet(rt: HostRuntime) -> Result<(), Fail> {
     let store = swept(rt.alloc())?;
-    let graph = Graph::of(rt.alloc(), &store)?;
+    let wires = Wires::of(rt.alloc(), &store)?;
+    let graph = Graph::of(rt.alloc(), &wires)?;
     let routes = Routes::of(rt.alloc(), &graph)?;
     assert!(rt; has_ranks(&graph, &[(0x10, 0), (0x20, 1), (0x30, 1)]));
     let hops = [
@@ -172,7 +174,8 @@ fn routes_of_small_fabrics(rt: HostRuntime) -> Result<(), Fail> {
             switches.push(*guid)?;
         }
         let store = told(rt.alloc(), &switches, row.wires)?;
-        let graph = Graph::of(rt.alloc(), &store)?;
+        let wires = Wires::of(rt.alloc(), &store)?;
+        let graph = Graph::of(rt.alloc(), &wires)?;
         let routes = Routes::of(rt.alloc(), &graph)?;
         let is_right = has_ranks(&graph, row.ranks) && has_hops(&graph, &routes, row.hops);
         assert!(rt; is_right, "{}", row.name);

@@ -3,7 +3,7 @@ use super::swept::swept;
 use super::*;
 use fact_store::{Cell, Key, Sighting, Store, Value};
 use smp_bytes::{Generation, Guid, NodeType, PortNum};
-use subnet_view::{EndPort, attached, end_ports, switches, wire};
+use subnet_view::{EndPort, Wires, attached, end_ports, switches, wire};
 
 fn at(node: u64, port: u8) -> EndPort {
     EndPort {
@@ -28,6 +28,7 @@ fn switches_end_ports_and_wires_are_read(rt: HostRuntime) -> Result<(), Fail> {
             ]
             .as_slice();
     assert!(rt; is_right);
+    let wires = Wires::of(rt.alloc(), &store)?;
     for (near, far) in [
         (at(0x10, 1), Some(at(0x20, 1))),
         (at(0x30, 2), Some(at(0x20, 2))),
@@ -37,8 +38,9 @@ fn switches_end_ports_and_wires_are_read(rt: HostRuntime) -> Result<(), Fail> {
         (at(0x10, 0), None),
         (at(0x100, 2), None),
     ] {
-        let other = wire(&store, near.node, near.port).map(|(node, port)| EndPort { node, port });
-        assert!(rt; other == far, "{near:?}");
+        let found = wire(&store, near.node, near.port);
+        let other = found.map(|(node, port)| EndPort { node, port });
+        assert!(rt; other == far && wires.across(near.node, near.port) == found, "{near:?}");
     }
     for (near, far) in [
         (at(0x100, 1), Some(at(0x20, 3))),
@@ -47,8 +49,9 @@ fn switches_end_ports_and_wires_are_read(rt: HostRuntime) -> Result<(), Fail> {
         (at(0x20, 3), None),
         (at(0x10, 1), None),
     ] {
-        let to = attached(&store, near.node, near.port).map(|(node, port)| EndPort { node, port });
-        assert!(rt; to == far, "{near:?}");
+        let found = attached(&store, near.node, near.port);
+        let to = found.map(|(node, port)| EndPort { node, port });
+        assert!(rt; to == far && wires.attached(near.node, near.port) == found, "{near:?}");
     }
     Ok(())
 }

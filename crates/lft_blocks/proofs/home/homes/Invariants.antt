@@ -5,4 +5,4 @@ use Rattle.lft_blocks.proofs.home.homes.Given as goal
 
 -- each LID so far has its home
 abbrev pub invariant-loop-lid : goal.invariant-loop-lid
-invariant-loop-lid l = ArePlacedBelow l.guids (home_of_lid (cells_of l.store) l.lids) l.lid l.homes.items
+invariant-loop-lid l = ArePlacedBelow l.guids (home_of_lid (cells_of l.wires) l.lids) l.lid l.homes.items

@@ -10,7 +10,7 @@ use Rattle.updown_routes.proofs.wiring.exits.Goals as goal
 pub loop-guid-preserved : goal.loop-guid-preserved
 loop-guid-preserved c =
     let guids = c.args.guids.now in
-    let row_of : ℕ → List Exit = exits_of (cells_of c.args.store.now) in
+    let row_of : ℕ → List Exit = exits_of (cells_of c.args.wires.now) in
     let rows = c.loop-guid.exits in
     let i = c.loop-guid.guid-index in
     let guid = c.guid-item.result in
@@ -24,6 +24,6 @@ loop-guid-preserved c =
 pub returns-clause-to_switches : goal.returns-clause-to_switches
 returns-clause-to_switches c =
     let guids = c.args.guids.now in
-    let row_of : ℕ → List Exit = exits_of (cells_of c.args.store.now) in
+    let row_of : ℕ → List Exit = exits_of (cells_of c.args.wires.now) in
     let all = no_more_rows guids row_of c.loop-guid.exits c.loop-guid.guid-index c.loop-guid-test.false c.loop-guid.invariant.0 in
     lead_to_rows (length guids) c.loop-guid.exits (same_length (map (by_guid guids)) row_of c.loop-guid.exits guids all) c.loop-guid.invariant.1

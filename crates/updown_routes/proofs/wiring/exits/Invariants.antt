@@ -6,4 +6,4 @@ use Rattle.updown_routes.proofs.wiring.exits.Given as goal
 
 -- the rows so far, and those of the switches to come, are all rows
 abbrev pub invariant-loop-guid : goal.invariant-loop-guid
-invariant-loop-guid l = AreRows l.guids (exits_of (cells_of l.store)) l.exits l.guid-index × AllLeadBelow (length l.guids) l.exits
+invariant-loop-guid l = AreRows l.guids (exits_of (cells_of l.wires)) l.exits l.guid-index × AllLeadBelow (length l.guids) l.exits

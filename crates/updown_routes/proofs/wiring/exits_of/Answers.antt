@@ -12,8 +12,8 @@ use Rattle.updown_routes.proofs.wiring.exits_of.Goals.{in-Some+in_ok-push, in_de
 pub loop-before-preserved : goal.loop-before-preserved
 loop-before-preserved c =
     let guids = c.args.guids.now in
-    let exit : ℕ → Option Exit = exit_at (cells_of c.args.store.now) c.args.guid in
-    let all = exits_of (cells_of c.args.store.now) c.args.guid in
+    let exit : ℕ → Option Exit = exit_at (cells_of c.args.wires.now) c.args.guid in
+    let all = exits_of (cells_of c.args.wires.now) c.args.guid in
     let before = c.loop-before.before in
     let count = c.port_count-before-end.result in
     let found = c.loop-before.found.items in
@@ -34,5 +34,5 @@ loop-before-preserved c =
     ]
 
 pub returns-clause-wires : goal.returns-clause-wires
-returns-clause-wires c = no_more_ports c.args.guids.now (exit_at (cells_of c.args.store.now) c.args.guid) (exits_of (cells_of c.args.store.now) c.args.guid)
+returns-clause-wires c = no_more_ports c.args.guids.now (exit_at (cells_of c.args.wires.now) c.args.guid) (exits_of (cells_of c.args.wires.now) c.args.guid)
     c.port_count-before-end.result c.loop-before.found.items c.loop-before.before c.loop-before-test.false c.loop-before.invariant.0

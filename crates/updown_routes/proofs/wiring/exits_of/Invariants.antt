@@ -7,4 +7,4 @@ use Rattle.updown_routes.proofs.wiring.exits_of.Given as goal
 
 -- what was found, and what the ports to come have, are all that there is
 abbrev pub invariant-loop-before : goal.invariant-loop-before
-invariant-loop-before l = AreAll l.guids (exit_at (cells_of l.store) l.guid) (exits_of (cells_of l.store) l.guid) l.before-end l.found.items l.before × LeadBelow (length l.guids) l.found.items
+invariant-loop-before l = AreAll l.guids (exit_at (cells_of l.wires) l.guid) (exits_of (cells_of l.wires) l.guid) l.before-end l.found.items l.before × LeadBelow (length l.guids) l.found.items

@@ -1,6 +1,7 @@
 -- What the facts give is a graph.
-use Rattle.std.proofs.Common.{◌≡◌, sym, subst, List, ℕ, map}
-use Rattle.fact_store.specs.View.{cells_of}
+use Rattle.std.proofs.Common.{◌≡◌, sym, ap, ◌∙◌, subst, List, ℕ, map}
+use Rattle.fact_store.specs.View.{Facts, cells_of}
+use Rattle.subnet_view.specs.Reading.{switches}
 use Rattle.updown_routes.specs.Graph.{exits_of}
 use Rattle.updown_routes.specs.GraphLaws.{IsGraph}
 use Rattle.updown_routes.specs.Wiring.{by_guid}
@@ -13,19 +14,21 @@ pub returns : goal.returns
 returns c =
     let guids = c.in_ok-guids.guids.items in
     let exits = c.in_ok-exits.exits in
-    let cells = cells_of c.args.store.now in
+    let cells = cells_of c.args.wires.now in
+    let same = c.in_ok-guids.ensures ∙ ap (λ (facts : Facts). switches (cells_of facts)) c.store.ensures in
     let Rows : List ℕ → Type 0 = λ gs. map (map (by_guid gs)) exits ≡ map (exits_of cells) gs in
-    named_is_graph cells guids exits c.in_ok-guids.ensures (subst Rows c.deref.ensures.value c.in_ok-exits.ensures.wires)
+    named_is_graph cells guids exits same (subst Rows c.deref.ensures.value c.in_ok-exits.ensures.wires)
 
 pub invariant_of-result : goal.invariant_of-result
 invariant_of-result c =
     let guids = c.in_ok-guids.guids.items in
     let exits = c.in_ok-exits.exits in
-    let cells = cells_of c.args.store.now in
+    let cells = cells_of c.args.wires.now in
+    let same = c.in_ok-guids.ensures ∙ ap (λ (facts : Facts). switches (cells_of facts)) c.store.ensures in
     let Rows : List ℕ → Type 0 = λ gs. map (map (by_guid gs)) exits ≡ map (exits_of cells) gs in
     let rows = subst Rows c.deref.ensures.value c.in_ok-exits.ensures.wires in
     record {
       as_many = same_length (map (by_guid guids)) (exits_of cells) exits guids rows;
       to_switches = c.in_ok-exits.ensures.to_switches;
-      is_graph = subst IsGraph (sym (named_is_graph cells guids exits c.in_ok-guids.ensures rows)) (graph_law c.args.store.now);
+      is_graph = subst IsGraph (sym (named_is_graph cells guids exits same rows)) (graph_law c.args.wires.now);
     }

@@ -1,0 +1,82 @@
+ghost use Rattle.std.specs.Prelude.{◌≡◌, ◌&&◌, is_some, if◌then◌else◌};
+ghost use Rattle.fact_store.specs.View.{cells_of};
+ghost use Rattle.subnet_view.specs.Reading.{is_counted, is_switch_in};
+ghost use Rattle.subnet_view.specs.WireEnds.{count_of, is_end_read, end_read, KeepsPort, PassesNone, ReadsAll};
+
+use crate::in_step::InStep;
+use crate::reading::{is_counted, peer_said};
+use fact_store::{Key, Sighting, Store};
+use smp_bytes::{Guid, NodeType, PortNum};
+
+/// What is known of ports, in step with ports that rise.
+#[derive(Drop)]
+pub(crate) struct PortReader<'s> {
+    nodes: InStep<'s>,
+    guids: InStep<'s>,
+    ports: InStep<'s>,
+    caps: InStep<'s>,
+}
+
+impl<'s> PortReader<'s> {
+    /// A reader of all that a store says.
+    pub(crate) fn new(store: &'s Store) -> Self
+        ensures { ReadsAll (cells_of store.now) result }
+    {
+        PortReader {
+            nodes: InStep::new(store),
+            guids: InStep::new(store),
+            ports: InStep::new(store),
+            caps: InStep::new(store),
+        }
+    }
+
+    /// The port of a link's cell and where the link leads, where that port can have a wire. Passes
+    /// what is known of earlier ports.
+    pub(crate) fn wire_end(
+        &mut self,
+        sighting: &Sighting,
+    ) -> Option<((Guid, PortNum), (Guid, PortNum))>
+        ensures end { result ≡ end_read self.old sighting.now }
+        ensures later { PassesNone sighting.now.0 self.old self.new }
+    {
+        match sighting.key() {
+            Key::Link(node, port) => {
+                if self.is_wire_end(node, port) {
+                    Some(((node, port), peer_said(sighting)?))
+                } else {
+                    None
+                }
+            }
+            _ => None,
+        }
+    }
+
+    /// Whether a port can have a wire. Passes what is known of earlier ports.
+    fn is_wire_end(&mut self, node: Guid, port: PortNum) -> bool
+        ensures end { result ≡ is_end_read self.old node port }
+        ensures later { KeepsPort node port self.old self.new }
+    {
+        let is_up = self.ports.is_up(node, port);
+        let known = self.nodes.node(node);
+        let has_room = self.caps.cap(node).is_some();
+        let has_guid = self.guids.port_guid(node, port).is_some();
+        is_up && is_port_of(port, known) && if is_switch(known) { has_room } else { has_guid }
+    }
+}
+
+/// Whether the port is one from 1 to the count of what is known of its node.
+fn is_port_of(port: PortNum, node: Option<(NodeType, u8)>) -> bool
+    ensures { result ≡ is_counted port (count_of node) }
+{
+    match node {
+        Some((_, ports)) => is_counted(port, ports),
+        None => false,
+    }
+}
+
+/// Whether what is known of a node says that it is a switch.
+fn is_switch(node: Option<(NodeType, u8)>) -> bool
+    ensures { result ≡ is_switch_in node }
+{
+    matches!(node, Some((NodeType::Switch, _)))
+}

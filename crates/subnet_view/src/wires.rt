@@ -1,0 +1,116 @@
+ghost use Rattle.std.specs.Prelude.{◌≡◌, IfOk};
+ghost use Rattle.fact_store.specs.View.{cells_of};
+ghost use Rattle.subnet_view.specs.WireEnds.{end_link, is_pair, wire_ends};
+ghost use Rattle.subnet_view.specs.Wires.{across, attached};
+
+use crate::port_reader::PortReader;
+use crate::reading::is_switch;
+use fact_store::{Refused, Store};
+use smp_bytes::{Guid, PortNum};
+use std::alloc::{AllocError, Global};
+use std::marker::Model;
+
+/// The wires of a view, found in one walk over its cells.
+#[derive(Drop)]
+pub struct Wires<'s> {
+    store: &'s Store,
+    /// The ports that can have a wire, each with where its link leads, by rising GUID and port.
+    ends: Vec<((Guid, PortNum), (Guid, PortNum))>,
+}
+
+impl<'s> Model for Wires<'s> {
+    ghost use Rattle.std.specs.Prelude.{◌≡◌};
+    ghost use Rattle.fact_store.specs.Coded.{facts_code};
+    ghost use Rattle.fact_store.specs.View.{Facts, cells_of};
+    ghost use Rattle.subnet_view.specs.WireEnds.{wire_ends};
+
+    ghost Value = { Facts };
+
+    ghost coded = { facts_code };
+
+    ghost view = { λ a. a.store.now };
+
+    ghost invariant = { λ a. a.ends.items ≡ wire_ends (cells_of a.store.now) };
+}
+
+impl<'s> Wires<'s> {
+    /// The wires of a store's view. Walks the cells.
+    pub fn of(alloc: Global, store: &'s Store) -> Result<Self, Refused>
+        ensures { IfOk result (λ wires. wires ≡ store.now) }
+    {
+        let ends = wire_ends(alloc, store)?;
+        Ok(Wires { store, ends })
+    }
+
+    /// The store whose view it is.
+    pub fn store(&self) -> &'s Store
+        ensures { result.now ≡ self.now }
+    {
+        self.store
+    }
+
+    /// The node and the port at the other end of the wire in a port, as `wire` finds it. Takes two
+    /// searches among the ports that can have a wire.
+    pub fn across(&self, node: Guid, port: PortNum) -> Option<(Guid, PortNum)>
+        ensures { result ≡ across (cells_of self.now) node port }
+    {
+        let (far_node, far_port) = self.end_link(node, port)?;
+        let back = self.end_link(far_node, far_port);
+        if is_pair((node, port), (far_node, far_port), back) {
+            Some((far_node, far_port))
+        } else {
+            None
+        }
+    }
+
+    /// The switch and the port of it that the wire in an adapter port leads to, as `attached` finds
+    /// it. Takes four searches.
+    pub fn attached(&self, node: Guid, port: PortNum) -> Option<(Guid, PortNum)>
+        ensures { result ≡ attached (cells_of self.now) node port }
+    {
+        if is_switch(self.store, node) {
+            return None;
+        }
+        let (far_node, far_port) = self.across(node, port)?;
+        if is_switch(self.store, far_node) {
+            Some((far_node, far_port))
+        } else {
+            None
+        }
+    }
+
+    /// Where the link of a port leads that can have a wire. Takes a search among such ports.
+    fn end_link(&self, node: Guid, port: PortNum) -> Option<(Guid, PortNum)>
+        ensures { result ≡ end_link (cells_of self.now) node port }
+    {
+        let place = self
+            .ends
+            .binary_search_by_key(&(node, port), |end| end.0)
+            .ok()?;
+        Some(self.ends[place].1)
+    }
+}
+
+/// Whether a port's link leads to another port, whose link leads back.
+fn is_pair(near: (Guid, PortNum), far: (Guid, PortNum), back: Option<(Guid, PortNum)>) -> bool
+    ensures { result ≡ is_pair near far back }
+{
+    near != far && back == Some(near)
+}
+
+/// The ports that can have a wire, each with where its link leads, by rising GUID and port.
+fn wire_ends(
+    alloc: Global,
+    store: &Store,
+) -> Result<Vec<((Guid, PortNum), (Guid, PortNum))>, AllocError>
+    ensures { IfOk result (λ ends. ends.items ≡ wire_ends (cells_of store.now)) }
+{
+    let mut ends = Vec::new(alloc);
+    let mut reader = PortReader::new(store);
+    for sighting in store.cells() {
+        if let Some(end) = reader.wire_end(&sighting) {
+            ends.push(end)?;
+        }
+    }
+    Ok(ends)
+}
