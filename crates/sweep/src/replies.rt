@@ -42,10 +42,10 @@ impl Sweep {
     }
 
     /// Takes the reply to a request that waits for it, and queues what it brings up: of a new node
-    /// its ports; of a port the manager that sits there and the node across it. Refused are, in this
-    /// order: bytes that are no packet; what no request waits for; a reply from which facts are not
-    /// read or, of SMInfo, that is no answer of an agent that did what was asked; one that brings up
-    /// a request for which no number is left; and want of memory.
+    /// its ports; of a port first the manager that sits there, and then the node across it. Refused
+    /// are, in this order: bytes that are no packet; what no request waits for; a reply from which
+    /// facts are not read or, of SMInfo, which is no answer with status 0; one that brings up a
+    /// request for which no number is left; and want of memory.
     pub fn on_reply(&mut self, bytes: &[u8; 256]) -> Result<Answer, SweepFault>
         ensures judged { JudgesButFor is_memory result (result_err (judged self.old bytes.now)) }
         ensures answer { IfOk result (λ answer. judged self.old bytes.now ≡ Ok answer) }
