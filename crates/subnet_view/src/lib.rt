@@ -11,7 +11,7 @@ mod wire_end;
 mod wires;
 
 pub use end_port::{EndPort, count_end_ports, end_ports, is_end_port};
-pub use reading::{cap, claim, link, port_guid};
+pub use reading::{cap, claim, port_guid};
 pub use switch::{is_usable, switches, usable_guid};
 pub use wire_end::{attached, wire};
 pub use wires::Wires;

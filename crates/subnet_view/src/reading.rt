@@ -24,7 +24,7 @@ pub fn port_guid(store: &Store, node: Guid, port: PortNum) -> Option<Guid>
 }
 
 /// The node and the port at the other end of a link.
-pub fn link(store: &Store, node: Guid, port: PortNum) -> Option<(Guid, PortNum)>
+pub(crate) fn link(store: &Store, node: Guid, port: PortNum) -> Option<(Guid, PortNum)>
     ensures { result ≡ link_of (cells_of store.now) node port }
 {
     store.link(node, port)

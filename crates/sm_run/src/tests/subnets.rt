@@ -40,7 +40,10 @@ fn switches_end_ports_and_wires_are_read(rt: HostRuntime) -> Result<(), Fail> {
     ] {
         let found = wire(&store, near.node, near.port);
         let other = found.map(|(node, port)| EndPort { node, port });
-        assert!(rt; other == far && wires.across(near.node, near.port) == found, "{near:?}");
+        assert!(rt;
+            other == far && wires.across(near.node, near.port) == found,
+            "{near:?}"
+        );
     }
     for (near, far) in [
         (at(0x100, 1), Some(at(0x20, 3))),
@@ -51,7 +54,10 @@ fn switches_end_ports_and_wires_are_read(rt: HostRuntime) -> Result<(), Fail> {
     ] {
         let found = attached(&store, near.node, near.port);
         let to = found.map(|(node, port)| EndPort { node, port });
-        assert!(rt; to == far && wires.attached(near.node, near.port) == found, "{near:?}");
+        assert!(rt;
+            to == far && wires.attached(near.node, near.port) == found,
+            "{near:?}"
+        );
     }
     Ok(())
 }
