@@ -5,3 +5,4 @@ pub mod Newest
 pub mod Replies
 pub mod Sending
 pub mod StepsSent
+pub mod Heirs

@@ -56,18 +56,18 @@ best_with own (s ∷ seen) best = best_with own seen (next_best own best s)
 abbrev pub heir_of : SmInfo → List SeenManager → Option SeenManager
 heir_of own seen = best_with own seen None
 
--- in words: it is a candidate, it wins over each candidate that was seen before it, and none that was seen after it wins over it
-pub record IsHeir (own : SmInfo) (seen : List SeenManager) (heir : SeenManager) : Type 0 where
+-- in words: it wins over each that was seen before it, and none that was seen after it wins over it
+pub record IsFirstGreatest (managers : List SeenManager) (heir : SeenManager) : Type 0 where
   pub before : List SeenManager
   pub after : List SeenManager
-  pub among : filter (is_candidate own) seen ≡ before ++ heir ∷ after
+  pub among : managers ≡ before ++ heir ∷ after
   pub greater : AllByRecursion (λ s. wins heir.info s.info ≡ true) before
   pub unbeaten : AllByRecursion (λ s. wins s.info heir.info ≡ false) after
 
--- there is none only where there is no candidate
-abbrev pub IsHeirOrNone : SmInfo → List SeenManager → Option SeenManager → Type 0
-IsHeirOrNone own seen None = filter (is_candidate own) seen ≡ []
-IsHeirOrNone own seen (Some heir) = IsHeir own seen heir
+-- there is none only where there is no manager
+abbrev pub IsHeirOrNone : List SeenManager → Option SeenManager → Type 0
+IsHeirOrNone managers None = managers ≡ []
+IsHeirOrNone managers (Some heir) = IsFirstGreatest managers heir
 
 abbrev pub HeirLaw : Type 0
-HeirLaw = (own : SmInfo) (seen : List SeenManager) → IsHeirOrNone own seen (heir_of own seen)
+HeirLaw = (own : SmInfo) (seen : List SeenManager) → IsHeirOrNone (filter (is_candidate own) seen) (heir_of own seen)

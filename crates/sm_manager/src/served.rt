@@ -90,8 +90,8 @@ fn move_on(
     standing: &mut Standing,
 ) -> Outgoing
     ensures standing { standing.new ≡ moved_to transition.now.state standing.old }
-    ensures answer { result
-        ≡ answer_out (moved_to transition.now.state standing.old) smp.now from.now (status_of transition.now) }
+    ensures answer { result ≡ answer_out (moved_to transition.now.state standing.old)
+        smp.now from.now (status_of transition.now) }
 {
     standing.move_to(transition.state);
     answer(smp, from, transition.status(), standing)
