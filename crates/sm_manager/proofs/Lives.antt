@@ -17,6 +17,7 @@ use Rattle.sweep.specs.Sweep.{Sweep, timeout_fault}
 use Rattle.lft_blocks.specs.Plan.{plan_of}
 use Rattle.sm_manager.specs.Manager.{Manager, Writing, new_manager, begin_fault, sweep_begun, taken_of}
 use Rattle.sm_manager.specs.declared.fault.ManagerFault.TheVariants.{SequenceSpent}
+use Rattle.lft_blocks.proofs.Reached.{every_packet_arrives}
 use Rattle.sm_manager.specs.declared.outgoing.Outgoing.{Outgoing}
 use Rattle.sm_manager.specs.declared.pending.Pending.{Pending}
 use Rattle.sm_manager.specs.Packets.{Called, refused, done, answered_by, sweep_answered, request_answered, request_over, pending_for, unless_spent, packet_taken, sweep_timed_out, sweep_gave_up, request_gave_up, gave_up, is_for_sweep, is_info_request}
@@ -152,4 +153,8 @@ same_taken_in_same_plan guid port priority guid' port' priority' calls calls' sa
     knows_what_it_took_in guid port priority calls
     ∙ members_decide_view (taken_in calls (new_manager guid port priority)) (taken_in calls' (new_manager guid' port' priority')) same
     ∙ sym (knows_what_it_took_in guid' port' priority' calls') in
-    record { facts = facts; plan = ap (λ x. plan_of (cells_of x)) facts }
+    record {
+      facts = facts;
+      plan = ap (λ x. plan_of (cells_of x)) facts;
+      arrives = every_packet_arrives (after_calls calls (new_manager guid port priority)).store;
+    }

@@ -8,6 +8,8 @@ use Rattle.sweep.specs.declared.answer.Answer.{Answer}
 use Rattle.sweep.specs.declared.fault.SweepFault.{SweepFault}
 use Rattle.sweep.specs.Replies.{judged, told_by}
 use Rattle.sweep.specs.Sweep.{Sweep}
+use Rattle.lid_assign.specs.Lids.{IsNoRoom}
+use Rattle.lft_blocks.specs.Arrival.{EveryPacketArrives}
 use Rattle.lft_blocks.specs.Plan.{plan_of}
 use Rattle.sm_manager.specs.Manager.{Manager, new_manager, begin_fault, sweep_begun, merged, taken}
 use Rattle.sm_manager.specs.Election.{handed_over, handover_fault, poll_fault, poll_sent}
@@ -79,10 +81,12 @@ abbrev pub KnowsWhatItTookIn : Type 0
 KnowsWhatItTookIn = (port_guid port priority : ℕ) (calls : List Call) →
     (after_calls calls (new_manager port_guid port priority)).store ≡ view (taken_in calls (new_manager port_guid port priority))
 
--- two managers that took in the same, in whatever order and however often, know the same and plan the same
+-- two managers that took in the same, in whatever order and however often, know the same and plan the same; and where that plan has room and is in
+-- force in what an end port is joined to, each packet from each end port there for each of its LIDs arrives
 pub record KnowTheSame (one other : Manager) : Type 0 where
   pub facts : one.store ≡ other.store
   pub plan : plan_of (cells_of one.store) ≡ plan_of (cells_of other.store)
+  pub arrives : ¬ (IsNoRoom (cells_of one.store)) → EveryPacketArrives (cells_of one.store) (plan_of (cells_of one.store))
 
 abbrev pub SameTakenInSamePlan : Type 0
 SameTakenInSamePlan = (guid port priority guid' port' priority' : ℕ) (calls calls' : List Call) →

@@ -10,7 +10,8 @@ pub fn knows_what_it_took_in()
 {}
 
 /// So two managers that took in the same sightings hold equal facts and plan equal LIDs and forwarding blocks, whatever
-/// else befell them.
+/// else befell them; and where what an end port is joined to is as these facts say, and holds that plan, each packet from
+/// each end port there for each LID of the plan arrives at the end port that owns it.
 #[tactic(auto, using(crate::proofs::Lives::same_taken_in_same_plan))]
 pub fn same_taken_in_same_plan()
     ensures { SameTakenInSamePlan }

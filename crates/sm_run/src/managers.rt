@@ -180,7 +180,7 @@ impl World<'_> {
         requires { seat < length self.now.managers.items }
         ensures prints { OnOk result ((s : _) → slice_get self.now.managers.items seat ≡ Some s
             → Appends (W.written sink.old) (W.written sink.new)
-            (state_line s.seat.now.name s.manager.state)) }
+            (state_line s.seat.now.name s.manager.standing.state)) }
         ensures stops { StopsFor W.written W.has_failed result sink.old sink.new }
     {
         let seated = &self.managers[seat];
