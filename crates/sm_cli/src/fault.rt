@@ -11,21 +11,13 @@ use thiserror::Error;
 pub enum Fault {
     /// The file cannot be opened.
     #[error("cannot open")]
-    Open {
-        place: usize,
-    },
+    Open { place: usize },
     /// What is wrong with the file, or that memory was refused as it was taken in.
     #[error("{fault}")]
-    File {
-        place: usize,
-        fault: FileFault,
-    },
+    File { place: usize, fault: FileFault },
     /// What is wrong with the text of a topology or a schedule, or that memory was refused as it was judged.
     #[error("{fault}")]
-    Text {
-        place: usize,
-        fault: TextFault,
-    },
+    Text { place: usize, fault: TextFault },
     /// There are end ports, and no fewer of them than the smallest forwarding table has room for LIDs, 0 among them.
     #[error("no room: {} end ports, room {}", .0.endports, .0.room)]
     NoRoom(NoRoom),

@@ -17,7 +17,10 @@ drain 1000
 
 /// What both do in the triangle then, and what is printed.
 const AFTER_TWO: [(&str, &str); 12] = [
-    ("state A\nstate B\nwrite B\n", "state A master\nstate B standby\nrefused NotMaster\n"),
+    (
+        "state A\nstate B\nwrite B\n",
+        "state A master\nstate B standby\nrefused NotMaster\n",
+    ),
     // The master hands over, and its heir has none to hand over to.
     (
         r#"handover A
@@ -131,10 +134,7 @@ ping "H2"[1] 1 reached "S1"[0] hops 2
 "#,
     ),
     // A poll that is answered after it timed out.
-    (
-        "poll B 4\ntimeout B\ndrain 100\n",
-        "refused Unasked\n",
-    ),
+    ("poll B 4\ntimeout B\ndrain 100\n", "refused Unasked\n"),
     // A poll that is answered after the manager has moved on.
     (
         "poll B 4\npoll B 4\nlose last\nlose last\ntimeout B\npoll B 4\nhandover A\ndrain 100\nstate B\n",
@@ -194,7 +194,7 @@ state C
 "#,
         "state A standby\nstate B standby\nstate C master\n",
     ),
-    // Both sweep at once, and both are master: the plans that they write are the same.
+    // What a manager is refused before a sweep is done, and as a master that saw nobody.
     (
         TRIANGLE,
         "manager A \"H1\"[1] 3\nhandover A\nsweep A\nhandover A\npoll A 1\ndrain 1000\nhandover A\n",
