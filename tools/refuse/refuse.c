@@ -1,0 +1,176 @@
+/*
+ * A library to be loaded before a program (LD_PRELOAD): it refuses one of the program's calls, or cuts it short.
+ *
+ * REFUSE names what, and REFUSE_AT the number of the call, from 1: `alloc` has an allocation answer that there is no
+ * memory, `read`, `write` and `open` fail, `short-read` and `short-write` move one byte. At the end the number of calls of
+ * that kind is written to the file REFUSE_COUNT. Threads are not looked after.
+ */
+#define _GNU_SOURCE
+#include <dlfcn.h>
+#include <errno.h>
+#include <fcntl.h>
+#include <stdarg.h>
+#include <stdio.h>
+#include <stdlib.h>
+#include <string.h>
+#include <sys/syscall.h>
+#include <sys/types.h>
+#include <sys/uio.h>
+#include <unistd.h>
+
+void *__libc_malloc(size_t);
+void *__libc_calloc(size_t, size_t);
+void *__libc_realloc(void *, size_t);
+void *__libc_memalign(size_t, size_t);
+
+static unsigned long calls;
+
+static const char *kind(void)
+{
+	const char *text = getenv("REFUSE");
+
+	return text ? text : "";
+}
+
+/* Whether this is the call to refuse. */
+static int is_now(const char *wanted)
+{
+	const char *at = getenv("REFUSE_AT");
+
+	if (strcmp(kind(), wanted) != 0)
+		return 0;
+	calls++;
+	return at && strtoul(at, NULL, 10) == calls;
+}
+
+static void *no_memory(void)
+{
+	errno = ENOMEM;
+	return NULL;
+}
+
+void *malloc(size_t size)
+{
+	return is_now("alloc") ? no_memory() : __libc_malloc(size);
+}
+
+void *calloc(size_t count, size_t size)
+{
+	return is_now("alloc") ? no_memory() : __libc_calloc(count, size);
+}
+
+void *realloc(void *old, size_t size)
+{
+	return is_now("alloc") ? no_memory() : __libc_realloc(old, size);
+}
+
+void *memalign(size_t align, size_t size)
+{
+	return is_now("alloc") ? no_memory() : __libc_memalign(align, size);
+}
+
+void *aligned_alloc(size_t align, size_t size)
+{
+	return memalign(align, size);
+}
+
+int posix_memalign(void **into, size_t align, size_t size)
+{
+	void *given = memalign(align, size);
+
+	if (!given)
+		return ENOMEM;
+	*into = given;
+	return 0;
+}
+
+ssize_t read(int fd, void *into, size_t count)
+{
+	ssize_t (*real)(int, void *, size_t) = dlsym(RTLD_NEXT, "read");
+
+	if (is_now("read")) {
+		errno = EIO;
+		return -1;
+	}
+	if (count > 1 && is_now("short-read"))
+		count = 1;
+	return real(fd, into, count);
+}
+
+ssize_t write(int fd, const void *from, size_t count)
+{
+	ssize_t (*real)(int, const void *, size_t) = dlsym(RTLD_NEXT, "write");
+
+	if (fd == 1 && is_now("write")) {
+		errno = EIO;
+		return -1;
+	}
+	if (fd == 1 && count > 1 && is_now("short-write"))
+		count = 1;
+	return real(fd, from, count);
+}
+
+ssize_t writev(int fd, const struct iovec *from, int count)
+{
+	ssize_t (*real)(int, const struct iovec *, int) = dlsym(RTLD_NEXT, "writev");
+
+	if (fd == 1 && is_now("write")) {
+		errno = EIO;
+		return -1;
+	}
+	if (fd == 1 && count > 0 && from[0].iov_len > 0 && is_now("short-write")) {
+		struct iovec one = { from[0].iov_base, 1 };
+
+		return real(fd, &one, 1);
+	}
+	return real(fd, from, count);
+}
+
+static int refused_open(void)
+{
+	if (!is_now("open"))
+		return 0;
+	errno = EACCES;
+	return 1;
+}
+
+int open(const char *path, int flags, ...)
+{
+	int (*real)(const char *, int, ...) = dlsym(RTLD_NEXT, "open");
+	va_list rest;
+	mode_t mode;
+
+	va_start(rest, flags);
+	mode = flags & O_CREAT ? va_arg(rest, mode_t) : 0;
+	va_end(rest);
+	return refused_open() ? -1 : real(path, flags, mode);
+}
+
+int openat(int folder, const char *path, int flags, ...)
+{
+	int (*real)(int, const char *, int, ...) = dlsym(RTLD_NEXT, "openat");
+	va_list rest;
+	mode_t mode;
+
+	va_start(rest, flags);
+	mode = flags & O_CREAT ? va_arg(rest, mode_t) : 0;
+	va_end(rest);
+	return refused_open() ? -1 : real(folder, path, flags, mode);
+}
+
+__attribute__((destructor)) static void tell(void)
+{
+	const char *path = getenv("REFUSE_COUNT");
+	char text[32];
+	int fd, length;
+
+	if (!path)
+		return;
+	length = snprintf(text, sizeof text, "%lu\n", calls);
+	fd = creat(path, 0600);
+	if (fd < 0)
+		return;
+	if (syscall(SYS_write, fd, text, (size_t)length) != length)
+		unlink(path);
+	close(fd);
+}
