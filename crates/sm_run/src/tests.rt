@@ -9,6 +9,7 @@ use std::alloc::Global;
 use std::process::Abort;
 use std::test::Fail;
 
+mod controls;
 mod elections;
 mod inputs;
 mod lids;
