@@ -33,7 +33,8 @@ use Rattle.sweep_complete.specs.Complete.{HasWay}
 use Rattle.sweep_complete.proofs.Asked.{IsPending}
 use Rattle.sweep_complete.proofs.Closed.{WasReached, was_reached, answered_port, crossed, kind_known, guid_known, peer_known}
 use Rattle.sweep_complete.proofs.Covered.{having, guid_at, IsReached, IsOrigin, Covers, Crossed, IsJoinedPort, IsJoinedOf, IsJoinedSighting, Covered}
-use Rattle.sweep_complete.proofs.Known.{HasKey, IsSighted, same_node, node_value, guid_value, cap_value, up_value, link_value, true_sighting, known_of, sighted_of}
+use Rattle.sweep_complete.proofs.Known.{HasKey, IsSighted, same_node, node_value, guid_value, cap_value}
+use Rattle.sweep_complete.proofs.Known.{up_value, link_value, true_sighting, known_of, sighted_of}
 use Rattle.sweep_complete.proofs.Lists.{Has, has_as, has_with, all_contained}
 use Rattle.sweep_complete.proofs.Vertices.{at_found, at_key}
 use Rattle.sweep_complete.proofs.Taken.{guid_is, vertex_is}
@@ -86,7 +87,8 @@ module _ {f : Fabric} {seat : NodePort} (can : CanBeSwept f seat) (is_fabric : I
 
     node_known : node_of cells g ≡ Some (node.kind, node.ports)
     node_known =
-        ap kind_in (told_of (Node g) (Kind node.kind node.ports) (node_value f can.distinct has) (subst (λ x. HasKey told (Node x)) guid_same vertex.covers.node_told))
+        ap kind_in (told_of (Node g) (Kind node.kind node.ports) (node_value f can.distinct has)
+        (subst (λ x. HasKey told (Node x)) guid_same vertex.covers.node_told))
 
     port_guid_known : port_guid_of cells g p.port ≡ Some (node.port_guid p.port)
     port_guid_known =
@@ -132,7 +134,8 @@ module _ {f : Fabric} {seat : NodePort} (can : CanBeSwept f seat) (is_fabric : I
             subst (λ b. MatchBool b (from.port ≤ mine.v.ports) (from.port ≡ mine.v.port)) (sym (ap is_switch mine_kind ∙ e))
             (let most = ports_same (vertex_of f from) node g has_vertex reached in omega (arith, high, most))
         its false e =
-            subst (λ b. MatchBool b (from.port ≤ mine.v.ports) (from.port ≡ mine.v.port)) (sym (ap is_switch mine_kind ∙ e)) (sym (mine.port ∙ mine_port false e))
+            subst (λ b. MatchBool b (from.port ≤ mine.v.ports) (from.port ≡ mine.v.port)) (sym (ap is_switch mine_kind ∙ e))
+            (sym (mine.port ∙ mine_port false e))
 
     up_known : up_of cells g from.port ≡ Some true
     up_known = ap up_in (told_of (Port g from.port) (Up true) (up_value f can.distinct has from.port (inr (to, cable))) port_told)
@@ -277,12 +280,15 @@ module _ {f : Fabric} {seat : NodePort} (can : CanBeSwept f seat) (is_fabric : I
         different = λ same. w.wire.different (alike here there (ap (λ (x : ℕ × ℕ). x.0) same) (p_is ∙ ap (λ (x : ℕ × ℕ). x.1) same ∙ sym q_is));
         first = subst (CanHaveWire cells g) p_is first;
         second = subst (CanHaveWire cells h) q_is second;
-        named_there = ap (link_of cells g) (sym p_is) ∙ link_known w.from w.to w.from_named.node w.to_named.node g h here there cable cross.there ∙ ap (λ x. Some (h, x)) q_is;
-        named_back = ap (link_of cells h) (sym q_is) ∙ link_known w.to w.from w.to_named.node w.from_named.node h g there here back cross.back ∙ ap (λ x. Some (g, x)) p_is;
+        named_there = ap (link_of cells g) (sym p_is) ∙ link_known w.from w.to w.from_named.node w.to_named.node g h here there cable cross.there
+            ∙ ap (λ x. Some (h, x)) q_is;
+        named_back = ap (link_of cells h) (sym q_is) ∙ link_known w.to w.from w.to_named.node w.from_named.node h g there here back cross.back
+            ∙ ap (λ x. Some (g, x)) p_is;
       }
     where
       alike : HasNode f g w.from.node w.from_named.node → HasNode f h w.to.node w.to_named.node → g ≡ h → w.from.port ≡ w.to.port → w.from ≡ w.to
-      alike here there same ports = same_port w.from w.to (same_node f can.distinct here (record { there = there.there; named = there.named ∙ sym same })).0 ports
+      alike here there same ports =
+          same_port w.from w.to (same_node f can.distinct here (record { there = there.there; named = there.named ∙ sym same })).0 ports
 
   -- the way to each end port that is known
   way_of : (g p : ℕ) (v : Reached) → Covers f seat (having s told) v → v.guid ≡ g → v.port ≡ p → path_to s g p ≡ Some v.path → HasWay f seat s g p

@@ -1,5 +1,6 @@
 -- The requests of a sweep that wait or are to be sent: what is left of them when one has ended, and what comes to them.
-use Rattle.std.proofs.Common.{◌≡◌, ◌⊎◌, inl, inr, ℕ, zero, suc, ◌+◌, ◌<◌, ◌≤◌, Bool, true, false, cond, not, List, [], ◌∷◌, ◌++◌, length, refl, sym, ap, ◌∙◌, subst, arith, append_assoc}
+use Rattle.std.proofs.Common.{◌≡◌, ◌⊎◌, inl, inr, ℕ, zero, suc, ◌+◌, ◌<◌, ◌≤◌, Bool, true, false, cond, not}
+use Rattle.std.proofs.Common.{List, [], ◌∷◌, ◌++◌, length, refl, sym, ap, ◌∙◌, subst, arith, append_assoc}
 use Rattle.std.proofs.lemmas.Bool.{eqb-true, eq-eqb}
 use Rattle.std.proofs.lemmas.Option.{same_Some}
 use Rattle.std.specs.Prelude.{Some, find, ◌==◌}
@@ -70,14 +71,19 @@ found_least least [] rest next t r rising e = absurd (cc)
 found_least least (x ∷ out) rest next t r rising e = by_test (t x) e (found_least (x.number + 1) out rest next t r rising.1)
   where
     by_test : (b : Bool) → cond b (Some x) (find t out) ≡ Some r → (find t out ≡ Some r → x.number + 1 ≤ r.number) → least ≤ r.number
-    by_test true h later = let same : x ≡ r = same_Some x r h in let here = rising.0 in let number = ap (λ (y : Request). y.number) same in omega (arith, here, number)
+    by_test true h later =
+        let same : x ≡ r = same_Some x r h in
+        let here = rising.0 in
+        let number = ap (λ (y : Request). y.number) same in
+        omega (arith, here, number)
     by_test false h later = let here = rising.0 in let up = later h in omega (arith, here, up)
 
 -- no other that waits has the number of one
 pub only_one : (least : ℕ) (out rest : List Request) (next : ℕ) (t : Request → Bool) (r : Request) → AreRising least (out ++ rest) next → find t out ≡ Some r
     → AllByRecursion (λ x. x.number ≡ r.number → asking_of x ≡ asking_of r) out
 only_one least [] rest next t r rising e = tt
-only_one least (x ∷ out) rest next t r rising e = by_test (t x) e (only_one (x.number + 1) out rest next t r rising.1) (found_least (x.number + 1) out rest next t r rising.1)
+only_one least (x ∷ out) rest next t r rising e =
+    by_test (t x) e (only_one (x.number + 1) out rest next t r rising.1) (found_least (x.number + 1) out rest next t r rising.1)
   where
     none_later : x ≡ r → (rs : List Request) → AllByRecursion (λ y. x.number + 1 ≤ y.number) rs
         → AllByRecursion (λ y. y.number ≡ r.number → asking_of y ≡ asking_of r) rs

@@ -65,8 +65,12 @@ module _ (w : Sweeping) (generation first : ℕ) (begins : Begins w generation f
       let (a, at) = agent_by_port start w.seat.node (omega (arith, some, most)) in
       let there : IsNodeAt (fabric_of start) w.seat.node (node_of a) = slice_get-map node_of start.agents w.seat.node ∙ ap (option_map node_of) at in
       let adapter : is_switch a.node.kind ≡ false = (can_sweep w generation first begins).adapter (node_of a) there in
-      let count : port_count start w.seat.node ≡ a.node.ports = ap (λ o. option_map_or (λ (x : Agent). x.node.ports) o 0) at in
-      (node_of a, there, subst (λ b. MatchBool b (w.seat.port ≡ 0) ((1 ≤ w.seat.port) × (w.seat.port ≤ a.node.ports))) (sym adapter) (some, omega (arith, most, count)))
+      let count : port_count start w.seat.node ≡ a.node.ports = ap (λ o. option_map_or (λ (x : Agent). x.node.ports) o 0) at in (
+        node_of a,
+        there,
+        subst (λ b. MatchBool b (w.seat.port ≡ 0) ((1 ≤ w.seat.port) × (w.seat.port ≤ a.node.ports))) (sym adapter)
+            (some, omega (arith, most, count)),
+      )
 
   module _ (events : List SweepEvent) (all : All CanBe events) where
     ends : Goes begins.quiet.fabric.cables (few_ports_there w generation first begins)
@@ -83,7 +87,8 @@ module _ (w : Sweeping) (generation first : ℕ) (begins : Begins w generation f
         let (node, there, number) = seat_end in
         let at_first : Covered f w.seat w.sweep (told_in w.reports) =
         subst (λ (s : Sweep). Covered f w.seat s (told_in w.reports)) (sym begins.sweep)
-        (subst (λ reports. Covered f w.seat (started w.seat.port generation first) (told_in reports)) (sym begins.reports) (covers_first f w generation first)) in
+        (subst (λ reports. Covered f w.seat (started w.seat.port generation first) (told_in reports)) (sym begins.reports)
+        (covers_first f w generation first)) in
         let ended = after_sweep_events events w in
         let covered = all_covered begins.quiet.fabric.cables (few_ports_there w generation first begins) can
         (cabled_there w generation first begins) events w (goes_first w generation first begins) all (λ answered near. at_first) whole.answered whole.near in
@@ -100,7 +105,8 @@ module _ (w : Sweeping) (generation first : ℕ) (begins : Begins w generation f
         }
 
     pings : (whole : IsWhole (after_sweep_events events w).sweep) → ¬ (IsNoRoom (cells_of (facts_of (after_sweep_events events w).reports)))
-        → HoldsPlan (IsJoinedTo (fabric_of (after_sweep_events events w).scene.fabric) w.seat) (plan_of (cells_of (facts_of (after_sweep_events events w).reports)))
+        → HoldsPlan (IsJoinedTo (fabric_of (after_sweep_events events w).scene.fabric) w.seat)
+        (plan_of (cells_of (facts_of (after_sweep_events events w).reports)))
         (fabric_of (after_sweep_events events w).scene.fabric)
         → EachPingArrives (cells_of (facts_of (after_sweep_events events w).reports)) (plan_of (cells_of (facts_of (after_sweep_events events w).reports)))
         (after_sweep_events events w).scene.fabric w.seat

@@ -1,6 +1,6 @@
 -- A sweep that has every answer: on an adapter, a switch with a loop in its third port, and an adapter that has a port without
 -- a cable.
-use Rattle.std.proofs.Common.{◌≡◌, ℕ, zero, suc, ◌+◌, ◌*◌, ◌^◌, ◌<◌, List, [], ◌∷◌, ◌++◌, replicate, refl, ap, ◌∙◌, arith}
+use Rattle.std.proofs.Common.{◌≡◌, ℕ, zero, suc, ◌+◌, ◌*◌, List, [], ◌∷◌, ◌++◌, replicate, refl, ap, ◌∙◌, arith}
 use Rattle.std.proofs.lemmas.Option.{slice_get-map}
 use Rattle.std.proofs.lemmas.List.Elements.{All-from_recursion}
 use Rattle.std.specs.Prelude.{Some, All, flat_map, option_map, slice_get}
@@ -12,7 +12,7 @@ use Rattle.smp_bytes.specs.Fabric.{IsNodeAt}
 use Rattle.smp_bytes.specs.Field.{with_bytes}
 use Rattle.topo_file.specs.declared.node.Node.{Node}
 use Rattle.topo_file.specs.Topology.{IsNode}
-use Rattle.node_agents.specs.Agent.{Agent, fresh_agent, seated}
+use Rattle.node_agents.specs.Agent.{fresh_agent, seated}
 use Rattle.node_agents.specs.Answers.{answered, get_of, set_of}
 use Rattle.node_agents.specs.PortInfo.{changed_port}
 use Rattle.fabric_sim.specs.Simulation.{Simulation, IsSimulation, fabric_of}

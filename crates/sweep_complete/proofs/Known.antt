@@ -115,7 +115,8 @@ module _ (f : Fabric) (distinct : AreGuidsDistinct f) where
 pub sighted_of : (told : Told) (key : Key) (x : Value) → known_in (cells_of (view told)) key ≡ Some x → IsSighted told key x
 sighted_of told key x e = by_cell (cell_for (view told) key) ((view_law told).cells key) (known_by_cells (view told) key ∙ e)
   where
-    by_cell : (o : Option (Cell Value)) → MatchOption o ((c : Cell Value) → WasSighted key told c → ⊥) (IsCellIn key told) → value_in o ≡ Some x → IsSighted told key x
+    by_cell : (o : Option (Cell Value)) → MatchOption o ((c : Cell Value) → WasSighted key told c → ⊥) (IsCellIn key told) → value_in o ≡ Some x
+        → IsSighted told key x
     by_cell None none e = cc
     by_cell (Some (Known g v)) (newest, say) e =
         let c = newest.sighted in

@@ -32,11 +32,13 @@ use Rattle.sm_laws.proofs.Ends.{end_before}
 use Rattle.sm_laws.proofs.Sound.{Asks, CanBeSwept, GoesBy, IsSoundSweep}
 use Rattle.sm_laws.proofs.TrueFacts.{IsCabled}
 use Rattle.sweep_complete.proofs.Asked.{asking_of}
-use Rattle.sweep_complete.proofs.Covered.{Having, having, about, guid_at, IsReached, IsOrigin, CameFrom, Covers, LeavesBy, IsRooted, IsJoinedSighting, Covered, Grows, covers_on}
+use Rattle.sweep_complete.proofs.Covered.{Having, having, about, guid_at, IsReached, IsOrigin, CameFrom, Covers}
+use Rattle.sweep_complete.proofs.Covered.{LeavesBy, IsRooted, IsJoinedSighting, Covered, Grows, covers_on}
 use Rattle.sweep_complete.proofs.Known.{HasKey, same_node}
 use Rattle.sweep_complete.proofs.Lists.{Has, has_left, has_right, has_as, all_as}
 use Rattle.sweep_complete.proofs.PortReplies.{same_question, same_context}
-use Rattle.sweep_complete.proofs.Taken.{switch_asked, ports_asked, vertex_all, guid_is, vertex_is, seat_adapter, seat_vertex, next_joined, is_rooted, some_left, first_covers, pending_after, new_pending, ended, having_after, covered_after, all_stay, start_stays}
+use Rattle.sweep_complete.proofs.Taken.{switch_asked, ports_asked, vertex_all, guid_is, vertex_is, seat_adapter, seat_vertex, next_joined, is_rooted, some_left}
+use Rattle.sweep_complete.proofs.Taken.{first_covers, pending_after, new_pending, ended, having_after, covered_after, all_stay, start_stays}
 use Rattle.sweep_complete.proofs.Vertices.{IsNew, placed_all, placed_keeps, placed_there, first_none, first_stays, first_new, at_has, at_none, first_has}
 
 same_via : (g h p q : ℕ) → Via g p ≡ Via h q → (g ≡ h) × (p ≡ q)
@@ -45,7 +47,8 @@ same_via g h p q e = (cc, cc)
 module _ {f : Fabric} {seat : NodePort} (can : CanBeSwept f seat) (s : Sweep) (told : Told) (c : Covered f seat s told) (sound : IsSoundSweep f seat s)
     (r : Request) (t : Request → Bool) (found : find t s.outstanding ≡ Some r) (generation : ℕ) (cabled : IsCabled f) (end : NodePort) (node : fabric.Node)
     (leads : directed_end f seat r.path ≡ Some end) (there : IsNodeAt f end.node node) (info : NodeInfo) (says : SaysNode node end.port info) (kind : NodeType)
-    (kind_is : kind ≡ node.kind) (question : r.question ≡ ask.Node) (context : Context) (context_is : r.context ≡ context) (asks : Asks f seat r.path ask.Node context) where
+    (kind_is : kind ≡ node.kind) (question : r.question ≡ ask.Node) (context : Context) (context_is : r.context ≡ context)
+    (asks : Asks f seat r.path ask.Node context) where
   has : HasNode f info.node_guid end.node node
   has = record { there = there; named = sym says.guid }
 
@@ -161,7 +164,8 @@ module _ {f : Fabric} {seat : NodePort} (can : CanBeSwept f seat) (s : Sweep) (t
         }
       where
         link_is : (far : NodePort) → far ≡ end → Link info.node_guid info.local_port_num ≡ Link (guid_at f seat far.node) far.port
-        link_is far e = λ j. Link ((sym (guid_is f has seat) ∙ ap (λ (q : NodePort). guid_at f seat q.node) (sym e)) j) ((says.local_port ∙ ap (λ (q : NodePort). q.port) (sym e)) j)
+        link_is far e = λ j. Link ((sym (guid_is f has seat) ∙ ap (λ (q : NodePort). guid_at f seat q.node) (sym e)) j)
+            ((says.local_port ∙ ap (λ (q : NodePort). q.port) (sym e)) j)
 
     -- the vertex that answered came from the seat, or over the cable
     came_from : (v : Reached) → v.guid ≡ info.node_guid → v.port ≡ guid_port kind info.local_port_num → v.arrival ≡ info.local_port_num → v.path ≡ r.path
@@ -201,7 +205,8 @@ module _ {f : Fabric} {seat : NodePort} (can : CanBeSwept f seat) (s : Sweep) (t
 
     new_vertex : IsNew (finding.vertex_of r.path info k n) s.reached
         → ((u : Reached) → is_switch u.kind ≡ true → reached_first s.reached u.guid ≡ Some u → info.node_guid ≡ u.guid → ⊥)
-        → (is_switch k ≡ true → reached_first (placed vertex_key (finding.vertex_of r.path info k n) s.reached) info.node_guid ≡ Some (finding.vertex_of r.path info k n))
+        → (is_switch k ≡ true → reached_first (placed vertex_key (finding.vertex_of r.path info k n) s.reached) info.node_guid
+        ≡ Some (finding.vertex_of r.path info k n))
         → (states : _) (too_far : ℕ)
         → Covered f seat (record (asking (ended can s told c sound r t found) (vertex_questions (finding.vertex_of r.path info k n)))
         { reached = placed vertex_key (finding.vertex_of r.path info k n) s.reached; states = states; too_far = too_far }) (told ++ node_told)
@@ -210,7 +215,8 @@ module _ {f : Fabric} {seat : NodePort} (can : CanBeSwept f seat) (s : Sweep) (t
         (vertex_all (λ (a : Asking). IsRooted f seat (placed vertex_key vertex s.reached) a.context) vertex
         (λ q. placed_there (λ v. v.guid ≡ info.node_guid) vertex s.reached is_new refl))
         (placed_all (Covers f seat (new (vertex_questions vertex) (placed vertex_key vertex s.reached) keeps)) vertex s.reached covers
-        (all_as (Covers f seat (having s told)) (Covers f seat (new (vertex_questions vertex) (placed vertex_key vertex s.reached) keeps)) (covers_on f seat g) s.reached c.vertices))
+        (all_as (Covers f seat (having s told)) (Covers f seat (new (vertex_questions vertex) (placed vertex_key vertex s.reached) keeps))
+        (covers_on f seat g) s.reached c.vertices))
         told_joined (inr start)
       where
         keeps : (P : Reached → Type 0) → Has P s.reached → Has P (placed vertex_key vertex s.reached)
@@ -246,7 +252,8 @@ module _ {f : Fabric} {seat : NodePort} (can : CanBeSwept f seat) (s : Sweep) (t
               only = only;
               came = came_from (vertex_questions vertex) (placed vertex_key vertex s.reached) keeps vertex refl port_same refl refl;
               switch = λ is. inl (new_pending can s told c sound r t found (vertex_questions vertex) (about vertex ask.Switch) (switch_asked vertex is));
-              its_ports = λ p its. inl (new_pending can s told c sound r t found (vertex_questions vertex) (about vertex (ask.Port p)) (ports_asked vertex p its));
+              its_ports = λ p its. inl (new_pending can s told c sound r t found (vertex_questions vertex) (about vertex (ask.Port p))
+                  (ports_asked vertex p its));
             }
 
         begins : s.reached ≡ [] → (x : Context) → context ≡ x → Has (IsOrigin f seat) (placed vertex_key vertex s.reached)
@@ -301,12 +308,14 @@ module _ {f : Fabric} {seat : NodePort} (can : CanBeSwept f seat) (s : Sweep) (t
 
     new_port : is_switch first.kind ≡ false → reached_at s.reached info.node_guid info.local_port_num ≡ None → (states : _) (too_far : ℕ)
         → Covered f seat (record (asking (ended can s told c sound r t found) (vertex_questions (finding.vertex_of r.path info first.kind first.ports)))
-        { reached = placed vertex_key (finding.vertex_of r.path info first.kind first.ports) s.reached; states = states; too_far = too_far }) (told ++ node_told)
+        { reached = placed vertex_key (finding.vertex_of r.path info first.kind first.ports) s.reached; states = states; too_far = too_far })
+        (told ++ node_told)
     new_port adapter none states too_far =
         new_vertex first.kind first.ports first_kind first_ports
         (all_as (λ (y : Reached). y.guid ≡ info.node_guid → y.port ≡ info.local_port_num → ⊥)
         (λ (y : Reached). y.guid ≡ info.node_guid → y.port ≡ guid_port first.kind info.local_port_num → ⊥)
-        (λ y other guid port. other guid (port ∙ ap (λ x. cond x 0 info.local_port_num) adapter)) s.reached (at_none s.reached info.node_guid info.local_port_num none))
+        (λ y other guid port. other guid (port ∙ ap (λ x. cond x 0 info.local_port_num) adapter)) s.reached
+        (at_none s.reached info.node_guid info.local_port_num none))
         (λ u switch only same.
         let is : u ≡ first = same_Some u first (sym only ∙ ap (reached_first s.reached) (sym same) ∙ e) in
         absurd (cc (sym (ap (λ (x : Reached). is_switch x.kind) (sym is) ∙ switch) ∙ adapter)))

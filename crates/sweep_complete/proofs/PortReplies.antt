@@ -1,5 +1,5 @@
 -- What a sweep has covered stays so when it takes a reply of SMInfo, SwitchInfo or PortInfo.
-use Rattle.std.proofs.Common.{◌≡◌, ◌⊎◌, inl, inr, ℕ, ◌+◌, ◌≤◌, Bool, true, false, not, ◌&&◌, List, [], ◌∷◌, ◌++◌, length, refl, sym, ap, ◌∙◌, subst, arith}
+use Rattle.std.proofs.Common.{◌≡◌, ◌⊎◌, inl, inr, ℕ, ◌+◌, Bool, true, false, not, List, [], ◌∷◌, ◌++◌, length, refl, sym, ap, ◌∙◌, subst, arith}
 use Rattle.std.proofs.lemmas.Bool.{cond_both, and_parts, and_from}
 use Rattle.std.specs.Prelude.{Some, find, nat_lt}
 use Rattle.std.specs.List.{AllByRecursion}
@@ -16,14 +16,16 @@ use Rattle.fact_store.specs.Report.{Told, is_up_state}
 use Rattle.sweep.specs.declared.request.Question.TheVariants as ask
 use Rattle.sweep.specs.declared.request.Request.{Request}
 use Rattle.sweep.specs.Sweep.{Sweep, Asking, asking, first_question}
-use Rattle.sweep.specs.Finding.{asks_manager, goes_by, leads_on, manager_questions, one_too_far, onward, onward_questions, port_finding_of, port_found_of, port_found_questions, with_finding}
+use Rattle.sweep.specs.Finding.{asks_manager, goes_by, leads_on, manager_questions, one_too_far, onward, onward_questions}
+use Rattle.sweep.specs.Finding.{port_finding_of, port_found_of, port_found_questions, with_finding}
 use Rattle.sm_laws.specs.Truth.{HasNode}
 use Rattle.sm_laws.proofs.Sound.{CanBeSwept, LeadsTo, IsSoundSweep}
 use Rattle.sweep_complete.proofs.Asked.{asking_of, IsPending}
 use Rattle.sweep_complete.proofs.Covered.{having, beyond, IsOrigin, IsRooted, Covered, Grows}
 use Rattle.sweep_complete.proofs.Known.{same_node}
 use Rattle.sweep_complete.proofs.Lists.{Has, has_left, has_right, all_append}
-use Rattle.sweep_complete.proofs.Taken.{is_rooted, some_reached, requests_after, pending_after, new_pending, goes_same, leaves_by, ended, having_after, covered_after, all_stay, start_stays}
+use Rattle.sweep_complete.proofs.Taken.{is_rooted, some_reached, requests_after, pending_after, new_pending, goes_same}
+use Rattle.sweep_complete.proofs.Taken.{leaves_by, ended, having_after, covered_after, all_stay, start_stays}
 
 -- questions and contexts tell themselves apart ----------------------------------------------------------
 
@@ -150,7 +152,8 @@ module _ {f : Fabric} {seat : NodePort} (can : CanBeSwept f seat) (s : Sweep) (t
 
     -- what is asked across the port, where nothing is too far
     asks_on : (info : List ℕ) → bits_in port_state info ≡ n → s.too_far + one_too_far (onward s r.path guid p info) ≡ 0
-        → is_up_state n ≡ true → goes_by s r.path guid p ≡ true → Has (λ b. b ≡ beyond r.path guid p) (onward_questions r.path guid p (onward s r.path guid p info))
+        → is_up_state n ≡ true → goes_by s r.path guid p ≡ true → Has (λ b. b ≡ beyond r.path guid p)
+        (onward_questions r.path guid p (onward s r.path guid p info))
     asks_on info number near is goes =
         cond_both (not (leads_on s r.path guid p info)) _ _
         (λ o. s.too_far + one_too_far o ≡ 0 → Has (λ b. b ≡ beyond r.path guid p) (onward_questions r.path guid p o))
@@ -159,15 +162,19 @@ module _ {f : Fabric} {seat : NodePort} (can : CanBeSwept f seat) (s : Sweep) (t
         (λ o. s.too_far + one_too_far o ≡ 0 → Has (λ b. b ≡ beyond r.path guid p) (onward_questions r.path guid p o))
         (λ _ few. inl refl) (λ _ few. absurd (omega (arith, few)))) near
 
-    onward_rooted : (info : List ℕ) → AllByRecursion (λ (x : Asking). IsRooted f seat s.reached x.context) (onward_questions r.path guid p (onward s r.path guid p info))
+    onward_rooted : (info : List ℕ) → AllByRecursion (λ (x : Asking). IsRooted f seat s.reached x.context)
+        (onward_questions r.path guid p (onward s r.path guid p info))
     onward_rooted info =
         cond_both (not (leads_on s r.path guid p info)) _ _
         (λ o. AllByRecursion (λ (x : Asking). IsRooted f seat s.reached x.context) (onward_questions r.path guid p o))
         (λ _. tt)
         (λ both. cond_both (nat_lt (length r.path) 63) _ _
         (λ o. AllByRecursion (λ (x : Asking). IsRooted f seat s.reached x.context) (onward_questions r.path guid p o))
-        (λ _. (leaves_by can s told c sound r t found guid p context to
-        (and_parts (is_up_state (bits_in port_state info)) (goes_by s r.path guid p) (from_not (leads_on s r.path guid p info) both)).1, tt))
+        (λ _. (
+          leaves_by can s told c sound r t found guid p context to
+              (and_parts (is_up_state (bits_in port_state info)) (goes_by s r.path guid p) (from_not (leads_on s r.path guid p info) both)).1,
+          tt,
+        ))
         (λ _. tt))
 
     -- the manager is asked about the node that the request was about
@@ -182,5 +189,7 @@ module _ {f : Fabric} {seat : NodePort} (can : CanBeSwept f seat) (s : Sweep) (t
         → Covered f seat (with_finding (ended can s told c sound r t found) r.path (port_found_of s r.path guid p info)) (told ++ port_told)
     port_covers info number near =
         port_covered (port_found_questions r.path (port_finding_of s r.path guid p info)) _ _
-        (λ is goes. has_right (λ b. b ≡ beyond r.path guid p) (manager_questions r.path (port_finding_of s r.path guid p info)) _ (asks_on info number near is goes))
-        (all_append (λ (x : Asking). IsRooted f seat s.reached x.context) (manager_questions r.path (port_finding_of s r.path guid p info)) _ (manager_rooted info) (onward_rooted info))
+        (λ is goes. has_right (λ b. b ≡ beyond r.path guid p) (manager_questions r.path (port_finding_of s r.path guid p info)) _
+        (asks_on info number near is goes))
+        (all_append (λ (x : Asking). IsRooted f seat s.reached x.context) (manager_questions r.path (port_finding_of s r.path guid p info)) _
+        (manager_rooted info) (onward_rooted info))

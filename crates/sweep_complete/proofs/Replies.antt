@@ -18,7 +18,8 @@ use Rattle.fact_store.specs.declared.key.Key.TheVariants.{Port, Claim}
 use Rattle.fact_store.specs.declared.value.Value.TheVariants.{Up, Lid}
 use Rattle.fact_store.specs.declared.report.Context.{Context}
 use Rattle.fact_store.specs.declared.report.Context.TheVariants.{Start, Via, About}
-use Rattle.fact_store.specs.Report.{Told, is_up_state, node_info_of, payload_of, told_by_node_info, told_by_port_info, told_by_switch_info, told_by_packet, told_of_kind}
+use Rattle.fact_store.specs.Report.{Told, is_up_state, node_info_of, payload_of, told_by_node_info, told_by_port_info}
+use Rattle.fact_store.specs.Report.{told_by_switch_info, told_by_packet, told_of_kind}
 use Rattle.fabric_sim.specs.Tells.{SaysOf, SaysPort, port_asked}
 use Rattle.sweep.specs.declared.request.Question.{Question}
 use Rattle.sweep.specs.declared.request.Question.TheVariants as ask
@@ -74,12 +75,15 @@ module _ {f : Fabric} {seat : NodePort} (can : CanBeSwept f seat) (s : Sweep) (t
       let type_is : type_of_number (node_info_of packet).node_type ≡ Some says.node.kind = ap type_of_number node.kind ∙ type_read says.node.kind in
       let same : told_by_packet s.generation context packet ≡ told_of_kind s.generation context (node_info_of packet) (Some says.node.kind) =
       told_is context node_info attribute ∙ ap (told_of_kind s.generation context (node_info_of packet)) type_is in
-      subst (λ more. Covered f seat (with_finding (ended can s told c sound r t found) r.path (finding_of s (record r { context = context }) packet ask.Node)) (told ++ more)) (sym same)
-      (node_covered can s told c sound r t found s.generation cabled end says.node leads says.there (node_info_of packet) node says.node.kind refl e context is asks.asks
+      subst (λ more. Covered f seat (with_finding (ended can s told c sound r t found) r.path
+      (finding_of s (record r { context = context }) packet ask.Node)) (told ++ more)) (sym same)
+      (node_covered can s told c sound r t found s.generation cabled end says.node leads says.there
+      (node_info_of packet) node says.node.kind refl e context is asks.asks
       (reached_first s.reached (node_info_of packet).node_guid) refl type_is)
   by_question ask.Switch e (About guid) is asks near =
       let attribute : number_in attribute_id packet ≡ switch_info = for.attribute ∙ ap attribute_asked e in
-      subst (λ more. Covered f seat (with_finding (ended can s told c sound r t found) r.path (finding_of s (record r { context = About guid }) packet ask.Switch)) (told ++ more))
+      subst (λ more. Covered f seat (with_finding (ended can s told c sound r t found) r.path
+      (finding_of s (record r { context = About guid }) packet ask.Switch)) (told ++ more))
       (sym (told_is (About guid) switch_info attribute))
       (switch_covered can s told c sound r t found s.generation guid e is (number_in linear_fdb_cap (payload_of packet)) _ _)
   by_question ask.Switch e Start is asks near = absurd asks.asks
@@ -89,7 +93,8 @@ module _ {f : Fabric} {seat : NodePort} (can : CanBeSwept f seat) (s : Sweep) (t
   by_question (ask.Port port) e (About guid) is asks near =
       let attribute : number_in attribute_id packet ≡ port_info = for.attribute ∙ ap attribute_asked e in
       let modifier : number_in attribute_modifier packet ≡ port = for.modifier ∙ ap modifier_asked e in
-      subst (λ more. Covered f seat (with_finding (ended can s told c sound r t found) r.path (finding_of s (record r { context = About guid }) packet (ask.Port port))) (told ++ more))
+      subst (λ more. Covered f seat (with_finding (ended can s told c sound r t found) r.path
+      (finding_of s (record r { context = About guid }) packet (ask.Port port))) (told ++ more))
       (sym (told_is (About guid) port_info attribute
       ∙ (λ j. (Port guid (modifier j), Known s.generation (Up (is_up_state (bits_in port_state (payload_of packet)))))
       ∷ (Claim guid (modifier j), Known s.generation (Lid (number_in base_lid (payload_of packet)))) ∷ [])))

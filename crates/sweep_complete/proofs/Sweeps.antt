@@ -18,7 +18,8 @@ use Rattle.sweep.specs.declared.request.Request.{Request}
 use Rattle.sweep.specs.Sweep.{Sweep, AreRising, first_question, request_with, sent, sent_of, timed_out, timed_out_of}
 use Rattle.sweep.specs.Replies.{belongs, judged, replied, replied_to, told_by}
 use Rattle.sm_laws.specs.Scene.{Handed}
-use Rattle.sm_laws.specs.Sweeping.{Sweeping, SweepEvent, Around, Ask, Send, Hear, TimeOut, CanBe, sending, reports_of, with_answer, hearing, after_sweep_event, after_sweep_events}
+use Rattle.sm_laws.specs.Sweeping.{Sweeping, SweepEvent, Around, Ask, Send, Hear, TimeOut, CanBe, sending, reports_of}
+use Rattle.sm_laws.specs.Sweeping.{with_answer, hearing, after_sweep_event, after_sweep_events}
 use Rattle.sm_laws.proofs.Answers.{was_there}
 use Rattle.sm_laws.proofs.Sound.{CanBeSwept, IsSoundSweep}
 use Rattle.sm_laws.proofs.Swept as swept
@@ -56,7 +57,8 @@ module _ {start : Simulation} {seat : NodePort} (cables : AreCables start) (coun
           record {
             rising = subst (λ rs. AreRising 0 rs s.next) same c.rising;
             rooted = subst (λ rs. AllByRecursion (λ (x : Request). IsRooted (fabric_of start) seat s.reached x.context) rs) same c.rooted;
-            vertices = subst (λ rs. AllByRecursion (Covers (fabric_of start) seat (record { requests = rs; reached = s.reached; told = told })) s.reached) same c.vertices;
+            vertices = subst (λ rs. AllByRecursion (Covers (fabric_of start) seat (record { requests = rs; reached = s.reached; told = told })) s.reached)
+                same c.vertices;
             joined = c.joined;
             start = subst (λ rs. (IsPending rs first_question × (s.reached ≡ [])) ⊎ Has (IsOrigin (fabric_of start) seat) s.reached) same c.start;
           }

@@ -1,5 +1,6 @@
 -- What a sweep has covered, when it takes the reply to one of its requests: what is there still, and what is new.
-use Rattle.std.proofs.Common.{◌≡◌, ◌⊎◌, inl, inr, ℕ, suc, ◌+◌, ◌≤◌, Bool, true, false, cond, not, ◌&&◌, ◌||◌, List, [], ◌∷◌, ◌++◌, refl, sym, ap, ◌∙◌, subst, arith, append_assoc}
+use Rattle.std.proofs.Common.{◌≡◌, ◌⊎◌, inl, inr, ℕ, suc, ◌+◌, ◌≤◌, Bool, true, false, cond, not, ◌&&◌, ◌||◌}
+use Rattle.std.proofs.Common.{List, [], ◌∷◌, ◌++◌, refl, sym, ap, ◌∙◌, subst, arith, append_assoc}
 use Rattle.std.proofs.lemmas.Bool.{and_parts, eqb-true, or_cases}
 use Rattle.std.proofs.lemmas.Option.{same_Some}
 use Rattle.std.specs.Prelude.{Option, Some, None, slice_get, find, MatchBool, ◌==◌}
@@ -25,7 +26,8 @@ use Rattle.sweep.specs.Finding.{goes_by, is_start, is_way_on, port_questions, ve
 use Rattle.sm_laws.specs.Truth.{HasNode}
 use Rattle.sm_laws.proofs.Sound.{CanBeSwept, LeadsTo, IsSoundSweep}
 use Rattle.sweep_complete.proofs.Asked.{asking_of, IsPending, numbered_pending, numbered_all, port_asked, ports_all, only_one, ended_or_pending, rising_on}
-use Rattle.sweep_complete.proofs.Covered.{Having, having, about, IsItsPort, guid_at, IsReached, leads_on, IsOrigin, Covers, Leaves, LeavesBy, IsRooted, IsJoinedSighting, Covered, Grows, covers_on, rooted_on}
+use Rattle.sweep_complete.proofs.Covered.{Having, having, about, IsItsPort, guid_at, IsReached, leads_on, IsOrigin, Covers, Leaves}
+use Rattle.sweep_complete.proofs.Covered.{LeavesBy, IsRooted, IsJoinedSighting, Covered, Grows, covers_on, rooted_on}
 use Rattle.sweep_complete.proofs.Known.{same_node}
 use Rattle.sweep_complete.proofs.Lists.{Has, has_left, has_right, has_as, has_with, all_append, all_first, all_last, all_as, all_filter, found_has}
 use Rattle.sweep_complete.proofs.Vertices.{first_has}
@@ -115,7 +117,8 @@ module _ {f : Fabric} {seat : NodePort} (can : CanBeSwept f seat) where
 
   -- a request that ended ----------------------------------------------------------------------------------
 
-  module _ (s : Sweep) (told : Told) (c : Covered f seat s told) (sound : IsSoundSweep f seat s) (r : Request) (t : Request → Bool) (found : find t s.outstanding ≡ Some r) where
+  module _ (s : Sweep) (told : Told) (c : Covered f seat s told) (sound : IsSoundSweep f seat s) (r : Request) (t : Request → Bool)
+      (found : find t s.outstanding ≡ Some r) where
     pub is_rooted : IsRooted f seat s.reached r.context
     is_rooted =
         has_with (λ (x : Request). IsRooted f seat s.reached x.context) (λ x. x ≡ r) s.outstanding
@@ -127,7 +130,8 @@ module _ {f : Fabric} {seat : NodePort} (can : CanBeSwept f seat) where
     some_reached guid context none = subst (λ (l : List Reached). IsRooted f seat l (About guid)) none (subst (IsRooted f seat s.reached) context is_rooted)
 
     pub some_left : (guid port : ℕ) → r.context ≡ Via guid port → s.reached ≡ [] → ⊥
-    some_left guid port context none = (subst (λ (l : List Reached). IsRooted f seat l (Via guid port)) none (subst (IsRooted f seat s.reached) context is_rooted)).from
+    some_left guid port context none = (subst (λ (l : List Reached). IsRooted f seat l (Via guid port)) none
+        (subst (IsRooted f seat s.reached) context is_rooted)).from
 
     pub first_covers : (guid : ℕ) (v : Reached) → reached_first s.reached guid ≡ Some v → Covers f seat (having s told) v × (v.guid ≡ guid)
     first_covers guid v e =
@@ -208,7 +212,8 @@ module _ {f : Fabric} {seat : NodePort} (can : CanBeSwept f seat) where
               node = to.node;
               has = to.has;
               from = subst (IsReached f seat s.reached) (sym (ap (vertex_of f) here ∙ seat_vertex))
-                  (has_as (IsOrigin f seat) (λ (v : Reached). (v.guid ≡ guid_at f seat seat.node) × (v.port ≡ seat.port)) (λ v is. (is.0, is.1)) s.reached origin);
+                  (has_as (IsOrigin f seat) (λ (v : Reached). (v.guid ≡ guid_at f seat seat.node) × (v.port ≡ seat.port))
+                  (λ v is. (is.0, is.1)) s.reached origin);
               leaves = subst (Leaves f seat) (sym here) ((0, sym seat_vertex), inl refl);
             }
 
@@ -219,7 +224,8 @@ module _ {f : Fabric} {seat : NodePort} (can : CanBeSwept f seat) where
             let first = first_covers guid v e in
             let switch : is_switch v.kind ≡ true = (and_parts (is_switch v.kind) (not (p == 0) && not (p == v.arrival)) way).0 in
             let zero_port : v.port ≡ 0 = first.0.port ∙ ap (λ b. cond b 0 v.arrival) switch in
-            let there : is_switch_at f first.0.place ≡ true = type_at f first.0.place first.0.node first.0.has.there ∙ ap is_switch (sym first.0.kind) ∙ switch in
+            let there : is_switch_at f first.0.place ≡ true = type_at f first.0.place first.0.node first.0.has.there ∙ ap is_switch (sym first.0.kind)
+            ∙ switch in
             let vertex : vertex_of f (port_at first.0.place p) ≡ port_at first.0.place 0 = switch_vertex f (port_at first.0.place p) there in
             let has : HasNode f guid first.0.place first.0.node = record { there = first.0.has.there; named = first.0.has.named ∙ first.1 } in
             let known = first_has s.reached guid v e in
@@ -229,7 +235,8 @@ module _ {f : Fabric} {seat : NodePort} (can : CanBeSwept f seat) where
               has = has;
               from = subst (IsReached f seat s.reached) (sym vertex)
                   (has_as (λ u. u ≡ v) (λ (u : Reached). (u.guid ≡ guid_at f seat first.0.place) × (u.port ≡ 0))
-                  (λ u same. (ap (λ (x : Reached). x.guid) same ∙ first.1 ∙ sym (guid_is f has seat), ap (λ (x : Reached). x.port) same ∙ zero_port)) s.reached known.0);
+                  (λ u same. (ap (λ (x : Reached). x.guid) same ∙ first.1 ∙ sym (guid_is f has seat), ap (λ (x : Reached). x.port) same ∙ zero_port))
+                  s.reached known.0);
               leaves = (subst (IsJoinedTo f seat) (sym (vertex ∙ ap (port_at first.0.place) (sym zero_port))) first.0.joined, inr there);
             }
 
@@ -260,7 +267,8 @@ module _ {f : Fabric} {seat : NodePort} (can : CanBeSwept f seat) where
     -- where no vertex is new
     pub all_stay : (asked : List Asking) (more : Told) → Grows f seat (having s told) (having_after asked s.reached (told ++ more)) (asking_of r)
         → AllByRecursion (Covers f seat (having_after asked s.reached (told ++ more))) s.reached
-    all_stay asked more g = all_as (Covers f seat (having s told)) (Covers f seat (having_after asked s.reached (told ++ more))) (covers_on f seat g) s.reached c.vertices
+    all_stay asked more g = all_as (Covers f seat (having s told)) (Covers f seat (having_after asked s.reached (told ++ more)))
+        (covers_on f seat g) s.reached c.vertices
 
     pub start_stays : (s.reached ≡ [] → ⊥) → Has (IsOrigin f seat) s.reached
     start_stays some = elim c.start [ inl k ↦ absurd (some k.1) | inr k ↦ k ]
