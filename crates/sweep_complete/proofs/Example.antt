@@ -1,5 +1,5 @@
 -- A sweep that has every answer: on an adapter, a switch with a loop in its third port, and an adapter that has a port without
--- a cable.
+-- a cable and at its other port a manager, which is asked for SMInfo.
 use Rattle.std.proofs.Common.{◌≡◌, ℕ, zero, suc, ◌+◌, ◌*◌, List, [], ◌∷◌, ◌++◌, replicate, refl, ap, ◌∙◌, arith}
 use Rattle.std.proofs.lemmas.Option.{slice_get-map}
 use Rattle.std.proofs.lemmas.List.Elements.{All-from_recursion}
@@ -23,7 +23,8 @@ use Rattle.fabric_sim.proofs.Built.{uncabled_is}
 use Rattle.fabric_sim.proofs.Invariants.{seated_is}
 use Rattle.fabric_sim.proofs.Recabled.{joined_is}
 use Rattle.sweep.specs.Sweep.{started}
-use Rattle.sm_laws.specs.Scene.{Deliver}
+use Rattle.sm_laws.specs.Scene as scene
+use Rattle.sm_laws.specs.Scene.{Answer, Deliver}
 use Rattle.sm_laws.specs.Truth.{AreGuidsDistinct}
 use Rattle.sm_laws.specs.Sweeping.{Sweeping, SweepEvent, Around, Ask, Send, Hear, Begins, CanBe, after_sweep_events}
 use Rattle.sweep_complete.specs.Complete.{IsWhole, SomeSweepIsWhole}
@@ -43,8 +44,11 @@ nodes =
 abbrev linked : Simulation
 linked = joined (joined (joined (uncabled nodes 0) (port 0 1) (port 1 1)) (port 1 2) (port 2 1)) (port 1 3) (port 1 3)
 
+abbrev with_own_seat : Simulation
+with_own_seat = changed_at linked (port 0 1) seated
+
 abbrev network : Simulation
-network = changed_at linked (port 0 1) seated
+network = changed_at with_own_seat (port 2 1) seated
 
 are_nodes : All IsNode nodes
 are_nodes =
@@ -69,7 +73,7 @@ is_linked =
 
 is_network : IsSimulation network
 unfolding joined fresh_agent
-is_network = seated_is linked (port 0 1) is_linked refl refl
+is_network = seated_is with_own_seat (port 2 1) (seated_is linked (port 0 1) is_linked refl refl) refl refl
 
 one_place : (here there guid : ℕ) → slice_get (1 ∷ 2 ∷ 3 ∷ []) here ≡ Some guid → slice_get (1 ∷ 2 ∷ 3 ∷ []) there ≡ Some guid → here ≡ there
 one_place zero zero guid a b = refl
@@ -117,17 +121,27 @@ begins =
       reports = refl;
     }
 
+-- so many deliveries of a packet
+abbrev deliveries : ℕ → ℕ → List SweepEvent
+deliveries hops serial = replicate (hops + 1) (Around (Deliver serial))
+
 -- a request goes out over as many cables as its path has ports, and its answer comes back over as many
 abbrev trip : ℕ → ℕ → List SweepEvent
-trip number hops =
-    Ask ∷ Send number ∷ (replicate (hops + 1) (Around (Deliver (2 * number))) ++ (replicate (hops + 1) (Around (Deliver (2 * number + 1))) ++ Hear number ∷ []))
+trip number hops = Ask ∷ Send number ∷ (deliveries hops (2 * number) ++ (deliveries hops (2 * number + 1) ++ Hear number ∷ []))
 
--- the requests by their numbers, with the lengths of their paths
+-- the requests to agents by their numbers, with the lengths of their paths
 abbrev trips : List (ℕ × ℕ)
 trips = (0, 0) ∷ (1, 0) ∷ (2, 1) ∷ (3, 1) ∷ (4, 1) ∷ (5, 1) ∷ (6, 1) ∷ (7, 1) ∷ (8, 2) ∷ (9, 2) ∷ (10, 2) ∷ []
 
+-- the last request is handed up to the other manager, which answers it
+abbrev manager_answers : SweepEvent
+manager_answers = Around (scene.Send (port 2 1) (Answer 11 0 (replicate 64 0)))
+
+abbrev to_manager : List SweepEvent
+to_manager = Ask ∷ Send 11 ∷ (deliveries 2 22 ++ manager_answers ∷ (deliveries 2 23 ++ Hear 12 ∷ []))
+
 abbrev events : List SweepEvent
-events = flat_map (λ t. trip t.0 t.1) trips
+events = flat_map (λ t. trip t.0 t.1) trips ++ to_manager
 
 all_delivered : (n serial : ℕ) → AllByRecursion CanBe (replicate n (Around (Deliver serial)))
 all_delivered zero serial = tt
@@ -140,14 +154,28 @@ all_can_be (t ∷ ts) =
       tt,
       (
         tt,
-        all_append CanBe (replicate (t.1 + 1) (Around (Deliver (2 * t.0)))) (replicate (t.1 + 1) (Around (Deliver (2 * t.0 + 1))) ++ Hear t.0 ∷ [])
+        all_append CanBe (deliveries t.1 (2 * t.0)) (deliveries t.1 (2 * t.0 + 1) ++ Hear t.0 ∷ [])
             (all_delivered (t.1 + 1) (2 * t.0))
-            (all_append CanBe (replicate (t.1 + 1) (Around (Deliver (2 * t.0 + 1)))) (Hear t.0 ∷ []) (all_delivered (t.1 + 1) (2 * t.0 + 1)) (tt, tt)),
+            (all_append CanBe (deliveries t.1 (2 * t.0 + 1)) (Hear t.0 ∷ []) (all_delivered (t.1 + 1) (2 * t.0 + 1)) (tt, tt)),
       ),
     ) (all_can_be ts)
 
+manager_can_be : AllByRecursion CanBe to_manager
+manager_can_be = (
+  tt,
+  (
+    tt,
+    all_append CanBe (deliveries 2 22) (manager_answers ∷ (deliveries 2 23 ++ Hear 12 ∷ [])) (all_delivered 3 22) (
+      (omega arith, refl),
+      all_append CanBe (deliveries 2 23) (Hear 12 ∷ []) (all_delivered 3 23) (tt, tt),
+    ),
+  ),
+)
+
 can_be : All CanBe events
-can_be = All-from_recursion CanBe events (all_can_be trips)
+can_be =
+    All-from_recursion CanBe events
+    (all_append CanBe (flat_map (λ t. trip t.0 t.1) trips) to_manager (all_can_be trips) manager_can_be)
 
 whole : IsWhole (after_sweep_events events beginning).sweep
 unfolding joined fresh_agent injected delivered outcome_of answered get_of set_of changed_port with_bytes
