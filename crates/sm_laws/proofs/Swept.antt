@@ -32,11 +32,11 @@ use Rattle.sweep.specs.declared.fault.SweepFault.{SweepFault}
 use Rattle.sweep.specs.declared.request.Question.{Question}
 use Rattle.sweep.specs.declared.request.Question.TheVariants as ask
 use Rattle.sweep.specs.declared.request.Request.{Request}
-use Rattle.sweep.specs.Sweep.{attribute_asked, modifier_asked, transaction_of, packet_of, request_with, sent_of, sent, started, timed_out_of, timed_out}
+use Rattle.sweep.specs.Sweep.{Sweep, attribute_asked, modifier_asked, transaction_of, packet_of, request_with, sent_of, sent, started, timed_out_of, timed_out}
 use Rattle.sweep.specs.Replies.{belongs, judged, replied_to, replied, report_for, told_by}
 use Rattle.sm_laws.specs.Scene.{Handed}
 use Rattle.sm_laws.specs.Truth.{AreGuidsDistinct, IsTrueSighting}
-use Rattle.sm_laws.specs.Sweeping.{Sweeping, SweepEvent, Around, Ask, Send, Hear, TimeOut, CanBe, asking_more, sending, reports_of, with_answer, hearing, after_sweep_event, after_sweep_events, AcceptedFactsAreTrue}
+use Rattle.sm_laws.specs.Sweeping.{Sweeping, SweepEvent, Around, Ask, Send, Hear, TimeOut, CanBe, asking_more, sending, reports_of, with_answer, hearing, after_sweep_event, after_sweep_events, Begins, AcceptedFactsAreTrue}
 use Rattle.sm_laws.proofs.Accepted.{IsAccepted, IsGoodNode, accepted, IsFor, is_for_it, path_is, attribute_good, good_node}
 use Rattle.sm_laws.proofs.Answers.{Continues, was_there, sent_on, seat_in_port, sends, continued, is_told, begun}
 use Rattle.sm_laws.proofs.Replied.{sound_without, FoundSound, found_sound, ended}
@@ -227,52 +227,54 @@ module _ {start : Simulation} {seat : NodePort} (cables : AreCables start) (coun
 
   -- a reply comes ------------------------------------------------------------------------------------------
 
-  module _ (w : Sweeping) (g : Goes w) (bytes : List ℕ) (is : IsForManager start seat bytes) (answer : Answer) (taken : judged w.sweep bytes ≡ Ok answer) where
-    a : IsAccepted w.sweep bytes answer
-    a = accepted w.sweep bytes answer taken
+  module _ (s : Sweep) (sound : IsSoundSweep (fabric_of start) seat s) (bytes : List ℕ) (is : IsForManager start seat bytes) (answer : Answer)
+      (taken : judged s bytes ≡ Ok answer) where
+    pub accepted_as : IsAccepted s bytes answer
+    accepted_as = accepted s bytes answer taken
 
-    found : FoundSound (fabric_of start) seat (belongs w.sweep.generation bytes) a.request
-    found = found_sound (fabric_of start) seat (belongs w.sweep.generation bytes) w.sweep.outstanding a.request g.sound.outstanding a.belongs
+    pub found : FoundSound (fabric_of start) seat (belongs s.generation bytes) accepted_as.request
+    found = found_sound (fabric_of start) seat (belongs s.generation bytes) s.outstanding accepted_as.request sound.outstanding accepted_as.belongs
 
-    for : IsFor bytes a.request
-    for = is_for_it w.sweep.generation bytes a.request found.passes
+    pub for : IsFor bytes accepted_as.request
+    for = is_for_it s.generation bytes accepted_as.request found.passes
 
-    told : TellsOfEnd (fabric_of start) seat bytes
-    told = is_told start (record { at = seat; packet = directed_packet bytes }) is (a.good.directed, a.good.returning)
+    pub told : TellsOfEnd (fabric_of start) seat bytes
+    told = is_told start (record { at = seat; packet = directed_packet bytes }) is (accepted_as.good.directed, accepted_as.good.returning)
 
-    leads : directed_end (fabric_of start) seat a.request.path ≡ Some told.end
-    leads = ap (directed_end (fabric_of start) seat) (sym (path_is bytes a.request for is.whole.count found.sound.sound.short)) ∙ told.leads
+    pub leads : directed_end (fabric_of start) seat accepted_as.request.path ≡ Some told.end
+    leads = ap (directed_end (fabric_of start) seat) (sym (path_is bytes accepted_as.request for is.whole.count found.sound.sound.short)) ∙ told.leads
 
-    says : SaysOf (fabric_of start) told.end bytes
-    says = told.says a.good.done_is
+    pub says : SaysOf (fabric_of start) told.end bytes
+    says = told.says accepted_as.good.done_is
 
-    node_good : number_in attribute_id bytes ≡ node_info → IsGoodNode a.request.context bytes
+    pub node_good : number_in attribute_id bytes ≡ node_info → IsGoodNode accepted_as.request.context bytes
     node_good attribute =
-        good_node a.request.context bytes attribute
-        (attribute_good a.request.question (report_for w.sweep a.request bytes) a.judged_is (sym for.attribute ∙ attribute))
+        good_node accepted_as.request.context bytes attribute
+        (attribute_good accepted_as.request.question (report_for s accepted_as.request bytes) accepted_as.judged_is (sym for.attribute ∙ attribute))
 
-    reply_sound : IsSoundSweep (fabric_of start) seat (replied w.sweep bytes)
+    reply_sound : IsSoundSweep (fabric_of start) seat (replied s bytes)
     unfolding ended
     reply_sound =
-        subst (λ m. IsSoundSweep (fabric_of start) seat (replied_to w.sweep bytes m)) (sym a.belongs)
-        (replies.by_question (fabric_of start) seat w.sweep g.sound a.request can bytes told.end leads says for found.sound a.request.question refl
-        a.request.context refl found.sound.sound a.room node_good)
+        subst (λ m. IsSoundSweep (fabric_of start) seat (replied_to s bytes m)) (sym accepted_as.belongs)
+        (replies.by_question (fabric_of start) seat s sound accepted_as.request can bytes told.end leads says for found.sound accepted_as.request.question refl
+        accepted_as.request.context refl found.sound.sound accepted_as.room node_good)
 
     reply_true : AreTrue (fabric_of start) (told_by answer)
     reply_true =
-        subst (λ x. AreTrue (fabric_of start) (told_by x)) (sym a.answer_is)
-        (facts.by_question (fabric_of start) seat cabled w.sweep.generation a.request bytes told.end leads says for
-        node_good a.request.question refl a.request.context refl found.sound.sound.asks)
+        subst (λ x. AreTrue (fabric_of start) (told_by x)) (sym accepted_as.answer_is)
+        (facts.by_question (fabric_of start) seat cabled s.generation accepted_as.request bytes told.end leads says for
+        node_good accepted_as.request.question refl accepted_as.request.context refl found.sound.sound.asks)
 
-    reply_goes : Goes (record w { sweep = replied w.sweep bytes; reports = w.reports ++ reports_of answer })
-    reply_goes =
-        record {
-          scene = g.scene;
-          seat_is = g.seat_is;
-          sound = reply_sound;
-          asked = g.asked;
-          reports = reports_more w.reports answer g.reports reply_true;
-        }
+  reply_goes : (w : Sweeping) → Goes w → (bytes : List ℕ) → IsForManager start seat bytes → (answer : Answer) → judged w.sweep bytes ≡ Ok answer
+      → Goes (record w { sweep = replied w.sweep bytes; reports = w.reports ++ reports_of answer })
+  reply_goes w g bytes is answer taken =
+      record {
+        scene = g.scene;
+        seat_is = g.seat_is;
+        sound = reply_sound w.sweep g.sound bytes is answer taken;
+        asked = g.asked;
+        reports = reports_more w.reports answer g.reports (reply_true w.sweep g.sound bytes is answer taken);
+      }
 
   hearing_goes : (w : Sweeping) (m : Option Handed) → Goes w → ((h : Handed) → m ≡ Some h → IsForManager start h.at h.packet.bytes) → Goes (hearing w m)
   hearing_goes w None g were = g
@@ -294,7 +296,7 @@ module _ {start : Simulation} {seat : NodePort} (cables : AreCables start) (coun
 
   -- any event -----------------------------------------------------------------------------------------------
 
-  goes_on : (w : Sweeping) (event : SweepEvent) → Goes w → CanBe event → Goes (after_sweep_event w event)
+  pub goes_on : (w : Sweeping) (event : SweepEvent) → Goes w → CanBe event → Goes (after_sweep_event w event)
   goes_on w (Around event) g can_be =
       record {
         scene = continued cables counts w.scene event g.scene can_be;
@@ -309,7 +311,7 @@ module _ {start : Simulation} {seat : NodePort} (cables : AreCables start) (coun
       hearing_goes w (slice_get w.scene.handed which) g (λ h e. was_there start w.scene.handed which h g.scene.handed e)
   goes_on w (TimeOut transaction) g can_be = timeout_goes w transaction g
 
-  all_go_on : (events : List SweepEvent) (w : Sweeping) → Goes w → All CanBe events → Goes (after_sweep_events events w)
+  pub all_go_on : (events : List SweepEvent) (w : Sweeping) → Goes w → All CanBe events → Goes (after_sweep_events events w)
   all_go_on [] w g all = g
   all_go_on (event ∷ events) w g all =
       all_go_on events (after_sweep_event w event) (goes_on w event g (All-head CanBe event events all)) (All-tail CanBe event events all)
@@ -321,28 +323,42 @@ module _ {start : Simulation} {seat : NodePort} (cables : AreCables start) (coun
       All-cons (λ x. All (IsTrueSighting (fabric_of start)) (sightings_of x)) report reports
       (all_true (fabric_of start) (sightings_of report) all.0) (all_reports reports all.1)
 
+-- at the beginning ------------------------------------------------------------------------------------------
+
+module _ (w : Sweeping) (generation first : ℕ) (begins : Begins w generation first) where
+  pub few_ports_there : (place : ℕ) → port_count w.scene.fabric place ≤ 254
+  few_ports_there = few_ports w.scene.fabric (along_itself w.scene.fabric begins.quiet.fabric).agents
+
+  pub can_sweep : CanBeSwept (fabric_of w.scene.fabric) w.seat
+  can_sweep = can_be_swept w.scene.fabric begins.quiet.fabric w.seat begins.seat begins.distinct
+
+  pub cabled_there : IsCabled (fabric_of w.scene.fabric)
+  cabled_there = is_cabled w.scene.fabric begins.quiet.fabric
+
+  pub goes_first : Goes begins.quiet.fabric.cables few_ports_there can_sweep cabled_there w
+  goes_first =
+      let sweep : IsSoundSweep (fabric_of w.scene.fabric) w.seat (started w.seat.port generation first) = record {
+        origin = refl;
+        generation = begins.generation;
+        next = let few = begins.first in omega (arith, few);
+        queued = (record { sound = record { own = tt; short = omega arith; asks = refl }; number = begins.first }, tt);
+        outstanding = tt;
+        reached = tt;
+      } in
+      record {
+        scene = begun w.scene begins.quiet;
+        seat_is = refl;
+        sound = subst (IsSoundSweep (fabric_of w.scene.fabric) w.seat) (sym begins.sweep) sweep;
+        asked = subst (WereAsked begins.quiet.fabric.cables few_ports_there can_sweep cabled_there) (sym begins.asked) tt;
+        reports = subst (AreTrueReports begins.quiet.fabric.cables few_ports_there can_sweep cabled_there) (sym begins.reports) tt;
+      }
+
 -- the law ---------------------------------------------------------------------------------------------------
 
 pub accepted_facts_are_true : AcceptedFactsAreTrue
 accepted_facts_are_true w generation first events begins all =
-    let start = w.scene.fabric in
-    let is = begins.quiet.fabric in
-    let counts = few_ports start (along_itself start is).agents in
-    let can = can_be_swept start is w.seat begins.seat begins.distinct in
-    let cabled = is_cabled start is in
-    let sweep : IsSoundSweep (fabric_of start) w.seat (started w.seat.port generation first) = record {
-      origin = refl;
-      generation = begins.generation;
-      next = let few = begins.first in omega (arith, few);
-      queued = (record { sound = record { own = tt; short = omega arith; asks = refl }; number = begins.first }, tt);
-      outstanding = tt;
-      reached = tt;
-    } in
-    let goes : Goes is.cables counts can cabled w = record {
-      scene = begun w.scene begins.quiet;
-      seat_is = refl;
-      sound = subst (IsSoundSweep (fabric_of start) w.seat) (sym begins.sweep) sweep;
-      asked = subst (WereAsked is.cables counts can cabled) (sym begins.asked) tt;
-      reports = subst (AreTrueReports is.cables counts can cabled) (sym begins.reports) tt;
-    } in
-    all_reports is.cables counts can cabled _ (all_go_on is.cables counts can cabled events w goes all).reports
+    let cables = begins.quiet.fabric.cables in
+    let counts = few_ports_there w generation first begins in
+    let can = can_sweep w generation first begins in
+    let cabled = cabled_there w generation first begins in
+    all_reports cables counts can cabled _ (all_go_on cables counts can cabled events w (goes_first w generation first begins) all).reports
