@@ -153,7 +153,7 @@ flight
 ];
 
 /// Managers that meet in the triangle, and what they are then.
-const DUELS: [Row; 5] = [
+const DUELS: [Row; 8] = [
     // The greater priority wins over one that only discovers.
     (
         TRIANGLE,
@@ -194,6 +194,29 @@ state C
 "#,
         "state A standby\nstate B standby\nstate C master\n",
     ),
+    // An heir that the plan has no room for.
+    (
+        CROWDED,
+        "manager A \"H1\"[1] 1\nsweep A\ndrain 1000\nmanager B \"H2\"[1] 5\nsweep B\ndrain 1000\nsweep A\ndrain 1000\nhandover A\nstate A\n",
+        "refused NoRoom\nstate A master\n",
+    ),
+    // An heir whose node is disputed, so that its port has no LID.
+    (
+        DISPUTED,
+        "manager A \"H1\"[1] 1\nsweep A\ndrain 1000\nmanager B \"H2\"[1] 5\nsweep B\ndrain 1000\nsweep A\ndrain 1000\nhandover A\nplan A\n",
+        r#"refused Nobody
+lid 1 0000000000000010/0
+lid 2 0000000000000100/1
+switch 0000000000000010 top 2
+block 0 ff0001..
+"#,
+    ),
+    // Two of one GUID do not see each other.
+    (
+        ONE_GUID,
+        "manager A \"H1\"[1] 3\nmanager B \"H2\"[1] 3\nsweep A\nsweep B\ndrain 1000\nstate A\nstate B\n",
+        "state A master\nstate B master\n",
+    ),
     // What a manager is refused before a sweep is done, and as a master that saw nobody.
     (
         TRIANGLE,
@@ -201,6 +224,32 @@ state C
         "refused NotMaster\nrefused NotMaster\nrefused NotStandby\nrefused Nobody\n",
     ),
 ];
+
+/// Three end ports, and a table with room for two LIDs.
+const CROWDED: &str = r#"Switch 2 "S" guid 0x10 cap 3
+[1] "H1"[1]
+[2] "H2"[1]
+Hca 1 "H1" guid 0x100
+Hca 1 "H2" guid 0x200
+"#;
+
+/// Two adapters of one GUID that say different numbers of ports.
+const DISPUTED: &str = r#"Switch 3 "S" guid 0x10
+[1] "H1"[1]
+[2] "H2"[1]
+[3] "H3"[2]
+Hca 1 "H1" guid 0x100
+Hca 1 "H2" guid 0x200
+Hca 2 "H3" guid 0x200
+"#;
+
+/// Two adapters of one GUID.
+const ONE_GUID: &str = r#"Switch 2 "S" guid 0x10
+[1] "H1"[1]
+[2] "H2"[1]
+Hca 1 "H1" guid 0x100
+Hca 1 "H2" guid 0x100
+"#;
 
 /// The triangle with a third adapter.
 const TRIO: &str = r#"Switch 4 "S1" guid 0x10
