@@ -16,6 +16,11 @@ fn manager(alloc: Global) -> Result<Manager, Fail> {
     Ok(Manager::new(alloc, Guid::new(0x101), PortNum::new(1), priority))
 }
 
+/// Where packets come from.
+fn sender() -> Lid {
+    Lid::new(9)
+}
+
 /// What the adapter says: one port, which is down.
 fn told(attribute: AttributeId) -> [u8; 64] {
     if attribute == AttributeId::NODE_INFO {
@@ -39,7 +44,9 @@ fn answer(smp: &Smp) -> Smp {
 /// Takes the next packet and answers it; its TransactionID and what the answer came to.
 fn answered(manager: &mut Manager) -> Option<(u64, Option<ManagerFault>)> {
     let out = manager.take_outgoing()?;
-    let fault = manager.on_packet(answer(&out.packet).bytes(), None).err();
+    let fault = manager
+        .on_packet(answer(&out.packet).bytes(), Some(sender()))
+        .err();
     Some((out.packet.transaction_id(), fault))
 }
 
@@ -97,11 +104,16 @@ fn refuses_in_order(rt: HostRuntime) -> Result<(), Fail> {
         if let Some(byte) = bytes.get_mut(place) {
             *byte = value;
         }
-        assert!(rt; manager.on_packet(&bytes, None) == Err(fault), "{place}");
+        assert!(rt;
+            manager.on_packet(&bytes, Some(sender())) == Err(fault),
+            "{place}"
+        );
     }
-    assert!(rt; manager.on_packet(reply.bytes(), None).is_ok() && manager.store().count() == 2);
     assert!(rt;
-        manager.on_packet(reply.bytes(), None)
+        manager.on_packet(reply.bytes(), Some(sender())).is_ok() && manager.store().count() == 2
+    );
+    assert!(rt;
+        manager.on_packet(reply.bytes(), Some(sender()))
             == Err(ManagerFault::Sweep(SweepFault::NotOutstanding))
     );
     Ok(())
@@ -184,7 +196,7 @@ fn end(manager: &mut Manager, set: &Smp, was_done: Option<bool>) -> Option<Manag
         Some(false) => set.answer(Status(0x1C), &[0; 64]),
         None => return manager.on_timeout(set.transaction_id()).err(),
     };
-    manager.on_packet(answer.bytes(), None).err()
+    manager.on_packet(answer.bytes(), Some(sender())).err()
 }
 
 #[test]
@@ -245,11 +257,12 @@ fn takes_answers_to_its_steps(rt: HostRuntime) -> Result<(), Fail> {
             *byte = value;
         }
         assert!(rt;
-            manager.on_packet(&bytes, None) == Err(ManagerFault::Unasked) && !manager.written(),
+            manager.on_packet(&bytes, Some(sender())) == Err(ManagerFault::Unasked)
+                && !manager.written(),
             "{place}"
         );
     }
-    assert!(rt; manager.on_packet(answer.bytes(), None).is_ok() && manager.written());
+    assert!(rt; manager.on_packet(answer.bytes(), Some(sender())).is_ok() && manager.written());
     Ok(())
 }
 
@@ -297,7 +310,7 @@ fn polls_and_hands_over(rt: HostRuntime) -> Result<(), Fail> {
     manager.begin_sweep()?;
     while let Some(out) = manager.take_outgoing() {
         let reply = out.packet.answer(Status::DONE, &told_by_two(&out.packet)?);
-        manager.on_packet(reply.bytes(), None)?;
+        manager.on_packet(reply.bytes(), Some(sender()))?;
     }
     assert!(rt;
         manager.state() == SmState::Standby && manager.handover() == Err(ManagerFault::NotMaster)

@@ -177,8 +177,7 @@ fn requests() -> [(Smp, Status, Option<Lid>); 5] {
 fn other_requests_are_answered_and_move_nothing(rt: HostRuntime) -> Result<(), Fail> {
     let mut manager = master(rt.alloc())?;
     for (request, status, to) in requests() {
-        let from = if to.is_some() { Some(sender()) } else { None };
-        manager.on_packet(request.bytes(), from)?;
+        manager.on_packet(request.bytes(), Some(sender()))?;
         let is_answered = answers(&mut manager, status, to);
         assert!(rt;
             is_answered && manager.state() == SmState::Master,
