@@ -1,9 +1,8 @@
 //! A manager at a lone adapter, whose replies are made by hand.
 use super::*;
-use attr_codec::{Attribute, NodeInfo, NodeTypeNumber, PortInfo, PortState, Priority, SmInfo};
+use attr_codec::{Attribute, NodeInfo, NodeTypeNumber, PortInfo, PortState, Priority};
 use fact_join::Cell;
 use fact_store::{Key, ReportFault, Sighting, Store, Value};
-use sm_state::SmState;
 use smp_bytes::{
     AttributeId, Generation, Guid, Lid, Method, NodeType, PortNum, Smp, SmpFault, Status,
 };
@@ -263,66 +262,5 @@ fn takes_answers_to_its_steps(rt: HostRuntime) -> Result<(), Fail> {
         );
     }
     assert!(rt; manager.on_packet(answer.bytes(), Some(sender())).is_ok() && manager.written());
-    Ok(())
-}
-
-/// What an adapter of two says, each by one port, which is up; at the other one a manager in Standby sits, and wins.
-fn told_by_two(smp: &Smp) -> Result<[u8; 64], Fail> {
-    let guid = if smp.hop_count() == 0 { 0x100 } else { 0x200 };
-    if smp.attribute_id() == AttributeId::SM_INFO {
-        let other = SmInfo {
-            guid: Guid::new(0x201),
-            sm_key: 0,
-            act_count: 1,
-            priority: Priority::new(9).ok_or("16")?,
-            state: SmState::Standby.number(),
-        };
-        return Ok(other.encode());
-    }
-    if smp.attribute_id() == AttributeId::NODE_INFO {
-        let mut info = NodeInfo::decode(&told(AttributeId::NODE_INFO));
-        info.node_guid = Guid::new(guid);
-        info.port_guid = Guid::new(guid + 1);
-        return Ok(info.encode());
-    }
-    let mut info = PortInfo::decode(&[0; 64]);
-    info.set_port_state(PortState::Initialize);
-    info.set_is_sm(true);
-    Ok(info.encode())
-}
-
-/// The next packet: attribute, method, modifier and the LID that it goes to.
-fn next(manager: &mut Manager) -> Option<(u8, u32, Option<Lid>)> {
-    let out = manager.take_outgoing()?;
-    let is_info = out.packet.attribute_id() == AttributeId::SM_INFO;
-    is_info.then_some((
-        out.packet.method().0,
-        out.packet.attribute_modifier(),
-        out.to,
-    ))
-}
-
-#[test]
-fn polls_and_hands_over(rt: HostRuntime) -> Result<(), Fail> {
-    let mut manager = manager(rt.alloc())?;
-    let lid = Lid::new(2);
-    assert!(rt; manager.poll(lid) == Err(ManagerFault::NotStandby));
-    manager.begin_sweep()?;
-    while let Some(out) = manager.take_outgoing() {
-        let reply = out.packet.answer(Status::DONE, &told_by_two(&out.packet)?);
-        manager.on_packet(reply.bytes(), Some(sender()))?;
-    }
-    assert!(rt;
-        manager.state() == SmState::Standby && manager.handover() == Err(ManagerFault::NotMaster)
-    );
-    manager.poll(lid)?;
-    assert!(rt; next(&mut manager) == Some((0x01, 0, Some(lid))));
-    let control = Smp::lid_routed(Method::SET, AttributeId::SM_INFO, 1, 5, &[0; 64]);
-    manager.on_packet(control.bytes(), Some(Lid::new(9)))?;
-    let answer = next(&mut manager) == Some((0x81, 1, Some(Lid::new(9))));
-    let told = next(&mut manager) == Some((0x02, 2, Some(Lid::new(9))));
-    assert!(rt; answer && told && manager.state() == SmState::Master);
-    manager.handover()?;
-    assert!(rt; next(&mut manager) == Some((0x02, 1, Some(lid))));
     Ok(())
 }
