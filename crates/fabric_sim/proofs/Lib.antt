@@ -12,6 +12,8 @@ pub mod PortChanges
 pub mod Recabled
 pub mod SeenFabrics
 pub mod Serials
+pub mod Traced
+pub mod TracedCalls
 pub mod TripAdvances
 pub mod TripCalls
 pub mod TripEnds
