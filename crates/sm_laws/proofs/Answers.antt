@@ -175,6 +175,11 @@ no_attribute start p within answer is_sm_info =
       switch_info = λ e. let clash : sm_info ≡ switch_info = sym is_sm_info ∙ e in absurd (omega (arith, clash));
     }
 
+-- its bytes, however it goes
+pub bytes_answered : (request : Packet) (given : ℕ) (payload : List ℕ) → (answer_to request given payload).bytes ≡ answer_packet request.bytes given payload
+bytes_answered request given payload =
+    cond_both (is_directed request.bytes) _ _ (λ (p : Packet). p.bytes ≡ answer_packet request.bytes given payload) (λ _. refl) (λ _. refl)
+
 module _ {start : Simulation} (cables : AreCables start) (counts : (place : ℕ) → port_count start place ≤ 254) where
   manager_answers : (h : Handed) (seat : NodePort) (given : ℕ) (payload : List ℕ) → IsForManager start h.at h.packet.bytes → given < 2 ^ 15 → length payload ≡ 64
       → asks_manager seat h ≡ true → IsOnCourse start seat (answer_packet h.packet.bytes given payload)
@@ -232,7 +237,8 @@ module _ {start : Simulation} (cables : AreCables start) (counts : (place : ℕ)
   answers s seat given payload None c small whole was = c
   answers s seat given payload (Some h) c small whole was =
       cond_both (asks_manager seat h) _ _ (Continues start)
-      (λ asks. sends s seat (answer_to h.packet given payload) c (λ _. manager_answers h seat given payload (was h refl) small whole asks))
+      (λ asks. sends s seat (answer_to h.packet given payload) c
+      (λ _. subst (IsOnCourse start seat) (sym (bytes_answered h.packet given payload)) (manager_answers h seat given payload (was h refl) small whole asks)))
       (λ _. c)
 
   pub continued : (s : Scene) (event : Event) → Continues start s → CanHappen event → Continues start (after_event s event)

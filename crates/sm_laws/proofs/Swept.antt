@@ -70,7 +70,7 @@ module _ (start : Simulation) (is : IsSimulation start) where
             ∙ sym (ap (λ (n : Node). n.port_guid 0) same);
       }
 
-  can_be_swept : (seat : NodePort) → is_seat_at start seat ≡ true → AreGuidsDistinct (fabric_of start) → CanBeSwept (fabric_of start) seat
+  pub can_be_swept : (seat : NodePort) → is_seat_at start seat ≡ true → AreGuidsDistinct (fabric_of start) → CanBeSwept (fabric_of start) seat
   can_be_swept seat sits distinct =
       record {
         distinct = distinct;
@@ -149,7 +149,7 @@ module _ {start : Simulation} {seat : NodePort} (cables : AreCables start) (coun
       by_question (ask.Manager guid port) context is = omega arith
       by_question (ask.Port port) (About guid) is = let small = is.asks.small in omega (arith, small)
 
-  fits : (generation : ℕ) (r : Request) → generation < 2 ^ 32 → IsSoundRequest (fabric_of start) seat r
+  pub fits : (generation : ℕ) (r : Request) → generation < 2 ^ 32 → IsSoundRequest (fabric_of start) seat r
       → FitsRequest get (attribute_asked r.question) (modifier_asked r.question) (transaction_of generation r.number) (replicate 64 0)
   fits generation r few sound =
       let number = sound.number in
@@ -252,7 +252,7 @@ module _ {start : Simulation} {seat : NodePort} (cables : AreCables start) (coun
         good_node accepted_as.request.context bytes attribute
         (attribute_good accepted_as.request.question (report_for s accepted_as.request bytes) accepted_as.judged_is (sym for.attribute ∙ attribute))
 
-    reply_sound : IsSoundSweep (fabric_of start) seat (replied s bytes)
+    pub reply_sound : IsSoundSweep (fabric_of start) seat (replied s bytes)
     unfolding ended
     reply_sound =
         subst (λ m. IsSoundSweep (fabric_of start) seat (replied_to s bytes m)) (sym accepted_as.belongs)

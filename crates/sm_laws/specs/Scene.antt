@@ -76,10 +76,12 @@ abbrev pub asks_manager : NodePort → Handed → Bool
 asks_manager seat h =
     is_same_port h.at seat && not (is_response h.packet.bytes) && number_in attribute_id h.packet.bytes == sm_info
 
--- an answer goes back to where its request came from
+-- the answer to a directed request goes back by its path, and another one to the LID where its request came from
 abbrev pub answer_to : Packet → ℕ → List ℕ → Packet
 answer_to request status payload =
-    record { bytes = answer_packet request.bytes status payload; slid = request.dlid; dlid = request.slid }
+    let answer = answer_packet request.bytes status payload in
+    if is_directed request.bytes then directed_packet answer
+    else record { bytes = answer; slid = request.dlid; dlid = request.slid }
 
 abbrev pub answered_from : Scene → NodePort → ℕ → List ℕ → Option Handed → Scene
 answered_from s seat status payload None = s
