@@ -58,7 +58,7 @@ module _ (start : Simulation) (is : IsSimulation start) where
   is_agent : (place : ℕ) (a : Agent) → agent_at start place ≡ Some a → IsAgent a
   is_agent place a there = agent_there start.agents place a (along_itself start is).agents there
 
-  is_cabled : IsCabled (fabric_of start)
+  pub is_cabled : IsCabled (fabric_of start)
   is_cabled =
       record {
         back = is.cables.lead_back;

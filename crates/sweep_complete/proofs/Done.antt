@@ -55,7 +55,7 @@ covers_first f w generation first =
 
 module _ (w : Sweeping) (generation first : ℕ) (begins : Begins w generation first) where
   -- the seat is an end port
-  seat_end : IsEndPort (fabric_of w.scene.fabric) w.seat
+  pub seat_end : IsEndPort (fabric_of w.scene.fabric) w.seat
   seat_end =
       let start = w.scene.fabric in
       let port = seat_in_port begins.quiet.fabric.cables (few_ports_there w generation first begins) start

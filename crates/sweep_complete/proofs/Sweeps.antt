@@ -34,7 +34,7 @@ use Rattle.sweep_complete.proofs.Replies.{by_question}
 abbrev pub told_in : List Report → Told
 told_in reports = flat_map sightings_of reports
 
-told_more : (reports : List Report) (answer : Answer) → told_in (reports ++ reports_of answer) ≡ told_in reports ++ told_by answer
+pub told_more : (reports : List Report) (answer : Answer) → told_in (reports ++ reports_of answer) ≡ told_in reports ++ told_by answer
 told_more reports (Facts report) = flat_map-append sightings_of reports (report ∷ []) ∙ ap (λ l. told_in reports ++ l) (append-nil (sightings_of report))
 told_more reports (Seen guid port info) = flat_map-append sightings_of reports []
 

@@ -1,0 +1,130 @@
+-- The generations of what a manager knows fit 32 bits.
+use Rattle.std.proofs.Common.{◌≡◌, inl, inr, ℕ, ◌<◌, ◌^◌, List, [], ◌∷◌, ◌++◌, map, refl, sym, ap, ◌∙◌, subst, arith}
+use Rattle.std.proofs.lemmas.Bool.{cond_both, and_parts, ltb-true}
+use Rattle.std.proofs.lemmas.List.Elements.{All-head, All-tail}
+use Rattle.std.specs.Prelude.{Contains, Option, Some, None, All, nat_le, nat_lt, ◌==◌, ◌&&◌}
+use Rattle.fact_join.specs.declared.cell.Cell.{Cell}
+use Rattle.fact_join.specs.Cell.{generation_of}
+use Rattle.fact_store.specs.declared.key.Key.{Key}
+use Rattle.fact_store.specs.declared.value.Value.{Value}
+use Rattle.fact_store.specs.declared.report.Context.{Context}
+use Rattle.fact_store.specs.declared.report.Context.TheVariants.{Start, Via, About}
+use Rattle.attr_codec.specs.declared.node_info.NodeInfo.{NodeInfo}
+use Rattle.attr_codec.specs.NodeTypeNumber.{type_of_number}
+use Rattle.smp_bytes.specs.declared.node_type.NodeType.{NodeType}
+use Rattle.smp_bytes.specs.Header.{node_info, port_info}
+use Rattle.smp_bytes.specs.Field.{number_in}
+use Rattle.smp_bytes.specs.Packet.{attribute_id}
+use Rattle.fact_store.specs.Merge.{merge}
+use Rattle.fact_store.specs.Report.{Told, told_of_link, told_of_kind, told_by_port_info, told_by_switch_info, node_info_of, sightings_of}
+use Rattle.fact_store.specs.Sighting.{IsSighting, AreInRange, is_key, is_generation, is_cell_of}
+use Rattle.fact_store.specs.View.{Facts, view, newest_of, cells_of, no_facts}
+use Rattle.fact_store.proofs.Entries.{entries-view}
+use Rattle.fact_store.proofs.Orders.{contained_get}
+use Rattle.fact_store.proofs.SightingRanges.{newest_at}
+use Rattle.fact_store.proofs.ViewLaws.{view_of_its_cells}
+use Rattle.fact_store.proofs.Views.{get-view, newest_there, view_of_both}
+use Rattle.subnet_view.proofs.Apart.{contains-from_map}
+use Rattle.subnet_view.proofs.Members.{contains_here, contains_later, contains_cases, contains_none}
+use Rattle.sm_manager.specs.Manager.{newest_held}
+
+abbrev pub AreSmall : Told → Type 0
+AreSmall [] = Unit {0}
+AreSmall (x ∷ told) = (generation_of x.1 < 2 ^ 32) × AreSmall told
+
+small_more : (told more : Told) → AreSmall told → AreSmall more → AreSmall (told ++ more)
+small_more [] more small also = also
+small_more (x ∷ told) more small also = (small.0, small_more told more small.1 also)
+
+small_there : (told : Told) (x : Key × Cell Value) → AreSmall told → Contains told x → generation_of x.1 < 2 ^ 32
+small_there [] x small there = absurd (contains_none x there)
+small_there (y ∷ told) x small there =
+    elim (contains_cases y x told there) [
+      | inl i ↦ let same = ap (λ (z : Key × Cell Value). generation_of z.1) i in let is = small.0 in omega (arith, same, is)
+      | inr k ↦ small_there told x small.1 k
+    ]
+
+small_from : (told : Told) → ((x : Key × Cell Value) → Contains told x → generation_of x.1 < 2 ^ 32) → AreSmall told
+small_from [] all = tt
+small_from (x ∷ told) all = (all x (contains_here x told), small_from told (λ y there. all y (contains_later x y told there)))
+
+sighting_small : (x : Key × Cell Value) → IsSighting x → generation_of x.1 < 2 ^ 32
+sighting_small x is =
+    let parts = and_parts (is_key x.0 && is_generation (generation_of x.1)) (is_cell_of x.0 x.1) is in
+    let generation = and_parts (is_key x.0) (is_generation (generation_of x.1)) parts.0 in
+    ltb-true _ _ (and_parts (nat_le 1 (generation_of x.1)) (nat_lt (generation_of x.1) (2 ^ 32)) generation.1).1
+
+pub all_small : (told : Told) → All IsSighting told → AreSmall told
+all_small [] all = tt
+all_small (x ∷ told) all = (sighting_small x (All-head IsSighting x told all), all_small told (All-tail IsSighting x told all))
+
+-- what is known is the view of sightings of such generations
+pub record KnowsSmall (facts : Facts) : Type 0 where
+  pub told : Told
+  pub is : facts ≡ view told
+  pub small : AreSmall told
+
+pub in_range_small : (facts : Facts) → AreInRange facts → KnowsSmall facts
+in_range_small facts in_range =
+    record {
+      told = cells_of facts;
+      is = sym (view_of_its_cells facts);
+      small = small_from (cells_of facts) (λ x there. sighting_small x (in_range x.0 x.1 (contained_get facts x.0 x.1 there)));
+    }
+
+pub merged_small : (facts : Facts) (told : Told) → KnowsSmall facts → AreSmall told → KnowsSmall (merge facts (view told))
+merged_small facts told knows small =
+    record {
+      told = knows.told ++ told;
+      is = ap (λ x. merge x (view told)) knows.is ∙ sym (view_of_both knows.told told);
+      small = small_more knows.told told knows.small small;
+    }
+
+-- so is the greatest of them
+pub newest_small : (facts : Facts) → KnowsSmall facts → newest_held facts < 2 ^ 32
+newest_small facts knows = subst (λ x. newest_held x < 2 ^ 32) (sym knows.is) (by_cells (cells_of (view knows.told)) refl)
+  where
+    by_cells : (es : List (Key × Cell Value)) → cells_of (view knows.told) ≡ es → newest_of (map (λ e. e.1) es) < 2 ^ 32
+    by_cells [] e = omega arith
+    by_cells (x ∷ es) e =
+        let (c, there, newest) = newest_there x.1 (map (λ y. y.1) es) in
+        let (y, among, same) = contains-from_map (λ (y : Key × Cell Value). y.1) (x ∷ es) c there in
+        let held = contained_get (view knows.told) y.0 y.1 (subst (λ zs. Contains zs y) (sym e) among) in
+        let (d, sighted, generation) = (newest_at knows.told y.0 y.1 held).sighted in
+        let small = small_there knows.told (y.0, d) knows.small sighted in
+        let alike = ap generation_of same in
+        omega (arith, small, generation, alike, newest)
+
+-- what a report tells is of its generation
+module _ (generation : ℕ) (small : generation < 2 ^ 32) where
+  link_small : (context : Context) (info : NodeInfo) → AreSmall (told_of_link generation context info)
+  link_small (Via peer port) info = (small, (small, tt))
+  link_small Start info = tt
+  link_small (About guid) info = tt
+
+  kind_small : (context : Context) (info : NodeInfo) (m : Option NodeType) → AreSmall (told_of_kind generation context info m)
+  kind_small context info None = tt
+  kind_small context info (Some kind) = (small, (small, link_small context info))
+
+  port_small : (context : Context) (packet : List ℕ) → AreSmall (told_by_port_info generation context packet)
+  port_small (About node) packet = (small, (small, tt))
+  port_small Start packet = tt
+  port_small (Via guid port) packet = tt
+
+  switch_small : (context : Context) (packet : List ℕ) → AreSmall (told_by_switch_info generation context packet)
+  switch_small (About node) packet = (small, tt)
+  switch_small Start packet = tt
+  switch_small (Via guid port) packet = tt
+
+  pub report_small : (context : Context) (packet : List ℕ) → AreSmall (sightings_of (record { generation = generation; context = context; bytes = packet }))
+  report_small context packet =
+      cond_both (number_in attribute_id packet == node_info) _ _ AreSmall
+      (λ _. kind_small context (node_info_of packet) (type_of_number (node_info_of packet).node_type))
+      (λ _. cond_both (number_in attribute_id packet == port_info) _ _ AreSmall (λ _. port_small context packet) (λ _. switch_small context packet))
+
+-- where nothing is known, there is none, and nothing out of range
+pub nothing_newest : newest_held no_facts ≡ 0
+nothing_newest = ap (λ es. newest_of (map (λ e. e.1) es)) (entries-view [])
+
+pub nothing_held : AreInRange no_facts
+nothing_held key c e = absurd (cc (sym (get-view [] key) ∙ e))

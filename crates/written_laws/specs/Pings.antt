@@ -1,0 +1,41 @@
+-- Once the plan of a sweep that has every answer is written, pings arrive.
+use Rattle.std.specs.Prelude.{◌≡◌, ◌≢◌, true, List, [], ◌∷◌, Some, None}
+use Rattle.fact_store.specs.View.{cells_of, no_facts}
+use Rattle.sweep.specs.Sweep.{Sweep}
+use Rattle.sm_manager.specs.Manager.{begin_fault}
+use Rattle.sm_manager.specs.Writing.{is_written}
+use Rattle.sm_laws.specs.Pings.{EachPingArrives}
+use Rattle.sweep_complete.specs.Complete.{IsWhole}
+use Rattle.written_laws.specs.Managing.{Managing, ManagerEvent, Begin, Merge, after_manager_event, after_manager_events}
+use Rattle.written_laws.specs.Written.{IsWritingRun, at_writing, at_end, plan_at}
+
+-- no other sweep begins, and no facts of others are merged
+abbrev pub BeginsNoSweep : Managing → ManagerEvent → Type 0
+BeginsNoSweep w Begin = begin_fault w.manager ≢ None
+BeginsNoSweep w (Merge sightings) = sightings ≡ []
+BeginsNoSweep w event = Unit {0}
+
+abbrev pub AreNoSweeps : List ManagerEvent → Managing → Type 0
+AreNoSweeps [] w = Unit {0}
+AreNoSweeps (event ∷ events) w = BeginsNoSweep w event × AreNoSweeps events (after_manager_event w event)
+
+-- A manager that knows nothing sweeps, and writes the plan of what it was told.
+pub record BringsUp (w : Managing) (before between after : List ManagerEvent) : Type 0 where
+  pub run : IsWritingRun w before between after
+  -- it knows nothing when the sweep begins
+  pub knew_nothing : (after_manager_events before w).manager.store ≡ no_facts
+  -- until the writing it learns from this sweep alone
+  pub alone : AreNoSweeps between (after_manager_event (after_manager_events before w) Begin)
+  -- the sweep has every answer, and nothing was out of its reach
+  pub sweep : Sweep
+  pub is_last : (at_writing w before between).manager.sweep ≡ Some sweep
+  pub whole : IsWhole sweep
+  -- the plan is written in the end
+  pub written : is_written (at_end w before between after).manager ≡ true
+
+-- then each ping from an end port of what the seat is joined to, for each LID of the plan, reaches its owner
+abbrev pub PingsArriveOnceWritten : Type 0
+PingsArriveOnceWritten =
+    (w : Managing) (before between after : List ManagerEvent) → BringsUp w before between after
+    → EachPingArrives (cells_of (at_writing w before between).manager.store) (plan_at (at_writing w before between))
+    (at_end w before between after).scene.fabric w.seat

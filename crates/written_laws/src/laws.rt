@@ -1,0 +1,28 @@
+//! What is so once a manager's plan is written.
+ghost use Rattle.written_laws.specs.Managing.{NewManagersRest};
+ghost use Rattle.written_laws.specs.Pings.{PingsArriveOnceWritten};
+ghost use Rattle.written_laws.specs.Written.{WrittenPlansAreHeld};
+
+/// A manager that was just made waits for nothing and has nothing to send, so the laws below can
+/// begin with it.
+pub fn new_managers_rest()
+    ensures { NewManagersRest }
+{}
+
+/// Once a plan is written, each end port and each usable switch of the plan that the last sweep
+/// before the writing came to holds its LID, its blocks and the greatest LID. So it is on every
+/// fabric whose nodes have different GUIDs and agents in any state, whatever other managers send
+/// from their seats, whatever is lost, copied and reordered, however often or late a packet of the
+/// manager is sent or given to it, and whatever is asked of the manager meanwhile, as long as no
+/// cable changes, no other writing of it begins and each Set that an agent takes from the writing's
+/// first step on, unless it is one of the writing's own, carries the plan's values.
+pub fn written_plans_are_held()
+    ensures { WrittenPlansAreHeld }
+{}
+
+/// When a manager that knows nothing has swept, with every answer and nothing out of reach, and the
+/// plan of what it was told is written, each ping from an end port of what the manager's seat is
+/// joined to, for each LID of the plan, reaches the end port that owns the LID.
+pub fn pings_arrive_once_written()
+    ensures { PingsArriveOnceWritten }
+{}
