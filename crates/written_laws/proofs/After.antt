@@ -1,5 +1,6 @@
 -- From the writing on: each step that counts is still to be sent, or waits for its answer, or is held by its agent, or failed.
-use Rattle.std.proofs.Common.{◌≡◌, ◌⊎◌, inl, inr, ℕ, ◌+◌, ◌/◌, ◌%◌, ◌<◌, ◌≤◌, ◌^◌, Bool, true, false, cond, List, [], ◌∷◌, ◌++◌, length, refl, sym, ap, ◌∙◌, subst, arith}
+use Rattle.std.proofs.Common.{◌≡◌, ◌⊎◌, inl, inr, ℕ, ◌+◌, ◌/◌, ◌%◌, ◌<◌, ◌≤◌, ◌^◌, Bool, true, false, cond, List, [], ◌∷◌, ◌++◌, length}
+use Rattle.std.proofs.Common.{refl, sym, ap, ◌∙◌, subst, arith}
 use Rattle.std.proofs.lemmas.Bool.{cond_both, and_parts, and_from, eqb-true, eqb-false, ltb-false, leb-false}
 use Rattle.std.proofs.lemmas.List.Elements.{All-head, All-tail}
 use Rattle.std.specs.Prelude.{Contains, Option, Some, None, All, drop, is_none, nat_le, not, slice_get, ◌==◌, ◌&&◌, ◌||◌}
@@ -9,7 +10,8 @@ use Rattle.smp_bytes.specs.Answers as smp
 use Rattle.smp_bytes.specs.Cables.{is_same_port}
 use Rattle.smp_bytes.specs.Header.{get_resp}
 use Rattle.smp_bytes.specs.Field.{number_in}
-use Rattle.smp_bytes.specs.Packet.{attribute_id, attribute_modifier, hop_count, mgmt_class, status_word, method, transaction_id, is_directed, is_response, status}
+use Rattle.smp_bytes.specs.Packet.{attribute_id, attribute_modifier, hop_count, mgmt_class, status_word, method, transaction_id}
+use Rattle.smp_bytes.specs.Packet.{is_directed, is_response, status}
 use Rattle.smp_bytes.specs.Requests.{directed}
 use Rattle.smp_bytes.proofs.BitLaws.{byte-number_in}
 use Rattle.dr_forward.proofs.Trips.{field_kept}
@@ -30,20 +32,25 @@ use Rattle.sm_manager.specs.Packets.{Called, answers, unless_spent, took, gave_u
 use Rattle.sm_manager.specs.Plans.{writing_fault}
 use Rattle.sm_manager.specs.Requests.{counts, is_for_step, is_step, no_step_waits, none_counts, without_number}
 use Rattle.sm_manager.specs.Writing.{is_spent, is_written, is_written_by, next_phase, next_pending, noted, passed, phase_sent, step_over, went_on_with}
-use Rattle.sm_laws.specs.Scene.{Handed, Scene, Sending, ByLid, ByPath, Answer, Event, Deliver, Lose, Repeat, Send as SendFrom, after_event, answer_to, answered_from, asks_manager, sent, sent_from}
+use Rattle.sm_laws.specs.Scene.{Handed, Scene, Sending, ByLid, ByPath, Answer, Event, Deliver, Lose, Repeat, Send as SendFrom, after_event}
+use Rattle.sm_laws.specs.Scene.{answer_to, answered_from, asks_manager, sent, sent_from}
 use Rattle.sm_laws.proofs.Answers.{was_there}
-use Rattle.written_laws.specs.Managing.{Managing, ManagerEvent, Around, Begin, Write, Take, Send, Hear, TimeOut, Merge, Poll, HandOver, CanBe, packet_of, sending, hearing}
+use Rattle.written_laws.specs.Managing.{Managing, ManagerEvent, Around, Begin, Write, Take, Send, Hear, TimeOut, Merge, Poll, HandOver}
+use Rattle.written_laws.specs.Managing.{CanBe, packet_of, sending, hearing}
 use Rattle.written_laws.specs.Managing.{after_manager_event, after_manager_events}
 use Rattle.written_laws.specs.Sets.{Carries, KeepsPlan, OwnSets}
 use Rattle.written_laws.specs.Written.{Keeps, AllKeep}
 use Rattle.written_laws.proofs.Before.{is_none-none, takes_first}
 use Rattle.written_laws.proofs.Calls.{HeardBy, beside_swept, hands_over, packet_comes, polls_beside, time_passes}
-use Rattle.written_laws.proofs.Fair.{BesideCall, CanGo, IsFair, IsOwnPacket, own_steps, step_is_own, fair_beside, fair_later, fair_taken, fair_sent, fair_around}
+use Rattle.written_laws.proofs.Fair.{BesideCall, CanGo, IsFair, IsOwnPacket, own_steps, step_is_own, fair_beside, fair_later, fair_taken}
+use Rattle.written_laws.proofs.Fair.{fair_sent, fair_around}
 use Rattle.written_laws.proofs.Generations.{all_small}
 use Rattle.written_laws.proofs.Goes.{heard_at_seat, phase_fair}
 use Rattle.written_laws.proofs.Lists.{in_left, in_right, in_either}
-use Rattle.written_laws.proofs.Numbered.{AreOnce, HasNumber, from_passed, least_number, length-sent_from, most_number, next_is_of, next_or_rest, next_sent, none_left_counts}
-use Rattle.written_laws.proofs.Numbered.{none_pending_counts, numbered_from, once_without, one_of_number, others_wait, others_waited, out_of, passed_is_of, pending_of}
+use Rattle.written_laws.proofs.Numbered.{AreOnce, HasNumber, from_passed, least_number, length-sent_from, most_number, next_is_of}
+use Rattle.written_laws.proofs.Numbered.{next_or_rest, next_sent, none_left_counts}
+use Rattle.written_laws.proofs.Numbered.{none_pending_counts, numbered_from, once_without, one_of_number, others_wait, others_waited}
+use Rattle.written_laws.proofs.Numbered.{out_of, passed_is_of, pending_of}
 use Rattle.written_laws.proofs.Numbered.{rest_is_of, waits_as, as_waits}
 use Rattle.written_laws.proofs.Scenes.{Sends, Tells, AnswersStep, IsOld, traced_there, same_agents, Stays}
 use Rattle.written_laws.proofs.Steps.{IsOf, StepSent}
@@ -94,7 +101,8 @@ module _ (start : Simulation) (seat : NodePort) (plan : PlanValue) (c : ℕ) (ph
 
   -- the next phase goes out ---------------------------------------------------------------------------------
 
-  module _ (s : Simulation) (all : List StepSent) (pending : List Pending) (counter : ℕ) (v : Writing) (from : c ≤ counter) (way : IsOnWay s all pending counter v) where
+  module _ (s : Simulation) (all : List StepSent) (pending : List Pending) (counter : ℕ) (v : Writing) (from : c ≤ counter)
+      (way : IsOnWay s all pending counter v) where
     new : List StepSent
     new = next_sent counter v.later
 
@@ -113,7 +121,8 @@ module _ (start : Simulation) (seat : NodePort) (plan : PlanValue) (c : ℕ) (ph
         let long = length-sent_from (next_phase v.later).counts counter (next_phase v.later).steps in
         omega (arith, below, long)
 
-    all_once : (x y : StepSent) → Contains all x ⊎ Contains (next_sent counter v.later) x → Contains all y ⊎ Contains (next_sent counter v.later) y → x.number ≡ y.number → x ≡ y
+    all_once : (x y : StepSent) → Contains all x ⊎ Contains (next_sent counter v.later) x → Contains all y ⊎ Contains (next_sent counter v.later) y
+        → x.number ≡ y.number → x ≡ y
     all_once x y (inl i) (inl j) same = way.once x y i j same
     all_once x y (inl i) (inr k) same = let low = way.below x i in let high = new_from y k in absurd (omega (arith, low, high, same))
     all_once x y (inr k) (inl i) same = let low = way.below y i in let high = new_from x k in absurd (omega (arith, low, high, same))
@@ -138,7 +147,8 @@ module _ (start : Simulation) (seat : NodePort) (plan : PlanValue) (c : ℕ) (ph
               | inl failed ↦ inl failed
               | inr y ↦ inr (elim y [ inl is_done ↦ inl is_done | inr waiting ↦ inr (in_left pending (next_pending counter v.later) (pending_of x) waiting) ])
             ]
-            | inr k ↦ inr (inr (in_right pending (next_pending counter v.later) (pending_of x) (as_waits (next_phase v.later).counts counter (next_phase v.later).steps x k)))
+            | inr k ↦ inr (inr (in_right pending (next_pending counter v.later) (pending_of x)
+                (as_waits (next_phase v.later).counts counter (next_phase v.later).steps x k)))
           ];
           later = λ counts t is. way.later counts t (rest_is_of v.later counts t (from_passed (drop 1 v.later) counts t is));
           sent = λ counts t is. elim (way.sent counts t is) [
@@ -237,7 +247,8 @@ module _ (start : Simulation) (seat : NodePort) (plan : PlanValue) (c : ℕ) (ph
         ];
       }
 
-  pub beside_writes : (w : Managing) (after : Manager) → Writes w → BesideCall start seat plan ⊥ w.scene.handed w.manager after → Writes (record w { manager = after })
+  pub beside_writes : (w : Managing) (after : Manager) → Writes w → BesideCall start seat plan ⊥ w.scene.handed w.manager after
+      → Writes (record w { manager = after })
   beside_writes w after g call =
       record {
         all = g.all;
@@ -245,13 +256,15 @@ module _ (start : Simulation) (seat : NodePort) (plan : PlanValue) (c : ℕ) (ph
         from = let upto = call.upto in let from = g.from in omega (arith, from, upto);
         now = g.now;
         writing = call.writing ∙ g.writing;
-        way = beside_way w.scene.fabric g.all w.manager.pending after.pending w.manager.counter after.counter g.now call.upto call.steps_stay call.steps_were g.way;
+        way = beside_way w.scene.fabric g.all w.manager.pending after.pending w.manager.counter after.counter g.now call.upto call.steps_stay call.steps_were
+            g.way;
       }
 
   -- what an answer says ----------------------------------------------------------------------------------------
 
   module _ (all : List StepSent) where
-    same_status : (s : Simulation) (bytes : List ℕ) (r : IsAnswerFor (Sends start seat plan c all) (Tells start seat plan c all s) start seat bytes) → status r.answer ≡ status bytes
+    same_status : (s : Simulation) (bytes : List ℕ) (r : IsAnswerFor (Sends start seat plan c all) (Tells start seat plan c all s) start seat bytes)
+        → status r.answer ≡ status bytes
     same_status s bytes r =
         let class = field_kept mgmt_class r.answer bytes (inl (omega arith)) r.kept in
         let word = field_kept status_word r.answer bytes (inl (omega arith)) r.kept in
@@ -274,14 +287,17 @@ module _ (start : Simulation) (seat : NodePort) (plan : PlanValue) (c : ℕ) (ph
         outer : ((number_in method bytes == get_resp) ≡ true)
             × (smp.answers bytes f.step.number f.step.step.attribute f.step.step.modifier (Some f.step.step.path) ≡ true)
         outer =
-            and_parts (number_in method bytes == get_resp) (smp.answers bytes f.step.number f.step.step.attribute f.step.step.modifier (Some f.step.step.path)) of_step
+            and_parts (number_in method bytes == get_resp) (smp.answers bytes f.step.number f.step.step.attribute f.step.step.modifier
+            (Some f.step.step.path)) of_step
 
         resp : number_in method bytes ≡ get_resp
         resp = eqb-true _ _ outer.0
 
-        inner : ((f.step.number == number_in transaction_id bytes) ≡ true) × (smp.is_of bytes f.step.step.attribute f.step.step.modifier (Some f.step.step.path) ≡ true)
+        inner : ((f.step.number == number_in transaction_id bytes) ≡ true) × (smp.is_of bytes f.step.step.attribute f.step.step.modifier
+            (Some f.step.step.path) ≡ true)
         inner =
-            and_parts (f.step.number == number_in transaction_id bytes) (smp.is_of bytes f.step.step.attribute f.step.step.modifier (Some f.step.step.path)) outer.1
+            and_parts (f.step.number == number_in transaction_id bytes) (smp.is_of bytes f.step.step.attribute f.step.step.modifier (Some f.step.step.path))
+            outer.1
 
         number : number_in transaction_id bytes ≡ f.step.number
         number = sym (eqb-true _ _ inner.0)
@@ -290,11 +306,13 @@ module _ (start : Simulation) (seat : NodePort) (plan : PlanValue) (c : ℕ) (ph
         is_way =
             let by_attribute = and_parts (number_in attribute_id bytes == f.step.step.attribute)
             (number_in attribute_modifier bytes == f.step.step.modifier && smp.goes_by bytes (Some f.step.step.path)) inner.1 in
-            let by_modifier = and_parts (number_in attribute_modifier bytes == f.step.step.modifier) (smp.goes_by bytes (Some f.step.step.path)) by_attribute.1 in
+            let by_modifier = and_parts (number_in attribute_modifier bytes == f.step.step.modifier)
+            (smp.goes_by bytes (Some f.step.step.path)) by_attribute.1 in
             (and_parts (is_directed bytes) (number_in hop_count bytes == length f.step.step.path && smp.has_ports bytes 1 f.step.step.path) by_modifier.1).0
 
         low : number_in transaction_id bytes < 2 ^ 32
-        low = leb-false _ _ (by_tests (number_in method bytes == get_resp) (is_directed bytes) (nat_le (2 ^ 32) (number_in transaction_id bytes)) outer.0 is_way heard.no_sweep)
+        low = leb-false _ _ (by_tests (number_in method bytes == get_resp) (is_directed bytes)
+            (nat_le (2 ^ 32) (number_in transaction_id bytes)) outer.0 is_way heard.no_sweep)
           where
             by_tests : (a b d : Bool) → a ≡ true → b ≡ true → (a && (b && d)) ≡ false → d ≡ false
             by_tests true true d e f h = h
@@ -307,7 +325,8 @@ module _ (start : Simulation) (seat : NodePort) (plan : PlanValue) (c : ℕ) (ph
         by_answer : (r : IsAnswerFor (Sends start seat plan c all) (Tells start seat plan c all s) start seat bytes)
             → IsOld start seat plan c all r.answer ⊎ AnswersStep start seat plan c all s r.answer → IsDone start seat plan s f.step
         by_answer r told =
-            let kept : number_in transaction_id bytes ≡ number_in transaction_id r.answer = field_kept transaction_id r.answer bytes (inr (omega arith, omega arith)) r.kept in
+            let kept : number_in transaction_id bytes ≡ number_in transaction_id r.answer = field_kept transaction_id r.answer bytes
+            (inr (omega arith, omega arith)) r.kept in
             let from = least f.step f.there in
             elim told [
               | inl old ↦ elim old [
@@ -326,12 +345,14 @@ module _ (start : Simulation) (seat : NodePort) (plan : PlanValue) (c : ℕ) (ph
     goods w g x there = good x (g.way.known x there)
 
     -- a phase goes out
-    pub phase_writes : (w : Managing) (m : Manager) (v : Writing) (all : List StepSent) → IsFair start seat plan ⊥ c all w → c ≤ m.counter → m.outgoing ≡ w.manager.outgoing
+    pub phase_writes : (w : Managing) (m : Manager) (v : Writing) (all : List StepSent) → IsFair start seat plan ⊥ c all w → c ≤ m.counter
+        → m.outgoing ≡ w.manager.outgoing
         → SweepSide start seat ⊥ m → AreOnce m.counter m.pending → IsOnWay w.scene.fabric all m.pending m.counter v
         → m.counter + length (next_phase v.later).steps ≤ 2 ^ 32 → Writes (record w { manager = phase_sent m v })
     phase_writes w m v all fair from outgoing side once way most =
         let more = all ++ next_sent m.counter v.later in
-        let grown = fair_later start seat plan c c all (all ++ next_sent m.counter v.later) (omega arith) (λ x there. in_left all (next_sent m.counter v.later) x there) ⊥ w fair in
+        let grown = fair_later start seat plan c c all (all ++ next_sent m.counter v.later) (omega arith)
+        (λ x there. in_left all (next_sent m.counter v.later) x there) ⊥ w fair in
         record {
           all = all ++ next_sent m.counter v.later;
           fair = phase_fair start seat plan ⊥ c (all ++ next_sent m.counter v.later) w grown m v outgoing side once
@@ -410,7 +431,8 @@ module _ (start : Simulation) (seat : NodePort) (plan : PlanValue) (c : ℕ) (ph
     -- any event ------------------------------------------------------------------------------------------------
 
     module _ (ground : Ground start seat) (own : OwnSets)
-        (owns : (now : Simulation) → IsAlong start now → (at : NodePort) (a : Agent) (packet : List ℕ) → agent_at now at.node ≡ Some a → own at packet → Carries plan a at.port packet) where
+        (owns : (now : Simulation) → IsAlong start now → (at : NodePort) (a : Agent)
+        (packet : List ℕ) → agent_at now at.node ≡ Some a → own at packet → Carries plan a at.port packet) where
       -- whatever is sent, no agent changes
       sent_from_agents : (w : Managing) (at : NodePort) (packet : Packet) → Writes w → (sent_from w.scene at packet).fabric.agents ≡ w.scene.fabric.agents
       sent_from_agents w at packet g =
@@ -421,18 +443,21 @@ module _ (start : Simulation) (seat : NodePort) (plan : PlanValue) (c : ℕ) (ph
           → (answered_from w.scene at given payload m).fabric.agents ≡ w.scene.fabric.agents
       answered_agents w at given payload None g = refl
       answered_agents w at given payload (Some h) g =
-          cond_both (asks_manager at h) _ _ (λ (x : Scene). x.fabric.agents ≡ w.scene.fabric.agents) (λ _. sent_from_agents w at (answer_to h.packet given payload) g) (λ _. refl)
+          cond_both (asks_manager at h) _ _ (λ (x : Scene). x.fabric.agents ≡ w.scene.fabric.agents)
+          (λ _. sent_from_agents w at (answer_to h.packet given payload) g) (λ _. refl)
 
       sent_agents : (w : Managing) (s : Sending) (at : NodePort) → Writes w → (sent w.scene at s).fabric.agents ≡ w.scene.fabric.agents
       sent_agents w (ByLid packet) at g = sent_from_agents w at packet g
-      sent_agents w (ByPath method attribute modifier tid path payload) at g = sent_from_agents w at (directed_packet (directed method attribute modifier tid path payload)) g
+      sent_agents w (ByPath method attribute modifier tid path payload) at g = sent_from_agents w at
+          (directed_packet (directed method attribute modifier tid path payload)) g
       sent_agents w (Answer which given payload) at g = answered_agents w at given payload (slice_get w.scene.handed which) g
 
       around_stays : (w : Managing) (event : Event) (g : Writes w) → KeepsPlan plan own w.scene.fabric event
           → Stays start seat plan c g.all w.scene.fabric (after_event w.scene event).fabric
       around_stays w (Deliver n) g keeps =
           λ x there held. done_stays start w.scene.fabric seat plan g.fair.scene.fabric.along n
-          (λ at a packet takes. elim (keeps at a packet takes) [ inl is_own ↦ owns w.scene.fabric g.fair.scene.fabric.along at a packet takes.there is_own | inr carries ↦ carries ])
+          (λ at a packet takes. elim (keeps at a packet takes)
+          [ inl is_own ↦ owns w.scene.fabric g.fair.scene.fabric.along at a packet takes.there is_own | inr carries ↦ carries ])
           (agents_after (Sends start seat plan c g.all) (Tells start seat plan c g.all w.scene.fabric) ground.cables ground.counts g.fair.scene.fabric.along
           g.fair.scene.fabric.is g.fair.traced.flights n)
           x (goods w g x there) held
@@ -452,7 +477,8 @@ module _ (start : Simulation) (seat : NodePort) (plan : PlanValue) (c : ℕ) (ph
       heard_writes w which (Some h) e g =
           cond_both (is_same_port h.at w.seat) _ _ Writes
           (λ same. elim (packet_comes start seat plan ground ⊥ w.scene.handed w.manager g.fair.side g.fair.once which h (Some h.packet.slid) e
-          (ap (is_same_port h.at) (sym g.fair.seat_is) ∙ same) (heard_at_seat start seat w h g.fair.seat_is same (was_there start w.scene.handed which h g.fair.scene.handed e))) [
+          (ap (is_same_port h.at) (sym g.fair.seat_is) ∙ same)
+          (heard_at_seat start seat w h g.fair.seat_is same (was_there start w.scene.handed which h g.fair.scene.handed e))) [
             | inl call ↦ beside_writes w (took w.manager h.packet.bytes (Some h.packet.slid)).manager g call
             | inr ends ↦ subst (λ x. Writes (record w { manager = x })) (sym ends.is)
                 (step_writes w g ends.step ends.there (ap is_for_step ends.purpose_is) ends.was_done
@@ -467,7 +493,8 @@ module _ (start : Simulation) (seat : NodePort) (plan : PlanValue) (c : ℕ) (ph
               let node = eqb-true _ _ parts.0 in
               let port = eqb-true _ _ parts.1 in
               let here : h.at ≡ w.seat = λ j. record { node = node j; port = port j } in
-              subst (λ q. IsForManager (Sends start seat plan c g.all) (Tells start seat plan c g.all w.scene.fabric) start q h.packet.bytes) (here ∙ g.fair.seat_is)
+              subst (λ q. IsForManager (Sends start seat plan c g.all) (Tells start seat plan c g.all w.scene.fabric) start q h.packet.bytes)
+              (here ∙ g.fair.seat_is)
               (traced_there start seat plan c g.all w.scene.fabric w.scene.handed which h g.fair.traced.handed e)
 
       pub event_writes : (w : Managing) (event : ManagerEvent) → Keeps plan own w event → Writes w → CanBe seat event → Writes (after_manager_event w event)
@@ -484,7 +511,8 @@ module _ (start : Simulation) (seat : NodePort) (plan : PlanValue) (c : ℕ) (ph
       event_writes w Begin keeps g can_be =
           cond_both (is_none (begin_fault w.manager)) _ _ (λ x. Writes (record w { manager = x }))
           (λ e. beside_writes w (sweep_begun w.manager) g
-          (beside_swept start seat plan ground ⊥ w.scene.handed ⊥ w.manager (sweep_begun w.manager) g.fair.once (begun start seat ⊥ w.manager g.fair.side (is_none-none _ e))))
+          (beside_swept start seat plan ground ⊥ w.scene.handed ⊥ w.manager (sweep_begun w.manager) g.fair.once
+          (begun start seat ⊥ w.manager g.fair.side (is_none-none _ e))))
           (λ _. g)
       event_writes w Write keeps g can_be =
           cond_both (is_none (writing_fault w.manager)) _ _ (λ x. Writes (record w { manager = x }))
@@ -524,13 +552,15 @@ module _ (start : Simulation) (seat : NodePort) (plan : PlanValue) (c : ℕ) (ph
           ]
       event_writes w (Merge sightings) keeps g can_be =
           beside_writes w _ g
-          (beside_swept start seat plan ground ⊥ w.scene.handed ⊥ w.manager _ g.fair.once (facts_merged start seat ⊥ w.manager g.fair.side sightings (all_small sightings can_be)))
+          (beside_swept start seat plan ground ⊥ w.scene.handed ⊥ w.manager _ g.fair.once
+          (facts_merged start seat ⊥ w.manager g.fair.side sightings (all_small sightings can_be)))
       event_writes w (Poll lid) keeps g can_be =
           beside_writes w _ g (polls_beside start seat plan ground ⊥ w.scene.handed w.manager g.fair.side g.fair.once lid)
       event_writes w HandOver keeps g can_be =
           beside_writes w _ g (hands_over start seat plan ground ⊥ w.scene.handed w.manager g.fair.side g.fair.once)
 
-      pub after_writes : (events : List ManagerEvent) (w : Managing) → AllKeep plan own events w → Writes w → All (CanBe seat) events → Writes (after_manager_events events w)
+      pub after_writes : (events : List ManagerEvent) (w : Managing) → AllKeep plan own events w → Writes w → All (CanBe seat) events
+          → Writes (after_manager_events events w)
       after_writes [] w keep g all_can = g
       after_writes (event ∷ events) w keep g all_can =
           after_writes events (after_manager_event w event) keep.1

@@ -139,7 +139,8 @@ module _ (w : Managing) (before between after : List ManagerEvent) (run : IsWrit
         (record {
           scene = all.scene ∙ ap (λ (y : Sweeping). y.scene) is;
           seat = all.seat ∙ ap (λ (y : Sweeping). y.seat) is ∙ sym (held.went_before w before between after run).fair.seat_is;
-          sweep = (λ j. Some (with_all_sent (started (port j) (newest j + 1) 1))) ∙ ap (λ y. Some (with_all_sent y)) (one_is ∙ sym (ap (λ (y : Sweeping). y.sweep) is)) ∙ ap (λ y. Some y) (sym all.sweep);
+          sweep = (λ j. Some (with_all_sent (started (port j) (newest j + 1) 1)))
+              ∙ ap (λ y. Some (with_all_sent y)) (one_is ∙ sym (ap (λ (y : Sweeping). y.sweep) is)) ∙ ap (λ y. Some y) (sym all.sweep);
           store = store ∙ ap facts_of (sym reports);
         })
       where
@@ -157,7 +158,8 @@ module _ (w : Managing) (before between after : List ManagerEvent) (run : IsWrit
     followed : IsFollowed (at_writing w before between) ready
     unfolding ready first
     followed =
-        between_followed between (after_manager_event (after_manager_events before w) Begin) ready alone (held.swept_first w before between after run) run.between_can
+        between_followed between (after_manager_event (after_manager_events before w) Begin) ready alone
+        (held.swept_first w before between after run) run.between_can
         (begun_followed (after_sweep_events seen.events first) (seen.is first refl))
 
     there : Sweeping
@@ -170,7 +172,8 @@ module _ (w : Managing) (before between after : List ManagerEvent) (run : IsWrit
         Writes w.scene.fabric w.seat (plan_at (at_writing w before between)) (at_writing w before between).manager.counter
         (held.phases w before between after run sweep sweep_is) x
 
-    after_seen : (events : List ManagerEvent) (x : Managing) → AllKeep (plan_at (at_writing w before between)) (own_sets w (at_writing w before between)) events x → Runs x → All (CanBe w.seat) events
+    after_seen : (events : List ManagerEvent) (x : Managing)
+        → AllKeep (plan_at (at_writing w before between)) (own_sets w (at_writing w before between)) events x → Runs x → All (CanBe w.seat) events
         → SeenBySweeps x.scene (after_manager_events events x).scene
     after_seen [] x keep g all = none_seen x.scene
     after_seen (event ∷ events) x keep g all =
@@ -182,7 +185,8 @@ module _ (w : Managing) (before between after : List ManagerEvent) (run : IsWrit
         (event_seen s w.seat p ⊥ c g.all x event g.fair can)
         (after_seen events (after_manager_event x event) keep.1
         (event_writes s w.seat p c (held.phases w before between after run sweep sweep_is) (held.good w before between after run sweep sweep_is)
-        (held.ground w before between after run) (own_sets w (at_writing w before between)) (held.owns w before between after run sweep sweep_is) x event keep.0 g can)
+        (held.ground w before between after run) (own_sets w (at_writing w before between))
+        (held.owns w before between after run sweep sweep_is) x event keep.0 g can)
         (All-tail (CanBe w.seat) event events all))
 
     later_seen : SeenBySweeps (at_writing w before between).scene (at_end w before between after).scene
@@ -221,7 +225,8 @@ module _ (w : Managing) (before between after : List ManagerEvent) (run : IsWrit
         (fabric_of (at_end w before between after).scene.fabric)
     unfolding there first
     known_agrees whole =
-        subst (λ y. AgreesOn (IsJoinedTo (fabric_of (at_end w before between after).scene.fabric) w.seat) (cells_of y) (fabric_of (at_end w before between after).scene.fabric))
+        subst (λ y. AgreesOn (IsJoinedTo (fabric_of (at_end w before between after).scene.fabric) w.seat) (cells_of y)
+        (fabric_of (at_end w before between after).scene.fabric))
         (sym followed.follows.store) (found_all whole).at_last
 
     -- and the sweep came to each end port of it
@@ -242,14 +247,16 @@ module _ (w : Managing) (before between after : List ManagerEvent) (run : IsWrit
         (seat_end first 1 1 first_begins)
 
     pub arrives : IsWhole sweep → is_written (at_end w before between after).manager ≡ true
-        → EachPingArrives (cells_of (at_writing w before between).manager.store) (plan_at (at_writing w before between)) (at_end w before between after).scene.fabric w.seat
+        → EachPingArrives (cells_of (at_writing w before between).manager.store) (plan_at (at_writing w before between))
+        (at_end w before between after).scene.fabric w.seat
     arrives whole written =
         let f = (at_end w before between after).scene.fabric in
         let facts = (at_writing w before between).manager.store in
         let may = held.may w before between after run sweep sweep_is in
         let agrees = known_agrees whole in
         pings_arrive facts f w.seat may.has_room (held.at_end_is w before between after run sweep sweep_is) seat_is_end agrees
-        (holds_plan facts may.has_room (IsJoinedTo (fabric_of f) w.seat) (fabric_of f) sweep agrees (held.is_held w before between after run sweep sweep_is written)
+        (holds_plan facts may.has_room (IsJoinedTo (fabric_of f) w.seat) (fabric_of f) sweep agrees
+        (held.is_held w before between after run sweep sweep_is written)
         (reached_known whole))
 
 pub pings_arrive_once_written : PingsArriveOnceWritten

@@ -19,7 +19,8 @@ use Rattle.sm_manager.specs.Requests.{is_for_step}
 use Rattle.sm_manager.specs.Writing.{begun_with, passed, phases_by, writing_begun}
 use Rattle.sm_laws.specs.Scene.{Handed}
 use Rattle.sm_laws.proofs.Answers.{was_there}
-use Rattle.written_laws.specs.Managing.{Managing, ManagerEvent, Around, Begin, Write, Take, Send, Hear, TimeOut, Merge, Poll, HandOver, CanBe, taking, sending, hearing, after_manager_event, after_manager_events}
+use Rattle.written_laws.specs.Managing.{Managing, ManagerEvent, Around, Begin, Write, Take, Send, Hear, TimeOut, Merge, Poll, HandOver}
+use Rattle.written_laws.specs.Managing.{CanBe, taking, sending, hearing, after_manager_event, after_manager_events}
 use Rattle.written_laws.specs.Written.{BeginsNoWriting, BeginsSweep, SweepsFirst}
 use Rattle.written_laws.proofs.Calls.{beside_swept, hands_over, packet_comes, polls_beside, time_passes}
 use Rattle.written_laws.proofs.Fair.{IsFair, fair_taken, fair_sent, fair_around}
@@ -115,7 +116,8 @@ module _ (start : Simulation) (seat : NodePort) (plan : PlanValue) (ground : Gro
   heard_goes old w which (Some h) there g =
       cond_both (is_same_port h.at w.seat) _ _ (Goes start seat plan old)
       (λ same. elim (packet_comes start seat plan ground old w.scene.handed w.manager g.fair.side g.fair.once which h (Some h.packet.slid) there
-      (ap (is_same_port h.at) (sym g.fair.seat_is) ∙ same) (heard_at_seat start seat w h g.fair.seat_is same (was_there start w.scene.handed which h g.fair.scene.handed there))) [
+      (ap (is_same_port h.at) (sym g.fair.seat_is) ∙ same) (heard_at_seat start seat w h g.fair.seat_is same
+      (was_there start w.scene.handed which h g.fair.scene.handed there))) [
         | inl call ↦ beside_goes start seat plan old old w (took w.manager h.packet.bytes (Some h.packet.slid)).manager g call
         | inr ends ↦ subst (λ x. Goes start seat plan old (record w { manager = x })) (sym ends.is)
             (step_goes start seat plan old w g ends.step ends.there (ap is_for_step ends.purpose_is) ends.was_done)
@@ -142,7 +144,8 @@ module _ (start : Simulation) (seat : NodePort) (plan : PlanValue) (ground : Gro
   event_goes old w Take quiet g can_be =
       let t = takes_first w.manager in
       record {
-        fair = subst (λ c. IsFair start seat plan old c [] (taking w (taken w.manager))) (sym t.counter) (fair_taken start seat plan old w.manager.counter [] w g.fair);
+        fair = subst (λ c. IsFair start seat plan old c [] (taking w (taken w.manager))) (sym t.counter)
+            (fair_taken start seat plan old w.manager.counter [] w g.fair);
         waits = elim g.waits [
           | inl none ↦ inl (λ p there. none p (subst (λ ps. Contains ps p) t.pending there))
           | inr h ↦ inr (subst (CanGoOn start seat plan) (sym t.writing) h)
@@ -163,7 +166,8 @@ module _ (start : Simulation) (seat : NodePort) (plan : PlanValue) (ground : Gro
       ]
   event_goes old w (Merge sightings) quiet g can_be =
       beside_goes start seat plan old old w _ g
-      (beside_swept start seat plan ground old w.scene.handed old w.manager _ g.fair.once (facts_merged start seat old w.manager g.fair.side sightings (all_small sightings can_be)))
+      (beside_swept start seat plan ground old w.scene.handed old w.manager _ g.fair.once
+      (facts_merged start seat old w.manager g.fair.side sightings (all_small sightings can_be)))
   event_goes old w (Poll lid) quiet g can_be =
       beside_goes start seat plan old old w _ g (polls_beside start seat plan ground old w.scene.handed w.manager g.fair.side g.fair.once lid)
   event_goes old w HandOver quiet g can_be =
@@ -174,12 +178,15 @@ module _ (start : Simulation) (seat : NodePort) (plan : PlanValue) (ground : Gro
       → Goes start seat plan ⊥ (after_manager_events events w)
   between_goes [] w g all = g
   between_goes (event ∷ events) w g all =
-      between_goes events (after_manager_event w event) (event_goes ⊥ w event (inr (λ none. none)) g (All-head (CanBe seat) event events all)) (All-tail (CanBe seat) event events all)
+      between_goes events (after_manager_event w event) (event_goes ⊥ w event (inr (λ none. none)) g (All-head (CanBe seat) event events all))
+      (All-tail (CanBe seat) event events all)
 
   -- a sweep begins by an event
-  pub begins_first : (w : Managing) (event : ManagerEvent) → BeginsSweep w event → Goes start seat plan (Unit {0}) w → Goes start seat plan ⊥ (after_manager_event w event)
+  pub begins_first : (w : Managing) (event : ManagerEvent) → BeginsSweep w event → Goes start seat plan (Unit {0}) w
+      → Goes start seat plan ⊥ (after_manager_event w event)
   begins_first w Begin none g =
-      subst (λ b. Goes start seat plan ⊥ (record w { manager = cond b (sweep_begun w.manager) w.manager })) (sym (none-is_none _ none)) (begin_goes (Unit {0}) w g none)
+      subst (λ b. Goes start seat plan ⊥ (record w { manager = cond b (sweep_begun w.manager) w.manager })) (sym (none-is_none _ none))
+      (begin_goes (Unit {0}) w g none)
   begins_first w (Around event) none g = absurd none
   begins_first w Write none g = absurd none
   begins_first w Take none g = absurd none

@@ -142,7 +142,8 @@ module _ (start : Simulation) (seat : NodePort) (plan : PlanValue) (g : Ground s
     over standing =
         record {
           writing = refl;
-          steps_stay = λ q among is. others_wait p.number m.pending q (λ same. absurd (cc (sym other ∙ ap is_step (sym (once.once q p among there same)) ∙ is))) among;
+          steps_stay = λ q among is. others_wait p.number m.pending q
+              (λ same. absurd (cc (sym other ∙ ap is_step (sym (once.once q p among there same)) ∙ is))) among;
           steps_were = λ q among is. others_waited p.number m.pending q among;
           upto = omega arith;
           once = once_without p.number m.counter m.pending once;
@@ -156,7 +157,8 @@ module _ (start : Simulation) (seat : NodePort) (plan : PlanValue) (g : Ground s
     over_still = over m.standing
 
   -- a request by LIDs goes out, and waits
-  asks : (m : Manager) → SweepSide start seat old m → AreOnce m.counter m.pending → (waits : Pending) (out : Outgoing) → waits.number ≡ m.counter → is_step waits ≡ false
+  asks : (m : Manager) → SweepSide start seat old m → AreOnce m.counter m.pending → (waits : Pending) (out : Outgoing) → waits.number ≡ m.counter
+      → is_step waits ≡ false
       → length out.packet ≡ 256 → is_directed out.packet ≡ false → Beside m (asked m waits out)
   unfolding Beside
   asks m side once waits out number other count by_lids =
@@ -183,7 +185,8 @@ module _ (start : Simulation) (seat : NodePort) (plan : PlanValue) (g : Ground s
   polls : (m : Manager) → SweepSide start seat old m → AreOnce m.counter m.pending → (lid : ℕ) → Beside m (poll_sent m lid)
   polls m side once lid =
       let whole = length-replicate {A = ℕ} 64 0 in
-      asks m side once _ _ refl refl (length-lid_routed get sm_info 0 m.counter (replicate 64 0) whole) (not_directed get sm_info 0 m.counter (replicate 64 0) whole)
+      asks m side once _ _ refl refl (length-lid_routed get sm_info 0 m.counter (replicate 64 0) whole)
+      (not_directed get sm_info 0 m.counter (replicate 64 0) whole)
 
   controls : (m : Manager) → SweepSide start seat old m → AreOnce m.counter m.pending → (lid : ℕ) (control : Control) → Beside m (control_sent m lid control)
   controls m side once lid control =
@@ -199,7 +202,8 @@ module _ (start : Simulation) (seat : NodePort) (plan : PlanValue) (g : Ground s
 
   -- requests of other managers -----------------------------------------------------------------------------
 
-  module _ (which : ℕ) (h : Handed) (there : slice_get handed which ≡ Some h) (here : is_same_port h.at seat ≡ true) (is : IsForManager start seat h.packet.bytes)
+  module _ (which : ℕ) (h : Handed) (there : slice_get handed which ≡ Some h) (here : is_same_port h.at seat ≡ true)
+      (is : IsForManager start seat h.packet.bytes)
       (asks_it : is_info_request h.packet.bytes ≡ true) where
     asks_here : asks_manager seat h ≡ true
     asks_here =
@@ -212,10 +216,13 @@ module _ (start : Simulation) (seat : NodePort) (plan : PlanValue) (g : Ground s
       payload = answer_data m.standing h.packet.bytes given
 
       whole : length (answer_data m.standing h.packet.bytes given) ≡ 64
-      whole = cond_both (given == done) _ _ (λ (d : List ℕ). length d ≡ 64) (λ _. length-sm_info (info_of m.standing)) (λ _. length-data h.packet.bytes is.whole.count)
+      whole = cond_both (given == done) _ _ (λ (d : List ℕ). length d ≡ 64) (λ _. length-sm_info (info_of m.standing))
+          (λ _. length-data h.packet.bytes is.whole.count)
 
-      holds : HoldsAnswer h.packet.bytes (answer_packet h.packet.bytes given (answer_data m.standing h.packet.bytes given)) given (answer_data m.standing h.packet.bytes given)
-      holds = answer_reads_back h.packet.bytes given (answer_data m.standing h.packet.bytes given) is.whole.count is.whole.parses whole (omega (arith, small)) (λ _. small)
+      holds : HoldsAnswer h.packet.bytes (answer_packet h.packet.bytes given (answer_data m.standing h.packet.bytes given)) given
+          (answer_data m.standing h.packet.bytes given)
+      holds = answer_reads_back h.packet.bytes given (answer_data m.standing h.packet.bytes given) is.whole.count is.whole.parses whole (omega (arith, small))
+          (λ _. small)
 
       own_answer : (c : ℕ) (all : List StepSent) → IsOwnPacket start seat plan c all handed (answer_out m.standing h.packet.bytes lid given)
       own_answer c all = by_class (is_directed h.packet.bytes) refl
@@ -304,7 +311,8 @@ module _ (start : Simulation) (seat : NodePort) (plan : PlanValue) (g : Ground s
     ends Heard p there answer heard (purpose.Step counts) e =
         inr (record { step = p; there = there; counts = counts; purpose_is = e; was_done = is_done_by answer; is = refl; heard = heard })
 
-    pub packet_comes : (which : ℕ) (h : Handed) (lid : Option ℕ) → slice_get handed which ≡ Some h → is_same_port h.at seat ≡ true → IsForManager start seat h.packet.bytes
+    pub packet_comes : (which : ℕ) (h : Handed) (lid : Option ℕ) → slice_get handed which ≡ Some h → is_same_port h.at seat ≡ true
+        → IsForManager start seat h.packet.bytes
         → BesideCall start seat plan old handed m (took m h.packet.bytes lid).manager ⊎ StepEnds (HeardBy h.packet.bytes) m (took m h.packet.bytes lid).manager
     unfolding Comes Beside
     packet_comes which h lid there here is = by_fault (fault_of h.packet.bytes) refl
@@ -344,12 +352,14 @@ module _ (start : Simulation) (seat : NodePort) (plan : PlanValue) (g : Ground s
     pub polls_beside : (lid : ℕ) → BesideCall start seat plan old handed m (if is_none (poll_fault m) then poll_sent m lid else m)
     unfolding Beside
     polls_beside lid =
-        cond_both (is_none (poll_fault m)) _ _ (λ (x : Manager). BesideCall start seat plan old handed m x) (λ _. polls m side once lid) (λ _. stays m side once)
+        cond_both (is_none (poll_fault m)) _ _ (λ (x : Manager). BesideCall start seat plan old handed m x) (λ _. polls m side once lid)
+        (λ _. stays m side once)
 
     pub hands_over : BesideCall start seat plan old handed m (if is_none (handover_fault m) then handed_over m else m)
     unfolding Beside
     hands_over =
-        cond_both (is_none (handover_fault m)) _ _ (λ (x : Manager). BesideCall start seat plan old handed m x) (λ _. to_heir (heir_lid m)) (λ _. stays m side once)
+        cond_both (is_none (handover_fault m)) _ _ (λ (x : Manager). BesideCall start seat plan old handed m x) (λ _. to_heir (heir_lid m))
+        (λ _. stays m side once)
       where
         to_heir : (lid : Option ℕ) → BesideCall start seat plan old handed m (handed_to m lid)
         to_heir None = stays m side once

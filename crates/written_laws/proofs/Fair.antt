@@ -1,5 +1,6 @@
 -- A manager that sends only what is its own, on a scene of which as much is known as of its packets.
-use Rattle.std.proofs.Common.{◌≡◌, ◌⊎◌, inl, inr, ℕ, zero, suc, ◌<◌, ◌≤◌, ◌^◌, true, false, cond, List, [], ◌∷◌, ◌++◌, length, map, replicate, refl, sym, ap, ◌∙◌, subst, arith}
+use Rattle.std.proofs.Common.{◌≡◌, ◌⊎◌, inl, inr, ℕ, zero, suc, ◌<◌, ◌≤◌, ◌^◌, true, false, cond, List, [], ◌∷◌, ◌++◌, length, map}
+use Rattle.std.proofs.Common.{replicate, refl, sym, ap, ◌∙◌, subst, arith}
 use Rattle.std.proofs.lemmas.Bool.{cond_both}
 use Rattle.std.specs.Prelude.{Contains, Option, Some, None, slice_get}
 use Rattle.smp_bytes.specs.declared.cable.NodePort.{NodePort}
@@ -75,7 +76,8 @@ module _ (start : Simulation) (seat : NodePort) (plan : PlanValue) where
   AreOwnPackets c all handed [] = Unit {0}
   AreOwnPackets c all handed (o ∷ out) = IsOwnPacket c all handed o × AreOwnPackets c all handed out
 
-  pub own_more : (c : ℕ) (all : List StepSent) (handed : List Handed) (out more : List Outgoing) → AreOwnPackets c all handed out → AreOwnPackets c all handed more
+  pub own_more : (c : ℕ) (all : List StepSent) (handed : List Handed) (out more : List Outgoing) → AreOwnPackets c all handed out
+      → AreOwnPackets c all handed more
       → AreOwnPackets c all handed (out ++ more)
   own_more c all handed [] more own also = also
   own_more c all handed (o ∷ out) more own also = (own.0, own_more c all handed out more own.1 also)
@@ -101,18 +103,21 @@ module _ (start : Simulation) (seat : NodePort) (plan : PlanValue) where
   )
 
   -- requests over a path
-  path_own : (c : ℕ) (all : List StepSent) (handed : List Handed) (method attribute modifier tid : ℕ) (path payload : List ℕ) → FitsRequest method attribute modifier tid payload
+  path_own : (c : ℕ) (all : List StepSent) (handed : List Handed) (method attribute modifier tid : ℕ) (path payload : List ℕ)
+      → FitsRequest method attribute modifier tid payload
       → method < 2 ^ 7 → length path ≤ 63 → BeginsWith seat.port path → IsOwn start seat plan c all (directed method attribute modifier tid path payload)
       → IsOwnPacket c all handed (record { packet = directed method attribute modifier tid path payload; to = None })
   path_own c all handed method attribute modifier tid path payload fits low short begins own =
       record { sending = ByPath method attribute modifier tid path payload; can = (fits, low, short, begins); own = own; is = λ w still. refl }
 
   -- what goes by LIDs
-  pub lid_own : (c : ℕ) (all : List StepSent) (handed : List Handed) (o : Outgoing) → length o.packet ≡ 256 → is_directed o.packet ≡ false → IsOwnPacket c all handed o
+  pub lid_own : (c : ℕ) (all : List StepSent) (handed : List Handed) (o : Outgoing) → length o.packet ≡ 256 → is_directed o.packet ≡ false
+      → IsOwnPacket c all handed o
   lid_own c all handed o count other = record { sending = ByLid (packet_of o); can = (count, other); own = tt; is = λ w still. refl }
 
   -- the answer to a directed request for SMInfo
-  pub answer_own : (c : ℕ) (all : List StepSent) (handed : List Handed) (which : ℕ) (h : Handed) (given : ℕ) (payload : List ℕ) → slice_get handed which ≡ Some h
+  pub answer_own : (c : ℕ) (all : List StepSent) (handed : List Handed) (which : ℕ) (h : Handed) (given : ℕ) (payload : List ℕ)
+      → slice_get handed which ≡ Some h
       → asks_manager seat h ≡ true → is_directed h.packet.bytes ≡ true → given < 2 ^ 15 → length payload ≡ 64
       → IsOwnPacket c all handed (record { packet = answer_packet h.packet.bytes given payload; to = None })
   answer_own c all handed which h given payload there asks way small whole =
@@ -134,7 +139,8 @@ module _ (start : Simulation) (seat : NodePort) (plan : PlanValue) where
       a.request.path (replicate 64 0) fits (omega arith) a.sound.sound.short a.sound.sound.own
       (inl (inr (let number = reads.transaction_id in let few = a.few.0 in omega (arith, number, few)))))
     where
-      fits : FitsRequest get (attribute_asked a.request.question) (modifier_asked a.request.question) (transaction_of a.generation a.request.number) (replicate 64 0)
+      fits : FitsRequest get (attribute_asked a.request.question) (modifier_asked a.request.question) (transaction_of a.generation a.request.number)
+          (replicate 64 0)
       fits = swept.fits g.cables g.counts g.can g.cabled a.generation a.request a.few.1 a.sound
 
       reads : HoldsRequest (request_packet a.generation a.request) get (attribute_asked a.request.question) (modifier_asked a.request.question)
@@ -143,7 +149,8 @@ module _ (start : Simulation) (seat : NodePort) (plan : PlanValue) where
           (directed_reads_back get (attribute_asked a.request.question) (modifier_asked a.request.question) (transaction_of a.generation a.request.number)
           a.request.path (replicate 64 0) fits a.sound.sound.short).0
 
-  pub asked_are_own : (c : ℕ) (all : List StepSent) (handed : List Handed) → Ground start seat → (out : List Outgoing) → AreAsked start seat out → AreOwnPackets c all handed out
+  pub asked_are_own : (c : ℕ) (all : List StepSent) (handed : List Handed) → Ground start seat → (out : List Outgoing) → AreAsked start seat out
+      → AreOwnPackets c all handed out
   asked_are_own c all handed g [] asked = tt
   asked_are_own c all handed g (o ∷ out) asked = (asked_is_own c all handed g o asked.0, asked_are_own c all handed g out asked.1)
 
@@ -156,7 +163,8 @@ module _ (start : Simulation) (seat : NodePort) (plan : PlanValue) where
   pub step_is_own : (c : ℕ) (all : List StepSent) (handed : List Handed) (x : StepSent) → CanGo x.step → x.number < 2 ^ 32 → (x.number < c) ⊎ Contains all x
       → IsOwnPacket c all handed (out_of x)
   step_is_own c all handed x can small known =
-      path_own c all handed set x.step.attribute x.step.modifier x.number x.step.path x.step.payload (fits_step x can.sendable small) (omega arith) can.short can.own
+      path_own c all handed set x.step.attribute x.step.modifier x.number x.step.path x.step.payload (fits_step x can.sendable small)
+      (omega arith) can.short can.own
       (elim known [
         | inl low ↦ inl (inl (let number = reads.transaction_id in omega (arith, number, low)))
         | inr there ↦ inr (record { step = x; there = there; small = small; is = refl })
@@ -193,7 +201,8 @@ module _ (start : Simulation) (seat : NodePort) (plan : PlanValue) where
     pub own : (c : ℕ) (all : List StepSent) → AreOwnPackets c all handed more
     pub side : SweepSide start seat old after
 
-  pub fair_beside : (old then : Type 0) (c : ℕ) (all : List StepSent) (w : Managing) (after : Manager) → IsFair old c all w → BesideCall then w.scene.handed w.manager after
+  pub fair_beside : (old then : Type 0) (c : ℕ) (all : List StepSent) (w : Managing) (after : Manager) → IsFair old c all w
+      → BesideCall then w.scene.handed w.manager after
       → IsFair then c all (record w { manager = after })
   fair_beside old then c all w after fair call =
       record {
@@ -280,7 +289,8 @@ module _ (start : Simulation) (seat : NodePort) (plan : PlanValue) where
     sends_of : (origin : NodePort) (request : List ℕ) → Sends start seat plan c all origin request → Sends start seat plan later more origin request
     sends_of origin request sent same = own_of request (sent same)
 
-    tells_of : (s : Simulation) (origin : NodePort) (answer : List ℕ) → Tells start seat plan c all s origin answer → Tells start seat plan later more s origin answer
+    tells_of : (s : Simulation) (origin : NodePort) (answer : List ℕ) → Tells start seat plan c all s origin answer
+        → Tells start seat plan later more s origin answer
     tells_of s origin answer told same =
         elim (told same) [
           | inl old ↦ inl (older answer old)

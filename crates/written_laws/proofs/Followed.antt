@@ -15,7 +15,8 @@ use Rattle.sm_manager.specs.Manager.{with_all_sent}
 use Rattle.sm_laws.specs.Scene.{Handed, Scene, Event, Send as SendFrom, CanHappen, after_event, sent, sent_from}
 use Rattle.sm_laws.specs.Sweeping as sweeping
 use Rattle.sm_laws.specs.Sweeping.{Sweeping, SweepEvent, asking_more, after_sweep_event, after_sweep_events}
-use Rattle.written_laws.specs.Managing.{Managing, ManagerEvent, Around, Begin, Write, Take, Send, Hear, TimeOut, Merge, Poll, HandOver, CanBe, hearing, packet_of, sending, after_manager_event}
+use Rattle.written_laws.specs.Managing.{Managing, ManagerEvent, Around, Begin, Write, Take, Send, Hear, TimeOut, Merge, Poll, HandOver}
+use Rattle.written_laws.specs.Managing.{CanBe, hearing, packet_of, sending, after_manager_event}
 use Rattle.written_laws.proofs.Fair.{IsFair, IsOwnPacket, own_there}
 use Rattle.written_laws.proofs.Steps.{StepSent}
 
@@ -118,6 +119,9 @@ asks_all (r ∷ queue) u e =
       scene = later.scene;
       seat = later.seat;
       sweep = later.sweep
-          ∙ (λ j. record u.sweep { queued = []; outstanding = (append_assoc u.sweep.outstanding (r ∷ []) queue ∙ ap (λ q. u.sweep.outstanding ++ q) (sym e)) j });
+          ∙ (λ j. record u.sweep {
+            queued = [];
+            outstanding = (append_assoc u.sweep.outstanding (r ∷ []) queue ∙ ap (λ q. u.sweep.outstanding ++ q) (sym e)) j;
+          });
       reports = later.reports;
     })

@@ -29,7 +29,8 @@ use Rattle.sm_manager.specs.declared.pending.Purpose.{Purpose}
 use Rattle.sm_manager.specs.declared.pending.Purpose.TheVariants as purpose
 use Rattle.sm_manager.specs.Election.{handed_to, handover_fault, heir_lid, poll_fault, told}
 use Rattle.sm_manager.specs.Manager.{Manager, Writing, begin_fault}
-use Rattle.sm_manager.specs.Packets.{Called, answered_by, gave_up, is_for_sweep, is_info_request, packet_taken, pending_for, request_answered, request_gave_up, request_over}
+use Rattle.sm_manager.specs.Packets.{Called, answered_by, gave_up, is_for_sweep, is_info_request, packet_taken, pending_for}
+use Rattle.sm_manager.specs.Packets.{request_answered, request_gave_up, request_over}
 use Rattle.sm_manager.specs.Packets.{sweep_answered, sweep_gave_up, sweep_timed_out, took, unless_spent}
 use Rattle.sm_manager.specs.Plans.{writing_fault}
 use Rattle.sm_manager.specs.Requests.{counts, no_step_waits, with_number, without_number}
@@ -68,7 +69,8 @@ step_keeps m p was_done =
     by_writing : (o : Option Writing) → KeepsSweep m (went_on_with (ended o) (noted (counts p) was_done o))
     by_writing None = record { sweep = refl; store = refl }
     by_writing (Some v) =
-        cond_both (no_step_waits (without_number p.number m.pending)) _ _ (KeepsSweep m) (λ _. record { sweep = refl; store = refl }) (λ _. record { sweep = refl; store = refl })
+        cond_both (no_step_waits (without_number p.number m.pending)) _ _ (KeepsSweep m) (λ _. record { sweep = refl; store = refl })
+        (λ _. record { sweep = refl; store = refl })
 
 request_keeps : (m : Manager) (p : Pending) (answer : Option ℕ) (u : Purpose) → KeepsSweep m (request_over m p answer u).manager
 request_keeps m p answer purpose.Poll = record { sweep = refl; store = refl }
@@ -192,14 +194,16 @@ module _ (start : Simulation) (seat : NodePort) (plan : PlanValue) (ground : Gro
           (by_answer same (judged u.sweep h.packet.bytes) refl))
           (λ _. quiet _ (by_pending (pending_for w.manager h.packet.bytes))))
 
-      by_port : (b : Bool) → is_same_port h.at w.seat ≡ b → IsFollowed (cond b (record w { manager = (took w.manager h.packet.bytes (Some h.packet.slid)).manager }) w) u
+      by_port : (b : Bool) → is_same_port h.at w.seat ≡ b → IsFollowed
+          (cond b (record w { manager = (took w.manager h.packet.bytes (Some h.packet.slid)).manager }) w) u
       by_port false e = quiet_followed w w u (unseen w) refl (kept w.manager) f
       by_port true e = by_fault e (fault_of h.packet.bytes)
 
   timed_followed : (w : Managing) (transaction : ℕ) (u : Sweeping) → Follows w u → IsFollowed (record w { manager = (gave_up w.manager transaction).manager }) u
   timed_followed w transaction u f =
       cond_both (nat_le (2 ^ 32) transaction) _ _ (λ (x : Called). IsFollowed (record w { manager = x.manager }) u)
-      (λ _. subst (λ o. IsFollowed (record w { manager = (sweep_gave_up w.manager transaction o).manager }) u) (sym f.sweep) (by_fault (timeout_fault u.sweep transaction)))
+      (λ _. subst (λ o. IsFollowed (record w { manager = (sweep_gave_up w.manager transaction o).manager }) u) (sym f.sweep)
+      (by_fault (timeout_fault u.sweep transaction)))
       (λ _. quiet _ (by_pending (with_number transaction w.manager.pending)))
     where
       quiet : (after : Manager) → KeepsSweep w.manager after → IsFollowed (record w { manager = after }) u
@@ -226,7 +230,8 @@ module _ (start : Simulation) (seat : NodePort) (plan : PlanValue) (ground : Gro
   pub event_followed : (w : Managing) (event : ManagerEvent) (u : Sweeping) → Goes start seat plan ⊥ w → BeginsNoSweep w event → CanBe seat event → Follows w u
       → IsFollowed (after_manager_event w event) u
   event_followed w (Around event) u g quiet can_be f =
-      quiet_followed w (after_manager_event w (Around event)) u (event_seen start seat plan ⊥ w.manager.counter [] w (Around event) g.fair can_be) refl (kept w.manager) f
+      quiet_followed w (after_manager_event w (Around event)) u (event_seen start seat plan ⊥ w.manager.counter [] w (Around event) g.fair can_be) refl
+      (kept w.manager) f
   event_followed w Begin u g quiet can_be f =
       quiet_followed w (after_manager_event w Begin) u (unseen w) refl
       (cond_both (is_none (begin_fault w.manager)) _ _ (KeepsSweep w.manager) (λ e. absurd (quiet (is_none-none _ e))) (λ _. kept w.manager)) f

@@ -17,7 +17,8 @@ use Rattle.sm_manager.specs.Writing.{is_spent, next_phase, next_pending, noted, 
 use Rattle.sm_laws.specs.Scene.{Handed}
 use Rattle.written_laws.specs.Managing.{Managing}
 use Rattle.written_laws.proofs.Fair.{AreOwnPackets, BesideCall, CanGo, IsFair, IsOwnPacket, own_more, own_steps, step_is_own, fair_beside, fair_later}
-use Rattle.written_laws.proofs.Numbered.{AreOnce, from_passed, length-sent_from, most_number, next_is_of, next_sent, numbered_from, once_more, once_without, out_of}
+use Rattle.written_laws.proofs.Numbered.{AreOnce, from_passed, length-sent_from, most_number, next_is_of, next_sent, numbered_from}
+use Rattle.written_laws.proofs.Numbered.{once_more, once_without, out_of}
 use Rattle.written_laws.proofs.Numbered.{rest_is_of, steps_from, steps_once, steps_out_are}
 use Rattle.written_laws.proofs.Steps.{IsOf, StepSent}
 use Rattle.written_laws.proofs.Sweeps.{SweepSide}
@@ -95,7 +96,8 @@ module _ (start : Simulation) (seat : NodePort) (plan : PlanValue) where
           let steps = (next_phase v.later).steps in
           let below = most_number m.counter (next_sent m.counter v.later) x (numbered_from (next_phase v.later).counts m.counter steps) there in
           let long = length-sent_from (next_phase v.later).counts m.counter steps in
-          step_is_own start seat plan (m.counter + length (next_phase v.later).steps) [] w.scene.handed x (can x.counts x.step (next_is_of m.counter v.later x there))
+          step_is_own start seat plan (m.counter + length (next_phase v.later).steps) [] w.scene.handed x
+          (can x.counts x.step (next_is_of m.counter v.later x there))
           (omega (arith, below, long, most)) (inl (omega (arith, below, long)))
 
   -- a step ends
@@ -129,8 +131,12 @@ module _ (start : Simulation) (seat : NodePort) (plan : PlanValue) where
     over_goes None h most = rests None tt
     over_goes (Some v) h most = by_rest (no_step_waits (without_number p.number w.manager.pending)) most
       where
-        by_rest : (b : Bool) → (cond b (phase_sent (ended_with (Some v)) (record v { has_failed = v.has_failed || (counts p && not was_done) })) (ended_with (Some v))).counter ≤ 2 ^ 32
-            → Goes old (record w { manager = cond b (phase_sent (ended_with (Some v)) (record v { has_failed = v.has_failed || (counts p && not was_done) })) (ended_with (Some v)) })
+        by_rest : (b : Bool) → (cond b (phase_sent (ended_with (Some v)) (record v { has_failed = v.has_failed || (counts p && not was_done) }))
+            (ended_with (Some v))).counter ≤ 2 ^ 32
+            → Goes old (record w {
+              manager = cond b (phase_sent (ended_with (Some v)) (record v { has_failed = v.has_failed || (counts p && not was_done) }))
+                  (ended_with (Some v));
+            })
         by_rest false most = rests (Some v) h
         by_rest true most =
             phase_goes old w (ended_with (Some v)) (record v { has_failed = v.has_failed || (counts p && not was_done) }) g.fair refl refl

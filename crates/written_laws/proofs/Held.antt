@@ -90,7 +90,8 @@ module _ (start s : Simulation) (seat : NodePort) (plan : PlanValue) (distinct :
       let (a, at, same) = agent_seen s place node there in
       let same_place : place ≡ to.led.end.node =
       distinct _ _ node to.led.node (nodes_stay start s along place node there) to.led.has.there (named ∙ sym to.guid_is ∙ sym to.led.has.named) in
-      let leads = ap (λ (x : Step). directed_end (fabric_of start) seat x.path) is ∙ ap (directed_end (fabric_of start) seat) (path_is ∙ to.path_is) ∙ to.led.leads in
+      let leads = ap (λ (x : Step). directed_end (fabric_of start) seat x.path) is ∙ ap (directed_end (fabric_of start) seat) (path_is ∙ to.path_is)
+      ∙ to.led.leads in
       let held = is_done.holds counts to.led.end a leads (ap (agent_at s) (sym same_place) ∙ at) in
       (a, at, subst (Holds a) is held)
 
@@ -126,7 +127,10 @@ module _ (w : Managing) (before between after : List ManagerEvent) (run : IsWrit
   pub sweep_first : after_manager_event (after_manager_events before w) Begin
       ≡ record (after_manager_events before w) { manager = sweep_begun (after_manager_events before w).manager }
   sweep_first =
-      ap (λ b. record (after_manager_events before w) { manager = cond b (sweep_begun (after_manager_events before w).manager) (after_manager_events before w).manager })
+      ap (λ b. record (after_manager_events before w) {
+        manager = cond b (sweep_begun (after_manager_events before w).manager)
+            (after_manager_events before w).manager;
+      })
       (none-is_none _ run.sweep_begins)
 
   pub swept_first : Goes w.scene.fabric w.seat (plan_at (at_writing w before between)) ⊥ (after_manager_event (after_manager_events before w) Begin)
@@ -157,7 +161,8 @@ module _ (w : Managing) (before between after : List ManagerEvent) (run : IsWrit
     unfolding phases
     good x is = writing_good w.scene.fabric w.seat (at_writing w before between).manager may sweep swept x is
 
-    pub begins : Writes w.scene.fabric w.seat (plan_at (at_writing w before between)) (at_writing w before between).manager.counter phases (at_first_steps w before between)
+    pub begins : Writes w.scene.fabric w.seat (plan_at (at_writing w before between)) (at_writing w before between).manager.counter phases
+        (at_first_steps w before between)
     unfolding phases
     begins =
         let w3 = at_writing w before between in
@@ -179,7 +184,8 @@ module _ (w : Managing) (before between after : List ManagerEvent) (run : IsWrit
         let same : begun_with w3.manager phases ≡ writing_begun w3.manager = ap (λ o. begun_with w3.manager (phases_by w3.manager o)) (sym sweep_is) in
         let few = ap (λ (x : Manager). x.counter) same in
         let most = may.few in
-        let sent = phase_writes s w.seat p c phases good w3 w3.manager v [] swept_before.fair (omega arith) refl swept_before.fair.side swept_before.fair.once way
+        let sent = phase_writes s w.seat p c phases good w3 w3.manager v [] swept_before.fair
+        (omega arith) refl swept_before.fair.side swept_before.fair.once way
         (omega (arith, few, most)) in
         subst (λ b. Writes s w.seat p c phases (record w3 { manager = cond b (writing_begun w3.manager) w3.manager })) (sym (none-is_none _ run.writing_begins))
         (subst (λ x. Writes s w.seat p c phases (record w3 { manager = x })) same sent)
@@ -191,7 +197,8 @@ module _ (w : Managing) (before between after : List ManagerEvent) (run : IsWrit
         own_carries w.scene.fabric w.seat (at_writing w before between).manager may sweep swept now along at a packet there
         (subst (λ o. IsOwnSet (fabric_of w.scene.fabric) w.seat (phases_by (at_writing w before between).manager o) at packet) sweep_is is_own)
 
-    ends : Writes w.scene.fabric w.seat (plan_at (at_writing w before between)) (at_writing w before between).manager.counter phases (at_end w before between after)
+    ends : Writes w.scene.fabric w.seat (plan_at (at_writing w before between)) (at_writing w before between).manager.counter phases
+        (at_end w before between after)
     ends =
         after_writes w.scene.fabric w.seat (plan_at (at_writing w before between)) (at_writing w before between).manager.counter phases good ground
         (own_sets w (at_writing w before between)) owns after (at_first_steps w before between) run.keep begins run.after_can
@@ -231,7 +238,8 @@ module _ (w : Managing) (before between after : List ManagerEvent) (run : IsWrit
       set_is_held t of guid vertex e place node there named =
           let was = written_done w.scene.fabric w.seat (plan_at (at_writing w before between)) (at_writing w before between).manager.counter phases
           (at_end w before between after) ends written t of in
-          let (a, at, held) = held_at w.scene.fabric (at_end w before between after).scene.fabric w.seat (plan_at (at_writing w before between)) run.starts.distinct at_end_along sweep
+          let (a, at, held) = held_at w.scene.fabric (at_end w before between after).scene.fabric w.seat
+          (plan_at (at_writing w before between)) run.starts.distinct at_end_along sweep
           swept.led guid vertex t.path e was.step t was.counts_is was.is refl was.is_done place node there named in
           (a, at, held, ap (λ (y : Step). length y.payload) (sym was.is) ∙ (good was.step was.known).sendable.whole)
 
@@ -265,10 +273,12 @@ module _ (w : Managing) (before between after : List ManagerEvent) (run : IsWrit
           let (path, there) = some_path guid 0 reached in
           let facts = (at_writing w before between).manager.store in
           let x = top_is_set facts may.has_room sweep master few seen_few guid top path is_top is_switch there in
-          let (a, at, held, whole) = set_is_held (record { path = path; attribute = switch_info; modifier = 0; payload = top_data top }) x guid 0 there place node has.there has.named in
+          let (a, at, held, whole) = set_is_held (record { path = path; attribute = switch_info; modifier = 0; payload = top_data top }) x guid 0 there place
+          node has.there has.named in
           ap (λ o. option_map_or (λ (y : Agent). y.top) o 0) at ∙ held.top refl ∙ top_value facts may.has_room sweep master few seen_few top is_top
 
-      blocks_held : (guid b place : ℕ) (block : List ℕ) (node : Node) → block_at (plan_at (at_writing w before between)) guid b ≡ Some block → IsReached sweep guid 0
+      blocks_held : (guid b place : ℕ) (block : List ℕ) (node : Node) → block_at (plan_at (at_writing w before between)) guid b ≡ Some block
+          → IsReached sweep guid 0
           → HasNode (fabric_of (at_end w before between after).scene.fabric) guid place node
           → HoldsBlock (fabric_of (at_end w before between after).scene.fabric) place b block
       unfolding phases master
@@ -276,7 +286,8 @@ module _ (w : Managing) (before between after : List ManagerEvent) (run : IsWrit
           let (path, there) = some_path guid 0 reached in
           let facts = (at_writing w before between).manager.store in
           let x = block_is_set facts may.has_room sweep master few seen_few guid b block path is_block there in
-          let (a, at, held, whole) = set_is_held (record { path = path; attribute = linear_forwarding_table; modifier = b; payload = block }) x guid 0 there place node has.there has.named in
+          let (a, at, held, whole) = set_is_held (record { path = path; attribute = linear_forwarding_table; modifier = b; payload = block }) x guid 0 there
+          place node has.there has.named in
           slice_get-get_or block i 0 (omega (arith, less, whole))
           ∙ ap (λ n. Some n) (sym (ap (λ o. option_map_or (λ y. entry_at y (64 * b + i)) o 255) at ∙ held.block refl i less))
 

@@ -156,14 +156,17 @@ module _ (f : Fabric) (seat : NodePort) where
             small = is.states;
           }
 
-      anew : (m : Option NodeType) → type_of_number info.node_type ≡ m → FindsLed (with_reached (found_anew r.path info m) s.reached) (with_state (found_anew r.path info m) s.states)
+      anew : (m : Option NodeType) → type_of_number info.node_type ≡ m
+          → FindsLed (with_reached (found_anew r.path info m) s.reached) (with_state (found_anew r.path info m) s.states)
       anew None e = record { led = is.reached; small = is.states }
       anew (Some kind) e =
           vertex_led kind info.num_ports (same_Some _ _ (sym e ∙ ap type_of_number node.kind ∙ type_read says.node.kind))
 
-      again : (first : Reached) → reached_first s.reached info.node_guid ≡ Some first → FindsLed (with_reached (found_again s r.path info first) s.reached) (with_state (found_again s r.path info first) s.states)
+      again : (first : Reached) → reached_first s.reached info.node_guid ≡ Some first
+          → FindsLed (with_reached (found_again s r.path info first) s.reached) (with_state (found_again s r.path info first) s.states)
       again first e =
-          cond_both (is_switch first.kind || is_some (reached_at s.reached info.node_guid info.local_port_num)) _ _ (λ o. FindsLed (with_reached o s.reached) (with_state o s.states))
+          cond_both (is_switch first.kind || is_some (reached_at s.reached info.node_guid info.local_port_num)) _ _
+          (λ o. FindsLed (with_reached o s.reached) (with_state o s.states))
           (λ _. record { led = is.reached; small = is.states })
           (λ _. vertex_led first.kind first.ports same_kind)
         where
@@ -179,7 +182,8 @@ module _ (f : Fabric) (seat : NodePort) where
           same_kind : first.kind ≡ says.node.kind
           same_kind = found.led.kind ∙ ap (λ (n : Node). n.kind) same_node
 
-      by_first : (m : Option Reached) → reached_first s.reached info.node_guid ≡ m → FindsLed (with_reached (node_found_of s r.path info m) s.reached) (with_state (node_found_of s r.path info m) s.states)
+      by_first : (m : Option Reached) → reached_first s.reached info.node_guid ≡ m
+          → FindsLed (with_reached (node_found_of s r.path info m) s.reached) (with_state (node_found_of s r.path info m) s.states)
       by_first None e = anew (type_of_number info.node_type) refl
       by_first (Some first) e = again first e
 
@@ -200,7 +204,8 @@ module _ (f : Fabric) (seat : NodePort) where
 
     by_question : (q : Question) → r.question ≡ q → (context : Context) → IsSound f seat q r.path context
         → (number_in attribute_id packet ≡ node_info → IsGoodNode r.context packet)
-        → FindsLed (with_reached (finding_of s (record r { context = context }) packet q) s.reached) (with_state (finding_of s (record r { context = context }) packet q) s.states)
+        → FindsLed (with_reached (finding_of s (record r { context = context }) packet q) s.reached)
+        (with_state (finding_of s (record r { context = context }) packet q) s.states)
     by_question ask.Node e context asks good =
         let info = node_info_of packet in
         let attribute = for.attribute ∙ ap attribute_asked e in

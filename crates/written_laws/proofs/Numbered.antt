@@ -77,10 +77,12 @@ one_of_number n (z ∷ xs) x y all there also same =
     elim (contains_cases z x xs there) [
       | inl i ↦ elim (contains_cases z y xs also) [
         | inl k ↦ sym i ∙ k
-        | inr k ↦ let least = least_number (suc n) xs y all.1 k in let first = ap (λ (p : StepSent). p.number) i in let is = all.0 in absurd (omega (arith, least, first, is, same))
+        | inr k ↦ let least = least_number (suc n) xs y all.1 k in let first = ap (λ (p : StepSent). p.number) i in let is = all.0 in absurd
+            (omega (arith, least, first, is, same))
       ]
       | inr j ↦ elim (contains_cases z y xs also) [
-        | inl k ↦ let least = least_number (suc n) xs x all.1 j in let first = ap (λ (p : StepSent). p.number) k in let is = all.0 in absurd (omega (arith, least, first, is, same))
+        | inl k ↦ let least = least_number (suc n) xs x all.1 j in let first = ap (λ (p : StepSent). p.number) k in let is = all.0 in absurd
+            (omega (arith, least, first, is, same))
         | inr k ↦ one_of_number (suc n) xs x y all.1 j k same
       ]
     ]

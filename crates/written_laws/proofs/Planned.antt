@@ -40,20 +40,26 @@ switch_is Router e = absurd (cc)
 
 module _ (facts : Facts) where
   table_of : ℕ → SwitchTable
-  table_of s = record { guid = s; blocks = blocks (home_of_lid (cells_of facts) (lids (cells_of facts))) (slopes_of (graph_of (cells_of facts))) (block_count (top_of (lids (cells_of facts)))) s }
+  table_of s = record {
+    guid = s;
+    blocks = blocks (home_of_lid (cells_of facts) (lids (cells_of facts))) (slopes_of (graph_of (cells_of facts)))
+        (block_count (top_of (lids (cells_of facts)))) s;
+  }
 
   -- the switches of the plan are the usable ones
   to_switches : (guid : ℕ) → Contains (switches (cells_of facts)) guid → Contains (switches_of (plan_of (cells_of facts))) guid
   unfolding table_of
   to_switches guid there =
-      contains_map (λ (t : SwitchTable). t.guid) (plan_of (cells_of facts)).tables (table_of guid) (contains_map table_of (switches (cells_of facts)) guid there)
+      contains_map (λ (t : SwitchTable). t.guid) (plan_of (cells_of facts)).tables (table_of guid)
+      (contains_map table_of (switches (cells_of facts)) guid there)
 
   -- only they have blocks
   has_table : (guid b : ℕ) (block : List ℕ) → block_at (plan_of (cells_of facts)) guid b ≡ Some block → Contains (switches (cells_of facts)) guid
   unfolding table_of
   has_table guid b block e = by_table (find (λ table. table.guid == guid) (plan_of (cells_of facts)).tables) refl e
     where
-      by_table : (m : Option SwitchTable) → find (λ table. table.guid == guid) (plan_of (cells_of facts)).tables ≡ m → option_and_then (λ table. slice_get table.blocks b) m ≡ Some block
+      by_table : (m : Option SwitchTable) → find (λ table. table.guid == guid) (plan_of (cells_of facts)).tables ≡ m
+          → option_and_then (λ table. slice_get table.blocks b) m ≡ Some block
           → Contains (switches (cells_of facts)) guid
       by_table None found h = absurd (cc)
       by_table (Some table) found h =
@@ -110,7 +116,8 @@ module _ (facts : Facts) (has_room : ¬ (IsNoRoom (cells_of facts))) (part : Par
 
       usable : Contains (switches (cells_of facts)) node.guid
       usable =
-          let kind : reading.node_of (cells_of facts) node.guid ≡ Some (Switch, node.ports) = tells.kind ∙ ap (λ k. Some (k, node.ports)) (switch_is node.kind switch) in
+          let kind : reading.node_of (cells_of facts) node.guid ≡ Some (Switch, node.ports) = tells.kind
+          ∙ ap (λ k. Some (k, node.ports)) (switch_is node.kind switch) in
           ((switches_law facts).0 node.guid).1 (node.ports, kind, ap is_some (tells.cap switch))
 
       top_held : top_of (lids (cells_of facts)) ≡ Some (f.top port.node)

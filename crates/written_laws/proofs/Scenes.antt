@@ -1,6 +1,7 @@
 -- What is known of the packets on a scene: the requests that were sent from the seat are the manager's own, and an answer to
 -- one of them tells whether its step was done.
-use Rattle.std.proofs.Common.{◌≡◌, ◌⊎◌, inl, inr, ℕ, zero, suc, ◌+◌, ◌/◌, ◌%◌, ◌<◌, ◌≤◌, ◌^◌, Bool, true, false, List, [], ◌∷◌, ◌++◌, length, refl, sym, ap, ◌∙◌, subst, arith}
+use Rattle.std.proofs.Common.{◌≡◌, ◌⊎◌, inl, inr, ℕ, zero, suc, ◌+◌, ◌/◌, ◌%◌, ◌<◌, ◌≤◌, ◌^◌, Bool, true, false, List, [], ◌∷◌, ◌++◌}
+use Rattle.std.proofs.Common.{length, refl, sym, ap, ◌∙◌, subst, arith}
 use Rattle.std.proofs.lemmas.Bool.{cond_both, and_parts, eqb-true}
 use Rattle.std.specs.Prelude.{Contains, Option, Some, None, Result, Ok, Err, not, slice_get, ◌==◌, ◌&&◌}
 use Rattle.std.specs.Option.{option_map_or}
@@ -29,7 +30,8 @@ use Rattle.fabric_sim.specs.Delivery.{delivered, answer_at}
 use Rattle.fabric_sim.specs.Changes.{injected, repeated, lost}
 use Rattle.fabric_sim.specs.ThereAndBack.{BeginsWith}
 use Rattle.fabric_sim.proofs.Traced.{IsRequestFor, IsAnswerFor, IsOnCourse, IsForManager}
-use Rattle.fabric_sim.proofs.TracedCalls.{AreTraced, IsAskedBy, turned, deliveries_trace, deliveries_hand_up_traced, injections_trace, injected_agents, copies_trace, losses_trace, weaker_manager, weaker_all}
+use Rattle.fabric_sim.proofs.TracedCalls.{AreTraced, IsAskedBy, turned, deliveries_trace, deliveries_hand_up_traced, injections_trace}
+use Rattle.fabric_sim.proofs.TracedCalls.{injected_agents, copies_trace, losses_trace, weaker_manager, weaker_all}
 use Rattle.fabric_sim.proofs.TripEnds.{request_over}
 use Rattle.fabric_sim.proofs.TripShapes.{agent_there}
 use Rattle.fabric_sim.proofs.TripsOut.{IsPortOf}
@@ -99,7 +101,8 @@ module _ (start : Simulation) (seat : NodePort) (plan : PlanValue) (c : ℕ) (al
   traced_there s (x ∷ handed) (suc which) h were e = traced_there s handed which h were.1 e
 
   traced_by : (s : Simulation) (result : Result Delivered FabricFault)
-      → ((at : NodePort) (packet : Packet) → result ≡ Ok (ToManager at packet) → IsForManager Sends (Tells s) start at packet.bytes) → WereTraced s (handed_by result)
+      → ((at : NodePort) (packet : Packet) → result ≡ Ok (ToManager at packet) → IsForManager Sends (Tells s) start at packet.bytes)
+      → WereTraced s (handed_by result)
   traced_by s (Ok (ToManager at packet)) up = (up at packet refl, tt)
   traced_by s (Ok (Moved serial)) up = tt
   traced_by s (Ok (Answered serial)) up = tt
@@ -125,10 +128,14 @@ module _ (start : Simulation) (seat : NodePort) (plan : PlanValue) (c : ℕ) (al
 
   handed_later : (s after : Simulation) → Stays s after → (handed : List Handed) → WereTraced s handed → WereTraced after handed
   handed_later s after stays [] were = tt
-  handed_later s after stays (h ∷ handed) were =
-      (weaker_manager Sends (Tells s) Sends (Tells after) start (λ o x k. k) (tells_later s after stays) h.at h.packet.bytes were.0, handed_later s after stays handed were.1)
+  handed_later s after stays (h ∷ handed) were = (
+    weaker_manager Sends (Tells s) Sends (Tells after) start (λ o x k. k)
+        (tells_later s after stays) h.at h.packet.bytes were.0,
+    handed_later s after stays handed were.1,
+  )
 
-  flights_later : (s after : Simulation) → Stays s after → (flights : List Flight) → AreTraced Sends (Tells s) start flights → AreTraced Sends (Tells after) start flights
+  flights_later : (s after : Simulation) → Stays s after → (flights : List Flight) → AreTraced Sends (Tells s) start flights
+      → AreTraced Sends (Tells after) start flights
   flights_later s after stays = weaker_all Sends (Tells s) Sends (Tells after) start (λ o x k. k) (tells_later s after stays)
 
   -- requests where they are sent ---------------------------------------------------------------------
@@ -168,14 +175,16 @@ module _ (start : Simulation) (seat : NodePort) (plan : PlanValue) (c : ℕ) (al
   other_traced s at bytes count other = record { count = count; course = λ directed. absurd (cc (sym directed ∙ other)) }
 
   -- the number of an agent's answer is its request's
-  answered_number : (s : Simulation) (n : ℕ) (flight : Flight) (request : List ℕ) → Continues start (record { fabric = s; handed = [] }) → IsAskedBy s n flight request
+  answered_number : (s : Simulation) (n : ℕ) (flight : Flight) (request : List ℕ) → Continues start (record { fabric = s; handed = [] })
+      → IsAskedBy s n flight request
       → number_in transaction_id (answer_at s (port_of flight.place) request) ≡ number_in transaction_id request
   answered_number s n flight request c asked = by_agent (agent_at s (port_of flight.place).node) refl
     where
       of_agent : (a : Agent) → agent_at s (port_of flight.place).node ≡ Some a
           → number_in transaction_id (answered a request (port_of flight.place).port).packet ≡ number_in transaction_id request
       of_agent a there =
-          let holds = answers_hold a request (port_of flight.place).port (agent_there s.agents (port_of flight.place).node a c.fabric.along.agents there) asked.whole in
+          let holds = answers_hold a request (port_of flight.place).port (agent_there s.agents (port_of flight.place).node a c.fabric.along.agents there)
+          asked.whole in
           number_in-alike transaction_id (answered a request (port_of flight.place).port).packet request
           (λ place from less. holds.kept place (inr (inl (omega (arith, from), omega (arith, less)))))
 
@@ -189,7 +198,8 @@ module _ (start : Simulation) (seat : NodePort) (plan : PlanValue) (c : ℕ) (al
   old_kept request answer number (inl low) = inl (omega (arith, low, number))
   old_kept request answer number (inr high) = inr (omega (arith, high, number))
 
-  module _ (cables : AreCables start) (counts : (place : ℕ) → port_count start place ≤ 254) (good : (x : StepSent) → Contains all x → IsGood start seat plan x) where
+  module _ (cables : AreCables start) (counts : (place : ℕ) → port_count start place ≤ 254)
+      (good : (x : StepSent) → Contains all x → IsGood start seat plan x) where
     -- a step's Set reads back
     step_reads : (x : StepSent) → Contains all x → x.number < 2 ^ 32
         → HoldsRequest (set_packet x.number x.step) set x.step.attribute x.step.modifier x.number x.step.payload
@@ -198,7 +208,8 @@ module _ (start : Simulation) (seat : NodePort) (plan : PlanValue) (c : ℕ) (al
         (directed_reads_back set x.step.attribute x.step.modifier x.number x.step.path x.step.payload (fits_step x is_good.sendable small) is_good.short).0
 
     -- an agent's answer
-    agent_tells : (s : Simulation) (n : ℕ) → Continues start (record { fabric = s; handed = [] }) → (flight : Flight) (request : List ℕ) → IsAskedBy s n flight request
+    agent_tells : (s : Simulation) (n : ℕ) → Continues start (record { fabric = s; handed = [] }) → (flight : Flight) (request : List ℕ)
+        → IsAskedBy s n flight request
         → (r : IsRequestFor Sends (Tells (delivered s n).fabric) start (port_of flight.place) request)
         → Tells (delivered s n).fabric r.origin (answer_at s (port_of flight.place) request)
     agent_tells s n c flight request asked r same =
@@ -208,7 +219,8 @@ module _ (start : Simulation) (seat : NodePort) (plan : PlanValue) (c : ℕ) (al
             step = x.step;
             there = x.there;
             number = number ∙ ap (number_in transaction_id) x.is ∙ (step_reads x.step x.there x.small).transaction_id;
-            is_done = λ e. own_done start s seat plan c.fabric.along n flight request asked x.step (good x.step x.there) x.small r.path r.request _ (length r.path + 1) r.over x.is
+            is_done = λ e. own_done start s seat plan c.fabric.along n flight request asked x.step (good x.step x.there) x.small r.path r.request _
+                (length r.path + 1) r.over x.is
                 (ap (λ o. directed_end (fabric_of start) o r.path) (sym same) ∙ r.leads) r.bytes_are e;
           })
         ]
@@ -218,7 +230,8 @@ module _ (start : Simulation) (seat : NodePort) (plan : PlanValue) (c : ℕ) (al
 
     -- what a manager answers to a request for SMInfo
     manager_tells : (s : Simulation) (h : Handed) (other : NodePort) (given : ℕ) (payload : List ℕ) → IsForManager Sends (Tells s) start h.at h.packet.bytes
-        → given < 2 ^ 15 → length payload ≡ 64 → asks_manager other h ≡ true → IsOnCourse Sends (Tells s) start other (answer_packet h.packet.bytes given payload)
+        → given < 2 ^ 15 → length payload ≡ 64 → asks_manager other h ≡ true
+        → IsOnCourse Sends (Tells s) start other (answer_packet h.packet.bytes given payload)
     manager_tells s h other given payload is small whole asks = by_class (is_directed h.packet.bytes) refl
       where
         holds : HoldsAnswer h.packet.bytes (answer_packet h.packet.bytes given payload) given payload
@@ -277,7 +290,8 @@ module _ (start : Simulation) (seat : NodePort) (plan : PlanValue) (c : ℕ) (al
           handed = handed_later w.fabric after stays w.handed t.handed;
         }
 
-    answers_traced : (w : Scene) (from : NodePort) (given : ℕ) (payload : List ℕ) (m : Option Handed) → Continues start w → IsTraced w → given < 2 ^ 15 → length payload ≡ 64
+    answers_traced : (w : Scene) (from : NodePort) (given : ℕ) (payload : List ℕ) (m : Option Handed) → Continues start w → IsTraced w → given < 2 ^ 15
+        → length payload ≡ 64
         → ((h : Handed) → m ≡ Some h → IsForManager Sends (Tells w.fabric) start h.at h.packet.bytes) → IsTraced (answered_from w from given payload m)
     answers_traced w from given payload None c t small whole was = t
     answers_traced w from given payload (Some h) c t small whole was =

@@ -128,14 +128,16 @@ length-port_lids lid master =
 length-port_data : (lid master : ℕ) (state : PortState) → length (port_data lid master state) ≡ 64
 length-port_data lid master state =
     let before = length-port_lids lid master in
-    length-with_number (record { at = 32; len = 1 }) _ (with_number master_sm_lid master (with_number base_lid lid (replicate 64 0))) (omega (arith, before)) ∙ before
+    length-with_number (record { at = 32; len = 1 }) _ (with_number master_sm_lid master (with_number base_lid lid (replicate 64 0))) (omega (arith, before))
+    ∙ before
 
 lid-port_data : (lid master : ℕ) (state : PortState) → lid < 2 ^ 16 → number_in base_lid (port_data lid master state) ≡ lid
 lid-port_data lid master state small =
     let blank = length-replicate {A = ℕ} 64 0 in
     let one = length-with_number base_lid lid (replicate 64 0) (omega (arith, blank)) in
     let before = length-port_lids lid master in
-    number_in-with_number_apart base_lid (record { at = 32; len = 1 }) _ (with_number master_sm_lid master (with_number base_lid lid (replicate 64 0))) (omega (arith, before)) refl
+    number_in-with_number_apart base_lid (record { at = 32; len = 1 }) _ (with_number master_sm_lid master (with_number base_lid lid (replicate 64 0)))
+    (omega (arith, before)) refl
     ∙ number_in-with_number_apart base_lid master_sm_lid master (with_number base_lid lid (replicate 64 0)) (omega (arith, blank, one)) refl
     ∙ number_in-with_number base_lid lid (replicate 64 0) (omega (arith, blank)) (omega (arith, small))
 
@@ -143,7 +145,8 @@ length-top_data : (top : ℕ) → length (top_data top) ≡ 64
 length-top_data top = let blank = length-replicate {A = ℕ} 64 0 in length-with_number linear_fdb_top top (replicate 64 0) (omega (arith, blank)) ∙ blank
 
 top-top_data : (top : ℕ) → top < 2 ^ 16 → number_in linear_fdb_top (top_data top) ≡ top
-top-top_data top small = let blank = length-replicate {A = ℕ} 64 0 in number_in-with_number linear_fdb_top top (replicate 64 0) (omega (arith, blank)) (omega (arith, small))
+top-top_data top small = let blank = length-replicate {A = ℕ} 64 0 in number_in-with_number linear_fdb_top top (replicate 64 0) (omega (arith, blank))
+    (omega (arith, small))
 
 -- the steps -----------------------------------------------------------------------------------------
 
@@ -261,7 +264,11 @@ module _ (facts : Facts) (has_room : ¬ (IsNoRoom (cells_of facts))) (sweep : Sw
       by_table (Some table) there h =
           let found = found_there (λ (t : SwitchTable). t.guid == guid) (plan_of (cells_of facts)).tables table there in
           let (s, is_switch, same) = contains-from_map
-          (λ s. record { guid = s; blocks = blocks (home_of_lid (cells_of facts) (lids (cells_of facts))) (slopes_of (graph_of (cells_of facts))) (block_count (top_of (lids (cells_of facts)))) s })
+          (λ s. record {
+            guid = s;
+            blocks = blocks (home_of_lid (cells_of facts) (lids (cells_of facts))) (slopes_of (graph_of (cells_of facts)))
+                (block_count (top_of (lids (cells_of facts)))) s;
+          })
           (switches (cells_of facts)) table found.0 in
           let at : slice_get (blocks homes slopes n s) b ≡ Some payload = ap (λ (t : SwitchTable). slice_get t.blocks b) same ∙ h in
           let within = slice_get_within (blocks homes slopes n s) b payload at in
@@ -270,7 +277,8 @@ module _ (facts : Facts) (has_room : ¬ (IsNoRoom (cells_of facts))) (sweep : Sw
             switch = subst (Contains (switches_of (plan_of (cells_of facts)))) (eqb-true _ _ found.1)
                 (contains_map (λ (t : SwitchTable). t.guid) (plan_of (cells_of facts)).tables table found.0);
             count = omega (arith, within, long);
-            whole = ap length (made_from (block homes slopes s) 0 n b payload at) ∙ length-map-range_with_len (λ i. entry homes slopes s (64 * (0 + b) + i)) 0 64;
+            whole = ap length (made_from (block homes slopes s) 0 n b payload at)
+                ∙ length-map-range_with_len (λ i. entry homes slopes s (64 * (0 + b) + i)) 0 64;
           }
 
   few_blocks : (b : ℕ) → b < block_count (top_of (lids (cells_of facts))) → b < 768
@@ -290,7 +298,8 @@ module _ (facts : Facts) (has_room : ¬ (IsNoRoom (cells_of facts))) (sweep : Sw
   from_block_step : (s : Step) → Contains (block_steps sweep (plan_of (cells_of facts))) s → BlockStep s
   from_block_step s there =
       let (guid, is_switch, in_it) = from_flat_map (switch_steps sweep (plan_of (cells_of facts))) (switches_of (plan_of (cells_of facts))) s there in
-      let (b, ranged, e) = taken_from (block_step sweep (plan_of (cells_of facts)) guid) (range_with_len 0 (block_count (top_of (lids (cells_of facts))))) s in_it in
+      let (b, ranged, e) = taken_from (block_step sweep (plan_of (cells_of facts)) guid)
+      (range_with_len 0 (block_count (top_of (lids (cells_of facts))))) s in_it in
       by_block guid b (block_at (plan_of (cells_of facts)) guid b) refl e
     where
       by_block : (guid b : ℕ) (m : Option (List ℕ)) → block_at (plan_of (cells_of facts)) guid b ≡ m
@@ -404,7 +413,8 @@ module _ (facts : Facts) (has_room : ¬ (IsNoRoom (cells_of facts))) (sweep : Sw
       → path_to sweep guid 0 ≡ Some path
       → Contains (top_steps sweep (plan_of (cells_of facts))) (record { path = path; attribute = switch_info; modifier = 0; payload = top_data top })
   to_top_step guid top path is_top is_switch there =
-      subst (λ m. Contains (option_map_or (λ t. filter_map (top_step sweep t) (switches_of (plan_of (cells_of facts)))) m []) (record { path = path; attribute = switch_info; modifier = 0; payload = top_data top }))
+      subst (λ m. Contains (option_map_or (λ t. filter_map (top_step sweep t) (switches_of (plan_of (cells_of facts)))) m [])
+      (record { path = path; attribute = switch_info; modifier = 0; payload = top_data top }))
       (sym is_top)
       (is_taken (top_step sweep top) (switches_of (plan_of (cells_of facts))) guid _ is_switch (making sweep guid 0 switch_info 0 (top_data top) path there))
 
@@ -412,7 +422,8 @@ module _ (facts : Facts) (has_room : ¬ (IsNoRoom (cells_of facts))) (sweep : Sw
   top_value top is_top = let small = top_fits top is_top in top-top_data top (omega (arith, small))
 
   -- states
-  state_step_is : (state : PortState) (s : Step) → Contains (state_steps (cells_of facts) sweep (lids (cells_of facts)) master state) s → IsStep (plan_of (cells_of facts)) sweep s
+  state_step_is : (state : PortState) (s : Step) → Contains (state_steps (cells_of facts) sweep (lids (cells_of facts)) master state) s
+      → IsStep (plan_of (cells_of facts)) sweep s
   state_step_is state s there =
       let (at, wired, e) = taken_from (state_step (cells_of facts) sweep (lids (cells_of facts)) master state) (wired_ports (cells_of facts)) s there in
       by_due at (seen_state sweep at.0 at.1) refl e
@@ -425,7 +436,8 @@ module _ (facts : Facts) (has_room : ¬ (IsNoRoom (cells_of facts))) (sweep : Sw
           by_lid (Some lid) = length-port_data lid master state
 
       by_step : (at : ℕ × ℕ) → at.1 ≤ 254 → (b : Bool)
-          → (if b then step_at sweep at.0 (vertex_port (cells_of facts) at) port_info at.1 (state_data (lids (cells_of facts)) master state at) else None) ≡ Some s
+          → (if b then step_at sweep at.0 (vertex_port (cells_of facts) at) port_info at.1
+          (state_data (lids (cells_of facts)) master state at) else None) ≡ Some s
           → IsStep (plan_of (cells_of facts)) sweep s
       by_step at small false h = absurd (cc)
       by_step at small true h =
@@ -443,7 +455,8 @@ module _ (facts : Facts) (has_room : ¬ (IsNoRoom (cells_of facts))) (sweep : Sw
             };
             planned = record {
               lid = λ _ lid has. let known = ap (λ n. lid_of (lids (cells_of facts)) (record { node = at.0; port = n })) (sym m.modifier_is) ∙ has in
-                  let fits = lid_fits (record { node = at.0; port = at.1 }) lid (given-from_lid (lids (cells_of facts)) (record { node = at.0; port = at.1 }) lid known) in
+                  let fits = lid_fits (record { node = at.0; port = at.1 }) lid
+                  (given-from_lid (lids (cells_of facts)) (record { node = at.0; port = at.1 }) lid known) in
                   ap (number_in base_lid) (m.payload_is ∙ ap (λ o. option_map_or (λ n. port_data n master state) o (port_data 0 0 state)) known)
                   ∙ lid-port_data lid master state (omega (arith, fits));
               top = λ f. absurd (omega (arith, is_port, f));
@@ -512,7 +525,8 @@ module _ (facts : Facts) (has_room : ¬ (IsNoRoom (cells_of facts))) (sweep : Sw
 
   pub top_is_set : (guid top : ℕ) (path : List ℕ) → top_of (lids (cells_of facts)) ≡ Some top → Contains (switches_of (plan_of (cells_of facts))) guid
       → path_to sweep guid 0 ≡ Some path
-      → IsOf (phases_by (plan_of (cells_of facts)) (cells_of facts) sweep master) true (record { path = path; attribute = switch_info; modifier = 0; payload = top_data top })
+      → IsOf (phases_by (plan_of (cells_of facts)) (cells_of facts) sweep master) true
+      (record { path = path; attribute = switch_info; modifier = 0; payload = top_data top })
   top_is_set guid top path is_top is_switch there =
       record {
         phase = record { counts = true; steps = top_steps sweep (plan_of (cells_of facts)) };

@@ -233,7 +233,8 @@ module _ (start : Simulation) (seat : NodePort) where
   pub sweep_timed : (old : Type 0) (m : Manager) → SweepSide old m → (transaction : ℕ) → SweepCall old m (sweep_gave_up m transaction m.sweep).manager
   sweep_timed old m side transaction = by_sweep m.sweep side.sweep
     where
-      by_request : (s : Sweep) → SweepIs old (Some s) → (r : Option Request) → request_with s.generation transaction s.outstanding ≡ r → SweepIs old (Some (timed_out_of s r))
+      by_request : (s : Sweep) → SweepIs old (Some s) → (r : Option Request) → request_with s.generation transaction s.outstanding ≡ r
+          → SweepIs old (Some (timed_out_of s r))
       by_request s is_one None e = is_one
       by_request s (inl nothing) (Some r) e = absurd (cc (sym (ap (request_with s.generation transaction) nothing.1.1) ∙ e))
       by_request s (inr swept) (Some r) e =

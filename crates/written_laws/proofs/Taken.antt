@@ -1,5 +1,6 @@
 -- What the agents hold of the steps that are answered, as a fabric goes on.
-use Rattle.std.proofs.Common.{◌≡◌, ◌≢◌, ◌⊎◌, inl, inr, ℕ, zero, suc, ◌+◌, ◌<◌, ◌≤◌, ◌^◌, Bool, true, false, cond, List, [], ◌∷◌, length, map, refl, sym, ap, ◌∙◌, subst, arith}
+use Rattle.std.proofs.Common.{◌≡◌, ◌≢◌, ◌⊎◌, inl, inr, ℕ, zero, suc, ◌+◌, ◌<◌, ◌≤◌, ◌^◌, Bool, true, false, cond, List, [], ◌∷◌, length}
+use Rattle.std.proofs.Common.{map, refl, sym, ap, ◌∙◌, subst, arith}
 use Rattle.std.proofs.lemmas.Bool.{and_parts, le-leb, leb-true, eq-eqb, eqb-true, eqb-false}
 use Rattle.std.proofs.lemmas.List.{ext_get_or}
 use Rattle.std.proofs.lemmas.Option.{same_Some, slice_get-map}
@@ -61,7 +62,8 @@ node_of_agent start s along place node a there agent =
     ∙ ap (option_map node_by) (named_at s.agents place a agent))
 
 -- the node at a place is the one that was there
-pub nodes_stay : (start s : Simulation) → IsAlong start s → (place : ℕ) (node : Node) → IsNodeAt (fabric_of s) place node → IsNodeAt (fabric_of start) place node
+pub nodes_stay : (start s : Simulation) → IsAlong start s → (place : ℕ) (node : Node) → IsNodeAt (fabric_of s) place node
+    → IsNodeAt (fabric_of start) place node
 unfolding node_by
 nodes_stay start s along place node there =
     seen_at start.agents place ∙ ap (λ ns. option_map node_by (slice_get ns place)) (sym along.nodes) ∙ sym (seen_at s.agents place) ∙ there
@@ -95,7 +97,8 @@ asks_for_step p request bytes notes k sendable short small e out =
     record {
       method = field_kept method request bytes (inl (omega arith)) out.kept ∙ ap (number_in method) e ∙ holds.method;
       attribute = field_kept attribute_id request bytes (inr (omega arith, omega arith)) out.kept ∙ ap (number_in attribute_id) e ∙ holds.attribute_id;
-      modifier = field_kept attribute_modifier request bytes (inr (omega arith, omega arith)) out.kept ∙ ap (number_in attribute_modifier) e ∙ holds.attribute_modifier;
+      modifier = field_kept attribute_modifier request bytes (inr (omega arith, omega arith)) out.kept ∙ ap (number_in attribute_modifier) e
+          ∙ holds.attribute_modifier;
       payload = bytes_in-alike attribute_data bytes request (let count = out.count in omega (arith, count))
           (let count = ap length e ∙ holds.count in omega (arith, count))
           (λ place from less. out.kept place (inr (omega (arith, from), omega (arith, less))))
@@ -120,7 +123,8 @@ module _ (start : Simulation) (seat : NodePort) (plan : PlanValue) where
 
   -- the agent at its path's end holds what it sets, where it counts
   pub record IsDone (s : Simulation) (p : StepSent) : Type 0 where
-    pub holds : p.counts ≡ true → (end : NodePort) (a : Agent) → directed_end (fabric_of start) seat p.step.path ≡ Some end → agent_at s end.node ≡ Some a → Holds a p.step
+    pub holds : p.counts ≡ true → (end : NodePort) (a : Agent) → directed_end (fabric_of start) seat p.step.path ≡ Some end → agent_at s end.node ≡ Some a
+        → Holds a p.step
 
 -- ports with LIDs ------------------------------------------------------------------------------------
 
@@ -181,7 +185,13 @@ was_at agents place change after e = by_agent (slice_get agents place) refl e
         → WasAt agents place change after
     by_agent None there h = absurd (cc (sym there ∙ h))
     by_agent (Some a) there h =
-        record { before = a; there = there; is = same_Some _ _ (sym h ∙ ap (λ m. slice_get (option_map_or (λ x. slice_set agents place (change x)) m agents) place) (sym there) ∙ changed_there agents place a change there) }
+        record {
+          before = a;
+          there = there;
+          is = same_Some _ _
+              (sym h ∙ ap (λ m. slice_get (option_map_or (λ x. slice_set agents place (change x)) m agents) place) (sym there)
+              ∙ changed_there agents place a change there);
+        }
 
 -- a delivery ----------------------------------------------------------------------------------------------
 
@@ -193,7 +203,8 @@ module _ (start s : Simulation) (seat : NodePort) (plan : PlanValue) (along : Is
 
     upto : (a : Agent) → agent_at s (port_of flight.place).node ≡ Some a → (port_of flight.place).port ≤ a.node.ports
     upto a there =
-        let parts = and_parts (nat_le 1 (port_of flight.place).port) (nat_le (port_of flight.place).port (port_count s (port_of flight.place).node)) asked.port in
+        let parts = and_parts (nat_le 1 (port_of flight.place).port)
+        (nat_le (port_of flight.place).port (port_count s (port_of flight.place).node)) asked.port in
         let most : (port_of flight.place).port ≤ port_count s (port_of flight.place).node = leb-true _ _ parts.1 in
         let count : port_count s (port_of flight.place).node ≡ a.node.ports = ap (λ o. option_map_or (λ (x : Agent). x.node.ports) o 0) there in
         omega (arith, most, count)
@@ -203,7 +214,10 @@ module _ (start s : Simulation) (seat : NodePort) (plan : PlanValue) (along : Is
         → sent ≡ set_packet p.number p.step → directed_end (fabric_of start) seat path ≡ Some (port_of flight.place) → IsOut sent notes k request
         → status (answer_at s (port_of flight.place) request) ≡ done → IsDone start seat plan (delivered s n).fabric p
     own_done p good small path sent notes k over e leads out is_done =
-        record { holds = λ counts end a end_is there. by_end counts end a (same_Some _ _ (sym end_is ∙ ap (directed_end (fabric_of start) seat) (sym way) ∙ leads)) end_is there }
+        record {
+          holds = λ counts end a end_is there. by_end counts end a
+              (same_Some _ _ (sym end_is ∙ ap (directed_end (fabric_of start) seat) (sym way) ∙ leads)) end_is there;
+        }
       where
         way : path ≡ p.step.path
         way = same_path p path sent good.sendable good.short small over e
@@ -216,14 +230,16 @@ module _ (start s : Simulation) (seat : NodePort) (plan : PlanValue) (along : Is
         by_end counts end a same end_is there =
             let change : Agent → Agent = λ x. (answered x request (port_of flight.place).port).agent in
             let here : slice_get (with_changed s.agents (port_of flight.place).node change) (port_of flight.place).node ≡ Some a =
-            ap (λ xs. slice_get xs (port_of flight.place).node) (sym asked.agents) ∙ ap (λ (q : NodePort). slice_get (delivered s n).fabric.agents q.node) (sym same) ∙ there in
+            ap (λ xs. slice_get xs (port_of flight.place).node) (sym asked.agents)
+            ∙ ap (λ (q : NodePort). slice_get (delivered s n).fabric.agents q.node) (sym same) ∙ there in
             let was = was_at s.agents (port_of flight.place).node change a here in
             let b = was.before in
             let is_agent : IsAgent b = agent_there s.agents (port_of flight.place).node b along.agents was.there in
             let done_b : status (answered b request (port_of flight.place).port).packet ≡ done =
             ap status (sym (ap (λ o. option_map_or (λ x. (answered x request (port_of flight.place).port).packet) o request) was.there)) ∙ is_done in
             let ends : good.end ≡ port_of flight.place = same_Some _ _ (sym good.leads ∙ end_is) ∙ same in
-            let node : good.node ≡ node_of b = node_of_agent start s along (port_of flight.place).node good.node b (subst (λ (q : NodePort). IsNodeAt (fabric_of start) q.node good.node) ends good.there) was.there in
+            let node : good.node ≡ node_of b = node_of_agent start s along (port_of flight.place).node good.node b
+            (subst (λ (q : NodePort). IsNodeAt (fabric_of start) q.node good.node) ends good.there) was.there in
             let port_is : p.step.attribute ≡ port_info → p.step.modifier ≡ guid_port good.node.kind (port_of flight.place).port =
             λ f. good.port counts f ∙ ap (λ (q : NodePort). guid_port good.node.kind q.port) ends in
             subst (λ (x : Agent). Holds x p.step) (sym was.is)
@@ -252,7 +268,8 @@ module _ (start s : Simulation) (seat : NodePort) (plan : PlanValue) (along : Is
           }) in
           record {
             lid = λ e port lid meant has. ap (number_in base_lid) asked.alike.data_is
-                ∙ c.lid (sym asked.alike.attribute_is ∙ e) port lid (ap (λ m. port_meant b m (port_of flight.place).port) (sym asked.alike.modifier_is) ∙ meant) has;
+                ∙ c.lid (sym asked.alike.attribute_is ∙ e) port lid
+                (ap (λ m. port_meant b m (port_of flight.place).port) (sym asked.alike.modifier_is) ∙ meant) has;
             top = λ e top switch is_top. ap (number_in linear_fdb_top) asked.alike.data_is ∙ c.top (sym asked.alike.attribute_is ∙ e) top switch is_top;
             block = λ e block there_is. asked.alike.data_is
                 ∙ c.block (sym asked.alike.attribute_is ∙ e) block (ap (block_at plan b.node.guid) (sym asked.alike.modifier_is) ∙ there_is);
@@ -280,7 +297,8 @@ module _ (start s : Simulation) (seat : NodePort) (plan : PlanValue) (along : Is
               let at_end : agent_at s end.node ≡ Some b = ap (slice_get s.agents) (sym same) ∙ was.there in
               let is_agent : IsAgent b = agent_there s.agents (port_of flight.place).node b along.agents was.there in
               let ends : good.end ≡ end = same_Some _ _ (sym good.leads ∙ end_is) in
-              let node : good.node ≡ node_of b = node_of_agent start s along end.node good.node b (subst (λ (q : NodePort). IsNodeAt (fabric_of start) q.node good.node) ends good.there) at_end in
+              let node : good.node ≡ node_of b = node_of_agent start s along end.node good.node b
+              (subst (λ (q : NodePort). IsNodeAt (fabric_of start) q.node good.node) ends good.there) at_end in
               subst (λ (x : Agent). Holds x p.step) (sym was.is)
               (held_stays b request (port_of flight.place).port is_agent asked.whole (upto b was.there) plan p.step
               (subst (λ (k : ℕ). IsOfPlan plan k p.step) (ap (λ (x : Node). x.guid) node) (good.of_plan counts))

@@ -66,7 +66,13 @@ pub may_write : (m : Manager) → writing_fault m ≡ None → MayWrite m
 may_write m e =
     let outer = or_none (planned_fault m) (number_fault (writing_begun m).counter) e in
     let inner = or_none (write_fault m) (plan_fault (cells_of m.store)) outer.0 in
-    record { no_step = λ p. no_step_there m.pending p (nothing_waits m.sweep inner.0); sweep_done = λ s is. sweep_ended s (ap (write_fault_with m) (sym is) ∙ inner.0); has_room = room_there inner.1; few = numbers_left outer.1 }
+    record {
+      no_step = λ p. no_step_there m.pending p (nothing_waits m.sweep inner.0);
+      sweep_done = λ s is. sweep_ended s
+          (ap (write_fault_with m) (sym is) ∙ inner.0);
+      has_room = room_there inner.1;
+      few = numbers_left outer.1;
+    }
   where
     third : (a b c : Bool) (u v w : ManagerFault) → cond a (Some u) (cond b (Some v) (cond c (Some w) None)) ≡ None → c ≡ false
     third true b c u v w h = absurd (cc)
@@ -88,7 +94,8 @@ may_write m e =
 
     nothing_waits : (s : Option Sweep) → write_fault_with m s ≡ None → no_step_waits m.pending ≡ true
     nothing_waits None h = absurd (cc)
-    nothing_waits (Some s) h = from_not (no_step_waits m.pending) (third (not (is_in Master m.standing)) (not (is_done s)) (not (no_step_waits m.pending)) _ _ _ h)
+    nothing_waits (Some s) h = from_not (no_step_waits m.pending)
+        (third (not (is_in Master m.standing)) (not (is_done s)) (not (no_step_waits m.pending)) _ _ _ h)
 
     chosen : (b : Bool) (w : ManagerFault) → cond b (Some w) None ≡ None → b ≡ false
     chosen true w h = absurd (cc)
@@ -144,13 +151,16 @@ module _ (start : Simulation) (seat : NodePort) (plan : PlanValue) (s : Sweep) (
             ∙ (λ j. guid_port (ap (λ (n : Node). n.kind) (same_node to also) j) (ap (λ (e : NodePort). e.port) (same_end to also) j));
       }
     where
-      same_end : {g v h u : ℕ} (to : LeadsToVertex (fabric_of start) seat p.step.path g v) (also : LeadsToVertex (fabric_of start) seat p.step.path h u) → also.led.end ≡ to.led.end
+      same_end : {g v h u : ℕ} (to : LeadsToVertex (fabric_of start) seat p.step.path g v) (also : LeadsToVertex (fabric_of start) seat p.step.path h u)
+          → also.led.end ≡ to.led.end
       same_end to also =
           same_Some _ _ (sym also.led.leads ∙ ap (directed_end (fabric_of start) seat) (sym also.path_is ∙ to.path_is) ∙ to.led.leads)
 
-      same_node : {g v h u : ℕ} (to : LeadsToVertex (fabric_of start) seat p.step.path g v) (also : LeadsToVertex (fabric_of start) seat p.step.path h u) → also.led.node ≡ to.led.node
+      same_node : {g v h u : ℕ} (to : LeadsToVertex (fabric_of start) seat p.step.path g v) (also : LeadsToVertex (fabric_of start) seat p.step.path h u)
+          → also.led.node ≡ to.led.node
       same_node to also =
-          same_Some _ _ (sym (subst (λ (e : NodePort). IsNodeAt (fabric_of start) e.node also.led.node) (same_end to also) also.led.has.there) ∙ to.led.has.there)
+          same_Some _ _ (sym (subst (λ (e : NodePort). IsNodeAt (fabric_of start) e.node also.led.node) (same_end to also) also.led.has.there)
+          ∙ to.led.has.there)
 
 -- the phases of a writing
 module _ (start : Simulation) (seat : NodePort) (m : Manager) (may : MayWrite m) (s : Sweep) (swept : IsSwept start seat s) where
@@ -206,7 +216,8 @@ module _ (start : Simulation) (seat : NodePort) (m : Manager) (may : MayWrite m)
         lid = λ e port lid meant has. ap (number_in base_lid) own.payload
             ∙ is.planned.lid (sym own.attribute ∙ e) lid
             (ap (λ g. lid_of (plan_of (cells_of m.store)).given (record { node = g; port = own.step.modifier })) guid_is
-            ∙ ap (λ n. lid_of (plan_of (cells_of m.store)).given (record { node = a.node.guid; port = n })) (sym (means (sym own.attribute ∙ e) port meant)) ∙ has);
+            ∙ ap (λ n. lid_of (plan_of (cells_of m.store)).given (record { node = a.node.guid; port = n })) (sym (means (sym own.attribute ∙ e) port meant))
+            ∙ has);
         top = λ e top switch is_top. ap (number_in linear_fdb_top) own.payload ∙ is.planned.top (sym own.attribute ∙ e) top is_top;
         block = λ e block there. own.payload ∙ is.planned.block (sym own.attribute ∙ e) block
             (ap (λ g. block_at (plan_of (cells_of m.store)) g own.step.modifier) guid_is
@@ -214,7 +225,8 @@ module _ (start : Simulation) (seat : NodePort) (m : Manager) (may : MayWrite m)
       }
     where
       is : IsStep (plan_of (cells_of m.store)) s own.step
-      is = (one_good (phases_of (plan_of (cells_of m.store)) (cells_of m.store) s m.standing.guid m.port) own.phase all_good own.there).steps own.step own.in_phase
+      is = (one_good (phases_of (plan_of (cells_of m.store)) (cells_of m.store) s m.standing.guid m.port) own.phase all_good own.there).steps own.step
+          own.in_phase
 
       to : LeadsToVertex (fabric_of start) seat own.step.path is.guid is.vertex
       to = path_led (fabric_of start) seat s is.guid is.vertex own.step.path swept.led is.goes.path
@@ -223,7 +235,8 @@ module _ (start : Simulation) (seat : NodePort) (m : Manager) (may : MayWrite m)
       ends = same_Some _ _ (sym to.led.leads ∙ ap (directed_end (fabric_of start) seat) (sym to.path_is) ∙ own.leads)
 
       node_is : to.led.node ≡ node_of a
-      node_is = node_of_agent start now along at.node to.led.node a (subst (λ (e : NodePort). IsNodeAt (fabric_of start) e.node to.led.node) ends to.led.has.there) agent
+      node_is = node_of_agent start now along at.node to.led.node a
+          (subst (λ (e : NodePort). IsNodeAt (fabric_of start) e.node to.led.node) ends to.led.has.there) agent
 
       guid_is : is.guid ≡ a.node.guid
       guid_is = sym to.guid_is ∙ sym to.led.has.named ∙ ap (λ (n : Node). n.guid) node_is
@@ -236,7 +249,8 @@ module _ (start : Simulation) (seat : NodePort) (m : Manager) (may : MayWrite m)
           by_kind (is_switch a) (nat_le own.step.modifier a.node.ports) vertex_is (is.zero is_port)
           (ap (λ n. port_meant a n at.port) (sym own.modifier) ∙ meant)
         where
-          by_zero : (b : Bool) → (own.step.modifier == 0) ≡ b → (d : Bool) → (own.step.modifier == at.port) ≡ d → is.vertex ≡ at.port → (own.step.modifier ≡ 0 → is.vertex ≡ 0)
+          by_zero : (b : Bool) → (own.step.modifier == 0) ≡ b → (d : Bool) → (own.step.modifier == at.port) ≡ d → is.vertex ≡ at.port
+              → (own.step.modifier ≡ 0 → is.vertex ≡ 0)
               → cond (b || d) (Some at.port) None ≡ Some port → port ≡ own.step.modifier
           by_zero true e d f v z h =
               let none = eqb-true _ _ e in sym (same_Some at.port port h) ∙ sym v ∙ z none ∙ sym none
