@@ -1,17 +1,13 @@
--- Packets stay on their courses, whatever is delivered, lost, copied or sent; and what is handed up was on its course.
-use Rattle.std.proofs.Common.{◌≡◌, ◌≢◌, inl, inr, ℕ, zero, suc, ◌+◌, ◌<◌, ◌≤◌, Bool, true, false, cond, List, [], ◌∷◌, length, refl, sym, ap, ◌∙◌, subst, arith}
+-- What an agent answers with status 0 is so of the fabric.
+use Rattle.std.proofs.Common.{◌≡◌, ◌≢◌, inl, inr, ℕ, zero, suc, ◌≤◌, Bool, true, false, cond, List, refl, sym, ap, ◌∙◌, subst, arith}
 use Rattle.std.proofs.lemmas.Bool.{and_parts, and_from, leb-true, le-leb}
 use Rattle.std.proofs.lemmas.Option.{same_Some, slice_get-map}
-use Rattle.std.specs.Prelude.{Option, Some, None, option_map, slice_get, slice_index, nat_le, ◌==◌, ◌||◌}
+use Rattle.std.specs.Prelude.{Option, Some, None, option_map, slice_get, nat_le, ◌==◌, ◌||◌}
 use Rattle.std.specs.Option.{option_map_or}
 use Rattle.smp_bytes.specs.declared.cable.NodePort.{NodePort}
-use Rattle.smp_bytes.specs.Header.{port_info, done}
+use Rattle.smp_bytes.specs.Header.{port_info}
 use Rattle.smp_bytes.specs.Field.{number_in, bits_in, bytes_in}
-use Rattle.smp_bytes.specs.Packet.{attribute_id, attribute_modifier, attribute_data, initial_path, is_directed, status}
-use Rattle.smp_bytes.specs.Requests.{answer_packet}
-use Rattle.smp_bytes.specs.ReadBack.{HoldsAnswer}
-use Rattle.smp_bytes.specs.DirectedWalk.{directed_end}
-use Rattle.smp_bytes.proofs.FieldLaws.{number_in-alike}
+use Rattle.smp_bytes.specs.Packet.{attribute_id, attribute_modifier, attribute_data}
 use Rattle.attr_codec.specs.declared.node_info.NodeInfo.{NodeInfo}
 use Rattle.attr_codec.specs.declared.port_state.PortState.{PortState}
 use Rattle.attr_codec.specs.declared.port_state.PortState.TheVariants.{NoChange, Down, Initialize, Armed, Active}
@@ -19,21 +15,21 @@ use Rattle.attr_codec.specs.PortInfo.{port_state, number_of_state}
 use Rattle.node_agents.specs.declared.agent_node.AgentNode.{AgentNode}
 use Rattle.node_agents.specs.Agent.{Agent, IsAgent, is_switch, node_of, state_at}
 use Rattle.node_agents.specs.PortInfo.{port_meant}
-use Rattle.node_agents.specs.Answers.{met, answered, status_told, payload_told}
+use Rattle.node_agents.specs.Answers.{answered}
 use Rattle.node_agents.specs.AnswerLaws as agents
 use Rattle.node_agents.specs.AnswerLaws.{IsPacket}
-use Rattle.node_agents.proofs.Outcomes.{answers_hold}
 use Rattle.node_agents.proofs.Says.{answers_say}
 use Rattle.node_agents.proofs.Sets.{meant_fits}
-use Rattle.dr_forward.proofs.Trips.{turns}
-use Rattle.fabric_sim.specs.Simulation.{Simulation, IsSimulation, AreCables, agent_at, port_count, across, fabric_of, is_cable_port}
+use Rattle.fabric_sim.specs.declared.flight.Flight.{Flight}
+use Rattle.fabric_sim.specs.Simulation.{Simulation, IsSimulation, agent_at, port_count, across, fabric_of, is_cable_port, port_of}
 use Rattle.fabric_sim.specs.Delivery.{answer_at}
 use Rattle.fabric_sim.specs.Tells.{IsUp, IsUpState, port_asked, SaysPort, SaysOf}
-use Rattle.fabric_sim.proofs.Courses.{IsRequestFor, IsOnCourse, IsForAgent, noted_small}
+use Rattle.fabric_sim.proofs.Courses.{AnySends, SaysSo}
+use Rattle.fabric_sim.proofs.Traced.{IsRequestFor}
+use Rattle.fabric_sim.proofs.TracedCalls.{IsAskedBy}
 use Rattle.fabric_sim.proofs.TripEnds.{agent_by_port}
 use Rattle.fabric_sim.proofs.TripShapes.{IsAlong, agent_there, port_count_stays}
 use Rattle.fabric_sim.proofs.TripsOut.{IsPortOf}
-use Rattle.fabric_sim.proofs.Walks.{noted, stop_last}
 
 -- what an agent says is so of the fabric -------------------------------------------------------
 
@@ -159,76 +155,21 @@ module _ {start s : Simulation} (along : IsAlong start s) (is : IsSimulation s) 
           switch_info = λ e. let said = says.switch e in record { kind = said.kind; cap = said.cap_is };
         }
 
--- answers begin their way back -------------------------------------------------------------------
+-- the agent's answer to a request that came to the end of its path
+pub agents_say : {start s : Simulation} → IsAlong start s → IsSimulation s → (n : ℕ) (flight : Flight) (request : List ℕ) → IsAskedBy s n flight request
+    → (r : IsRequestFor AnySends (SaysSo start) start (port_of flight.place) request)
+    → SaysSo start r.origin (port_of flight.place) (answer_at s (port_of flight.place) request)
+agents_say {start = start} {s = s} along is n flight request asked r =
+    subst (SaysSo start r.origin p) (sym (ap (λ o. option_map_or (λ x. (answered x request p.port).packet) o request) a.1))
+    (λ done_is. said_of along is p r.within a.0 a.1 (answered a.0 request p.port).packet
+    (answers_say a.0 request p.port (agent_there s.agents p.node a.0 along.agents a.1) asked.whole (upto along is p r.within a.0 a.1) done_is))
+  where
+    p : NodePort
+    p = port_of flight.place
 
--- the path of no ports ends where it begins
-at_home : (start : Simulation) (origin p : NodePort) (path : List ℕ) → directed_end (fabric_of start) origin path ≡ Some p → length path ≡ 0 → p ≡ origin
-at_home start origin p [] leads none = sym (same_Some origin p leads)
-at_home start origin p (port ∷ path) leads none = absurd (omega (arith, none))
-
--- the answer to a request that has come to the end of its path
-pub turned : (start : Simulation) → AreCables start → ((place : ℕ) → port_count start place ≤ 254) → (p : NodePort) (request : List ℕ) (given : ℕ) (payload : List ℕ)
-    → IsRequestFor start p request → HoldsAnswer request (answer_packet request given payload) given payload
-    → (status (answer_packet request given payload) ≡ done → SaysOf (fabric_of start) p (answer_packet request given payload))
-    → IsOnCourse start p (answer_packet request given payload)
-turned start cables counts p request given payload r holds says =
-    let F = fabric_of start in
-    let answer = answer_packet request given payload in
-    let turning = turns r.over (noted F r.origin r.path) (noted_small start cables counts r.origin r.path) r.bytes_are given payload holds in
-    let ports : (i : ℕ) → i < length r.path → number_in (initial_path (i + 1)) answer ≡ slice_index r.path i = λ i less.
-    number_in-alike (initial_path (i + 1)) answer request (λ place from upto. holds.kept place (inr (inr (omega (arith, from)))))
-    ∙ number_in-alike (initial_path (i + 1)) request r.request
-    (λ place from upto. r.bytes_are.kept place (inr (omega (arith, from), omega (arith, upto, less, r.over.short))))
-    ∙ r.over.ports i less in
-    record {
-      count = holds.count;
-      course = λ directed. (
-        length r.path,
-        inr (record {
-          origin = r.origin;
-          path = r.path;
-          answer = answer;
-          is = record { reads = turning.reads; response = holds.response; count = holds.count; own = r.own; end = p; leads = r.leads; ports = ports; says = says };
-          most = omega arith;
-          here = p;
-          there = stop_last F r.origin r.path ∙ r.leads;
-          node = refl;
-          home = at_home start r.origin p r.path r.leads;
-          bytes_are = turning.begins;
-        }),
-      );
-    }
-
--- an answer to any other request is not directed
-not_directed : (start : Simulation) (p : NodePort) (request : List ℕ) (given : ℕ) (payload : List ℕ) → is_directed request ≡ false
-    → HoldsAnswer request (answer_packet request given payload) given payload → IsOnCourse start p (answer_packet request given payload)
-not_directed start p request given payload other holds =
-    record { count = holds.count; course = λ directed. absurd (cc (sym directed ∙ holds.class ∙ other)) }
-
--- the agent's answer to a request
-module _ {start s : Simulation} (cables : AreCables start) (counts : (place : ℕ) → port_count start place ≤ 254)
-    (along : IsAlong start s) (is : IsSimulation s) (p : NodePort) (request : List ℕ) (r : IsForAgent start p request) where
-  by_agent : (a : Agent) → agent_at s p.node ≡ Some a → IsOnCourse start p (answered a request p.port).packet
-  unfolding answered
-  by_agent a there = by_class (is_directed request) refl
-    where
-      by_class : (b : Bool) → is_directed request ≡ b → IsOnCourse start p (answered a request p.port).packet
-      by_class false e =
-          let told = (met a request p.port).told in
-          not_directed start p request (status_told told) (payload_told told request) e
-          (answers_hold a request p.port (agent_there s.agents p.node a along.agents there) r.whole)
-      by_class true e =
-          let told = (met a request p.port).told in
-          let came = r.request e in
-          let agent = agent_there s.agents p.node a along.agents there in
-          turned start cables counts p request (status_told told) (payload_told told request) came (answers_hold a request p.port agent r.whole)
-          (λ done_is. said_of along is p came.within a there (answered a request p.port).packet
-          (answers_say a request p.port agent r.whole (upto along is p came.within a there) done_is))
-
-  pub agents_answer : is_cable_port s p ≡ true → IsOnCourse start p (answer_at s p request)
-  agents_answer port =
-      let parts = and_parts (nat_le 1 p.port) (nat_le p.port (port_count s p.node)) port in
-      let from_one : 1 ≤ p.port = leb-true _ _ parts.0 in
-      let to_count : p.port ≤ port_count s p.node = leb-true _ _ parts.1 in
-      let (a, there) = agent_by_port s p.node (omega (arith, from_one, to_count)) in
-      subst (IsOnCourse start p) (sym (ap (λ o. option_map_or (λ x. (answered x request p.port).packet) o request) there)) (by_agent a there)
+    a : (x : Agent) × (agent_at s (port_of flight.place).node ≡ Some x)
+    a =
+        let parts = and_parts (nat_le 1 p.port) (nat_le p.port (port_count s p.node)) asked.port in
+        let from_one : 1 ≤ p.port = leb-true _ _ parts.0 in
+        let to_count : p.port ≤ port_count s p.node = leb-true _ _ parts.1 in
+        agent_by_port s p.node (omega (arith, from_one, to_count))

@@ -31,9 +31,9 @@ use Rattle.attr_codec.specs.NodeInfo.{node_info_in}
 use Rattle.attr_codec.specs.PortInfo.{port_state}
 use Rattle.attr_codec.specs.SwitchInfo.{linear_fdb_cap}
 use Rattle.fabric_sim.specs.Tells.{path_of, port_asked, SaysNode, SaysPort, SaysSwitch, SaysOf, TellsOfEnd}
-use Rattle.fabric_sim.proofs.Carried.{turned}
-use Rattle.fabric_sim.proofs.Carries.{AreOnCourse, Carries, HandsUpOnCourse, deliveries_carry, deliveries_hand_up, injections_carry, copies_carry, losses_carry}
-use Rattle.fabric_sim.proofs.Courses.{IsAnswerFor, IsOnCourse, IsForManager}
+use Rattle.fabric_sim.proofs.Carries.{Carries, HandsUpOnCourse, deliveries_carry, deliveries_hand_up, injections_carry, copies_carry, losses_carry}
+use Rattle.fabric_sim.proofs.Courses.{AnySends, SaysSo, AreOnCourse, IsAnswerFor, IsOnCourse, IsForManager}
+use Rattle.fabric_sim.proofs.TracedCalls.{turned}
 use Rattle.fabric_sim.proofs.TripEnds.{request_over, few_ports, along_itself, agent_by_port}
 use Rattle.fabric_sim.proofs.TripShapes.{port_count_stays}
 use Rattle.fabric_sim.proofs.TripsOut.{IsPortOf}
@@ -77,7 +77,7 @@ module _ (start : Simulation) (at : NodePort) (bytes : List ℕ) (r : IsAnswerFo
       record {
         end = r.is.end;
         leads = ap (directed_end (fabric_of start) at) path_is ∙ r.is.leads;
-        says = λ e. let said = r.is.says (sym same_status ∙ e) in
+        says = λ e. let said = r.is.tells (sym same_status ∙ e) in
             let attribute = same attribute_id (inr (omega arith, omega arith)) in
             let modifier = same attribute_modifier (inr (omega arith, omega arith)) in
             said_same said attribute modifier;
@@ -153,6 +153,7 @@ sent_on start seat method attribute modifier tid path payload fits low short own
             pointer = along.hop_pointer;
             notes = λ i some less. absurd (omega (arith, some, less));
           };
+          sent = tt;
         }),
       );
     }
@@ -213,7 +214,7 @@ module _ {start : Simulation} (cables : AreCables start) (counts : (place : ℕ)
       by_class false e = other_on start seat (answer_packet h.packet.bytes given payload) holds.count (holds.class ∙ e)
       by_class true e = elim (is.course e) [
         | inl r ↦ subst (λ p. IsOnCourse start p (answer_packet h.packet.bytes given payload)) same_seat
-            (turned start cables counts h.at h.packet.bytes given payload r holds (λ _. no_attribute start h.at r.within (answer_packet h.packet.bytes given payload) attribute))
+            (turned AnySends (SaysSo start) start cables counts h.at h.packet.bytes given payload r holds (λ _. no_attribute start h.at r.within (answer_packet h.packet.bytes given payload) attribute))
         | inr r ↦ absurd (cc (sym (ap not (is_answer r)) ∙ before.1))
       ]
         where

@@ -289,9 +289,9 @@ module _ (start : Simulation) (seat : NodePort) (plan : PlanValue) where
     sends_of : (origin : NodePort) (request : List ℕ) → Sends start seat plan c all origin request → Sends start seat plan later more origin request
     sends_of origin request sent same = own_of request (sent same)
 
-    tells_of : (s : Simulation) (origin : NodePort) (answer : List ℕ) → Tells start seat plan c all s origin answer
-        → Tells start seat plan later more s origin answer
-    tells_of s origin answer told same =
+    tells_of : (s : Simulation) (origin end : NodePort) (answer : List ℕ) → Tells start seat plan c all s origin end answer
+        → Tells start seat plan later more s origin end answer
+    tells_of s origin end answer told same =
         elim (told same) [
           | inl old ↦ inl (older answer old)
           | inr x ↦ inr (record { step = x.step; there = among x.step x.there; number = x.number; is_done = x.is_done })

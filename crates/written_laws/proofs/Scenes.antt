@@ -76,8 +76,8 @@ module _ (start : Simulation) (seat : NodePort) (plan : PlanValue) (c : ℕ) (al
     pub number : number_in transaction_id answer ≡ step.number
     pub is_done : status answer ≡ done → IsDone start seat plan s step
 
-  abbrev pub Tells : Simulation → NodePort → List ℕ → Type 0
-  Tells s origin answer = origin ≡ seat → IsOld answer ⊎ AnswersStep s answer
+  abbrev pub Tells : Simulation → NodePort → NodePort → List ℕ → Type 0
+  Tells s origin end answer = origin ≡ seat → IsOld answer ⊎ AnswersStep s answer
 
   abbrev pub WereTraced : Simulation → List Handed → Type 0
   WereTraced s [] = Unit {0}
@@ -119,8 +119,8 @@ module _ (start : Simulation) (seat : NodePort) (plan : PlanValue) (c : ℕ) (al
   same_agents s after same p there is =
       record { holds = λ counts end a leads at. is.holds counts end a leads (ap (λ xs. slice_get xs end.node) (sym same) ∙ at) }
 
-  tells_later : (s after : Simulation) → Stays s after → (origin : NodePort) (answer : List ℕ) → Tells s origin answer → Tells after origin answer
-  tells_later s after stays origin answer tells same =
+  tells_later : (s after : Simulation) → Stays s after → (origin end : NodePort) (answer : List ℕ) → Tells s origin end answer → Tells after origin end answer
+  tells_later s after stays origin end answer tells same =
       elim (tells same) [
         | inl old ↦ inl old
         | inr a ↦ inr (record { step = a.step; there = a.there; number = a.number; is_done = λ e. stays a.step a.there (a.is_done e) })
@@ -211,7 +211,7 @@ module _ (start : Simulation) (seat : NodePort) (plan : PlanValue) (c : ℕ) (al
     agent_tells : (s : Simulation) (n : ℕ) → Continues start (record { fabric = s; handed = [] }) → (flight : Flight) (request : List ℕ)
         → IsAskedBy s n flight request
         → (r : IsRequestFor Sends (Tells (delivered s n).fabric) start (port_of flight.place) request)
-        → Tells (delivered s n).fabric r.origin (answer_at s (port_of flight.place) request)
+        → Tells (delivered s n).fabric r.origin (port_of flight.place) (answer_at s (port_of flight.place) request)
     agent_tells s n c flight request asked r same =
         elim (r.sent same) [
           | inl old ↦ inl (old_kept r.request (answer_at s (port_of flight.place) request) number old)
