@@ -1,29 +1,23 @@
 -- Whatever happens, each directed packet that comes back tells of the end of its path.
-use Rattle.std.proofs.Common.{◌≡◌, ◌⊎◌, inl, inr, ℕ, zero, suc, ◌+◌, ◌/◌, ◌%◌, ◌^◌, ◌<◌, ◌≤◌, Bool, true, false, cond, List, [], ◌∷◌, ◌++◌, length, get_or, refl, sym, ap, ◌∙◌, subst, arith}
-use Rattle.std.proofs.lemmas.Bool.{cond_both, and_parts, eqb-true, leb-true}
+use Rattle.std.proofs.Common.{◌≡◌, ◌⊎◌, inl, inr, ℕ, ◌+◌, ◌/◌, ◌%◌, ◌^◌, ◌<◌, ◌≤◌, true, cond, List, [], ◌∷◌, length, get_or, refl, sym, ap, ◌∙◌, subst, arith}
+use Rattle.std.proofs.lemmas.Bool.{cond_both, and_parts, leb-true}
 use Rattle.std.proofs.lemmas.Option.{slice_get-map}
 use Rattle.std.proofs.lemmas.List.{ext_get_or, get_or-drop, get_or-take, length-drop, length-take-le}
 use Rattle.std.proofs.lemmas.List.Elements.{All-nil, All-head, All-tail, All-cons}
-use Rattle.std.specs.Prelude.{Option, Some, None, Result, Ok, Err, All, option_map, slice_get, slice_index, take, drop, nat_le, not, ◌==◌, ◌&&◌}
+use Rattle.std.specs.Prelude.{Option, Some, None, All, option_map, slice_get, slice_index, take, drop, nat_le, ◌==◌}
 use Rattle.smp_bytes.specs.declared.cable.NodePort.{NodePort}
-use Rattle.smp_bytes.specs.Cables.{is_same_port}
 use Rattle.smp_bytes.specs.Header.{sm_info, node_info, port_info, switch_info}
 use Rattle.smp_bytes.specs.Field.{Field, number_in, bits_in, bytes_in}
-use Rattle.smp_bytes.specs.Packet.{mgmt_class, attribute_id, attribute_modifier, attribute_data, hop_count, status_word, is_directed, is_response, status}
+use Rattle.smp_bytes.specs.Packet.{mgmt_class, attribute_id, attribute_modifier, attribute_data, hop_count, status_word, is_directed, status}
 use Rattle.smp_bytes.specs.Requests.{directed, answer_packet}
-use Rattle.smp_bytes.specs.ReadBack.{FitsRequest, HoldsAnswer}
+use Rattle.smp_bytes.specs.ReadBack.{FitsRequest}
 use Rattle.smp_bytes.specs.DirectedWalk.{directed_end}
-use Rattle.smp_bytes.proofs.Answered.{answer_reads_back}
 use Rattle.smp_bytes.proofs.BitLaws.{byte-number_in}
-use Rattle.smp_bytes.proofs.Made.{directed_reads_back}
 use Rattle.smp_bytes.proofs.FieldLaws.{number_in-alike}
 use Rattle.smp_bytes.proofs.PlaceLaws.{bytes_in-alike}
 use Rattle.node_agents.specs.Agent.{node_of}
 use Rattle.dr_forward.proofs.Trips.{field_kept}
 use Rattle.fabric_sim.specs.declared.packet.Packet.{Packet}
-use Rattle.fabric_sim.specs.declared.delivered.Delivered.{Delivered}
-use Rattle.fabric_sim.specs.declared.delivered.Delivered.TheVariants.{Moved, Answered, ToManager, Discarded}
-use Rattle.fabric_sim.specs.declared.fault.FabricFault.{FabricFault}
 use Rattle.fabric_sim.specs.Simulation.{Simulation, AreCables, port_count, is_seat_at, fabric_of}
 use Rattle.fabric_sim.specs.Delivery.{delivered}
 use Rattle.fabric_sim.specs.ThereAndBack.{BeginsWith}
@@ -31,14 +25,14 @@ use Rattle.attr_codec.specs.NodeInfo.{node_info_in}
 use Rattle.attr_codec.specs.PortInfo.{port_state}
 use Rattle.attr_codec.specs.SwitchInfo.{linear_fdb_cap}
 use Rattle.fabric_sim.specs.Tells.{path_of, port_asked, SaysNode, SaysPort, SaysSwitch, SaysOf, TellsOfEnd}
-use Rattle.fabric_sim.proofs.Carries.{Carries, HandsUpOnCourse, deliveries_carry, deliveries_hand_up, injections_carry, copies_carry, losses_carry}
+use Rattle.fabric_sim.proofs.Carries.{Carries, deliveries_carry, deliveries_hand_up, injections_carry, copies_carry, losses_carry}
 use Rattle.fabric_sim.proofs.Courses.{AnySends, SaysSo, AreOnCourse, IsAnswerFor, IsOnCourse, IsForManager}
-use Rattle.fabric_sim.proofs.TracedCalls.{turned}
-use Rattle.fabric_sim.proofs.TripEnds.{request_over, few_ports, along_itself, agent_by_port}
+use Rattle.fabric_sim.proofs.TripEnds.{few_ports, along_itself, agent_by_port}
 use Rattle.fabric_sim.proofs.TripShapes.{port_count_stays}
 use Rattle.fabric_sim.proofs.TripsOut.{IsPortOf}
-use Rattle.sm_laws.specs.Scene.{Handed, Scene, ByLid, ByPath, Answer, Event, Deliver, Lose, Repeat, Send, CanHappen, handed_by, sent_from, asks_manager, answer_to, answered_from, after_event, after_events, IsQuiet}
+use Rattle.sm_laws.specs.Scene.{Handed, Scene, ByLid, ByPath, Answer, Event, Deliver, Lose, Repeat, Send, CanHappen, sent_from, asks_manager, answer_to, answered_from, after_event, after_events, IsQuiet}
 use Rattle.sm_laws.specs.AnswersTell.{IsBack, AnswersTell}
+use Rattle.sm_laws.proofs.TracedScenes.{WereTraced, manager_traced, other_traced, sent_traced, traced_by, traced_more, traced_there}
 
 -- what came back tells -----------------------------------------------------------------------------
 
@@ -102,65 +96,23 @@ module _ (start : Simulation) (at : NodePort) (bytes : List ℕ) (r : IsAnswerFo
 
 -- all that was handed up was on its course
 abbrev pub WereOnCourse : Simulation → List Handed → Type 0
-WereOnCourse start [] = Unit {0}
-WereOnCourse start (h ∷ handed) = IsForManager start h.at h.packet.bytes × WereOnCourse start handed
+WereOnCourse start handed = WereTraced AnySends (SaysSo start) start handed
 
 -- what is so of a scene after events
 pub record Continues (start : Simulation) (s : Scene) : Type 0 where
   pub fabric : Carries start s.fabric
   pub handed : WereOnCourse start s.handed
 
-were_more : (start : Simulation) (handed more : List Handed) → WereOnCourse start handed → WereOnCourse start more → WereOnCourse start (handed ++ more)
-were_more start [] more all also = also
-were_more start (h ∷ handed) more all also = (all.0, were_more start handed more all.1 also)
-
 pub was_there : (start : Simulation) (handed : List Handed) (which : ℕ) (h : Handed) → WereOnCourse start handed → slice_get handed which ≡ Some h
     → IsForManager start h.at h.packet.bytes
-was_there start [] which h all e = absurd (cc)
-was_there start (x ∷ handed) zero h all e = let same : x ≡ h = cc in subst (λ (y : Handed). IsForManager start y.at y.packet.bytes) same all.0
-was_there start (x ∷ handed) (suc which) h all e = was_there start handed which h all.1 e
-
-were_by : (start : Simulation) (result : Result Delivered FabricFault) → HandsUpOnCourse start result → WereOnCourse start (handed_by result)
-were_by start (Ok (ToManager at packet)) up = (up at packet refl, tt)
-were_by start (Ok (Moved serial)) up = tt
-were_by start (Ok (Answered serial)) up = tt
-were_by start (Ok (Discarded reason)) up = tt
-were_by start (Err fault) up = tt
+was_there start = traced_there AnySends (SaysSo start) start
 
 -- a request is on its course where it is sent
 pub sent_on : (start : Simulation) (seat : NodePort) (method attribute modifier tid : ℕ) (path payload : List ℕ)
     → FitsRequest method attribute modifier tid payload → method < 2 ^ 7 → length path ≤ 63 → BeginsWith seat.port path → IsPortOf start seat
     → IsOnCourse start seat (directed method attribute modifier tid path payload)
 sent_on start seat method attribute modifier tid path payload fits low short own within =
-    let (holds, along) = directed_reads_back method attribute modifier tid path payload fits short in
-    record {
-      count = holds.count;
-      course = λ _. (
-        zero,
-        inl (record {
-          origin = seat;
-          path = path;
-          request = directed method attribute modifier tid path payload;
-          over = request_over fits low short;
-          own = own;
-          most = omega arith;
-          there = refl;
-          within = within;
-          bytes_are = record {
-            count = holds.count;
-            parses = holds.parses;
-            kept = λ place h. refl;
-            pointer = along.hop_pointer;
-            notes = λ i some less. absurd (omega (arith, some, less));
-          };
-          sent = tt;
-        }),
-      );
-    }
-
--- a packet that is not directed is on its course
-other_on : (start : Simulation) (seat : NodePort) (bytes : List ℕ) → length bytes ≡ 256 → is_directed bytes ≡ false → IsOnCourse start seat bytes
-other_on start seat bytes count other = record { count = count; course = λ directed. absurd (cc (sym directed ∙ other)) }
+    sent_traced AnySends (SaysSo start) start seat method attribute modifier tid path payload fits low short own within tt
 
 -- the answer that a manager gives ------------------------------------------------------------------
 
@@ -184,42 +136,11 @@ bytes_answered request given payload =
 module _ {start : Simulation} (cables : AreCables start) (counts : (place : ℕ) → port_count start place ≤ 254) where
   manager_answers : (h : Handed) (seat : NodePort) (given : ℕ) (payload : List ℕ) → IsForManager start h.at h.packet.bytes → given < 2 ^ 15 → length payload ≡ 64
       → asks_manager seat h ≡ true → IsOnCourse start seat (answer_packet h.packet.bytes given payload)
-  manager_answers h seat given payload is small whole asks = by_class (is_directed request) refl
-    where
-      request : List ℕ
-      request = h.packet.bytes
-
-      holds : HoldsAnswer h.packet.bytes (answer_packet h.packet.bytes given payload) given payload
-      holds = answer_reads_back h.packet.bytes given payload is.whole.count is.whole.parses whole (omega (arith, small)) (λ _. small)
-
-      parts : ((is_same_port h.at seat && not (is_response h.packet.bytes)) ≡ true) × ((number_in attribute_id h.packet.bytes == sm_info) ≡ true)
-      parts = and_parts _ _ asks
-
-      before : (is_same_port h.at seat ≡ true) × (not (is_response h.packet.bytes) ≡ true)
-      before = and_parts _ _ parts.0
-
-      same_seat : h.at ≡ seat
-      same_seat =
-          let ends = and_parts (h.at.node == seat.node) (h.at.port == seat.port) before.0 in
-          let node = eqb-true _ _ ends.0 in
-          let port = eqb-true _ _ ends.1 in
-          (λ j. record { node = node j; port = port j })
-
-      attribute : number_in attribute_id (answer_packet h.packet.bytes given payload) ≡ sm_info
-      attribute =
-          number_in-alike attribute_id (answer_packet h.packet.bytes given payload) h.packet.bytes (λ place from less. holds.kept place (inr (inl (omega (arith, from), omega (arith, less)))))
-          ∙ eqb-true _ _ parts.1
-
-      by_class : (b : Bool) → is_directed h.packet.bytes ≡ b → IsOnCourse start seat (answer_packet h.packet.bytes given payload)
-      by_class false e = other_on start seat (answer_packet h.packet.bytes given payload) holds.count (holds.class ∙ e)
-      by_class true e = elim (is.course e) [
-        | inl r ↦ subst (λ p. IsOnCourse start p (answer_packet h.packet.bytes given payload)) same_seat
-            (turned AnySends (SaysSo start) start cables counts h.at h.packet.bytes given payload r holds (λ _. no_attribute start h.at r.within (answer_packet h.packet.bytes given payload) attribute))
-        | inr r ↦ absurd (cc (sym (ap not (is_answer r)) ∙ before.1))
-      ]
-        where
-          is_answer : IsAnswerFor start h.at h.packet.bytes → is_response h.packet.bytes ≡ true
-          is_answer r = ap (λ b. b / 2 ^ 7 % 2 ^ 1 == 1) (r.kept 3 (inl (omega arith))) ∙ r.is.response
+  manager_answers h seat given payload is small whole asks =
+      manager_traced AnySends (SaysSo start) start cables counts h seat given payload is small whole asks
+      (λ r is_sm_info holds _. no_attribute start h.at r.within (answer_packet h.packet.bytes given payload)
+      (number_in-alike attribute_id (answer_packet h.packet.bytes given payload) h.packet.bytes
+      (λ place from less. holds.kept place (inr (inl (omega (arith, from), omega (arith, less))))) ∙ is_sm_info))
 
   -- events ----------------------------------------------------------------------------------------------
 
@@ -246,12 +167,12 @@ module _ {start : Simulation} (cables : AreCables start) (counts : (place : ℕ)
   continued s (Deliver serial) c can =
       record {
         fabric = deliveries_carry cables counts s.fabric c.fabric serial;
-        handed = were_more start s.handed _ c.handed
-            (were_by start (delivered s.fabric serial).result (deliveries_hand_up cables counts s.fabric c.fabric serial));
+        handed = traced_more AnySends (SaysSo start) start s.handed _ c.handed
+            (traced_by AnySends (SaysSo start) start (delivered s.fabric serial).result (deliveries_hand_up cables counts s.fabric c.fabric serial));
       }
   continued s (Lose serial) c can = record { fabric = losses_carry cables counts s.fabric c.fabric serial; handed = c.handed }
   continued s (Repeat serial) c can = record { fabric = copies_carry cables counts s.fabric c.fabric serial; handed = c.handed }
-  continued s (Send seat (ByLid packet)) c can = sends s seat packet c (λ _. other_on start seat packet.bytes can.0 can.1)
+  continued s (Send seat (ByLid packet)) c can = sends s seat packet c (λ _. other_traced AnySends (SaysSo start) start seat packet.bytes can.0 can.1)
   continued s (Send seat (ByPath method attribute modifier tid path payload)) c (fits, low, short, own) =
       sends s seat _ c (λ there. sent_on start seat method attribute modifier tid path payload fits low short own (seat_in_port s.fabric c.fabric seat there))
   continued s (Send seat (Answer which given payload)) c (small, whole) =

@@ -5,4 +5,5 @@ pub mod PlannedPings
 pub mod Replied
 pub mod Sound
 pub mod Swept
+pub mod TracedScenes
 pub mod TrueFacts

@@ -1,10 +1,10 @@
 -- Whatever happens, each fact that a sweep accepts is true of the fabric.
 use Rattle.std.proofs.Common.{◌≡◌, ℕ, zero, suc, ◌+◌, ◌<◌, ◌≤◌, ◌^◌, Bool, true, false, cond, List, [], ◌∷◌, ◌++◌, replicate, refl, sym, ap, ◌∙◌, subst, arith}
-use Rattle.std.proofs.lemmas.Bool.{cond_both, and_parts, eqb-true}
+use Rattle.std.proofs.lemmas.Bool.{cond_both}
 use Rattle.std.proofs.lemmas.List.{length-replicate}
 use Rattle.std.proofs.lemmas.List.Elements.{All-nil, All-head, All-tail, All-cons}
 use Rattle.std.proofs.lemmas.Option.{same_Some, slice_get-map}
-use Rattle.std.specs.Prelude.{Option, Some, None, Result, Ok, Err, All, option_map, slice_get, ◌==◌}
+use Rattle.std.specs.Prelude.{Option, Some, None, Result, Ok, Err, All, option_map, slice_get}
 use Rattle.std.specs.Option.{option_map_or}
 use Rattle.smp_bytes.specs.declared.cable.NodePort.{NodePort}
 use Rattle.smp_bytes.specs.Cables.{is_same_port}
@@ -15,6 +15,7 @@ use Rattle.smp_bytes.specs.NodeType as types
 use Rattle.smp_bytes.specs.Fabric.{Node, IsNodeAt}
 use Rattle.smp_bytes.specs.ReadBack.{FitsRequest}
 use Rattle.smp_bytes.specs.DirectedWalk.{directed_end}
+use Rattle.smp_bytes.proofs.Cabled.{same_port-is}
 use Rattle.fact_store.specs.declared.report.Report.{Report}
 use Rattle.fact_store.specs.Report.{sightings_of}
 use Rattle.node_agents.specs.Agent.{Agent, IsAgent, node_of, has_seat}
@@ -283,11 +284,7 @@ module _ {start : Simulation} {seat : NodePort} (cables : AreCables start) (coun
     where
       at_seat : is_same_port h.at w.seat ≡ true → IsForManager start seat h.packet.bytes
       at_seat same =
-          let parts = and_parts (h.at.node == w.seat.node) (h.at.port == w.seat.port) same in
-          let node = eqb-true _ _ parts.0 in
-          let port = eqb-true _ _ parts.1 in
-          let here : h.at ≡ w.seat = λ j. record { node = node j; port = port j } in
-          subst (λ p. IsForManager start p h.packet.bytes) (here ∙ g.seat_is) (were h refl)
+          subst (λ p. IsForManager start p h.packet.bytes) (same_port-is h.at w.seat same ∙ g.seat_is) (were h refl)
 
       judged_goes : IsForManager start seat h.packet.bytes → (r : Result Answer SweepFault) → judged w.sweep h.packet.bytes ≡ r
           → Goes (with_answer w h.packet.bytes r)

@@ -1,12 +1,13 @@
 -- Whatever happens, a sweep goes on to cover what it comes to.
 use Rattle.std.proofs.Common.{◌≡◌, ◌⊎◌, ℕ, ◌≤◌, true, List, [], ◌∷◌, ◌++◌, append_assoc, append-nil, refl, sym, ap, ◌∙◌, subst, arith}
-use Rattle.std.proofs.lemmas.Bool.{cond_both, and_parts, eqb-true}
+use Rattle.std.proofs.lemmas.Bool.{cond_both}
 use Rattle.std.proofs.lemmas.List.Concat.{flat_map-append}
 use Rattle.std.proofs.lemmas.List.Elements.{All-head, All-tail}
-use Rattle.std.specs.Prelude.{Option, Some, None, Result, Ok, Err, All, slice_get, flat_map, ◌==◌}
+use Rattle.std.specs.Prelude.{Option, Some, None, Result, Ok, Err, All, slice_get, flat_map}
 use Rattle.std.specs.List.{AllByRecursion}
 use Rattle.smp_bytes.specs.declared.cable.NodePort.{NodePort}
 use Rattle.smp_bytes.specs.Cables.{is_same_port}
+use Rattle.smp_bytes.proofs.Cabled.{same_port-is}
 use Rattle.fact_store.specs.declared.report.Report.{Report}
 use Rattle.fact_store.specs.Report.{Told, sightings_of}
 use Rattle.fabric_sim.specs.Simulation.{Simulation, AreCables, fabric_of, port_count}
@@ -106,11 +107,7 @@ module _ {start : Simulation} {seat : NodePort} (cables : AreCables start) (coun
     where
       at_seat : is_same_port h.at w.seat ≡ true → IsForManager start seat h.packet.bytes
       at_seat same =
-          let parts = and_parts (h.at.node == w.seat.node) (h.at.port == w.seat.port) same in
-          let node = eqb-true _ _ parts.0 in
-          let port = eqb-true _ _ parts.1 in
-          let here : h.at ≡ w.seat = λ j. record { node = node j; port = port j } in
-          subst (λ p. IsForManager start p h.packet.bytes) (here ∙ g.seat_is) (were h refl)
+          subst (λ p. IsForManager start p h.packet.bytes) (same_port-is h.at w.seat same ∙ g.seat_is) (were h refl)
 
       judged_covers : IsForManager start seat h.packet.bytes → (r : Result Answer SweepFault) → judged w.sweep h.packet.bytes ≡ r
           → GoesWell (with_answer w h.packet.bytes r)

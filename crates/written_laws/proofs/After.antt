@@ -8,6 +8,7 @@ use Rattle.std.specs.List.{list_any}
 use Rattle.smp_bytes.specs.declared.cable.NodePort.{NodePort}
 use Rattle.smp_bytes.specs.Answers as smp
 use Rattle.smp_bytes.specs.Cables.{is_same_port}
+use Rattle.smp_bytes.proofs.Cabled.{same_port-is}
 use Rattle.smp_bytes.specs.Header.{get_resp}
 use Rattle.smp_bytes.specs.Field.{number_in}
 use Rattle.smp_bytes.specs.Packet.{attribute_id, attribute_modifier, hop_count, mgmt_class, status_word, method, transaction_id}
@@ -35,6 +36,7 @@ use Rattle.sm_manager.specs.Writing.{is_spent, is_written, is_written_by, next_p
 use Rattle.sm_laws.specs.Scene.{Handed, Scene, Sending, ByLid, ByPath, Answer, Event, Deliver, Lose, Repeat, Send as SendFrom, after_event}
 use Rattle.sm_laws.specs.Scene.{answer_to, answered_from, asks_manager, sent, sent_from}
 use Rattle.sm_laws.proofs.Answers.{was_there}
+use Rattle.sm_laws.proofs.TracedScenes.{traced_there}
 use Rattle.written_laws.specs.Managing.{Managing, ManagerEvent, Around, Begin, Write, Take, Send, Hear, TimeOut, Merge, Poll, HandOver}
 use Rattle.written_laws.specs.Managing.{CanBe, packet_of, sending, hearing}
 use Rattle.written_laws.specs.Managing.{after_manager_event, after_manager_events}
@@ -52,7 +54,7 @@ use Rattle.written_laws.proofs.Numbered.{next_or_rest, next_sent, none_left_coun
 use Rattle.written_laws.proofs.Numbered.{none_pending_counts, numbered_from, once_without, one_of_number, others_wait, others_waited}
 use Rattle.written_laws.proofs.Numbered.{out_of, passed_is_of, pending_of}
 use Rattle.written_laws.proofs.Numbered.{rest_is_of, waits_as, as_waits}
-use Rattle.written_laws.proofs.Scenes.{Sends, Tells, AnswersStep, IsOld, traced_there, same_agents, Stays}
+use Rattle.written_laws.proofs.Scenes.{Sends, Tells, AnswersStep, IsOld, same_agents, Stays}
 use Rattle.written_laws.proofs.Steps.{IsOf, StepSent}
 use Rattle.written_laws.proofs.Sweeps.{Ground, SweepSide, begun, facts_merged}
 use Rattle.written_laws.proofs.Taken.{IsGood, IsDone, done_stays}
@@ -489,13 +491,9 @@ module _ (start : Simulation) (seat : NodePort) (plan : PlanValue) (c : ℕ) (ph
           traced_at : is_same_port h.at w.seat ≡ true
               → IsForManager (Sends start seat plan c g.all) (Tells start seat plan c g.all w.scene.fabric) start seat h.packet.bytes
           traced_at same =
-              let parts = and_parts (h.at.node == w.seat.node) (h.at.port == w.seat.port) same in
-              let node = eqb-true _ _ parts.0 in
-              let port = eqb-true _ _ parts.1 in
-              let here : h.at ≡ w.seat = λ j. record { node = node j; port = port j } in
               subst (λ q. IsForManager (Sends start seat plan c g.all) (Tells start seat plan c g.all w.scene.fabric) start q h.packet.bytes)
-              (here ∙ g.fair.seat_is)
-              (traced_there start seat plan c g.all w.scene.fabric w.scene.handed which h g.fair.traced.handed e)
+              (same_port-is h.at w.seat same ∙ g.fair.seat_is)
+              (traced_there (Sends start seat plan c g.all) (Tells start seat plan c g.all w.scene.fabric) start w.scene.handed which h g.fair.traced.handed e)
 
       pub event_writes : (w : Managing) (event : ManagerEvent) → Keeps plan own w event → Writes w → CanBe seat event → Writes (after_manager_event w event)
       event_writes w (Around event) keeps g can_be =

@@ -1,9 +1,10 @@
 -- A manager goes on: each number that it gives out was not used before.
 use Rattle.std.proofs.Common.{◌≡◌, ◌⊎◌, inl, inr, ℕ, ◌+◌, ◌≤◌, ◌^◌, Bool, true, false, cond, List, [], length, map, refl, sym, ◌∙◌, subst, arith}
-use Rattle.std.proofs.lemmas.Bool.{cond_both, and_parts, eqb-true, ltb-false}
-use Rattle.std.specs.Prelude.{Contains, Option, Some, None, drop, not, ◌==◌, ◌&&◌, ◌||◌}
+use Rattle.std.proofs.lemmas.Bool.{cond_both, ltb-false}
+use Rattle.std.specs.Prelude.{Contains, Option, Some, None, drop, not, ◌&&◌, ◌||◌}
 use Rattle.smp_bytes.specs.declared.cable.NodePort.{NodePort}
 use Rattle.smp_bytes.specs.Cables.{is_same_port}
+use Rattle.smp_bytes.proofs.Cabled.{same_port-is}
 use Rattle.fabric_sim.specs.Simulation.{Simulation}
 use Rattle.fabric_sim.proofs.Courses.{IsForManager}
 use Rattle.lft_blocks.specs.Plan.{PlanValue}
@@ -26,12 +27,7 @@ use Rattle.written_laws.proofs.Sweeps.{SweepSide}
 -- a manager hears what was handed up at its seat
 pub heard_at_seat : (start : Simulation) (seat : NodePort) (w : Managing) (h : Handed) → w.seat ≡ seat → is_same_port h.at w.seat ≡ true
     → IsForManager start h.at h.packet.bytes → IsForManager start seat h.packet.bytes
-heard_at_seat start seat w h seat_is same is =
-    let parts = and_parts (h.at.node == w.seat.node) (h.at.port == w.seat.port) same in
-    let node = eqb-true _ _ parts.0 in
-    let port = eqb-true _ _ parts.1 in
-    let here : h.at ≡ w.seat = λ j. record { node = node j; port = port j } in
-    subst (λ p. IsForManager start p h.packet.bytes) (here ∙ seat_is) is
+heard_at_seat start seat w h seat_is same is = subst (λ p. IsForManager start p h.packet.bytes) (same_port-is h.at w.seat same ∙ seat_is) is
 
 -- no step waits
 abbrev pub NoStepWaits : Manager → Type 0

@@ -1,19 +1,17 @@
 -- What is known of the packets on a scene: the requests that were sent from the seat are the manager's own, and an answer to
 -- one of them tells whether its step was done.
-use Rattle.std.proofs.Common.{◌≡◌, ◌⊎◌, inl, inr, ℕ, zero, suc, ◌+◌, ◌/◌, ◌%◌, ◌<◌, ◌≤◌, ◌^◌, Bool, true, false, List, [], ◌∷◌, ◌++◌}
+use Rattle.std.proofs.Common.{◌≡◌, ◌⊎◌, inl, inr, ℕ, ◌+◌, ◌<◌, ◌≤◌, ◌^◌, true, List, [], ◌∷◌}
 use Rattle.std.proofs.Common.{length, refl, sym, ap, ◌∙◌, subst, arith}
-use Rattle.std.proofs.lemmas.Bool.{cond_both, and_parts, eqb-true}
-use Rattle.std.specs.Prelude.{Contains, Option, Some, None, Result, Ok, Err, not, slice_get, ◌==◌, ◌&&◌}
+use Rattle.std.proofs.lemmas.Bool.{cond_both}
+use Rattle.std.specs.Prelude.{Contains, Option, Some, None, slice_get}
 use Rattle.std.specs.Option.{option_map_or}
 use Rattle.smp_bytes.specs.declared.cable.NodePort.{NodePort}
-use Rattle.smp_bytes.specs.Cables.{is_same_port}
 use Rattle.smp_bytes.specs.Header.{set, done, sm_info}
 use Rattle.smp_bytes.specs.Field.{number_in}
-use Rattle.smp_bytes.specs.Packet.{attribute_id, transaction_id, is_directed, is_response, status}
+use Rattle.smp_bytes.specs.Packet.{attribute_id, transaction_id, status}
 use Rattle.smp_bytes.specs.Requests.{directed, answer_packet}
-use Rattle.smp_bytes.specs.ReadBack.{FitsRequest, HoldsRequest, HoldsAnswer}
+use Rattle.smp_bytes.specs.ReadBack.{HoldsRequest, HoldsAnswer}
 use Rattle.smp_bytes.specs.DirectedWalk.{directed_end}
-use Rattle.smp_bytes.proofs.Answered.{answer_reads_back}
 use Rattle.smp_bytes.proofs.FieldLaws.{number_in-alike}
 use Rattle.smp_bytes.proofs.Made.{directed_reads_back}
 use Rattle.dr_forward.proofs.Trips.{field_kept}
@@ -22,24 +20,19 @@ use Rattle.node_agents.specs.Answers.{answered}
 use Rattle.node_agents.proofs.Outcomes.{answers_hold}
 use Rattle.fabric_sim.specs.declared.packet.Packet.{Packet}
 use Rattle.fabric_sim.specs.declared.flight.Flight.{Flight}
-use Rattle.fabric_sim.specs.declared.delivered.Delivered.{Delivered}
-use Rattle.fabric_sim.specs.declared.delivered.Delivered.TheVariants.{Moved, Answered, ToManager, Discarded}
-use Rattle.fabric_sim.specs.declared.fault.FabricFault.{FabricFault}
 use Rattle.fabric_sim.specs.Simulation.{Simulation, AreCables, agent_at, port_count, is_seat_at, fabric_of, port_of}
 use Rattle.fabric_sim.specs.Delivery.{delivered, answer_at}
 use Rattle.fabric_sim.specs.Changes.{injected, repeated, lost}
-use Rattle.fabric_sim.specs.ThereAndBack.{BeginsWith}
-use Rattle.fabric_sim.proofs.Traced.{IsRequestFor, IsAnswerFor, IsOnCourse, IsForManager}
-use Rattle.fabric_sim.proofs.TracedCalls.{AreTraced, IsAskedBy, turned, deliveries_trace, deliveries_hand_up_traced, injections_trace}
+use Rattle.fabric_sim.proofs.Traced.{IsRequestFor, IsOnCourse, IsForManager}
+use Rattle.fabric_sim.proofs.TracedCalls.{AreTraced, IsAskedBy, deliveries_trace, deliveries_hand_up_traced, injections_trace}
 use Rattle.fabric_sim.proofs.TracedCalls.{injected_agents, copies_trace, losses_trace, weaker_manager, weaker_all}
-use Rattle.fabric_sim.proofs.TripEnds.{request_over}
 use Rattle.fabric_sim.proofs.TripShapes.{agent_there}
-use Rattle.fabric_sim.proofs.TripsOut.{IsPortOf}
 use Rattle.lft_blocks.specs.Plan.{PlanValue}
 use Rattle.plan_steps.specs.Step.{set_packet}
 use Rattle.sm_laws.specs.Scene.{Handed, Scene, Sending, ByLid, ByPath, Answer, Event, Deliver, Lose, Repeat, Send, CanSend, CanHappen}
-use Rattle.sm_laws.specs.Scene.{handed_by, sent, sent_from, asks_manager, answer_to, answered_from, after_event}
+use Rattle.sm_laws.specs.Scene.{sent, sent_from, asks_manager, answer_to, answered_from, after_event}
 use Rattle.sm_laws.proofs.Answers.{Continues, bytes_answered, seat_in_port}
+use Rattle.sm_laws.proofs.TracedScenes as traced
 use Rattle.written_laws.specs.Managing.{IsElsewhere}
 use Rattle.written_laws.proofs.Steps.{StepSent}
 use Rattle.written_laws.proofs.Taken.{IsGood, IsDone, fits_step, own_done}
@@ -80,34 +73,11 @@ module _ (start : Simulation) (seat : NodePort) (plan : PlanValue) (c : ℕ) (al
   Tells s origin end answer = origin ≡ seat → IsOld answer ⊎ AnswersStep s answer
 
   abbrev pub WereTraced : Simulation → List Handed → Type 0
-  WereTraced s [] = Unit {0}
-  WereTraced s (h ∷ handed) = IsForManager Sends (Tells s) start h.at h.packet.bytes × WereTraced s handed
+  WereTraced s handed = traced.WereTraced Sends (Tells s) start handed
 
   pub record IsTraced (w : Scene) : Type 0 where
     pub flights : AreTraced Sends (Tells w.fabric) start w.fabric.flights
     pub handed : WereTraced w.fabric w.handed
-
-  -- lists ------------------------------------------------------------------------------------------
-
-  traced_more : (s : Simulation) (handed more : List Handed) → WereTraced s handed → WereTraced s more → WereTraced s (handed ++ more)
-  traced_more s [] more were also = also
-  traced_more s (h ∷ handed) more were also = (were.0, traced_more s handed more were.1 also)
-
-  pub traced_there : (s : Simulation) (handed : List Handed) (which : ℕ) (h : Handed) → WereTraced s handed → slice_get handed which ≡ Some h
-      → IsForManager Sends (Tells s) start h.at h.packet.bytes
-  traced_there s [] which h were e = absurd (cc)
-  traced_there s (x ∷ handed) zero h were e =
-      let same : x ≡ h = cc in subst (λ (y : Handed). IsForManager Sends (Tells s) start y.at y.packet.bytes) same were.0
-  traced_there s (x ∷ handed) (suc which) h were e = traced_there s handed which h were.1 e
-
-  traced_by : (s : Simulation) (result : Result Delivered FabricFault)
-      → ((at : NodePort) (packet : Packet) → result ≡ Ok (ToManager at packet) → IsForManager Sends (Tells s) start at packet.bytes)
-      → WereTraced s (handed_by result)
-  traced_by s (Ok (ToManager at packet)) up = (up at packet refl, tt)
-  traced_by s (Ok (Moved serial)) up = tt
-  traced_by s (Ok (Answered serial)) up = tt
-  traced_by s (Ok (Discarded reason)) up = tt
-  traced_by s (Err fault) up = tt
 
   -- later -------------------------------------------------------------------------------------------
 
@@ -138,41 +108,7 @@ module _ (start : Simulation) (seat : NodePort) (plan : PlanValue) (c : ℕ) (al
       → AreTraced Sends (Tells after) start flights
   flights_later s after stays = weaker_all Sends (Tells s) Sends (Tells after) start (λ o x k. k) (tells_later s after stays)
 
-  -- requests where they are sent ---------------------------------------------------------------------
-
-  pub sent_traced : (s : Simulation) (origin : NodePort) (method attribute modifier tid : ℕ) (path payload : List ℕ)
-      → FitsRequest method attribute modifier tid payload → method < 2 ^ 7 → length path ≤ 63 → BeginsWith origin.port path → IsPortOf start origin
-      → Sends origin (directed method attribute modifier tid path payload)
-      → IsOnCourse Sends (Tells s) start origin (directed method attribute modifier tid path payload)
-  sent_traced s origin method attribute modifier tid path payload fits low short own within sent =
-      let (holds, along) = directed_reads_back method attribute modifier tid path payload fits short in
-      record {
-        count = holds.count;
-        course = λ _. (
-          zero,
-          inl (record {
-            origin = origin;
-            path = path;
-            request = directed method attribute modifier tid path payload;
-            over = request_over fits low short;
-            own = own;
-            most = omega arith;
-            there = refl;
-            within = within;
-            bytes_are = record {
-              count = holds.count;
-              parses = holds.parses;
-              kept = λ place h. refl;
-              pointer = along.hop_pointer;
-              notes = λ i some less. absurd (omega (arith, some, less));
-            };
-            sent = sent;
-          }),
-        );
-      }
-
-  other_traced : (s : Simulation) (at : NodePort) (bytes : List ℕ) → length bytes ≡ 256 → is_directed bytes ≡ false → IsOnCourse Sends (Tells s) start at bytes
-  other_traced s at bytes count other = record { count = count; course = λ directed. absurd (cc (sym directed ∙ other)) }
+  -- answers --------------------------------------------------------------------------------------------
 
   -- the number of an agent's answer is its request's
   answered_number : (s : Simulation) (n : ℕ) (flight : Flight) (request : List ℕ) → Continues start (record { fabric = s; handed = [] })
@@ -229,53 +165,24 @@ module _ (start : Simulation) (seat : NodePort) (plan : PlanValue) (c : ℕ) (al
         number = answered_number s n flight request c asked ∙ field_kept transaction_id r.request request (inr (omega arith, omega arith)) r.bytes_are.kept
 
     -- what a manager answers to a request for SMInfo
-    manager_tells : (s : Simulation) (h : Handed) (other : NodePort) (given : ℕ) (payload : List ℕ) → IsForManager Sends (Tells s) start h.at h.packet.bytes
-        → given < 2 ^ 15 → length payload ≡ 64 → asks_manager other h ≡ true
-        → IsOnCourse Sends (Tells s) start other (answer_packet h.packet.bytes given payload)
-    manager_tells s h other given payload is small whole asks = by_class (is_directed h.packet.bytes) refl
+    manager_tells : (s : Simulation) (h : Handed) (given : ℕ) (payload : List ℕ) (r : IsRequestFor Sends (Tells s) start h.at h.packet.bytes)
+        → number_in attribute_id h.packet.bytes ≡ sm_info → HoldsAnswer h.packet.bytes (answer_packet h.packet.bytes given payload) given payload
+        → Tells s r.origin h.at (answer_packet h.packet.bytes given payload)
+    manager_tells s h given payload r is_sm_info holds same = inl (by_request (r.sent same))
       where
-        holds : HoldsAnswer h.packet.bytes (answer_packet h.packet.bytes given payload) given payload
-        holds = answer_reads_back h.packet.bytes given payload is.whole.count is.whole.parses whole (omega (arith, small)) (λ _. small)
+        number : number_in transaction_id (answer_packet h.packet.bytes given payload) ≡ number_in transaction_id r.request
+        number =
+            number_in-alike transaction_id (answer_packet h.packet.bytes given payload) h.packet.bytes
+            (λ place from less. holds.kept place (inr (inl (omega (arith, from), omega (arith, less)))))
+            ∙ field_kept transaction_id r.request h.packet.bytes (inr (omega arith, omega arith)) r.bytes_are.kept
 
-        parts : ((is_same_port h.at other && not (is_response h.packet.bytes)) ≡ true) × ((number_in attribute_id h.packet.bytes == sm_info) ≡ true)
-        parts = and_parts _ _ asks
-
-        before : (is_same_port h.at other ≡ true) × (not (is_response h.packet.bytes) ≡ true)
-        before = and_parts _ _ parts.0
-
-        same_seat : h.at ≡ other
-        same_seat =
-            let ends = and_parts (h.at.node == other.node) (h.at.port == other.port) before.0 in
-            let node = eqb-true _ _ ends.0 in
-            let port = eqb-true _ _ ends.1 in
-            (λ j. record { node = node j; port = port j })
-
-        by_class : (b : Bool) → is_directed h.packet.bytes ≡ b → IsOnCourse Sends (Tells s) start other (answer_packet h.packet.bytes given payload)
-        by_class false e = other_traced s other (answer_packet h.packet.bytes given payload) holds.count (holds.class ∙ e)
-        by_class true e = elim (is.course e) [
-          | inl r ↦ subst (λ p. IsOnCourse Sends (Tells s) start p (answer_packet h.packet.bytes given payload)) same_seat
-              (turned Sends (Tells s) start cables counts h.at h.packet.bytes given payload r holds
-              (λ same. inl (by_request r (r.sent same))))
-          | inr r ↦ absurd (cc (sym (ap not (is_answer r)) ∙ before.1))
-        ]
-          where
-            number : (r : IsRequestFor Sends (Tells s) start h.at h.packet.bytes)
-                → number_in transaction_id (answer_packet h.packet.bytes given payload) ≡ number_in transaction_id r.request
-            number r =
-                number_in-alike transaction_id (answer_packet h.packet.bytes given payload) h.packet.bytes
-                (λ place from less. holds.kept place (inr (inl (omega (arith, from), omega (arith, less)))))
-                ∙ field_kept transaction_id r.request h.packet.bytes (inr (omega arith, omega arith)) r.bytes_are.kept
-
-            -- no step asks for SMInfo
-            by_request : (r : IsRequestFor Sends (Tells s) start h.at h.packet.bytes) → IsOwn r.request → IsOld (answer_packet h.packet.bytes given payload)
-            by_request r (inl old) = old_kept r.request (answer_packet h.packet.bytes given payload) (number r) old
-            by_request r (inr x) =
-                absurd ((good x.step x.there).sendable.no_manager
-                (sym (step_reads x.step x.there x.small).attribute_id ∙ ap (number_in attribute_id) (sym x.is)
-                ∙ sym (field_kept attribute_id r.request h.packet.bytes (inr (omega arith, omega arith)) r.bytes_are.kept) ∙ eqb-true _ _ parts.1))
-
-            is_answer : IsAnswerFor Sends (Tells s) start h.at h.packet.bytes → is_response h.packet.bytes ≡ true
-            is_answer r = ap (λ b. b / 2 ^ 7 % 2 ^ 1 == 1) (r.kept 3 (inl (omega arith))) ∙ r.is.response
+        -- no step asks for SMInfo
+        by_request : IsOwn r.request → IsOld (answer_packet h.packet.bytes given payload)
+        by_request (inl old) = old_kept r.request (answer_packet h.packet.bytes given payload) number old
+        by_request (inr x) =
+            absurd ((good x.step x.there).sendable.no_manager
+            (sym (step_reads x.step x.there x.small).attribute_id ∙ ap (number_in attribute_id) (sym x.is)
+            ∙ sym (field_kept attribute_id r.request h.packet.bytes (inr (omega arith, omega arith)) r.bytes_are.kept) ∙ is_sm_info))
 
     -- events ----------------------------------------------------------------------------------------
 
@@ -298,18 +205,18 @@ module _ (start : Simulation) (seat : NodePort) (plan : PlanValue) (c : ℕ) (al
         cond_both (asks_manager from h) _ _ IsTraced
         (λ asks. sends_traced w from (answer_to h.packet given payload) c t
         (λ _. subst (IsOnCourse Sends (Tells w.fabric) start from) (sym (bytes_answered h.packet given payload))
-        (manager_tells w.fabric h from given payload (was h refl) small whole asks)))
+        (traced.manager_traced Sends (Tells w.fabric) start cables counts h from given payload (was h refl) small whole asks (manager_tells w.fabric h given payload))))
         (λ _. t)
 
     -- whatever is sent; from the seat only what is the manager's own
     pub sending_traced : (w : Scene) (from : NodePort) (sending : Sending) → Continues start w → IsTraced w → CanSend from sending
         → (from ≡ seat → IsOwnSending sending) → IsTraced (sent w from sending)
-    sending_traced w from (ByLid packet) c t can own = sends_traced w from packet c t (λ _. other_traced w.fabric from packet.bytes can.0 can.1)
+    sending_traced w from (ByLid packet) c t can own = sends_traced w from packet c t (λ _. traced.other_traced Sends (Tells w.fabric) start from packet.bytes can.0 can.1)
     sending_traced w from (ByPath method attribute modifier tid path payload) c t (fits, low, short, begins) own =
-        sends_traced w from _ c t (λ there. sent_traced w.fabric from method attribute modifier tid path payload fits low short begins
+        sends_traced w from _ c t (λ there. traced.sent_traced Sends (Tells w.fabric) start from method attribute modifier tid path payload fits low short begins
         (seat_in_port cables counts w.fabric c.fabric from there) own)
     sending_traced w from (Answer which given payload) c t (small, whole) own =
-        answers_traced w from given payload (slice_get w.handed which) c t small whole (λ h e. traced_there w.fabric w.handed which h t.handed e)
+        answers_traced w from given payload (slice_get w.handed which) c t small whole (λ h e. traced.traced_there Sends (Tells w.fabric) start w.handed which h t.handed e)
 
     pub around_traced : (w : Scene) (event : Event) → Continues start w → IsTraced w → CanHappen event → IsElsewhere seat event
         → Stays w.fabric (after_event w event).fabric → IsTraced (after_event w event)
@@ -320,8 +227,8 @@ module _ (start : Simulation) (seat : NodePort) (plan : PlanValue) (c : ℕ) (al
         let here : Continues start (record { fabric = s; handed = [] }) = record { fabric = c.fabric; handed = tt } in
         record {
           flights = deliveries_trace Sends (Tells after) cables counts c.fabric.along c.fabric.is on n (agent_tells s n here);
-          handed = traced_more after w.handed _ (handed_later s after stays w.handed t.handed)
-              (traced_by after (delivered s n).result (deliveries_hand_up_traced Sends (Tells after) cables counts c.fabric.along c.fabric.is on n));
+          handed = traced.traced_more Sends (Tells after) start w.handed _ (handed_later s after stays w.handed t.handed)
+              (traced.traced_by Sends (Tells after) start (delivered s n).result (deliveries_hand_up_traced Sends (Tells after) cables counts c.fabric.along c.fabric.is on n));
         }
     around_traced w (Lose n) c t can elsewhere stays =
         record {
