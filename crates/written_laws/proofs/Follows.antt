@@ -59,7 +59,7 @@ pub record KeepsSweep (m after : Manager) : Type 0 where
 kept : (m : Manager) → KeepsSweep m m
 kept m = record { sweep = refl; store = refl }
 
-step_keeps : (m : Manager) (p : Pending) (was_done : Bool) → KeepsSweep m (unless_spent m (step_over m p was_done)).manager
+pub step_keeps : (m : Manager) (p : Pending) (was_done : Bool) → KeepsSweep m (unless_spent m (step_over m p was_done)).manager
 step_keeps m p was_done =
     cond_both (is_spent (step_over m p was_done)) _ _ (λ (x : Called). KeepsSweep m x.manager) (λ _. kept m) (λ _. by_writing m.writing)
   where
@@ -72,7 +72,7 @@ step_keeps m p was_done =
         cond_both (no_step_waits (without_number p.number m.pending)) _ _ (KeepsSweep m) (λ _. record { sweep = refl; store = refl })
         (λ _. record { sweep = refl; store = refl })
 
-request_keeps : (m : Manager) (p : Pending) (answer : Option ℕ) (u : Purpose) → KeepsSweep m (request_over m p answer u).manager
+pub request_keeps : (m : Manager) (p : Pending) (answer : Option ℕ) (u : Purpose) → KeepsSweep m (request_over m p answer u).manager
 request_keeps m p answer purpose.Poll = record { sweep = refl; store = refl }
 request_keeps m p answer purpose.Control = record { sweep = refl; store = refl }
 request_keeps m p answer (purpose.Step counts) = step_keeps m p (is_done_by answer)
@@ -82,7 +82,7 @@ told_keeps m None message = kept m
 told_keeps m (Some lid) None = kept m
 told_keeps m (Some lid) (Some message) = record { sweep = refl; store = refl }
 
-served_keeps : (m : Manager) (bytes : List ℕ) (lid : Option ℕ) → KeepsSweep m (unless_spent m (served m bytes lid)).manager
+pub served_keeps : (m : Manager) (bytes : List ℕ) (lid : Option ℕ) → KeepsSweep m (unless_spent m (served m bytes lid)).manager
 served_keeps m bytes lid =
     cond_both (is_spent (served m bytes lid)) _ _ (λ (x : Called). KeepsSweep m x.manager) (λ _. kept m)
     (λ _. cond_both (is_control bytes) (controlled m bytes lid) (replying m bytes lid) (KeepsSweep m)
@@ -94,7 +94,7 @@ served_keeps m bytes lid =
         let keeps = told_keeps answered lid move.message in
         record { sweep = keeps.sweep; store = keeps.store }
 
-handed_keeps : (m : Manager) (lid : Option ℕ) → KeepsSweep m (handed_to m lid)
+pub handed_keeps : (m : Manager) (lid : Option ℕ) → KeepsSweep m (handed_to m lid)
 handed_keeps m None = kept m
 handed_keeps m (Some lid) = record { sweep = refl; store = refl }
 

@@ -12,7 +12,7 @@ use Rattle.lft_blocks.specs.Plan.{PlanValue, plan_of, block_at, switches_of}
 use Rattle.lft_blocks.specs.Arrival.{HoldsBlock}
 use Rattle.fabric_sim.specs.Simulation.{fabric_of}
 use Rattle.sweep.specs.Sweep.{Sweep, path_to}
-use Rattle.sm_manager.specs.Manager.{begin_fault}
+use Rattle.sm_manager.specs.Manager.{begin_fault, new_manager}
 use Rattle.sm_manager.specs.Plans.{writing_fault}
 use Rattle.sm_manager.specs.Writing.{is_written, phases_by}
 use Rattle.sm_laws.specs.Truth.{HasNode}
@@ -49,6 +49,12 @@ abbrev pub SweepsFirst : List ManagerEvent → Managing → Type 0
 SweepsFirst [] w = Unit {0}
 SweepsFirst (event ∷ events) w =
     BeginsSweep w event ⊎ (BeginsNoWriting w event × SweepsFirst events (after_manager_event w event))
+
+-- that is so of whatever happens to a manager that was just made
+abbrev pub NewManagersSweepFirst : Type 0
+NewManagersSweepFirst =
+    (port_guid port priority : ℕ) (w : Managing) (events : List ManagerEvent) → w.manager ≡ new_manager port_guid port priority
+    → SweepsFirst events w
 
 -- no writing begins, and each Set that an agent takes is one of the own, or carries the plan's values
 abbrev pub Keeps : PlanValue → OwnSets → Managing → ManagerEvent → Type 0

@@ -1,12 +1,17 @@
 //! What is so once a manager's plan is written.
 ghost use Rattle.written_laws.specs.Managing.{NewManagersRest};
 ghost use Rattle.written_laws.specs.Pings.{PingsArriveOnceWritten};
-ghost use Rattle.written_laws.specs.Written.{WrittenPlansAreHeld};
+ghost use Rattle.written_laws.specs.Written.{NewManagersSweepFirst, WrittenPlansAreHeld};
 
 /// A manager that was just made waits for nothing and has nothing to send, so the laws below can
 /// begin with it.
 pub fn new_managers_rest()
     ensures { NewManagersRest }
+{}
+
+/// A manager that was just made begins no writing before a sweep, whatever happens to it.
+pub fn new_managers_sweep_first()
+    ensures { NewManagersSweepFirst }
 {}
 
 /// Once a plan is written, each end port and each usable switch of the plan that the last sweep
