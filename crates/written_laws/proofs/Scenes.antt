@@ -205,18 +205,22 @@ module _ (start : Simulation) (seat : NodePort) (plan : PlanValue) (c : ℕ) (al
         cond_both (asks_manager from h) _ _ IsTraced
         (λ asks. sends_traced w from (answer_to h.packet given payload) c t
         (λ _. subst (IsOnCourse Sends (Tells w.fabric) start from) (sym (bytes_answered h.packet given payload))
-        (traced.manager_traced Sends (Tells w.fabric) start cables counts h from given payload (was h refl) small whole asks (manager_tells w.fabric h given payload))))
+        (traced.manager_traced Sends (Tells w.fabric) start cables counts h from given payload (was h refl) small whole asks
+        (manager_tells w.fabric h given payload))))
         (λ _. t)
 
     -- whatever is sent; from the seat only what is the manager's own
     pub sending_traced : (w : Scene) (from : NodePort) (sending : Sending) → Continues start w → IsTraced w → CanSend from sending
         → (from ≡ seat → IsOwnSending sending) → IsTraced (sent w from sending)
-    sending_traced w from (ByLid packet) c t can own = sends_traced w from packet c t (λ _. traced.other_traced Sends (Tells w.fabric) start from packet.bytes can.0 can.1)
+    sending_traced w from (ByLid packet) c t can own = sends_traced w from packet c t
+        (λ _. traced.other_traced Sends (Tells w.fabric) start from packet.bytes can.0 can.1)
     sending_traced w from (ByPath method attribute modifier tid path payload) c t (fits, low, short, begins) own =
-        sends_traced w from _ c t (λ there. traced.sent_traced Sends (Tells w.fabric) start from method attribute modifier tid path payload fits low short begins
+        sends_traced w from _ c t (λ there. traced.sent_traced Sends (Tells w.fabric) start from method attribute modifier tid path payload fits low short
+        begins
         (seat_in_port cables counts w.fabric c.fabric from there) own)
     sending_traced w from (Answer which given payload) c t (small, whole) own =
-        answers_traced w from given payload (slice_get w.handed which) c t small whole (λ h e. traced.traced_there Sends (Tells w.fabric) start w.handed which h t.handed e)
+        answers_traced w from given payload (slice_get w.handed which) c t small whole
+        (λ h e. traced.traced_there Sends (Tells w.fabric) start w.handed which h t.handed e)
 
     pub around_traced : (w : Scene) (event : Event) → Continues start w → IsTraced w → CanHappen event → IsElsewhere seat event
         → Stays w.fabric (after_event w event).fabric → IsTraced (after_event w event)
@@ -228,7 +232,8 @@ module _ (start : Simulation) (seat : NodePort) (plan : PlanValue) (c : ℕ) (al
         record {
           flights = deliveries_trace Sends (Tells after) cables counts c.fabric.along c.fabric.is on n (agent_tells s n here);
           handed = traced.traced_more Sends (Tells after) start w.handed _ (handed_later s after stays w.handed t.handed)
-              (traced.traced_by Sends (Tells after) start (delivered s n).result (deliveries_hand_up_traced Sends (Tells after) cables counts c.fabric.along c.fabric.is on n));
+              (traced.traced_by Sends (Tells after) start (delivered s n).result
+              (deliveries_hand_up_traced Sends (Tells after) cables counts c.fabric.along c.fabric.is on n));
         }
     around_traced w (Lose n) c t can elsewhere stays =
         record {

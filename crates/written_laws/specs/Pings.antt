@@ -1,8 +1,8 @@
 -- Once the plan of a sweep that has every answer is written, pings arrive.
-use Rattle.std.specs.Prelude.{◌≡◌, ◌≢◌, true, List, [], ◌∷◌, Some, None}
+use Rattle.std.specs.Prelude.{◌≡◌, ◌≢◌, ℕ, true, List, [], ◌∷◌, Some, None}
 use Rattle.fact_store.specs.View.{cells_of, no_facts}
 use Rattle.sweep.specs.Sweep.{Sweep}
-use Rattle.sm_manager.specs.Manager.{begin_fault}
+use Rattle.sm_manager.specs.Manager.{begin_fault, new_manager}
 use Rattle.sm_manager.specs.Writing.{is_written}
 use Rattle.sm_laws.specs.Pings.{EachPingArrives}
 use Rattle.sweep_complete.specs.Complete.{IsWhole}
@@ -39,3 +39,15 @@ PingsArriveOnceWritten =
     (w : Managing) (before between after : List ManagerEvent) → BringsUp w before between after
     → EachPingArrives (cells_of (at_writing w before between).manager.store) (plan_at (at_writing w before between))
     (at_end w before between after).scene.fabric w.seat
+
+-- there is a manager that brings a subnet up: one that was just made, on a fabric, with what happens there
+pub record SomeManagerBringsUp : Type 0 where
+  pub managing : Managing
+  pub port_guid : ℕ
+  pub port : ℕ
+  pub priority : ℕ
+  pub new : managing.manager ≡ new_manager port_guid port priority
+  pub before : List ManagerEvent
+  pub between : List ManagerEvent
+  pub after : List ManagerEvent
+  pub brings_up : BringsUp managing before between after

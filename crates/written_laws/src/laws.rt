@@ -1,6 +1,6 @@
 //! What is so once a manager's plan is written.
 ghost use Rattle.written_laws.specs.Managing.{NewManagersRest};
-ghost use Rattle.written_laws.specs.Pings.{PingsArriveOnceWritten};
+ghost use Rattle.written_laws.specs.Pings.{PingsArriveOnceWritten, SomeManagerBringsUp};
 ghost use Rattle.written_laws.specs.Written.{NewManagersSweepFirst, WrittenPlansAreHeld};
 
 /// A manager that was just made waits for nothing and has nothing to send, so the laws below can
@@ -30,4 +30,10 @@ pub fn written_plans_are_held()
 /// joined to, for each LID of the plan, reaches the end port that owns the LID.
 pub fn pings_arrive_once_written()
     ensures { PingsArriveOnceWritten }
+{}
+
+/// Such managers there are: one that was just made, on an adapter that is wired to another one,
+/// after four requests and two steps, with their answers.
+pub fn some_manager_brings_up()
+    ensures { SomeManagerBringsUp }
 {}
