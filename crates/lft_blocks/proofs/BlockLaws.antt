@@ -23,9 +23,9 @@ module _ {X : Type 0} (f : ℕ → X) (first n : ℕ) where
 
 -- block b has the entry for the LID 64 b + i at the place i
 pub blocks_hold_entries : BlocksHoldEntries
-blocks_hold_entries homes slopes count s b i these e h =
+blocks_hold_entries homes next count s b i these e h =
     let at : 0 + b ≡ b = omega arith in
     let place : 0 + i ≡ i = omega arith in
-    ap (λ entries. slice_get entries i) (made_from (block homes slopes s) 0 count b these e ∙ ap (block homes slopes s) at)
-    ∙ made_at (λ j. entry homes slopes s (64 * b + j)) 0 64 i h
-    ∙ ap (λ j. Some (entry homes slopes s (64 * b + j))) place
+    ap (λ entries. slice_get entries i) (made_from (block homes next s) 0 count b these e ∙ ap (block homes next s) at)
+    ∙ made_at (λ j. entry homes next s (64 * b + j)) 0 64 i h
+    ∙ ap (λ j. Some (entry homes next s (64 * b + j))) place

@@ -10,28 +10,25 @@ use Rattle.subnet_view.specs.Reading.{is_usable, switches, IsUsable}
 use Rattle.subnet_view.proofs.Members.{contains_later, contains_cases, contains_none, contains_first}
 use Rattle.subnet_view.proofs.UsableSwitches.{usable_law, switches_law}
 use Rattle.lid_assign.specs.Lids.{lids, top_of}
-use Rattle.port_graph.specs.Slopes.{Slope}
-use Rattle.updown_routes.specs.Graph.{graph_of}
-use Rattle.updown_routes.specs.Ranks.{slopes_of}
-use Rattle.lft_blocks.specs.Entries.{home_of_lid, block, block_count, blocks}
-use Rattle.lft_blocks.specs.Plan.{SwitchTable, tables_of, plan_of, block_at}
+use Rattle.lft_blocks.specs.Entries.{Next, home_of_lid, block, block_count, blocks}
+use Rattle.lft_blocks.specs.Plan.{SwitchTable, tables_of, plan_by, block_at}
 use Rattle.lft_blocks.specs.PlanLaws.{HasBlock, block_of, BlocksAreOfSwitches}
 use Rattle.lft_blocks.proofs.BlockLaws.{made_at}
 
-module _ (homes : ℕ → Option (ℕ × ℕ)) (slopes : List Slope) (count g : ℕ) where
+module _ (homes : ℕ → Option (ℕ × ℕ)) (next : Next) (count g : ℕ) where
   abbrev its_table : Option SwitchTable
-  its_table = Some (record { guid = g; blocks = blocks homes slopes count g })
+  its_table = Some (record { guid = g; blocks = blocks homes next count g })
 
   abbrev found : List ℕ → Option SwitchTable
-  found guids = find (λ table. table.guid == g) (tables_of homes slopes count guids)
+  found guids = find (λ table. table.guid == g) (tables_of homes next count guids)
 
   -- a switch's table is found
   table_of_switch : (guids : List ℕ) → Contains guids g → found guids ≡ its_table
   table_of_switch [] h = absurd (contains_none g h)
   table_of_switch (x ∷ guids) h =
-      let table : SwitchTable = record { guid = x; blocks = blocks homes slopes count x } in
+      let table : SwitchTable = record { guid = x; blocks = blocks homes next count x } in
       elim (x == g) as (λ t. (x == g) ≡ t → cond t (Some table) (found guids) ≡ its_table) [
-        | true ↦ λ e. let same = eqb-true x g e in λ i. Some (record { guid = same i; blocks = blocks homes slopes count (same i) })
+        | true ↦ λ e. let same = eqb-true x g e in λ i. Some (record { guid = same i; blocks = blocks homes next count (same i) })
         | false ↦ λ e. (elim (contains_cases x g guids h) [
           | inl same ↦ absurd (true≢false (sym (eq-eqb x g same) ∙ e))
           | inr k ↦ table_of_switch guids k
@@ -42,7 +39,7 @@ module _ (homes : ℕ → Option (ℕ × ℕ)) (slopes : List Slope) (count g : 
   table_of_none : (guids : List ℕ) → (Contains guids g → ⊥) → found guids ≡ None
   table_of_none [] none = refl
   table_of_none (x ∷ guids) none =
-      let table : SwitchTable = record { guid = x; blocks = blocks homes slopes count x } in
+      let table : SwitchTable = record { guid = x; blocks = blocks homes next count x } in
       elim (x == g) as (λ t. (x == g) ≡ t → cond t (Some table) (found guids) ≡ None) [
         | true ↦ λ e. absurd (none (contains_first guids (eqb-true x g e)))
         | false ↦ λ e. table_of_none guids (λ k. none (contains_later x g guids k))
@@ -50,29 +47,29 @@ module _ (homes : ℕ → Option (ℕ × ℕ)) (slopes : List Slope) (count g : 
 
 -- there is a block exactly of a usable switch, up to that of the greatest LID
 pub blocks_are_of_switches : BlocksAreOfSwitches
-blocks_are_of_switches facts g b =
+blocks_are_of_switches rule facts g b =
     let cells = cells_of facts in
     let homes = home_of_lid cells (lids cells) in
-    let slopes = slopes_of (graph_of cells) in
+    let next = rule.next in
     let count = block_count (top_of (lids cells)) in
     let at = option_and_then (λ (table : SwitchTable). slice_get table.blocks b) in
-    let P : Option (List ℕ) → Type 0 = λ o. MatchOption o (¬ (HasBlock cells g b)) (λ x. HasBlock cells g b × (x ≡ block_of cells g b)) in
+    let P : Option (List ℕ) → Type 0 = λ o. MatchOption o (¬ (HasBlock cells g b)) (λ x. HasBlock cells g b × (x ≡ block_of rule cells g b)) in
     let switch = (switches_law facts).0 g in
-    elim (is_usable cells g) as (λ t. is_usable cells g ≡ t → P (block_at (plan_of cells) g b)) [
+    elim (is_usable cells g) as (λ t. is_usable cells g ≡ t → P (block_at (plan_by rule cells) g b)) [
       | true ↦ λ u.
           let usable = (usable_law cells g).0 u in
-          let it = ap at (table_of_switch homes slopes count g (switches cells) (switch.1 usable)) in
+          let it = ap at (table_of_switch homes next count g (switches cells) (switch.1 usable)) in
           elim (cases_lt b count) [
             | inl l ↦
                 let place : 0 + b ≡ b = omega arith in
-                let is = it ∙ made_at (block homes slopes g) 0 count b l ∙ ap (λ j. Some (block homes slopes g j)) place in
+                let is = it ∙ made_at (block homes next g) 0 count b l ∙ ap (λ j. Some (block homes next g j)) place in
                 subst P (sym is) ((usable, l), refl)
             | inr m ↦
-                let past = slice_get_past (blocks homes slopes count g) b (omega (arith, m, length-map-range_with_len (block homes slopes g) 0 count)) in
+                let past = slice_get_past (blocks homes next count g) b (omega (arith, m, length-map-range_with_len (block homes next g) 0 count)) in
                 subst P (sym (it ∙ past)) (λ h. absurd (omega (arith, m, h.1)))
           ]
       | false ↦ λ u.
           let unusable = λ (k : IsUsable cells g). true≢false (sym ((usable_law cells g).1 k) ∙ u) in
-          let none = table_of_none homes slopes count g (switches cells) (λ k. unusable (switch.0 k)) in
+          let none = table_of_none homes next count g (switches cells) (λ k. unusable (switch.0 k)) in
           subst P (sym (ap at none)) (λ h. unusable h.0)
     ] refl

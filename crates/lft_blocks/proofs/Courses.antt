@@ -2,7 +2,7 @@
 use Rattle.std.proofs.Common.{◌≡◌, ◌≤◌, ℕ, List, [], ◌∷◌, ◌++◌, refl, sym, ap, ◌∙◌, subst, arith, true, false, cond, ◌==◌, ◌||◌}
 use Rattle.std.proofs.lemmas.Bool.{eqb-true, eq-eqb, ne_eqb, le-ltb, or_from, false_from_ne_true}
 use Rattle.std.proofs.lemmas.Option.{same_Some}
-use Rattle.std.specs.Prelude.{Some, Contains, nat_lt, unwrap_or, slice_get}
+use Rattle.std.specs.Prelude.{Some, nat_lt, unwrap_or, slice_get}
 use Rattle.std.specs.Option.{option_map_or}
 use Rattle.smp_bytes.specs.declared.cable.NodePort.{NodePort}
 use Rattle.smp_bytes.specs.declared.course.Course.{Course}
@@ -16,23 +16,14 @@ use Rattle.subnet_view.specs.declared.end_port.EndPort.{EndPort}
 use Rattle.subnet_view.specs.Reading.{Cells, is_usable}
 use Rattle.lid_assign.specs.Lids.{lids}
 use Rattle.port_graph.specs.declared.exit.Exit.{Exit}
-use Rattle.port_graph.specs.Slopes.{next_port}
-use Rattle.port_graph.specs.Routes.{Climbs, Descends, GoesBy}
-use Rattle.updown_routes.specs.Crossing.{Crossing}
-use Rattle.updown_routes.specs.Graph.{graph_of, exits_at}
-use Rattle.updown_routes.specs.Ranks.{slopes_of}
-use Rattle.updown_routes.proofs.Before.{ups_are, downs_are}
+use Rattle.updown_routes.specs.Graph.{graph_of}
+use Rattle.updown_routes.specs.Routing.{Routing, Passes, FollowsRule}
 use Rattle.updown_routes.proofs.Graphs.{exit_is_wire}
 use Rattle.updown_routes.proofs.PartWires.{IsTold, SwitchIn, switch_at_place, switch_in_part, switch_usable, exit_in_fabric}
 use Rattle.lft_blocks.specs.Entries.{home_of}
 use Rattle.lft_blocks.specs.Arrival.{guid_at}
 use Rattle.lft_blocks.proofs.HeldEntries.{entry_of, owned_to_top, owned_from_one, entry_by_home, held_entry}
 use Rattle.lft_blocks.proofs.OwnerPorts.{IsPlanned}
-
--- wires of the graph in turn
-abbrev pub Passes : List Crossing → ℕ → List Exit → Type 0
-Passes graph s [] = Unit {0}
-Passes graph s (e ∷ es) = Contains (exits_at graph s) e × Passes graph e.to es
 
 -- the wires of the fabric that are these exits, between switches
 abbrev pub Follows : Fabric → ℕ → List Exit → List Hop → Type 0
@@ -53,16 +44,6 @@ pub record WayTaken (f : Fabric) (origin : NodePort) (lid : ℕ) (start : Standi
 -- the GUID at a switch's place
 pub guid_there : {f : Fabric} {origin : NodePort} {place g : ℕ} (p : NodePort) → SwitchIn f origin place g → p.node ≡ place → guid_at f p ≡ g
 guid_there {f = f} p s here = ap (λ o. option_map_or (λ (n : Node). n.guid) o 0) (ap (slice_get f.nodes) here ∙ s.at) ∙ s.guid
-
--- up and then down is along wires of the graph
-pub way_passes : (graph : List Crossing) (ups downs : List Exit) (s u t : ℕ) → Climbs (slopes_of graph) s ups u → Descends (slopes_of graph) u downs t
-    → Passes graph s (ups ++ downs)
-way_passes graph [] downs s u t c d = descent_passes downs s t (subst (λ (x : ℕ). Descends (slopes_of graph) x downs t) (sym c) d)
-  where
-    descent_passes : (es : List Exit) (s t : ℕ) → Descends (slopes_of graph) s es t → Passes graph s es
-    descent_passes [] s t d = tt
-    descent_passes (e ∷ es) s t d = ((downs_are graph graph s e d.0).0, descent_passes es e.to t d.1)
-way_passes graph (e ∷ es) downs s u t c d = ((ups_are graph graph s e c.0).0, way_passes graph es downs e.to u t c.1 d)
 
 -- what a switch does, by its own top and table
 abbrev switch_goes : Fabric → ℕ → Node → ℕ → Course
@@ -97,19 +78,19 @@ module _ (f : Fabric) (lid : ℕ) where
       ∙ ap (λ t. cond t (switch_goes f lid node p.node) (adapter_course (owns f p lid) (sent_from p))) kind
       ∙ ap (λ t. cond t (Delivers p) (LeavesBy p)) other
 
-module _ {cells : Cells} {f : Fabric} {origin : NodePort} {lid : ℕ} {owner : EndPort} (told : IsTold cells f origin)
-    (planned : IsPlanned cells f origin lid owner) where
+module _ {rule : Routing} {cells : Cells} {f : Fabric} {origin : NodePort} {lid : ℕ} {owner : EndPort} (told : IsTold cells f origin)
+    (planned : IsPlanned rule cells f origin lid owner) where
   -- a switch of the part goes by the plan's entry
-  by_entry : {place g : ℕ} (p : ℕ) (start : Standing) → SwitchIn f origin place g → start.place.node ≡ place → entry_of cells g lid ≡ p
+  by_entry : {place g : ℕ} (p : ℕ) (start : Standing) → SwitchIn f origin place g → start.place.node ≡ place → entry_of rule cells g lid ≡ p
       → (node : Node) × (slice_get f.nodes place ≡ Some node) × (course f lid start ≡ entry_course node.ports place p)
   by_entry {place = place} {g = g} p start s here entry =
-      let top = (planned.held (port_at place 0) s.node (switch_in_part s)).top s.is_switch in
-      let low = owned_to_top (lids cells) owner lid (f.top place) planned.owned top in
+      let (top, top_is, below) = owned_to_top (lids cells) owner lid planned.owned in
+      let low : lid ≤ f.top place = omega (arith, below, (planned.held (port_at place 0) s.node (switch_in_part s)).top s.is_switch top top_is) in
       let from_one = owned_from_one cells planned.are_lids lid owner planned.owned in
       let usable : is_usable cells s.node.guid ≡ true = ap (is_usable cells) s.guid ∙ switch_usable told s in
       let its_entry : f.entry place lid ≡ p =
-      held_entry (IsJoinedTo f origin) cells f planned.blocks planned.held (port_at place 0) s.node (switch_in_part s) usable lid (f.top place) top low
-      ∙ ap (λ x. entry_of cells x lid) s.guid
+      held_entry rule (IsJoinedTo f origin) cells f planned.blocks planned.held (port_at place 0) s.node (switch_in_part s) usable lid top top_is below
+      ∙ ap (λ x. entry_of rule cells x lid) s.guid
       ∙ entry in
       let inside : (lid == 0 || nat_lt (f.top place) lid) ≡ false =
       or_from (lid == 0) (nat_lt (f.top place) lid) (ne_eqb lid 0 (λ e. omega (arith, e, from_one))) (le-ltb (f.top place) lid low) in (
@@ -123,7 +104,7 @@ module _ {cells : Cells} {f : Fabric} {origin : NodePort} {lid : ℕ} {owner : E
       )
 
   -- by entry 0 it is the packet's end
-  pub switch_takes : {place g : ℕ} (start : Standing) → SwitchIn f origin place g → start.place.node ≡ place → entry_of cells g lid ≡ 0
+  pub switch_takes : {place g : ℕ} (start : Standing) → SwitchIn f origin place g → start.place.node ≡ place → entry_of rule cells g lid ≡ 0
       → course f lid start ≡ Delivers (port_at place 0)
   switch_takes {place = place} start s here entry =
       let (node, at, takes) = by_entry 0 start s here entry in
@@ -131,7 +112,7 @@ module _ {cells : Cells} {f : Fabric} {origin : NodePort} {lid : ℕ} {owner : E
 
   -- by the port of a wire the packet leaves
   pub switch_sends : {place g : ℕ} (p : ℕ) (start : Standing) (into : NodePort) → SwitchIn f origin place g → start.place.node ≡ place
-      → entry_of cells g lid ≡ p → f.across (port_at place p) ≡ Some into → course f lid start ≡ LeavesBy (port_at place p)
+      → entry_of rule cells g lid ≡ p → f.across (port_at place p) ≡ Some into → course f lid start ≡ LeavesBy (port_at place p)
   switch_sends {place = place} p start into s here entry wire =
       let (node, at, goes) = by_entry p start s here entry in
       let (other, at_other, from_one, in_count) = told.is_fabric.cabled (port_at place p) into wire in
@@ -146,22 +127,22 @@ module _ {cells : Cells} {f : Fabric} {origin : NodePort} {lid : ℕ} {owner : E
   -- the owner's home is port q of switch t
   module _ {t q : ℕ} (home : home_of cells owner ≡ Some (t, q)) where
     -- elsewhere the entry is the next port
-    entry_on_way : (s p : ℕ) → (s == t) ≡ false → next_port (slopes_of (graph_of cells)) s t ≡ Some p → entry_of cells s lid ≡ p
+    entry_on_way : (s p : ℕ) → (s == t) ≡ false → rule.next lid s t ≡ Some p → entry_of rule cells s lid ≡ p
     entry_on_way s p apart next =
-        entry_by_home cells s lid owner (t, q) planned.owned home
-        ∙ ap (λ b. cond b q (unwrap_or (next_port (slopes_of (graph_of cells)) s t) 255))
+        entry_by_home rule cells s lid owner (t, q) planned.owned home
+        ∙ ap (λ b. cond b q (unwrap_or (rule.next lid s t) 255))
         (false_from_ne_true (t == s) (λ e. cc (apart, eq-eqb s t (sym (eqb-true t s e)))))
         ∙ ap (λ o. unwrap_or o 255) next
 
     -- and there it is the home's port
-    pub entry_at_home : entry_of cells t lid ≡ q
+    pub entry_at_home : entry_of rule cells t lid ≡ q
     entry_at_home =
-        entry_by_home cells t lid owner (t, q) planned.owned home
-        ∙ ap (λ b. cond b q (unwrap_or (next_port (slopes_of (graph_of cells)) t t) 255)) (eq-eqb t t refl)
+        entry_by_home rule cells t lid owner (t, q) planned.owned home
+        ∙ ap (λ b. cond b q (unwrap_or (rule.next lid t t) 255)) (eq-eqb t t refl)
 
     -- along next ports the packet goes over the wires of the way
     pub way_taken : (es : List Exit) {s place : ℕ} (start : Standing) → SwitchIn f origin place s → start.place.node ≡ place
-        → GoesBy (slopes_of (graph_of cells)) t s es → Passes (graph_of cells) s es → WayTaken f origin lid start s t es
+        → FollowsRule rule lid t s es → Passes (graph_of cells) s es → WayTaken f origin lid start s t es
     way_taken [] {place = place} start here at goes passes =
         record {
           hops = [];

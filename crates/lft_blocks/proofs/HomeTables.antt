@@ -13,19 +13,18 @@ use Rattle.std.specs.Cmp.{both_ways}
 use Rattle.fact_store.specs.View.{Facts, cells_of}
 use Rattle.subnet_view.specs.Reading.{switches}
 use Rattle.updown_routes.proofs.Switches.{switches_increase}
-use Rattle.port_graph.specs.Slopes.{Slope, next_port}
 use Rattle.updown_routes.specs.Crossing.{Crossing}
 use Rattle.updown_routes.specs.Graph.{guids_of}
 use Rattle.updown_routes.specs.Ports.{next_port_at}
-use Rattle.updown_routes.specs.Ranks.{slopes_of}
+use Rattle.updown_routes.specs.Routing.{updown}
 use Rattle.lft_blocks.specs.declared.home.Home.{Home}
-use Rattle.lft_blocks.specs.Entries.{port_to, entry, blocks}
+use Rattle.lft_blocks.specs.Entries.{Next, port_to, entry, blocks}
 use Rattle.lft_blocks.specs.Homes.{meant, IsPlaced, ArePlaced, AreWithin, row_of, entry_in, block_in, table_in}
 use Rattle.lft_blocks.specs.Plan.{SwitchTable, tables_of, AreTables}
 
 module _ (graph : List Crossing) (guids : List ℕ) (theirs : guids ≡ guids_of graph) (rising : IsStrictlyIncreasing guids) where
-  abbrev sloping : List Slope
-  sloping = slopes_of graph
+  abbrev next : Next
+  next = (updown graph).next
 
   -- places are told apart by their GUIDs
   same_test : (i j : ℕ) → i < length guids → j < length guids → (i == j) ≡ (slice_index guids i == slice_index guids j)
@@ -49,39 +48,40 @@ module _ (graph : List Crossing) (guids : List ℕ) (theirs : guids ≡ guids_of
     row = row_of graph own (length guids)
 
     -- the next port to a switch by its index
-    port_at : (to : ℕ) → to < length guids → next_port_at graph own to ≡ next_port sloping s (slice_index guids to)
-    port_at to h =
+    port_at : (to : ℕ) → to < length guids → (lid : ℕ) → next_port_at graph own to ≡ next lid s (slice_index guids to)
+    port_at to h lid =
         let get = λ (i : ℕ) (l : i < length guids). ap (λ gs. slice_get gs i) (sym theirs) ∙ slice_get-get_or guids i 0 l in
-        ap (option_and_then (λ t. option_and_then (λ g. next_port sloping g t) (slice_get (guids_of graph) own))) (get to h)
-        ∙ ap (option_and_then (λ g. next_port sloping g (slice_index guids to))) (get own there)
+        ap (option_and_then (λ t. option_and_then (λ g. next lid g t) (slice_get (guids_of graph) own))) (get to h)
+        ∙ ap (option_and_then (λ g. next lid g (slice_index guids to))) (get own there)
 
-    port_same : (h : Home) → h.switch < length guids → cond (h.switch == own) h.port (slice_index row h.switch) ≡ port_to sloping s (meant guids h)
-    port_same h w =
-        let at : slice_index row h.switch ≡ unwrap_or (next_port sloping s (slice_index guids h.switch)) 255
-        = get_or-map-range_with_len (λ to. unwrap_or (next_port_at graph own to) 255) 0 (length guids) h.switch h.switch 0 w (omega arith) ∙ ap (λ o. unwrap_or o 255) (port_at h.switch w) in
+    port_same : (h : Home) (lid : ℕ) → h.switch < length guids
+        → cond (h.switch == own) h.port (slice_index row h.switch) ≡ port_to next lid s (meant guids h)
+    port_same h lid w =
+        let at : slice_index row h.switch ≡ unwrap_or (next lid s (slice_index guids h.switch)) 255
+        = get_or-map-range_with_len (λ to. unwrap_or (next_port_at graph own to) 255) 0 (length guids) h.switch h.switch 0 w (omega arith) ∙ ap (λ o. unwrap_or o 255) (port_at h.switch w lid) in
         λ i. cond (same_test h.switch own w there i) h.port (at i)
 
-    entry_same : (homes : ℕ → Option (ℕ × ℕ)) (placed : List (Option Home)) → ArePlaced guids homes placed → (lid : ℕ) → entry_in placed row own lid ≡ entry homes sloping s lid
+    entry_same : (homes : ℕ → Option (ℕ × ℕ)) (placed : List (Option Home)) → ArePlaced guids homes placed → (lid : ℕ) → entry_in placed row own lid ≡ entry homes next s lid
     entry_same homes placed are lid = go (slice_index_or placed lid None) (are lid)
       where
-        go : (o : Option Home) → IsPlaced guids (homes lid) o → option_map_or (λ h. cond (h.switch == own) h.port (slice_index row h.switch)) o 255 ≡ option_map_or (port_to sloping s) (homes lid) 255
-        go None is = ap (λ home. option_map_or (port_to sloping s) home 255) is.same
-        go (Some h) is = port_same h is.within ∙ ap (λ home. option_map_or (port_to sloping s) home 255) is.same
+        go : (o : Option Home) → IsPlaced guids (homes lid) o → option_map_or (λ h. cond (h.switch == own) h.port (slice_index row h.switch)) o 255 ≡ option_map_or (port_to next lid s) (homes lid) 255
+        go None is = ap (λ home. option_map_or (port_to next lid s) home 255) is.same
+        go (Some h) is = port_same h lid is.within ∙ ap (λ home. option_map_or (port_to next lid s) home 255) is.same
 
 -- they are the same
 pub tables_same : (graph : List Crossing) (guids : List ℕ) (homes : ℕ → Option (ℕ × ℕ)) (placed : List (Option Home)) (count : ℕ) → guids ≡ guids_of graph → IsStrictlyIncreasing guids → ArePlaced guids homes placed
-    → tables_of homes (slopes_of graph) count guids ≡ map (table_in placed graph guids count) (range_with_len 0 (length guids))
+    → tables_of homes (updown graph).next count guids ≡ map (table_in placed graph guids count) (range_with_len 0 (length guids))
 tables_same graph guids homes placed count theirs rising are =
-    fill_by_all (table_in placed graph guids count) (tables_of homes (slopes_of graph) count guids) (length guids) none (length-map guids by_guid)
+    fill_by_all (table_in placed graph guids count) (tables_of homes (updown graph).next count guids) (length guids) none (length-map guids by_guid)
     (λ k h. get_or-map by_guid guids k 0 none h ∙ sym (at k h))
   where
     none : SwitchTable
     none = record { guid = 0; blocks = [] }
 
     by_guid : ℕ → SwitchTable
-    by_guid g = record { guid = g; blocks = blocks homes (slopes_of graph) count g }
+    by_guid g = record { guid = g; blocks = blocks homes (updown graph).next count g }
 
-    at : (own : ℕ) → own < length guids → table_in placed graph guids count own ≡ record { guid = slice_index guids own; blocks = blocks homes (slopes_of graph) count (slice_index guids own) }
+    at : (own : ℕ) → own < length guids → table_in placed graph guids count own ≡ record { guid = slice_index guids own; blocks = blocks homes (updown graph).next count (slice_index guids own) }
     at own h =
         let same = entry_same graph guids theirs rising own h homes placed are in
         λ i. record { guid = slice_index guids own; blocks = map (λ b. map (λ j. same (64 * b + j) i) (range_with_len 0 64)) (range_with_len 0 count) }
@@ -91,15 +91,15 @@ pub placed_within : (guids : List ℕ) (homes : ℕ → Option (ℕ × ℕ)) (pl
 placed_within guids homes placed are lid = (are lid).within
 
 -- the switches of the tables are the switches
-their_guids : (homes : ℕ → Option (ℕ × ℕ)) (slopes : List Slope) (count : ℕ) (guids : List ℕ) → guids ≡ map (λ table. table.guid) (tables_of homes slopes count guids)
-their_guids homes slopes count [] = refl
-their_guids homes slopes count (g ∷ guids) = ap (λ gs. g ∷ gs) (their_guids homes slopes count guids)
+their_guids : (homes : ℕ → Option (ℕ × ℕ)) (next : Next) (count : ℕ) (guids : List ℕ) → guids ≡ map (λ table. table.guid) (tables_of homes next count guids)
+their_guids homes next count [] = refl
+their_guids homes next count (g ∷ guids) = ap (λ gs. g ∷ gs) (their_guids homes next count guids)
 
 -- and rise where these do
-pub are_tables : (homes : ℕ → Option (ℕ × ℕ)) (slopes : List Slope) (count : ℕ) (guids : List ℕ) (tables : List SwitchTable) → IsStrictlyIncreasing guids
-    → tables ≡ tables_of homes slopes count guids → AreTables guids tables
-are_tables homes slopes count guids tables rising e = record {
-  theirs = their_guids homes slopes count guids ∙ ap (map (λ table. table.guid)) (sym e);
+pub are_tables : (homes : ℕ → Option (ℕ × ℕ)) (next : Next) (count : ℕ) (guids : List ℕ) (tables : List SwitchTable) → IsStrictlyIncreasing guids
+    → tables ≡ tables_of homes next count guids → AreTables guids tables
+are_tables homes next count guids tables rising e = record {
+  theirs = their_guids homes next count guids ∙ ap (map (λ table. table.guid)) (sym e);
   rising = rising;
 }
 

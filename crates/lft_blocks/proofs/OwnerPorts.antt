@@ -16,20 +16,21 @@ use Rattle.subnet_view.proofs.Apart.{contains_map}
 use Rattle.subnet_view.proofs.WireLaws.{wire_law}
 use Rattle.lid_assign.specs.Lids.{lids, lid_of, owner_of, AreLids}
 use Rattle.lid_assign.proofs.Owners.{given-from_owner}
+use Rattle.updown_routes.specs.Routing.{Routing}
 use Rattle.updown_routes.proofs.PartWires.{IsTold, switch_at_place, switch_port, switch_known, switch_usable, known_type}
 use Rattle.updown_routes.proofs.Joined.{LiesAt, HasHome, itself, by_wire}
 use Rattle.lft_blocks.specs.Entries.{home_of}
-use Rattle.lft_blocks.specs.Plan.{plan_of}
+use Rattle.lft_blocks.specs.Plan.{plan_by}
 use Rattle.lft_blocks.specs.Arrival.{HoldsPlan}
 use Rattle.lft_blocks.proofs.HeldEntries.{HasBlocks}
 
 -- the LID has this owner in the plan, and the part holds the plan
-pub record IsPlanned (cells : Cells) (f : Fabric) (origin : NodePort) (lid : ℕ) (owner : EndPort) : Type 0 where
+pub record IsPlanned (rule : Routing) (cells : Cells) (f : Fabric) (origin : NodePort) (lid : ℕ) (owner : EndPort) : Type 0 where
   pub are_lids : AreLids cells (lids cells)
   pub inverse : (e : EndPort) (n : ℕ) → (owner_of (lids cells) n ≡ Some e) ↔ (lid_of (lids cells) e ≡ Some n)
   pub end_ports_listed : HasEndPorts cells (end_ports cells)
-  pub blocks : HasBlocks cells
-  pub held : HoldsPlan (IsJoinedTo f origin) (plan_of cells) f
+  pub blocks : HasBlocks rule cells
+  pub held : HoldsPlan (IsJoinedTo f origin) (plan_by rule cells) f
   pub owned : owner_of (lids cells) lid ≡ Some owner
 
 -- the port of the part that facts name so, and that has the LID
@@ -49,8 +50,8 @@ pub owner_in_part : {f : Fabric} {origin : NodePort} {lid : ℕ} {owner : EndPor
     → IsEndPortIn (IsJoinedTo f origin) f target.port target.named.node
 owner_in_part target = record { node_there = target.named.node_there; end_port = target.is_end; in_part = target.joined }
 
-module _ {cells : Cells} {f : Fabric} {origin : NodePort} {lid : ℕ} {owner : EndPort} (told : IsTold cells f origin)
-    (planned : IsPlanned cells f origin lid owner) where
+module _ {rule : Routing} {cells : Cells} {f : Fabric} {origin : NodePort} {lid : ℕ} {owner : EndPort} (told : IsTold cells f origin)
+    (planned : IsPlanned rule cells f origin lid owner) where
   pub owner_port : OwnerPort f origin lid owner
   owner_port =
       let given = contains_map (λ (x : EndPort × ℕ). x.0) (lids cells) (owner, lid) (given-from_owner (lids cells) owner lid planned.owned) in

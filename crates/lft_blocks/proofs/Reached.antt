@@ -1,5 +1,5 @@
 -- By the plan's tables a packet comes from each end port of the part to its LID's owner.
-use Rattle.std.proofs.Common.{◌≡◌, ◌≤◌, ℕ, suc, List, [], ◌∷◌, ◌++◌, refl, sym, ap, ◌∙◌, subst, arith, Bool, true, false, cond, ◌==◌, not, map, length}
+use Rattle.std.proofs.Common.{◌≡◌, ◌≤◌, ℕ, suc, List, [], ◌∷◌, ◌++◌, refl, sym, ap, ◌∙◌, subst, arith, Bool, true, false, cond, not, map, length}
 use Rattle.std.proofs.lemmas.Bool.{and_left, and_right, both_ways}
 use Rattle.std.specs.Prelude.{Some}
 use Rattle.smp_bytes.specs.declared.cable.NodePort.{NodePort}
@@ -15,24 +15,22 @@ use Rattle.subnet_view.proofs.EndPortList.{end_ports_law}
 use Rattle.lid_assign.specs.Lids.{IsNoRoom}
 use Rattle.lid_assign.proofs.LidLaws.{lids_law}
 use Rattle.lid_assign.proofs.Owners.{owners_are_inverse}
-use Rattle.port_graph.specs.Slopes.{cost}
-use Rattle.port_graph.specs.Routes.{Way}
 use Rattle.updown_routes.specs.Graph.{graph_of}
-use Rattle.updown_routes.specs.GraphLaws.{IsSwitch}
-use Rattle.updown_routes.specs.Ranks.{slopes_of, in_one_component}
-use Rattle.updown_routes.proofs.Components.{component_itself, cost_in_component}
-use Rattle.updown_routes.proofs.Ways.{way_law}
+use Rattle.updown_routes.specs.Ranks.{in_one_component}
+use Rattle.updown_routes.specs.Routing.{Routing, IsRouting, stops, Leads, updown}
+use Rattle.updown_routes.proofs.Components.{component_itself}
+use Rattle.updown_routes.proofs.Routed.{updown_is_routing}
 use Rattle.updown_routes.proofs.Switches.{usable_switch}
 use Rattle.updown_routes.proofs.Graphs.{graph_law}
 use Rattle.updown_routes.proofs.PartWires.{IsTold, SwitchIn, one_place, switch_at_place}
 use Rattle.updown_routes.proofs.Joined.{LiesAt, HasHome, itself, by_wire, Meets, same, wired, apart, own_home, switch_in_graph, joined_meet}
 use Rattle.lft_blocks.specs.Plan.{plan_of}
-use Rattle.lft_blocks.specs.Arrival.{guid_at, is_between_switches, switch_hops, switches_met, IsRoutedWay, EveryPacketArrives}
+use Rattle.lft_blocks.specs.Arrival.{guid_at, is_between_switches, switch_hops, switches_met, IsRoutedWay, EveryPacketArrives, PacketsArriveByEachRouting}
 use Rattle.lft_blocks.proofs.HeldEntries.{entry_of, planned_block}
 use Rattle.lft_blocks.proofs.OwnerPorts.{IsPlanned, OwnerPort, owner_port, lid_is_owners, owner_home}
-use Rattle.lft_blocks.proofs.Courses.{WayTaken, guid_there, way_passes, way_taken, goes_on}
+use Rattle.lft_blocks.proofs.Courses.{WayTaken, guid_there, way_taken, goes_on}
 use Rattle.lft_blocks.proofs.Courses.{adapter_takes, adapter_sends, switch_takes, switch_sends, entry_at_home}
-use Rattle.lft_blocks.proofs.Routed.{stops, arrival_ports, arrivals, adapter_hops, way_arrivals, way_switch_hops, way_adapter_hops}
+use Rattle.lft_blocks.proofs.Routed.{arrival_ports, arrivals, adapter_hops, way_arrivals, way_switch_hops, way_adapter_hops}
 use Rattle.lft_blocks.proofs.Routed.{routed_by_way, routed_past_switches}
 
 -- from a source to the switch that it lies at: no wire, or the one of an adapter port
@@ -59,10 +57,10 @@ one_more : (t : Bool) (h : Hop) (hops : List Hop) → length (cond t (h ∷ hops
 one_more true h hops = omega arith
 one_more false h hops = omega arith
 
-module _ {cells : Cells} {f : Fabric} {origin : NodePort} {lid : ℕ} {owner : EndPort} (told : IsTold cells f origin)
-    (planned : IsPlanned cells f origin lid owner) (target : OwnerPort f origin lid owner) where
+module _ {rule : Routing} {cells : Cells} {f : Fabric} {origin : NodePort} {lid : ℕ} {owner : EndPort} (routing : IsRouting (graph_of cells) rule)
+    (told : IsTold cells f origin) (planned : IsPlanned rule cells f origin lid owner) (target : OwnerPort f origin lid owner) where
   abbrev Delivery : NodePort → Type 0
-  Delivery source = (hops : List Hop) × IsDelivered f lid source hops target.port × IsRoutedWay cells f source hops
+  Delivery source = (hops : List Hop) × IsDelivered f lid source hops target.port × IsRoutedWay rule f source hops
 
   starts : (source : NodePort) {h : NodePort} {a : ℕ} → IsEndPort f source → (is_switch_at f source.node ≡ false → owns f source lid ≡ false)
       → HasHome f origin source h a → Started f lid source h a
@@ -106,7 +104,7 @@ module _ {cells : Cells} {f : Fabric} {origin : NodePort} {lid : ℕ} {owner : E
       place_is : last.place.node ≡ k.node
       place_is = one_place told there home.there
 
-      entry : entry_of cells b lid ≡ k.port
+      entry : entry_of rule cells b lid ≡ k.port
       entry = entry_at_home told planned (owner_home told planned target home)
 
       to_port : LiesAt f target.port k → Ended f lid last target.port
@@ -138,12 +136,12 @@ module _ {cells : Cells} {f : Fabric} {origin : NodePort} {lid : ℕ} {owner : E
           }
 
   -- the wires to the first switch, those of the way, and those to the owner
-  joined_parts : (source : NodePort) {h : NodePort} {a b n : ℕ} → IsSwitch (graph_of cells) a → cost (slopes_of (graph_of cells)) a b ≡ Some n
-      → (way : Way (slopes_of (graph_of cells)) a b n) (first : Started f lid source h a)
-      (taken : WayTaken f origin lid first.start a b (way.ups ++ way.downs))
+  joined_parts : (source : NodePort) {h : NodePort} {a b n : ℕ} → rule.cost a b ≡ Some n
+      → (way : Leads (graph_of cells) rule lid a b n) (first : Started f lid source h a)
+      (taken : WayTaken f origin lid first.start a b way.exits)
       → Ended f lid taken.end target.port → Delivery source
-  joined_parts source {a = a} {b = b} {n = n} a_switch its_cost way first taken last =
-      let es = way.ups ++ way.downs in
+  joined_parts source {a = a} {b = b} {n = n} its_cost way first taken last =
+      let es = way.exits in
       let rest = taken.hops ++ last.after in
       let met : switches_met f source (first.before ++ rest) ≡ stops a es =
       first.met rest ∙ ap (λ gs. a ∷ gs) (way_arrivals f es taken.hops last.after a taken.follows last.met) in
@@ -158,21 +156,19 @@ module _ {cells : Cells} {f : Fabric} {origin : NodePort} {lid : ℕ} {owner : E
               (goes_on f lid taken.hops last.after first.start taken.end last.end taken.goes last.goes),
           last.takes,
         ),
-        routed_by_way cells f told.is_graph source (first.before ++ rest) taken.hops a b n a_switch its_cost way taken.follows met between few,
+        routed_by_way rule cells f source (first.before ++ rest) taken.hops lid a b n its_cost way taken.follows met between few,
       )
 
   -- over switches of one component
   over_switches : (source : NodePort) {h k : NodePort} {a b : ℕ} → IsEndPort f source → (is_switch_at f source.node ≡ false → owns f source lid ≡ false)
       → HasHome f origin source h a → HasHome f origin target.port k b → in_one_component (graph_of cells) a b ≡ true → Delivery source
   over_switches source {a = a} {b = b} is_end other from to joins =
-      let graph = graph_of cells in
       let a_switch = switch_in_graph told from.there in
-      let (n, its_cost) = cost_in_component graph told.is_graph a b a_switch (switch_in_graph told to.there) joins in
-      let way = way_law graph told.is_graph n a b its_cost in
+      let (n, its_cost) = routing.reaches a b a_switch (switch_in_graph told to.there) joins in
+      let way = routing.leads lid a b n a_switch its_cost in
       let first = starts source is_end other from in
-      let passes = way_passes graph way.ups way.downs a way.summit b way.climbs way.descends in
-      let taken = way_taken told planned (owner_home told planned target to) (way.ups ++ way.downs) first.start from.there first.here way.goes passes in
-      joined_parts source a_switch its_cost way first taken (ends taken.end to taken.there)
+      let taken = way_taken told planned (owner_home told planned target to) way.exits first.start from.there first.here way.by_rule way.passes in
+      joined_parts source its_cost way first taken (ends taken.end to taken.there)
 
   from_switch : (source : NodePort) → IsEndPort f source → IsJoinedTo f origin source → is_switch_at f source.node ≡ true
       → Meets cells f origin source target.port → Delivery source
@@ -196,7 +192,7 @@ module _ {cells : Cells} {f : Fabric} {origin : NodePort} {lid : ℕ} {owner : E
           adapter_takes f lid (arrived_at target.port) target.named.node target.named.node_there
               (sym (type_at f target.port.node target.named.node target.named.node_there) ∙ t) target.own_lid,
         ),
-        routed_past_switches cells f source (hop ∷ [])
+        routed_past_switches rule f source (hop ∷ [])
             (ap (λ x. map (guid_at f) (cond x (source ∷ arrived) arrived)) s ∙ ap (λ x. map (guid_at f) (cond x (target.port ∷ []) [])) t)
             (ap (λ x. cond x (hop ∷ []) []) (and_left (is_switch_at f source.node) (is_switch_at f target.port.node) s))
             (omega arith),
@@ -210,7 +206,7 @@ module _ {cells : Cells} {f : Fabric} {origin : NodePort} {lid : ℕ} {owner : E
       let is_target = lid_is_owners told planned target source node (record { node_there = at; end_port = (node, at, number); in_part = j }) own in (
         [],
         (sent_from source, refl, adapter_takes f lid (sent_from source) node at (sym (type_at f source.node node at) ∙ s) own ∙ ap Delivers is_target),
-        routed_past_switches cells f source [] (ap (λ t. map (guid_at f) (cond t (source ∷ []) [])) s) refl (omega arith),
+        routed_past_switches rule f source [] (ap (λ t. map (guid_at f) (cond t (source ∷ []) [])) s) refl (omega arith),
       )
 
   delivery : (source : NodePort) → IsEndPort f origin → IsEndPort f source → IsJoinedTo f origin source → Delivery source
@@ -224,21 +220,27 @@ module _ {cells : Cells} {f : Fabric} {origin : NodePort} {lid : ℕ} {owner : E
         ] refl)
       ] refl
 
--- where the plan is in force, every packet arrives
-pub every_packet_arrives : (facts : Facts) → ¬ (IsNoRoom (cells_of facts)) → EveryPacketArrives (cells_of facts) (plan_of (cells_of facts))
-every_packet_arrives facts has_room f origin is_origin in_force source is_end j lid owner owned =
+-- where the plan by a rule of routing is in force, every packet arrives
+pub packets_arrive_by_each_routing : PacketsArriveByEachRouting
+packets_arrive_by_each_routing facts rule routing has_room f origin is_origin in_force source is_end j lid owner owned =
     let cells = cells_of facts in
     let told : IsTold cells f origin =
     record { is_fabric = in_force.is_fabric; agrees = in_force.agrees; is_graph = graph_law facts; listed = usable_switch facts } in
-    let planned : IsPlanned cells f origin lid owner =
+    let planned : IsPlanned rule cells f origin lid owner =
     record {
       are_lids = lids_law facts has_room;
       inverse = owners_are_inverse facts has_room;
       end_ports_listed = (end_ports_law facts).0;
-      blocks = planned_block facts;
+      blocks = planned_block rule facts;
       held = in_force.holds;
       owned = owned;
     } in
     let target = owner_port told planned in
-    let d = delivery told planned target source is_origin is_end j in
+    let d = delivery routing told planned target source is_origin is_end j in
     record { target = target.port; is_owner = target.named; in_part = target.joined; hops = d.0; delivered = d.1; way = d.2 }
+
+-- so it does up and down
+pub every_packet_arrives : (facts : Facts) → ¬ (IsNoRoom (cells_of facts)) → EveryPacketArrives (cells_of facts) (plan_of (cells_of facts))
+every_packet_arrives facts has_room =
+    let graph = graph_of (cells_of facts) in
+    packets_arrive_by_each_routing facts (updown graph) (updown_is_routing graph (graph_law facts)) has_room

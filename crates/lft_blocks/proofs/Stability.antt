@@ -9,7 +9,7 @@ use Rattle.subnet_view.proofs.BesideClaims.{is_claim, switch_same, usable_same, 
 use Rattle.lid_assign.specs.Lids.{lids, owner_of, top_of}
 use Rattle.lid_assign.proofs.Staying.{same_but_claims, lids_settle}
 use Rattle.updown_routes.specs.Graph.{exit_at, graph_of}
-use Rattle.updown_routes.specs.Ranks.{slopes_of}
+use Rattle.updown_routes.specs.Routing.{updown}
 use Rattle.lft_blocks.specs.Entries.{home_of, block_count}
 use Rattle.lft_blocks.specs.Plan.{tables_of, plan_of}
 use Rattle.lft_blocks.specs.PlanLaws.{PlansStay}
@@ -28,7 +28,7 @@ module _ (x y : Facts) (same : (key : Key) → is_claim key ≡ false → cell_f
   plan_same given =
       λ i. record {
         given = given i;
-        tables = tables_of (λ lid. option_and_then (λ e. home_same e i) (owner_of (given i) lid)) (slopes_of (graph_same i)) (block_count (top_of (given i))) (switches_same x y same i);
+        tables = tables_of (λ lid. option_and_then (λ e. home_same e i) (owner_of (given i) lid)) (updown (graph_same i)).next (block_count (top_of (given i))) (switches_same x y same i);
       }
 
 -- once the LIDs of a view are claimed, its plan stays

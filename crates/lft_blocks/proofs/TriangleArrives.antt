@@ -1,6 +1,7 @@
 -- In the triangle the plan is in force, so a packet from one adapter arrives at the other: what 'every packet arrives' supposes can be.
 use Rattle.std.proofs.Common.{◌≡◌, ◌≤◌, ℕ, zero, suc, [], ◌++◌, inl, refl, sym, ap, ◌∙◌, subst, arith, cond, ◌==◌, length, map}
 use Rattle.std.proofs.lemmas.List.{get_or_past}
+use Rattle.std.proofs.lemmas.Option.{same_Some}
 use Rattle.std.specs.Prelude.{None, Some, option_and_then, slice_get, slice_index_or}
 use Rattle.std.specs.Option.{option_map_or}
 use Rattle.fact_store.specs.View.{cells_of}
@@ -16,15 +17,15 @@ use Rattle.subnet_view.specs.Wires.{across}
 use Rattle.subnet_view.specs.Agreement.{Part, WholeFabric, IsEndPortIn, IsPortNamed, HasEndPort, HasWire, AgreesOn}
 use Rattle.lid_assign.specs.Lids.{IsNoRoom, lids, owner_of}
 use Rattle.updown_routes.specs.Graph.{graph_of}
-use Rattle.updown_routes.specs.Ranks.{slopes_of}
+use Rattle.updown_routes.specs.Routing.{updown}
 use Rattle.lft_blocks.specs.Entries.{home_of, port_to}
 use Rattle.lft_blocks.specs.Plan.{plan_of}
 use Rattle.lft_blocks.specs.Arrival.{Arrives, IsInForce}
-use Rattle.lft_blocks.proofs.HeldEntries.{entry_of, owned_to_top}
+use Rattle.lft_blocks.proofs.HeldEntries.{owned_to_top}
 use Rattle.lft_blocks.proofs.Reached.{every_packet_arrives}
 use Rattle.lft_blocks.proofs.WholeFabrics.{packets_arrive_if_connected}
 use Rattle.lft_blocks.proofs.FabricCases.{Each, EachPlace, next, each_append, each_all, each_map}
-use Rattle.lft_blocks.proofs.FabricCases.{HasOneEnd, end_of, end_cases, place_at, cable_cases, Stands, TellsCable, agreement, HasPlanned, holding}
+use Rattle.lft_blocks.proofs.FabricCases.{HasOneEnd, end_of, end_cases, place_at, cable_cases, Stands, TellsCable, agreement, planned_entry, HasPlanned, holding}
 use Rattle.lft_blocks.proofs.Triangle.{switch, adapter, cables, tables, triangle}
 use Rattle.lft_blocks.proofs.Triangle.{NamedWire, wires, nodes_told, ports_told, link_told, up_told, caps_told, cells, facts, facts_have}
 
@@ -206,19 +207,19 @@ module _ (part : Part) (all : (v : NodePort) → IsEndPort triangle v → part v
 -- the plan is held ------------------------------------------------------------------------------
 
 -- nobody has a LID above 5
-entry_past : (g lid : ℕ) → 6 ≤ lid → entry_of cells g lid ≡ 255
+entry_past : (g lid : ℕ) → 6 ≤ lid → planned_entry cells g lid ≡ 255
 entry_past g lid past =
     elim (owner_of (lids cells) lid) as
-    (λ o. owner_of (lids cells) lid ≡ o → option_map_or (port_to (slopes_of (graph_of cells)) g) (option_and_then (home_of cells) o) 255 ≡ 255) [
+    (λ o. owner_of (lids cells) lid ≡ o → option_map_or (port_to (updown (graph_of cells)).next lid g) (option_and_then (home_of cells) o) 255 ≡ 255) [
       | None ↦ λ e. refl
-      | Some owner ↦ λ e. absurd (omega (arith, owned_to_top (lids cells) owner lid 5 e refl))
+      | Some owner ↦ λ e. let (top, is, low) = owned_to_top (lids cells) owner lid e in absurd (omega (arith, low, same_Some top 5 (sym is)))
     ] refl
 
 -- up to LID 5 by computing, and 255 from there on
-entries_are : (k g : ℕ) → entry_of cells g 0 ≡ triangle.entry k 0 → entry_of cells g 1 ≡ triangle.entry k 1 → entry_of cells g 2 ≡ triangle.entry k 2
-    → entry_of cells g 3 ≡ triangle.entry k 3 → entry_of cells g 4 ≡ triangle.entry k 4 → entry_of cells g 5 ≡ triangle.entry k 5
+entries_are : (k g : ℕ) → planned_entry cells g 0 ≡ triangle.entry k 0 → planned_entry cells g 1 ≡ triangle.entry k 1 → planned_entry cells g 2 ≡ triangle.entry k 2
+    → planned_entry cells g 3 ≡ triangle.entry k 3 → planned_entry cells g 4 ≡ triangle.entry k 4 → planned_entry cells g 5 ≡ triangle.entry k 5
     → length (slice_index_or tables k []) ≤ 6
-    → (lid : ℕ) → entry_of cells g lid ≡ triangle.entry k lid
+    → (lid : ℕ) → planned_entry cells g lid ≡ triangle.entry k lid
 entries_are k g a b c d e f short zero = a
 entries_are k g a b c d e f short (suc zero) = b
 entries_are k g a b c d e f short (suc (suc zero)) = c

@@ -15,19 +15,17 @@ use Rattle.subnet_view.specs.Reading.{Cells}
 use Rattle.subnet_view.specs.Agreement.{Part, WholeFabric, IsEndPortIn, IsPortNamed, AgreesOn}
 use Rattle.lid_assign.specs.Lids.{IsNoRoom, lid_of, owner_of, top_of}
 use Rattle.updown_routes.specs.Graph.{graph_of}
-use Rattle.updown_routes.specs.Ranks.{slopes_of}
-use Rattle.updown_routes.specs.Channels.{channel_number}
-use Rattle.port_graph.specs.Slopes.{cost}
-use Rattle.lft_blocks.specs.Plan.{PlanValue, plan_of, block_at}
+use Rattle.updown_routes.specs.Routing.{Routing, IsRouting, updown}
+use Rattle.lft_blocks.specs.Plan.{PlanValue, plan_by, plan_of, block_at}
 
 -- the block stands in the table of the switch at a place, from LID 64 b on
 abbrev pub HoldsBlock : Fabric → ℕ → ℕ → List ℕ → Type 0
 HoldsBlock f place b block = (i : ℕ) → i < 64 → slice_get block i ≡ Some (f.entry place (64 * b + i))
 
--- an end port has its LID of the plan; a switch has the plan's greatest LID as its top, and its blocks of the plan
+-- an end port has its LID of the plan; a switch has the plan's greatest LID or a greater one as its top, and its blocks of the plan
 pub record HoldsPlanAt (plan : PlanValue) (f : Fabric) (port : NodePort) (node : Node) : Type 0 where
   pub lid : lid_of plan.given (record { node = node.guid; port = port.port }) ≡ Some (f.base_lid port)
-  pub top : IsTrue (is_switch node.kind) → top_of plan.given ≡ Some (f.top port.node)
+  pub top : IsTrue (is_switch node.kind) → (top : ℕ) → top_of plan.given ≡ Some top → top ≤ f.top port.node
   pub blocks : (b : ℕ) (block : List ℕ) → block_at plan node.guid b ≡ Some block → HoldsBlock f port.node b block
 
 -- each end port of the part does
@@ -57,8 +55,8 @@ abbrev pub switches_met : Fabric → NodePort → List Hop → List ℕ
 switches_met f source hops = map (guid_at f) (filter (λ p. is_switch_at f p.node) (source ∷ map (λ h. h.into) hops))
 
 -- the channels of the wires between switches that a packet takes
-abbrev pub channels_taken : Cells → Fabric → List Hop → List ℕ
-channels_taken cells f hops = map (λ h. channel_number (graph_of cells) (guid_at f h.out) (guid_at f h.into)) (switch_hops f hops)
+abbrev pub channels_taken : Routing → Fabric → List Hop → List ℕ
+channels_taken rule f hops = map (λ h. rule.channel (guid_at f h.out) (guid_at f h.into)) (switch_hops f hops)
 
 -- the last of the numbers, or the one before them
 abbrev pub last_or : ℕ → List ℕ → ℕ
@@ -66,32 +64,45 @@ last_or d [] = d
 last_or d (x ∷ xs) = last_or x xs
 
 -- the cost of routing from the first of some switches to the last is so much
-abbrev pub IsCostAlong : Cells → List ℕ → ℕ → Type 0
-IsCostAlong cells [] n = Unit {0}
-IsCostAlong cells (s ∷ switches) n = cost (slopes_of (graph_of cells)) s (last_or s switches) ≡ Some n
+abbrev pub IsCostAlong : Routing → List ℕ → ℕ → Type 0
+IsCostAlong rule [] n = Unit {0}
+IsCostAlong rule (s ∷ switches) n = rule.cost s (last_or s switches) ≡ Some n
 
 -- what the way of a packet is like: from its first switch to its last it takes as many wires as routing costs, it meets no switch twice, it takes at
 -- most two wires to or from adapter ports, and its channels rise
-pub record IsRoutedWay (cells : Cells) (f : Fabric) (source : NodePort) (hops : List Hop) : Type 0 where
-  pub at_cost : IsCostAlong cells (switches_met f source hops) (length (switch_hops f hops))
+pub record IsRoutedWay (rule : Routing) (f : Fabric) (source : NodePort) (hops : List Hop) : Type 0 where
+  pub at_cost : IsCostAlong rule (switches_met f source hops) (length (switch_hops f hops))
   pub no_switch_twice : AllPairs (λ a b. a ≢ b) (switches_met f source hops)
   pub adapter_wires : count_by (λ h. not (is_between_switches f h)) hops ≤ 2
-  pub channels_rise : IsStrictlyIncreasing (channels_taken cells f hops)
+  pub channels_rise : IsStrictlyIncreasing (channels_taken rule f hops)
 
--- a packet for a LID is delivered at the end port that owns it
-pub record Arrives (part : Part) (cells : Cells) (f : Fabric) (lid : ℕ) (source : NodePort) (owner : EndPort) : Type 0 where
+-- a packet for a LID is delivered at the end port that owns it, over a way of the rule
+pub record ArrivesBy (rule : Routing) (part : Part) (f : Fabric) (lid : ℕ) (source : NodePort) (owner : EndPort) : Type 0 where
   pub target : NodePort
   pub is_owner : IsPortNamed f owner.node owner.port target
   pub in_part : part target
   pub hops : List Hop
   pub delivered : IsDelivered f lid source hops target
-  pub way : IsRoutedWay cells f source hops
+  pub way : IsRoutedWay rule f source hops
+
+-- over a way that goes up and then down
+abbrev pub Arrives : Part → Cells → Fabric → ℕ → NodePort → EndPort → Type 0
+Arrives part cells f lid source owner = ArrivesBy (updown (graph_of cells)) part f lid source owner
 
 -- where the plan is in force in what an end port is joined to, a packet from each end port there for each LID of the plan arrives
-abbrev pub EveryPacketArrives : Cells → PlanValue → Type 0
-EveryPacketArrives cells plan = (f : Fabric) (origin : NodePort) → IsEndPort f origin → IsInForce (IsJoinedTo f origin) cells plan f
+abbrev pub EveryPacketArrivesBy : Routing → Cells → PlanValue → Type 0
+EveryPacketArrivesBy rule cells plan = (f : Fabric) (origin : NodePort) → IsEndPort f origin → IsInForce (IsJoinedTo f origin) cells plan f
     → (source : NodePort) → IsEndPort f source → IsJoinedTo f origin source
-    → (lid : ℕ) (owner : EndPort) → owner_of plan.given lid ≡ Some owner → Arrives (IsJoinedTo f origin) cells f lid source owner
+    → (lid : ℕ) (owner : EndPort) → owner_of plan.given lid ≡ Some owner → ArrivesBy rule (IsJoinedTo f origin) f lid source owner
+
+-- so it is with the plan of each view that has one, by whatever rule of routing
+abbrev pub PacketsArriveByEachRouting : Type 0
+PacketsArriveByEachRouting = (facts : Facts) (rule : Routing) → IsRouting (graph_of (cells_of facts)) rule → ¬ (IsNoRoom (cells_of facts))
+    → EveryPacketArrivesBy rule (cells_of facts) (plan_by rule (cells_of facts))
+
+-- by ways that go up and then down
+abbrev pub EveryPacketArrives : Cells → PlanValue → Type 0
+EveryPacketArrives cells plan = EveryPacketArrivesBy (updown (graph_of cells)) cells plan
 
 -- where the plan is in force in the whole of a connected fabric, a packet from each end port for each LID of the plan arrives
 abbrev pub EveryPacketArrivesIfConnected : Cells → PlanValue → Type 0

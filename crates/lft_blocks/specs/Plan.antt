@@ -5,10 +5,9 @@ use Rattle.std.specs.List.Sorted.{IsStrictlyIncreasing}
 use Rattle.subnet_view.specs.declared.end_port.EndPort.{EndPort}
 use Rattle.subnet_view.specs.Reading.{Cells, switches}
 use Rattle.lid_assign.specs.Lids.{lids, top_of}
-use Rattle.port_graph.specs.Slopes.{Slope}
 use Rattle.updown_routes.specs.Graph.{graph_of}
-use Rattle.updown_routes.specs.Ranks.{slopes_of}
-use Rattle.lft_blocks.specs.Entries.{home_of_lid, block_count, blocks}
+use Rattle.updown_routes.specs.Routing.{Routing, updown}
+use Rattle.lft_blocks.specs.Entries.{Next, home_of_lid, block_count, blocks}
 
 -- a usable switch and its blocks from 0 on
 pub record SwitchTable : Type 0 where
@@ -21,12 +20,18 @@ pub record PlanValue : Type 0 where
   pub tables : List SwitchTable
 
 -- the table of each of these switches
-abbrev pub tables_of : (ℕ → Option (ℕ × ℕ)) → List Slope → ℕ → List ℕ → List SwitchTable
-tables_of homes slopes count guids = map (λ s. record { guid = s; blocks = blocks homes slopes count s }) guids
+abbrev pub tables_of : (ℕ → Option (ℕ × ℕ)) → Next → ℕ → List ℕ → List SwitchTable
+tables_of homes next count guids = map (λ s. record { guid = s; blocks = blocks homes next count s }) guids
 
--- the plan of a view
+-- the plan of a view by a rule of routing
+abbrev pub plan_by : Routing → Cells → PlanValue
+plan_by rule cells =
+    let given = lids cells in
+    record { given = given; tables = tables_of (home_of_lid cells given) rule.next (block_count (top_of given)) (switches cells) }
+
+-- the plan of a view: up and then down
 abbrev pub plan_of : Cells → PlanValue
-plan_of cells = let given = lids cells in record { given = given; tables = tables_of (home_of_lid cells given) (slopes_of (graph_of cells)) (block_count (top_of given)) (switches cells) }
+plan_of cells = plan_by (updown (graph_of cells)) cells
 
 -- a block of a switch; none where the GUID is no usable switch's, or there is no such block
 abbrev pub block_at : PlanValue → ℕ → ℕ → Option (List ℕ)

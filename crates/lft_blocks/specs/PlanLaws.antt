@@ -5,11 +5,9 @@ use Rattle.subnet_view.specs.declared.end_port.EndPort.{EndPort}
 use Rattle.subnet_view.specs.Reading.{Cells, IsUsable}
 use Rattle.lid_assign.specs.Lids.{IsNoRoom, lids, lid_of, top_of}
 use Rattle.lid_assign.specs.Stability.{IsClaimed, GrowsFrom}
-use Rattle.port_graph.specs.Slopes.{Slope}
-use Rattle.updown_routes.specs.Graph.{graph_of}
-use Rattle.updown_routes.specs.Ranks.{slopes_of}
-use Rattle.lft_blocks.specs.Entries.{home_of_lid, entry, block, block_count, blocks}
-use Rattle.lft_blocks.specs.Plan.{plan_of, block_at}
+use Rattle.updown_routes.specs.Routing.{Routing}
+use Rattle.lft_blocks.specs.Entries.{Next, home_of_lid, entry, block, block_count, blocks}
+use Rattle.lft_blocks.specs.Plan.{plan_by, plan_of, block_at}
 
 -- once the LIDs of a view are claimed, its plan stays
 abbrev pub PlansStay : Type 0
@@ -22,18 +20,19 @@ LidsStayInPlans = (x z : Facts) → ¬ (IsNoRoom (cells_of x)) → ¬ (IsNoRoom 
 
 -- block b has the entry for the LID 64 b + i at the place i
 abbrev pub BlocksHoldEntries : Type 0
-BlocksHoldEntries = (homes : ℕ → Option (ℕ × ℕ)) (slopes : List Slope) (count s b i : ℕ) (ports : List ℕ)
-    → slice_get (blocks homes slopes count s) b ≡ Some ports → i < 64 → slice_get ports i ≡ Some (entry homes slopes s (64 * b + i))
+BlocksHoldEntries = (homes : ℕ → Option (ℕ × ℕ)) (next : Next) (count s b i : ℕ) (ports : List ℕ)
+    → slice_get (blocks homes next count s) b ≡ Some ports → i < 64 → slice_get ports i ≡ Some (entry homes next s (64 * b + i))
 
 -- the GUID is a usable switch's, and the greatest LID is in this block or a later one
 abbrev pub HasBlock : Cells → ℕ → ℕ → Type 0
 HasBlock cells g b = IsUsable cells g × (b < block_count (top_of (lids cells)))
 
 -- block b of the switch g
-abbrev pub block_of : Cells → ℕ → ℕ → List ℕ
-block_of cells g b = block (home_of_lid cells (lids cells)) (slopes_of (graph_of cells)) g b
+abbrev pub block_of : Routing → Cells → ℕ → ℕ → List ℕ
+block_of rule cells g b = block (home_of_lid cells (lids cells)) rule.next g b
 
--- a plan has just these blocks
+-- a plan has just these blocks, by whatever rule
 abbrev pub BlocksAreOfSwitches : Type 0
-BlocksAreOfSwitches = (facts : Facts) (g b : ℕ)
-    → MatchOption (block_at (plan_of (cells_of facts)) g b) (¬ (HasBlock (cells_of facts) g b)) (λ x. HasBlock (cells_of facts) g b × (x ≡ block_of (cells_of facts) g b))
+BlocksAreOfSwitches = (rule : Routing) (facts : Facts) (g b : ℕ)
+    → MatchOption (block_at (plan_by rule (cells_of facts)) g b) (¬ (HasBlock (cells_of facts) g b))
+    (λ x. HasBlock (cells_of facts) g b × (x ≡ block_of rule (cells_of facts) g b))

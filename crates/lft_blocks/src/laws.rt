@@ -1,5 +1,5 @@
 //! The laws of plans.
-ghost use Rattle.lft_blocks.specs.Arrival.{PacketsArriveIfConnected};
+ghost use Rattle.lft_blocks.specs.Arrival.{PacketsArriveByEachRouting, PacketsArriveIfConnected};
 ghost use Rattle.lft_blocks.specs.PlanLaws.{PlansStay, LidsStayInPlans, BlocksHoldEntries, BlocksAreOfSwitches};
 
 /// Where the facts differ from those of a view with room in claims alone, and each end port claims the LID
@@ -23,6 +23,14 @@ pub fn blocks_hold_entries()
 /// it is that switch's.
 pub fn blocks_are_of_switches()
     ensures { BlocksAreOfSwitches }
+{}
+
+/// Where what an end port is joined to is as a view with room says, and holds the plan of that view by a rule of
+/// routing, a packet from each end port there for each LID of the plan is delivered at the end port that owns the
+/// LID, over as many wires between switches as the rule's cost, past no switch twice, and over rising channels.
+/// This hangs on nothing else of the rule.
+pub fn packets_arrive_by_each_routing()
+    ensures { PacketsArriveByEachRouting }
 {}
 
 /// Where a connected fabric is as a view with room says, and holds the plan of that view, a packet

@@ -5,7 +5,7 @@ ghost use Rattle.smp_bytes.specs.Judges.{JudgesButFor};
 ghost use Rattle.lid_assign.specs.LidFault.{is_memory, lid_fault, no_room};
 ghost use Rattle.lid_assign.specs.Lids.{top_of};
 ghost use Rattle.updown_routes.specs.Graph.{graph_of, guids_of};
-ghost use Rattle.updown_routes.specs.Ranks.{slopes_of};
+ghost use Rattle.updown_routes.specs.Routing.{updown};
 ghost use Rattle.lft_blocks.specs.Entries.{home_of_lid, block_count};
 ghost use Rattle.lft_blocks.specs.Arrival.{EveryPacketArrives};
 ghost use Rattle.lft_blocks.specs.Plan.{tables_of, plan_of, block_at, switches_of};
@@ -114,7 +114,7 @@ fn tables_of(
 ) -> Result<Vec<Table>, Refused>
     requires { graph.now ≡ graph_of (cells_of wires.now) }
     ensures { IfOk result (λ tables. tables.items
-        ≡ tables_of (home_of_lid (cells_of wires.now) lids.now) (slopes_of graph.now)
+        ≡ tables_of (home_of_lid (cells_of wires.now) lids.now) (updown graph.now).next
         (block_count (top_of lids.now)) (guids_of graph.now)) }
 {
     let routes = Routes::of(alloc, graph)?;

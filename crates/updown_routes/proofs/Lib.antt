@@ -20,3 +20,4 @@ pub mod PlacedRoutes
 pub mod PartWires
 pub mod Joined
 pub mod RisingChannels
+pub mod Routed

@@ -12,7 +12,7 @@ use Rattle.updown_routes.specs.Crossing.{Crossing}
 use Rattle.updown_routes.specs.Graph.{guids_of, neighbors}
 use Rattle.updown_routes.specs.GraphLaws.{IsGraph, IsSwitch}
 use Rattle.updown_routes.specs.Ranks.{in_one_component, is_before, slopes_of}
-use Rattle.updown_routes.specs.Channels.{component_size, place_of, channel_number, channels_along, ChannelLaw}
+use Rattle.updown_routes.specs.Channels.{component_size, place_of, channel_number, numbers_along, ChannelLaw}
 use Rattle.updown_routes.proofs.Before.{before_trans, not_before_itself, ups_are, downs_are}
 use Rattle.updown_routes.proofs.Components.{walk_joins, joined, component_itself, component_symm, component_trans}
 use Rattle.updown_routes.proofs.Ranks.{before_asymm}
@@ -63,7 +63,7 @@ module _ (graph : List Crossing) (good : IsGraph graph) where
   channel_down a b e = ap (λ t. cond t (component_size graph b - place_of graph b) (component_size graph b + place_of graph b)) (before_asymm graph a b e)
 
   down_rises : (es : List Exit) (m s t : ℕ) → IsSwitch graph s → m ≤ component_size graph s + place_of graph s → Descends slopes s es t
-      → RisesFrom m (channels_along graph s es)
+      → RisesFrom m (numbers_along (channel_number graph) s es)
   down_rises [] m s t hs l d = tt
   down_rises (e ∷ es) m s t hs l d =
       let b = (downs_are graph graph s e d.0).1 in
@@ -78,7 +78,7 @@ module _ (graph : List Crossing) (good : IsGraph graph) where
 
   way_rises : (es downs : List Exit) (m s u t : ℕ) → IsSwitch graph s → m ≤ component_size graph s - place_of graph s → Climbs slopes s es u
       → Descends slopes u downs t
-      → RisesFrom m (channels_along graph s (es ++ downs))
+      → RisesFrom m (numbers_along (channel_number graph) s (es ++ downs))
   way_rises [] downs m s u t hs l c d = down_rises downs m s t hs (omega arith) (subst (λ (x : ℕ). Descends slopes x downs t) (sym c) d)
   way_rises (e ∷ es) downs m s u t hs l c d =
       let b = (ups_are graph graph s e c.0).1 in
@@ -93,8 +93,8 @@ module _ (graph : List Crossing) (good : IsGraph graph) where
 
   -- up and then down
   pub channels_rise : (ups downs : List Exit) (s u t : ℕ) → IsSwitch graph s → Climbs slopes s ups u → Descends slopes u downs t
-      → IsStrictlyIncreasing (channels_along graph s (ups ++ downs))
-  channels_rise ups downs s u t hs c d = risen_from 0 (channels_along graph s (ups ++ downs)) (way_rises ups downs 0 s u t hs (omega arith) c d)
+      → IsStrictlyIncreasing (numbers_along (channel_number graph) s (ups ++ downs))
+  channels_rise ups downs s u t hs c d = risen_from 0 (numbers_along (channel_number graph) s (ups ++ downs)) (way_rises ups downs 0 s u t hs (omega arith) c d)
 
 pub channel_law : ChannelLaw
 channel_law graph good s t n hs w = channels_rise graph good w.ups w.downs s w.summit t hs w.climbs w.descends

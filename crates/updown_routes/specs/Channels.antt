@@ -21,11 +21,11 @@ abbrev pub channel_number : List Crossing → ℕ → ℕ → ℕ
 channel_number graph a b = if is_before graph b a then component_size graph b - place_of graph b else component_size graph b + place_of graph b
 
 -- the numbers of the wires that are taken in turn from a switch
-abbrev pub channels_along : List Crossing → ℕ → List Exit → List ℕ
-channels_along graph s [] = []
-channels_along graph s (e ∷ es) = channel_number graph s e.to ∷ channels_along graph e.to es
+abbrev pub numbers_along : (ℕ → ℕ → ℕ) → ℕ → List Exit → List ℕ
+numbers_along number s [] = []
+numbers_along number s (e ∷ es) = number s e.to ∷ numbers_along number e.to es
 
 -- the channel numbers rise along each way by next ports
 abbrev pub ChannelLaw : Type 0
 ChannelLaw = (graph : List Crossing) → IsGraph graph → (s t n : ℕ) → IsSwitch graph s → (w : Way (slopes_of graph) s t n)
-    → IsStrictlyIncreasing (channels_along graph s (w.ups ++ w.downs))
+    → IsStrictlyIncreasing (numbers_along (channel_number graph) s (w.ups ++ w.downs))

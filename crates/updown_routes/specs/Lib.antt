@@ -5,6 +5,7 @@ pub mod Ranks
 pub mod RankLaws
 pub mod RouteLaws
 pub mod Channels
+pub mod Routing
 pub mod Wiring
 pub mod Order
 pub mod Placed

@@ -2,6 +2,7 @@
 ghost use Rattle.updown_routes.specs.GraphLaws.{GraphLaw, SwitchLaw, ExitLaw};
 ghost use Rattle.updown_routes.specs.RankLaws.{RankLaw, BeforeLaw, SlopeLaw};
 ghost use Rattle.updown_routes.specs.Channels.{ChannelLaw};
+ghost use Rattle.updown_routes.specs.Routing.{UpdownIsRouting};
 ghost use Rattle.updown_routes.specs.RouteLaws.{DownDistanceLaw, CostLaw, CostRecursion, NextPortLaw, WayLaw, NoCostBetween, CostInComponent};
 
 /// What facts give is a graph: its switches stand by rising GUID, each with its exits by rising
@@ -81,4 +82,10 @@ pub fn a_cost_within_a_component()
 /// channels waits for itself.
 pub fn channels_rise_along_ways()
     ensures { ChannelLaw }
+{}
+
+/// So up and down is a rule of routing: within a component it leads from each switch to each other over as many
+/// wires as the cost, no switch comes twice, and channels rise.
+pub fn up_and_down_is_a_routing()
+    ensures { UpdownIsRouting }
 {}

@@ -1,6 +1,6 @@
 -- A part of a fabric that is as the facts say holds their plan, where each end port that is known was reached, and what was
 -- reached holds the plan.
-use Rattle.std.proofs.Common.{◌≡◌, ℕ, ◌≤◌, Bool, true, false, List, refl, sym, ap, ◌∙◌, subst}
+use Rattle.std.proofs.Common.{◌≡◌, ℕ, ◌≤◌, Bool, true, false, List, refl, sym, ap, ◌∙◌, subst, arith}
 use Rattle.std.proofs.lemmas.Bool.{eqb-true}
 use Rattle.std.proofs.lemmas.Option.{same_Some}
 use Rattle.std.specs.Prelude.{Contains, Option, Some, None, MatchBool, slice_get, option_and_then, is_some, ◌==◌}
@@ -23,12 +23,11 @@ use Rattle.subnet_view.proofs.UsableSwitches.{switches_law}
 use Rattle.lid_assign.specs.Lids.{IsNoRoom, lids, lid_of, top_of}
 use Rattle.lid_assign.proofs.LidLaws.{lids_law, ports_apart}
 use Rattle.lid_assign.proofs.Owners.{lid-from_given}
-use Rattle.lid_assign.proofs.Tops.{at_most_top}
 use Rattle.lft_blocks.specs.Arrival.{HoldsBlock, HoldsPlan, HoldsPlanAt}
 use Rattle.lft_blocks.specs.Plan.{SwitchTable, plan_of, block_at, switches_of}
 use Rattle.lft_blocks.specs.Entries.{home_of_lid, block_count, blocks}
 use Rattle.updown_routes.specs.Graph.{graph_of}
-use Rattle.updown_routes.specs.Ranks.{slopes_of}
+use Rattle.updown_routes.specs.Routing.{updown}
 use Rattle.sweep.specs.Sweep.{Sweep}
 use Rattle.sm_laws.specs.Truth.{HasNode}
 use Rattle.written_laws.specs.Written.{IsReached, IsHeldWhere}
@@ -42,7 +41,7 @@ module _ (facts : Facts) where
   table_of : ℕ → SwitchTable
   table_of s = record {
     guid = s;
-    blocks = blocks (home_of_lid (cells_of facts) (lids (cells_of facts))) (slopes_of (graph_of (cells_of facts)))
+    blocks = blocks (home_of_lid (cells_of facts) (lids (cells_of facts))) (updown (graph_of (cells_of facts))).next
         (block_count (top_of (lids (cells_of facts)))) s;
   }
 
@@ -120,10 +119,10 @@ module _ (facts : Facts) (has_room : ¬ (IsNoRoom (cells_of facts))) (part : Par
           ∙ ap (λ k. Some (k, node.ports)) (switch_is node.kind switch) in
           ((switches_law facts).0 node.guid).1 (node.ports, kind, ap is_some (tells.cap switch))
 
-      top_held : top_of (lids (cells_of facts)) ≡ Some (f.top port.node)
-      top_held =
-          let (top, is_top, most) = at_most_top (lids (cells_of facts)) (record { node = node.guid; port = port.port }) given.lid given.there in
-          is_top ∙ ap (λ n. Some n) (sym (held.tops node.guid top port.node node is_top (to_switches facts node.guid usable) reached_switch has))
+      top_held : (top : ℕ) → top_of (lids (cells_of facts)) ≡ Some top → top ≤ f.top port.node
+      top_held top is_top =
+          let same = held.tops node.guid top port.node node is_top (to_switches facts node.guid usable) reached_switch has in
+          omega (arith, same)
 
     blocks_held : (b : ℕ) (block : List ℕ) → block_at (plan_of (cells_of facts)) node.guid b ≡ Some block → HoldsBlock f port.node b block
     blocks_held b block is_block = by_kind (is_switch node.kind) refl

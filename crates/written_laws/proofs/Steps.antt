@@ -26,12 +26,11 @@ use Rattle.lid_assign.proofs.LidLaws.{lids_law}
 use Rattle.lid_assign.proofs.Owners.{given-from_owner, given-from_lid, owners_are_inverse}
 use Rattle.lid_assign.proofs.RisingLids.{rising_lids_law}
 use Rattle.lid_assign.proofs.Tops.{top_below}
-use Rattle.lft_blocks.specs.Entries.{home_of_lid, entry, block, block_count, blocks}
+use Rattle.lft_blocks.specs.Entries.{Next, home_of_lid, entry, block, block_count, blocks}
 use Rattle.lft_blocks.specs.Plan.{PlanValue, SwitchTable, plan_of, block_at, switches_of}
 use Rattle.lft_blocks.proofs.BlockLaws.{made_from}
-use Rattle.port_graph.specs.Slopes.{Slope}
 use Rattle.updown_routes.specs.Graph.{graph_of}
-use Rattle.updown_routes.specs.Ranks.{slopes_of}
+use Rattle.updown_routes.specs.Routing.{updown}
 use Rattle.sweep.specs.Sweep.{Sweep, path_to, seen_state}
 use Rattle.plan_steps.specs.declared.step.Step.{Step}
 use Rattle.plan_steps.specs.Step.{step_at}
@@ -252,8 +251,8 @@ module _ (facts : Facts) (has_room : ¬ (IsNoRoom (cells_of facts))) (sweep : Sw
       homes : ℕ → Option (ℕ × ℕ)
       homes = home_of_lid (cells_of facts) (lids (cells_of facts))
 
-      slopes : List Slope
-      slopes = slopes_of (graph_of (cells_of facts))
+      next : Next
+      next = (updown (graph_of (cells_of facts))).next
 
       n : ℕ
       n = block_count (top_of (lids (cells_of facts)))
@@ -266,19 +265,19 @@ module _ (facts : Facts) (has_room : ¬ (IsNoRoom (cells_of facts))) (sweep : Sw
           let (s, is_switch, same) = contains-from_map
           (λ s. record {
             guid = s;
-            blocks = blocks (home_of_lid (cells_of facts) (lids (cells_of facts))) (slopes_of (graph_of (cells_of facts)))
+            blocks = blocks (home_of_lid (cells_of facts) (lids (cells_of facts))) (updown (graph_of (cells_of facts))).next
                 (block_count (top_of (lids (cells_of facts)))) s;
           })
           (switches (cells_of facts)) table found.0 in
-          let at : slice_get (blocks homes slopes n s) b ≡ Some payload = ap (λ (t : SwitchTable). slice_get t.blocks b) same ∙ h in
-          let within = slice_get_within (blocks homes slopes n s) b payload at in
-          let long = length-map-range_with_len (block homes slopes s) 0 n in
+          let at : slice_get (blocks homes next n s) b ≡ Some payload = ap (λ (t : SwitchTable). slice_get t.blocks b) same ∙ h in
+          let within = slice_get_within (blocks homes next n s) b payload at in
+          let long = length-map-range_with_len (block homes next s) 0 n in
           record {
             switch = subst (Contains (switches_of (plan_of (cells_of facts)))) (eqb-true _ _ found.1)
                 (contains_map (λ (t : SwitchTable). t.guid) (plan_of (cells_of facts)).tables table found.0);
             count = omega (arith, within, long);
-            whole = ap length (made_from (block homes slopes s) 0 n b payload at)
-                ∙ length-map-range_with_len (λ i. entry homes slopes s (64 * (0 + b) + i)) 0 64;
+            whole = ap length (made_from (block homes next s) 0 n b payload at)
+                ∙ length-map-range_with_len (λ i. entry homes next s (64 * (0 + b) + i)) 0 64;
           }
 
   few_blocks : (b : ℕ) → b < block_count (top_of (lids (cells_of facts))) → b < 768

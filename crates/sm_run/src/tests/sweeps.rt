@@ -166,7 +166,7 @@ fn a_path_has_at_most_63_hops(rt: HostRuntime) -> Result<(), Fail> {
 }
 
 /// Fabrics in which a packet is lost or a cable moved, schedules, and what they print.
-const MOVED: [Row; 2] = [
+const MOVED: [Row; 4] = [
     (
         TRIANGLE,
         r#"manager A "H1"[1] 1
@@ -196,6 +196,9 @@ plug "S1"[3] "H2"[1]
 sweep A
 drain 1000
 plan A
+write A
+drain 1000
+ping "H1"[1] 5
 "#,
         "\
 lid 1 0000000000000010/0
@@ -209,9 +212,172 @@ switch 0000000000000020 top 5
 block 0 ff0100020301..
 switch 0000000000000030 top 5
 block 0 ff0102000201..
+ping \"H1\"[1] 5 reached \"H2\"[1] hops 3
+",
+    ),
+    // The manager's own cable moves to another switch.
+    (
+        TRIANGLE,
+        r#"manager A "H1"[1] 1
+sweep A
+drain 1000
+write A
+drain 1000
+cut "H1"[1]
+plug "H1"[1] "S1"[3]
+ping "H2"[1] 4
+sweep A
+drain 1000
+write A
+drain 1000
+plan A
+ping "H1"[1] 5
+ping "H2"[1] 4
+"#,
+        "\
+ping \"H2\"[1] 4 lost \"S2\"
+lid 1 0000000000000010/0
+lid 2 0000000000000020/0
+lid 3 0000000000000030/0
+lid 4 0000000000000100/1
+lid 5 0000000000000200/1
+switch 0000000000000010 top 5
+block 0 ff0001020302..
+switch 0000000000000020 top 5
+block 0 ff0100020102..
+switch 0000000000000030 top 5
+block 0 ff0102000103..
+ping \"H1\"[1] 5 reached \"H2\"[1] hops 3
+ping \"H2\"[1] 4 reached \"H1\"[1] hops 3
+",
+    ),
+    // A switch is replaced by another one at the same cables; the old one keeps its LID, and no way leads there.
+    (
+        SPARE,
+        r#"manager A "H1"[1] 1
+sweep A
+drain 1000
+write A
+drain 1000
+cut "S2"[1]
+cut "S2"[2]
+cut "S2"[3]
+plug "S4"[1] "S1"[1]
+plug "S4"[2] "S3"[2]
+plug "S4"[3] "H1"[1]
+sweep A
+drain 1000
+plan A
+write A
+drain 1000
+ping "H1"[1] 5
+ping "H2"[1] 4
+ping "H1"[1] 6
+ping "H1"[1] 2
+"#,
+        "\
+lid 1 0000000000000010/0
+lid 2 0000000000000020/0
+lid 3 0000000000000030/0
+lid 4 0000000000000100/1
+lid 5 0000000000000200/1
+lid 6 0000000000000025/0
+switch 0000000000000010 top 6
+block 0 ff00ff02010201..
+switch 0000000000000020 top 6
+block 0 ffff00..
+switch 0000000000000025 top 6
+block 0 ff01ff02030200..
+switch 0000000000000030 top 6
+block 0 ff01ff00020302..
+ping \"H1\"[1] 5 reached \"H2\"[1] hops 3
+ping \"H2\"[1] 4 reached \"H1\"[1] hops 3
+ping \"H1\"[1] 6 reached \"S4\"[0] hops 1
+ping \"H1\"[1] 2 lost \"S4\"
 ",
     ),
 ];
+
+/// The triangle with a switch that has no cable.
+const SPARE: &str = r#"Switch 4 "S1" guid 0x10
+[1] "S2"[1]
+[2] "S3"[1]
+Switch 4 "S2" guid 0x20
+[2] "S3"[2]
+[3] "H1"[1]
+Switch 4 "S3" guid 0x30
+[3] "H2"[1]
+Switch 4 "S4" guid 0x25
+Hca 1 "H1" guid 0x100
+Hca 1 "H2" guid 0x200
+"#;
+
+/// The plan of the triangle with the second adapter at the first switch, and pings by it.
+const MOVED_PLAN: &str = "\
+lid 1 0000000000000010/0
+lid 2 0000000000000020/0
+lid 3 0000000000000030/0
+lid 4 0000000000000100/1
+lid 5 0000000000000200/1
+switch 0000000000000010 top 5
+block 0 ff0001020103..
+switch 0000000000000020 top 5
+block 0 ff0100020301..
+switch 0000000000000030 top 5
+block 0 ff0102000201..
+ping \"H1\"[1] 5 reached \"H2\"[1] hops 3
+ping \"H2\"[1] 4 reached \"H1\"[1] hops 3
+";
+
+/// A cable moves after so many deliveries of a writing; what is lost is given up, and the next sweep and
+/// writing mend it.
+fn moving(alloc: Global, k: u32) -> Result<String, Fail> {
+    Ok(format!(in alloc;
+        "\
+manager A \"H1\"[1] 1
+sweep A
+drain 1000
+write A
+drain {k}
+cut \"S3\"[3]
+plug \"S1\"[3] \"H2\"[1]
+drain 1000
+timeout A
+drain 1000
+timeout A
+drain 1000
+timeout A
+drain 1000
+timeout A
+drain 1000
+timeout A
+drain 1000
+sweep A
+drain 1000
+write A
+drain 1000
+plan A
+ping \"H1\"[1] 5
+ping \"H2\"[1] 4
+"
+    )?)
+}
+
+#[test]
+fn a_cable_moves_at_any_moment_of_a_writing(rt: HostRuntime) -> Result<(), Fail> {
+    let alloc = rt.alloc();
+    for k in 0..=120 {
+        let schedule = moving(alloc, k)?;
+        check(
+            &rt,
+            alloc,
+            TRIANGLE.as_bytes(),
+            schedule.as_bytes(),
+            MOVED_PLAN,
+        )?;
+    }
+    Ok(())
+}
 
 #[test]
 fn packets_are_lost_and_cables_moved(rt: HostRuntime) -> Result<(), Fail> {

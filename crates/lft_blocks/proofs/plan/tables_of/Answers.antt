@@ -1,11 +1,10 @@
-use Rattle.std.proofs.Common.{◌≡◌, List, ap, sym, ◌∙◌, subst, length, map}
+use Rattle.std.proofs.Common.{List, ap, sym, ◌∙◌, subst, length, map}
 use Rattle.std.specs.Prelude.{Option}
 use Rattle.std.specs.List.{range_with_len}
 use Rattle.fact_store.specs.View.{cells_of}
-use Rattle.lid_assign.specs.Lids.{top_of}
 use Rattle.updown_routes.specs.Crossing.{Crossing}
 use Rattle.updown_routes.specs.Graph.{guids_of}
-use Rattle.updown_routes.specs.Ranks.{slopes_of}
+use Rattle.updown_routes.specs.Routing.{updown}
 use Rattle.updown_routes.proofs.Switches.{graph_guids}
 use Rattle.lft_blocks.specs.declared.home.Home.{Home}
 use Rattle.lft_blocks.specs.Entries.{home_of_lid, block_count}
@@ -32,4 +31,4 @@ returns c =
     let are = subst (λ (hs : List (Option Home)). ArePlaced guids homes hs) (sym c.deref.ensures.value) c.in_ok-homes.ensures in
     c.in_ok-tables.ensures ∙ ap (λ (g : List Crossing). map (table_in placed g guids count) (range_with_len 0 (length guids))) c.in_ok-routes.ensures
     ∙ sym (tables_same graph guids homes placed count theirs (switches_rise a.wires.now guids usable) are)
-    ∙ (λ i. tables_of homes (slopes_of graph) (counted i) (theirs i))
+    ∙ (λ i. tables_of homes (updown graph).next (counted i) (theirs i))

@@ -3,7 +3,7 @@ use Rattle.fact_store.specs.View.{Facts, cells_of}
 use Rattle.lid_assign.specs.Lids.{top_of}
 use Rattle.lid_assign.proofs.LackOfRoom.{has_room}
 use Rattle.updown_routes.specs.Graph.{graph_of, guids_of}
-use Rattle.updown_routes.specs.Ranks.{slopes_of}
+use Rattle.updown_routes.specs.Routing.{updown}
 use Rattle.updown_routes.proofs.Switches.{graph_guids}
 use Rattle.lft_blocks.specs.Entries.{home_of_lid, block_count}
 use Rattle.lft_blocks.specs.Arrival.{EveryPacketArrives}
@@ -22,8 +22,8 @@ invariant_of-result c =
     let guids = c.into_switches.result.items in
     let given = c.in_ok-graph.ensures ∙ ap (λ (f : Facts). graph_of (cells_of f)) c.in_ok-wires.ensures in
     let theirs = c.into_switches.ensures ∙ ap guids_of given ∙ graph_guids (cells_of facts) in
-    are_tables homes (slopes_of graph) count guids c.in_ok-tables.tables.items (switches_rise facts guids theirs)
-    (c.in_ok-tables.ensures ∙ ap (tables_of homes (slopes_of graph) count) (sym c.into_switches.ensures))
+    are_tables homes (updown graph).next count guids c.in_ok-tables.tables.items (switches_rise facts guids theirs)
+    (c.in_ok-tables.ensures ∙ ap (tables_of homes (updown graph).next count) (sym c.into_switches.ensures))
 
 pub returns-clause-plan : goal.returns-clause-plan
 returns-clause-plan c =
@@ -31,7 +31,7 @@ returns-clause-plan c =
     let lids = c.in_ok-lids.ensures.lids in
     let graph = c.in_ok-graph.ensures ∙ ap (λ (f : Facts). graph_of (cells_of f)) c.in_ok-wires.ensures in
     let guids = ap guids_of graph ∙ graph_guids cells in
-    let tables = c.in_ok-tables.ensures ∙ (λ j. tables_of (home_of_lid (cells_of (c.in_ok-wires.ensures j)) (lids j)) (slopes_of (graph j)) (block_count (top_of (lids j))) (guids j)) in
+    let tables = c.in_ok-tables.ensures ∙ (λ j. tables_of (home_of_lid (cells_of (c.in_ok-wires.ensures j)) (lids j)) (updown (graph j)).next (block_count (top_of (lids j))) (guids j)) in
     λ i. record { given = lids i; tables = tables i }
 
 pub returns-clause-arrives : goal.returns-clause-arrives
