@@ -1,16 +1,13 @@
 -- What is told of a file that ends within a record, and of one with a bad record.
-use Rattle.std.proofs.Common.{◌≡◌, ℕ, ◌+◌, ◌-◌, ◌^◌, List, [], ◌∷◌, ◌++◌, Option, None, Some, Ok, Err, IsOk, length, refl, sym, ap, ◌∙◌, arith}
+use Rattle.std.proofs.Common.{◌≡◌, ◌+◌, ◌-◌, ◌^◌, [], ◌∷◌, ◌++◌, None, Some, length, sym, ap, ◌∙◌, arith}
 use Rattle.std.proofs.Common.{append_assoc, append-nil}
 use Rattle.std.specs.List.{concat}
 use Rattle.std.proofs.lemmas.List.{take_all}
 use Rattle.std.proofs.lemmas.List.Folds.{concat-append}
-use Rattle.fact_store.specs.declared.key.Key.{Key}
-use Rattle.record_file.specs.declared.file_fault.FileFault.{FileFault}
-use Rattle.record_file.specs.declared.format.Format.{Format}
 use Rattle.record_file.specs.Laws.{FirstBadRecordIsTold, TruncationIsTold}
 use Rattle.record_file.specs.RecordFile.{fault_or, first_fault, magic, outcome, record_size}
 use Rattle.record_file.proofs.Records.{AreRecords-more, bytes-more, good_records}
-use Rattle.record_file.proofs.Records.{AreRecords, bytes_of, ending-part, first_fault-good, length-file, outcome-bad, outcome-part}
+use Rattle.record_file.proofs.Records.{bytes_of, ending-part, first_fault-good, length-file, outcome-bad, outcome-part}
 
 pub truncation_is_told : TruncationIsTold
 truncation_is_told format rs part are_good some short fits =

@@ -22,9 +22,9 @@ use Rattle.record_file.proofs.Beginnings.{Ends, Found, bad-stays, format-long, f
 use Rattle.record_file.proofs.Beginnings.{well, within}
 use Rattle.record_file.proofs.Beginnings as first
 use Rattle.record_file.proofs.Formats.{format-more, front-magic, format_found, judged-bad}
-use Rattle.record_file.proofs.Records.{AreRecords, AreRecords-more, Sightings, bytes-more, bytes_of, ending-long, ending-part, ending-whole, fault_in-part, file, file-record}
+use Rattle.record_file.proofs.Records.{AreRecords-more, Sightings, bytes-more, bytes_of, ending-long, ending-part, ending-whole, fault_in-part, file, file-record}
 use Rattle.record_file.proofs.Records.{format_of-magic}
-use Rattle.record_file.proofs.Records.{first_fault-good, good-more, good_records, kept-bad, kept-part, last_key-more, length-file, length-magic, length-more}
+use Rattle.record_file.proofs.Records.{first_fault-good, good-more, good_records, kept-bad, kept-part, last_key-more, length-file, length-more}
 use Rattle.record_file.proofs.Records.{outcome-bad, outcome-part, size-positive, told_by-good}
 use Rattle.record_file.proofs.Stores.{merge-both, merge-nothing}
 
@@ -60,8 +60,7 @@ module _ (format : Format) (index : ℕ) (last : Option Key) (part fed : List �
   pub fault_in-behind : length fed ≤ 2 ^ 40 → (format_of fed ≡ Some format) × (fault_in format fed ≡ None)
   fault_in-behind fits =
       let size = length-behind in
-      let good = good_records format None 0 b.records b.good in
-      (
+      let good = good_records format None 0 b.records b.good in (
         ap format_of b.whole ∙ format_of-magic format (concat b.records ++ part),
         ap (fault_in format) b.whole ∙ fault_in-part format b.records part part good.0 (omega arith) good.1
             (take_all (2 ^ 40 - bytes_of format (length b.records)) part (omega arith)) b.short,
@@ -263,8 +262,7 @@ takes-part (awaited.Record format index last) part q fed s b short fits =
     ap (λ l. l ++ q) b.whole ∙ append_assoc (magic format) (concat b.records ++ part) q
     ∙ ap (λ l. magic format ++ l) (append_assoc (concat b.records) part q) in
     let next : IsBehindRecords format index last (part ++ q) (fed ++ q) =
-    record { records = b.records; whole = whole; good = b.good; count = b.count; key = b.key; short = short } in
-    (
+    record { records = b.records; whole = whole; good = b.good; count = b.count; key = b.key; short = short } in (
       next,
       nothing-told fed q s
           (kept-behind format index last (part ++ q) (fed ++ q) next fits
@@ -285,8 +283,7 @@ takes-magic part q fed s same short long (Some format) some =
     let whole : fed ++ q ≡ part ++ q = ap (λ l. l ++ q) same in
     let is : fed ++ q ≡ magic format = whole ∙ front-magic (part ++ q) format (omega arith) (format_found (part ++ q) format (sym some)) in
     let next : IsBehindRecords format 0 None [] (fed ++ q) =
-    record { records = []; whole = is ∙ sym (append-nil (magic format)); good = tt; count = refl; key = refl; short = size-positive format } in
-    (
+    record { records = []; whole = is ∙ sym (append-nil (magic format)); good = tt; count = refl; key = refl; short = size-positive format } in (
       next,
       nothing-told fed q s
           (kept-behind format 0 None [] (fed ++ q) next (omega (arith, ap length whole)) ∙ sym (kept-short fed (omega (arith, ap length same)))),
@@ -505,8 +502,7 @@ pub piece-next : (w : Awaited) (part piece : List ℕ) (k : ℕ) (rest : List �
     → TakesSome mid part' rest next n part'' m t
     → (front : List ℕ) × (take k piece ≡ front ++ take (length rest - n) (drop n rest)) × TakesPiece w part front (Ok next) part'' s t
 piece-next w part piece k rest mid part' next n part'' s m t (front, split, a) b =
-    let P : List ℕ → Type 0 = λ l. TakesPiece w part l (Ok next) part'' s t in
-    (
+    let P : List ℕ → Type 0 = λ l. TakesPiece w part l (Ok next) part'' s t in (
       front ++ take n rest,
       split ∙ ap (λ l. front ++ l) (sym (take-append-drop n rest)) ∙ sym (append_assoc front (take n rest) (drop n rest))
           ∙ ap (λ l. (front ++ take n rest) ++ l) (sym (take_rest rest n)),

@@ -1,5 +1,5 @@
 -- Reading a source whole, piece after piece.
-use Rattle.std.proofs.Common.{◌≡◌, ◌⊎◌, inl, inr, ℕ, ◌<◌, ◌≤◌, ◌+◌, ◌^◌, List, ◌++◌, Err, length, take, arith}
+use Rattle.std.proofs.Common.{◌≡◌, ◌⊎◌, inl, inr, ℕ, ◌<◌, ◌+◌, ◌^◌, List, ◌++◌, Err, length, take, arith}
 use Rattle.std.specs.Io.KnownBytes.{Consumes}
 use Rattle.record_file.specs.declared.file_fault.FileFault.{FileFault}
 use Rattle.record_file.specs.declared.stream.reading.PieceFault.{PieceFault}

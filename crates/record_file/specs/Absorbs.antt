@@ -15,10 +15,11 @@ AbsorbsJudged (Ok told) index (Ok key) old new = new ≡ merge old (view told)
 AbsorbsJudged (Ok told) index (Err f) old new = (f ≡ Memory) × (new ≡ old)
 AbsorbsJudged (Err fault) index result old new = (result ≡ Err (fault index)) × (new ≡ old)
 
--- behind good records there is one for which there was no memory; the store holds what those before it tell
+-- behind good records there is one for which there was no memory, which ends within the last 4096 bytes; the store holds what those before it tell
 pub record HoldsAllBefore (format : Format) (old new : Facts) (taken : List ℕ) (records : List (List ℕ)) (r behind : List ℕ) : Type 0 where
   pub whole : taken ≡ magic format ++ (concat records ++ (r ++ behind))
   pub good : AreGoodRecords format None (records ++ r ∷ [])
+  pub near : length behind < 4096
   pub held : new ≡ merge old (view (kept (magic format ++ concat records)))
 
 -- what the taken bytes keep was merged into the store; for want of memory what the records before the one that wanted it keep
@@ -38,6 +39,14 @@ AnswersOutcome (Err f) bytes interrupted = outcome bytes ≡ Err f
 -- a magic is still to come, or there is one with nothing but good records behind it so far
 abbrev pub HasNoFaultYet : List ℕ → Type 0
 HasNoFaultYet taken = (length taken < 8) ⊎ ((format : Format) × (format_of taken ≡ Some format) × (fault_in format taken ≡ None))
+
+-- no fault ends before the last 4096 bytes
+pub record HasNoFaultBefore (taken : List ℕ) : Type 0 where
+  pub front : List ℕ
+  pub behind : List ℕ
+  pub split : taken ≡ front ++ behind
+  pub near : length behind < 4096
+  pub good : HasNoFaultYet front
 
 -- where the answer depends on what else the source has, it has nothing else; where reading stopped early, no fault came first
 abbrev pub IsDecided : Result (Unit {0}) FileFault → List ℕ → Type 0 → Type 0

@@ -13,7 +13,7 @@ use Rattle.record_file.specs.declared.file_fault.FileFault.{FileFault}
 use Rattle.record_file.specs.declared.file_fault.FileFault.TheVariants.{Magic, Truncated, Memory}
 use Rattle.record_file.specs.declared.format.Format.{Format}
 use Rattle.record_file.specs.Absorbs.{AbsorbsJudged}
-use Rattle.record_file.specs.RecordFile.{AreGoodRecords, format_of, judged, kept, key_in, last_key, magic, outcome, record_size, told_by}
+use Rattle.record_file.specs.RecordFile.{AreGoodRecords, format_of, judged, kept, key_in, last_key, magic, outcome, record_size}
 
 -- what an absorber waits for, or the fault that it stopped with; and the bytes of the awaited that came
 pub record Absorbing : Type 0 where

@@ -67,11 +67,7 @@ impl<'s, S: Source> Reading<'s, S> {
 }
 
 /// One call, which reads at most so many bytes into the front of the room.
-fn read_front<S: Source>(
-    source: &mut S,
-    room: &mut [u8],
-    most: usize,
-) -> Result<usize, ReadError>
+fn read_front<S: Source>(source: &mut S, room: &mut [u8], most: usize) -> Result<usize, ReadError>
     requires { most ≤ length room.old }
     ensures within { IfOk result (λ n. n ≤ most) }
     ensures bytes { IfOk result (λ n.

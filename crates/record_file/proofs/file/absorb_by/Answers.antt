@@ -1,9 +1,8 @@
-use Rattle.std.proofs.Common.{◌≡◌, ◌<◌, ℕ, List, [], Ok, Err, take, refl, sym, ◌∙◌, subst, arith}
+use Rattle.std.proofs.Common.{◌≤◌, [], Err, refl, sym, ◌∙◌, subst, arith}
 use Rattle.std.proofs.lemmas.Result.{err_from_is_err_and}
 use Rattle.record_file.specs.Absorbs.{Absorbs}
 use Rattle.record_file.specs.PieceFault.{file_fault_of}
 use Rattle.record_file.specs.Reading.{ReadingState, state_of}
-use Rattle.record_file.specs.declared.file_fault.FileFault.TheVariants.{Read}
 use Rattle.record_file.proofs.AbsorbLemmas.{Progress, Progress-piece, absorbs-end, absorbs-refused, absorbs-stopped, nothing-read}
 use Rattle.record_file.proofs.Beginnings.{answers-known}
 use Rattle.record_file.proofs.Readings.{IsWithin, fresh, none-taken, state_of-fresh}
@@ -81,6 +80,7 @@ loop-count-preserved g c =
 
 pub returns-in_err-feed-clause-read : goal.returns-in_err-feed-clause-read
 returns-in_err-feed-clause-read g c =
+    let least : c.in_ok-count.count ≤ 4096 = let fits = c.in_ok-count.ensures.gives.within in let most = c.requires.most in grind (arith, fits, most) in
     let p = err_from_is_err_and c.from_residual-in_err-feed.result c.from_residual-in_err-feed.ensures.1 in
     let old : ReadingState = fresh g.S.Source.left g.S.Source.has_failed g.S.Source.interruptions c.args.source.now in
     let mid : ReadingState = state_of g.S.Source.left g.S.Source.has_failed g.S.Source.interruptions c.loop-count.reading in
@@ -89,11 +89,12 @@ returns-in_err-feed-clause-read g c =
     let inside : IsWithin now = (c.piece.new.self.budget.bytes_in_range, c.piece.new.self.budget.calls_in_range) in
     let gives = c.in_ok-count.ensures.gives in
     let other = (absorbs-refused old mid now c.loop-count.absorber _ _ _ so_far.0 c.in_ok-count.count c.piece.new.room c.feed.new.self _ so_far.1 (refl, refl) inside
-    gives (omega (arith, c.if-count-eq0.false)) c.in_err-feed.ensures.feeds).1 in
+    gives (omega (arith, c.if-count-eq0.false)) least c.in_err-feed.ensures.feeds).1 in
     let works = gives.works in rw (p.1, p.2) (grind (arith, other, works))
 
 pub returns-in_err-feed-clause-absorbs : goal.returns-in_err-feed-clause-absorbs
 returns-in_err-feed-clause-absorbs g c =
+    let least : c.in_ok-count.count ≤ 4096 = let fits = c.in_ok-count.ensures.gives.within in let most = c.requires.most in grind (arith, fits, most) in
     let p = err_from_is_err_and c.from_residual-in_err-feed.result c.from_residual-in_err-feed.ensures.1 in
     let old : ReadingState = fresh g.S.Source.left g.S.Source.has_failed g.S.Source.interruptions c.args.source.now in
     let mid : ReadingState = state_of g.S.Source.left g.S.Source.has_failed g.S.Source.interruptions c.loop-count.reading in
@@ -103,7 +104,7 @@ returns-in_err-feed-clause-absorbs g c =
     let is : Absorbs g.S.Source.left g.S.Source.interruptions
     (Err c.in_err-feed.field-0.0) c.args.source.now c.piece.new.self.source.now c.args.store.now c.feed.new.store =
     (absorbs-refused old mid now c.loop-count.absorber _ _ _ so_far.0 c.in_ok-count.count c.piece.new.room c.feed.new.self _ so_far.1 (refl, refl) inside
-    c.in_ok-count.ensures.gives (omega (arith, c.if-count-eq0.false)) c.in_err-feed.ensures.feeds).0 in
+    c.in_ok-count.ensures.gives (omega (arith, c.if-count-eq0.false)) least c.in_err-feed.ensures.feeds).0 in
     rw (p.1, p.2) (grind (arith, is))
 
 pub returns-in_err-feed-clause-known : goal.returns-in_err-feed-clause-known

@@ -1,4 +1,4 @@
-use Rattle.std.proofs.Common.{◌≡◌, ◌-◌, ◌^◌, ℕ, List, length}
+use Rattle.std.proofs.Common.{◌≡◌, ◌-◌, ◌^◌, ℕ, List}
 use Rattle.record_file.specs.Reading.{state_of}
 use Rattle.record_file.proofs.AbsorbLemmas.{Progress}
 use Rattle.record_file.proofs.Readings.{fresh}

@@ -1,4 +1,4 @@
-use Rattle.std.proofs.Common.{◌≡◌, ◌<◌, ◌++◌, ◌⊎◌, inl, inr, Ok, Err, take, refl, arith}
+use Rattle.std.proofs.Common.{refl, arith}
 use Rattle.record_file.specs.Reading.{ReadingState, state_of}
 use Rattle.record_file.specs.Whole.{FailsToRead}
 use Rattle.record_file.specs.declared.file_fault.FileFault.TheVariants.{Memory, TooLong}

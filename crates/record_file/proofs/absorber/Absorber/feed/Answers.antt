@@ -1,5 +1,5 @@
-use Rattle.std.proofs.Common.{◌≡◌, Ok, refl, sym, ap, ◌∙◌, subst}
-use Rattle.record_file.specs.Feeding.{Absorbing, FeedsPiece}
+use Rattle.std.proofs.Common.{◌≡◌, refl, sym, ap, ◌∙◌}
+use Rattle.record_file.specs.Feeding.{Absorbing}
 use Rattle.record_file.proofs.Absorbers.{answer_of, feeds}
 use Rattle.record_file.proofs.absorber.Absorber.feed.Goals.{in-Ok-awaited, in-Err-awaited}
 use Rattle.record_file.proofs.absorber.Absorber.feed.Goals as goal
