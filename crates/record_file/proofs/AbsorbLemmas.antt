@@ -19,7 +19,7 @@ use Rattle.record_file.specs.Laws.{IsBadRecord}
 use Rattle.record_file.specs.PieceFault.{file_fault_of}
 use Rattle.record_file.specs.Reading.{GivesAt, GivesPiece, ReadingState}
 use Rattle.record_file.specs.RecordFile.{kept, magic, outcome, record_size}
-use Rattle.record_file.proofs.Pieces.{fault_in-behind, kept-short, length-awaits, outcome-cut, outcome-magic, outcome-whole, so_far-late, stays}
+use Rattle.record_file.proofs.Pieces.{fault_in-behind, held-then, kept-short, length-awaits, outcome-cut, outcome-magic, outcome-whole, so_far-late, stays}
 use Rattle.record_file.proofs.Pieces.{takes-part}
 use Rattle.record_file.proofs.Readings.{HasTaken, IsAnswered-trans, IsFresh, IsWithin, Takes-on, Takes-trans, EachCallTakes-trans, below, counted, most}
 use Rattle.record_file.proofs.Readings.{piece-taken}
@@ -186,11 +186,6 @@ bounded-bad TooLong n k j bad h w = absurd bad
 -- it is neither of these
 other-bad : (f g : FileFault) → IsBadRecord f → (IsBadRecord g → ⊥) → f ≡ g → ⊥
 other-bad f g bad not same = let P : FileFault → Type 0 = IsBadRecord in not (subst P same bad)
-
-held-then : (old mid new : Facts) (taken bytes : List ℕ) → mid ≡ merge old (view (kept taken)) → AddsTold taken bytes mid new
-    → new ≡ merge old (view (kept (taken ++ bytes)))
-held-then old mid new taken bytes held h =
-    h.held ∙ ap (λ x. merge x (view h.told)) held ∙ merge-both old (kept taken) h.told ∙ ap (λ l. merge old (view l)) (sym h.more)
 
 behind-length : (format : Format) (records : List (List ℕ)) (r behind : List ℕ)
     → length (magic format ++ (concat records ++ (r ++ behind))) ≡ length (magic format ++ (concat records ++ r)) + length behind

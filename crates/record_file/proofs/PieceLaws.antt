@@ -8,7 +8,7 @@ use Rattle.record_file.specs.declared.file_fault.FileFault.TheVariants.{Memory}
 use Rattle.record_file.specs.Feeding.{Absorbing, AddsTold, FeedsBehind, FeedsPiece, Finishes, HasStopped, WasFed, fault_so_far}
 use Rattle.record_file.specs.PieceLaws.{CutsChangeNothing, FeedsEach, PiecesAreRead}
 use Rattle.record_file.specs.RecordFile.{kept, outcome}
-use Rattle.record_file.proofs.Pieces.{kept-short, stays}
+use Rattle.record_file.proofs.Pieces.{held-then, kept-short, stays}
 use Rattle.record_file.proofs.Stores.{merge-both, merge-nothing}
 
 -- the absorber goes on behind these bytes, or stopped with their fault
@@ -20,17 +20,12 @@ pub record Stands (a : Absorbing) (fed : List ℕ) (old new : Facts) : Type 0 wh
   pub at : IsAt a fed
   pub held : new ≡ merge old (view (kept fed))
 
-added : (fed piece : List ℕ) (old mid new : Facts) → mid ≡ merge old (view (kept fed)) → AddsTold fed piece mid new
-    → new ≡ merge old (view (kept (fed ++ piece)))
-added fed piece old mid new held h =
-    h.held ∙ ap (λ x. merge x (view h.told)) held ∙ merge-both old (kept fed) h.told ∙ ap (λ l. merge old (view l)) (sym h.more)
-
 goes_on : (fed piece : List ℕ) (answer : Result (Unit {0}) FileFault) (b : Absorbing) (old mid new : Facts) → mid ≡ merge old (view (kept fed))
     → FeedsBehind fed piece answer b mid new → (answer ≡ Err Memory → ⊥) → Stands b (fed ++ piece) old new
-goes_on fed piece (Ok u) b old mid new held h ample = record { at = inl h.0; held = added fed piece old mid new held h.2 }
+goes_on fed piece (Ok u) b old mid new held h ample = record { at = inl h.0; held = held-then old mid new fed piece held h.2 }
 goes_on fed piece (Err fault) b old mid new held (stopped, inl wants) ample = absurd (ample (ap (λ f. Err f) wants.0))
 goes_on fed piece (Err fault) b old mid new held (stopped, inr told) ample =
-    record { at = inr (fault, stopped, told.0); held = added fed piece old mid new held told.1 }
+    record { at = inr (fault, stopped, told.0); held = held-then old mid new fed piece held told.1 }
 
 step : (a b : Absorbing) (fed piece : List ℕ) (answer : Result (Unit {0}) FileFault) (old mid new : Facts) → Stands a fed old mid
     → FeedsPiece a piece answer b mid new → (answer ≡ Err Memory → ⊥) → Stands b (fed ++ piece) old new

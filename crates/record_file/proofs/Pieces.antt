@@ -185,6 +185,12 @@ told-then fed p q s m t a b = record {
   held = b.held ∙ ap (λ x. merge x (view b.told)) a.held ∙ merge-both s a.told b.told;
 }
 
+-- the store holds what all bytes keep
+pub held-then : (old mid new : Facts) (taken bytes : List ℕ) → mid ≡ merge old (view (kept taken)) → AddsTold taken bytes mid new
+    → new ≡ merge old (view (kept (taken ++ bytes)))
+held-then old mid new taken bytes held h =
+    h.held ∙ ap (λ x. merge x (view h.told)) held ∙ merge-both old (kept taken) h.told ∙ ap (λ l. merge old (view l)) (sym h.more)
+
 wants-then : (fed p q : List ℕ) (s m t : Facts) → AddsTold fed p s m → WantsMemory (fed ++ p) q m t → WantsMemory fed (p ++ q) s t
 wants-then fed p q s m t a b = record {
   format = b.format;

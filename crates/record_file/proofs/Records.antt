@@ -28,10 +28,6 @@ pub size-positive : (format : Format) → 0 < record_size format
 size-positive Reports = omega arith
 size-positive Cells = omega arith
 
-pub size-short : (format : Format) → record_size format ≤ 272
-size-short Reports = omega arith
-size-short Cells = omega arith
-
 pub length-magic : (format : Format) → length (magic format) ≡ 8
 length-magic Reports = refl
 length-magic Cells = refl
@@ -267,11 +263,6 @@ pub length-wanted : (format : Format) (rs : List (List ℕ)) (r : List ℕ) → 
 length-wanted format rs r good =
     let is = ap length (sym (file-record format rs r)) in
     let size = length-file format (rs ++ r ∷ []) [] (good_records format None 0 (rs ++ r ∷ []) good).0 in omega arith
-
--- a good record more has no fault
-pub none-more : (format : Format) (rs : List (List ℕ)) (r : List ℕ) (told : Sightings) → first_fault format None 0 rs ≡ None
-    → judged format (last_key format None rs) r ≡ Ok told → first_fault format None 0 (rs ++ r ∷ []) ≡ None
-none-more format rs r told none good = first_fault-good format None 0 rs (r ∷ []) none ∙ ap (λ v. fault_or (0 + length rs) v None) good
 
 -- records never end at the last byte that is read
 pub not_at_end : (format : Format) (n : ℕ) → bytes_of format n ≡ 2 ^ 40 → ⊥
