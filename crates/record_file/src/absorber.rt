@@ -1,6 +1,6 @@
 //! A file that comes in pieces.
-ghost use Rattle.std.specs.Prelude.{◌≡◌, ◌+◌, ◌<◌, ◌≤◌, ◌^◌, [], length, IfOk};
-ghost use Rattle.record_file.specs.Feeding.{Absorbing, FeedsPiece, Finishes, WasFed, IsInReach, IsShortOf, TakesFront, TakesPiece, awaited_size, place_of};
+ghost use Rattle.std.specs.Prelude.{◌≡◌, ◌+◌, ◌<◌, ◌≤◌, ◌^◌, [], length};
+ghost use Rattle.record_file.specs.Feeding.{Absorbing, FeedsPiece, Finishes, WasFed, IsInReach, IsShortOf, TakesFront, TakesPiece, place_of};
 
 use crate::awaited::Awaited;
 use crate::file_fault::FileFault;
