@@ -22,7 +22,7 @@ length-first_records : (size n : ℕ) (x : List ℕ) → length (first_records s
 length-first_records size zero x = refl
 length-first_records size (suc n) x = ap suc (length-first_records size n (drop size x))
 
-nothing : (x : List ℕ) → length x ≡ 0 → x ≡ []
+pub nothing : (x : List ℕ) → length x ≡ 0 → x ≡ []
 nothing [] h = refl
 nothing (b ∷ x) h = absurd (omega arith)
 

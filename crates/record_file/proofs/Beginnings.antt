@@ -55,7 +55,7 @@ drop-more zero x y h = refl
 drop-more (suc n) [] y h = absurd (omega arith)
 drop-more (suc n) (b ∷ x) y h = drop-more n x y (omega arith)
 
-records_in_reach-more : (format : Format) (a rest : List ℕ) → 8 ≤ length a
+pub records_in_reach-more : (format : Format) (a rest : List ℕ) → 8 ≤ length a
     → (more : List (List ℕ)) × (records_in_reach format (a ++ rest) ≡ records_in_reach format a ++ more)
 records_in_reach-more format a rest long =
     let w = record_size format in
@@ -102,15 +102,15 @@ pub data Found (a : List ℕ) : Result (Unit {0}) FileFault → Type 0 where
   ended : (format : Format) → format_of a ≡ Some format → fault_in format a ≡ None → (e : Result (Unit {0}) FileFault) → Ends (record_size format) (length a) e
       → Found a e
 
-outcome-other : (a : List ℕ) → format_of a ≡ None → outcome a ≡ Err Magic
+pub outcome-other : (a : List ℕ) → format_of a ≡ None → outcome a ≡ Err Magic
 unfolding outcome
 outcome-other a h = ap (λ o. outcome_as o a) h
 
-outcome-some : (format : Format) (a : List ℕ) → format_of a ≡ Some format → outcome a ≡ fault_first (fault_in format a) (ending (record_size format) (length a))
+pub outcome-some : (format : Format) (a : List ℕ) → format_of a ≡ Some format → outcome a ≡ fault_first (fault_in format a) (ending (record_size format) (length a))
 unfolding outcome
 outcome-some format a h = ap (λ o. outcome_as o a) h
 
-kept-some : (format : Format) (a : List ℕ) → format_of a ≡ Some format → kept a ≡ told_by format None (records_in_reach format a)
+pub kept-some : (format : Format) (a : List ℕ) → format_of a ≡ Some format → kept a ≡ told_by format None (records_in_reach format a)
 unfolding kept
 kept-some format a h = ap (λ o. kept_as o a) h
 
@@ -146,7 +146,7 @@ bad_found a _ f (ended format h none _ (well short even)) e is_bad = absurd (cc)
 bad_found a _ f (ended format h none _ (within offset)) e is_bad = absurd (not_bad f (Truncated offset) is_bad (cc) (λ no. no))
 bad_found a _ f (ended format h none _ (late long)) e is_bad = absurd (not_bad f TooLong is_bad (cc) (λ no. no))
 
-late_found : (a : List ℕ) (o : Result (Unit {0}) FileFault) → Found a o → o ≡ Err TooLong
+pub late_found : (a : List ℕ) (o : Result (Unit {0}) FileFault) → Found a o → o ≡ Err TooLong
     → (format : Format) × (format_of a ≡ Some format) × (fault_in format a ≡ None) × (2 ^ 40 ≤ length a)
 late_found a _ (other h) e = absurd (cc)
 late_found a _ (bad format h f is_bad some) e = absurd (not_bad f TooLong is_bad (cc) (λ no. no))
@@ -162,7 +162,11 @@ well_found a _ (ended format h none _ (well short even)) e = (format, h, none, s
 well_found a _ (ended format h none _ (within offset)) e = absurd (cc)
 well_found a _ (ended format h none _ (late long)) e = absurd (cc)
 
-format-long : (format : Format) (a : List ℕ) → format_of a ≡ Some format → 8 ≤ length a
+pub kept-other : (a : List ℕ) → format_of a ≡ None → kept a ≡ []
+unfolding kept
+kept-other a h = ap (λ o. kept_as o a) h
+
+pub format-long : (format : Format) (a : List ℕ) → format_of a ≡ Some format → 8 ≤ length a
 format-long format a h =
     let whole = whole_of a format h in
     let size : length a ≡ 8 + length (drop 8 a) = ap length whole ∙ length-append (magic format) (drop 8 a)
@@ -247,4 +251,12 @@ kept-stays a rest f is_bad h =
     kept-some format (a ++ rest) (format-more a rest long ∙ was.1)
     ∙ ap (told_by format None) more.1
     ∙ told_by-bad format None 0 (records_in_reach format a) more.0 f was.2
+    ∙ sym (kept-some format a was.1)
+
+pub kept-long : (a rest : List ℕ) → outcome a ≡ Err TooLong → kept (a ++ rest) ≡ kept a
+kept-long a rest h =
+    let was = late_found a (outcome a) (found a) h in
+    let format = was.0 in
+    kept-some format (a ++ rest) (format-more a rest (format-long format a was.1) ∙ was.1)
+    ∙ ap (λ l. told_by format None (records (record_size format) (drop 8 l))) (take-append-le (2 ^ 40) a rest was.3)
     ∙ sym (kept-some format a was.1)

@@ -28,19 +28,3 @@ Consumes-trans None b c bs cs p q = tt
 Consumes-trans (Some x) None c bs cs p q = absurd p
 Consumes-trans (Some x) (Some y) None bs cs p q = absurd q
 Consumes-trans (Some x) (Some y) (Some z) bs cs p q = p ∙ ap (λ l. bs ++ l) q ∙ sym (append_assoc bs cs z)
-
--- the front of a buffer, and the bytes that were read behind it
-pub take_part : (buffer room back : List ℕ) (filled n : ℕ) → filled ≤ length buffer → n ≤ length room
-    → take (filled + n) (take filled buffer ++ (room ++ back)) ≡ take filled buffer ++ take n room
-take_part buffer room back filled n front_fits fits =
-    ap (λ m. take (m + n) (take filled buffer ++ (room ++ back))) (sym (length-take-le filled buffer front_fits))
-    ∙ take-append-add (take filled buffer) (room ++ back) n
-    ∙ ap (λ l. take filled buffer ++ l) (take-append-le n room back fits)
-
-pub read_part : {E : Type 0} (r : Result ℕ E) (old new : Option (List ℕ)) (buffer room back : List ℕ) (filled : ℕ) → filled ≤ length buffer
-    → IfOk r (λ n. n ≤ length room) → ReadConsumes old new r room
-    → IfOk r (λ n. (piece : List ℕ) × (length piece ≡ n) × Consumes old new piece ×
-    (take (filled + n) (take filled buffer ++ (room ++ back)) ≡ take filled buffer ++ piece))
-read_part (Ok n) old new buffer room back filled fits within read =
-    (take n room, length-take-le n room within, read.0, take_part buffer room back filled n fits within)
-read_part (Err e) old new buffer room back filled fits within read = tt

@@ -1,38 +1,24 @@
 -- What is told of a file that ends within a record, and of one with a bad record.
-use Rattle.std.proofs.Common.{◌≡◌, ℕ, ◌+◌, ◌-◌, ◌^◌, List, [], ◌∷◌, ◌++◌, Option, None, Some, Ok, Err, IsOk, length, refl, sym, ap, ◌∙◌, arith}
+use Rattle.std.proofs.Common.{◌≡◌, ◌+◌, ◌-◌, ◌^◌, [], ◌∷◌, ◌++◌, None, Some, length, sym, ap, ◌∙◌, arith}
 use Rattle.std.proofs.Common.{append_assoc, append-nil}
 use Rattle.std.specs.List.{concat}
 use Rattle.std.proofs.lemmas.List.{take_all}
 use Rattle.std.proofs.lemmas.List.Folds.{concat-append}
-use Rattle.fact_store.specs.declared.key.Key.{Key}
-use Rattle.record_file.specs.declared.file_fault.FileFault.{FileFault}
-use Rattle.record_file.specs.declared.format.Format.{Format}
-use Rattle.record_file.specs.Laws.{AreGoodRecords, FirstBadRecordIsTold, TruncationIsTold}
-use Rattle.record_file.specs.RecordFile.{Judgement, fault_or, first_fault, judged, key_in, magic, outcome, record_size}
-use Rattle.record_file.proofs.AbsorbLemmas.{AreRecords-more, bytes-more}
-use Rattle.record_file.proofs.Records.{AreRecords, bytes_of, ending-part, first_fault-good, length-file, outcome-bad, outcome-part}
-
-no_fault_or : (v : Judgement) (i : ℕ) (later : Option FileFault) → IsOk v → later ≡ None → fault_or i v later ≡ None
-no_fault_or (Ok told) i later h none = none
-no_fault_or (Err f) i later h none = absurd (cc)
-
-good : (format : Format) (last : Option Key) (i : ℕ) (rs : List (List ℕ)) → AreGoodRecords format last rs
-    → AreRecords (record_size format) rs × (first_fault format last i rs ≡ None)
-good format last i [] h = (tt, refl)
-good format last i (r ∷ rs) h =
-    let later = good format (key_in format r) (i + 1) rs h.2 in
-    ((h.0, later.0), no_fault_or (judged format last r) i (first_fault format (key_in format r) (i + 1) rs) h.1 later.1)
+use Rattle.record_file.specs.Laws.{FirstBadRecordIsTold, TruncationIsTold}
+use Rattle.record_file.specs.RecordFile.{fault_or, first_fault, magic, outcome, record_size}
+use Rattle.record_file.proofs.Records.{AreRecords-more, bytes-more, good_records}
+use Rattle.record_file.proofs.Records.{bytes_of, ending-part, first_fault-good, length-file, outcome-bad, outcome-part}
 
 pub truncation_is_told : TruncationIsTold
 truncation_is_told format rs part are_good some short fits =
-    let g = good format None 0 rs are_good in
+    let g = good_records format None 0 rs are_good in
     let size = length-file format rs part g.0 in
     outcome-part format rs part part g.0 (omega arith) g.1 (take_all (2 ^ 40 - bytes_of format (length rs)) part (omega arith)) short
     ∙ ending-part (record_size format) (length rs) (length part) (length (magic format ++ (concat rs ++ part))) (omega arith) some short fits
 
 pub first_bad_record_is_told : FirstBadRecordIsTold
 first_bad_record_is_told format rs r rest f are_good whole bad fits =
-    let g = good format None 0 rs are_good in
+    let g = good_records format None 0 rs are_good in
     let size = length-file format rs r g.0 in
     let more = bytes-more format rs r in
     let found : first_fault format None 0 (rs ++ r ∷ []) ≡ Some (f (length rs)) = first_fault-good format None 0 rs (r ∷ []) g.1

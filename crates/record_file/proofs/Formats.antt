@@ -52,10 +52,6 @@ pub front-magic : (front : List ℕ) (format : Format) → length front ≤ 8 �
 front-magic front format short h =
     starts_magic front format h ∙ ap (λ l. magic format ++ l) (drop_all 8 front short) ∙ append-nil (magic format)
 
--- so few bytes of a format are eight
-pub length-format : (front : List ℕ) (format : Format) → length front ≤ 8 → Some format ≡ format_of front → length front ≡ 8
-length-format front format short found = ap length (front-magic front format short (format_found front format found)) ∙ magic_length format
-
 -- so few bytes that are no magic have no format
 pub format-none : (front : List ℕ) → length front ≤ 8 → (front ≡ magic Reports → ⊥) → (front ≡ magic Cells → ⊥) → None ≡ format_of front
 format-none front short not_reports not_cells =

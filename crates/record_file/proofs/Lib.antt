@@ -1,12 +1,15 @@
 pub mod AbsorbLemmas
+pub mod Absorbers
 pub mod Accepted
 pub mod Beginnings
 pub mod Bytes
 pub mod Cells
 pub mod Faults
-pub mod Filling
 pub mod Formats
 pub mod ReadWhole
+pub mod PieceLaws
+pub mod Pieces
+pub mod Readings
 pub mod Records
 pub mod ReportRecords
 pub mod Spellings

@@ -1,8 +1,9 @@
 -- Lemmas on the records of a file, and on what reading it answers.
 use Rattle.std.proofs.Common.{◌≡◌, ℕ, suc, ◌+◌, ◌-◌, ◌*◌, ◌/◌, ◌<◌, ◌≤◌, ◌^◌, ◌%◌, ◌==◌, nat_le, true, false, List, [], ◌∷◌, ◌++◌, Option, None, Some}
-use Rattle.std.proofs.Common.{Ok, Err, length, take, drop, refl, sym, ap, ◌∙◌, arith, append_assoc, append-nil, length-append}
+use Rattle.std.proofs.Common.{Ok, Err, IsOk, length, take, drop, refl, sym, ap, ◌∙◌, arith, append_assoc, append-nil, length-append}
 use Rattle.std.specs.List.{AllByRecursion, concat}
 use Rattle.std.proofs.lemmas.List.{take_all, take_at, drop_at}
+use Rattle.std.proofs.lemmas.List.Folds.{concat-append}
 use Rattle.std.proofs.Math.Seq.{take-append-add}
 use Rattle.std.proofs.Math.Nat.{div-eq_of_lt, mod-eq_of_lt, mul-add-div, mul-add-mod_self_left}
 use Rattle.std.proofs.lemmas.Bool.Decides.{nat_tests}
@@ -13,7 +14,7 @@ use Rattle.record_file.specs.declared.file_fault.FileFault.{FileFault}
 use Rattle.record_file.specs.declared.file_fault.FileFault.TheVariants.{Truncated, TooLong}
 use Rattle.record_file.specs.declared.format.Format.{Format}
 use Rattle.record_file.specs.declared.format.Format.TheVariants.{Reports, Cells}
-use Rattle.record_file.specs.RecordFile.{Judgement, ending, fault_first, fault_in, fault_or, first_fault, first_records, format_of, judged, kept}
+use Rattle.record_file.specs.RecordFile.{AreGoodRecords, Judgement, ending, fault_first, fault_in, fault_or, first_fault, first_records, format_of, judged, kept}
 use Rattle.record_file.specs.RecordFile.{key_in, last_key, magic, outcome, record_size, records, records_in_reach, told_by, told_then}
 
 abbrev pub Sightings : Type 0
@@ -26,10 +27,6 @@ AreRecords size = AllByRecursion (λ r. length r ≡ size)
 pub size-positive : (format : Format) → 0 < record_size format
 size-positive Reports = omega arith
 size-positive Cells = omega arith
-
-pub size-short : (format : Format) → record_size format ≤ 272
-size-short Reports = omega arith
-size-short Cells = omega arith
 
 pub length-magic : (format : Format) → length (magic format) ≡ 8
 length-magic Reports = refl
@@ -220,6 +217,57 @@ pub kept-bad : (format : Format) (rs : List (List ℕ)) (x : List ℕ) (f : File
     → first_fault format None 0 rs ≡ Some f → kept (file format rs x) ≡ told_by format None rs
 kept-bad format rs x f h fits bad =
     kept-file format rs x h fits ∙ told_by-bad format None 0 rs (records (record_size format) (take (2 ^ 40 - bytes_of format (length rs)) x)) f bad
+
+-- good records ------------------------------------------------------------------------
+
+no_fault_or : (v : Judgement) (i : ℕ) (later : Option FileFault) → IsOk v → later ≡ None → fault_or i v later ≡ None
+no_fault_or (Ok told) i later h none = none
+no_fault_or (Err f) i later h none = absurd (cc)
+
+pub good_records : (format : Format) (last : Option Key) (i : ℕ) (rs : List (List ℕ)) → AreGoodRecords format last rs
+    → AreRecords (record_size format) rs × (first_fault format last i rs ≡ None)
+good_records format last i [] h = (tt, refl)
+good_records format last i (r ∷ rs) h =
+    let later = good_records format (key_in format r) (i + 1) rs h.2 in
+    ((h.0, later.0), no_fault_or (judged format last r) i (first_fault format (key_in format r) (i + 1) rs) h.1 later.1)
+
+judged_ok : (v : Judgement) (told : Sightings) → v ≡ Ok told → IsOk v
+judged_ok (Ok t) told h = refl
+judged_ok (Err f) told h = absurd (cc)
+
+-- a good record more
+pub good-more : (format : Format) (last : Option Key) (rs : List (List ℕ)) (r : List ℕ) (told : Sightings) → AreGoodRecords format last rs
+    → length r ≡ record_size format → judged format (last_key format last rs) r ≡ Ok told → AreGoodRecords format last (rs ++ r ∷ [])
+good-more format last [] r told h long good = (long, judged_ok (judged format last r) told good, tt)
+good-more format last (s ∷ rs) r told h long good = (h.0, h.1, good-more format (key_in format s) rs r told h.2 long good)
+
+-- a record more
+pub file-record : (format : Format) (rs : List (List ℕ)) (r : List ℕ) → file format (rs ++ r ∷ []) [] ≡ file format rs r
+file-record format rs r = ap (λ l. magic format ++ l) (append-nil (concat (rs ++ r ∷ [])) ∙ concat-append rs (r ∷ []) ∙ ap (λ l. concat rs ++ l) (append-nil r))
+
+pub AreRecords-more : (size : ℕ) (rs : List (List ℕ)) (r : List ℕ) → AreRecords size rs → length r ≡ size → AreRecords size (rs ++ r ∷ [])
+AreRecords-more size [] r h long = (long, tt)
+AreRecords-more size (s ∷ rs) r h long = (h.0, AreRecords-more size rs r h.1 long)
+
+pub length-more : (rs : List (List ℕ)) (r : List ℕ) → length (rs ++ r ∷ []) ≡ length rs + 1
+length-more rs r = length-append rs (r ∷ [])
+
+-- the size of one record more
+pub bytes-more : (format : Format) (rs : List (List ℕ)) (r : List ℕ)
+    → bytes_of format (length (rs ++ r ∷ [])) ≡ bytes_of format (length rs) + record_size format
+bytes-more format rs r = ap (bytes_of format) (length-more rs r) ∙ omega arith
+
+-- the size of a file of good records, the last of which stands by itself
+pub length-wanted : (format : Format) (rs : List (List ℕ)) (r : List ℕ) → AreGoodRecords format None (rs ++ r ∷ [])
+    → length (magic format ++ (concat rs ++ r)) ≡ bytes_of format (length (rs ++ r ∷ []))
+length-wanted format rs r good =
+    let is = ap length (sym (file-record format rs r)) in
+    let size = length-file format (rs ++ r ∷ []) [] (good_records format None 0 (rs ++ r ∷ []) good).0 in omega arith
+
+-- records never end at the last byte that is read
+pub not_at_end : (format : Format) (n : ℕ) → bytes_of format n ≡ 2 ^ 40 → ⊥
+not_at_end Reports n h = omega arith
+not_at_end Cells n h = omega arith
 
 -- how good records end --------------------------------------------------------------
 

@@ -1,12 +1,13 @@
 -- What absorbing a source leaves of it and of the store, and what it answers.
-use Rattle.std.specs.Prelude.{◌≡◌, ◌⊎◌, ℕ, ◌+◌, ◌<◌, ◌≤◌, ◌^◌, List, [], ◌++◌, Option, None, Some, Result, Ok, Err, IfSome, length}
+use Rattle.std.specs.Prelude.{◌≡◌, ◌⊎◌, ℕ, ◌+◌, ◌<◌, ◌≤◌, ◌^◌, List, [], ◌∷◌, ◌++◌, Option, None, Some, Result, Ok, Err, IfSome, length}
+use Rattle.std.specs.List.{concat}
 use Rattle.std.specs.Io.KnownBytes.{Consumes, IsAtEnd}
 use Rattle.fact_store.specs.View.{Facts, view}
 use Rattle.fact_store.specs.Merge.{merge}
 use Rattle.record_file.specs.declared.file_fault.FileFault.{FileFault}
 use Rattle.record_file.specs.declared.file_fault.FileFault.TheVariants.{Magic, Truncated, Read, Memory, TooLong}
 use Rattle.record_file.specs.declared.format.Format.{Format}
-use Rattle.record_file.specs.RecordFile.{Judgement, fault_in, format_of, kept, outcome, record_size}
+use Rattle.record_file.specs.RecordFile.{AreGoodRecords, Judgement, fault_in, format_of, kept, magic, outcome}
 
 -- what a record is judged to tell is in the store, unless there was no memory for it; or it is bad, and that is the answer
 abbrev pub AbsorbsJudged : {K : Type 0} → Judgement → ℕ → Result K FileFault → Facts → Facts → Type 0
@@ -14,17 +15,17 @@ AbsorbsJudged (Ok told) index (Ok key) old new = new ≡ merge old (view told)
 AbsorbsJudged (Ok told) index (Err f) old new = (f ≡ Memory) × (new ≡ old)
 AbsorbsJudged (Err fault) index result old new = (result ≡ Err (fault index)) × (new ≡ old)
 
--- good records of this format were taken, and the store holds what all but the last tell
-pub record HoldsAllButLast (format : Format) (old new : Facts) (taken front last : List ℕ) : Type 0 where
-  pub magic : format_of taken ≡ Some format
-  pub split : taken ≡ front ++ last
-  pub size : length last ≡ record_size format
-  pub good : fault_in format taken ≡ None
-  pub held : new ≡ merge old (view (kept front))
+-- behind good records there is one for which there was no memory, which ends within the last 4096 bytes; the store holds what those before it tell
+pub record HoldsAllBefore (format : Format) (old new : Facts) (taken : List ℕ) (records : List (List ℕ)) (r behind : List ℕ) : Type 0 where
+  pub whole : taken ≡ magic format ++ (concat records ++ (r ++ behind))
+  pub good : AreGoodRecords format None (records ++ r ∷ [])
+  pub near : length behind < 4096
+  pub held : new ≡ merge old (view (kept (magic format ++ concat records)))
 
--- what the taken bytes keep was merged into the store; for want of memory without the last record, which is good
+-- what the taken bytes keep was merged into the store; for want of memory what the records before the one that wanted it keep
 abbrev pub HoldsKept : Result (Unit {0}) FileFault → Facts → Facts → List ℕ → Type 0
-HoldsKept (Err Memory) old new taken = (format : Format) × (front : List ℕ) × (last : List ℕ) × HoldsAllButLast format old new taken front last
+HoldsKept (Err Memory) old new taken =
+    (format : Format) × (records : List (List ℕ)) × (r : List ℕ) × (behind : List ℕ) × HoldsAllBefore format old new taken records r behind
 HoldsKept _ old new taken = new ≡ merge old (view (kept taken))
 
 -- the answer is what reading these bytes answers, unless a read or a growth failed, or too many calls were interrupted
@@ -38,6 +39,14 @@ AnswersOutcome (Err f) bytes interrupted = outcome bytes ≡ Err f
 -- a magic is still to come, or there is one with nothing but good records behind it so far
 abbrev pub HasNoFaultYet : List ℕ → Type 0
 HasNoFaultYet taken = (length taken < 8) ⊎ ((format : Format) × (format_of taken ≡ Some format) × (fault_in format taken ≡ None))
+
+-- no fault ends before the last 4096 bytes
+pub record HasNoFaultBefore (taken : List ℕ) : Type 0 where
+  pub front : List ℕ
+  pub behind : List ℕ
+  pub split : taken ≡ front ++ behind
+  pub near : length behind < 4096
+  pub good : HasNoFaultYet front
 
 -- where the answer depends on what else the source has, it has nothing else; where reading stopped early, no fault came first
 abbrev pub IsDecided : Result (Unit {0}) FileFault → List ℕ → Type 0 → Type 0

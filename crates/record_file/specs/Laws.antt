@@ -1,13 +1,12 @@
 -- Laws of reading files.
-use Rattle.std.specs.Prelude.{◌≡◌, ◌↔◌, ℕ, ◌+◌, ◌*◌, ◌<◌, ◌≤◌, ◌^◌, List, [], ◌∷◌, ◌++◌, Option, None, Some, Ok, Err, IsOk, length, slice_index}
+use Rattle.std.specs.Prelude.{◌≡◌, ◌↔◌, ℕ, ◌+◌, ◌*◌, ◌<◌, ◌≤◌, ◌^◌, List, ◌++◌, None, Some, Ok, Err, IsOk, length, slice_index}
 use Rattle.std.specs.List.{AllByRecursion, concat}
-use Rattle.fact_store.specs.declared.key.Key.{Key}
 use Rattle.fact_store.specs.declared.report.Report.{Report}
 use Rattle.record_file.specs.declared.file_fault.FileFault.{FileFault}
 use Rattle.record_file.specs.declared.file_fault.FileFault.TheVariants.{Truncated, BadReport, BadCell, CellOrder}
 use Rattle.record_file.specs.declared.format.Format.{Format}
 use Rattle.record_file.specs.declared.format.Format.TheVariants.{Reports}
-use Rattle.record_file.specs.RecordFile.{format_of, judged, kept, key_in, last_key, magic, outcome, record_size}
+use Rattle.record_file.specs.RecordFile.{AreGoodRecords, format_of, judged, kept, last_key, magic, outcome, record_size}
 use Rattle.record_file.specs.ReportRecord.{context_guid, report_bytes, report_judged, report_of}
 
 -- the fault of a bad record
@@ -40,11 +39,6 @@ pub record IsWritable (r : Report) : Type 0 where
 abbrev pub ReportsHaveOneSpelling : Type 0
 ReportsHaveOneSpelling =
     (bytes : List ℕ) (r : Report) → length bytes ≡ 272 → AreBytes bytes → IsWritable r → (report_of bytes ≡ Some r) ↔ (bytes ≡ report_bytes r)
-
--- whole records, each of them good behind the ones before it
-abbrev pub AreGoodRecords : Format → Option Key → List (List ℕ) → Type 0
-AreGoodRecords format last [] = Unit {0}
-AreGoodRecords format last (r ∷ rs) = (length r ≡ record_size format) × IsOk (judged format last r) × AreGoodRecords format (key_in format r) rs
 
 -- good records and a part of one end within the record that begins behind them
 abbrev pub TruncationIsTold : Type 0

@@ -1,10 +1,12 @@
 pub mod Absorbs
 pub mod Budget
 pub mod CellRecord
+pub mod Feeding
 pub mod FileFault
-pub mod FillFault
 pub mod Filling
 pub mod Laws
+pub mod PieceFault
+pub mod PieceLaws
 pub mod Reading
 pub mod RecordFile
 pub mod ReportRecord

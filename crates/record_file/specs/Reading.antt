@@ -1,9 +1,9 @@
--- What a reading takes from its source, and how filling a buffer from it ends.
-use Rattle.std.specs.Prelude.{◌≡◌, ℕ, ◌+◌, ◌<◌, ◌≤◌, ◌^◌, Bool, false, List, Option, Result, Ok, Err, IsTrue, length, take}
+-- What a reading takes from its source, piece by piece.
+use Rattle.std.specs.Prelude.{◌≡◌, ℕ, ◌+◌, ◌<◌, ◌≤◌, ◌^◌, Bool, false, List, [], Option, Result, Ok, Err, IsTrue, length, take}
 use Rattle.std.specs.Io.KnownBytes.{Consumes, IsAtEnd}
 use Rattle.record_file.specs.Budget.{IsSpent}
-use Rattle.record_file.specs.declared.stream.reading.FillFault.{FillFault}
-use Rattle.record_file.specs.declared.stream.reading.FillFault.TheVariants.{Read, TooLong}
+use Rattle.record_file.specs.declared.stream.reading.PieceFault.{PieceFault}
+use Rattle.record_file.specs.declared.stream.reading.PieceFault.TheVariants.{Read, TooLong}
 use Rattle.record_file.specs.declared.stream.reading.Reading.{Reading}
 
 -- what the source has left, whether it failed and how often it was interrupted, and the bytes and calls of the reading
@@ -37,41 +37,38 @@ pub record EachCallTakes (old new : ReadingState) : Type 0 where
 pub record IsAnswered (old new : ReadingState) : Type 0 where
   pub answered : new.interruptions + old.calls < old.interruptions + new.calls
 
--- so many bytes stand in the front of the buffer, as many as wanted or all that were left
-pub record FillsWith (n wanted : ℕ) (old new : ReadingState) (buffer : List ℕ) : Type 0 where
-  pub within : n ≤ wanted
-  pub taken : Takes old new (take n buffer)
-  pub full : n ≡ wanted → EachCallTakes old new
-  pub end : n < wanted → IsAtEnd new.left
-  pub below : n < wanted → new.bytes < 2 ^ 40
+-- so many bytes stand in the front of the room, or none at the end; the 2^40th byte of a reading comes alone
+pub record GivesPiece (n : ℕ) (old new : ReadingState) (room : List ℕ) : Type 0 where
+  pub within : n ≤ length room
+  pub taken : Takes old new (take n room)
+  pub paid : 0 < n → EachCallTakes old new
+  pub end : n ≡ 0 → IsAtEnd new.left
+  pub below : n ≡ 0 → new.bytes < 2 ^ 40
+  pub alone : new.bytes ≡ 2 ^ 40 → n ≡ 1
   pub answered : IsAnswered old new
   pub works : new.has_failed ≡ false
 
--- the source failed, and fewer bytes than wanted were taken
-pub record FailsWithin (wanted : ℕ) (old new : ReadingState) : Type 0 where
-  pub part : List ℕ
-  pub short : length part < wanted
-  pub taken : Takes old new part
+-- the source failed, and no byte was taken
+pub record FailsToGive (old new : ReadingState) : Type 0 where
+  pub taken : Takes old new []
   pub below : new.bytes < 2 ^ 40
   pub answered : IsAnswered old new
   pub failed : IsTrue new.has_failed
 
--- the reading was spent, and fewer bytes than wanted were taken
-pub record StopsWithin (wanted : ℕ) (old new : ReadingState) : Type 0 where
-  pub part : List ℕ
-  pub short : length part < wanted
-  pub taken : Takes old new part
+-- the reading was spent, and no byte was taken
+pub record IsSpentBefore (old new : ReadingState) : Type 0 where
+  pub taken : Takes old new []
   pub spent : IsSpent new.bytes new.calls
   pub each : EachCallTakes old new
   pub kept : new.has_failed ≡ old.has_failed
   pub begun : old.bytes < 2 ^ 40 → old.calls < 2 ^ 40 → new.has_failed ≡ false
 
-abbrev pub FillsAt : Result ℕ FillFault → ℕ → ReadingState → ReadingState → List ℕ → Type 0
-FillsAt (Ok n) wanted old new buffer = FillsWith n wanted old new buffer
-FillsAt (Err Read) wanted old new buffer = FailsWithin wanted old new
-FillsAt (Err TooLong) wanted old new buffer = StopsWithin wanted old new
+abbrev pub GivesAt : Result ℕ PieceFault → ReadingState → ReadingState → List ℕ → Type 0
+GivesAt (Ok n) old new room = GivesPiece n old new room
+GivesAt (Err Read) old new room = FailsToGive old new
+GivesAt (Err TooLong) old new room = IsSpentBefore old new
 
--- how filling a buffer with so many bytes ends, and what becomes of the reading
-abbrev pub Fills : {S : Type 0} → (S → Option (List ℕ)) → (S → Bool) → (S → ℕ) → Result ℕ FillFault → ℕ → Reading S → Reading S → List ℕ → Type 0
-Fills left has_failed interruptions result wanted old new buffer =
-    FillsAt result wanted (state_of left has_failed interruptions old) (state_of left has_failed interruptions new) buffer
+-- what a reading gives in this room, and what becomes of it
+abbrev pub Gives : {S : Type 0} → (S → Option (List ℕ)) → (S → Bool) → (S → ℕ) → Result ℕ PieceFault → Reading S → Reading S → List ℕ → Type 0
+Gives left has_failed interruptions result old new room =
+    GivesAt result (state_of left has_failed interruptions old) (state_of left has_failed interruptions new) room

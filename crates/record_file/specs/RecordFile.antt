@@ -1,5 +1,5 @@
 -- A file: its magic, and records of one size behind it; and what reading any bytes gives.
-use Rattle.std.specs.Prelude.{ℕ, zero, suc, ◌+◌, ◌-◌, ◌*◌, ◌/◌, ◌%◌, ◌^◌, ◌==◌, List, [], ◌∷◌, ◌++◌, Option, None, Some, Result, Ok, Err, length}
+use Rattle.std.specs.Prelude.{◌≡◌, ℕ, zero, suc, ◌+◌, ◌-◌, ◌*◌, ◌/◌, ◌%◌, ◌^◌, ◌==◌, List, [], ◌∷◌, ◌++◌, Option, None, Some, Result, Ok, Err, IsOk, length}
 use Rattle.std.specs.Prelude.{take, drop, codes, nat_eq, nat_le, option_map, if◌then◌else◌}
 use Rattle.std.specs.List.{starts_with}
 use Rattle.fact_join.specs.declared.cell.Cell.{Cell}
@@ -83,6 +83,11 @@ told_then (Err f) later = []
 abbrev pub told_by : Format → Option Key → List (List ℕ) → List (Key × Cell Value)
 told_by format last [] = []
 told_by format last (r ∷ rs) = told_then (judged format last r) (told_by format (key_in format r) rs)
+
+-- whole records, each of them good behind the ones before it
+abbrev pub AreGoodRecords : Format → Option Key → List (List ℕ) → Type 0
+AreGoodRecords format last [] = Unit {0}
+AreGoodRecords format last (r ∷ rs) = (length r ≡ record_size format) × IsOk (judged format last r) × AreGoodRecords format (key_in format r) rs
 
 -- how a file of good records of this size ends that has so many bytes
 unfoldable pub ending : ℕ → ℕ → Result (Unit {0}) FileFault

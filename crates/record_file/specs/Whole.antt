@@ -1,5 +1,5 @@
 -- What reading a source whole takes of it, and how it ends where it can't be read whole.
-use Rattle.std.specs.Prelude.{◌≡◌, ◌⊎◌, ℕ, ◌+◌, ◌<◌, ◌≤◌, ◌^◌, Bool, false, List, Option, Result, Ok, Err, IsTrue, length}
+use Rattle.std.specs.Prelude.{◌≡◌, ◌⊎◌, ℕ, ◌+◌, ◌<◌, ◌≤◌, ◌^◌, Bool, false, List, Option, IsTrue, length}
 use Rattle.std.specs.Io.KnownBytes.{Consumes, IsAtEnd}
 use Rattle.record_file.specs.declared.file_fault.FileFault.{FileFault}
 use Rattle.record_file.specs.declared.file_fault.FileFault.TheVariants.{Read, Memory, TooLong}
@@ -15,11 +15,11 @@ pub record IsReadWhole {S : Type 0} (left : S → Option (List ℕ)) (has_failed
 abbrev pub IsTooLong : List ℕ → ℕ → ℕ → Type 0
 IsTooLong taken interruptions interruptions' = (2 ^ 40 ≤ length taken) ⊎ (2 ^ 40 + interruptions ≤ length taken + interruptions')
 
--- why a source isn't read whole of which these bytes were taken: a call failed, it is too long, or memory is wanting
+-- why a source isn't read whole of which these bytes were taken: a call failed, it is too long, or before that memory is wanting
 abbrev pub IsReadFault : FileFault → List ℕ → Bool → ℕ → ℕ → Type 0
 IsReadFault Read taken has_failed interruptions interruptions' = IsTrue has_failed
 IsReadFault TooLong taken has_failed interruptions interruptions' = (has_failed ≡ false) × IsTooLong taken interruptions interruptions'
-IsReadFault Memory taken has_failed interruptions interruptions' = has_failed ≡ false
+IsReadFault Memory taken has_failed interruptions interruptions' = (has_failed ≡ false) × (length taken < 2 ^ 40) × (interruptions' < 2 ^ 40 + interruptions)
 IsReadFault fault taken has_failed interruptions interruptions' = ⊥
 
 -- the source can't be read whole, for this fault

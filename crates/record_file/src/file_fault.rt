@@ -1,6 +1,6 @@
 ghost use Rattle.std.specs.Prelude.{◌≡◌, Some, None};
 
-use crate::stream::FillFault;
+use crate::stream::PieceFault;
 use fact_store::ReportFault;
 use thiserror::Error;
 
@@ -29,15 +29,15 @@ pub enum FileFault {
     TooLong,
 }
 
-impl From<FillFault> for FileFault {
-    ghost use Rattle.record_file.specs.FillFault.{file_fault_of};
+impl From<PieceFault> for FileFault {
+    ghost use Rattle.record_file.specs.PieceFault.{file_fault_of};
 
     ghost from_gives = { λ fault f. f ≡ file_fault_of fault };
 
-    fn from(fault: FillFault) -> FileFault {
+    fn from(fault: PieceFault) -> FileFault {
         match fault {
-            FillFault::Read => FileFault::Read,
-            FillFault::TooLong => FileFault::TooLong,
+            PieceFault::Read => FileFault::Read,
+            PieceFault::TooLong => FileFault::TooLong,
         }
     }
 }

@@ -2,6 +2,7 @@
 
 ghost use Rattle.record_file.specs.StoreLaws.{AbsorbingReadsBack, FactsAreReadBack, FactsHaveOneSpelling, RecordsAreSpellings, StoreFilesAreAccepted};
 ghost use Rattle.record_file.specs.Laws.{BadRecordStays, FirstBadRecordIsTold, ReportFilesAreAccepted, ReportsHaveOneSpelling, TruncationIsTold};
+ghost use Rattle.record_file.specs.PieceLaws.{CutsChangeNothing, PiecesAreRead};
 
 use crate::stream::Source;
 
@@ -53,4 +54,14 @@ pub fn facts_have_one_spelling()
 /// A store that was empty holds these facts once their file was absorbed.
 pub fn absorbing_reads_back<S: Source>()
     ensures { AbsorbingReadsBack S.left S.interruptions }
+{}
+
+/// A file that comes in pieces is taken in as it is in whole, where no piece wants memory.
+pub fn pieces_are_read()
+    ensures { PiecesAreRead }
+{}
+
+/// Where a file is cut into pieces changes nothing, where no piece wants memory.
+pub fn cuts_change_nothing()
+    ensures { CutsChangeNothing }
 {}

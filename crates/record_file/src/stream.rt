@@ -10,9 +10,10 @@ mod source;
 mod to_room;
 mod to_write;
 
+pub(crate) use budget::MOST;
 pub use from_bytes::FromBytes;
 pub use from_read::FromRead;
-pub(crate) use reading::{FillFault, Reading};
+pub(crate) use reading::{PieceFault, Reading};
 pub use sink::{Sink, WriteFault};
 pub use source::{ReadError, Source};
 pub use to_room::{RoomFault, ToRoom};

@@ -1,4 +1,5 @@
 //! Readers and writers that behave in their own ways, and files with each of their faults.
+ghost use Rattle.std.specs.Prelude.{◌<◌};
 
 use super::*;
 use fact_store::{ReportFault, Store};
@@ -168,6 +169,31 @@ fn interrupted_writes_are_asked_again_and_failures_stay(rt: HostRuntime) {
 }
 
 #[test]
+fn each_fault_of_a_call_has_its_text(rt: HostRuntime) -> Result<(), Fail> {
+    for (text, wanted) in [
+        (
+            format!(in rt.alloc(); "{}", ReadError::Failed)?,
+            "read failed",
+        ),
+        (
+            format!(in rt.alloc(); "{}", ReadError::Interrupted)?,
+            "interrupted",
+        ),
+        (
+            format!(in rt.alloc(); "{}", WriteFault::Write)?,
+            "write failed",
+        ),
+        (
+            format!(in rt.alloc(); "{}", RoomFault::Memory)?,
+            "out of memory",
+        ),
+    ] {
+        assert!(rt; text.as_str() == wanted, "{wanted}");
+    }
+    Ok(())
+}
+
+#[test]
 fn a_room_takes_what_fits(rt: HostRuntime) -> Result<(), Fail> {
     let mut sink = ToRoom::new(rt.alloc(), 5)?;
     for (bytes, wanted, held) in [
@@ -224,6 +250,20 @@ fn absorbed(alloc: Global, file: &[u8]) -> (Result<(), FileFault>, usize) {
     (answer, store.count())
 }
 
+/// The same where the file is fed in pieces of this size, and after each of its faults once more.
+fn fed(alloc: Global, file: &[u8], size: usize) -> (Result<(), FileFault>, usize)
+    requires { 0 < size }
+{
+    let mut store = Store::new(alloc);
+    let mut absorber = Absorber::new();
+    for piece in file.chunks(size) {
+        if absorber.feed(piece, &mut store).is_err() {
+            let _ = absorber.feed(file, &mut store);
+        }
+    }
+    (absorber.finish(), store.count())
+}
+
 /// The store file of what the file tells.
 fn joined(alloc: Global, file: &[u8]) -> Result<ToRoom, Fail> {
     let mut store = Store::new(alloc);
@@ -266,8 +306,11 @@ fn every_cut_of_both_files_is_told(rt: HostRuntime) -> Result<(), Fail> {
     for (bytes, size) in [(file.as_slice(), 272), (FIRST_STORE.as_slice(), 32)] {
         for length in 0..=bytes.len() {
             let cut = bytes.get(..length).ok_or("shorter")?;
-            let (answer, _count) = absorbed(rt.alloc(), cut);
-            assert!(rt; answer == cut_answer(length, size), "at {length}");
+            let whole = absorbed(rt.alloc(), cut);
+            let is_right = whole.0 == cut_answer(length, size)
+                && fed(rt.alloc(), cut, 1) == whole
+                && fed(rt.alloc(), cut, 31) == whole;
+            assert!(rt; is_right, "at {length}");
         }
     }
     Ok(())
@@ -323,8 +366,10 @@ fn each_damage_is_told(rt: HostRuntime) -> Result<(), Fail> {
         (reports.as_slice(), 8, 0, bad(1, ReportFault::Generation), 2),
     ] {
         let bytes = damaged(rt.alloc(), file, place, byte)?;
-        let answer = absorbed(rt.alloc(), bytes.as_slice());
-        assert!(rt; answer == (Err(wanted), count), "at {place}");
+        let answer = (Err(wanted), count);
+        let is_right = absorbed(rt.alloc(), bytes.as_slice()) == answer
+            && fed(rt.alloc(), bytes.as_slice(), 7) == answer;
+        assert!(rt; is_right, "at {place}");
     }
     Ok(())
 }

@@ -13,8 +13,8 @@ const PIECE: usize = 4096;
 ///
 /// # Errors
 ///
-/// `Read`, `TooLong` at 2^40 bytes or at 2^40 calls that took bytes or were interrupted, and
-/// `Memory`, whichever comes first.
+/// `Read`, `TooLong` at 2^40 bytes or at 2^40 calls that took bytes or were interrupted, and before
+/// that `Memory`, whichever comes first.
 pub fn read_whole<S: Source>(alloc: Global, source: &mut S) -> Result<Vec<u8>, FileFault>
     ensures whole { IfOk result (λ bytes.
         IsReadWhole S.left S.has_failed source.old source.new bytes.items) }
@@ -25,12 +25,15 @@ pub fn read_whole<S: Source>(alloc: Global, source: &mut S) -> Result<Vec<u8>, F
     let mut bytes = Vec::new(alloc);
     loop {
         let mut room = [0; PIECE];
-        let count = reading.fill(&mut room, PIECE)?;
+        let count = reading.piece(&mut room)?;
+        if count == 0 {
+            return Ok(bytes);
+        }
+        if reading.is_spent() {
+            return Err(FileFault::TooLong);
+        }
         if bytes.extend_from_slice(&room[..count]).is_err() {
             return Err(FileFault::Memory);
-        }
-        if count < PIECE {
-            return Ok(bytes);
         }
     }
 }

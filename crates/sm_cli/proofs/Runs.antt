@@ -10,9 +10,11 @@ use Rattle.fact_store.specs.View.{Facts, view, no_facts}
 use Rattle.fact_store.specs.Merge.{merge}
 use Rattle.fact_store.proofs.Merges.{merge_empty}
 use Rattle.fact_store.proofs.Views.{view_of_both}
-use Rattle.record_file.specs.Absorbs.{Absorbs, HasNoFaultYet}
+use Rattle.record_file.specs.Absorbs.{Absorbs, AnswersKnown, HasNoFaultYet, HoldsKept, IsBounded}
+use Rattle.record_file.proofs.AbsorbLemmas.{memory-had_no_fault, no_fault-before}
 use Rattle.record_file.specs.RecordFile.{ending, fault_first, fault_in, format_of, kept, outcome, outcome_as, record_size}
-use Rattle.record_file.specs.declared.file_fault.FileFault.TheVariants.{Memory}
+use Rattle.record_file.specs.declared.file_fault.FileFault.{FileFault}
+use Rattle.record_file.specs.declared.file_fault.FileFault.TheVariants.{Memory, Read}
 use Rattle.sm_cli.specs.Run.{AreReadAs, IsReadAs, IsReadAt, ReadsInto, Refuses, facts_of}
 
 -- a source is replaced by what is left of it
@@ -126,9 +128,28 @@ module _ {S : Type 0} (left : S → Option (List ℕ)) (has_failed : S → Bool)
     answered = tt;
     decided = tt;
     bounded = a.bounded;
-    no_fault_before = λ e. accepted_has_no_fault a.taken a.answered;
+    no_fault_before = λ e. no_fault-before a.taken (accepted_has_no_fault a.taken a.answered);
     read = (λ e. absurd (cc), λ failed. let f : IsTrue false = subst IsTrue works failed in absurd (cc));
     known = nothing_known (left old) (left new);
+  }
+
+  -- or the source was refused
+  pub refuses_file :
+      (interruptions : S → ℕ) (fault : FileFault) (old new : S) (fresh store : Facts)
+      → Absorbs left interruptions (Err fault) old new fresh store
+      → (◌≡◌ {A = Result (Unit {0}) FileFault} (Err fault) (Err Read) ↔ IsTrue (has_failed new))
+      → AnswersKnown left interruptions (Err fault) old new → Refuses left has_failed interruptions old new fault
+  refuses_file interruptions fault old new fresh store a read known = record {
+    taken = a.taken;
+    consumed = a.consumed;
+    answered = a.answered;
+    decided = a.decided;
+    bounded = a.bounded;
+    no_fault_before = λ e.
+        memory-had_no_fault fresh store a.taken (subst (λ (f : FileFault). HoldsKept (Err f) fresh store a.taken) e a.held)
+        (subst (λ (f : FileFault). IsBounded (Err f) (length a.taken) (interruptions old) (interruptions new)) e a.bounded).0;
+    read = (λ e. read.0 (ap (λ f. Err f) e), λ failed. let is = read.1 failed in cc);
+    known = known;
   }
 
 -- what one more file says is merged into what all before say

@@ -5,7 +5,7 @@ use Rattle.std.specs.Io.KnownBytes.{Appends, Consumes, IsAtEnd}
 use Rattle.fact_store.specs.Sighting.{AreInRange}
 use Rattle.fact_store.specs.Merge.{merge}
 use Rattle.fact_store.specs.View.{Facts, view, cells_of}
-use Rattle.record_file.specs.Absorbs.{AnswersKnown, AnswersOutcome, HasNoFaultYet, IsBounded, IsDecided, WasInterruptedTooOften}
+use Rattle.record_file.specs.Absorbs.{AnswersKnown, AnswersOutcome, HasNoFaultBefore, IsBounded, IsDecided, WasInterruptedTooOften}
 use Rattle.record_file.specs.RecordFile.{kept, outcome}
 use Rattle.record_file.specs.StoreFile.{store_bytes}
 use Rattle.record_file.specs.declared.file_fault.FileFault.{FileFault}
@@ -91,7 +91,7 @@ pub record Refuses {S : Type 0} (left : S → Option (List ℕ)) (has_failed : S
   pub answered : AnswersOutcome (Err fault) taken (WasInterruptedTooOften taken [] (interruptions old) (interruptions new))
   pub decided : IsDecided (Err fault) taken (IsAtEnd (left new))
   pub bounded : IsBounded (Err fault) (length taken) (interruptions old) (interruptions new)
-  pub no_fault_before : fault ≡ NoMemory → HasNoFaultYet taken
+  pub no_fault_before : fault ≡ NoMemory → HasNoFaultBefore taken
   pub read : (fault ≡ Read) ↔ IsTrue (has_failed new)
   pub known : AnswersKnown left interruptions (Err fault) old new
 

@@ -266,6 +266,56 @@ fn each_damage_is_told(rt: HostRuntime) -> Result<(), Fail> {
     Ok(())
 }
 
+/// What a run over the adapter's file prints with ff at a place, by the format: of the numbers of
+/// its facts the generation, and the GUIDs of the node and of its port.
+fn overwritten(alloc: Global, place: usize) -> Result<String, Fail> {
+    let refused = match place {
+        0..=7 => "bad magic",
+        12..=23 => "bad report 0: Context",
+        24 => "bad report 0: BaseVersion",
+        25 => "bad report 0: Class",
+        26 => "bad report 0: ClassVersion",
+        27 => "bad report 0: Method",
+        28 | 29 => "bad report 0: Status",
+        30 => "bad report 0: HopPointer",
+        31 => "bad report 0: HopCount",
+        40 | 41 => "bad report 0: Attribute",
+        90 => "bad report 0: NodeType",
+        91 | 124 => "bad report 0: Port",
+        _ => "",
+    };
+    if !refused.is_empty() {
+        return Ok(format!(in alloc; "3 ibsm: FILE: {refused}\n")?);
+    }
+    let generation = overwritten_number(1, place, 4);
+    let node = overwritten_number(0x100, place, 100);
+    let port = overwritten_number(0x101, place, 108);
+    Ok(format!(in alloc;
+        "node {node:016x} ca 1 @{generation}\nportguid {node:016x}/1 {port:016x} @{generation}\n"
+    )?)
+}
+
+/// A number of the eight bytes from a place on, with ff at another place, if that is one of them.
+fn overwritten_number(number: u64, place: usize, begin: usize) -> u64 {
+    let mut bytes = number.to_be_bytes();
+    let at = place.wrapping_sub(begin);
+    if at < 8 {
+        bytes[at] = 0xFF;
+    }
+    u64::from_be_bytes(bytes)
+}
+
+#[test]
+fn each_byte_may_be_overwritten(rt: HostRuntime) -> Result<(), Fail> {
+    for place in 0..280 {
+        let mut file = adapter_file();
+        file[place] = 0xFF;
+        let wanted = overwritten(rt.alloc(), place)?;
+        check(&rt, rt.alloc(), Command::Facts, &[&file], wanted.as_bytes())?;
+    }
+    Ok(())
+}
+
 /// The lines of faults of a file, or of none, with the exit status.
 fn fault_lines() -> [(Fault, &'static str); 18] {
     let file = |fault| Fault::File { place: 0, fault };
@@ -392,9 +442,10 @@ fn a_reader_or_writer_may_fail_at_any_call(rt: HostRuntime) -> Result<(), Fail> 
     for fails_at in 1..=80 {
         let (outcome, out) = write_failing(rt.alloc(), fails_at)?;
         let is_done = fails_at == 80;
+        let wanted = if is_done { Ok(()) } else { Err(Fault::Write) };
         let is_whole = out.as_slice() == ADAPTER_FACTS;
         assert!(rt;
-            outcome.is_ok() == is_done && is_whole == is_done,
+            outcome == wanted && is_whole == is_done,
             "at call {fails_at}"
         );
     }

@@ -1,7 +1,7 @@
 ghost use Rattle.std.specs.Prelude.{◌≡◌, ◌≤◌, ◌^◌};
 
 /// A reading takes at most so many bytes, and makes at most so many calls.
-const MOST: u64 = 1 << 40;
+pub(crate) const MOST: u64 = 1 << 40;
 
 /// What a reading has taken from its source so far: bytes and calls.
 #[derive(Drop)]
@@ -30,12 +30,16 @@ impl Budget {
         self.bytes == MOST || self.calls == MOST
     }
 
-    /// How many of so many bytes the next call may ask for.
+    /// How many of so many bytes the next call may ask for. The last byte is asked for alone.
     pub(crate) fn share(&self, wanted: usize) -> usize
+        requires some { 0 < wanted }
+        requires left { self.now.bytes < 2 ^ 40 }
         ensures wanted { result ≤ wanted }
+        ensures some { 0 < result }
         ensures bytes { self.now.bytes + result ≤ 2 ^ 40 }
-        ensures some { self.now.bytes < 2 ^ 40 → 0 < wanted → 0 < result }
+        ensures alone { self.now.bytes + result ≡ 2 ^ 40 → result ≡ 1 }
     {
-        wanted.min((MOST - self.bytes) as usize)
+        let before_last = MOST - 1 - self.bytes;
+        wanted.min(before_last.max(1) as usize)
     }
 }

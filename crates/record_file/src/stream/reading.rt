@@ -1,13 +1,13 @@
-ghost use Rattle.std.specs.Prelude.{◌≡◌, ◌<◌, ◌≤◌, ◌+◌, ◌++◌, ◌↔◌, ℕ, List, length, take, IfOk, OnErr, IsTrue};
+ghost use Rattle.std.specs.Prelude.{◌≡◌, ◌<◌, ◌≤◌, ◌+◌, ◌↔◌, length, take, IfOk, OnErr, IsTrue};
 ghost use Rattle.std.specs.Io.KnownBytes.{Consumes, IsAtEnd, Keeps};
 ghost use Rattle.record_file.specs.Source.{interruption};
 
 use super::budget::Budget;
 use super::source::{ReadError, Source};
 
-/// Why a buffer wasn't filled though the source isn't at its end.
+/// Why a reading gave nothing though the source isn't at its end.
 #[derive(Clone, Copy)]
-pub(crate) enum FillFault {
+pub(crate) enum PieceFault {
     Read,
     TooLong,
 }
@@ -20,7 +20,8 @@ pub(crate) struct Reading<'s, S> {
 }
 
 impl<'s, S: Source> Reading<'s, S> {
-    ghost use Rattle.record_file.specs.Reading.{Fills};
+    ghost use Rattle.record_file.specs.Budget.{IsSpent};
+    ghost use Rattle.record_file.specs.Reading.{Gives};
 
     pub(crate) fn new(source: &'s mut S) -> Self
         ensures same_source { result.source.ghost_name ≡ source.entry.ghost_name }
@@ -34,55 +35,50 @@ impl<'s, S: Source> Reading<'s, S> {
         }
     }
 
-    /// Reads until so many bytes stand in the front of the buffer or the source ends, and says how
-    /// many stand there.
-    pub(crate) fn fill(&mut self, buffer: &mut [u8], wanted: usize) -> Result<usize, FillFault>
-        requires some { 0 < wanted }
-        requires room { wanted ≤ length buffer.old }
-        ensures same_source { self.new.source.ghost_name ≡ self.old.source.ghost_name }
-        ensures fills { Fills S.left S.has_failed S.interruptions result wanted
-            self.old self.new buffer.new }
+    /// No call may be made any more.
+    pub(crate) fn is_spent(&self) -> bool
+        ensures { IsTrue result ↔ IsSpent self.now.budget.bytes self.now.budget.calls }
     {
-        let mut filled = 0;
-        while filled < wanted {
-            if self.budget.is_spent() {
-                return Err(FillFault::TooLong);
-            }
-            let room = self.budget.share(wanted - filled);
+        self.budget.is_spent()
+    }
+
+    /// What the next call gives that isn't interrupted, in the front of the room: at the end no
+    /// byte.
+    pub(crate) fn piece(&mut self, room: &mut [u8]) -> Result<usize, PieceFault>
+        requires some { 0 < length room.old }
+        ensures same_source { self.new.source.ghost_name ≡ self.old.source.ghost_name }
+        ensures gives { Gives S.left S.has_failed S.interruptions result
+            self.old self.new room.new }
+    {
+        while !self.budget.is_spent() {
+            let most = self.budget.share(room.len());
             self.budget.calls += 1;
-            match read_behind(self.source, buffer, filled, room) {
-                Ok(0) => return Ok(filled),
+            match read_front(self.source, room, most) {
                 Ok(count) => {
-                    filled += count;
                     self.budget.bytes += count as u64;
+                    return Ok(count);
                 }
                 Err(ReadError::Interrupted) => {}
-                Err(ReadError::Failed) => return Err(FillFault::Read),
+                Err(ReadError::Failed) => return Err(PieceFault::Read),
             }
         }
-        Ok(filled)
+        Err(PieceFault::TooLong)
     }
 }
 
-/// One call, which reads at most `room` bytes behind the first `filled` ones of the buffer.
-fn read_behind<S: Source>(
-    source: &mut S,
-    buffer: &mut [u8],
-    filled: usize,
-    room: usize,
-) -> Result<usize, ReadError>
-    requires { filled + room ≤ length buffer.old }
-    ensures within { IfOk result (λ n. n ≤ room) }
-    ensures bytes { IfOk result (λ n. (piece : List ℕ) × (length piece ≡ n)
-        × Consumes (S.left source.old) (S.left source.new) piece
-        × (take (filled + n) buffer.new ≡ take filled buffer.old ++ piece)) }
-    ensures end { IfOk result (λ n. n ≡ 0 → 0 < room → IsAtEnd (S.left source.new)) }
+/// One call, which reads at most so many bytes into the front of the room.
+fn read_front<S: Source>(source: &mut S, room: &mut [u8], most: usize) -> Result<usize, ReadError>
+    requires { most ≤ length room.old }
+    ensures within { IfOk result (λ n. n ≤ most) }
+    ensures bytes { IfOk result (λ n.
+        Consumes (S.left source.old) (S.left source.new) (take n room.new)) }
+    ensures room { length room.new ≡ length room.old }
+    ensures end { IfOk result (λ n. n ≡ 0 → 0 < most → IsAtEnd (S.left source.new)) }
     ensures err { OnErr result (Keeps (S.left source.old) (S.left source.new)) }
-    ensures front { take filled buffer.new ≡ take filled buffer.old }
     ensures failed { (result ≡ Err ReadError.Failed) ↔ IsTrue (S.has_failed source.new) }
     ensures stays { IsTrue (S.has_failed source.old) → IsTrue (S.has_failed source.new) }
     ensures interrupted { S.interruptions source.new
         ≡ S.interruptions source.old + interruption result }
 {
-    source.read(&mut buffer[filled..filled + room])
+    source.read(&mut room[..most])
 }

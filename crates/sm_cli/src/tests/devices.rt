@@ -27,6 +27,24 @@ impl Read for Dripping<'_> {
     }
 }
 
+/// Gives of `rest` as much as there is room for, and remembers the greatest room.
+#[derive(Drop)]
+pub(super) struct Pouring<'a> {
+    pub(super) rest: &'a [u8],
+    pub(super) greatest: usize,
+}
+
+impl Read for Pouring<'_> {
+    fn read(&mut self, room: &mut [u8]) -> io::Result<usize> {
+        self.greatest = self.greatest.max(room.len());
+        let count = room.len().min(self.rest.len());
+        let (front, rest) = self.rest.split_at(count);
+        room[..count].copy_from_slice(front);
+        self.rest = rest;
+        Ok(count)
+    }
+}
+
 /// Takes one byte a call and holds it back until it is flushed, and fails at the call `fails_at`, a flush counted with
 /// them; they count from 1.
 #[derive(Drop)]

@@ -1,7 +1,11 @@
 //! The answers of a sweep of the sample fabric, and what files say together.
+ghost use Rattle.std.specs.Prelude.{◌<◌, ◌≤◌};
+
+use super::devices::Pouring;
 use super::sample_fabric::reports;
 use super::*;
-use fact_store::{Context, Report};
+use fact_store::{Context, Report, Store};
+use record_file::{Source, absorb_by};
 
 const FABRIC_FACTS: &[u8] = b"\
 node 0000000000000010 switch 4 @1
@@ -107,6 +111,55 @@ fn neither_order_nor_repetition_counts(rt: HostRuntime) -> Result<(), Fail> {
         [&files.0, &files.1],
     ] {
         check(&rt, rt.alloc(), Command::Facts, &pair, FABRIC_FACTS)?;
+    }
+    Ok(())
+}
+
+/// The facts of a source that is read in pieces of at most `N` bytes.
+fn facts_by<const N: usize, S: Source>(alloc: Global, source: &mut S) -> Result<ToRoom, Fail>
+    requires some { 0 < N }
+    requires most { N ≤ 4096 }
+{
+    let mut store = Store::new(alloc);
+    absorb_by::<N, S>(source, &mut store)?;
+    let mut sink = ToRoom::new(alloc, 4096)?;
+    write_facts(&mut sink, &store)?;
+    Ok(sink)
+}
+
+/// Pieces of at most `N` bytes give the fabric's facts: of a reader that gives as much as there is
+/// room for, which is never more, and of one that gives a byte a call.
+fn is_read_by<const N: usize>(alloc: Global, file: &[u8]) -> Result<bool, Fail>
+    requires some { 0 < N }
+    requires most { N ≤ 4096 }
+{
+    let mut pouring = FromRead::new(Pouring {
+        rest: file,
+        greatest: 0,
+    });
+    let mut dripping = FromRead::new(Dripping {
+        rest: file,
+        calls: 0,
+        fails_at: 0,
+    });
+    let poured = facts_by::<N, _>(alloc, &mut pouring)?;
+    let dripped = facts_by::<N, _>(alloc, &mut dripping)?;
+    let is_whole = poured.bytes() == FABRIC_FACTS && dripped.bytes() == FABRIC_FACTS;
+    Ok(is_whole && pouring.into_inner().greatest == N)
+}
+
+#[test]
+fn pieces_of_any_size_give_the_same_facts(rt: HostRuntime) -> Result<(), Fail> {
+    let file = file_of(rt.alloc(), &reports(rt.alloc())?)?;
+    for (size, is_read) in [
+        (1, is_read_by::<1>(rt.alloc(), &file)?),
+        (7, is_read_by::<7>(rt.alloc(), &file)?),
+        (271, is_read_by::<271>(rt.alloc(), &file)?),
+        (272, is_read_by::<272>(rt.alloc(), &file)?),
+        (273, is_read_by::<273>(rt.alloc(), &file)?),
+        (4096, is_read_by::<4096>(rt.alloc(), &file)?),
+    ] {
+        assert!(rt; is_read, "in pieces of {size}");
     }
     Ok(())
 }

@@ -1,31 +1,35 @@
-use Rattle.std.proofs.Common.{◌≡◌, ◌++◌, refl, Err, Ok, take, subst, arith}
-use Rattle.std.proofs.lemmas.Result.{err_from_is_err_and}
-use Rattle.record_file.specs.FillFault.{file_fault_of}
-use Rattle.record_file.specs.Reading.{FillsAt, FillsWith, ReadingState, state_of, Takes}
-use Rattle.record_file.specs.Whole.{IsReadWhole, FailsToRead}
-use Rattle.record_file.specs.declared.file_fault.FileFault.TheVariants.{Memory}
-use Rattle.record_file.proofs.Filling.{fresh}
-use Rattle.record_file.proofs.ReadWhole.{Stopped, stopped, Takes-trans}
+use Rattle.std.proofs.Common.{refl, arith}
+use Rattle.record_file.specs.Reading.{ReadingState, state_of}
+use Rattle.record_file.specs.Whole.{FailsToRead}
+use Rattle.record_file.specs.declared.file_fault.FileFault.TheVariants.{Memory, TooLong}
+use Rattle.record_file.proofs.ReadWhole.{memory-below, too-long}
+use Rattle.record_file.proofs.Readings.{IsWithin, fresh, piece-taken}
 use Rattle.record_file.proofs.whole.read_whole.Goals as goal
 
-pub returns-in_err-count-clause-fails : goal.returns-in_err-count-clause-fails
-returns-in_err-count-clause-fails g c =
-    let p = err_from_is_err_and c.from_residual.result c.from_residual.ensures.1 in
+pub returns-then-is_spent-clause-fails : goal.returns-then-is_spent-clause-fails
+returns-then-is_spent-clause-fails g c =
     let old : ReadingState = fresh g.S.Source.left g.S.Source.has_failed g.S.Source.interruptions c.args.source.now in
     let mid : ReadingState = state_of g.S.Source.left g.S.Source.has_failed g.S.Source.interruptions c.loop-bytes.reading in
-    let now : ReadingState = state_of g.S.Source.left g.S.Source.has_failed g.S.Source.interruptions c.fill.new.self in
-    let is = stopped old mid now c.loop-bytes.bytes.items _ c.fill.new.buffer _ (refl, refl) c.loop-bytes.invariant.taken c.in_err-count.ensures.fills in
-    let fails : FailsToRead g.S.Source.left g.S.Source.has_failed g.S.Source.interruptions c.args.source.now c.fill.new.self.source.now (file_fault_of c.in_err-count.field-0.0) =
-    record { taken = is.bytes; consumed = is.consumed; why = is.why } in
-    rw (p.1, p.2) (grind (arith, fails))
+    let now : ReadingState = state_of g.S.Source.left g.S.Source.has_failed g.S.Source.interruptions c.piece.new.self in
+    let gives = c.in_ok-count.ensures.gives in
+    let all = piece-taken old mid now c.loop-bytes.bytes.items c.in_ok-count.count c.piece.new.room c.loop-bytes.invariant.taken gives
+    (omega (arith, c.if-count-eq0.false)) in
+    let fails : FailsToRead g.S.Source.left g.S.Source.has_failed g.S.Source.interruptions c.args.source.now c.piece.new.self.source.now TooLong =
+    record { taken = _; consumed = all.taken.consumed; why = (gives.works, too-long old now _ (refl, refl) all.taken all.each (c.is_spent.ensures.0 c.if-is_spent.true)) } in
+    grind (arith, fails)
 
 pub returns-then-is_err-clause-fails : goal.returns-then-is_err-clause-fails
 returns-then-is_err-clause-fails g c =
     let old : ReadingState = fresh g.S.Source.left g.S.Source.has_failed g.S.Source.interruptions c.args.source.now in
     let mid : ReadingState = state_of g.S.Source.left g.S.Source.has_failed g.S.Source.interruptions c.loop-bytes.reading in
-    let now : ReadingState = state_of g.S.Source.left g.S.Source.has_failed g.S.Source.interruptions c.fill.new.self in
-    let fills = c.in_ok-count.ensures.fills in
-    let all = Takes-trans old mid now c.loop-bytes.bytes.items _ c.loop-bytes.invariant.taken.taken fills.taken in
-    let fails : FailsToRead g.S.Source.left g.S.Source.has_failed g.S.Source.interruptions c.args.source.now c.fill.new.self.source.now Memory =
-    record { taken = _; consumed = all.consumed; why = fills.works } in
+    let now : ReadingState = state_of g.S.Source.left g.S.Source.has_failed g.S.Source.interruptions c.piece.new.self in
+    let gives = c.in_ok-count.ensures.gives in
+    let all = piece-taken old mid now c.loop-bytes.bytes.items c.in_ok-count.count c.piece.new.room c.loop-bytes.invariant.taken gives
+    (omega (arith, c.if-count-eq0.false)) in
+    let inside : IsWithin now = (c.piece.new.self.budget.bytes_in_range, c.piece.new.self.budget.calls_in_range) in
+    let few = memory-below old mid now c.loop-bytes.bytes.items c.in_ok-count.count c.piece.new.room (refl, refl) inside c.loop-bytes.invariant.taken gives
+    (omega (arith, c.if-count-eq0.false))
+    (λ spent. let yes = c.is_spent.ensures.1 spent in let no = c.if-is_spent.false in absurd (cc)) in
+    let fails : FailsToRead g.S.Source.left g.S.Source.has_failed g.S.Source.interruptions c.args.source.now c.piece.new.self.source.now Memory =
+    record { taken = _; consumed = all.taken.consumed; why = (gives.works, few.0, few.1) } in
     grind (arith, fails)

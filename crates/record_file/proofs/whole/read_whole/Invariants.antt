@@ -1,7 +1,6 @@
-use Rattle.std.proofs.Common.{◌≡◌, ◌-◌, ◌^◌, ℕ, List}
-use Rattle.record_file.specs.Reading.{state_of, Takes, EachCallTakes}
-use Rattle.record_file.proofs.Filling.{fresh}
-use Rattle.record_file.proofs.ReadWhole.{HasTaken}
+use Rattle.std.proofs.Common.{◌≡◌, ◌-◌, ◌^◌}
+use Rattle.record_file.specs.Reading.{state_of}
+use Rattle.record_file.proofs.Readings.{HasTaken, fresh}
 use Rattle.record_file.proofs.whole.read_whole.Given as goal
 
 -- so many bytes were taken, in whole pieces

@@ -1,6 +1,6 @@
 use Rattle.std.proofs.Common.{None}
 use Rattle.record_file.proofs.ReportRecords.{absorbs-fault, absorbs-memory, absorbs-none, absorbs-told}
-use Rattle.record_file.proofs.file.absorb_report.Goals as goal
+use Rattle.record_file.proofs.record.absorb_report.Goals as goal
 
 pub returns-in_default : goal.returns-in_default
 returns-in_default c = record { judged = absorbs-none c.args.bytes.now None c.args.index c.args.store.now c.in_default.ensures }

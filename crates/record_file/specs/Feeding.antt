@@ -1,0 +1,156 @@
+-- A file that comes in pieces: what an absorber waits for after the bytes that it was fed, and what a piece more does.
+use Rattle.std.specs.Prelude.{◌≡◌, ◌⊎◌, ℕ, ◌+◌, ◌*◌, ◌<◌, ◌≤◌, ◌^◌, List, [], ◌∷◌, ◌++◌, Option, None, Some, Result, Ok, Err, IfOk, length, take}
+use Rattle.std.specs.Prelude.{nat_lt, ◌==◌, if◌then◌else◌}
+use Rattle.std.specs.List.{concat}
+use Rattle.fact_join.specs.declared.cell.Cell.{Cell}
+use Rattle.fact_store.specs.declared.key.Key.{Key}
+use Rattle.fact_store.specs.declared.value.Value.{Value}
+use Rattle.fact_store.specs.View.{Facts, view}
+use Rattle.fact_store.specs.Merge.{merge}
+use Rattle.record_file.specs.declared.awaited.Awaited.{Awaited}
+use Rattle.record_file.specs.declared.awaited.Awaited.TheVariants as awaited
+use Rattle.record_file.specs.declared.file_fault.FileFault.{FileFault}
+use Rattle.record_file.specs.declared.file_fault.FileFault.TheVariants.{Magic, Truncated, Memory}
+use Rattle.record_file.specs.declared.format.Format.{Format}
+use Rattle.record_file.specs.Absorbs.{AbsorbsJudged}
+use Rattle.record_file.specs.RecordFile.{AreGoodRecords, format_of, judged, kept, key_in, last_key, magic, outcome, record_size}
+
+-- what an absorber waits for, or the fault that it stopped with; and the bytes of the awaited that came
+pub record Absorbing : Type 0 where
+  pub awaited : Result Awaited FileFault
+  pub part : List ℕ
+
+-- the bytes of what is awaited
+abbrev pub awaited_size : Awaited → ℕ
+awaited_size awaited.Magic = 8
+awaited_size (awaited.Record format index last) = record_size format
+
+-- the bytes before it
+abbrev pub place_of : Awaited → ℕ
+place_of awaited.Magic = 0
+place_of (awaited.Record format index last) = 8 + record_size format * index
+
+-- not all of its bytes came
+abbrev pub IsShortOf : Awaited → List ℕ → Type 0
+IsShortOf awaited part = length part < awaited_size awaited
+
+-- and fewer than 2^40 came altogether
+abbrev pub IsInReach : Result Awaited FileFault → List ℕ → Type 0
+IsInReach (Ok awaited) part = IsShortOf awaited part × (place_of awaited + length part < 2 ^ 40)
+IsInReach (Err fault) part = Unit {0}
+
+-- these bytes are the magic, good records, and a part of the next one, which is this one
+pub record IsBehindRecords (format : Format) (index : ℕ) (last : Option Key) (part fed : List ℕ) : Type 0 where
+  pub records : List (List ℕ)
+  pub whole : fed ≡ magic format ++ (concat records ++ part)
+  pub good : AreGoodRecords format None records
+  pub count : index ≡ length records
+  pub key : last ≡ last_key format None records
+  pub short : length part < record_size format
+
+-- after these bytes that is awaited, and that part of it came
+abbrev pub Awaits : Awaited → List ℕ → List ℕ → Type 0
+Awaits awaited.Magic part fed = (fed ≡ part) × (length part < 8)
+Awaits (awaited.Record format index last) part fed = IsBehindRecords format index last part fed
+
+-- the absorber was fed these bytes, and none of them had a fault
+pub record WasFed (a : Absorbing) (fed : List ℕ) : Type 0 where
+  pub awaited : Awaited
+  pub goes_on : a.awaited ≡ Ok awaited
+  pub awaits : Awaits awaited a.part fed
+  pub short : length fed < 2 ^ 40
+
+-- it stopped with this fault
+abbrev pub HasStopped : Absorbing → FileFault → Type 0
+HasStopped a fault = a.awaited ≡ Err fault
+
+-- of what so many bytes answer the fault that stays, whatever follows them
+abbrev pub staying : ℕ → Result (Unit {0}) FileFault → Option FileFault
+staying n (Ok u) = None
+staying n (Err Magic) = if nat_lt n 8 then None else Some Magic
+staying n (Err (Truncated offset)) = None
+staying n (Err fault) = Some fault
+
+-- the fault that these bytes have, whatever follows them
+abbrev pub fault_so_far : List ℕ → Option FileFault
+fault_so_far bytes = staying (length bytes) (outcome bytes)
+
+-- what the records tell that this piece completes was merged into the store
+pub record AddsTold (fed piece : List ℕ) (old new : Facts) : Type 0 where
+  pub told : List (Key × Cell Value)
+  pub more : kept (fed ++ piece) ≡ kept fed ++ told
+  pub held : new ≡ merge old (view told)
+
+-- a good record that this piece completes wanted memory; what those before it tell was merged into the store
+pub record WantsMemory (fed piece : List ℕ) (old new : Facts) : Type 0 where
+  pub format : Format
+  pub records : List (List ℕ)
+  pub r : List ℕ
+  pub behind : List ℕ
+  pub whole : fed ++ piece ≡ magic format ++ (concat records ++ (r ++ behind))
+  pub good : AreGoodRecords format None (records ++ r ∷ [])
+  pub completed : length fed < length (magic format ++ (concat records ++ r))
+  pub in_reach : length (magic format ++ (concat records ++ r)) ≤ 2 ^ 40
+  pub told : List (Key × Cell Value)
+  pub more : kept (magic format ++ concat records) ≡ kept fed ++ told
+  pub held : new ≡ merge old (view told)
+
+-- a record of the piece wanted memory, or the bytes have this fault now, and the store what came before it
+abbrev pub StopsWith : FileFault → List ℕ → List ℕ → Facts → Facts → Type 0
+StopsWith fault fed piece old new =
+    ((fault ≡ Memory) × WantsMemory fed piece old new) ⊎ ((fault_so_far (fed ++ piece) ≡ Some fault) × AddsTold fed piece old new)
+
+-- what a piece behind these bytes leaves
+abbrev pub FeedsBehind : List ℕ → List ℕ → Result (Unit {0}) FileFault → Absorbing → Facts → Facts → Type 0
+FeedsBehind fed piece (Ok u) a old new = WasFed a (fed ++ piece) × (fault_so_far (fed ++ piece) ≡ None) × AddsTold fed piece old new
+FeedsBehind fed piece (Err fault) a old new = HasStopped a fault × StopsWith fault fed piece old new
+
+-- what feeding a piece answers, and what it leaves of the absorber and of the store
+pub record FeedsPiece (a : Absorbing) (piece : List ℕ) (answer : Result (Unit {0}) FileFault) (a' : Absorbing) (old new : Facts) : Type 0 where
+  pub goes_on : (fed : List ℕ) → WasFed a fed → FeedsBehind fed piece answer a' old new
+  pub stays : (fault : FileFault) → HasStopped a fault → (answer ≡ Err fault) × (a' ≡ a) × (new ≡ old)
+
+-- what the end of the file answers
+pub record Finishes (a : Absorbing) (answer : Result (Unit {0}) FileFault) : Type 0 where
+  pub ends : (fed : List ℕ) → WasFed a fed → answer ≡ outcome fed
+  pub stays : (fault : FileFault) → HasStopped a fault → answer ≡ Err fault
+
+-- the steps of a piece -----------------------------------------------------------------
+
+-- what is awaited behind eight bytes
+abbrev pub behind_magic : Option Format → Result Awaited FileFault
+behind_magic None = Err Magic
+behind_magic (Some format) = Ok (awaited.Record format 0 None)
+
+-- how a file ends where so many bytes of the awaited came
+abbrev pub ending_at : Awaited → ℕ → Result (Unit {0}) FileFault
+ending_at awaited.Magic n = Err Magic
+ending_at (awaited.Record format index last) n = if n == 0 then Ok tt else Err (Truncated (place_of (awaited.Record format index last)))
+
+-- what taking the awaited whole answers, and does to the store
+abbrev pub TakesAwaited : Awaited → List ℕ → Result Awaited FileFault → Facts → Facts → Type 0
+TakesAwaited awaited.Magic bytes answer old new = (answer ≡ behind_magic (format_of bytes)) × (new ≡ old)
+TakesAwaited (awaited.Record format index last) bytes answer old new =
+    AbsorbsJudged (judged format last bytes) index answer old new
+    × IfOk answer (λ next. next ≡ awaited.Record format (index + 1) (key_in format bytes))
+
+-- where bytes lead from others
+abbrev pub TakesTo : List ℕ → List ℕ → Result Awaited FileFault → List ℕ → Facts → Facts → Type 0
+TakesTo fed piece (Ok next) part old new = Awaits next part (fed ++ piece) × AddsTold fed piece old new
+TakesTo fed piece (Err fault) part old new = StopsWith fault fed piece old new
+
+-- where they lead from wherever that is awaited
+abbrev pub TakesPiece : Awaited → List ℕ → List ℕ → Result Awaited FileFault → List ℕ → Facts → Facts → Type 0
+TakesPiece awaited part piece answer part' old new = (fed : List ℕ) → Awaits awaited part fed → TakesTo fed piece answer part' old new
+
+-- so many bytes were taken from the front
+pub record TakesSome (awaited : Awaited) (part bytes : List ℕ) (next : Awaited) (n : ℕ) (part' : List ℕ) (old new : Facts) : Type 0 where
+  pub some : 0 < n
+  pub within : n ≤ length bytes
+  pub short : IsShortOf next part'
+  pub place : place_of next + length part' ≡ (place_of awaited + length part) + n
+  pub takes : TakesPiece awaited part (take n bytes) (Ok next) part' old new
+
+abbrev pub TakesFront : Awaited → List ℕ → List ℕ → Result (Awaited × ℕ) FileFault → List ℕ → Facts → Facts → Type 0
+TakesFront awaited part bytes (Ok taken) part' old new = TakesSome awaited part bytes taken.0 taken.1 part' old new
+TakesFront awaited part bytes (Err fault) part' old new = TakesPiece awaited part bytes (Err fault) part' old new

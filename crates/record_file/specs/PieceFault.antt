@@ -1,0 +1,9 @@
+-- What a fault of reading a piece is for the file.
+use Rattle.record_file.specs.declared.stream.reading.PieceFault.{PieceFault}
+use Rattle.record_file.specs.declared.stream.reading.PieceFault.TheVariants as piece
+use Rattle.record_file.specs.declared.file_fault.FileFault.{FileFault}
+use Rattle.record_file.specs.declared.file_fault.FileFault.TheVariants.{Read, TooLong}
+
+abbrev pub file_fault_of : PieceFault → FileFault
+file_fault_of piece.Read = Read
+file_fault_of piece.TooLong = TooLong

@@ -1,0 +1,36 @@
+-- Laws of files that come in pieces.
+use Rattle.std.specs.Prelude.{◌≡◌, ℕ, List, [], ◌∷◌, Result, Err}
+use Rattle.std.specs.List.{concat}
+use Rattle.fact_store.specs.View.{Facts, view}
+use Rattle.fact_store.specs.Merge.{merge}
+use Rattle.record_file.specs.declared.file_fault.FileFault.{FileFault}
+use Rattle.record_file.specs.declared.file_fault.FileFault.TheVariants.{Memory}
+use Rattle.record_file.specs.Feeding.{Absorbing, FeedsPiece, Finishes, WasFed}
+use Rattle.record_file.specs.RecordFile.{kept, outcome}
+
+-- these pieces are fed one after the other, and none wants memory
+abbrev pub FeedsEach : List (List ℕ) → Absorbing → Absorbing → Facts → Facts → Type 0
+FeedsEach [] a a' old new = (a' ≡ a) × (new ≡ old)
+FeedsEach (piece ∷ pieces) a a' old new =
+    (answer : Result (Unit {0}) FileFault) × (next : Absorbing) × (mid : Facts)
+    × FeedsPiece a piece answer next old mid × (answer ≡ Err Memory → ⊥) × FeedsEach pieces next a' mid new
+
+-- an absorber that was fed nothing is fed these pieces and finished, with this answer
+pub record ReadsPieces (pieces : List (List ℕ)) (answer : Result (Unit {0}) FileFault) (old new : Facts) : Type 0 where
+  pub a : Absorbing
+  pub a' : Absorbing
+  pub fresh : WasFed a []
+  pub feeds : FeedsEach pieces a a' old new
+  pub finishes : Finishes a' answer
+
+-- pieces give what reading their bytes gives
+abbrev pub PiecesAreRead : Type 0
+PiecesAreRead =
+    (pieces : List (List ℕ)) (answer : Result (Unit {0}) FileFault) (old new : Facts) → ReadsPieces pieces answer old new
+    → (answer ≡ outcome (concat pieces)) × (new ≡ merge old (view (kept (concat pieces))))
+
+-- they give what all of their bytes give at once
+abbrev pub CutsChangeNothing : Type 0
+CutsChangeNothing =
+    (pieces : List (List ℕ)) (answer whole_answer : Result (Unit {0}) FileFault) (old new whole_new : Facts) → ReadsPieces pieces answer old new
+    → ReadsPieces (concat pieces ∷ []) whole_answer old whole_new → (answer ≡ whole_answer) × (new ≡ whole_new)

@@ -1,0 +1,138 @@
+//! A file that comes in pieces.
+ghost use Rattle.std.specs.Prelude.{◌≡◌, ◌+◌, ◌<◌, ◌≤◌, ◌^◌, [], length};
+ghost use Rattle.record_file.specs.Feeding.{Absorbing, FeedsPiece, Finishes, WasFed, IsInReach, IsShortOf, TakesFront, TakesPiece, place_of};
+
+use crate::awaited::Awaited;
+use crate::file_fault::FileFault;
+use crate::report_record::RECORD_LEN;
+use crate::stream::MOST;
+use arrayvec::ArrayVec;
+use fact_store::Store;
+use std::marker::Model;
+
+/// The bytes of what is awaited that came with earlier pieces: no record is longer.
+type Part = ArrayVec<u8, RECORD_LEN>;
+
+/// Takes a file in, piece after piece. Each record is judged once its last byte is there: where it
+/// lies, or, if it was cut, put together here. Takes no memory of its own.
+#[derive(Drop)]
+pub struct Absorber {
+    awaited: Result<Awaited, FileFault>,
+    part: Part,
+}
+
+impl Model for Absorber {
+    ghost Value = { Absorbing };
+
+    ghost view = { λ a. record { awaited = a.awaited; part = a.part.items } };
+
+    ghost invariant = { λ a. IsInReach a.awaited a.part.items };
+}
+
+impl Absorber {
+    /// Waits for a file's magic.
+    pub fn new() -> Self
+        ensures { WasFed result [] }
+    {
+        Absorber {
+            awaited: Ok(Awaited::Magic),
+            part: ArrayVec::new(),
+        }
+    }
+
+    /// Puts what the records tell that this piece completes into the store.
+    ///
+    /// # Errors
+    ///
+    /// `Magic` as soon as 8 bytes are there, `BadReport`, `BadCell`, `CellOrder` and `Memory`, of
+    /// the first record that has one, and behind the records `TooLong` with the 2^40th byte. The
+    /// store then holds the records before it. From then on each call answers the same and changes
+    /// nothing.
+    pub fn feed(&mut self, piece: &[u8], store: &mut Store) -> Result<(), FileFault>
+        ensures feeds { FeedsPiece self.old piece.now result self.new store.old store.new }
+    {
+        let awaited = match self.awaited {
+            Ok(awaited) => awaited,
+            Err(fault) => return Err(fault),
+        };
+        self.awaited = take_piece(awaited, &mut self.part, piece, store);
+        match self.awaited {
+            Ok(_) => Ok(()),
+            Err(fault) => Err(fault),
+        }
+    }
+
+    /// The end of the file.
+    ///
+    /// # Errors
+    ///
+    /// The fault that `feed` answered, `Magic` for fewer than 8 bytes, and `Truncated` within a
+    /// record.
+    pub fn finish(self) -> Result<(), FileFault>
+        ensures finishes { Finishes self result }
+    {
+        let Absorber { awaited, part } = self;
+        match awaited {
+            Ok(awaited) => awaited.end(part.len()),
+            Err(fault) => Err(fault),
+        }
+    }
+}
+
+/// Takes the bytes up to the 2^40th, and says what comes behind them.
+fn take_piece(
+    awaited: Awaited,
+    part: &mut Part,
+    piece: &[u8],
+    store: &mut Store,
+) -> Result<Awaited, FileFault>
+    requires in_reach { IsInReach (Ok awaited) part.old.items }
+    ensures in_reach { IsInReach result part.new.items }
+    ensures takes { TakesPiece awaited part.old.items piece.now result part.new.items
+        store.old store.new }
+{
+    let reach = (MOST - awaited.place()) as usize - part.len();
+    let count = piece.len().min(reach);
+    let mut rest = &piece[..count];
+    let mut next = awaited;
+    while !rest.is_empty() {
+        let (behind, taken) = take_front(next, part, rest, store)?;
+        next = behind;
+        rest = &rest[taken..];
+    }
+    if count == reach {
+        return Err(FileFault::TooLong);
+    }
+    Ok(next)
+}
+
+/// Takes those of the bytes that belong to what is awaited, and says how many.
+fn take_front(
+    awaited: Awaited,
+    part: &mut Part,
+    bytes: &[u8],
+    store: &mut Store,
+) -> Result<(Awaited, usize), FileFault>
+    requires some { 0 < length bytes.now }
+    requires short { IsShortOf awaited part.old.items }
+    requires in_reach { place_of awaited + length part.old.items + length bytes.now ≤ 2 ^ 40 }
+    ensures takes { TakesFront awaited part.old.items bytes.now result part.new.items
+        store.old store.new }
+{
+    let size = awaited.len();
+    if part.is_empty() && bytes.len() >= size {
+        let behind = awaited.absorb(&bytes[..size], store)?;
+        return Ok((behind, size));
+    }
+    let count = bytes.len().min(size - part.len());
+    match part.try_extend_from_slice(&bytes[..count]) {
+        Ok(()) => {}
+        Err(_) => unreachable!(),
+    }
+    if part.len() < size {
+        return Ok((awaited, count));
+    }
+    let behind = awaited.absorb(part.as_slice(), store)?;
+    part.clear();
+    Ok((behind, count))
+}

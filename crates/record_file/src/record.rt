@@ -1,0 +1,90 @@
+//! What a record of a file does to a store.
+ghost use Rattle.std.specs.Prelude.{◌≡◌, length, IfOk};
+ghost use Rattle.fact_store.specs.Key.{is_above};
+ghost use Rattle.record_file.specs.Absorbs.{AbsorbsJudged};
+ghost use Rattle.record_file.specs.RecordFile.{judged, key_in, record_size};
+ghost use Rattle.record_file.specs.declared.format.Format.TheVariants.{Reports, Cells};
+
+use crate::file_fault::FileFault;
+use crate::format::Format;
+use crate::report_record::report_of;
+use crate::store_file::cell_of;
+use fact_store::{IngestFault, Key, ReportFault, Store};
+
+/// Adds what the record of this index tells. The key is that of a cell.
+pub(crate) fn absorb_record(
+    format: Format,
+    last: Option<Key>,
+    bytes: &[u8],
+    index: u64,
+    store: &mut Store,
+) -> Result<Option<Key>, FileFault>
+    requires { length bytes.now ≡ record_size format }
+    ensures key { IfOk result (λ key. key ≡ key_in format bytes.now) }
+    ensures judged { AbsorbsJudged (judged format last bytes.now) index result
+        store.old store.new }
+{
+    match format {
+        Format::Reports => {
+            absorb_report(bytes, index, store)?;
+            Ok(None)
+        }
+        Format::Cells => {
+            let key = absorb_cell(last, bytes, index, store)?;
+            Ok(Some(key))
+        }
+    }
+}
+
+/// Adds what the record of a report tells.
+fn absorb_report(bytes: &[u8], index: u64, store: &mut Store) -> Result<(), FileFault>
+    requires { length bytes.now ≡ 272 }
+    ensures judged { AbsorbsJudged (judged Reports None bytes.now) index result
+        store.old store.new }
+{
+    let Some(report) = report_of(bytes) else {
+        return Err(FileFault::BadReport {
+            index,
+            fault: ReportFault::Context,
+        });
+    };
+    match store.ingest(&report) {
+        Ok(()) => Ok(()),
+        Err(IngestFault::Report(fault)) => Err(FileFault::BadReport { index, fault }),
+        Err(IngestFault::Memory) => Err(FileFault::Memory),
+    }
+}
+
+/// Adds the cell of a record, if its key comes after the last one's.
+fn absorb_cell(
+    last: Option<Key>,
+    bytes: &[u8],
+    index: u64,
+    store: &mut Store,
+) -> Result<Key, FileFault>
+    requires { length bytes.now ≡ 32 }
+    ensures key { IfOk result (λ key. Some key ≡ key_in Cells bytes.now) }
+    ensures judged { AbsorbsJudged (judged Cells last bytes.now) index result
+        store.old store.new }
+{
+    let Some(sighting) = cell_of(bytes) else {
+        return Err(FileFault::BadCell { index });
+    };
+    let key = sighting.key();
+    if !is_after(&key, &last) {
+        return Err(FileFault::CellOrder { index });
+    }
+    match store.add(sighting) {
+        Ok(()) => Ok(key),
+        Err(_) => Err(FileFault::Memory),
+    }
+}
+
+fn is_after(key: &Key, last: &Option<Key>) -> bool
+    ensures { result ≡ is_above last.now key.now }
+{
+    match last {
+        None => true,
+        Some(last) => last < key,
+    }
+}
