@@ -4,3 +4,4 @@ pub mod Opened
 pub mod Paged
 pub mod Replaced
 pub mod Shifts
+pub mod Truncated

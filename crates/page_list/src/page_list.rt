@@ -1,4 +1,4 @@
-ghost use Rattle.std.specs.Prelude.{◌≡◌, ◌+◌, ◌^◌, ◌<◌, ◌≤◌, [], ◌∷◌, ◌++◌, OnOk, OnErr, IfOk, length, slice_get, slice_set, drop, insert};
+ghost use Rattle.std.specs.Prelude.{◌≡◌, ◌+◌, ◌^◌, ◌<◌, ◌≤◌, [], ◌∷◌, ◌++◌, OnOk, OnErr, IfOk, length, slice_get, slice_set, take, drop, insert};
 ghost use Rattle.page_list.specs.Rest.{rest_of};
 ghost use Rattle.page_list.specs.Listing.{Listing};
 
@@ -151,6 +151,21 @@ impl<T: Copy> PageList<T> {
         fill(&mut self.spare, *self.pages.allocator(), n)?;
         self.room = n;
         Ok(())
+    }
+
+    /// Keeps the items before a place, if that is not past the end. Pages after the one that has the place are given back.
+    pub fn truncate(&mut self, n: usize)
+        ensures items { self.new.items ≡ take n self.old.items }
+        ensures room { self.new.room ≡ self.old.room }
+    {
+        if n >= self.len {
+            return;
+        }
+        let at = place_of(&self.pages, &self.starts, n);
+        self.pages[at.page].truncate(at.offset);
+        self.pages.truncate(at.page + 1);
+        self.starts.truncate(at.page + 1);
+        self.len = n;
     }
 
     /// Puts an item at the end. Pages that only this fills are three quarters full.

@@ -41,5 +41,11 @@ fn pushes_at_the_end(rt: HostRuntime) -> Result<(), Fail> {
         paged.push(number)?;
     }
     assert!(rt; paged.len() == 600 && paged.iter().eq(0..600u32));
+    // in a page, where one begins, and all
+    for left in [601, 500, 192, 1, 0] {
+        paged.truncate(left);
+        let last = left.min(600) as u32;
+        assert!(rt; paged.iter().eq(0..last), "{left}");
+    }
     Ok(())
 }
