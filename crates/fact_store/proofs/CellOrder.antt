@@ -1,4 +1,4 @@
--- Cells in the order of their keys: as entries of their view, with one put in, and with one changed.
+-- Cells in the order of their keys: as entries of their map, with one put in, and with one changed.
 use Rattle.std.proofs.Common.{◌≡◌, ℕ, zero, suc, ◌<◌, ◌≤◌, List, [], ◌∷◌, ◌++◌, length, set, refl, sym, ap, ◌∙◌, subst, arith, Bool, true, false, ◌&&◌}
 use Rattle.std.proofs.lemmas.Option.{get_or_from_slice_get, slice_get_within, slice_get-get_or}
 use Rattle.std.proofs.lemmas.List.{append_assoc}
@@ -16,11 +16,11 @@ use Rattle.fact_store.specs.declared.key.Key.{Key}
 use Rattle.fact_store.specs.declared.value.Value.{Value}
 use Rattle.fact_store.specs.Cells.{IsPlaceFor}
 use Rattle.fact_store.specs.Key.{key_cmp}
-use Rattle.fact_store.specs.View.{view}
+use Rattle.fact_store.specs.Seen.{seen}
 use Rattle.fact_store.proofs.Entries.{put_all, entries-from_entries}
 use Rattle.fact_store.proofs.Keys.{key_total}
 use Rattle.fact_store.proofs.Orders.{first_true, second_true, is_less, below_at, get_contained}
-use Rattle.fact_store.proofs.ViewLaws.{view_of_its_cells}
+use Rattle.fact_store.proofs.SeenLaws.{seen_of_its_cells}
 
 -- both hold
 both_true : (a b : Bool) → T a → T b → T (a && b)
@@ -44,7 +44,7 @@ is_lt_less o e = subst (λ (r : Ordering). T (is_lt r)) (sym e) tt
 pub less_back : (a b : Key) → key_cmp a b ≡ Greater → key_cmp b a ≡ Less
 less_back a b e = key_total.antisymm b a ∙ ap ordering_reverse e
 
--- the entries of their view ------------------------------------------------------------------
+-- the entries of their map ------------------------------------------------------------------
 
 -- a cell whose key is below all others is put first
 put_least : (e : Key × Cell Value) (es : List (Key × Cell Value)) → T (sorted.below_all key_cmp e.0 es) → sorted.put key_cmp e.0 e.1 es ≡ e ∷ es
@@ -56,11 +56,11 @@ put_all-rising : (es : List (Key × Cell Value)) → T (sorted.is_sorted key_cmp
 put_all-rising [] h = refl
 put_all-rising (e ∷ es) h = ap (sorted.put key_cmp e.0 e.1) (put_all-rising es (second_true _ _ h)) ∙ put_least e es (first_true _ _ h)
 
--- they are the entries of their view
-pub entries-rising : (es : List (Key × Cell Value)) → T (sorted.is_sorted key_cmp es) → entries (view es) ≡ es
+-- they are the entries of their map
+pub entries-rising : (es : List (Key × Cell Value)) → T (sorted.is_sorted key_cmp es) → entries (seen es) ≡ es
 entries-rising es h =
     let made : entries (from_entries {R = key_cmp} es) ≡ es = entries-from_entries es ∙ put_all-rising es h in
-    ap entries (ap view (sym made) ∙ view_of_its_cells (from_entries es)) ∙ made
+    ap entries (ap seen (sym made) ∙ seen_of_its_cells (from_entries es)) ∙ made
 
 -- by their place -----------------------------------------------------------------------------
 
@@ -111,9 +111,9 @@ pub ends_at : (es : List (Key × Cell Value)) (i : ℕ) (k : Key) → T (sorted.
 ends_at es i k h l f g =
     record {
       within = l;
-      absent = elim (get (view es) k) as (λ (o : Option (Cell Value)). get (view es) k ≡ o → o ≡ None) [
+      absent = elim (get (seen es) k) as (λ (o : Option (Cell Value)). get (seen es) k ≡ o → o ≡ None) [
         | None ↦ λ e. refl
-        | Some c ↦ λ e. absurd (nowhere c (subst (λ (s : List (Key × Cell Value)). Contains s (k, c)) (entries-rising es h) (get_contained (view es) k c e)))
+        | Some c ↦ λ e. absurd (nowhere c (subst (λ (s : List (Key × Cell Value)). Contains s (k, c)) (entries-rising es h) (get_contained (seen es) k c e)))
       ] refl;
       rising = λ c. shown _ (rising-insert es i k c h l f g);
     }

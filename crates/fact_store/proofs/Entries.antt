@@ -1,5 +1,8 @@
 -- The entries of a map that is made of a list, as a list that computes.
-use Rattle.std.proofs.Common.{◌≡◌, T, List, [], ◌∷◌, refl, sym, ap, ◌∙◌}
+use Rattle.std.proofs.Common.{◌≡◌, T, List, [], ◌∷◌, refl, sym, ap, ◌∙◌, arith, cond}
+use Rattle.std.proofs.lemmas.Bool.{le-leb}
+use Rattle.std.specs.Prelude.{max}
+use Rattle.fact_join.specs.Cell.{generation_of}
 use Rattle.std.specs.FinMap.{entries, entries_sorted, from_entries, entries-insert, get-entries, empty, len-empty, len-entries}
 use Rattle.std.specs.FinMap.Entries.{find, is_sorted, put}
 use Rattle.std.proofs.Common.{length, map}
@@ -7,7 +10,9 @@ use Rattle.fact_join.specs.declared.cell.Cell.{Cell}
 use Rattle.fact_store.specs.declared.key.Key.{Key}
 use Rattle.fact_store.specs.declared.value.Value.{Value}
 use Rattle.fact_store.specs.Key.{key_cmp}
-use Rattle.fact_store.specs.View.{Facts, cell_at, cell_for, cells_of, view}
+use Rattle.fact_store.specs.Floor.{entries-dropped, kept}
+use Rattle.fact_store.specs.Seen.{cell_at, seen}
+use Rattle.fact_store.specs.View.{Facts, cell_for, cells_of, view}
 use Rattle.fact_store.proofs.Keys.{key_total}
 
 -- each entry put in its place, the last one first
@@ -29,14 +34,23 @@ entries-from_entries (e ∷ es) = entries-insert key_total (from_entries es) e.0
 abbrev pub cells_of_view : List (Key × Cell Value) → List (Key × Cell Value)
 cells_of_view sightings = put_all (map (λ s. (s.0, cell_at s.0 sightings)) sightings)
 
--- the entries of a view compute
-pub entries-view : (sightings : List (Key × Cell Value)) → entries (view sightings) ≡ cells_of_view sightings
-entries-view sightings = entries-from_entries (map (λ s. (s.0, cell_at s.0 sightings)) sightings)
+-- so computes a map of sightings
+pub entries-seen : (sightings : List (Key × Cell Value)) → entries (seen sightings) ≡ cells_of_view sightings
+entries-seen sightings = entries-from_entries (map (λ s. (s.0, cell_at s.0 sightings)) sightings)
+
+-- at floor 1 each cell is kept
+pub kept_all : (es : List (Key × Cell Value)) → kept 1 es ≡ es
+kept_all [] = refl
+kept_all (e ∷ es) = ap (λ t. cond t (e ∷ kept 1 es) (kept 1 es)) (le-leb 1 (max 1 (generation_of e.1)) (omega arith)) ∙ ap (λ (s : List (Key × Cell Value)). e ∷ s) (kept_all es)
+
+-- and so does a view
+pub entries-view : (sightings : List (Key × Cell Value)) → cells_of (view sightings) ≡ cells_of_view sightings
+entries-view sightings = entries-dropped 1 (seen sightings) ∙ kept_all (entries (seen sightings)) ∙ entries-seen sightings
 
 -- a key's cell is found in the list
 pub cell_is_found : (facts : Facts) (key : Key) → cell_for facts key ≡ find key_cmp key (cells_of facts)
-cell_is_found facts key = get-entries facts key
+cell_is_found facts key = get-entries facts.found key
 
 -- which is in the order of keys
 pub cells_in_order : (facts : Facts) → T (is_sorted key_cmp (cells_of facts))
-cells_in_order facts = entries_sorted facts
+cells_in_order facts = entries_sorted facts.found

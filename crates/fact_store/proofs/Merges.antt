@@ -1,172 +1,148 @@
--- The merge of two views is their least upper bound, and so commutes, associates and changes nothing twice.
-use Rattle.std.proofs.Common.{◌≡◌, List, [], ◌∷◌, ◌++◌, refl, sym, ap, ◌∙◌, subst, true, false, cond, map}
-use Rattle.std.specs.Prelude.{Option, None, Some}
-use Rattle.std.specs.Option.{option_map_or}
-use Rattle.std.specs.Ordering.{eq_by_cmp}
-use Rattle.std.specs.FinMap.{empty, find, get, entries, get-empty, get-from_entries, get-entries, same_map}
+-- Facts at a floor, and their merge: it is the least above both, and so commutes, associates and changes nothing twice.
+use Rattle.std.proofs.Common.{◌≡◌, ◌≤◌, ℕ, T, List, refl, sym, ap, ◌∙◌, arith, Bool, true, false, cond, [], ◌∷◌}
+use Rattle.std.proofs.lemmas.Bool.{and_parts, leb-true}
+use Rattle.std.specs.Prelude.{Some, max}
+use Rattle.std.specs.FinMap.{empty, get, entries}
+use Rattle.std.specs.List.{list_all}
 use Rattle.fact_join.specs.declared.cell.Cell.{Cell}
 use Rattle.fact_join.specs.Cell.{IsBelow}
-use Rattle.fact_join.specs.Joins.{below_itself, below_antisymm, below_trans, joined_above_first, joined_above_second, joined_least}
+use Rattle.fact_join.specs.Joins.{below-le}
 use Rattle.fact_store.specs.declared.key.Key.{Key}
 use Rattle.fact_store.specs.declared.value.Value.{Value}
-use Rattle.fact_store.specs.Key.{key_cmp}
-use Rattle.fact_store.specs.Value.{is_same_value}
-use Rattle.fact_store.specs.View.{Facts}
-use Rattle.fact_store.specs.Merge.{join, IsBelowView, merge, MergeLaw, MergeIsUnique, MergeIsCommutative, MergeIsAssociative, MergeIsIdempotent}
-use Rattle.fact_store.proofs.Keys.{key_total, key_exact, equal_from_test}
-use Rattle.fact_store.specs.Values.{same_value_exact, same_value_itself}
+use Rattle.fact_store.specs.Coded.{same_facts}
+use Rattle.fact_store.specs.Floor.{dropped, is_kept, kept}
+use Rattle.fact_store.specs.Merge.{IsBelowView, merge, merge_maps, MergeLaw, MergeIsUnique, MergeIsCommutative, MergeIsAssociative, MergeIsIdempotent}
+use Rattle.fact_store.specs.Seen.{CellMap}
+use Rattle.fact_store.specs.View.{Facts, at_floor, cell_for, no_facts, raised}
+use Rattle.fact_store.proofs.Floors.{dropped_both, dropped_none, dropped_twice, get-dropped, is_kept_there, kept_is, kept_newer}
+use Rattle.fact_store.proofs.MapMerges.{IsBelowMap, maps_antisymm, merge_maps_empty, merge_maps_is_associative, merge_maps_is_commutative, merge_maps_is_idempotent, merge_maps_law}
+use Rattle.fact_store.proofs.Orders.{first_true, get_contained, second_true}
+use Rattle.smp_bytes.proofs.Members.{list_all_at}
 
--- cells that may be missing ----------------------------------------------------
+-- what a floor says of facts --------------------------------------------------------------
 
--- a cell, where there is one, is below one that is there too
-abbrev pub IsBelowThere : Option (Cell Value) → Option (Cell Value) → Type 0
-IsBelowThere o p = (c : Cell Value) → o ≡ Some c → (d : Cell Value) × (p ≡ Some d) × IsBelow c d
+-- a test that holds is true
+is_true : (b : Bool) → T b → b ≡ true
+is_true true h = refl
+is_true false h = absurd h
 
--- the join where both are there, and else the one that is
-abbrev pub joined_there : Option (Cell Value) → Option (Cell Value) → Option (Cell Value)
-joined_there None p = p
-joined_there (Some c) None = Some c
-joined_there (Some c) (Some d) = Some (join c d)
+-- their floor is 1 or more
+pub floor_from_one : (x : Facts) → 1 ≤ x.floor
+floor_from_one x = leb-true 1 x.floor (is_true _ (first_true _ _ x.above))
 
--- equal options hold equal cells
-pub the_same : (c d : Cell Value) → Some c ≡ Some d → c ≡ d
-the_same c d e = cc
+-- each of their cells is kept
+pub cell_is_kept : (x : Facts) (q : Key) (c : Cell Value) → cell_for x q ≡ Some c → is_kept x.floor c ≡ true
+cell_is_kept x q c e = list_all_at (λ s. is_kept x.floor s.1) (entries x.found) (is_true _ (second_true _ _ x.above)) (q, c) (get_contained x.found q c e)
 
--- cells that may be missing and are below each other are one
-pub there_antisymm : (o p : Option (Cell Value)) → IsBelowThere o p → IsBelowThere p o → o ≡ p
-there_antisymm None None f g = refl
-there_antisymm None (Some d) f g = cc ((g d refl).1)
-there_antisymm (Some c) None f g = cc ((f c refl).1)
-there_antisymm (Some c) (Some d) f g =
-    let x = f c refl in let y = g d refl in
-    ap Some (below_antisymm c d (subst (λ (z : Cell Value). IsBelow c z) (sym (the_same _ _ x.1)) x.2) (subst (λ (z : Cell Value). IsBelow d z) (sym (the_same _ _ y.1)) y.2))
+-- a list that is kept whole
+pub kept_whole : (floor : ℕ) (es : List (Key × Cell Value)) → list_all (λ e. is_kept floor e.1) es ≡ true → kept floor es ≡ es
+kept_whole floor [] h = refl
+kept_whole floor (e ∷ es) h =
+    let both = and_parts (is_kept floor e.1) (list_all (λ x. is_kept floor x.1) es) h in
+    ap (λ t. cond t (e ∷ kept floor es) (kept floor es)) both.0 ∙ ap (λ (s : List (Key × Cell Value)). e ∷ s) (kept_whole floor es both.1)
 
--- the join is above the first
-above_first : (o p : Option (Cell Value)) → IsBelowThere o (joined_there o p)
-above_first None p c e = absurd (cc)
-above_first (Some a) None c e = (a, refl, subst (λ (z : Cell Value). IsBelow z a) (the_same a c e) (below_itself a))
-above_first (Some a) (Some b) c e = (join a b, refl, subst (λ (z : Cell Value). IsBelow z (join a b)) (the_same a c e) (joined_above_first is_same_value same_value_exact same_value_itself a b))
+-- facts are their own cells at their own floor
+pub at_own_floor : (x : Facts) → at_floor x.floor x.found ≡ x
+at_own_floor x =
+    let one : max 1 x.floor ≡ x.floor = omega (arith, floor_from_one x) in
+    same_facts (at_floor x.floor x.found) x one
+    (ap (λ (f : ℕ). dropped f x.found) one ∙ dropped_none x.floor x.found (kept_whole x.floor (entries x.found) (is_true _ (second_true _ _ x.above))))
 
--- the join is above the second
-above_second : (o p : Option (Cell Value)) → IsBelowThere p (joined_there o p)
-above_second None p c e = (c, e, below_itself c)
-above_second (Some a) None c e = absurd (cc)
-above_second (Some a) (Some b) c e = (join a b, refl, subst (λ (z : Cell Value). IsBelow z (join a b)) (the_same b c e) (joined_above_second is_same_value same_value_exact same_value_itself a b))
+-- facts at a floor --------------------------------------------------------------------------
 
--- the join is below all that is above both
-least : (o p w : Option (Cell Value)) → IsBelowThere o w → IsBelowThere p w → IsBelowThere (joined_there o p) w
-least None p w f g c e = g c e
-least (Some a) None w f g c e = f c e
-least (Some a) (Some b) w f g c e =
-    let x = f a refl in let y = g b refl in (
-      x.0,
-      x.1,
-      subst (λ (z : Cell Value). IsBelow z x.0) (the_same (join a b) c e)
-          (joined_least is_same_value same_value_exact same_value_itself a b x.0 x.2 (subst (λ (z : Cell Value). IsBelow b z) (the_same _ _ (sym y.1 ∙ x.1)) y.2)),
-    )
+-- at floors that are one from 1 on
+pub at_same_floor : (f g : ℕ) (u : CellMap) → max 1 f ≡ max 1 g → at_floor f u ≡ at_floor g u
+at_same_floor f g u e = same_facts (at_floor f u) (at_floor g u) e (ap (λ (m : ℕ). dropped m u) e)
 
--- what the merge has at a key ----------------------------------------------------
+-- the greater of two floors, where each is 1 or more
+pub raised_at : (f g : ℕ) (u : CellMap) → raised (at_floor f u) g ≡ at_floor (max f g) u
+raised_at f g u =
+    same_facts (raised (at_floor f u) g) (at_floor (max (max 1 f) g) u) refl (dropped_twice (max 1 f) (max 1 (max (max 1 f) g)) u (omega arith))
+    ∙ at_same_floor (max (max 1 f) g) (max f g) u (omega arith)
 
--- the first's cell at a key, joined with a cell that is there or not
-abbrev with_other : Option (Cell Value) → Cell Value → Cell Value
-with_other o c = option_map_or (join c) o c
+-- a merge takes the greater floor
+pub merge_at : (f h : ℕ) (u v : CellMap) → merge (at_floor f u) (at_floor h v) ≡ at_floor (max f h) (merge_maps u v)
+merge_at f h u v =
+    same_facts (merge (at_floor f u) (at_floor h v)) (at_floor (max (max 1 f) (max 1 h)) (merge_maps u v)) refl
+    (dropped_both (max 1 f) (max 1 h) (max 1 (max (max 1 f) (max 1 h))) u v (omega arith) (omega arith))
+    ∙ at_same_floor (max (max 1 f) (max 1 h)) (max f h) (merge_maps u v) (omega arith)
 
--- the first, where it is there, joined with the other
-abbrev first_with : Option (Cell Value) → Option (Cell Value) → Option (Cell Value)
-first_with None o = None
-first_with (Some c) o = Some (with_other o c)
+-- of facts, as they stand
+of_own : (x y : Facts) → merge x y ≡ merge (at_floor x.floor x.found) (at_floor y.floor y.found)
+of_own x y = ap (λ (z : Facts). merge z y) (sym (at_own_floor x)) ∙ ap (merge (at_floor x.floor x.found)) (sym (at_own_floor y))
 
--- what is found among the joined cells of the first
-find-with : (es : List (Key × Cell Value)) (y : Facts) (q : Key) → find key_cmp q (map (λ e. (e.0, option_map_or (join e.1) (get y e.0) e.1)) es) ≡ first_with (find key_cmp q es) (get y q)
-find-with [] y q = refl
-find-with (e ∷ es) y q =
-    elim (eq_by_cmp key_cmp q e.0) as (λ t. eq_by_cmp key_cmp q e.0 ≡ t → cond t (Some (with_other (get y e.0) e.1)) (find key_cmp q (map (λ e. (e.0, option_map_or (join e.1) (get y e.0) e.1)) es)) ≡ first_with (cond t (Some e.1) (find key_cmp q es)) (get y q)) [
-      | true ↦ λ p. ap (λ k. Some (with_other (get y k) e.1)) (sym (key_exact q e.0 (equal_from_test _ p)))
-      | false ↦ λ p. find-with es y q
-    ] refl
+-- the laws ----------------------------------------------------------------------------------
 
--- the first that is there
-abbrev or_else : Option (Cell Value) → Option (Cell Value) → Option (Cell Value)
-or_else None p = p
-or_else (Some c) p = Some c
+-- the order of two does not matter
+pub merge_is_commutative : MergeIsCommutative
+merge_is_commutative x y =
+    at_same_floor (max x.floor y.floor) (max y.floor x.floor) (merge_maps x.found y.found) (omega arith)
+    ∙ ap (at_floor (max y.floor x.floor)) (merge_maps_is_commutative x.found y.found)
 
--- what is found in two lists is found in the first or else in the second
-find-append : (es fs : List (Key × Cell Value)) (q : Key) → find key_cmp q (es ++ fs) ≡ or_else (find key_cmp q es) (find key_cmp q fs)
-find-append [] fs q = refl
-find-append (e ∷ es) fs q =
-    elim (eq_by_cmp key_cmp q e.0) as (λ t. cond t (Some e.1) (find key_cmp q (es ++ fs)) ≡ or_else (cond t (Some e.1) (find key_cmp q es)) (find key_cmp q fs)) [
-      | true ↦ refl
-      | false ↦ find-append es fs q
-    ]
+-- facts merged with themselves stay
+pub merge_is_idempotent : MergeIsIdempotent
+merge_is_idempotent x =
+    at_same_floor (max x.floor x.floor) x.floor (merge_maps x.found x.found) (omega arith)
+    ∙ ap (at_floor x.floor) (merge_maps_is_idempotent x.found) ∙ at_own_floor x
 
--- both parts together are the join
-joined_by_parts : (o p : Option (Cell Value)) → or_else (first_with o p) p ≡ joined_there o p
-joined_by_parts None p = refl
-joined_by_parts (Some c) None = refl
-joined_by_parts (Some c) (Some d) = refl
+-- which of three are merged first does not matter
+pub merge_is_associative : MergeIsAssociative
+merge_is_associative x y z =
+    ap (merge (merge x y)) (sym (at_own_floor z))
+    ∙ merge_at (max x.floor y.floor) z.floor (merge_maps x.found y.found) z.found
+    ∙ at_same_floor (max (max x.floor y.floor) z.floor) (max x.floor (max y.floor z.floor)) _ (omega arith)
+    ∙ ap (at_floor (max x.floor (max y.floor z.floor))) (merge_maps_is_associative x.found y.found z.found)
+    ∙ sym (merge_at x.floor (max y.floor z.floor) x.found (merge_maps y.found z.found))
+    ∙ ap (λ (w : Facts). merge w (merge y z)) (at_own_floor x)
 
--- the join of what the two have there
-pub get-merge : (x y : Facts) (q : Key) → get (merge x y) q ≡ joined_there (get x q) (get y q)
-get-merge x y q =
-    get-from_entries key_total (map (λ e. (e.0, option_map_or (join e.1) (get y e.0) e.1)) (entries x) ++ entries y) q
-    ∙ find-append (map (λ e. (e.0, option_map_or (join e.1) (get y e.0) e.1)) (entries x)) (entries y) q
-    ∙ ap (λ o. or_else o (find key_cmp q (entries y))) (find-with (entries x) y q)
-    ∙ ap (λ o. or_else (first_with o (get y q)) (find key_cmp q (entries y))) (sym (get-entries x q))
-    ∙ ap (or_else (first_with (get x q) (get y q))) (sym (get-entries y q))
-    ∙ joined_by_parts (get x q) (get y q)
+-- no facts add nothing
+pub merge_empty : (x : Facts) → merge no_facts x ≡ x
+merge_empty x =
+    ap (merge no_facts) (sym (at_own_floor x))
+    ∙ merge_at 1 x.floor empty x.found
+    ∙ at_same_floor (max 1 x.floor) x.floor (merge_maps empty x.found) (omega arith)
+    ∙ ap (at_floor x.floor) (merge_maps_empty x.found) ∙ at_own_floor x
 
--- the laws -----------------------------------------------------------------------
+-- the order ---------------------------------------------------------------------------------
+
+-- what is not below the second's floor is below the second
+below_dropped : (x y : Facts) → IsBelowView x y → IsBelowMap (dropped y.floor x.found) y.found
+below_dropped x y b q c e =
+    let k = kept_is y.floor (cell_for x q) c (sym (get-dropped y.floor x.found q) ∙ e) in
+    b.cells q c k.0 k.1
+
+-- a cell that is above one that is kept
+above_kept : (floor : ℕ) (u : CellMap) (q : Key) (c : Cell Value) → is_kept floor c ≡ true → (d : Cell Value) × (get u q ≡ Some d) × IsBelow c d → (d : Cell Value) × (get (dropped floor u) q ≡ Some d) × IsBelow c d
+above_kept floor u q c k d = (d.0, get-dropped floor u q ∙ is_kept_there floor (get u q) d.0 d.1 (kept_newer floor c d.0 (below-le c d.0 d.2) k), d.2)
 
 -- facts below each other are one
 pub view_antisymm : (x y : Facts) → IsBelowView x y → IsBelowView y x → x ≡ y
-view_antisymm x y f g = same_map key_total key_exact x y (λ q. there_antisymm (get x q) (get y q) (f q) (g q))
-
--- facts below others are below all that is above these
-pub view_trans : (x y z : Facts) → IsBelowView x y → IsBelowView y z → IsBelowView x z
-view_trans x y z f g q c e =
-    let a = f q c e in let b = g q a.0 a.1 in (b.0, b.1, below_trans c a.0 b.0 a.2 b.2)
+view_antisymm x y a b =
+    let same : x.floor ≡ y.floor = omega (arith, a.floors, b.floors) in
+    same_facts x y same
+    (maps_antisymm x.found y.found
+    (λ q c e. a.cells q c e (ap (λ (f : ℕ). is_kept f c) (sym same) ∙ cell_is_kept x q c e))
+    (λ q c e. b.cells q c e (ap (λ (f : ℕ). is_kept f c) same ∙ cell_is_kept y q c e)))
 
 -- the merge is the least above both
 pub merge_law : MergeLaw
 merge_law x y =
+    let maps = merge_maps_law x.found y.found in
     record {
-      above_first = λ q. subst (IsBelowThere (get x q)) (sym (get-merge x y q)) (above_first (get x q) (get y q));
-      above_second = λ q. subst (IsBelowThere (get y q)) (sym (get-merge x y q)) (above_second (get x q) (get y q));
-      least = λ w f g q. subst (λ (o : Option (Cell Value)). IsBelowThere o (get w q)) (sym (get-merge x y q)) (least (get x q) (get y q) (get w q) (f q) (g q));
+      above_first = record { floors = omega arith; cells = λ q c e k. above_kept (max 1 (max x.floor y.floor)) (merge_maps x.found y.found) q c k (maps.above_first q c e) };
+      above_second = record { floors = omega arith; cells = λ q c e k. above_kept (max 1 (max x.floor y.floor)) (merge_maps x.found y.found) q c k (maps.above_second q c e) };
+      least = λ w a b. record {
+        floors = omega (arith, a.floors, b.floors, floor_from_one w);
+        cells = λ q c e k.
+            let there = kept_is (max 1 (max x.floor y.floor)) (get (merge_maps x.found y.found) q) c (sym (get-dropped (max 1 (max x.floor y.floor)) (merge_maps x.found y.found) q) ∙ e) in
+            let left : get (dropped w.floor (merge_maps (dropped w.floor x.found) (dropped w.floor y.found))) q ≡ Some c =
+                ap (λ (u : CellMap). get u q) (dropped_both w.floor w.floor w.floor x.found y.found (omega arith) (omega arith))
+                ∙ get-dropped w.floor (merge_maps x.found y.found) q ∙ is_kept_there w.floor (get (merge_maps x.found y.found) q) c there.0 k in
+            (merge_maps_law (dropped w.floor x.found) (dropped w.floor y.found)).least w.found (below_dropped x w a) (below_dropped y w b) q c
+            (kept_is w.floor (get (merge_maps (dropped w.floor x.found) (dropped w.floor y.found)) q) c (sym (get-dropped w.floor (merge_maps (dropped w.floor x.found) (dropped w.floor y.found)) q) ∙ left)).0;
+      };
     }
 
 -- two least facts above both are one
 pub merge_is_unique : MergeIsUnique
 merge_is_unique x y z w a b = view_antisymm z w (a.least w b.above_first b.above_second) (b.least z a.above_first a.above_second)
-
--- the order of two does not matter
-pub merge_is_commutative : MergeIsCommutative
-merge_is_commutative x y =
-    merge_is_unique x y (merge x y) (merge y x) (merge_law x y)
-    (record { above_first = (merge_law y x).above_second; above_second = (merge_law y x).above_first; least = λ w f g. (merge_law y x).least w g f })
-
--- facts merged with themselves stay
-pub merge_is_idempotent : MergeIsIdempotent
-merge_is_idempotent x =
-    view_antisymm (merge x x) x ((merge_law x x).least x (λ q c e. (c, e, below_itself c)) (λ q c e. (c, e, below_itself c))) (merge_law x x).above_first
-
--- which of three are merged first does not matter
-pub merge_is_associative : MergeIsAssociative
-merge_is_associative x y z =
-    let xy = merge_law x y in let yz = merge_law y z in let l = merge_law (merge x y) z in let r = merge_law x (merge y z) in
-    view_antisymm (merge (merge x y) z) (merge x (merge y z))
-    (l.least (merge x (merge y z))
-    (xy.least (merge x (merge y z)) r.above_first (view_trans y (merge y z) (merge x (merge y z)) yz.above_first r.above_second))
-    (view_trans z (merge y z) (merge x (merge y z)) yz.above_second r.above_second))
-    (r.least (merge (merge x y) z)
-    (view_trans x (merge x y) (merge (merge x y) z) xy.above_first l.above_first)
-    (yz.least (merge (merge x y) z) (view_trans y (merge x y) (merge (merge x y) z) xy.above_second l.above_first) l.above_second))
-
--- an empty map adds nothing
-pub merge_empty : (x : Facts) → merge empty x ≡ x
-merge_empty x =
-    let m = merge_law empty x in
-    view_antisymm (merge empty x) x (m.least x (λ q c e. absurd (none_there q c e)) (λ q c e. (c, e, below_itself c))) m.above_second
-  where
-    none_there : (q : Key) (c : Cell Value) → get (empty {X = Cell Value} {R = key_cmp}) q ≡ Some c → ⊥
-    none_there q c e = cc (get-empty key_cmp q)

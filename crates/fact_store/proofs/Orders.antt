@@ -10,11 +10,11 @@ use Rattle.fact_join.specs.declared.cell.Cell.{Cell}
 use Rattle.fact_store.specs.declared.key.Key.{Key}
 use Rattle.fact_store.specs.declared.value.Value.{Value}
 use Rattle.fact_store.specs.Key.{key_cmp}
-use Rattle.fact_store.specs.View.{Facts}
+use Rattle.fact_store.specs.Seen.{CellMap}
 use Rattle.fact_store.proofs.Keys.{key_total}
 use Rattle.smp_bytes.proofs.Members.{contains_here, contains_later, contains_cases, contains_none}
-use Rattle.fact_store.proofs.Merges.{the_same}
-use Rattle.fact_store.proofs.Views.{pair_is, is_of_itself}
+use Rattle.fact_store.proofs.MapMerges.{the_same}
+use Rattle.fact_store.proofs.Seen.{pair_is, is_of_itself}
 
 -- keys in order ------------------------------------------------------------------------
 
@@ -76,11 +76,11 @@ contained_found (x ∷ es) h q c k =
     ]
 
 -- what facts have at a key is one of their entries
-pub get_contained : (x : Facts) (q : Key) (c : Cell Value) → get x q ≡ Some c → Contains (entries x) (q, c)
+pub get_contained : (x : CellMap) (q : Key) (c : Cell Value) → get x q ≡ Some c → Contains (entries x) (q, c)
 get_contained x q c e = found_contained (entries x) q c (sym (get-entries x q) ∙ e)
 
 -- each entry of facts is what they have at its key
-pub contained_get : (x : Facts) (q : Key) (c : Cell Value) → Contains (entries x) (q, c) → get x q ≡ Some c
+pub contained_get : (x : CellMap) (q : Key) (c : Cell Value) → Contains (entries x) (q, c) → get x q ≡ Some c
 contained_get x q c h = get-entries x q ∙ contained_found (entries x) (entries_sorted x) q c h
 
 -- the next key -----------------------------------------------------------------------------

@@ -9,20 +9,20 @@ use Rattle.fact_store.specs.declared.key.Key.{Key}
 use Rattle.fact_store.specs.declared.value.Value.{Value}
 use Rattle.fact_store.specs.Cells.{AreCells, IsPlaceFor}
 use Rattle.fact_store.specs.Key.{key_cmp}
-use Rattle.fact_store.specs.Merge.{join, merge}
+use Rattle.fact_store.specs.Merge.{join, merge_maps}
 use Rattle.fact_store.specs.Sighting.{IsSighting}
-use Rattle.fact_store.specs.View.{Facts, view}
+use Rattle.fact_store.specs.Seen.{CellMap, seen}
 use Rattle.fact_store.proofs.CellOrder.{held, shown, rising-set}
-use Rattle.fact_store.proofs.CellViews.{view-insert, view-set, view_of_two}
+use Rattle.fact_store.proofs.CellViews.{seen-insert, seen-set, seen_of_two}
 use Rattle.smp_bytes.proofs.Members.{contains_cases, contains_none}
-use Rattle.fact_store.proofs.SightingRanges.{get-view_of_one, in_range}
-use Rattle.fact_store.proofs.Views.{is_of_itself, view_of_both}
+use Rattle.fact_store.proofs.SightingRanges.{get-seen_of_one, in_range}
+use Rattle.fact_store.proofs.Seen.{is_of_itself, seen_of_both}
 
 -- two cells in range say together what is in range
 pub join_in_range : (k : Key) (c d : Cell Value) → IsSighting (k, c) → IsSighting (k, d) → IsSighting (k, join c d)
 join_in_range k c d g h =
     in_range ((k, c) ∷ (k, d) ∷ []) each k (join c d)
-    (ap (λ (f : Facts). get f k) (view_of_both ((k, c) ∷ []) ((k, d) ∷ []) ∙ sym (view_of_two k c d)) ∙ get-view_of_one (k, join c d) k ∙ ap (λ t. cond t (Some (join c d)) None) (is_of_itself k (join c d)))
+    (ap (λ (f : CellMap). get f k) (seen_of_both ((k, c) ∷ []) ((k, d) ∷ []) ∙ sym (seen_of_two k c d)) ∙ get-seen_of_one (k, join c d) k ∙ ap (λ t. cond t (Some (join c d)) None) (is_of_itself k (join c d)))
   where
     each : (x : Key × Cell Value) → Contains ((k, c) ∷ (k, d) ∷ []) x → IsSighting x
     each x n =
@@ -43,8 +43,8 @@ module _ (cells : List (Key × Cell Value)) (are : AreCells cells) (i : ℕ) (to
         }
 
     -- and say what they said, and this
-    pub put_view : view new ≡ merge (view cells) (view (told ∷ []))
-    put_view = ap view is ∙ view-insert cells i told
+    pub put_seen : seen new ≡ merge_maps (seen cells) (seen (told ∷ []))
+    put_seen = ap seen is ∙ seen-insert cells i told
 
   module _ (was : Key × Cell Value) (at : slice_get cells i ≡ Some was) (same : was.0 ≡ told.0) (joined : Key × Cell Value) (joined_is : joined ≡ (was.0, join was.1 told.1)) (in_range' : IsSighting joined) (is : new ≡ set cells i joined) where
     -- the same, where the key has a cell
@@ -55,7 +55,7 @@ module _ (cells : List (Key × Cell Value)) (are : AreCells cells) (i : ℕ) (to
           in_range = subst (All IsSighting) (sym is) (All-set IsSighting cells i joined in_range' are.in_range);
         }
 
-    pub joined_view : view new ≡ merge (view cells) (view (told ∷ []))
-    joined_view =
-        ap view (is ∙ ap (set cells i) joined_is) ∙ view-set cells i was.0 was.1 told.1 at
-        ∙ ap (λ (k : Key). merge (view cells) (view ((k, told.1) ∷ []))) same
+    pub joined_seen : seen new ≡ merge_maps (seen cells) (seen (told ∷ []))
+    joined_seen =
+        ap seen (is ∙ ap (set cells i) joined_is) ∙ seen-set cells i was.0 was.1 told.1 at
+        ∙ ap (λ (k : Key). merge_maps (seen cells) (seen ((k, told.1) ∷ []))) same

@@ -1,280 +1,71 @@
--- The view of sightings is the least above all of them. So it depends on membership alone, and the view of two lists is the merge of their views.
-use Rattle.std.proofs.Common.{◌≡◌, ◌≤◌, ◌<◌, ℕ, List, [], ◌∷◌, ◌++◌, ◌⊎◌, inl, inr, refl, sym, ap, ◌∙◌, subst, arith, Bool, true, false, cond, ◌==◌, ◌||◌, map}
-use Rattle.std.proofs.lemmas.Bool.{eqb-true, eq-eqb, ltb-true, ltb-false}
-use Rattle.std.proofs.lemmas.List.Elements.{Contains-append_left, Contains-append_right, Contains-append_cases}
-use Rattle.std.specs.Prelude.{nat_lt, None, Some, Contains, filter}
-use Rattle.std.specs.List.{list_all, list_any}
-use Rattle.std.specs.Cmp.{tied_itself}
-use Rattle.std.specs.Ordering.{is_eq}
-use Rattle.std.specs.FinMap.{find, get, get-from_entries}
+-- Views at a floor: their law, and the view of two lists.
+use Rattle.std.proofs.Common.{◌≡◌, ℕ, List, [], ◌∷◌, ◌++◌, sym, ap, ◌∙◌, subst, arith, refl, false, cond}
+use Rattle.std.proofs.lemmas.List.{append-nil}
+use Rattle.std.specs.Prelude.{max}
 use Rattle.fact_join.specs.declared.cell.Cell.{Cell}
-use Rattle.fact_join.specs.declared.cell.Cell.TheVariants.{Known, Disputed}
-use Rattle.fact_join.specs.Cell.{generation_of, IsDisputed, IsBelow}
-use Rattle.fact_join.specs.Joins.{below_trans}
 use Rattle.fact_store.specs.declared.key.Key.{Key}
 use Rattle.fact_store.specs.declared.value.Value.{Value}
-use Rattle.fact_store.specs.Key.{key_cmp}
-use Rattle.fact_store.specs.Value.{is_same_cell}
-use Rattle.fact_store.specs.View.{Facts, is_of, cells_sighted, newest_of, agreement, cell_at, view, MembersDecideView}
-use Rattle.fact_store.specs.Merge.{IsBelowView, merge, ViewOfBoth}
-use Rattle.fact_store.proofs.Keys.{key_total, key_exact, equal_from_test}
-use Rattle.smp_bytes.proofs.Members.{contains_here, contains_later, contains_cases, contains_none, contains_filter, contains-from_filter, list_all_true, list_all_at}
-use Rattle.fact_store.proofs.Merges.{the_same, view_antisymm, merge_law}
-use Rattle.fact_store.specs.Values.{same_cell_exact, same_cell_itself}
+use Rattle.fact_store.specs.Coded.{same_facts}
+use Rattle.fact_store.specs.Floor.{dropped, is_kept, kept}
+use Rattle.fact_store.specs.Merge.{merge, ViewOfBoth}
+use Rattle.fact_store.specs.Seen.{IsSeen, seen}
+use Rattle.fact_store.specs.View.{Facts, at_floor, cells_of, view, view_at, MembersDecideView, RaisingForgets, ViewIsUnique, ViewLaw, ViewOfItsCells}
+use Rattle.fact_store.proofs.Floors.{kept_at_one, seen_kept}
+use Rattle.fact_store.proofs.Merges.{at_own_floor, at_same_floor, floor_from_one, merge_at, raised_at}
+use Rattle.fact_store.proofs.Seen.{members_decide_seen, seen_of_both}
+use Rattle.fact_store.proofs.SeenLaws.{seen_is_unique, seen_law, seen_of_its_cells}
 
--- cells of one generation ----------------------------------------------------------
+-- a view at a floor has what the sightings say that are kept
+pub found_at_floor : (floor : ℕ) (s : List (Key × Cell Value)) → dropped (max 1 floor) (seen s) ≡ seen (kept floor s)
+found_at_floor floor s = seen_kept (max 1 floor) s ∙ ap seen (kept_at_one floor s)
 
--- all cells are of this generation
-unfoldable pub AreAt : ℕ → List (Cell Value) → Type 0
-AreAt g cells = (c : Cell Value) → Contains cells c → generation_of c ≡ g
+-- each view has its law
+pub view_law : ViewLaw
+view_law floor s =
+    record {
+      at = refl;
+      cells = subst (IsSeen (kept floor s)) (sym (found_at_floor floor s)) (seen_law (kept floor s));
+    }
 
--- what cells of a generation say is of that generation
-pub generation-agreement : (g : ℕ) (a : Cell Value) (cells : List (Cell Value)) → generation_of a ≡ g → generation_of (agreement g (a ∷ cells)) ≡ g
-generation-agreement g a cells e = elim (list_all (is_same_cell a) cells) as (λ t. generation_of (cond t a (Disputed g)) ≡ g) [ true ↦ e | false ↦ refl ]
-
--- what they say is above each of them
-agreement_above : (g : ℕ) (a : Cell Value) (cells : List (Cell Value)) → AreAt g (a ∷ cells) → (c : Cell Value) → Contains (a ∷ cells) c → IsBelow c (agreement g (a ∷ cells))
-unfolding AreAt
-agreement_above g a cells at c h =
-    elim (list_all (is_same_cell a) cells) as (λ t. list_all (is_same_cell a) cells ≡ t → IsBelow c (cond t a (Disputed g))) [
-      | true ↦ λ p. (elim (contains_cases a c cells h) [
-        | inl e ↦ inr (inl (sym e))
-        | inr k ↦ inr (inl (sym (same_cell_exact a c (list_all_at (is_same_cell a) cells p c k))))
-      ])
-      | false ↦ λ p. inr (inr (at c h, tt))
-    ] refl
-
--- a known cell that is not newer than z is z, where z is above it and of its generation
-pub known_is : (g : ℕ) (v : Value) (c z : Cell Value) → generation_of c ≡ g → z ≡ Known g v → IsBelow c z → c ≡ z
-known_is g v c z e k (inl h) = absurd (omega (arith, ap generation_of k))
-known_is g v c z e k (inr (inl h)) = h
-known_is g v c z e k (inr (inr h)) = absurd (subst (λ (x : Cell Value). IsDisputed x) k h.1)
-
--- where a value is above all, they say that value
-agreement_least_known : (g : ℕ) (v : Value) (a : Cell Value) (cells : List (Cell Value)) (z : Cell Value) → AreAt g (a ∷ cells) → z ≡ Known g v → ((c : Cell Value) → Contains (a ∷ cells) c → IsBelow c z) → agreement g (a ∷ cells) ≡ z
-unfolding AreAt
-agreement_least_known g v a cells z at k f =
-    let is_z : (c : Cell Value) → Contains (a ∷ cells) c → c ≡ z = λ c h. known_is g v c z (at c h) k (f c h) in
-    let a_is : a ≡ z = is_z a (contains_here a cells) in
-    let all : list_all (is_same_cell a) cells ≡ true = list_all_true (is_same_cell a) cells (λ c h. ap (is_same_cell a) (is_z c (contains_later a c cells h) ∙ sym a_is) ∙ same_cell_itself a) in
-    ap (λ t. cond t a (Disputed g)) all ∙ a_is
-
--- what they say is below all that is above them
-agreement_least : (g : ℕ) (a : Cell Value) (cells : List (Cell Value)) (z : Cell Value) → AreAt g (a ∷ cells) → ((c : Cell Value) → Contains (a ∷ cells) c → IsBelow c z) → IsBelow (agreement g (a ∷ cells)) z
-unfolding AreAt
-agreement_least g a cells z at f =
-    let ga : generation_of a ≡ g = at a (contains_here a cells) in
-    let gr = generation-agreement g a cells ga in
-    elim (f a (contains_here a cells)) [
-      | inl h ↦ inl (omega arith)
-      | inr (inr h) ↦ inr (inr (gr ∙ sym ga ∙ h.0, h.1))
-      | inr (inl e) ↦ (elim z as (λ y. z ≡ y → IsBelow (agreement g (a ∷ cells)) z) [
-        | Known m v ↦ λ k. inr (inl (agreement_least_known g v a cells z at (k ∙ ap (λ n. Known n v) (sym (ap generation_of k) ∙ sym (ap generation_of e) ∙ ga)) f))
-        | Disputed m ↦ λ k. inr (inr (gr ∙ sym ga ∙ ap generation_of e, subst (λ (x : Cell Value). IsDisputed x) (sym k) tt))
-      ] refl)
-    ]
-
--- cells of any generation ------------------------------------------------------------
-
--- what cells say together
-abbrev pub summary : List (Cell Value) → Cell Value
-summary cells = agreement (newest_of cells) (filter (λ c. generation_of c == newest_of cells) cells)
-
--- no cell is newer than the newest
-pub newest_above : (cells : List (Cell Value)) (c : Cell Value) → Contains cells c → generation_of c ≤ newest_of cells
-newest_above [] c h = absurd (contains_none c h)
-newest_above (a ∷ cells) c h =
-    elim (contains_cases a c cells h) [
-      | inl e ↦ omega (arith, ap generation_of e)
-      | inr k ↦ omega (arith, newest_above cells c k)
-    ]
-
--- of two numbers one is at most the other
-le_cases : (m n : ℕ) → (n ≤ m) ⊎ (m ≤ n)
-le_cases m n = elim (nat_lt m n) as (λ t. nat_lt m n ≡ t → (n ≤ m) ⊎ (m ≤ n)) [ true ↦ λ p. inr (omega (arith, ltb-true m n p)) | false ↦ λ p. inl (ltb-false m n p) ] refl
-
--- some cell has the newest generation
-pub newest_there : (a : Cell Value) (cells : List (Cell Value)) → (c : Cell Value) × Contains (a ∷ cells) c × (generation_of c ≡ newest_of (a ∷ cells))
-newest_there a [] = (a, contains_here a [], omega arith)
-newest_there a (b ∷ cells) =
-    let i = newest_there b cells in
-    elim (le_cases (generation_of a) (newest_of (b ∷ cells))) [
-      | inl h ↦ (a, contains_here a (b ∷ cells), omega arith)
-      | inr h ↦ (i.0, contains_later a i.0 (b ∷ cells) i.1, omega (arith, i.2))
-    ]
-
--- whether a cell is of this generation
-abbrev pub is_at : ℕ → Cell Value → Bool
-is_at g c = generation_of c == g
-
--- cells that were kept for their generation have it
-pub filtered_at : (g : ℕ) (cells at : List (Cell Value)) → at ≡ filter (is_at g) cells → AreAt g at
-unfolding AreAt
-filtered_at g cells at e c h = eqb-true _ _ (contains-from_filter (is_at g) cells c (subst (λ (xs : List (Cell Value)). Contains xs c) e h)).1
-
--- a cell of another generation is older
-not_at : (g : ℕ) (c : Cell Value) → generation_of c ≤ g → (generation_of c == g) ≡ false → generation_of c < g
-not_at g c h e =
-    elim (nat_lt (generation_of c) g) as (λ t. nat_lt (generation_of c) g ≡ t → generation_of c < g) [
-      | true ↦ λ p. ltb-true _ _ p
-      | false ↦ λ p. let k : generation_of c ≡ g = omega (arith, ltb-false _ _ p) in absurd (cc (eq-eqb (generation_of c) g k))
-    ] refl
-
--- what the newest cells say is above every cell
-agreed_above : (g : ℕ) (cells at : List (Cell Value)) → at ≡ filter (is_at g) cells → (w : Cell Value) → Contains at w → (c : Cell Value) → Contains cells c → generation_of c ≤ g → IsBelow c (agreement g at)
-unfolding AreAt
-agreed_above g cells [] e w k c h l = absurd (contains_none w k)
-agreed_above g cells (a ∷ rest) e w k c h l =
-    let at = filtered_at g cells (a ∷ rest) e in
-    let gr = generation-agreement g a rest (at a (contains_here a rest)) in
-    elim (generation_of c == g) as (λ t. (generation_of c == g) ≡ t → IsBelow c (agreement g (a ∷ rest))) [
-      | true ↦ λ p. agreement_above g a rest at c (subst (λ (xs : List (Cell Value)). Contains xs c) (sym e) (contains_filter (is_at g) cells c h p))
-      | false ↦ λ p. inl (omega (arith, gr, not_at g c l p))
-    ] refl
-
--- and below all that is above every cell
-agreed_least : (g : ℕ) (cells at : List (Cell Value)) → at ≡ filter (is_at g) cells → (w : Cell Value) → Contains at w → (z : Cell Value) → ((c : Cell Value) → Contains cells c → IsBelow c z) → IsBelow (agreement g at) z
-agreed_least g cells [] e w k z f = absurd (contains_none w k)
-agreed_least g cells (a ∷ rest) e w k z f =
-    agreement_least g a rest z (filtered_at g cells (a ∷ rest) e)
-    (λ c h. f c (contains-from_filter (is_at g) cells c (subst (λ (xs : List (Cell Value)). Contains xs c) e h)).0)
-
--- some cell of the newest generation
-pub newest_kept : (cells : List (Cell Value)) (c : Cell Value) → Contains cells c → (w : Cell Value) × Contains (filter (is_at (newest_of cells)) cells) w
-newest_kept [] c h = absurd (contains_none c h)
-newest_kept (a ∷ cells) c h =
-    let n = newest_there a cells in
-    (n.0, contains_filter (is_at (newest_of (a ∷ cells))) (a ∷ cells) n.0 n.1 (eq-eqb _ _ n.2))
-
--- what cells say is above each of them
-pub summary_above : (cells : List (Cell Value)) (c : Cell Value) → Contains cells c → IsBelow c (summary cells)
-summary_above cells c h =
-    let w = newest_kept cells c h in
-    agreed_above (newest_of cells) cells (filter (is_at (newest_of cells)) cells) refl w.0 w.1 c h (newest_above cells c h)
-
--- and below all that is above them
-pub summary_least : (cells : List (Cell Value)) (w z : Cell Value) → Contains cells w → ((c : Cell Value) → Contains cells c → IsBelow c z) → IsBelow (summary cells) z
-summary_least cells w z h f =
-    let k = newest_kept cells w h in
-    agreed_least (newest_of cells) cells (filter (is_at (newest_of cells)) cells) refl k.0 k.1 z f
-
--- the view at a key ------------------------------------------------------------------
-
--- a key ties with itself
-pub is_of_itself : (q : Key) (c : Cell Value) → is_of q (q, c) ≡ true
-is_of_itself q c = ap is_eq (tied_itself key_total q)
-
--- a sighting of the key is among its cells
-pub sighted_in_cells : (q : Key) (s : List (Key × Cell Value)) (c : Cell Value) → Contains s (q, c) → Contains (cells_sighted q s) c
-sighted_in_cells q [] c h = absurd (contains_none (q, c) h)
-sighted_in_cells q (x ∷ s) c h =
-    elim (is_of q x) as (λ t. is_of q x ≡ t → Contains (map (λ y. y.1) (cond t (x ∷ filter (is_of q) s) (filter (is_of q) s))) c) [
-      | true ↦ λ p. (elim (contains_cases x (q, c) s h) [
-        | inl e ↦ subst (λ (z : Cell Value). Contains (z ∷ cells_sighted q s) c) (sym (ap (λ y. y.1) e)) (contains_here c (cells_sighted q s))
-        | inr k ↦ contains_later x.1 c (cells_sighted q s) (sighted_in_cells q s c k)
-      ])
-      | false ↦ λ p. (elim (contains_cases x (q, c) s h) [
-        | inl e ↦ absurd (cc (ap (is_of q) e, is_of_itself q c))
-        | inr k ↦ sighted_in_cells q s c k
-      ])
-    ] refl
-
--- a sighting is told by its key and its cell
-pub pair_is : (q : Key) (x : Key × Cell Value) (c : Cell Value) → is_of q x ≡ true → x.1 ≡ c → x ≡ (q, c)
-pair_is q x c p e = let k : q ≡ x.0 = key_exact q x.0 (equal_from_test _ p) in λ i. (sym k i, e i)
-
--- a cell of the key was sighted
-pub sighted_from_cells : (q : Key) (s : List (Key × Cell Value)) (c : Cell Value) → Contains (cells_sighted q s) c → Contains s (q, c)
-sighted_from_cells q [] c h = absurd (contains_none c h)
-sighted_from_cells q (x ∷ s) c h =
-    elim (is_of q x) as (λ t. is_of q x ≡ t → Contains (map (λ y. y.1) (cond t (x ∷ filter (is_of q) s) (filter (is_of q) s))) c → Contains (x ∷ s) (q, c)) [
-      | true ↦ λ p k. (elim (contains_cases x.1 c (cells_sighted q s) k) [
-        | inl e ↦ subst (λ (z : Key × Cell Value). Contains (z ∷ s) (q, c)) (sym (pair_is q x c p e)) (contains_here (q, c) s)
-        | inr r ↦ contains_later x (q, c) s (sighted_from_cells q s c r)
-      ])
-      | false ↦ λ p k. contains_later x (q, c) s (sighted_from_cells q s c k)
-    ] refl h
-
--- what is found among cells made by a function of the key
-find-cells : (f : Key → Cell Value) (xs : List (Key × Cell Value)) (q : Key) → find key_cmp q (map (λ x. (x.0, f x.0)) xs) ≡ cond (list_any (is_of q) xs) (Some (f q)) None
-find-cells f [] q = refl
-find-cells f (x ∷ xs) q =
-    elim (is_of q x) as (λ t. is_of q x ≡ t → cond t (Some (f x.0)) (find key_cmp q (map (λ y. (y.0, f y.0)) xs)) ≡ cond (t || list_any (is_of q) xs) (Some (f q)) None) [
-      | true ↦ λ p. ap (λ k. Some (f k)) (sym (key_exact q x.0 (equal_from_test _ p)))
-      | false ↦ λ p. find-cells f xs q
-    ] refl
-
--- a key was never sighted, or has some cell
-some_or_none : (q : Key) (s : List (Key × Cell Value)) → ((list_any (is_of q) s ≡ false) × (cells_sighted q s ≡ [])) ⊎ ((list_any (is_of q) s ≡ true) × ((c : Cell Value) × Contains (cells_sighted q s) c))
-some_or_none q [] = inl (refl, refl)
-some_or_none q (x ∷ s) =
-    elim (is_of q x) as (λ t. (((t || list_any (is_of q) s) ≡ false) × (map (λ y. y.1) (cond t (x ∷ filter (is_of q) s) (filter (is_of q) s)) ≡ [])) ⊎ (((t || list_any (is_of q) s) ≡ true) × ((c : Cell Value) × Contains (map (λ y. y.1) (cond t (x ∷ filter (is_of q) s) (filter (is_of q) s))) c))) [
-      | true ↦ inr (refl, (x.1, contains_here x.1 (cells_sighted q s)))
-      | false ↦ some_or_none q s
-    ]
-
--- what a view has at a key
-pub get-view : (s : List (Key × Cell Value)) (q : Key) → get (view s) q ≡ cond (list_any (is_of q) s) (Some (cell_at q s)) None
-get-view s q = get-from_entries key_total (map (λ x. (x.0, cell_at x.0 s)) s) q ∙ find-cells (λ k. cell_at k s) s q
-
--- a key is in the view where it was sighted, with what its cells say together
-pub data AtKey (s : List (Key × Cell Value)) (q : Key) : Type 0 where
-  never_sighted : get (view s) q ≡ None → cells_sighted q s ≡ [] → AtKey s q
-  sighted : get (view s) q ≡ Some (cell_at q s) → (w : Cell Value) → Contains (cells_sighted q s) w → AtKey s q
-
--- one of the two holds
-pub at_key : (s : List (Key × Cell Value)) (q : Key) → AtKey s q
-at_key s q =
-    elim (some_or_none q s) [
-      | inl h ↦ never_sighted (get-view s q ∙ ap (λ t. cond t (Some (cell_at q s)) None) h.0) h.1
-      | inr h ↦ sighted (get-view s q ∙ ap (λ t. cond t (Some (cell_at q s)) None) h.0) h.1.0 h.1.1
-    ]
-
--- the view is above each sighting
-pub view_above : (s : List (Key × Cell Value)) (q : Key) (c : Cell Value) → Contains s (q, c) → (d : Cell Value) × (get (view s) q ≡ Some d) × IsBelow c d
-view_above s q c h =
-    elim (at_key s q) [
-      | never_sighted e n ↦ absurd (contains_none c (subst (λ (xs : List (Cell Value)). Contains xs c) n (sighted_in_cells q s c h)))
-      | sighted e w k ↦ (cell_at q s, e, summary_above (cells_sighted q s) c (sighted_in_cells q s c h))
-    ]
-
--- and below all that is
-pub view_least : (s : List (Key × Cell Value)) (z : Facts) → ((q : Key) (c : Cell Value) → Contains s (q, c) → (d : Cell Value) × (get z q ≡ Some d) × IsBelow c d) → IsBelowView (view s) z
-view_least s z f q c e =
-    elim (at_key s q) [
-      | never_sighted n m ↦ absurd (cc)
-      | sighted p w k ↦
-          let x = f q w (sighted_from_cells q s w k) in (
-            x.0,
-            x.1,
-            subst (λ (y : Cell Value). IsBelow y x.0) (the_same (cell_at q s) c (sym p ∙ e))
-                (summary_least (cells_sighted q s) w x.0 k (λ c' h. let y = f q c' (sighted_from_cells q s c' h) in subst (λ (v : Cell Value). IsBelow c' v) (the_same y.0 x.0 (sym y.1 ∙ x.1)) y.2)),
-          )
-    ]
-
--- the laws -----------------------------------------------------------------------------
+-- no other facts have it
+pub view_is_unique : ViewIsUnique
+view_is_unique floor s x y a b = same_facts x y (a.at ∙ sym b.at) (seen_is_unique (kept floor s) x.found y.found a.cells b.cells)
 
 -- lists with the same members have the same view
 pub members_decide_view : MembersDecideView
-members_decide_view s t same =
-    view_antisymm (view s) (view t)
-    (view_least s (view t) (λ q c h. view_above t q c (same.0 (q, c) h)))
-    (view_least t (view s) (λ q c h. view_above s q c (same.1 (q, c) h)))
+members_decide_view floor s t same = ap (at_floor floor) (members_decide_seen s t same)
 
--- what is below a cell of the first is below one of the second
-lifted : (x y : Facts) (q : Key) (c : Cell Value) → IsBelowView x y → (d : Cell Value) × (get x q ≡ Some d) × IsBelow c d → (d : Cell Value) × (get y q ≡ Some d) × IsBelow c d
-lifted x y q c f a = let b = f q a.0 a.1 in (b.0, b.1, below_trans c a.0 b.0 a.2 b.2)
+-- facts are the view of their cells
+pub view_of_its_cells : ViewOfItsCells
+view_of_its_cells x = ap (at_floor x.floor) (seen_of_its_cells x.found) ∙ at_own_floor x
+
+-- a floor that is raised later
+pub raising_forgets : RaisingForgets
+raising_forgets floor greater s = raised_at floor greater (seen s)
 
 -- the view of both lists is the merge of their views
 pub view_of_both : ViewOfBoth
-view_of_both s t =
-    let m = merge_law (view s) (view t) in
-    view_antisymm (view (s ++ t)) (merge (view s) (view t))
-    (view_least (s ++ t) (merge (view s) (view t)) (λ q c h.
-    elim (Contains-append_cases s t (q, c) h) [
-      | inl k ↦ lifted (view s) (merge (view s) (view t)) q c m.above_first (view_above s q c k)
-      | inr k ↦ lifted (view t) (merge (view s) (view t)) q c m.above_second (view_above t q c k)
-    ]))
-    (m.least (view (s ++ t))
-    (view_least s (view (s ++ t)) (λ q c h. view_above (s ++ t) q c (Contains-append_left s t (q, c) h)))
-    (view_least t (view (s ++ t)) (λ q c h. view_above (s ++ t) q c (Contains-append_right s t (q, c) h))))
+view_of_both f h s t = ap (at_floor (max f h)) (seen_of_both s t) ∙ sym (merge_at f h (seen s) (seen t))
+
+-- at equal floors
+pub view_of_all : (floor : ℕ) (s t : List (Key × Cell Value)) → view_at floor (s ++ t) ≡ merge (view_at floor s) (view_at floor t)
+view_of_all floor s t = at_same_floor floor (max floor floor) (seen (s ++ t)) (omega arith) ∙ view_of_both floor floor s t
+
+-- what is merged into facts may be looked at from their floor
+pub told_at_floor : (x : Facts) (s : List (Key × Cell Value)) → merge x (view_at x.floor s) ≡ merge x (view s)
+told_at_floor x s =
+    ap (λ (z : Facts). merge z (view_at x.floor s)) (sym (view_of_its_cells x))
+    ∙ sym (view_of_both x.floor x.floor (cells_of x) s)
+    ∙ at_same_floor (max x.floor x.floor) (max x.floor 1) (seen (cells_of x ++ s)) (omega (arith, floor_from_one x))
+    ∙ view_of_both x.floor 1 (cells_of x) s
+    ∙ ap (λ (z : Facts). merge z (view s)) (view_of_its_cells x)
+
+-- a sighting below the floor tells nothing
+pub told_below : (floor : ℕ) (s : List (Key × Cell Value)) (x : Key × Cell Value) → is_kept floor x.1 ≡ false → view_at floor s ≡ merge (view_at floor s) (view (x ∷ []))
+told_below floor s x e =
+    ap (view_at floor) (sym (append-nil s)) ∙ view_of_all floor s []
+    ∙ ap (merge (view_at floor s)) (same_facts (view_at floor []) (view_at floor (x ∷ [])) refl
+    (found_at_floor floor [] ∙ ap (λ t. seen (cond t (x ∷ []) [])) (sym e) ∙ sym (found_at_floor floor (x ∷ []))))
+    ∙ sym (view_of_all floor s (x ∷ []))
+    ∙ at_same_floor floor (max floor 1) (seen (s ++ x ∷ [])) (omega arith)
+    ∙ view_of_both floor 1 s (x ∷ [])

@@ -16,14 +16,14 @@ use Rattle.fact_store.specs.Comparisons.{by_order, compared_by_walk}
 use Rattle.fact_store.specs.Key.{key_cmp}
 use Rattle.fact_store.specs.Merge.{join}
 use Rattle.fact_store.specs.Sighting.{IsSighting}
-use Rattle.fact_store.specs.View.{view}
+use Rattle.fact_store.specs.Seen.{seen}
 use Rattle.fact_store.proofs.Keys.{key_total}
 use Rattle.fact_store.proofs.CellOrder.{held, shown, less_back, rising-step, rising-move}
-use Rattle.fact_store.proofs.CellViews.{view-step_second, view-step_both}
+use Rattle.fact_store.proofs.CellViews.{seen-step_second, seen-step_both}
 
 -- what is done of two lists, and what is left of each
 pub record IsWalked (first second done a b : List (Key × Cell Value)) (steps : ℕ) : Type 0 where
-  pub same : view (done ++ (a ++ b)) ≡ view (first ++ second)
+  pub same : seen (done ++ (a ++ b)) ≡ seen (first ++ second)
   pub a_rising : T (sorted.is_sorted key_cmp (done ++ a))
   pub b_rising : T (sorted.is_sorted key_cmp (done ++ b))
   pub done_in : All IsSighting done
@@ -41,7 +41,7 @@ module _ (first second done s t : List (Key × Cell Value)) (x y : Key × Cell V
   pub walked_first : key_cmp x.0 y.0 ≡ Less → IsWalked first second (done ++ x ∷ []) s (y ∷ t) (steps + 1)
   walked_first l =
       record {
-        same = ap view (append_assoc done (x ∷ []) (s ++ y ∷ t)) ∙ w.same;
+        same = ap seen (append_assoc done (x ∷ []) (s ++ y ∷ t)) ∙ w.same;
         a_rising = subst (λ (z : List (Key × Cell Value)). T (sorted.is_sorted key_cmp z)) (sym (append_assoc done (x ∷ []) s)) w.a_rising;
         b_rising = rising-step done s t x y w.a_rising w.b_rising l;
         done_in = All-push IsSighting done x w.done_in (All-head IsSighting x s w.a_in);
@@ -55,7 +55,7 @@ module _ (first second done s t : List (Key × Cell Value)) (x y : Key × Cell V
   pub walked_second : key_cmp x.0 y.0 ≡ Greater → IsWalked first second (done ++ y ∷ []) (x ∷ s) t (steps + 1)
   walked_second g =
       record {
-        same = view-step_second done (x ∷ s) t y ∙ w.same;
+        same = seen-step_second done (x ∷ s) t y ∙ w.same;
         a_rising = rising-step done t s y x w.b_rising w.a_rising (less_back x.0 y.0 g);
         b_rising = subst (λ (z : List (Key × Cell Value)). T (sorted.is_sorted key_cmp z)) (sym (append_assoc done (y ∷ []) t)) w.b_rising;
         done_in = All-push IsSighting done y w.done_in (All-head IsSighting y t w.b_in);
@@ -69,7 +69,7 @@ module _ (first second done s t : List (Key × Cell Value)) (x y : Key × Cell V
   pub walked_both : x.0 ≡ y.0 → IsSighting (x.0, join x.1 y.1) → IsWalked first second (done ++ (x.0, join x.1 y.1) ∷ []) s t (steps + 1)
   walked_both e h =
       record {
-        same = view-step_both done s t x.0 x.1 y.1 ∙ ap (λ (k : Key). view (done ++ (x ∷ s ++ (k, y.1) ∷ t))) e ∙ w.same;
+        same = seen-step_both done s t x.0 x.1 y.1 ∙ ap (λ (k : Key). seen (done ++ (x ∷ s ++ (k, y.1) ∷ t))) e ∙ w.same;
         a_rising = rising-move done s x (join x.1 y.1) w.a_rising;
         b_rising = subst (λ (k : Key). T (sorted.is_sorted key_cmp ((done ++ (k, join x.1 y.1) ∷ []) ++ t))) (sym e) (rising-move done t y (join x.1 y.1) w.b_rising);
         done_in = All-push IsSighting done (x.0, join x.1 y.1) w.done_in h;
@@ -92,14 +92,14 @@ next_left None s t h = h.1 ∙ sym h.0
 next_left (Some x) s t h = sym h
 
 -- with nothing left of one, the other's rest goes to the end
-pub walked_all : (first second d a b all : List (Key × Cell Value)) (s : ℕ) → IsWalked first second d a b s → (a ≡ []) ⊎ (b ≡ []) → all ≡ (d ++ a) ++ b → AreCells all × (view all ≡ view (first ++ second))
+pub walked_all : (first second d a b all : List (Key × Cell Value)) (s : ℕ) → IsWalked first second d a b s → (a ≡ []) ⊎ (b ≡ []) → all ≡ (d ++ a) ++ b → AreCells all × (seen all ≡ seen (first ++ second))
 walked_all first second d a b all s w (inl e) is =
     let same : all ≡ d ++ b = is ∙ ap (λ (z : List (Key × Cell Value)). (d ++ z) ++ b) e ∙ ap (λ (z : List (Key × Cell Value)). z ++ b) (append-nil d) in (
       record {
         rising = shown _ (subst (λ (z : List (Key × Cell Value)). T (sorted.is_sorted key_cmp z)) (sym same) w.b_rising);
         in_range = subst (All IsSighting) (sym same) (All-append IsSighting d b w.done_in w.b_in);
       },
-      ap view (is ∙ append_assoc d a b) ∙ w.same,
+      ap seen (is ∙ append_assoc d a b) ∙ w.same,
     )
 walked_all first second d a b all s w (inr e) is =
     let same : all ≡ d ++ a = is ∙ ap (λ (z : List (Key × Cell Value)). (d ++ a) ++ z) e ∙ append-nil (d ++ a) in (
@@ -107,7 +107,7 @@ walked_all first second d a b all s w (inr e) is =
         rising = shown _ (subst (λ (z : List (Key × Cell Value)). T (sorted.is_sorted key_cmp z)) (sym same) w.a_rising);
         in_range = subst (All IsSighting) (sym same) (All-append IsSighting d a w.done_in w.a_in);
       },
-      ap view (is ∙ append_assoc d a b) ∙ w.same,
+      ap seen (is ∙ append_assoc d a b) ∙ w.same,
     )
 
 -- an iterator that gave nothing has nothing left

@@ -7,17 +7,24 @@ use Rattle.fact_store.specs.declared.key.Key.{Key}
 use Rattle.fact_store.specs.declared.value.Value.{Value}
 use Rattle.fact_store.specs.Key.{key_cmp}
 use Rattle.fact_store.specs.Sighting.{IsSighting}
-use Rattle.fact_store.specs.View.{view}
+use Rattle.fact_store.specs.Floor.{is_kept}
+use Rattle.fact_store.specs.Seen.{seen}
 
 -- the keys strictly rise, and each cell is in range
 pub record AreCells (cells : List (Key × Cell Value)) : Type 0 where
   pub rising : IsTrue (is_sorted key_cmp cells)
   pub in_range : All IsSighting cells
 
+-- and none is below the floor, which is 1 or more
+pub record AreHeld (floor : ℕ) (cells : List (Key × Cell Value)) : Type 0 where
+  pub from_one : 1 ≤ floor
+  pub are : AreCells cells
+  pub kept : All (λ s. IsTrue (is_kept floor s.1)) cells
+
 -- a key that has no cell would have it here
 pub record IsPlaceFor (key : Key) (cells : List (Key × Cell Value)) (place : ℕ) : Type 0 where
   pub within : place ≤ length cells
-  pub absent : get (view cells) key ≡ None
+  pub absent : get (seen cells) key ≡ None
   pub rising : (c : Cell Value) → IsTrue (is_sorted key_cmp (insert cells place (key, c)))
 
 -- where a key has its cell, or would

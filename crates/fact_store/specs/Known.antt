@@ -1,13 +1,12 @@
 -- What facts say of one thing, where they say one value.
 use Rattle.std.specs.Prelude.{ℕ, Bool, Option, None, Some}
-use Rattle.std.specs.FinMap.{get}
 use Rattle.smp_bytes.specs.declared.node_type.NodeType.{NodeType}
 use Rattle.fact_join.specs.declared.cell.Cell.{Cell}
 use Rattle.fact_join.specs.declared.cell.Cell.TheVariants.{Known, Disputed}
 use Rattle.fact_store.specs.declared.key.Key.{Key}
 use Rattle.fact_store.specs.declared.value.Value.{Value}
 use Rattle.fact_store.specs.declared.value.Value.TheVariants.{Kind, Guid, Peer, Up, Lid, Count}
-use Rattle.fact_store.specs.View.{Facts}
+use Rattle.fact_store.specs.View.{Facts, cell_for}
 
 -- the value of a cell that is there and has one
 abbrev pub value_in : Option (Cell Value) → Option Value
@@ -17,7 +16,7 @@ value_in (Some (Disputed generation)) = None
 
 -- the value that the key is known to have
 abbrev pub known : Facts → Key → Option Value
-known facts key = value_in (get facts key)
+known facts key = value_in (cell_for facts key)
 
 -- the parts of a value of each kind: -------------------------------------------------
 

@@ -1,12 +1,14 @@
 pub mod Cells
 pub mod Coded
 pub mod Comparisons
+pub mod Floor
 pub mod Ingest
 pub mod Key
 pub mod Known
 pub mod Merge
 pub mod Report
 pub mod ReportFault
+pub mod Seen
 pub mod Sighting
 pub mod Value
 pub mod Values

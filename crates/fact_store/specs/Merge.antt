@@ -1,26 +1,33 @@
 -- The order of views, and their merge.
-use Rattle.std.specs.Prelude.{◌≡◌, List, ◌++◌, map, fold, Some}
+use Rattle.std.specs.Prelude.{◌≡◌, ◌≤◌, ℕ, true, List, ◌++◌, max, map, fold, Some}
 use Rattle.std.specs.List.{flat_map}
 use Rattle.std.specs.Option.{option_map_or}
-use Rattle.std.specs.FinMap.{empty, get, entries, from_entries}
+use Rattle.std.specs.FinMap.{get, entries, from_entries}
 use Rattle.fact_join.specs.declared.cell.Cell.{Cell}
 use Rattle.fact_join.specs.Cell.{IsBelow, joined_by}
 use Rattle.fact_store.specs.declared.key.Key.{Key}
 use Rattle.fact_store.specs.declared.value.Value.{Value}
+use Rattle.fact_store.specs.Floor.{is_kept}
+use Rattle.fact_store.specs.Seen.{CellMap}
 use Rattle.fact_store.specs.Value.{is_same_value}
-use Rattle.fact_store.specs.View.{Facts, view}
+use Rattle.fact_store.specs.View.{Facts, at_floor, cell_for, no_facts, raised, view_at}
 
 -- the newer of two cells, and at one generation what both say
 abbrev pub join : Cell Value → Cell Value → Cell Value
 join = joined_by is_same_value
 
--- each cell of the first is below the second's cell of that key
-abbrev pub IsBelowView : Facts → Facts → Type 0
-IsBelowView x y = (key : Key) (c : Cell Value) → get x key ≡ Some c → (d : Cell Value) × (get y key ≡ Some d) × IsBelow c d
-
 -- the first's cells, each joined with the second's of its key, and the second's others
+abbrev pub merge_maps : CellMap → CellMap → CellMap
+merge_maps x y = from_entries (map (λ e. (e.0, option_map_or (join e.1) (get y e.0) e.1)) (entries x) ++ entries y)
+
+-- the greater floor, and the cells of both that are not below it
 abbrev pub merge : Facts → Facts → Facts
-merge x y = from_entries (map (λ e. (e.0, option_map_or (join e.1) (get y e.0) e.1)) (entries x) ++ entries y)
+merge x y = at_floor (max x.floor y.floor) (merge_maps x.found y.found)
+
+-- the second has no lesser floor, and the first's cells that are not below it are below the second's of their keys
+pub record IsBelowView (x y : Facts) : Type 0 where
+  pub floors : x.floor ≤ y.floor
+  pub cells : (key : Key) (c : Cell Value) → cell_for x key ≡ Some c → is_kept y.floor c ≡ true → (d : Cell Value) × (cell_for y key ≡ Some d) × IsBelow c d
 
 -- above both, and below all that is above both
 pub record IsMerge (x y z : Facts) : Type 0 where
@@ -36,9 +43,9 @@ MergeLaw = (x y : Facts) → IsMerge x y (merge x y)
 abbrev pub MergeIsUnique : Type 0
 MergeIsUnique = (x y z w : Facts) → IsMerge x y z → IsMerge x y w → z ≡ w
 
--- what two lists of sightings say together is the merge of what each says
+-- what two lists of sightings say together at the greater floor is the merge of what each says at its own
 abbrev pub ViewOfBoth : Type 0
-ViewOfBoth = (s t : List (Key × Cell Value)) → view (s ++ t) ≡ merge (view s) (view t)
+ViewOfBoth = (f h : ℕ) (s t : List (Key × Cell Value)) → view_at (max f h) (s ++ t) ≡ merge (view_at f s) (view_at h t)
 
 -- the order of two does not matter
 abbrev pub MergeIsCommutative : Type 0
@@ -52,25 +59,34 @@ MergeIsAssociative = (x y z : Facts) → merge (merge x y) z ≡ merge x (merge 
 abbrev pub MergeIsIdempotent : Type 0
 MergeIsIdempotent = (x : Facts) → merge x x ≡ x
 
--- stores merged in any grouping
+-- stores merged in any grouping, with floors raised at any moment
 pub data Merging : Type 0 where
   of_sightings : List (Key × Cell Value) → Merging
+  of_raised : Merging → ℕ → Merging
   of_two : Merging → Merging → Merging
 
 -- the sightings of all stores of a grouping
 abbrev pub all_of : Merging → List (Key × Cell Value)
 all_of (of_sightings s) = s
+all_of (of_raised m floor) = all_of m
 all_of (of_two a b) = all_of a ++ all_of b
 
--- what the merges of a grouping give
+-- the greatest floor that was raised, or 1
+abbrev pub floor_of : Merging → ℕ
+floor_of (of_sightings s) = 1
+floor_of (of_raised m floor) = max (floor_of m) floor
+floor_of (of_two a b) = max (floor_of a) (floor_of b)
+
+-- what the merges and raises of a grouping give
 abbrev pub merged : Merging → Facts
-merged (of_sightings s) = view s
+merged (of_sightings s) = view_at 1 s
+merged (of_raised m floor) = raised (merged m) floor
 merged (of_two a b) = merge (merged a) (merged b)
 
--- every grouping gives the view of all its sightings
+-- every grouping gives the view of all its sightings at its greatest floor
 abbrev pub GroupingIsFree : Type 0
-GroupingIsFree = (m : Merging) → merged m ≡ view (all_of m)
+GroupingIsFree = (m : Merging) → merged m ≡ view_at (floor_of m) (all_of m)
 
 -- any number of views merged one after another into an empty one
 abbrev pub MergingInTurn : Type 0
-MergingInTurn = (lists : List (List (Key × Cell Value))) → fold merge empty (map view lists) ≡ view (flat_map (λ s. s) lists)
+MergingInTurn = (views : List (ℕ × List (Key × Cell Value))) → fold merge no_facts (map (λ v. view_at v.0 v.1) views) ≡ view_at (fold max 1 (map (λ v. v.0) views)) (flat_map (λ v. v.1) views)

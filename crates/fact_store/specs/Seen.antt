@@ -1,8 +1,8 @@
--- What a set of sightings says together: each key's newest generation, and whether its sightings agree there.
-use Rattle.std.specs.Prelude.{◌≡◌, ◌≤◌, ℕ, Bool, List, [], ◌∷◌, ◌==◌, max, map, filter, Contains, Option, Some, MatchOption, if◌then◌else◌}
+-- What sightings say together, whatever floor there is: each key's newest generation, and whether its sightings agree there.
+use Rattle.std.specs.Prelude.{◌≡◌, ◌≤◌, ℕ, Bool, List, [], ◌∷◌, ◌==◌, max, map, filter, Contains, MatchOption, if◌then◌else◌}
 use Rattle.std.specs.List.{list_all}
 use Rattle.std.specs.Ordering.{eq_by_cmp}
-use Rattle.std.specs.FinMap.{FinMap, empty, entries, get, from_entries}
+use Rattle.std.specs.FinMap.{FinMap, get, from_entries}
 use Rattle.fact_join.specs.declared.cell.Cell.{Cell}
 use Rattle.fact_join.specs.declared.cell.Cell.TheVariants.{Known, Disputed}
 use Rattle.fact_join.specs.Cell.{generation_of}
@@ -12,20 +12,8 @@ use Rattle.fact_store.specs.Key.{key_cmp}
 use Rattle.fact_store.specs.Value.{is_same_cell}
 
 -- a finite map from keys to cells
-abbrev pub Facts : Type 0
-Facts = FinMap key_cmp (Cell Value)
-
--- the keys that have a cell, each with it, in the order of keys
-abbrev pub cells_of : Facts → List (Key × Cell Value)
-cells_of facts = entries facts
-
--- the cell of a key, if it has one
-abbrev pub cell_for : Facts → Key → Option (Cell Value)
-cell_for facts key = get facts key
-
--- nothing is known
-abbrev pub no_facts : Facts
-no_facts = empty
+abbrev pub CellMap : Type 0
+CellMap = FinMap key_cmp (Cell Value)
 
 -- whether a sighting is of the key
 abbrev pub is_of : Key → Key × Cell Value → Bool
@@ -54,15 +42,10 @@ abbrev pub cell_at : Key → List (Key × Cell Value) → Cell Value
 cell_at key sightings = agreement (newest key sightings) (filter (λ c. generation_of c == newest key sightings) (cells_sighted key sightings))
 
 -- each key that was sighted, with what its newest sightings say
-abbrev pub view : List (Key × Cell Value) → Facts
-view sightings = from_entries (map (λ s. (s.0, cell_at s.0 sightings)) sightings)
+abbrev pub seen : List (Key × Cell Value) → CellMap
+seen sightings = from_entries (map (λ s. (s.0, cell_at s.0 sightings)) sightings)
 
--- the greatest generation of a cell of the facts
-pub record IsNewestGeneration (facts : Facts) (generation : ℕ) : Type 0 where
-  pub held : (key : Key) × (c : Cell Value) × (get facts key ≡ Some c) × (generation_of c ≡ generation)
-  pub greatest : (key : Key) (c : Cell Value) → get facts key ≡ Some c → generation_of c ≤ generation
-
--- the law of a view, by membership alone: ----------------------------------------
+-- the same by membership alone: ---------------------------------------------------
 
 -- the key was sighted with this cell
 abbrev pub WasSighted : Key → List (Key × Cell Value) → Cell Value → Type 0
@@ -83,25 +66,9 @@ IsCellIn key sightings (Known generation value) = IsNewest key sightings generat
 IsCellIn key sightings (Disputed generation) = IsNewest key sightings generation × ((value : Value) → AllSay key sightings generation value → ⊥)
 
 -- a key that was never sighted has no cell
-pub record IsView (sightings : List (Key × Cell Value)) (facts : Facts) : Type 0 where
-  pub cells : (key : Key) → MatchOption (get facts key) ((c : Cell Value) → WasSighted key sightings c → ⊥) (IsCellIn key sightings)
+pub record IsSeen (sightings : List (Key × Cell Value)) (found : CellMap) : Type 0 where
+  pub cells : (key : Key) → MatchOption (get found key) ((c : Cell Value) → WasSighted key sightings c → ⊥) (IsCellIn key sightings)
 
--- the view is the one map with that law
-abbrev pub ViewLaw : Type 0
-ViewLaw = (sightings : List (Key × Cell Value)) → IsView sightings (view sightings)
-
--- and no other map has it
-abbrev pub ViewIsUnique : Type 0
-ViewIsUnique = (sightings : List (Key × Cell Value)) (x y : Facts) → IsView sightings x → IsView sightings y → x ≡ y
-
--- lists with the same members have the same view, however often and in whatever order
+-- lists with the same members, however often and in whatever order
 abbrev pub HaveSameMembers : List (Key × Cell Value) → List (Key × Cell Value) → Type 0
 HaveSameMembers s t = ((x : Key × Cell Value) → Contains s x → Contains t x) × ((x : Key × Cell Value) → Contains t x → Contains s x)
-
--- so they have the same view
-abbrev pub MembersDecideView : Type 0
-MembersDecideView = (s t : List (Key × Cell Value)) → HaveSameMembers s t → view s ≡ view t
-
--- a view is the view of its own cells, so a store stands for any sightings that it was made of
-abbrev pub ViewOfItsCells : Type 0
-ViewOfItsCells = (x : Facts) → view (entries x) ≡ x

@@ -1,7 +1,6 @@
 -- What a sighting may hold: the key's ranges, and a value of the key's kind within its own.
 use Rattle.std.specs.Prelude.{◌≡◌, ℕ, ◌^◌, Bool, true, false, ◌&&◌, nat_le, nat_lt, IsTrue, Some}
-use Rattle.std.specs.FinMap.{get}
-use Rattle.fact_store.specs.View.{Facts}
+use Rattle.fact_store.specs.View.{Facts, cell_for}
 use Rattle.fact_join.specs.declared.cell.Cell.{Cell}
 use Rattle.fact_join.specs.declared.cell.Cell.TheVariants.{Known, Disputed}
 use Rattle.fact_join.specs.Cell.{generation_of}
@@ -59,4 +58,4 @@ IsSighting s = IsTrue (is_sighting s)
 
 -- every cell that the facts have at a key is in range there
 abbrev pub AreInRange : Facts → Type 0
-AreInRange facts = (key : Key) (c : Cell Value) → get facts key ≡ Some c → IsSighting (key, c)
+AreInRange facts = (key : Key) (c : Cell Value) → cell_for facts key ≡ Some c → IsSighting (key, c)

@@ -1,16 +1,19 @@
 ghost use Rattle.std.specs.Prelude.{◌≡◌, ◌+◌, ◌*◌, ◌<◌, ◌≤◌, ◌^◌, [], ◌∷◌, ◌++◌, IfOk, OnOk, length};
 ghost use Rattle.std.specs.Option.{option_to_list};
 ghost use Rattle.page_list.specs.Rest.{rest_of};
-ghost use Rattle.fact_store.specs.Cells.{AreCells};
+ghost use Rattle.fact_store.specs.Cells.{AreCells, AreHeld};
 ghost use Rattle.fact_store.specs.Comparisons.{compared_by_walk};
-ghost use Rattle.fact_store.specs.Merge.{join, merge};
+ghost use Rattle.fact_store.specs.Merge.{join, merge, merge_maps};
 ghost use Rattle.fact_store.specs.Sighting.{IsSighting};
-ghost use Rattle.fact_store.specs.View.{view};
+ghost use Rattle.fact_store.specs.Seen.{seen};
+ghost use Rattle.fact_store.specs.View.{view, view_at};
+ghost use Rattle.fact_store.specs.Floor.{is_kept, kept};
 
 use crate::find::{compare, place_of};
 use crate::sighting::Sighting;
 use fact_join::Join;
 use page_list::{Iter, PageList};
+use smp_bytes::Generation;
 use std::alloc::AllocError;
 use std::cmp::Ordering;
 
@@ -28,7 +31,7 @@ pub(crate) fn put(cells: &mut PageList<Sighting>, sighting: Sighting)
     requires cells { AreCells cells.old.items }
     requires room { 0 < cells.old.room }
     ensures cells { AreCells cells.new.items }
-    ensures put { view cells.new.items ≡ merge (view cells.old.items) (view (sighting ∷ [])) }
+    ensures put { seen cells.new.items ≡ merge_maps (seen cells.old.items) (seen (sighting ∷ [])) }
     ensures room { cells.old.room ≤ cells.new.room + 1 }
 {
     match place_of(cells, &sighting.key()) {
@@ -37,6 +40,20 @@ pub(crate) fn put(cells: &mut PageList<Sighting>, sighting: Sighting)
             cells.set(place, join_cells(&held, &sighting));
         }
         Err(place) => cells.insert(place, sighting),
+    }
+}
+
+/// The same, where a cell below the floor is left out.
+pub(crate) fn put_kept(cells: &mut PageList<Sighting>, floor: Generation, sighting: Sighting)
+    requires cells { AreHeld floor cells.old.items }
+    requires room { 0 < cells.old.room }
+    ensures cells { AreHeld floor cells.new.items }
+    ensures put { view_at floor cells.new.items
+        ≡ merge (view_at floor cells.old.items) (view (sighting ∷ [])) }
+    ensures room { cells.old.room ≤ cells.new.room + 1 }
+{
+    if is_at_least(&sighting, floor) {
+        put(cells, sighting);
     }
 }
 
@@ -51,7 +68,7 @@ pub(crate) fn merge_cells(
     requires steps { steps.old ≡ 0 }
     ensures cells { IfOk result (λ cells. AreCells cells.items) }
     ensures merged { IfOk result (λ cells.
-        view cells.items ≡ merge (view first.now.items) (view second.now.items)) }
+        seen cells.items ≡ merge_maps (seen first.now.items) (seen second.now.items)) }
     ensures counted { IfOk result (λ _.
         steps.new ≡ compared_by_walk first.now.items second.now.items) }
     ensures fewer { steps.new ≤ length first.now.items + length second.now.items }
@@ -98,4 +115,26 @@ fn append(
         cells.push(x)?;
     }
     Ok(())
+}
+
+/// Whether a cell is at a floor or above it.
+pub(crate) fn is_at_least(sighting: &Sighting, floor: Generation) -> bool
+    ensures { result ≡ is_kept floor sighting.now.1 }
+{
+    floor <= sighting.cell().generation()
+}
+
+/// Takes out the cells below a floor, in one walk.
+pub(crate) fn drop_below(cells: &mut PageList<Sighting>, floor: Generation)
+    ensures { cells.new.items ≡ kept floor cells.old.items }
+{
+    let mut left = 0;
+    for i in 0..cells.len() {
+        let sighting = cells.get(i).unwrap();
+        if is_at_least(&sighting, floor) {
+            cells.set(left, sighting);
+            left += 1;
+        }
+    }
+    cells.truncate(left);
 }

@@ -1,10 +1,10 @@
 //! The laws of views and merges: what a store holds depends on nothing but which sightings were put
-//! in, in whatever order, however often, and through whatever stores.
-ghost use Rattle.fact_store.specs.View.{ViewLaw, ViewIsUnique, MembersDecideView, ViewOfItsCells};
+//! in and which floor is the greatest that was raised, in whatever order, however often, and through whatever stores.
+ghost use Rattle.fact_store.specs.View.{ViewLaw, ViewIsUnique, MembersDecideView, ViewOfItsCells, RaisingForgets};
 ghost use Rattle.fact_store.specs.Merge.{MergeLaw, MergeIsUnique, ViewOfBoth, MergeIsCommutative, MergeIsAssociative, MergeIsIdempotent, GroupingIsFree, MergingInTurn};
 
-/// A view has a cell exactly for each key that was sighted: at the newest generation of its
-/// sightings, with the value that all of these say, or disputed where no value is said by all.
+/// A view at a floor has a cell exactly for each key that was sighted there or above: at the newest generation of
+/// its sightings, with the value that all of these say, or disputed where no value is said by all.
 pub fn view_has_its_law()
     ensures { ViewLaw }
 {}
@@ -24,7 +24,12 @@ pub fn view_of_its_cells()
     ensures { ViewOfItsCells }
 {}
 
-/// What two lists of sightings say together is the merge of what each says.
+/// A floor that is raised later forgets the same as one that stood from the first.
+pub fn raising_forgets()
+    ensures { RaisingForgets }
+{}
+
+/// What two lists of sightings say together at the greater of two floors is the merge of what each says at its own.
 pub fn view_of_both()
     ensures { ViewOfBoth }
 {}
@@ -54,13 +59,14 @@ pub fn merge_is_idempotent()
     ensures { MergeIsIdempotent }
 {}
 
-/// Stores that are merged in any grouping hold what all their sightings say together.
+/// Stores that are merged in any grouping, with floors raised at any moment, hold what all their sightings say together
+/// at the greatest floor.
 pub fn grouping_is_free()
     ensures { GroupingIsFree }
 {}
 
-/// Stores, however many, that are merged one after another into an empty one hold what all their
-/// sightings say together.
+/// Stores, however many, that are merged one after another into an empty one hold what all their sightings say
+/// together at the greatest of their floors.
 pub fn merging_in_turn()
     ensures { MergingInTurn }
 {}

@@ -1,12 +1,11 @@
 ghost use Rattle.std.specs.Prelude.{◌≡◌, ◌+◌, ◌*◌, ◌≤◌, [], ◌∷◌, ◌↔◌, OnOk, OnErr, IfOk, IsNone, IfSome, length, max, slice_get, unwrap_or};
-ghost use Rattle.std.specs.FinMap.{len};
 ghost use Rattle.fact_store.specs.Comparisons.{CountsSearch, HasDigits, compared_by_walk};
-ghost use Rattle.fact_store.specs.View.{IsNewestGeneration, cell_for, cells_of, no_facts, view};
+ghost use Rattle.fact_store.specs.View.{IsNewestGeneration, cell_for, cells_of, no_facts, raised, view, view_at};
 ghost use Rattle.fact_store.specs.Merge.{merge, IsMerge};
 ghost use Rattle.fact_store.specs.Sighting.{AreInRange};
 ghost use Rattle.fact_store.specs.Walk.{cells_left};
 
-use crate::cell_list::{merge_cells, put};
+use crate::cell_list::{drop_below, merge_cells, put_kept};
 use crate::find::find;
 use crate::key::Key;
 use crate::sighting::Sighting;
@@ -36,44 +35,67 @@ impl From<AllocError> for Refused {
 /// As many sightings as a report tells go in one after the other.
 const FEW: usize = 4;
 
-/// What is held of a subnet: the view of all that was put in, a cell for each key.
+/// What is held of a subnet: the view of all that was put in, a cell for each key. What is older than its floor is
+/// forgotten for good.
 #[derive(Drop)]
 pub struct Store {
+    /// The least generation that counts.
+    floor: Generation,
     /// One cell for each key, in the order of keys.
     cells: PageList<Sighting>,
 }
 
 impl Model for Store {
-    ghost use Rattle.fact_store.specs.View.{Facts, view as view_of};
+    ghost use Rattle.fact_store.specs.View.{Facts, view_at};
     ghost use Rattle.fact_store.specs.Coded.{facts_code};
-    ghost use Rattle.fact_store.specs.Cells.{AreCells};
+    ghost use Rattle.fact_store.specs.Cells.{AreHeld};
 
     ghost Value = { Facts };
 
     ghost coded = { facts_code };
 
-    ghost view = { λ a. view_of a.cells.items };
+    ghost view = { λ a. view_at a.floor a.cells.items };
 
-    ghost invariant = { λ a. AreCells a.cells.items };
+    ghost invariant = { λ a. AreHeld a.floor a.cells.items };
 }
 
 impl Store {
-    /// An empty store, which takes its memory from `alloc` later.
+    /// An empty store at floor 1, which takes its memory from `alloc` later.
     pub fn new(alloc: Global) -> Self
         ensures { result ≡ no_facts }
     {
         Store {
+            floor: Generation::new(1).unwrap(),
             cells: PageList::new(alloc),
         }
     }
 
-    /// Adds what the sighting says to what is held. Takes a search, and moves no more than a page.
+    /// The least generation that counts, 1 for a new store.
+    pub fn floor(&self) -> Generation
+        ensures { result ≡ self.now.floor }
+    {
+        self.floor
+    }
+
+    /// Forgets what is older than a generation, now and whenever it comes again. Takes no memory, and gives back what
+    /// the cells took. Walks the cells where this floor is greater than the one held, and else does nothing.
+    pub fn raise_floor(&mut self, floor: Generation)
+        ensures { self.new ≡ raised self.old floor }
+    {
+        if self.floor.number() < floor.number() {
+            drop_below(&mut self.cells, floor);
+            self.floor = floor;
+        }
+    }
+
+    /// Adds what the sighting says to what is held, which is nothing where it is below the floor. Takes a search, and
+    /// moves no more than a page.
     pub fn add(&mut self, sighting: Sighting) -> Result<(), Refused>
         ensures ok { OnOk result (self.new ≡ merge self.old (view (sighting ∷ []))) }
         ensures err { OnErr result (self.new ≡ self.old) }
     {
         self.cells.reserve(1)?;
-        put(&mut self.cells, sighting);
+        put_kept(&mut self.cells, self.floor, sighting);
         Ok(())
     }
 
@@ -84,8 +106,9 @@ impl Store {
         ensures err { OnErr result (self.new ≡ self.old) }
     {
         if sightings.len() > FEW {
-            let told = store_of(self.cells.allocator(), sightings)?;
-            return self.merge(&told);
+            let told = store_of(self.cells.allocator(), self.floor, sightings)?;
+            self.merge(&told)?;
+            return Ok(());
         }
         self.add_few(sightings)
     }
@@ -97,12 +120,12 @@ impl Store {
     {
         self.cells.reserve(sightings.len())?;
         for sighting in sightings {
-            put(&mut self.cells, *sighting);
+            put_kept(&mut self.cells, self.floor, *sighting);
         }
         Ok(())
     }
 
-    /// Adds all that the other store holds. Walks both.
+    /// Adds all that the other store holds, and takes the greater floor of the two. Walks both.
     pub fn merge(&mut self, other: &Store) -> Result<(), Refused>
         ensures ok { OnOk result (self.new ≡ merge self.old other.now) }
         ensures least { OnOk result (IsMerge self.old other.now self.new) }
@@ -118,21 +141,29 @@ impl Store {
         ensures least { OnOk result (IsMerge self.old other.now self.new) }
         ensures counted { IfOk result (λ steps.
             steps ≡ compared_by_walk (cells_of self.old) (cells_of other.now)) }
-        ensures steps { IfOk result (λ steps. steps ≤ 2 * (len self.old + len other.now)) }
+        ensures steps { IfOk result (λ steps.
+            steps ≤ 2 * (length (cells_of self.old) + length (cells_of other.now))) }
         ensures err { OnErr result (self.new ≡ self.old) }
     {
         let mut steps = 0;
-        self.cells = merge_cells(&self.cells, &other.cells, &mut steps)?;
+        let mut cells = merge_cells(&self.cells, &other.cells, &mut steps)?;
+        let floor = newer(Some(self.floor), other.floor);
+        if self.floor != other.floor {
+            drop_below(&mut cells, floor);
+        }
+        *self = Store { floor, cells };
         Ok(steps)
     }
 
-    /// Adds all that the other store holds. An empty store takes the other one over as it is.
+    /// Does what `merge` does. An empty store takes the other one over as it is.
     pub fn merge_owned(&mut self, other: Store) -> Result<(), Refused>
         ensures ok { OnOk result (self.new ≡ merge self.old other) }
         ensures err { OnErr result (self.new ≡ self.old) }
     {
         if self.cells.len() == 0 {
-            self.cells = other.cells;
+            let floor = self.floor;
+            *self = other;
+            self.raise_floor(floor);
             return Ok(());
         }
         self.merge(&other)
@@ -159,7 +190,7 @@ impl Store {
     pub fn get_steps(&self, key: Key) -> (Option<Cell<Value>>, u32)
         ensures found { result.0 ≡ cell_for self.now key }
         ensures counted { CountsSearch key (cells_of self.now) result.1 }
-        ensures steps { HasDigits (len self.now) result.1 }
+        ensures steps { HasDigits (length (cells_of self.now)) result.1 }
         ensures in_range { AreInRange self.now }
     {
         let found = find(&self.cells, &key);
@@ -198,7 +229,7 @@ impl Store {
 
     /// The greatest generation of a cell. Walks the cells.
     pub fn newest(&self) -> Option<Generation>
-        ensures none { IsNone result ↔ (self.now ≡ no_facts) }
+        ensures none { IsNone result ↔ (cells_of self.now ≡ []) }
         ensures newest { IfSome result (IsNewestGeneration self.now) }
     {
         let mut newest: Option<Generation> = None;
@@ -219,11 +250,12 @@ fn newer(held: Option<Generation>, told: Generation) -> Generation
     }
 }
 
-/// A store of what the sightings say.
-fn store_of(alloc: Global, sightings: &[Sighting]) -> Result<Store, Refused>
-    ensures { IfOk result (λ store. store ≡ view sightings.now) }
+/// A store of what the sightings say at a floor.
+fn store_of(alloc: Global, floor: Generation, sightings: &[Sighting]) -> Result<Store, Refused>
+    ensures { IfOk result (λ store. store ≡ view_at floor sightings.now) }
 {
     let mut store = Store::new(alloc);
+    store.raise_floor(floor);
     for sighting in sightings {
         store.add(*sighting)?;
     }

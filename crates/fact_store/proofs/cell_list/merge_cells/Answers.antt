@@ -13,8 +13,8 @@ use Rattle.page_list.specs.Rest.{rest_of}
 use Rattle.fact_store.proofs.Keys.{key_exact}
 use Rattle.fact_store.proofs.Walks.{IsWalked, walked_first, walked_second, walked_both, walked_to, walked_start, walked_all, compared_all, next_left, nothing_left}
 use Rattle.fact_store.specs.Cells.{AreCells}
-use Rattle.fact_store.specs.View.{view}
-use Rattle.fact_store.proofs.Views.{view_of_both}
+use Rattle.fact_store.specs.Seen.{seen}
+use Rattle.fact_store.proofs.Seen.{seen_of_both}
 use Rattle.std.proofs.lemmas.List.{append_assoc}
 use Rattle.fact_store.proofs.cell_list.merge_cells.Goals as goal
 use Rattle.fact_store.proofs.cell_list.merge_cells.Goals.{in_default, in_default-2}
@@ -78,7 +78,7 @@ at_end c =
     ]
 
 -- the cells at the end
-all_at_end : (c : goal.In_ok-append-2) → AreCells c.append-2.new.cells.items × (view c.append-2.new.cells.items ≡ view (c.args.first.now.items ++ c.args.second.now.items))
+all_at_end : (c : goal.In_ok-append-2) → AreCells c.append-2.new.cells.items × (seen c.append-2.new.cells.items ≡ seen (c.args.first.now.items ++ c.args.second.now.items))
 all_at_end c =
     walked_all c.args.first.now.items c.args.second.now.items c.loop-a.cells.items (option_to_list c.loop-a.a ++ rest_of c.loop-a.left) (option_to_list c.loop-a.b ++ rest_of c.loop-a.right) c.append-2.new.cells.items c.loop-a.steps c.loop-a.invariant.0 (at_end c)
     (c.in_ok-append-2.ensures ∙ ap (λ (z : List (Key × Cell Value)). z ++ option_to_list c.loop-a.b ++ rest_of c.loop-a.right) (c.in_ok-append.ensures ∙ append_assoc c.loop-a.cells.items (option_to_list c.loop-a.a) (rest_of c.loop-a.left))
@@ -88,7 +88,7 @@ pub returns-clause-cells : goal.returns-clause-cells
 returns-clause-cells c = (all_at_end c).0
 
 pub returns-clause-merged : goal.returns-clause-merged
-returns-clause-merged c = (all_at_end c).1 ∙ view_of_both c.args.first.now.items c.args.second.now.items
+returns-clause-merged c = (all_at_end c).1 ∙ seen_of_both c.args.first.now.items c.args.second.now.items
 
 pub returns-clause-counted : goal.returns-clause-counted
 returns-clause-counted c =

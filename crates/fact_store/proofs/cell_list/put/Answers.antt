@@ -5,7 +5,7 @@ use Rattle.fact_join.specs.declared.cell.Cell.{Cell}
 use Rattle.fact_store.specs.declared.key.Key.{Key}
 use Rattle.fact_store.specs.declared.value.Value.{Value}
 use Rattle.fact_store.specs.Cells.{IsSearched, IsPlaceFor}
-use Rattle.fact_store.proofs.Puts.{put_cells, put_view, joined_cells, joined_view}
+use Rattle.fact_store.proofs.Puts.{put_cells, put_seen, joined_cells, joined_seen}
 use Rattle.fact_store.proofs.cell_list.put.Goals as goal
 
 -- equal options have equal keys
@@ -24,7 +24,7 @@ returns-in-Ok-clause-put c =
     let at : slice_get c.args.cells.now.items c.in-Ok.place ≡ Some c.unwrap-held.result = sym c.get.ensures ∙ c.unwrap-held.ensures in
     let found : (x : Cell Value) × (slice_get c.args.cells.now.items c.in-Ok.place ≡ Some (c.key.result, x)) = subst (λ (r : Result ℕ ℕ). IsSearched c.key.result c.args.cells.now.items r) c.in-Ok.is c.place_of.ensures in
     let same : c.unwrap-held.result.0 ≡ c.args.sighting.0 = some_key c.unwrap-held.result (c.key.result, found.0) (sym at ∙ found.1) ∙ c.key.ensures.value in
-    joined_view c.args.cells.now.items c.requires.cells c.in-Ok.place c.args.sighting c.set.new.self.items c.unwrap-held.result at same c.join_cells.result c.join_cells.ensures.value c.join_cells.ensures.in_range c.set.ensures.items
+    joined_seen c.args.cells.now.items c.requires.cells c.in-Ok.place c.args.sighting c.set.new.self.items c.unwrap-held.result at same c.join_cells.result c.join_cells.ensures.value c.join_cells.ensures.in_range c.set.ensures.items
 
 pub returns-in-Err-clause-cells : goal.returns-in-Err-clause-cells
 returns-in-Err-clause-cells c =
@@ -36,4 +36,4 @@ pub returns-in-Err-clause-put : goal.returns-in-Err-clause-put
 returns-in-Err-clause-put c =
     let place : IsPlaceFor c.key.result c.args.cells.now.items c.in-Err.place = subst (λ (r : Result ℕ ℕ). IsSearched c.key.result c.args.cells.now.items r) c.in-Err.is c.place_of.ensures in
     let there : IsPlaceFor c.args.sighting.0 c.args.cells.now.items c.in-Err.place = subst (λ (k : Key). IsPlaceFor k c.args.cells.now.items c.in-Err.place) c.key.ensures.value place in
-    put_view c.args.cells.now.items c.requires.cells c.in-Err.place c.args.sighting c.insert.new.self.items there c.key.ensures.in_range c.insert.ensures.items
+    put_seen c.args.cells.now.items c.requires.cells c.in-Err.place c.args.sighting c.insert.new.self.items there c.key.ensures.in_range c.insert.ensures.items

@@ -1,4 +1,4 @@
--- The view has its law, is the only map that has it, and is the view of its own entries.
+-- The map has its law, is the only map that has it, and is the map of its own entries.
 use Rattle.std.proofs.Common.{◌≡◌, ◌≤◌, ◌<◌, ℕ, List, [], ◌∷◌, inl, inr, ◌⊎◌, refl, sym, ap, ◌∙◌, subst, arith, true, false, ◌==◌}
 use Rattle.std.proofs.lemmas.Bool.{eqb-true}
 use Rattle.std.specs.Prelude.{Option, None, Some, MatchOption, Contains, filter}
@@ -9,12 +9,12 @@ use Rattle.fact_join.specs.Cell.{generation_of, IsBelow}
 use Rattle.fact_join.specs.Joins.{below_itself}
 use Rattle.fact_store.specs.declared.key.Key.{Key}
 use Rattle.fact_store.specs.declared.value.Value.{Value}
-use Rattle.fact_store.specs.View.{cells_sighted, newest_of, agreement, cell_at, view, WasSighted, IsNewest, AllSay, IsCellIn, ViewLaw, ViewIsUnique, ViewOfItsCells}
+use Rattle.fact_store.specs.Seen.{cells_sighted, newest_of, agreement, cell_at, seen, WasSighted, IsNewest, AllSay, IsCellIn, CellMap, IsSeen}
 use Rattle.fact_store.proofs.Keys.{key_total, key_exact}
 use Rattle.smp_bytes.proofs.Members.{contains_here, contains_none}
-use Rattle.fact_store.proofs.Merges.{view_antisymm}
+use Rattle.fact_store.proofs.MapMerges.{maps_antisymm}
 use Rattle.fact_store.proofs.Orders.{get_contained, contained_get}
-use Rattle.fact_store.proofs.Views.{AreAt, is_at, filtered_at, generation-agreement, known_is, newest_above, newest_there, newest_kept, summary, summary_above, summary_least, sighted_in_cells, sighted_from_cells, never_sighted, sighted, at_key, view_above, view_least}
+use Rattle.fact_store.proofs.Seen.{AreAt, is_at, filtered_at, generation-agreement, known_is, newest_above, newest_there, newest_kept, summary, summary_above, summary_least, sighted_in_cells, sighted_from_cells, never_sighted, sighted, at_key, seen_above, seen_least}
 
 -- what the cells of a key say is of their newest generation ------------------------
 
@@ -58,7 +58,7 @@ older_or_alike m n h =
     apart : (m n : ℕ) → (m == n) ≡ false → m ≡ n → ⊥
     apart m n p e = cc (Rattle.std.proofs.lemmas.Bool.eq-eqb m n e)
 
--- what the newest sightings say is the law of the view
+-- what the newest sightings say is the law of the map
 cell_is_in : (q : Key) (s : List (Key × Cell Value)) (w : Cell Value) → Contains (cells_sighted q s) w → (z : Cell Value) → cell_at q s ≡ z → IsCellIn q s z
 cell_is_in q s w h (Known g v) e =
     let n : IsNewest q s g = subst (λ (x : Cell Value). IsNewest q s (generation_of x)) e (is_newest q s w h) in (
@@ -78,9 +78,9 @@ cell_is_in q s w h (Disputed g) e =
     not_below g v (inr (inl h)) = cc
     not_below g v (inr (inr h)) = h.1
 
--- the view has its law
-pub view_law : ViewLaw
-view_law s =
+-- the map has its law
+pub seen_law : (s : List (Key × Cell Value)) → IsSeen s (seen s)
+seen_law s =
     record {
       cells = λ q.
           let there : Option (Cell Value) → Type 0 = λ o. MatchOption o ((c : Cell Value) → WasSighted q s c → ⊥) (IsCellIn q s) in
@@ -121,13 +121,13 @@ same_there q s (Some c) None a b = let n = (newest_in q s c a).sighted in absurd
 same_there q s (Some c) (Some d) a b = ap Some (same_cell q s c d a b)
 
 -- so it leaves one map
-pub view_is_unique : ViewIsUnique
-view_is_unique s x y a b = same_map key_total key_exact x y (λ q. same_there q s (get x q) (get y q) (a.cells q) (b.cells q))
+pub seen_is_unique : (s : List (Key × Cell Value)) (x y : CellMap) → IsSeen s x → IsSeen s y → x ≡ y
+seen_is_unique s x y a b = same_map key_total key_exact x y (λ q. same_there q s (get x q) (get y q) (a.cells q) (b.cells q))
 
--- a view and its entries -------------------------------------------------------------
+-- a map and its entries -------------------------------------------------------------
 
--- facts are the view of their entries
-pub view_of_its_cells : ViewOfItsCells
-view_of_its_cells x =
-    view_antisymm (view (entries x)) x (view_least (entries x) x (λ q c h. (c, contained_get x q c h, below_itself c)))
-    (λ q c e. view_above (entries x) q c (get_contained x q c e))
+-- facts are the map of their entries
+pub seen_of_its_cells : (x : CellMap) → seen (entries x) ≡ x
+seen_of_its_cells x =
+    maps_antisymm (seen (entries x)) x (seen_least (entries x) x (λ q c h. (c, contained_get x q c h, below_itself c)))
+    (λ q c e. seen_above (entries x) q c (get_contained x q c e))

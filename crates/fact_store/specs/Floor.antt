@@ -1,0 +1,92 @@
+-- A floor under the generations: what is below it does not count.
+use Rattle.std.proofs.Common.{◌≡◌, ℕ, Bool, true, false, List, [], ◌∷◌, ◌&&◌, cond, refl, sym, subst, arith}
+use Rattle.std.proofs.lemmas.Bool.{le-leb}
+use Rattle.std.specs.Prelude.{T, nat_le, max, filter, Option, None, Some, if◌then◌else◌}
+use Rattle.std.specs.List.{list_all}
+use Rattle.std.specs.FinMap.{entries, entries_sorted, from_sorted, entries-from_sorted}
+use Rattle.std.specs.FinMap.Entries.{below_all, is_sorted}
+use Rattle.fact_join.specs.declared.cell.Cell.{Cell}
+use Rattle.fact_join.specs.Cell.{generation_of}
+use Rattle.fact_store.specs.declared.key.Key.{Key}
+use Rattle.fact_store.specs.declared.value.Value.{Value}
+use Rattle.fact_store.specs.Key.{key_cmp}
+use Rattle.fact_store.specs.Seen.{CellMap}
+
+-- whether a cell is at the floor or above it; generations begin at 1, and 0 counts as that
+abbrev pub is_kept : ℕ → Cell Value → Bool
+is_kept floor c = nat_le floor (max 1 (generation_of c))
+
+-- those sightings that are
+abbrev pub kept : ℕ → List (Key × Cell Value) → List (Key × Cell Value)
+kept floor sightings = filter (λ s. is_kept floor s.1) sightings
+
+-- a cell, where it is there and kept
+abbrev pub kept_there : ℕ → Option (Cell Value) → Option (Cell Value)
+kept_there floor None = None
+kept_there floor (Some c) = if is_kept floor c then Some c else None
+
+-- a floor is 1 or more, and no cell is below it
+abbrev pub has_floor : ℕ → CellMap → Bool
+has_floor floor found = nat_le 1 floor && list_all (λ e. is_kept floor e.1) (entries found)
+
+-- the cells that are not below the floor
+abbrev pub dropped : ℕ → CellMap → CellMap
+dropped floor found = from_sorted (kept floor (entries found))
+
+-- none of these is: ------------------------------------------------------------------
+
+-- both hold
+both_true : (a b : Bool) → T a → T b → T (a && b)
+both_true true b g h = h
+both_true false b g h = absurd g
+
+-- the first of both
+first_true : (a b : Bool) → T (a && b) → T a
+first_true true b h = tt
+first_true false b h = absurd h
+
+-- the second of both
+second_true : (a b : Bool) → T (a && b) → T b
+second_true true b h = h
+second_true false b h = absurd h
+
+-- a key below all is below those that are kept
+below_kept : (floor : ℕ) (k : Key) (es : List (Key × Cell Value)) → T (below_all key_cmp k es) → T (below_all key_cmp k (kept floor es))
+below_kept floor k [] h = tt
+below_kept floor k (e ∷ es) h =
+    let rest = below_kept floor k es (second_true _ _ h) in
+    elim (is_kept floor e.1) as (λ b. T (below_all key_cmp k (cond b (e ∷ kept floor es) (kept floor es)))) [ true ↦ both_true _ _ (first_true _ _ h) rest | false ↦ rest ]
+
+-- what is kept of rising keys rises
+pub rising_kept : (floor : ℕ) (es : List (Key × Cell Value)) → T (is_sorted key_cmp es) → T (is_sorted key_cmp (kept floor es))
+rising_kept floor [] h = tt
+rising_kept floor (e ∷ es) h =
+    let rest = rising_kept floor es (second_true _ _ h) in
+    elim (is_kept floor e.1) as (λ b. T (is_sorted key_cmp (cond b (e ∷ kept floor es) (kept floor es)))) [
+      | true ↦ both_true _ _ (below_kept floor e.0 es (first_true _ _ h)) rest
+      | false ↦ rest
+    ]
+
+-- so these are the entries
+pub entries-dropped : (floor : ℕ) (found : CellMap) → entries (dropped floor found) ≡ kept floor (entries found)
+entries-dropped floor found = entries-from_sorted key_cmp (kept floor (entries found)) (rising_kept floor (entries found) (entries_sorted found))
+
+-- what is kept is
+pub all_kept : (floor : ℕ) (es : List (Key × Cell Value)) → T (list_all (λ e. is_kept floor e.1) (kept floor es))
+all_kept floor [] = tt
+all_kept floor (e ∷ es) =
+    let rest = all_kept floor es in
+    elim (is_kept floor e.1) as (λ b. is_kept floor e.1 ≡ b → T (list_all (λ x. is_kept floor x.1) (cond b (e ∷ kept floor es) (kept floor es)))) [
+      | true ↦ λ p. both_true _ _ (subst T (sym p) tt) rest
+      | false ↦ λ p. rest
+    ] refl
+
+-- a number that is 1 at least is
+at_least_one : (floor : ℕ) → T (nat_le 1 (max 1 floor))
+at_least_one floor = subst T (sym (le-leb 1 (max 1 floor) (omega arith))) tt
+
+-- what is dropped to a floor has it
+pub dropped_has_floor : (floor : ℕ) (found : CellMap) → T (has_floor (max 1 floor) (dropped (max 1 floor) found))
+dropped_has_floor floor found =
+    both_true _ _ (at_least_one floor)
+    (subst (λ (es : List (Key × Cell Value)). T (list_all (λ e. is_kept (max 1 floor) e.1) es)) (sym (entries-dropped (max 1 floor) found)) (all_kept (max 1 floor) (entries found)))

@@ -1,0 +1,75 @@
+-- What is known of a subnet: the view of sightings at a floor, and its law.
+use Rattle.std.specs.Prelude.{◌≡◌, ◌≤◌, ℕ, List, [], T, max, Option, Some}
+use Rattle.std.specs.FinMap.{get, entries}
+use Rattle.fact_join.specs.declared.cell.Cell.{Cell}
+use Rattle.fact_join.specs.Cell.{generation_of}
+use Rattle.fact_store.specs.declared.key.Key.{Key}
+use Rattle.fact_store.specs.declared.value.Value.{Value}
+use Rattle.fact_store.specs.Floor.{dropped, dropped_has_floor, has_floor, kept}
+use Rattle.fact_store.specs.Seen.{CellMap, HaveSameMembers, IsSeen, seen}
+
+-- a floor, and a cell for each key of which something is known, none of them below the floor
+pub record Facts : Type 0 where
+  pub floor : ℕ
+  pub found : CellMap
+  pub above : T (has_floor floor found)
+
+-- the keys that have a cell, each with it, in the order of keys
+abbrev pub cells_of : Facts → List (Key × Cell Value)
+cells_of facts = entries facts.found
+
+-- the cell of a key, if it has one
+abbrev pub cell_for : Facts → Key → Option (Cell Value)
+cell_for facts key = get facts.found key
+
+-- the cells that are at a floor or above it; the least floor is 1
+abbrev pub at_floor : ℕ → CellMap → Facts
+at_floor floor found = record { floor = max 1 floor; found = dropped (max 1 floor) found; above = dropped_has_floor floor found }
+
+-- with the greater of their floor and this one
+abbrev pub raised : Facts → ℕ → Facts
+raised facts floor = at_floor (max facts.floor floor) facts.found
+
+-- what the sightings say together that are at a floor or above it
+abbrev pub view_at : ℕ → List (Key × Cell Value) → Facts
+view_at floor sightings = at_floor floor (seen sightings)
+
+-- what all sightings say together
+abbrev pub view : List (Key × Cell Value) → Facts
+view sightings = view_at 1 sightings
+
+-- nothing is known, and nothing forgotten
+abbrev pub no_facts : Facts
+no_facts = view []
+
+-- the greatest generation of a cell of the facts
+pub record IsNewestGeneration (facts : Facts) (generation : ℕ) : Type 0 where
+  pub held : (key : Key) × (c : Cell Value) × (cell_for facts key ≡ Some c) × (generation_of c ≡ generation)
+  pub greatest : (key : Key) (c : Cell Value) → cell_for facts key ≡ Some c → generation_of c ≤ generation
+
+-- the law of a view: -------------------------------------------------------------
+
+-- the floor, and a cell for each key that was sighted at the floor or above it
+pub record IsView (floor : ℕ) (sightings : List (Key × Cell Value)) (facts : Facts) : Type 0 where
+  pub at : facts.floor ≡ max 1 floor
+  pub cells : IsSeen (kept floor sightings) facts.found
+
+-- each view has it
+abbrev pub ViewLaw : Type 0
+ViewLaw = (floor : ℕ) (sightings : List (Key × Cell Value)) → IsView floor sightings (view_at floor sightings)
+
+-- and no other facts have it
+abbrev pub ViewIsUnique : Type 0
+ViewIsUnique = (floor : ℕ) (sightings : List (Key × Cell Value)) (x y : Facts) → IsView floor sightings x → IsView floor sightings y → x ≡ y
+
+-- lists with the same members have the same view at each floor
+abbrev pub MembersDecideView : Type 0
+MembersDecideView = (floor : ℕ) (s t : List (Key × Cell Value)) → HaveSameMembers s t → view_at floor s ≡ view_at floor t
+
+-- facts are the view of their own cells, so a store stands for any sightings that it was made of
+abbrev pub ViewOfItsCells : Type 0
+ViewOfItsCells = (x : Facts) → view_at x.floor (cells_of x) ≡ x
+
+-- to raise a floor is to look at the same sightings from the greater one
+abbrev pub RaisingForgets : Type 0
+RaisingForgets = (floor greater : ℕ) (sightings : List (Key × Cell Value)) → raised (view_at floor sightings) greater ≡ view_at (max floor greater) sightings
