@@ -1,16 +1,18 @@
 -- Views at a floor: their law, and the view of two lists.
 use Rattle.std.proofs.Common.{◌≡◌, ℕ, List, [], ◌∷◌, ◌++◌, sym, ap, ◌∙◌, subst, arith, refl, false, cond}
 use Rattle.std.proofs.lemmas.List.{append-nil}
-use Rattle.std.specs.Prelude.{max}
+use Rattle.std.specs.Prelude.{Some, max}
+use Rattle.std.specs.FinMap.{get}
 use Rattle.fact_join.specs.declared.cell.Cell.{Cell}
 use Rattle.fact_store.specs.declared.key.Key.{Key}
 use Rattle.fact_store.specs.declared.value.Value.{Value}
 use Rattle.fact_store.specs.Coded.{same_facts}
 use Rattle.fact_store.specs.Floor.{dropped, is_kept, kept}
 use Rattle.fact_store.specs.Merge.{merge, ViewOfBoth}
-use Rattle.fact_store.specs.Seen.{IsSeen, seen}
-use Rattle.fact_store.specs.View.{Facts, at_floor, cells_of, view, view_at, MembersDecideView, RaisingForgets, ViewIsUnique, ViewLaw, ViewOfItsCells}
-use Rattle.fact_store.proofs.Floors.{kept_at_one, seen_kept}
+use Rattle.fact_store.specs.Seen.{CellMap, IsSeen, seen}
+use Rattle.fact_store.specs.View.{Facts, at_floor, cell_for, cells_of, view, view_at, MembersDecideView, RaisingForgets, ViewIsUnique, ViewLaw, ViewOfItsCells}
+use Rattle.fact_store.proofs.Entries.{kept_all}
+use Rattle.fact_store.proofs.Floors.{get-dropped, kept_at_one, kept_is, seen_kept}
 use Rattle.fact_store.proofs.Merges.{at_own_floor, at_same_floor, floor_from_one, merge_at, raised_at}
 use Rattle.fact_store.proofs.Seen.{members_decide_seen, seen_of_both}
 use Rattle.fact_store.proofs.SeenLaws.{seen_is_unique, seen_law, seen_of_its_cells}
@@ -18,6 +20,22 @@ use Rattle.fact_store.proofs.SeenLaws.{seen_is_unique, seen_law, seen_of_its_cel
 -- a view at a floor has what the sightings say that are kept
 pub found_at_floor : (floor : ℕ) (s : List (Key × Cell Value)) → dropped (max 1 floor) (seen s) ≡ seen (kept floor s)
 found_at_floor floor s = seen_kept (max 1 floor) s ∙ ap seen (kept_at_one floor s)
+
+-- at floor 1 nothing is dropped
+pub found_of_view : (s : List (Key × Cell Value)) → dropped 1 (seen s) ≡ seen s
+found_of_view s = found_at_floor 1 s ∙ ap seen (kept_all s)
+
+-- so a key has what all its sightings say
+pub get-view : (s : List (Key × Cell Value)) (q : Key) → cell_for (view s) q ≡ get (seen s) q
+get-view s q = ap (λ (m : CellMap). get m q) (found_of_view s)
+
+-- at each floor what it has is that
+pub cell_was_seen : (floor : ℕ) (s : List (Key × Cell Value)) (q : Key) (c : Cell Value) → cell_for (view_at floor s) q ≡ Some c → get (seen s) q ≡ Some c
+cell_was_seen floor s q c e = (kept_is (max 1 floor) (get (seen s) q) c (sym (get-dropped (max 1 floor) (seen s) q) ∙ e)).0
+
+-- and the cells have the law of these
+pub view_cells : (s : List (Key × Cell Value)) → IsSeen s (dropped 1 (seen s))
+view_cells s = subst (IsSeen s) (sym (found_of_view s)) (seen_law s)
 
 -- each view has its law
 pub view_law : ViewLaw

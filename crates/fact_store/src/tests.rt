@@ -304,3 +304,48 @@ fn steps_are_comparisons(rt: HostRuntime) -> Result<(), Fail> {
     assert!(rt; are_right);
     Ok(())
 }
+
+/// A store of the tables' rooms of switches, each of which told at the generation that is its GUID.
+fn aged(alloc: Global, generations: &[u32]) -> Result<Store, Fail> {
+    let mut store = Store::new(alloc);
+    for number in generations {
+        let generation = Generation::new(*number).ok_or("0")?;
+        let key = Key::Cap(node(u64::from(*number)));
+        let told = Cell::Known(generation, Value::Count(1));
+        store.add(Sighting::new(key, told).ok_or("out of range")?)?;
+    }
+    Ok(store)
+}
+
+/// The floor and the number of cells of a store that was raised to one floor and then took in another store, raised to
+/// another, and an old sighting twice.
+fn left(alloc: Global, floors: [u32; 2]) -> Result<(u32, usize), Fail> {
+    let mut store = aged(alloc, &[1, 3, 5, 7])?;
+    store.raise_floor(Generation::new(floors[0]).ok_or("0")?);
+    let mut other = aged(alloc, &[2, 3, 6])?;
+    other.raise_floor(Generation::new(floors[1]).ok_or("0")?);
+    store.merge(&other)?;
+    store.add_all(&[cap(1, 1)?; 2])?;
+    store.add_all(&[cap(1, 1)?; 5])?;
+    let mut copy = Store::new(alloc);
+    copy.merge_owned(store.try_clone()?)?;
+    Ok((copy.floor().number(), copy.count()))
+}
+
+#[test]
+fn what_is_below_the_greatest_floor_is_forgotten(rt: HostRuntime) -> Result<(), Fail> {
+    // 1, 2, 3, 5, 6 and 7; from 3 on; from 7 on; none
+    for (first, second, floor, count) in [
+        (1, 1, 1, 6),
+        (3, 1, 3, 4),
+        (2, 3, 3, 4),
+        (3, 2, 3, 4),
+        (1, 7, 7, 1),
+        (8, 1, 8, 0),
+        (u32::MAX, 8, u32::MAX, 0),
+    ] {
+        let is_left = left(rt.alloc(), [first, second])? == (floor, count);
+        assert!(rt; is_left, "{first} {second}");
+    }
+    Ok(())
+}

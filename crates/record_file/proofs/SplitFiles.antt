@@ -98,7 +98,7 @@ part_of_store : (part : List ℕ) (es : Sightings) → Rise None es → AllSight
     → (outcome part ≡ Ok tt) × (kept part ≡ es)
 part_of_store part es rise all is short =
     let facts = facts_with es rise all in
-    let read = read_back part facts.0 (record { whole = is ∙ ap store_bytes (sym facts.1); in_range = facts.2; short = short }) in
+    let read = read_back part facts.0 (record { whole = is ∙ ap store_bytes (sym facts.1); floor = facts.3; in_range = facts.2; short = short }) in
     (read.0, read.1 ∙ facts.1)
 
 pub split_store : (whole front back : List ℕ) (facts : Facts) (first second : Sightings) → IsStoreFile whole facts → cells_of facts ≡ first ++ second

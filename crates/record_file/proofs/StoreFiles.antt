@@ -5,20 +5,21 @@ use Rattle.std.specs.Prelude.{T, Contains, option_map}
 use Rattle.std.specs.declared.cmp.Ordering.TheVariants.{Less}
 use Rattle.std.specs.Ordering.{is_lt}
 use Rattle.std.specs.List.{concat, flat_map}
-use Rattle.std.specs.FinMap.{entries-from_sorted, from_sorted}
+use Rattle.std.specs.FinMap.{entries}
 use Rattle.std.specs.FinMap.Entries.{below_all, is_sorted}
 use Rattle.fact_join.specs.declared.cell.Cell.{Cell}
 use Rattle.fact_store.specs.declared.key.Key.{Key}
 use Rattle.fact_store.specs.declared.value.Value.{Value}
 use Rattle.fact_store.specs.Key.{is_above, key_cmp}
 use Rattle.fact_store.specs.Sighting.{AreInRange, IsSighting}
-use Rattle.fact_store.specs.View.{Facts, view, cells_of, no_facts}
+use Rattle.fact_store.specs.View.{Facts, view, view_at, cells_of, no_facts}
 use Rattle.fact_store.proofs.Entries.{cells_in_order}
 use Rattle.fact_store.proofs.Keys.{key_total}
 use Rattle.fact_store.proofs.Merges.{merge_empty}
 use Rattle.smp_bytes.proofs.Members.{contains_cases, contains_here, contains_later, contains_none}
 use Rattle.fact_store.proofs.Orders.{contained_get, get_contained, less_from_test}
-use Rattle.fact_store.proofs.ViewLaws.{view_of_its_cells}
+use Rattle.fact_store.proofs.Views.{found_of_view, view_of_its_cells}
+use Rattle.fact_store.proofs.CellOrder.{entries-rising}
 use Rattle.record_file.specs.declared.file_fault.FileFault.{FileFault}
 use Rattle.record_file.specs.declared.file_fault.FileFault.TheVariants.{CellOrder}
 use Rattle.record_file.specs.declared.format.Format.TheVariants.{Cells}
@@ -173,7 +174,7 @@ flat [] = refl
 flat (e ∷ es) = ap (λ l. record_bytes e ++ l) (flat es)
 
 pub in_range_sightings : (facts : Facts) → AreInRange facts → AllSightings (cells_of facts)
-in_range_sightings facts h = all_sightings (cells_of facts) (λ e there. h e.0 e.1 (contained_get facts e.0 e.1 there))
+in_range_sightings facts h = all_sightings (cells_of facts) (λ e there. h e.0 e.1 (contained_get facts.found e.0 e.1 there))
 
 facts_spelled : (facts : Facts) → AreInRange facts → Spelled None 0 (cells_of facts)
 facts_spelled facts h = spelled None 0 (cells_of facts) (sorted_rise (cells_of facts) (cells_in_order facts)) (in_range_sightings facts h)
@@ -203,16 +204,16 @@ read_back bytes facts is =
     ap kept (is.whole ∙ whole_file facts) ∙ kept-magic Cells (concat (map record_bytes (cells_of facts)))
     ∙ ap (λ b. told_by Cells None (records_in_reach Cells b)) (sym (is.whole ∙ whole_file facts))
     ∙ ap (told_by Cells None) rs ∙ (facts_spelled facts is.in_range).told in
-    (ok.1, keeps, ap view keeps ∙ view_of_its_cells facts)
+    (ok.1, keeps, ap view keeps ∙ ap (λ f. view_at f (cells_of facts)) (sym is.floor) ∙ view_of_its_cells facts)
 
 -- the facts whose entries these are
-pub facts_with : (es : Sightings) → Rise None es → AllSightings es → (facts : Facts) × (cells_of facts ≡ es) × AreInRange facts
+pub facts_with : (es : Sightings) → Rise None es → AllSightings es → (facts : Facts) × (cells_of facts ≡ es) × AreInRange facts × (facts.floor ≡ 1)
 facts_with es rise sightings =
-    let facts : Facts = from_sorted es in
-    let same : cells_of facts ≡ es = entries-from_sorted key_cmp es (rising_sorted es rise) in
+    let facts : Facts = view es in
+    let same : cells_of facts ≡ es = ap entries (found_of_view es) ∙ entries-rising es (rising_sorted es rise) in
     let P : Sightings → Type 0 = AllSightings in
     let all = subst P (sym same) sightings in
-    (facts, same, λ key c there. sighting_there (cells_of facts) all (key, c) (get_contained facts key c there))
+    (facts, same, (λ key c there. sighting_there (cells_of facts) all (key, c) (get_contained facts.found key c there)), refl)
 
 pub store_files_are_accepted : StoreFilesAreAccepted
 store_files_are_accepted bytes = (
@@ -223,6 +224,7 @@ store_files_are_accepted bytes = (
         facts.0,
         record {
           whole = is.whole ∙ ap (λ rs. magic Cells ++ concat rs) (found.1.records ∙ ap (map record_bytes) (sym facts.1)) ∙ sym (whole_file facts.0);
+          floor = facts.3;
           in_range = facts.2;
           short = is.short;
         },
@@ -231,10 +233,10 @@ store_files_are_accepted bytes = (
 )
 
 pub one_spelling : FactsHaveOneSpelling
-one_spelling x y in_x in_y same =
+one_spelling x y floors in_x in_y same =
     let rs = sym (records-file x in_x) ∙ ap (λ l. records 32 (drop 8 l)) same ∙ records-file y in_y in
     let es = sym (facts_spelled x in_x).told ∙ ap (told_by Cells None) rs ∙ (facts_spelled y in_y).told in
-    sym (view_of_its_cells x) ∙ ap view es ∙ view_of_its_cells y
+    sym (view_of_its_cells x) ∙ (λ i. view_at (floors i) (es i)) ∙ view_of_its_cells y
 
 -- what was taken of a known source that ended is all of it
 taken_whole : (left left' : Option (List ℕ)) (n m : ℕ) (bytes rest : List ℕ) (old new : Facts) → left ≡ Some bytes → left' ≡ Some rest

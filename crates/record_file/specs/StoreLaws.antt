@@ -15,9 +15,10 @@ use Rattle.record_file.specs.StoreFile.{store_bytes}
 abbrev pub RecordsAreSpellings : Type 0
 RecordsAreSpellings = (bytes : List ℕ) (e : Key × Cell Value) → (cell_of bytes ≡ Some e) ↔ (IsSighting e × (bytes ≡ record_bytes e))
 
--- the store file of facts in range, in fewer than 2^40 bytes
+-- the store file of facts in range at floor 1, in fewer than 2^40 bytes
 pub record IsStoreFile (bytes : List ℕ) (facts : Facts) : Type 0 where
   pub whole : bytes ≡ store_bytes (cells_of facts)
+  pub floor : facts.floor ≡ 1
   pub in_range : AreInRange facts
   pub short : length bytes < 2 ^ 40
 
@@ -30,9 +31,9 @@ abbrev pub FactsAreReadBack : Type 0
 FactsAreReadBack =
     (bytes : List ℕ) (facts : Facts) → IsStoreFile bytes facts → (outcome bytes ≡ Ok tt) × (kept bytes ≡ cells_of facts) × (view (kept bytes) ≡ facts)
 
--- different facts have different store files
+-- different facts at one floor have different store files
 abbrev pub FactsHaveOneSpelling : Type 0
-FactsHaveOneSpelling = (x y : Facts) → AreInRange x → AreInRange y → store_bytes (cells_of x) ≡ store_bytes (cells_of y) → x ≡ y
+FactsHaveOneSpelling = (x y : Facts) → x.floor ≡ y.floor → AreInRange x → AreInRange y → store_bytes (cells_of x) ≡ store_bytes (cells_of y) → x ≡ y
 
 -- and whoever absorbs the whole file of some facts into an empty store holds these facts
 abbrev pub AbsorbingReadsBack : {S : Type 0} → (S → Option (List ℕ)) → (S → ℕ) → Type 0

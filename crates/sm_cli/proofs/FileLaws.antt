@@ -17,9 +17,9 @@ pub joined_file_stands : JoinedFileStands
 joined_file_stands command files others joined is =
     let read = read_back joined (facts_of files) is in (
       read.0,
-      ap (answer_to command) (view_of_both (kept joined) (flat_map kept others)
+      ap (answer_to command) (view_of_both 1 1 (kept joined) (flat_map kept others)
           ∙ ap (λ x. merge x (view (flat_map kept others))) read.2
-          ∙ sym (view_of_both (flat_map kept files) (flat_map kept others))
+          ∙ sym (view_of_both 1 1 (flat_map kept files) (flat_map kept others))
           ∙ ap view (sym (flat_map-append kept files others))),
     )
 

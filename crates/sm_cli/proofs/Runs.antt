@@ -155,7 +155,7 @@ module _ {S : Type 0} (left : S → Option (List ℕ)) (has_failed : S → Bool)
 -- what one more file says is merged into what all before say
 pub facts-more : (files : List (List ℕ)) (file : List ℕ) (facts facts' : Facts) → facts ≡ facts_of files → facts' ≡ merge facts (view (kept file)) → facts' ≡ facts_of (files ++ file ∷ [])
 facts-more files file facts facts' e more =
-    more ∙ ap (λ x. merge x (view (kept file))) e ∙ sym (view_of_both (flat_map kept files) (kept file))
+    more ∙ ap (λ x. merge x (view (kept file))) e ∙ sym (view_of_both 1 1 (flat_map kept files) (kept file))
     ∙ ap view (flat_map_more kept [] files file)
 
 -- the first sources were read, the others are as they were, and the facts are what the files say

@@ -4,7 +4,8 @@ use Rattle.std.specs.List.{flat_map}
 use Rattle.fact_join.specs.declared.cell.Cell.{Cell}
 use Rattle.fact_store.specs.declared.key.Key.{Key}
 use Rattle.fact_store.specs.declared.value.Value.{Value}
-use Rattle.fact_store.specs.View.{Facts, HaveSameMembers, cells_of}
+use Rattle.fact_store.specs.Seen.{HaveSameMembers}
+use Rattle.fact_store.specs.View.{Facts, cells_of}
 use Rattle.record_file.specs.Laws.{IsReportFile, report_file}
 use Rattle.record_file.specs.RecordFile.{kept, outcome}
 use Rattle.record_file.specs.StoreFile.{store_bytes}

@@ -141,7 +141,7 @@ knows : (calls : List Call) (m : Manager) (before : Told) → m.store ≡ view b
 knows [] m before e = e ∙ ap view (sym (append-nil before))
 knows (call ∷ calls) m before e =
     knows calls (after_call m call) (before ++ told_in m call)
-    (takes_call m call ∙ ap (λ x. merge x (view (told_in m call))) e ∙ sym (view_of_both before (told_in m call)))
+    (takes_call m call ∙ ap (λ x. merge x (view (told_in m call))) e ∙ sym (view_of_both 1 1 before (told_in m call)))
     ∙ ap view (append_assoc before (told_in m call) (taken_in calls (after_call m call)))
 
 pub knows_what_it_took_in : KnowsWhatItTookIn
@@ -151,7 +151,7 @@ pub same_taken_in_same_plan : SameTakenInSamePlan
 same_taken_in_same_plan guid port priority guid' port' priority' calls calls' same =
     let facts =
     knows_what_it_took_in guid port priority calls
-    ∙ members_decide_view (taken_in calls (new_manager guid port priority)) (taken_in calls' (new_manager guid' port' priority')) same
+    ∙ members_decide_view 1 (taken_in calls (new_manager guid port priority)) (taken_in calls' (new_manager guid' port' priority')) same
     ∙ sym (knows_what_it_took_in guid' port' priority' calls') in
     record {
       facts = facts;

@@ -5,11 +5,12 @@ use Rattle.fact_join.specs.declared.cell.Cell.{Cell}
 use Rattle.fact_join.specs.Cell.{generation_of}
 use Rattle.fact_store.specs.declared.key.Key.{Key}
 use Rattle.fact_store.specs.declared.value.Value.{Value}
-use Rattle.fact_store.specs.View.{Facts, newest_of, IsNewestGeneration, cells_of, no_facts}
+use Rattle.fact_store.specs.Seen.{newest_of}
+use Rattle.fact_store.specs.View.{Facts, IsNewestGeneration, cells_of}
 use Rattle.smp_bytes.proofs.Members.{contains_none}
 use Rattle.fact_store.proofs.Entries.{entries-view}
 use Rattle.fact_store.proofs.Orders.{contained_get, get_contained}
-use Rattle.fact_store.proofs.Views.{newest_above, newest_there}
+use Rattle.fact_store.proofs.Seen.{newest_above, newest_there}
 use Rattle.subnet_view.proofs.Apart.{contains_map, contains-from_map}
 use Rattle.sm_manager.specs.Manager.{newest_held}
 
@@ -28,10 +29,10 @@ newest_among (a ∷ held) g x there is most =
 newest_is : (facts : Facts) (g : ℕ) → IsNewestGeneration facts g → newest_held facts ≡ g
 newest_is facts g is =
     let (key, c, there, gen) = is.held in
-    newest_among (cells_of facts) g (key, c) (get_contained facts key c there) gen
-    (λ y among. is.greatest y.0 y.1 (contained_get facts y.0 y.1 among))
+    newest_among (cells_of facts) g (key, c) (get_contained facts.found key c there) gen
+    (λ y among. is.greatest y.0 y.1 (contained_get facts.found y.0 y.1 among))
 
 -- as the store tells it
-pub newest_told : (facts : Facts) (told : Option ℕ) → (IsNone told ↔ (facts ≡ no_facts)) → IfSome told (IsNewestGeneration facts) → unwrap_or told 0 ≡ newest_held facts
-newest_told facts None none some = sym (ap newest_held (none.0 refl) ∙ ap (λ es. newest_of (map (λ e. e.1) es)) (entries-view []))
+pub newest_told : (facts : Facts) (told : Option ℕ) → (IsNone told ↔ (cells_of facts ≡ [])) → IfSome told (IsNewestGeneration facts) → unwrap_or told 0 ≡ newest_held facts
+newest_told facts None none some = sym (ap (λ es. newest_of (map (λ e. e.1) es)) (none.0 refl))
 newest_told facts (Some g) none some = sym (newest_is facts g some)

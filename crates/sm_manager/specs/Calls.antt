@@ -1,7 +1,8 @@
 -- A manager's life: one call after the other.
 use Rattle.std.specs.Prelude.{◌≡◌, ℕ, List, [], ◌∷◌, ◌++◌, Option, Some, None, Result, Ok, Err, if◌then◌else◌, is_none}
 use Rattle.fact_store.specs.Report.{Told}
-use Rattle.fact_store.specs.View.{view, HaveSameMembers, cells_of}
+use Rattle.fact_store.specs.Seen.{HaveSameMembers}
+use Rattle.fact_store.specs.View.{view, cells_of}
 use Rattle.smp_bytes.specs.Packet.{fault_of}
 use Rattle.smp_bytes.specs.declared.smp_fault.SmpFault.{SmpFault}
 use Rattle.sweep.specs.declared.answer.Answer.{Answer}

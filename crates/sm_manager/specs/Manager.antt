@@ -1,7 +1,8 @@
 -- A subnet manager: what it knows, its last sweep, and what it is about to send; and what it is asked to do.
 -- InfiniBand Architecture Specification, Volume 1: subnet management, subnet manager; topology discovery.
 use Rattle.std.specs.Prelude.{◌≡◌, ℕ, ◌+◌, ◌-◌, ◌^◌, Bool, false, not, List, [], ◌∷◌, ◌++◌, map, ◌==◌, if◌then◌else◌, Option, Some, None}
-use Rattle.fact_store.specs.View.{Facts, newest_of, cells_of, no_facts}
+use Rattle.fact_store.specs.Seen.{newest_of}
+use Rattle.fact_store.specs.View.{Facts, cells_of, no_facts}
 use Rattle.plan_steps.specs.Phases.{Phase}
 use Rattle.fact_store.specs.Merge.{merge}
 use Rattle.sweep.specs.declared.request.Request.{Request}

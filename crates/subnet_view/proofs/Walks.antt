@@ -25,7 +25,7 @@ contains_between (y ∷ given) rest x = contains_later y x (given ++ x ∷ rest)
 pub cell_given : (facts : Facts) (given left rest : Cells) (x : Key × Cell Value) → given ++ left ≡ cells_of facts → left ≡ x ∷ rest
     → cell_for facts x.0 ≡ Some x.1
 cell_given facts given left rest x all next =
-    contained_get facts x.0 x.1 (contains_in x (ap (λ (s : Cells). given ++ s) (sym next) ∙ all) (contains_between given rest x))
+    contained_get facts.found x.0 x.1 (contains_in x (ap (λ (s : Cells). given ++ s) (sym next) ∙ all) (contains_between given rest x))
 
 -- and then one more was given
 pub given_more : (cells given left rest : Cells) (x : Key × Cell Value) → given ++ left ≡ cells → left ≡ x ∷ rest

@@ -15,8 +15,9 @@ use Rattle.fact_store.specs.declared.value.Value.{Value}
 use Rattle.fact_store.specs.declared.value.Value.TheVariants.{Kind, Guid, Peer, Up, Count}
 use Rattle.fact_store.specs.Known.{value_in}
 use Rattle.fact_store.specs.Report.{Told}
-use Rattle.fact_store.specs.View.{view, cells_of, cell_for, IsCellIn, WasSighted}
-use Rattle.fact_store.proofs.ViewLaws.{view_law}
+use Rattle.fact_store.specs.Seen.{IsCellIn, WasSighted}
+use Rattle.fact_store.specs.View.{view, cells_of, cell_for}
+use Rattle.fact_store.proofs.Views.{view_cells}
 use Rattle.subnet_view.specs.Reading.{known_in}
 use Rattle.subnet_view.proofs.Readers.{known_by_cells}
 use Rattle.fabric_sim.specs.Tells.{IsUp}
@@ -92,7 +93,7 @@ module _ (f : Fabric) (distinct : AreGuidsDistinct f) where
 
     -- a key that was sighted is known to have its true value
     pub known_of : (key : Key) (x : Value) → ((v : Value) → IsTrueOf f key v → v ≡ x) → HasKey told key → known_in (cells_of (view told)) key ≡ Some x
-    known_of key x only h = sym (known_by_cells (view told) key) ∙ by_cell (cell_for (view told) key) ((view_law told).cells key)
+    known_of key x only h = sym (known_by_cells (view told) key) ∙ by_cell (cell_for (view told) key) ((view_cells told).cells key)
       where
         sighted : (c : Cell Value) × WasSighted key told c
         sighted =
@@ -113,7 +114,7 @@ module _ (f : Fabric) (distinct : AreGuidsDistinct f) where
 
 -- what is known was sighted
 pub sighted_of : (told : Told) (key : Key) (x : Value) → known_in (cells_of (view told)) key ≡ Some x → IsSighted told key x
-sighted_of told key x e = by_cell (cell_for (view told) key) ((view_law told).cells key) (known_by_cells (view told) key ∙ e)
+sighted_of told key x e = by_cell (cell_for (view told) key) ((view_cells told).cells key) (known_by_cells (view told) key ∙ e)
   where
     by_cell : (o : Option (Cell Value)) → MatchOption o ((c : Cell Value) → WasSighted key told c → ⊥) (IsCellIn key told) → value_in o ≡ Some x
         → IsSighted told key x

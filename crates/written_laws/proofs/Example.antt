@@ -212,9 +212,9 @@ known : cells_of swept.manager.store ≡ cells_of_view all_told
 known =
     ap cells_of (merged_all
     ∙ ap (λ x. merge (merge (merge x (view told_second)) (view told_third)) (view told_last)) (merge_empty (view told_first))
-    ∙ ap (λ x. merge (merge x (view told_third)) (view told_last)) (sym (view_of_both told_first told_second))
-    ∙ ap (λ x. merge x (view told_last)) (sym (view_of_both (told_first ++ told_second) told_third))
-    ∙ sym (view_of_both (told_first ++ told_second ++ told_third) told_last))
+    ∙ ap (λ x. merge (merge x (view told_third)) (view told_last)) (sym (view_of_both 1 1 told_first told_second))
+    ∙ ap (λ x. merge x (view told_last)) (sym (view_of_both 1 1 (told_first ++ told_second) told_third))
+    ∙ sym (view_of_both 1 1 (told_first ++ told_second ++ told_third) told_last))
     ∙ entries-view all_told
 
 -- its writing ---------------------------------------------------------------------------------------------------

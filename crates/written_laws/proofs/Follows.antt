@@ -127,7 +127,7 @@ unseen w = record { events = []; can_be = All-nil sweeping.CanBe; is = λ u e. �
 
 -- what an answer tells is what its report does
 facts_more : (reports : List Report) (answer : Answer) → merge (facts_of reports) (view (told_by answer)) ≡ facts_of (reports ++ reports_of answer)
-facts_more reports answer = sym (view_of_both (told_in reports) (told_by answer)) ∙ ap view (sym (told_more reports answer))
+facts_more reports answer = sym (view_of_both 1 1 (told_in reports) (told_by answer)) ∙ ap view (sym (told_more reports answer))
 
 module _ (start : Simulation) (seat : NodePort) (plan : PlanValue) (ground : Ground start seat) where
   -- a reply that the sweep takes ---------------------------------------------------------------------------------

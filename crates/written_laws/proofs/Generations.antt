@@ -2,7 +2,7 @@
 use Rattle.std.proofs.Common.{◌≡◌, inl, inr, ℕ, ◌<◌, ◌^◌, List, [], ◌∷◌, ◌++◌, map, refl, sym, ap, ◌∙◌, subst, arith}
 use Rattle.std.proofs.lemmas.Bool.{cond_both, and_parts, ltb-true}
 use Rattle.std.proofs.lemmas.List.Elements.{All-head, All-tail}
-use Rattle.std.specs.Prelude.{Contains, Option, Some, None, All, nat_le, nat_lt, ◌==◌, ◌&&◌}
+use Rattle.std.specs.Prelude.{Contains, Option, Some, None, All, max, nat_le, nat_lt, ◌==◌, ◌&&◌}
 use Rattle.fact_join.specs.declared.cell.Cell.{Cell}
 use Rattle.fact_join.specs.Cell.{generation_of}
 use Rattle.fact_store.specs.declared.key.Key.{Key}
@@ -18,12 +18,13 @@ use Rattle.smp_bytes.specs.Packet.{attribute_id}
 use Rattle.fact_store.specs.Merge.{merge}
 use Rattle.fact_store.specs.Report.{Told, told_of_link, told_of_kind, told_by_port_info, told_by_switch_info, node_info_of, sightings_of}
 use Rattle.fact_store.specs.Sighting.{IsSighting, AreInRange, is_key, is_generation, is_cell_of}
-use Rattle.fact_store.specs.View.{Facts, view, newest_of, cells_of, no_facts}
+use Rattle.fact_store.specs.Seen.{newest_of}
+use Rattle.fact_store.specs.View.{Facts, view, view_at, cells_of, no_facts}
 use Rattle.fact_store.proofs.Entries.{entries-view}
 use Rattle.fact_store.proofs.Orders.{contained_get}
 use Rattle.fact_store.proofs.SightingRanges.{newest_at}
-use Rattle.fact_store.proofs.ViewLaws.{view_of_its_cells}
-use Rattle.fact_store.proofs.Views.{get-view, newest_there, view_of_both}
+use Rattle.fact_store.proofs.Seen.{get-seen, newest_there}
+use Rattle.fact_store.proofs.Views.{cell_was_seen, get-view, view_of_both, view_of_its_cells}
 use Rattle.subnet_view.proofs.Apart.{contains-from_map}
 use Rattle.subnet_view.proofs.Members.{contains_here, contains_later, contains_cases, contains_none}
 use Rattle.sm_manager.specs.Manager.{newest_held}
@@ -60,37 +61,40 @@ all_small (x ∷ told) all = (sighting_small x (All-head IsSighting x told all),
 
 -- what is known is the view of sightings of such generations
 pub record KnowsSmall (facts : Facts) : Type 0 where
+  pub floor : ℕ
   pub told : Told
-  pub is : facts ≡ view told
+  pub is : facts ≡ view_at floor told
   pub small : AreSmall told
 
 pub in_range_small : (facts : Facts) → AreInRange facts → KnowsSmall facts
 in_range_small facts in_range =
     record {
+      floor = facts.floor;
       told = cells_of facts;
       is = sym (view_of_its_cells facts);
-      small = small_from (cells_of facts) (λ x there. sighting_small x (in_range x.0 x.1 (contained_get facts x.0 x.1 there)));
+      small = small_from (cells_of facts) (λ x there. sighting_small x (in_range x.0 x.1 (contained_get facts.found x.0 x.1 there)));
     }
 
 pub merged_small : (facts : Facts) (told : Told) → KnowsSmall facts → AreSmall told → KnowsSmall (merge facts (view told))
 merged_small facts told knows small =
     record {
+      floor = max knows.floor 1;
       told = knows.told ++ told;
-      is = ap (λ x. merge x (view told)) knows.is ∙ sym (view_of_both knows.told told);
+      is = ap (λ x. merge x (view told)) knows.is ∙ sym (view_of_both knows.floor 1 knows.told told);
       small = small_more knows.told told knows.small small;
     }
 
 -- so is the greatest of them
 pub newest_small : (facts : Facts) → KnowsSmall facts → newest_held facts < 2 ^ 32
-newest_small facts knows = subst (λ x. newest_held x < 2 ^ 32) (sym knows.is) (by_cells (cells_of (view knows.told)) refl)
+newest_small facts knows = subst (λ x. newest_held x < 2 ^ 32) (sym knows.is) (by_cells (cells_of (view_at knows.floor knows.told)) refl)
   where
-    by_cells : (es : List (Key × Cell Value)) → cells_of (view knows.told) ≡ es → newest_of (map (λ e. e.1) es) < 2 ^ 32
+    by_cells : (es : List (Key × Cell Value)) → cells_of (view_at knows.floor knows.told) ≡ es → newest_of (map (λ e. e.1) es) < 2 ^ 32
     by_cells [] e = omega arith
     by_cells (x ∷ es) e =
         let (c, there, newest) = newest_there x.1 (map (λ y. y.1) es) in
         let (y, among, same) = contains-from_map (λ (y : Key × Cell Value). y.1) (x ∷ es) c there in
-        let held = contained_get (view knows.told) y.0 y.1 (subst (λ zs. Contains zs y) (sym e) among) in
-        let (d, sighted, generation) = (newest_at knows.told y.0 y.1 held).sighted in
+        let held = contained_get (view_at knows.floor knows.told).found y.0 y.1 (subst (λ zs. Contains zs y) (sym e) among) in
+        let (d, sighted, generation) = (newest_at knows.told y.0 y.1 (cell_was_seen knows.floor knows.told y.0 y.1 held)).sighted in
         let small = small_there knows.told (y.0, d) knows.small sighted in
         let alike = ap generation_of same in
         omega (arith, small, generation, alike, newest)
@@ -127,4 +131,4 @@ pub nothing_newest : newest_held no_facts ≡ 0
 nothing_newest = ap (λ es. newest_of (map (λ e. e.1) es)) (entries-view [])
 
 pub nothing_held : AreInRange no_facts
-nothing_held key c e = absurd (cc (sym (get-view [] key) ∙ e))
+nothing_held key c e = absurd (cc (sym (get-seen [] key) ∙ sym (get-view [] key) ∙ e))
