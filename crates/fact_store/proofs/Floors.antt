@@ -91,10 +91,12 @@ older_joined m c d p =
   where
     older : is_kept m d ≡ true → generation_of c < generation_of d
     older q = elim (cases_lt (generation_of c) (generation_of d)) [ inl l ↦ l | inr l ↦ absurd (cc (kept_newer m d c l q)) ]
+
     newer_is : generation_of c < generation_of d → join c d ≡ d
     newer_is l =
         below_antisymm (join c d) d (joined_least is_same_value same_value_exact same_value_itself c d d (inl l) (below_itself d))
         (joined_above_second is_same_value same_value_exact same_value_itself c d)
+
     neither : is_kept m d ≡ false → is_kept m (join c d) ≡ false
     neither q =
         both_ways (is_kept m (join c d)) false (λ e. elim (cases_lt (generation_of c) (generation_of d)) [
@@ -113,6 +115,7 @@ kept_joined f m (Some c) p h =
   where
     not_kept : is_kept f c ≡ false → is_kept m c ≡ false
     not_kept q = both_ways (is_kept m c) false (λ e. sym q ∙ kept_lower f m c h e) (λ e. absurd (cc))
+
     without : (p : Option (Cell Value)) → is_kept m c ≡ false → kept_there m p ≡ kept_there m (joined_there (Some c) p)
     without None q = sym (ap (λ t. cond t (Some c) None) q)
     without (Some d) q = sym (older_joined m c d q)

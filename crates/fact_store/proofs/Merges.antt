@@ -136,8 +136,8 @@ merge_law x y =
         cells = λ q c e k.
             let there = kept_is (max 1 (max x.floor y.floor)) (get (merge_maps x.found y.found) q) c (sym (get-dropped (max 1 (max x.floor y.floor)) (merge_maps x.found y.found) q) ∙ e) in
             let left : get (dropped w.floor (merge_maps (dropped w.floor x.found) (dropped w.floor y.found))) q ≡ Some c =
-                ap (λ (u : CellMap). get u q) (dropped_both w.floor w.floor w.floor x.found y.found (omega arith) (omega arith))
-                ∙ get-dropped w.floor (merge_maps x.found y.found) q ∙ is_kept_there w.floor (get (merge_maps x.found y.found) q) c there.0 k in
+            ap (λ (u : CellMap). get u q) (dropped_both w.floor w.floor w.floor x.found y.found (omega arith) (omega arith))
+            ∙ get-dropped w.floor (merge_maps x.found y.found) q ∙ is_kept_there w.floor (get (merge_maps x.found y.found) q) c there.0 k in
             (merge_maps_law (dropped w.floor x.found) (dropped w.floor y.found)).least w.found (below_dropped x w a) (below_dropped y w b) q c
             (kept_is w.floor (get (merge_maps (dropped w.floor x.found) (dropped w.floor y.found)) q) c (sym (get-dropped w.floor (merge_maps (dropped w.floor x.found) (dropped w.floor y.found)) q) ∙ left)).0;
       };

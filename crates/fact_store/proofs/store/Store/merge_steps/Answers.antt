@@ -34,8 +34,8 @@ invariant_of-self c =
 pub returns-clause-ok : goal.returns-clause-ok
 returns-clause-ok c =
     let walked : view_at c.newer-floor.result c.in_ok-cells.cells.items ≡ merge c.args.self.now c.args.other.now =
-        ap (λ (f : ℕ). view_at f c.in_ok-cells.cells.items) c.newer-floor.ensures
-        ∙ merged_view c.self.inside.floor c.other.inside.floor c.self.inside.cells.items c.other.inside.cells.items c.in_ok-cells.cells.items c.args.self.now c.args.other.now c.self.view_is c.other.view_is c.in_ok-cells.ensures.merged in
+    ap (λ (f : ℕ). view_at f c.in_ok-cells.cells.items) c.newer-floor.ensures
+    ∙ merged_view c.self.inside.floor c.other.inside.floor c.self.inside.cells.items c.other.inside.cells.items c.in_ok-cells.cells.items c.args.self.now c.args.other.now c.self.view_is c.other.view_is c.in_ok-cells.ensures.merged in
     elim c.if-ne.branch [
       | then-ne w ↦ ap (view_at c.newer-floor.result) (ap (λ l. l.items) w.cells-is ∙ w.drop_below.ensures) ∙ view-kept c.newer-floor.result c.in_ok-cells.cells.items ∙ walked
       | else-ne w ↦ ap (view_at c.newer-floor.result) (ap (λ l. l.items) w.cells-is) ∙ walked
