@@ -1,6 +1,6 @@
 -- Lemmas on how absorbing a source ends.
-use Rattle.std.proofs.Common.{◌≡◌, ◌⊎◌, inl, inr, ℕ, ◌+◌, ◌<◌, ◌≤◌, ◌^◌, List, [], ◌∷◌, ◌++◌, None, Some, Option, Result, Ok, Err, length, take}
-use Rattle.std.proofs.Common.{refl, sym, ap, ◌∙◌, subst, arith, append_assoc, append-nil, length-append}
+use Rattle.std.proofs.Common.{◌≡◌, ◌⊎◌, inl, inr, ℕ, ◌+◌, ◌<◌, ◌≤◌, ◌^◌, List, [], ◌∷◌, ◌++◌, Some, Option, Result, Ok, Err, length, take}
+use Rattle.std.proofs.Common.{refl, sym, ap, ◌∙◌, subst, arith, append_assoc, length-append}
 use Rattle.std.specs.List.{concat}
 use Rattle.std.specs.Io.KnownBytes.{IsAtEnd}
 use Rattle.std.proofs.lemmas.List.{length-take-le}
@@ -14,7 +14,7 @@ use Rattle.record_file.specs.declared.format.Format.{Format}
 use Rattle.record_file.specs.declared.stream.reading.PieceFault.{PieceFault}
 use Rattle.record_file.specs.declared.stream.reading.PieceFault.TheVariants as piece
 use Rattle.record_file.specs.Absorbs.{AbsorbsFrom, AnswersOutcome, HasNoFaultYet, HoldsKept, IsBounded, IsDecided, WasInterruptedTooOften}
-use Rattle.record_file.specs.Feeding.{Absorbing, AddsTold, Awaits, FeedsPiece, Finishes, StopsWith, WasFed}
+use Rattle.record_file.specs.Feeding.{Absorbing, Awaits, FeedsPiece, Finishes, StopsWith, WasFed}
 use Rattle.record_file.specs.Laws.{IsBadRecord}
 use Rattle.record_file.specs.PieceFault.{file_fault_of}
 use Rattle.record_file.specs.Reading.{GivesAt, GivesPiece, ReadingState}
@@ -23,7 +23,7 @@ use Rattle.record_file.proofs.Pieces.{fault_in-behind, held-then, kept-short, le
 use Rattle.record_file.proofs.Pieces.{takes-part}
 use Rattle.record_file.proofs.Readings.{HasTaken, IsAnswered-trans, IsFresh, IsWithin, Takes-on, Takes-trans, EachCallTakes-trans, below, counted, most}
 use Rattle.record_file.proofs.Readings.{piece-taken}
-use Rattle.record_file.proofs.Records.{fault_in-file, file, file-record, format_of-magic, good_records, length-wanted, not_at_end}
+use Rattle.record_file.proofs.Records.{length-wanted, not_at_end}
 use Rattle.record_file.proofs.Stores.{merge-both, merge-nothing}
 
 abbrev pub AbsorbsAt : Result (Unit {0}) FileFault → Facts → Facts → ReadingState → ReadingState → Type 0
