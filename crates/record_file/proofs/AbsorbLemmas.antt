@@ -1,6 +1,6 @@
 -- Lemmas on how absorbing a source ends.
-use Rattle.std.proofs.Common.{◌≡◌, ◌⊎◌, inl, inr, ℕ, ◌+◌, ◌<◌, ◌≤◌, ◌^◌, List, [], ◌∷◌, ◌++◌, None, Some, Option, Result, Ok, Err, length, take}
-use Rattle.std.proofs.Common.{refl, sym, ap, ◌∙◌, subst, arith, append_assoc, append-nil, length-append}
+use Rattle.std.proofs.Common.{◌≡◌, ◌⊎◌, inl, inr, ℕ, ◌+◌, ◌<◌, ◌≤◌, ◌^◌, List, [], ◌∷◌, ◌++◌, Some, Option, Result, Ok, Err, length, take}
+use Rattle.std.proofs.Common.{refl, sym, ap, ◌∙◌, subst, arith, append_assoc, length-append}
 use Rattle.std.specs.List.{concat}
 use Rattle.std.specs.Io.KnownBytes.{IsAtEnd}
 use Rattle.std.proofs.lemmas.List.{length-take-le}
@@ -13,8 +13,8 @@ use Rattle.record_file.specs.declared.file_fault.FileFault.TheVariants.{Magic, T
 use Rattle.record_file.specs.declared.format.Format.{Format}
 use Rattle.record_file.specs.declared.stream.reading.PieceFault.{PieceFault}
 use Rattle.record_file.specs.declared.stream.reading.PieceFault.TheVariants as piece
-use Rattle.record_file.specs.Absorbs.{AbsorbsFrom, AnswersOutcome, HasNoFaultBefore, HasNoFaultYet, HoldsKept, IsBounded, IsDecided, WasInterruptedTooOften}
-use Rattle.record_file.specs.Feeding.{Absorbing, AddsTold, Awaits, FeedsPiece, Finishes, StopsWith, WasFed}
+use Rattle.record_file.specs.Absorbs.{AbsorbsFrom, AnswersOutcome, HasNoFaultYet, HoldsKept, IsBounded, IsDecided, WasInterruptedTooOften}
+use Rattle.record_file.specs.Feeding.{Absorbing, Awaits, FeedsPiece, Finishes, StopsWith, WasFed}
 use Rattle.record_file.specs.Laws.{IsBadRecord}
 use Rattle.record_file.specs.PieceFault.{file_fault_of}
 use Rattle.record_file.specs.Reading.{GivesAt, GivesPiece, ReadingState}
@@ -23,7 +23,7 @@ use Rattle.record_file.proofs.Pieces.{fault_in-behind, held-then, kept-short, le
 use Rattle.record_file.proofs.Pieces.{takes-part}
 use Rattle.record_file.proofs.Readings.{HasTaken, IsAnswered-trans, IsFresh, IsWithin, Takes-on, Takes-trans, EachCallTakes-trans, below, counted, most}
 use Rattle.record_file.proofs.Readings.{piece-taken}
-use Rattle.record_file.proofs.Records.{fault_in-file, file, file-record, format_of-magic, good_records, length-wanted, not_at_end}
+use Rattle.record_file.proofs.Records.{length-wanted, not_at_end}
 use Rattle.record_file.proofs.Stores.{merge-both, merge-nothing}
 
 abbrev pub AbsorbsAt : Result (Unit {0}) FileFault → Facts → Facts → ReadingState → ReadingState → Type 0
@@ -193,30 +193,6 @@ behind-length format records r behind =
     ap length (sym (append_assoc (magic format) (concat records ++ r) behind ∙ ap (λ l. magic format ++ l) (append_assoc (concat records) r behind)))
     ∙ length-append (magic format ++ (concat records ++ r)) behind
 
--- a source that was absorbed in vain for want of memory had no fault before its last bytes
-pub memory-had_no_fault : (old new : Facts) (taken : List ℕ) → HoldsKept (Err Memory) old new taken → length taken < 2 ^ 40
-    → HasNoFaultBefore taken
-memory-had_no_fault old new taken (format, records, r, behind, h) short =
-    let rs = records ++ r ∷ [] in
-    let good = good_records format None 0 rs h.good in
-    let is : file format rs [] ≡ magic format ++ (concat records ++ r) = file-record format records r in
-    record {
-      front = file format rs [];
-      behind = behind;
-      split = h.whole ∙ sym (append_assoc (magic format) (concat records ++ r) behind ∙ ap (λ l. magic format ++ l) (append_assoc (concat records) r behind))
-          ∙ ap (λ l. l ++ behind) (sym is);
-      near = h.near;
-      good = inr (
-        format,
-        format_of-magic format (concat rs ++ []),
-        fault_in-file format rs good.0
-            (omega (arith, ap length h.whole, behind-length format records r behind, length-wanted format records r h.good)) good.1,
-      );
-    }
-
-pub no_fault-before : (taken : List ℕ) → HasNoFaultYet taken → HasNoFaultBefore taken
-no_fault-before taken h = record { front = taken; behind = []; split = sym (append-nil taken); near = omega arith; good = h }
-
 -- the next piece is refused
 pub absorbs-refused : (p q r : ReadingState) (a : Absorbing) (old mid new : Facts) (taken : List ℕ) (n : ℕ) (room : List ℕ) (b : Absorbing) (f : FileFault)
     → Progress p q a old mid taken → IsFresh p → IsWithin r → GivesPiece n q r room → 0 < n → n ≤ 4096
@@ -240,16 +216,16 @@ absorbs-refused p q r a old mid new taken n room b f g fresh inside h some least
             taken = taken ++ bytes;
             consumed = all.consumed;
             held = (
-              w.format,
-              w.records,
-              w.r,
-              w.behind,
               record {
+                format = w.format;
+                records = w.records;
+                last = w.r;
+                behind = w.behind;
                 whole = w.whole;
                 good = w.good;
                 near = let done = w.completed in omega (arith, ap length w.whole, behind-length w.format w.records w.r w.behind, length-append taken bytes, long);
-                held = w.held ∙ ap (λ x. merge x (view w.told)) g.held ∙ merge-both old (kept taken) w.told ∙ ap (λ l. merge old (view l)) (sym w.more);
               },
+              w.held ∙ ap (λ x. merge x (view w.told)) g.held ∙ merge-both old (kept taken) w.told ∙ ap (λ l. merge old (view l)) (sym w.more),
             );
             answered = tt;
             decided = tt;

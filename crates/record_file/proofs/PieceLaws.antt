@@ -5,11 +5,11 @@ use Rattle.fact_store.specs.View.{Facts, view}
 use Rattle.fact_store.specs.Merge.{merge}
 use Rattle.record_file.specs.declared.file_fault.FileFault.{FileFault}
 use Rattle.record_file.specs.declared.file_fault.FileFault.TheVariants.{Memory}
-use Rattle.record_file.specs.Feeding.{Absorbing, AddsTold, FeedsBehind, FeedsPiece, Finishes, HasStopped, WasFed, fault_so_far}
+use Rattle.record_file.specs.Feeding.{Absorbing, FeedsBehind, FeedsPiece, Finishes, HasStopped, WasFed, fault_so_far}
 use Rattle.record_file.specs.PieceLaws.{CutsChangeNothing, FeedsEach, PiecesAreRead}
 use Rattle.record_file.specs.RecordFile.{kept, outcome}
 use Rattle.record_file.proofs.Pieces.{held-then, kept-short, stays}
-use Rattle.record_file.proofs.Stores.{merge-both, merge-nothing}
+use Rattle.record_file.proofs.Stores.{merge-nothing}
 
 -- the absorber goes on behind these bytes, or stopped with their fault
 abbrev pub IsAt : Absorbing → List ℕ → Type 0

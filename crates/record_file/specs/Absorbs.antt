@@ -15,17 +15,20 @@ AbsorbsJudged (Ok told) index (Ok key) old new = new ≡ merge old (view told)
 AbsorbsJudged (Ok told) index (Err f) old new = (f ≡ Memory) × (new ≡ old)
 AbsorbsJudged (Err fault) index result old new = (result ≡ Err (fault index)) × (new ≡ old)
 
--- behind good records there is one for which there was no memory, which ends within the last 4096 bytes; the store holds what those before it tell
-pub record HoldsAllBefore (format : Format) (old new : Facts) (taken : List ℕ) (records : List (List ℕ)) (r behind : List ℕ) : Type 0 where
-  pub whole : taken ≡ magic format ++ (concat records ++ (r ++ behind))
-  pub good : AreGoodRecords format None (records ++ r ∷ [])
+-- behind good records there is one more, which ends within the last 4096 bytes
+pub record EndsBehindRecord (taken : List ℕ) : Type 0 where
+  pub format : Format
+  pub records : List (List ℕ)
+  pub last : List ℕ
+  pub behind : List ℕ
+  pub whole : taken ≡ magic format ++ (concat records ++ (last ++ behind))
+  pub good : AreGoodRecords format None (records ++ last ∷ [])
   pub near : length behind < 4096
-  pub held : new ≡ merge old (view (kept (magic format ++ concat records)))
 
 -- what the taken bytes keep was merged into the store; for want of memory what the records before the one that wanted it keep
 abbrev pub HoldsKept : Result (Unit {0}) FileFault → Facts → Facts → List ℕ → Type 0
 HoldsKept (Err Memory) old new taken =
-    (format : Format) × (records : List (List ℕ)) × (r : List ℕ) × (behind : List ℕ) × HoldsAllBefore format old new taken records r behind
+    (wanted : EndsBehindRecord taken) × (new ≡ merge old (view (kept (magic wanted.format ++ concat wanted.records))))
 HoldsKept _ old new taken = new ≡ merge old (view (kept taken))
 
 -- the answer is what reading these bytes answers, unless a read or a growth failed, or too many calls were interrupted
@@ -40,13 +43,9 @@ AnswersOutcome (Err f) bytes interrupted = outcome bytes ≡ Err f
 abbrev pub HasNoFaultYet : List ℕ → Type 0
 HasNoFaultYet taken = (length taken < 8) ⊎ ((format : Format) × (format_of taken ≡ Some format) × (fault_in format taken ≡ None))
 
--- no fault ends before the last 4096 bytes
-pub record HasNoFaultBefore (taken : List ℕ) : Type 0 where
-  pub front : List ℕ
-  pub behind : List ℕ
-  pub split : taken ≡ front ++ behind
-  pub near : length behind < 4096
-  pub good : HasNoFaultYet front
+-- no fault is in the bytes, or they end a piece behind a good record, with good ones alone before it
+abbrev pub HasNoFaultBefore : List ℕ → Type 0
+HasNoFaultBefore taken = HasNoFaultYet taken ⊎ EndsBehindRecord taken
 
 -- where the answer depends on what else the source has, it has nothing else; where reading stopped early, no fault came first
 abbrev pub IsDecided : Result (Unit {0}) FileFault → List ℕ → Type 0 → Type 0

@@ -1,11 +1,11 @@
 -- Laws of files that come in pieces.
-use Rattle.std.specs.Prelude.{◌≡◌, ℕ, List, [], ◌∷◌, Result, Err}
+use Rattle.std.specs.Prelude.{◌≡◌, ℕ, List, [], ◌∷◌, ◌++◌, Some, Result, Err}
 use Rattle.std.specs.List.{concat}
 use Rattle.fact_store.specs.View.{Facts, view}
 use Rattle.fact_store.specs.Merge.{merge}
 use Rattle.record_file.specs.declared.file_fault.FileFault.{FileFault}
 use Rattle.record_file.specs.declared.file_fault.FileFault.TheVariants.{Memory}
-use Rattle.record_file.specs.Feeding.{Absorbing, FeedsPiece, Finishes, WasFed}
+use Rattle.record_file.specs.Feeding.{Absorbing, FeedsPiece, Finishes, WasFed, fault_so_far}
 use Rattle.record_file.specs.RecordFile.{kept, outcome}
 
 -- these pieces are fed one after the other, and none wants memory
@@ -34,3 +34,9 @@ abbrev pub CutsChangeNothing : Type 0
 CutsChangeNothing =
     (pieces : List (List ℕ)) (answer whole_answer : Result (Unit {0}) FileFault) (old new whole_new : Facts) → ReadsPieces pieces answer old new
     → ReadsPieces (concat pieces ∷ []) whole_answer old whole_new → (answer ≡ whole_answer) × (new ≡ whole_new)
+
+-- the fault that bytes have stays, whatever follows them, and nothing more is kept
+abbrev pub FaultsStay : Type 0
+FaultsStay =
+    (bytes rest : List ℕ) (fault : FileFault) → fault_so_far bytes ≡ Some fault
+    → (fault_so_far (bytes ++ rest) ≡ Some fault) × (kept (bytes ++ rest) ≡ kept bytes)

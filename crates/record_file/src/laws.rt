@@ -2,7 +2,7 @@
 
 ghost use Rattle.record_file.specs.StoreLaws.{AbsorbingReadsBack, FactsAreReadBack, FactsHaveOneSpelling, RecordsAreSpellings, StoreFilesAreAccepted};
 ghost use Rattle.record_file.specs.Laws.{BadRecordStays, FirstBadRecordIsTold, ReportFilesAreAccepted, ReportsHaveOneSpelling, TruncationIsTold};
-ghost use Rattle.record_file.specs.PieceLaws.{CutsChangeNothing, PiecesAreRead};
+ghost use Rattle.record_file.specs.PieceLaws.{CutsChangeNothing, FaultsStay, PiecesAreRead};
 
 use crate::stream::Source;
 
@@ -64,4 +64,9 @@ pub fn pieces_are_read()
 /// Where a file is cut into pieces changes nothing, where no piece wants memory.
 pub fn cuts_change_nothing()
     ensures { CutsChangeNothing }
+{}
+
+/// The fault of a file that comes in pieces stays, whatever follows, and nothing more is kept.
+pub fn faults_stay()
+    ensures { FaultsStay }
 {}

@@ -1,5 +1,5 @@
 -- What a run over files reads, file after file.
-use Rattle.std.proofs.Common.{◌≡◌, ℕ, zero, suc, ◌+◌, ◌<◌, ◌≤◌, List, [], ◌∷◌, ◌++◌, refl, sym, ap, ◌∙◌, arith, true, false, Bool, Option, None, Some, Result, Ok, Err, IsTrue, ◌↔◌, subst, length, inr}
+use Rattle.std.proofs.Common.{◌≡◌, ℕ, zero, suc, ◌+◌, ◌<◌, ◌≤◌, List, [], ◌∷◌, ◌++◌, refl, sym, ap, ◌∙◌, arith, true, false, Bool, Option, None, Some, Result, Ok, Err, IsTrue, ◌↔◌, subst, length, inl, inr}
 use Rattle.std.proofs.Math.ListN.{set, length-set}
 use Rattle.std.proofs.lemmas.Bool.{ltb-true, ltb-false}
 use Rattle.std.proofs.lemmas.List.{get_or-set_same, flat_map_more}
@@ -10,8 +10,7 @@ use Rattle.fact_store.specs.View.{Facts, view, no_facts}
 use Rattle.fact_store.specs.Merge.{merge}
 use Rattle.fact_store.proofs.Merges.{merge_empty}
 use Rattle.fact_store.proofs.Views.{view_of_both}
-use Rattle.record_file.specs.Absorbs.{Absorbs, AnswersKnown, HasNoFaultYet, HoldsKept, IsBounded}
-use Rattle.record_file.proofs.AbsorbLemmas.{memory-had_no_fault, no_fault-before}
+use Rattle.record_file.specs.Absorbs.{Absorbs, AnswersKnown, HasNoFaultYet, HoldsKept}
 use Rattle.record_file.specs.RecordFile.{ending, fault_first, fault_in, format_of, kept, outcome, outcome_as, record_size}
 use Rattle.record_file.specs.declared.file_fault.FileFault.{FileFault}
 use Rattle.record_file.specs.declared.file_fault.FileFault.TheVariants.{Memory, Read}
@@ -128,7 +127,7 @@ module _ {S : Type 0} (left : S → Option (List ℕ)) (has_failed : S → Bool)
     answered = tt;
     decided = tt;
     bounded = a.bounded;
-    no_fault_before = λ e. no_fault-before a.taken (accepted_has_no_fault a.taken a.answered);
+    no_fault_before = λ e. inl (accepted_has_no_fault a.taken a.answered);
     read = (λ e. absurd (cc), λ failed. let f : IsTrue false = subst IsTrue works failed in absurd (cc));
     known = nothing_known (left old) (left new);
   }
@@ -145,9 +144,7 @@ module _ {S : Type 0} (left : S → Option (List ℕ)) (has_failed : S → Bool)
     answered = a.answered;
     decided = a.decided;
     bounded = a.bounded;
-    no_fault_before = λ e.
-        memory-had_no_fault fresh store a.taken (subst (λ (f : FileFault). HoldsKept (Err f) fresh store a.taken) e a.held)
-        (subst (λ (f : FileFault). IsBounded (Err f) (length a.taken) (interruptions old) (interruptions new)) e a.bounded).0;
+    no_fault_before = λ e. inr (subst (λ (f : FileFault). HoldsKept (Err f) fresh store a.taken) e a.held).0;
     read = (λ e. read.0 (ap (λ f. Err f) e), λ failed. let is = read.1 failed in cc);
     known = known;
   }

@@ -1,9 +1,7 @@
 -- What is said of a text that is refused: the line that has the fault, where one has, and a word.
 use Rattle.std.specs.Prelude.{ℕ, Bool, true, false, List, [], ◌++◌, Option, None, Some, codes, decimal}
-use Rattle.topo_file.specs.declared.fault.TopoFault.{TopoFault}
 use Rattle.topo_file.specs.declared.fault.TopoFault.TheVariants as topology
 use Rattle.topo_file.specs.TopoFault as topologies
-use Rattle.schedule_file.specs.declared.fault.ScheduleFault.{ScheduleFault}
 use Rattle.schedule_file.specs.declared.fault.ScheduleFault.TheVariants as schedule
 use Rattle.schedule_file.specs.ScheduleFault as schedules
 use Rattle.sm_cli.specs.declared.text_fault.TextFault.{TextFault}

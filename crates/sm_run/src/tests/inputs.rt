@@ -133,19 +133,25 @@ fn dripped(
 #[test]
 fn failed_reads_and_writes_are_told(rt: HostRuntime) -> Result<(), Fail> {
     let (topology, schedule) = (b"Hca 1 \"H\" guid 0x1", b"manager M \"H\"[1] 0\nprogress M");
-    for (fails_at, wanted) in [
-        ([0, 0], b"progress M never\n".as_slice()),
-        ([1, 0], b"4 ibsm: TOPOLOGY: read failed\n"),
-        ([10, 1], b"4 ibsm: TOPOLOGY: read failed\n"),
-        ([19, 0], b"4 ibsm: TOPOLOGY: read failed\n"),
-        ([20, 1], b"4 ibsm: SCHEDULE: read failed\n"),
-        ([0, 29], b"4 ibsm: SCHEDULE: read failed\n"),
-        ([0, 30], b"4 ibsm: SCHEDULE: read failed\n"),
-        ([0, 31], b"progress M never\n"),
-    ] {
-        let ended = dripped(rt.alloc(), topology, schedule, fails_at)?;
-        assert!(rt; ended.bytes() == wanted, "{fails_at:?}");
+    // Each is asked for each of its bytes, and once at its end; the schedule after the topology.
+    for at in 1..=31 {
+        let first = if at < 20 {
+            b"4 ibsm: TOPOLOGY: read failed\n".as_slice()
+        } else {
+            b"progress M never\n"
+        };
+        let second = if at < 31 {
+            b"4 ibsm: SCHEDULE: read failed\n".as_slice()
+        } else {
+            b"progress M never\n"
+        };
+        for (fails_at, wanted) in [([at, 0], first), ([0, at], second)] {
+            let ended = dripped(rt.alloc(), topology, schedule, fails_at)?;
+            assert!(rt; ended.bytes() == wanted, "{fails_at:?}");
+        }
     }
+    let both = dripped(rt.alloc(), topology, schedule, [19, 1])?;
+    assert!(rt; both.bytes() == b"4 ibsm: TOPOLOGY: read failed\n".as_slice());
     let unread = dripped(rt.alloc(), b"x", schedule, [0, 1])?;
     assert!(rt; unread.bytes() == b"4 ibsm: SCHEDULE: read failed\n".as_slice());
     for room in 0..=17 {
