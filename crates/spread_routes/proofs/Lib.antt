@@ -1,0 +1,15 @@
+pub mod Bounds
+pub mod Marking
+pub mod Rounds
+pub mod RoundSteps
+pub mod Unique
+pub mod Reach
+pub mod Steps
+pub mod Following
+pub mod Rising
+pub mod Growing
+pub mod Placing
+pub mod Sample
+pub mod Earliest
+pub mod Sides
+pub mod EveryPair

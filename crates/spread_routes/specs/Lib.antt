@@ -1,0 +1,7 @@
+pub mod Labels
+pub mod RoundMarks
+pub mod LabelLaws
+pub mod Ways
+pub mod Orders
+pub mod Sides
+pub mod EveryPair
