@@ -2,6 +2,7 @@ pub mod Bounds
 pub mod Marking
 pub mod Rounds
 pub mod RoundSteps
+pub mod Nearer
 pub mod Unique
 pub mod Reach
 pub mod Steps

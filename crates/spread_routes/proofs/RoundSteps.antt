@@ -73,7 +73,7 @@ given_by : (round s : ℕ) (marks : List (Option Mark)) (known : Marks) (es : Li
 given_by round s marks known es all =
     (λ i. mark_of round (ups_given s marks known es all i) (some_given s marks known es all i)) ∙ mark_of_givers round s (filter (gives known s) es)
 
-same_filter : {X : Type 0} (p q : X → Bool) (xs : List X) → ((x : X) → Contains xs x → p x ≡ q x) → filter p xs ≡ filter q xs
+pub same_filter : {X : Type 0} (p q : X → Bool) (xs : List X) → ((x : X) → Contains xs x → p x ≡ q x) → filter p xs ≡ filter q xs
 same_filter p q [] same = refl
 same_filter p q (x ∷ xs) same =
     (λ i. cond (same x (contains_here x xs) i) (x ∷ same_filter p q xs (λ y h. same y (contains_later x y xs h)) i) (same_filter p q xs (λ y h. same y (contains_later x y xs h)) i))

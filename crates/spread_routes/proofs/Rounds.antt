@@ -51,7 +51,7 @@ made_by round s (x ∷ es) m e =
     subst (λ (w : Mark). MadeBy s (x ∷ es) round w) (same_Some n m e) (made_by_first round s x es)
 
 -- what an exit that gives leads to
-given_known : (s : ℕ) (e : Exit) (o : Option Mark) → gives_from s e o ≡ true → (m : Mark) × (o ≡ Some m) × ((e.to < s) ⊎ (m.label ≡ Down))
+pub given_known : (s : ℕ) (e : Exit) (o : Option Mark) → gives_from s e o ≡ true → (m : Mark) × (o ≡ Some m) × ((e.to < s) ⊎ (m.label ≡ Down))
 given_known s e None k = absurd (cc)
 given_known s e (Some m) k =
     elim (or_cases (nat_lt e.to s) (is_down m.label) k) [
@@ -63,7 +63,7 @@ given_known s e (Some m) k =
     at_down Up e = absurd (cc)
     at_down Down e = refl
 
-known_gives : (s : ℕ) (e : Exit) (m : Mark) → (e.to < s) ⊎ (m.label ≡ Down) → gives_from s e (Some m) ≡ true
+pub known_gives : (s : ℕ) (e : Exit) (m : Mark) → (e.to < s) ⊎ (m.label ≡ Down) → gives_from s e (Some m) ≡ true
 known_gives s e m (inl up) = ap (λ b. b || is_down m.label) (lt-ltb e.to s up)
 known_gives s e m (inr down) =
     ap (λ l. nat_lt e.to s || is_down l) down ∙ (elim (nat_lt e.to s) as (λ b. (b || true) ≡ true) [ true ↦ refl | false ↦ refl ])

@@ -1,9 +1,11 @@
 //! Routes by labels: how far from the target each vertex gets its label, in rounds, and which exits gave it.
 #![tactic(auto)]
 
+mod choice;
+mod labelling;
 pub mod laws;
 mod mark;
-mod labelling;
 
-pub use mark::{Label, Mark};
+pub use choice::candidate;
 pub use labelling::marks;
+pub use mark::{Label, Mark};
