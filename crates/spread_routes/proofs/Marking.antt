@@ -1,4 +1,5 @@
--- What follows from the characterisation of labels: from each vertex that has one a walk leads to the target; where the graph is grown each vertex of the target's component has one.
+-- What follows from the characterisation of labels: from each vertex that has one a walk leads to the target; where the graph
+-- is grown each vertex of the target's component has one.
 use Rattle.std.proofs.Common.{◌≡◌, ◌<◌, ◌≢◌, ◌+◌, ℕ, zero, suc, List, inl, inr, refl, sym, ap, ◌∙◌, subst, arith}
 use Rattle.std.proofs.lemmas.Bool.{cases_eq, cases_order}
 use Rattle.std.proofs.lemmas.Option.{same_Some}

@@ -1,14 +1,15 @@
 -- The exits to a cost one less are those that gave the mark.
-use Rattle.std.proofs.Common.{◌≡◌, ◌<◌, ◌≤◌, ◌⊎◌, ◌==◌, ◌&&◌, ◌||◌, ℕ, zero, suc, List, [], ◌∷◌, inl, inr, refl, sym, ap, ◌∙◌, subst, arith, true, false, Bool, cond, length}
-use Rattle.std.proofs.lemmas.Bool.{eq-eqb, eqb-true, lt-ltb, ltb-true, and_parts}
-use Rattle.std.proofs.lemmas.Option.{none-some, same_Some}
-use Rattle.std.specs.Prelude.{Option, None, Some, nat_lt, Contains, filter, slice_index_or}
+use Rattle.std.proofs.Common.{◌≡◌, ◌<◌, ◌⊎◌, ◌==◌, ◌&&◌, ◌||◌, ℕ, zero, suc, List, [], ◌∷◌}
+use Rattle.std.proofs.Common.{refl, sym, ap, ◌∙◌, subst, arith, true, false, Bool, cond, length}
+use Rattle.std.proofs.lemmas.Bool.{eq-eqb, eqb-true, and_parts}
+use Rattle.std.proofs.lemmas.Option.{same_Some}
+use Rattle.std.specs.Prelude.{Option, None, Some, nat_lt, Contains, filter}
 use Rattle.smp_bytes.proofs.Members.{contains_filter, contains-from_filter}
 use Rattle.port_graph.specs.declared.exit.Exit.{Exit}
 use Rattle.port_graph.specs.Heads.{exits_at, LeadToVertices}
 use Rattle.spread_routes.specs.declared.mark.Label.TheVariants.{Down}
 use Rattle.spread_routes.specs.declared.mark.Mark.{Mark}
-use Rattle.spread_routes.specs.Labels.{candidates, candidates_by, gives, gives_from, givers, givers_before, is_down, marks, marks_after}
+use Rattle.spread_routes.specs.Labels.{candidates, candidates_by, gives, givers_before, is_down, marks, marks_after}
 use Rattle.spread_routes.specs.LabelLaws.{Gives}
 use Rattle.spread_routes.specs.RoundMarks.{AreMarksAfter}
 use Rattle.spread_routes.specs.Candidates.{CandidatesAreNearer, is_nearer, is_nearer_by}

@@ -1,5 +1,6 @@
 -- Channel numbers rise along each way up and then down.
-use Rattle.std.proofs.Common.{◌≡◌, ◌≤◌, ◌<◌, ◌+◌, ◌-◌, ℕ, zero, suc, List, [], ◌∷◌, ◌++◌, inl, inr, refl, sym, ap, ◌∙◌, subst, arith, cond, length}
+use Rattle.std.proofs.Common.{◌≡◌, ◌≤◌, ◌<◌, ◌+◌, ◌-◌, ℕ, zero, suc, List, [], ◌∷◌}
+use Rattle.std.proofs.Common.{◌++◌, inl, inr, refl, sym, ap, ◌∙◌, subst, arith, cond, length}
 use Rattle.std.proofs.lemmas.Bool.{lt-ltb, le-ltb}
 use Rattle.std.proofs.lemmas.Option.{same_Some}
 use Rattle.std.specs.Prelude.{None, Some, Contains, slice_index}
@@ -10,7 +11,8 @@ use Rattle.port_graph.specs.Heads.{LeadToVertices}
 use Rattle.spread_routes.specs.declared.mark.Mark.{Mark}
 use Rattle.spread_routes.specs.Labels.{marks, candidates_by, candidates}
 use Rattle.spread_routes.specs.LabelLaws.{IsStep}
-use Rattle.spread_routes.specs.Ways.{Climbs, Descends, channel_number, channels_along, ChannelsLaw, Channel, MayWait, MayWaitInTurn, NoCircleLaw}
+use Rattle.spread_routes.specs.Ways.{Climbs, Descends, channel_number, channels_along}
+use Rattle.spread_routes.specs.Ways.{ChannelsLaw, Channel, MayWait, MayWaitInTurn, NoCircleLaw}
 use Rattle.spread_routes.proofs.Steps.{step_at}
 
 -- each is above the one before it, and the first above a number

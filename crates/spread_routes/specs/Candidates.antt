@@ -1,5 +1,6 @@
 -- Which of the exits that gave a vertex its mark is taken.
-use Rattle.std.specs.Prelude.{◌≡◌, ◌<◌, ℕ, suc, ◌&&◌, ◌||◌, ◌==◌, ◌%◌, Bool, false, nat_lt, List, [], ◌∷◌, filter, length, Option, None, Some, slice_get, slice_index_or}
+use Rattle.std.specs.Prelude.{◌≡◌, ◌<◌, ℕ, suc, ◌&&◌, ◌||◌, ◌==◌, ◌%◌, Bool, false}
+use Rattle.std.specs.Prelude.{nat_lt, List, [], ◌∷◌, filter, length, Option, None, Some, slice_get, slice_index_or}
 use Rattle.port_graph.specs.declared.exit.Exit.{Exit}
 use Rattle.port_graph.specs.Heads.{exits_at, LeadToVertices}
 use Rattle.spread_routes.specs.declared.mark.Mark.{Mark}

@@ -23,7 +23,8 @@ pub record IsGiven (exits : List (List Exit)) (marks : Marks) (s round : ℕ) (l
   pub when_up : label ≡ Up → exit.to < s
   pub when_down : label ≡ Down → (e : Exit) → Gives exits marks s e round → s ≤ e.to
 
--- the labels and costs towards a target: the target is Down at no cost; each other vertex with a label has it from its exits, at one more than their least cost; from one without no exit gives
+-- the labels and costs towards a target: the target is Down at no cost; each other vertex with a label has it from its exits,
+-- at one more than their least cost; from one without no exit gives
 pub record AreMarks (exits : List (List Exit)) (t : ℕ) (marks : Marks) : Type 0 where
   pub target : marks t ≡ Some (record { cost = 0; label = Down })
   pub other : (s : ℕ) (m : Mark) → s ≢ t → marks s ≡ Some m → (round : ℕ) × (m.cost ≡ suc round) × IsGiven exits marks s round m.label
@@ -51,7 +52,8 @@ pub record IsGrownGraph (exits : List (List Exit)) : Type 0 where
   pub symmetric : IsSymmetric exits
   pub grown : IsGrown exits
 
--- the vertices of the target's component have labels and no others have, and each cost is that of a walk and less than the number of vertices
+-- the vertices of the target's component have labels and no others have, and each cost is that of a walk and less than the
+-- number of vertices
 pub record AreReached (exits : List (List Exit)) (t : ℕ) : Type 0 where
   pub component : (s n : ℕ) → Walk (heads exits) s t n → (m : Mark) × (marks exits t s ≡ Some m)
   pub no_other : (s : ℕ) (m : Mark) → marks exits t s ≡ Some m → Walk (heads exits) s t m.cost

@@ -1,5 +1,6 @@
 -- Labels towards a target, in rounds. Vertices are numbers by their place in an order: up is to a lesser number, down to a greater one.
-use Rattle.std.specs.Prelude.{ℕ, zero, suc, Bool, true, false, ◌||◌, ◌==◌, nat_lt, List, [], ◌∷◌, filter, length, Option, None, Some, if◌then◌else◌}
+use Rattle.std.specs.Prelude.{ℕ, zero, suc, Bool, true, false, ◌||◌, ◌==◌, nat_lt}
+use Rattle.std.specs.Prelude.{List, [], ◌∷◌, filter, length, Option, None, Some, if◌then◌else◌}
 use Rattle.std.specs.List.{list_any}
 use Rattle.port_graph.specs.declared.exit.Exit.{Exit}
 use Rattle.port_graph.specs.Heads.{exits_at}
@@ -41,7 +42,8 @@ abbrev pub mark_or : Option Mark → Option Mark → Option Mark
 mark_or None other = other
 mark_or (Some m) other = Some m
 
--- the labels after so many rounds: at first the target alone is Down; at each round a vertex without a label gets one from the exits that give, by the labels of the round before
+-- the labels after so many rounds: at first the target alone is Down; at each round a vertex without a label gets one from the
+-- exits that give, by the labels of the round before
 abbrev pub marks_after : List (List Exit) → ℕ → ℕ → ℕ → Option Mark
 marks_after exits t zero s = if s == t then Some (record { cost = 0; label = Down }) else None
 marks_after exits t (suc round) s = mark_or (marks_after exits t round s) (mark_by (suc round) s (givers exits (marks_after exits t round) s))

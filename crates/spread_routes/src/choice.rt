@@ -7,7 +7,12 @@ use port_graph::Exit;
 
 /// Of the exits of a vertex that gave it its mark the one with this number, counted round: `choice` modulo how many there are. None at
 /// the target and where there is no mark. Takes at most two steps for each exit.
-pub fn candidate(exits: &[Exit], vertex: usize, marks: &[Option<Mark>], choice: usize) -> Option<Exit>
+pub fn candidate(
+    exits: &[Exit],
+    vertex: usize,
+    marks: &[Option<Mark>],
+    choice: usize,
+) -> Option<Exit>
     requires vertex { vertex < length marks.now }
     requires lead { All (λ exit. exit.to < length marks.now) exits.now }
     ensures { result ≡ chosen (filter (is_nearer vertex marks.now) exits.now) choice }
@@ -26,7 +31,10 @@ fn count_nearer(exits: &[Exit], vertex: usize, marks: &[Option<Mark>]) -> usize
     requires lead { All (λ exit. exit.to < length marks.now) exits.now }
     ensures { result ≡ length (filter (is_nearer vertex marks.now) exits.now) }
 {
-    exits.iter().filter(|exit| is_nearer(exit, vertex, marks)).count()
+    exits
+        .iter()
+        .filter(|exit| is_nearer(exit, vertex, marks))
+        .count()
 }
 
 /// The one of them with this number, in their order.

@@ -13,11 +13,7 @@ use std::alloc::{AllocError, Global};
 /// where an exit of it leads up to a vertex that was marked before the round, or down to one that was marked `Down`: `Up`
 /// where one of these exits leads up, and else `Down`. Takes a step for each vertex and each exit in each round, and as many rounds
 /// as the greatest cost, and one.
-pub fn marks(
-    alloc: Global,
-    exits: &Exits,
-    target: usize,
-) -> Result<Vec<Option<Mark>>, AllocError>
+pub fn marks(alloc: Global, exits: &Exits, target: usize) -> Result<Vec<Option<Mark>>, AllocError>
     requires vertex { target < length exits.now }
     requires lead { LeadToVertices exits.now }
     ensures { IfOk result (λ marks. AreMarksAfter exits.now target (length exits.now) marks.items) }
@@ -93,7 +89,9 @@ fn is_given_up(exits: &[Exit], vertex: usize, marks: &[Option<Mark>]) -> bool
     requires { All (λ exit. exit.to < length marks.now) exits.now }
     ensures { result ≡ list_any (λ exit. gives_at vertex marks.now exit && nat_lt exit.to vertex) exits.now }
 {
-    exits.iter().any(|exit| gives_at(exit, vertex, marks) && exit.to < vertex)
+    exits
+        .iter()
+        .any(|exit| gives_at(exit, vertex, marks) && exit.to < vertex)
 }
 
 /// Whether one of these exits gives a mark.

@@ -9,3 +9,6 @@ mod mark;
 pub use choice::candidate;
 pub use labelling::marks;
 pub use mark::{Label, Mark};
+
+#[cfg(test)]
+mod tests;
