@@ -9,6 +9,7 @@ pub mod Steps
 pub mod Following
 pub mod Rising
 pub mod Growing
+pub mod Earlier
 pub mod Placing
 pub mod Sample
 pub mod Earliest

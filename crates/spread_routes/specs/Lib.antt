@@ -4,5 +4,7 @@ pub mod Candidates
 pub mod LabelLaws
 pub mod Ways
 pub mod Orders
+pub mod Keys
+pub mod Stages
 pub mod Sides
 pub mod EveryPair

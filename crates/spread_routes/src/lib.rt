@@ -2,11 +2,15 @@
 #![tactic(auto)]
 
 mod choice;
+mod ordering;
+mod key;
 mod labelling;
 pub mod laws;
 mod mark;
 
 pub use choice::candidate;
+pub use ordering::grown_order;
+pub use key::Key;
 pub use labelling::marks;
 pub use mark::{Label, Mark};
 
