@@ -10,6 +10,7 @@ pub mod Following
 pub mod Rising
 pub mod Growing
 pub mod Earlier
+pub mod OrderSteps
 pub mod Placing
 pub mod Sample
 pub mod Earliest

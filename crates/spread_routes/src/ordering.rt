@@ -44,7 +44,8 @@ pub fn grown_order(alloc: Global, exits: &Exits, keys: &[Key]) -> Result<Vec<usi
 /// The vertex that is placed next.
 fn next_vertex(keys: &[Key], stages: &[Stage]) -> Option<usize>
     requires { length stages.now ≡ length keys.now }
-    ensures { result ≡ next_at (before_by keys.now) stages.now (length keys.now) }
+    ensures next { result ≡ next_at (before_by keys.now) stages.now (length keys.now) }
+    ensures vertex { MatchOption result (Unit {0}) (λ vertex. vertex < length keys.now) }
 {
     match earliest(keys, stages, Stage::Beside) {
         Some(vertex) => Some(vertex),
@@ -55,7 +56,8 @@ fn next_vertex(keys: &[Key], stages: &[Stage]) -> Option<usize>
 /// The vertex of the earliest key among those at a stage.
 fn earliest(keys: &[Key], stages: &[Stage], stage: Stage) -> Option<usize>
     requires { length stages.now ≡ length keys.now }
-    ensures { result ≡ earliest_at (before_by keys.now) stages.now stage (length keys.now) }
+    ensures earliest { result ≡ earliest_at (before_by keys.now) stages.now stage (length keys.now) }
+    ensures vertex { MatchOption result (Unit {0}) (λ vertex. vertex < length keys.now) }
 {
     let mut found = None;
     for vertex in 0..keys.len() {
