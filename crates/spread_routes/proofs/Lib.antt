@@ -11,6 +11,7 @@ pub mod Rising
 pub mod Growing
 pub mod Earlier
 pub mod OrderSteps
+pub mod KeyOrder
 pub mod Placing
 pub mod Sample
 pub mod Earliest

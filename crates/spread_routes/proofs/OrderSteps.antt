@@ -217,6 +217,7 @@ module _ (exits : List (List Exit)) (before : ℕ → ℕ → Bool) (lead : Lead
         and_not : (a b : Bool) → b ≡ true → (a && not b) ≡ false
         and_not true b is = ap not is
         and_not false b is = refl
+
         and_open : (a b : Bool) → b ≡ false → (a && not b) ≡ a
         and_open true b is = ap not is
         and_open false b is = refl
@@ -237,6 +238,7 @@ module _ (exits : List (List Exit)) (before : ℕ → ℕ → Bool) (lead : Lead
             let to : Contains (heads exits v) s = subst (λ (k : ℕ). Contains (heads exits v) k) (eqb-true f.0.to s f.2) (contains_mapped (λ (e : Exit). e.to) (exits_at exits v) f.0 f.1) in
             let from = contains_map (λ (e : Exit). e.to) (exits_at exits s) v (symmetric v s to) in
             list_any_at (λ (e : Exit). v == e.to) (exits_at exits s) from.0 from.1 (eq-eqb v from.0.to (sym from.2))
+
         here : list_any (λ e. v == e.to) (exits_at exits s) ≡ true → list_any (λ e. e.to == s) (exits_at exits v) ≡ true
         here h =
             let f = list_any_found (λ (e : Exit). v == e.to) (exits_at exits s) h in
@@ -298,6 +300,7 @@ module _ (exits : List (List Exit)) (before : ℕ → ℕ → Bool) (lead : Lead
       none_grows : (k : ℕ) → grown_behind exits before k g.placed [] ≡ []
       none_grows zero = refl
       none_grows (suc k) = refl
+
       at_left : (left : List ℕ) → vertices_left exits stages ≡ left → IsGrowing exits before n done stages
       at_left (x ∷ rest) e = let other : Some (next_placed exits before g.placed x rest) ≡ None = sym (next_is exits before stages g.placed g.fronts x rest e) ∙ is in absurd (cc)
       at_left [] e = record {
@@ -324,9 +327,11 @@ begins exits before n stages count is =
     all_open (x ∷ xs) h =
         (λ i. cond (h x (contains_here x xs) i) (x ∷ filter (is_open (replicate (length exits) Left)) xs) (filter (is_open (replicate (length exits) Left)) xs))
         ∙ ap (λ l. x ∷ l) (all_open xs (λ y k. h y (contains_later x y xs k)))
+
     whole : vertices_left exits (replicate (length exits) Left) ≡ numbers_from 0 (length exits)
     whole = all_open (numbers_from 0 (length exits))
         (λ s h. ap (λ st. not (is_stage st Placed)) (get_or-replicate (length exits) s Left Left (let b = numbers_below (length exits) 0 s h in omega arith)))
+
     beside_nothing : (es : List Exit) → list_any (λ e. list_any (λ p. p == e.to) []) es ≡ false
     beside_nothing [] = refl
     beside_nothing (e ∷ es) = beside_nothing es

@@ -2,17 +2,17 @@
 #![tactic(auto)]
 
 mod choice;
-mod ordering;
 mod key;
 mod labelling;
 pub mod laws;
 mod mark;
+mod ordering;
 
 pub use choice::candidate;
-pub use ordering::grown_order;
 pub use key::Key;
 pub use labelling::marks;
 pub use mark::{Label, Mark};
+pub use ordering::grown_order;
 
 #[cfg(test)]
 mod tests;

@@ -2,6 +2,7 @@
 ghost use Rattle.std.specs.Prelude.{◌≡◌, ◌<◌, map, length, IfOk};
 ghost use Rattle.port_graph.specs.Heads.{LeadToVertices};
 ghost use Rattle.port_graph.specs.Sample.{exit_of};
+ghost use Rattle.spread_routes.specs.LabelLaws.{IsSymmetric};
 
 use super::*;
 use port_graph::{Exit, Exits};
@@ -18,6 +19,21 @@ const EXITS: [&[(u8, usize)]; 6] = [
     &[(1, 3)],
     &[],
 ];
+
+/// Six vertices before they are numbered by their places.
+const UNPLACED: [&[(u8, usize)]; 6] = [
+    &[(1, 1), (2, 3), (3, 4), (4, 3)],
+    &[(1, 0), (2, 2), (3, 3)],
+    &[(1, 1)],
+    &[(1, 0), (2, 4), (3, 1), (4, 0)],
+    &[(1, 3), (2, 0)],
+    &[],
+];
+
+/// Their classes, each with how far the vertex is from the first; and the order that they grow to.
+const CLASSES: [(usize, usize); 6] = [(1, 0), (2, 1), (0, 1), (1, 1), (0, 0), (2, 0)];
+
+const ORDER: [usize; 6] = [4, 0, 3, 1, 2, 5];
 
 /// What the mark of each vertex towards each target is: its label and cost, in two letters.
 const MARKS: [&[u8; 12]; 6] = [
@@ -38,6 +54,16 @@ const PORTS: [[[u8; 2]; 6]; 6] = [
     [[1, 2], [1, 1], [3, 3], [2, 2], [0, 0], [0, 0]],
     [[0, 0], [0, 0], [0, 0], [0, 0], [0, 0], [0, 0]],
 ];
+
+/// The vertices before they are placed.
+fn unplaced(alloc: Global) -> Result<Exits, AllocError>
+    ensures lead { IfOk result (λ exits. LeadToVertices exits) }
+    ensures symmetric { IfOk result (λ exits. IsSymmetric exits) }
+    ensures all { IfOk result (λ exits. length exits ≡ 6) }
+{
+    let exits = vertices(alloc, &UNPLACED)?;
+    Ok(exits)
+}
 
 /// The sample's vertices.
 fn sample(alloc: Global) -> Result<Exits, AllocError>
@@ -116,5 +142,14 @@ fn marks_and_candidates(rt: HostRuntime) -> Result<(), Fail> {
             );
         }
     }
+    Ok(())
+}
+
+#[test]
+fn orders_grow(rt: HostRuntime) -> Result<(), Fail> {
+    let exits = unplaced(rt.alloc())?;
+    let keys = CLASSES.map(|(class, distance)| Key { class, distance });
+    let order = grown_order(rt.alloc(), &exits, &keys)?;
+    assert!(rt; order.as_slice() == ORDER.as_slice());
     Ok(())
 }

@@ -39,24 +39,24 @@ loop-preserved c =
     let n = length exits - (c.loop.counter + 1) in
     let left : length exits - c.loop.counter ≡ suc n = omega (arith, c.loop-test.true, c.len-end.ensures) in
     let was : IsGrowing exits before (suc n) c.loop.vertices.items c.loop.stages.items =
-        subst (λ (k : ℕ). IsGrowing exits before k c.loop.vertices.items c.loop.stages.items) left c.loop.invariant in
+    subst (λ (k : ℕ). IsGrowing exits before k c.loop.vertices.items c.loop.stages.items) left c.loop.invariant in
     let told : c.next_vertex.result ≡ next_at before c.loop.stages.items (length exits) =
-        c.next_vertex.ensures.next ∙ (λ i. next_at before (c.deref.ensures.value i) (c.requires.keys i)) in
+    c.next_vertex.ensures.next ∙ (λ i. next_at before (c.deref.ensures.value i) (c.requires.keys i)) in
     elim c.match-next_vertex.branch [
       | in-Some+in_ok-push w ↦
           let v = w.in-Some.vertex in
           let within : v < length c.args.keys.now = subst (IsBelow (length c.args.keys.now)) w.in-Some.is c.next_vertex.ensures.vertex in
           let moved : w.place.new.stages ≡ placed_by v (exits_at exits v) c.loop.stages.items =
-              w.place.ensures ∙ (λ i. placed_by v (w.at.ensures i) (w.deref_mut.ensures.value i)) in
+          w.place.ensures ∙ (λ i. placed_by v (w.at.ensures i) (w.deref_mut.ensures.value i)) in
           let long : length w.place.new.stages ≡ length c.loop.stages.items = ap length moved ∙ length-placed_by v (exits_at exits v) c.loop.stages.items in
           let written : (with_items c.loop.stages w.place.new.stages).items ≡ w.place.new.stages =
-              with_items_is c.loop.stages w.place.new.stages (long ∙ sym (ap length w.deref_mut.ensures.value) ∙ w.deref_mut.ensures.len) in
+          with_items_is c.loop.stages w.place.new.stages (long ∙ sym (ap length w.deref_mut.ensures.value) ∙ w.deref_mut.ensures.len) in
           grows exits before c.requires.lead c.requires.symmetric n c.loop.vertices.items c.match-next_vertex.vertices.items c.loop.stages.items c.match-next_vertex.stages.items v
           was (sym told ∙ w.in-Some.is) (omega (arith, within, c.requires.keys))
           (ap (λ x. x.items) w.vertices-is ∙ w.in_ok-push.ensures.items) (ap (λ x. x.items) w.stages-is ∙ written ∙ moved)
       | in_default w ↦
           let same : IsGrowing exits before n c.loop.vertices.items c.loop.stages.items =
-              rests exits before c.requires.lead c.requires.symmetric n c.loop.vertices.items c.loop.stages.items was (sym told ∙ w.in_default.is) in
+          rests exits before c.requires.lead c.requires.symmetric n c.loop.vertices.items c.loop.stages.items was (sym told ∙ w.in_default.is) in
           subst (λ (l : List ℕ). IsGrowing exits before n l c.match-next_vertex.stages.items) (sym (ap (λ x. x.items) w.vertices-is))
           (subst (IsGrowing exits before n c.loop.vertices.items) (sym (ap (λ x. x.items) w.stages-is)) same)
     ]
