@@ -1,5 +1,5 @@
 -- The earliest of vertices, one after the other.
-use Rattle.std.proofs.Common.{◌≡◌, ◌+◌, ℕ, zero, suc, List, [], ◌∷◌, ◌++◌, refl, sym, ap, ◌∙◌, arith, add-one, append-nil, true, false, Bool, cond}
+use Rattle.std.proofs.Common.{◌≡◌, ◌+◌, ℕ, zero, suc, List, [], ◌∷◌, ◌++◌, refl, ap, ◌∙◌, arith, add-one, append-nil, true, false, Bool, cond}
 use Rattle.std.specs.Prelude.{◌<◌, MatchOption, Option, None, Some, filter}
 use Rattle.spread_routes.specs.declared.ordering.Stage.{Stage}
 use Rattle.spread_routes.specs.Orders.{earliest, numbers_from}

@@ -1,9 +1,8 @@
 -- Keys order vertices strictly, and tell any two apart.
-use Rattle.std.proofs.Common.{◌≡◌, ◌≢◌, ◌<◌, ◌≤◌, ◌⊎◌, ◌&&◌, ◌||◌, ◌==◌, not, ℕ, List, inl, inr, refl, sym, ap, ◌∙◌, arith, true, false, Bool}
-use Rattle.std.proofs.lemmas.Bool.{and_parts, cases_eq, cases_lt, eq-eqb, eqb-true, lt-ltb, ltb-true, or_cases}
+use Rattle.std.proofs.Common.{◌≡◌, ◌≢◌, ◌<◌, ◌⊎◌, ◌&&◌, ◌||◌, ◌==◌, not, ℕ, List, inl, inr, refl, sym, ap, ◌∙◌, arith, true, false, Bool}
+use Rattle.std.proofs.lemmas.Bool.{and_parts, cases_lt, eq-eqb, eqb-true, lt-ltb, ltb-true, or_cases}
 use Rattle.std.specs.Prelude.{nat_lt}
 use Rattle.spread_routes.specs.declared.key.Key.{Key}
-use Rattle.spread_routes.specs.Orders.{AreKeys}
 use Rattle.spread_routes.specs.Keys.{KeysTellApart, before_by, key_at, key_less}
 
 -- the test in words: the class is less, or equal with the distance less

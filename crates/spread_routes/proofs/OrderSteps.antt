@@ -1,12 +1,12 @@
 -- Vertex by vertex, as the code grows the order.
-use Rattle.std.proofs.Common.{◌≡◌, ◌<◌, ◌≤◌, ◌+◌, ◌&&◌, ◌||◌, ◌==◌, not, ℕ, zero, suc, List, [], ◌∷◌, ◌++◌}
+use Rattle.std.proofs.Common.{◌≡◌, ◌<◌, ◌&&◌, ◌||◌, ◌==◌, not, ℕ, zero, suc, List, [], ◌∷◌, ◌++◌}
 use Rattle.std.proofs.Common.{refl, sym, ap, ◌∙◌, subst, arith, inl, inr, true, false, Bool, cond, length, append_assoc, append-nil, replicate}
 use Rattle.std.proofs.lemmas.Bool.{cases_eq, eqb-true, eq-eqb}
 use Rattle.std.proofs.lemmas.Option.{same_Some}
 use Rattle.std.proofs.lemmas.List.{get_or-replicate, get_or-set_same, get_or-set_other, length-replicate, length-set}
-use Rattle.std.specs.Prelude.{Option, None, Some, Contains, filter, slice_index_or, slice_set}
+use Rattle.std.specs.Prelude.{None, Some, Contains, filter, slice_set}
 use Rattle.std.specs.List.{list_any}
-use Rattle.smp_bytes.proofs.Members.{contains_here, contains_later, contains_none, contains_filter, contains-from_filter}
+use Rattle.smp_bytes.proofs.Members.{contains_here, contains_later, contains_none, contains_filter}
 use Rattle.port_graph.specs.declared.exit.Exit.{Exit}
 use Rattle.port_graph.specs.Heads.{exits_at, heads, LeadToVertices}
 use Rattle.port_graph.proofs.Lists.{contains_map, contains_mapped}
@@ -14,9 +14,9 @@ use Rattle.port_graph.proofs.WalkLemmas.{list_any_at, list_any_found}
 use Rattle.spread_routes.specs.declared.ordering.Stage.{Stage}
 use Rattle.spread_routes.specs.declared.ordering.Stage.TheVariants.{Left, Beside, Placed}
 use Rattle.spread_routes.specs.LabelLaws.{IsSymmetric}
-use Rattle.spread_routes.specs.Orders.{choose, earliest, grown_behind, is_beside, next_placed, numbers_from, order, without}
-use Rattle.spread_routes.specs.Stages.{beside, beside_all, earliest_at, earliest_of, first_of, is_stage, next_at, placed_by, stage_at}
-use Rattle.spread_routes.proofs.Growing.{earliest_there, numbers_below}
+use Rattle.spread_routes.specs.Orders.{choose, grown_behind, is_beside, next_placed, numbers_from, order, without}
+use Rattle.spread_routes.specs.Stages.{beside, beside_all, earliest_of, first_of, is_stage, next_at, placed_by, stage_at}
+use Rattle.spread_routes.proofs.Growing.{numbers_below}
 use Rattle.spread_routes.proofs.RoundSteps.{same_filter}
 
 filter_twice : {X : Type 0} (p q : X → Bool) (xs : List X) → filter p (filter q xs) ≡ filter (λ x. q x && p x) xs

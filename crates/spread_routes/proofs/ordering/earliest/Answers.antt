@@ -1,7 +1,7 @@
-use Rattle.std.proofs.Common.{◌≡◌, ◌<◌, ◌+◌, ℕ, sym, ap, ◌∙◌, subst, true, false, length}
+use Rattle.std.proofs.Common.{◌<◌, ℕ, sym, ap, ◌∙◌, subst, length}
 use Rattle.std.specs.Prelude.{Some}
 use Rattle.spread_routes.specs.Keys.{before_by}
-use Rattle.spread_routes.specs.Stages.{earlier_of, earliest_at}
+use Rattle.spread_routes.specs.Stages.{earlier_of}
 use Rattle.spread_routes.proofs.Earlier.{IsBelow, earlier_below, earliest_with, earliest_without}
 use Rattle.spread_routes.proofs.ordering.earliest.Goals as goal
 use Rattle.spread_routes.proofs.ordering.earliest.Goals.{then-is_at, else-is_at}

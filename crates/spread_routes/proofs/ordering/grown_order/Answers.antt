@@ -1,11 +1,10 @@
-use Rattle.std.proofs.Common.{◌≡◌, ◌<◌, ◌+◌, ◌-◌, ℕ, suc, List, [], replicate, refl, sym, ap, ◌∙◌, subst, arith, length}
-use Rattle.std.specs.Prelude.{Contains, MatchOption, Option, Some}
+use Rattle.std.proofs.Common.{◌≡◌, ◌<◌, ◌+◌, ◌-◌, ℕ, suc, List, replicate, sym, ap, ◌∙◌, subst, arith, length}
+use Rattle.std.specs.Prelude.{Contains}
 use Rattle.std.proofs.lemmas.List.{with_items_is}
 use Rattle.std.specs.Vec.{with_items}
 use Rattle.port_graph.specs.declared.exit.Exit.{Exit}
 use Rattle.port_graph.specs.Heads.{exits_at}
 use Rattle.port_graph.proofs.SearchSteps.{all_from_contained}
-use Rattle.spread_routes.specs.declared.ordering.Stage.{Stage}
 use Rattle.spread_routes.specs.declared.ordering.Stage.TheVariants.{Left}
 use Rattle.spread_routes.specs.Keys.{before_by}
 use Rattle.spread_routes.specs.Stages.{next_at, placed_by}
