@@ -25,7 +25,7 @@ facts_of files = view (flat_map kept files)
 
 -- what a command writes of the facts
 abbrev pub answer_to : Command → Facts → List ℕ
-answer_to commands.Facts facts = facts_text (cells_of facts)
+answer_to commands.Facts facts = facts_text facts
 answer_to commands.Join facts = store_bytes (cells_of facts)
 answer_to commands.Plan facts = plan_text (plan_of (cells_of facts))
 

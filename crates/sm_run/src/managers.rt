@@ -2,7 +2,6 @@
 ghost use Rattle.std.specs.Prelude.{◌≡◌, ◌<◌, Some, length, slice_get, IfOk, OnOk};
 ghost use Rattle.std.specs.Io.KnownBytes.{Appends};
 ghost use Rattle.fabric_sim.specs.Changes.{manager_seated};
-ghost use Rattle.fact_store.specs.View.{cells_of};
 ghost use Rattle.sm_cli.specs.FactsText.{facts_text};
 ghost use Rattle.sm_run.specs.Lines.{progress_line, state_line};
 ghost use Rattle.sm_manager.specs.Manager.{outstanding, progress_of};
@@ -16,7 +15,7 @@ use lft_blocks::write_plan;
 use record_file::Sink;
 use sm_cli::write_facts;
 use sm_manager::Manager;
-use smp_bytes::Lid;
+use smp_bytes::{Generation, Lid};
 use std::alloc::{AllocError, Global};
 
 impl World<'_> {
@@ -87,6 +86,14 @@ impl World<'_> {
         self.send(seat, sink)
     }
 
+    /// A manager forgets what is older than a generation.
+    pub(crate) fn raise_floor(&mut self, seat: usize, floor: Generation)
+        requires { seat < length self.old.managers.items }
+        ensures managers { length self.new.managers.items ≡ length self.old.managers.items }
+    {
+        self.managers[seat].manager.raise_floor(floor);
+    }
+
     /// A manager takes in all that another knows. Its own facts tell it nothing.
     pub(crate) fn merge<W: Sink>(
         &mut self,
@@ -141,7 +148,7 @@ impl World<'_> {
         requires { seat < length self.now.managers.items }
         ensures prints { OnOk result ((s : _) → slice_get self.now.managers.items seat ≡ Some s
             → Appends (W.written sink.old) (W.written sink.new)
-            (facts_text (cells_of s.manager.store))) }
+            (facts_text s.manager.store)) }
         ensures stops { StopsFor W.written W.has_failed result sink.old sink.new }
     {
         write_facts(sink, self.managers[seat].manager.store())?;

@@ -85,6 +85,10 @@ impl World<'_> {
             Command::Write(seat) => self.write(seat, sink),
             Command::Handover(seat) => self.hand_over(seat, sink),
             Command::Poll(seat, lid) => self.poll(seat, lid, sink),
+            Command::Floor(seat, floor) => {
+                self.raise_floor(seat, floor);
+                Ok(())
+            }
             Command::Merge(seat, other) => self.merge(seat, other, sink),
             Command::Deliver(which) => self.deliver(which, sink),
             Command::Lose(which) => self.lose(which, sink),
