@@ -1,4 +1,7 @@
-pub mod Growth
 pub mod Judging
+pub mod Order
 pub mod Ports
+pub mod Printing
+pub mod Seats
+pub mod Sending
 pub mod Written

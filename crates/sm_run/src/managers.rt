@@ -1,12 +1,10 @@
 //! The commands to managers.
-ghost use Rattle.std.specs.Prelude.{◌≡◌, ◌<◌, Some, length, slice_get, IfOk, OnOk};
-ghost use Rattle.std.specs.Io.KnownBytes.{Appends};
-ghost use Rattle.fabric_sim.specs.Changes.{manager_seated};
-ghost use Rattle.fact_store.specs.View.{cells_of};
-ghost use Rattle.sm_cli.specs.FactsText.{facts_text};
-ghost use Rattle.sm_run.specs.Lines.{progress_line, state_line};
-ghost use Rattle.sm_manager.specs.Manager.{outstanding, progress_of};
-ghost use Rattle.sm_run.specs.Stops.{StopsFor};
+ghost use Rattle.std.specs.Prelude.{◌≡◌, ◌<◌, length, IfOk, OnOk};
+ghost use Rattle.sm_manager.specs.Manager.{outstanding};
+ghost use Rattle.sm_run.specs.Commands.{facts_run, handover_run, merge_run, plan_run, poll_run, progress_run};
+ghost use Rattle.sm_run.specs.Commands.{seat_run, state_run, sweep_run, timeout_run, write_run};
+ghost use Rattle.sm_run.specs.Prints.{PrintsUnless};
+ghost use Rattle.sm_run.specs.World.{value_of};
 
 use crate::lines::{write_progress, write_state};
 use crate::refusals::{refuse_fabric, refuse_manager};
@@ -23,10 +21,10 @@ impl World<'_> {
     /// A manager comes to sit at its port.
     pub(crate) fn seat<W: Sink>(&mut self, seat: usize, sink: &mut W) -> Result<(), RunFault>
         requires { seat < length self.old.managers.items }
-        ensures seated { (s : _) → slice_get self.old.managers.items seat ≡ Some s
-            → self.new.fabric ≡ (manager_seated self.old.fabric s.seat.now.at).fabric }
-        ensures managers { self.new.managers ≡ self.old.managers }
-        ensures stops { StopsFor W.written W.has_failed result sink.old sink.new }
+        ensures managers { length self.new.managers.items ≡ length self.old.managers.items }
+        ensures leaves { OnOk result (value_of self.new ≡ (seat_run (value_of self.old) seat).now) }
+        ensures prints { PrintsUnless W.written W.has_failed result sink.old sink.new
+            (seat_run (value_of self.old) seat).text }
     {
         match self.fabric.seat(self.managers[seat].seat.at) {
             Ok(()) => Ok(()),
@@ -38,7 +36,9 @@ impl World<'_> {
     pub(crate) fn sweep<W: Sink>(&mut self, seat: usize, sink: &mut W) -> Result<(), RunFault>
         requires { seat < length self.old.managers.items }
         ensures managers { length self.new.managers.items ≡ length self.old.managers.items }
-        ensures stops { StopsFor W.written W.has_failed result sink.old sink.new }
+        ensures leaves { OnOk result (value_of self.new ≡ (sweep_run (value_of self.old) seat).now) }
+        ensures prints { PrintsUnless W.written W.has_failed result sink.old sink.new
+            (sweep_run (value_of self.old) seat).text }
     {
         if let Err(fault) = self.managers[seat].manager.begin_sweep() {
             return refuse_manager(sink, fault);
@@ -50,7 +50,9 @@ impl World<'_> {
     pub(crate) fn write<W: Sink>(&mut self, seat: usize, sink: &mut W) -> Result<(), RunFault>
         requires { seat < length self.old.managers.items }
         ensures managers { length self.new.managers.items ≡ length self.old.managers.items }
-        ensures stops { StopsFor W.written W.has_failed result sink.old sink.new }
+        ensures leaves { OnOk result (value_of self.new ≡ (write_run (value_of self.old) seat).now) }
+        ensures prints { PrintsUnless W.written W.has_failed result sink.old sink.new
+            (write_run (value_of self.old) seat).text }
     {
         if let Err(fault) = self.managers[seat].manager.write_steps() {
             return refuse_manager(sink, fault);
@@ -62,7 +64,9 @@ impl World<'_> {
     pub(crate) fn hand_over<W: Sink>(&mut self, seat: usize, sink: &mut W) -> Result<(), RunFault>
         requires { seat < length self.old.managers.items }
         ensures managers { length self.new.managers.items ≡ length self.old.managers.items }
-        ensures stops { StopsFor W.written W.has_failed result sink.old sink.new }
+        ensures leaves { OnOk result (value_of self.new ≡ (handover_run (value_of self.old) seat).now) }
+        ensures prints { PrintsUnless W.written W.has_failed result sink.old sink.new
+            (handover_run (value_of self.old) seat).text }
     {
         if let Err(fault) = self.managers[seat].manager.handover() {
             return refuse_manager(sink, fault);
@@ -79,7 +83,9 @@ impl World<'_> {
     ) -> Result<(), RunFault>
         requires { seat < length self.old.managers.items }
         ensures managers { length self.new.managers.items ≡ length self.old.managers.items }
-        ensures stops { StopsFor W.written W.has_failed result sink.old sink.new }
+        ensures leaves { OnOk result (value_of self.new ≡ (poll_run (value_of self.old) seat lid).now) }
+        ensures prints { PrintsUnless W.written W.has_failed result sink.old sink.new
+            (poll_run (value_of self.old) seat lid).text }
     {
         if let Err(fault) = self.managers[seat].manager.poll(lid) {
             return refuse_manager(sink, fault);
@@ -97,7 +103,9 @@ impl World<'_> {
         requires seat { seat < length self.old.managers.items }
         requires other { other < length self.old.managers.items }
         ensures managers { length self.new.managers.items ≡ length self.old.managers.items }
-        ensures stops { StopsFor W.written W.has_failed result sink.old sink.new }
+        ensures leaves { OnOk result (value_of self.new ≡ (merge_run (value_of self.old) seat other).now) }
+        ensures prints { PrintsUnless W.written W.has_failed result sink.old sink.new
+            (merge_run (value_of self.old) seat other).text }
     {
         if seat == other {
             return Ok(());
@@ -116,7 +124,6 @@ impl World<'_> {
     }
 
     /// A manager waits no more for the answers that it waits for now. What that brings up goes out.
-    #[tactic(auto, using(crate::proofs::Growth::grown_then, crate::proofs::Growth::stops_then))]
     pub(crate) fn time_out<W: Sink>(
         &mut self,
         alloc: Global,
@@ -125,7 +132,9 @@ impl World<'_> {
     ) -> Result<(), RunFault>
         requires { seat < length self.old.managers.items }
         ensures managers { length self.new.managers.items ≡ length self.old.managers.items }
-        ensures stops { StopsFor W.written W.has_failed result sink.old sink.new }
+        ensures leaves { OnOk result (value_of self.new ≡ (timeout_run (value_of self.old) seat).now) }
+        ensures prints { PrintsUnless W.written W.has_failed result sink.old sink.new
+            (timeout_run (value_of self.old) seat).text }
     {
         let waiting = waiting(alloc, &self.managers[seat].manager)?;
         for transaction in &waiting {
@@ -139,10 +148,8 @@ impl World<'_> {
     /// Prints a manager's facts.
     pub(crate) fn show_facts<W: Sink>(&self, seat: usize, sink: &mut W) -> Result<(), RunFault>
         requires { seat < length self.now.managers.items }
-        ensures prints { OnOk result ((s : _) → slice_get self.now.managers.items seat ≡ Some s
-            → Appends (W.written sink.old) (W.written sink.new)
-            (facts_text (cells_of s.manager.store))) }
-        ensures stops { StopsFor W.written W.has_failed result sink.old sink.new }
+        ensures prints { PrintsUnless W.written W.has_failed result sink.old sink.new
+            (facts_run (value_of self.now) seat).text }
     {
         write_facts(sink, self.managers[seat].manager.store())?;
         Ok(())
@@ -151,7 +158,8 @@ impl World<'_> {
     /// Prints a manager's plan.
     pub(crate) fn show_plan<W: Sink>(&self, seat: usize, sink: &mut W) -> Result<(), RunFault>
         requires { seat < length self.now.managers.items }
-        ensures stops { StopsFor W.written W.has_failed result sink.old sink.new }
+        ensures prints { PrintsUnless W.written W.has_failed result sink.old sink.new
+            (plan_run (value_of self.now) seat).text }
     {
         match self.managers[seat].manager.plan() {
             Ok(plan) => {
@@ -165,10 +173,8 @@ impl World<'_> {
     /// Prints how far a manager is with its sweep.
     pub(crate) fn show_progress<W: Sink>(&self, seat: usize, sink: &mut W) -> Result<(), RunFault>
         requires { seat < length self.now.managers.items }
-        ensures prints { OnOk result ((s : _) → slice_get self.now.managers.items seat ≡ Some s
-            → Appends (W.written sink.old) (W.written sink.new)
-            (progress_line s.seat.now.name (progress_of s.manager.sweep))) }
-        ensures stops { StopsFor W.written W.has_failed result sink.old sink.new }
+        ensures prints { PrintsUnless W.written W.has_failed result sink.old sink.new
+            (progress_run (value_of self.now) seat).text }
     {
         let seated = &self.managers[seat];
         write_progress(sink, seated.seat.name.as_str(), seated.manager.progress())?;
@@ -178,10 +184,8 @@ impl World<'_> {
     /// Prints a manager's state.
     pub(crate) fn show_state<W: Sink>(&self, seat: usize, sink: &mut W) -> Result<(), RunFault>
         requires { seat < length self.now.managers.items }
-        ensures prints { OnOk result ((s : _) → slice_get self.now.managers.items seat ≡ Some s
-            → Appends (W.written sink.old) (W.written sink.new)
-            (state_line s.seat.now.name s.manager.standing.state)) }
-        ensures stops { StopsFor W.written W.has_failed result sink.old sink.new }
+        ensures prints { PrintsUnless W.written W.has_failed result sink.old sink.new
+            (state_run (value_of self.now) seat).text }
     {
         let seated = &self.managers[seat];
         write_state(sink, seated.seat.name.as_str(), seated.manager.state())?;

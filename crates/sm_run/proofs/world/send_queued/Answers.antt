@@ -1,8 +1,0 @@
-use Rattle.std.proofs.lemmas.Result.{err_from_is_err_and}
-use Rattle.sm_run.proofs.Growth.{fails_then}
-use Rattle.sm_run.proofs.world.send_queued.Goals as goal
-
-pub returns-in_err-send_one : goal.returns-in_err-send_one
-returns-in_err-send_one g c =
-    let p = err_from_is_err_and c.from_residual.result c.from_residual.ensures.1 in
-    record { stops = rw (p.1, p.2) (fails_then g.W.Sink.written g.W.Sink.has_failed c.in_err-send_one.field-0.0 _ _ _ c.loop-outgoing.invariant c.in_err-send_one.ensures.stops) }
