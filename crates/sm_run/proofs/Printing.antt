@@ -23,7 +23,7 @@ not_failed false u h = refl
 not_failed true u h = let e : IsErr (ok_of u) = h.1 refl in absurd (cc)
 
 -- the fault of a call, as that of the call around it
-abbrev pub failed_with : {T : Type 0} → RunFault → Result T RunFault
+abbrev pub failed_with : RunFault → Result (Unit {0}) RunFault
 failed_with fault = Err fault
 
 module _ {W : Type 0} (written : W → Option (List ℕ)) (has_failed : W → Bool) where
@@ -50,8 +50,8 @@ module _ {W : Type 0} (written : W → Option (List ℕ)) (has_failed : W → Bo
   prints_then (Err Write) old mid new a b p q = q
 
   -- a run that ends in a text ends in that text and more
-  pub ends_in : {T U : Type 0} (fault : RunFault) (old new : W) (a b : List ℕ) → PrintsUnless written has_failed (failed_with {T = T} fault) old new a
-      → PrintsUnless written has_failed (failed_with {T = U} fault) old new (a ++ b)
+  pub ends_in : (fault : RunFault) (old new : W) (a b : List ℕ) → PrintsUnless written has_failed (failed_with fault) old new a
+      → PrintsUnless written has_failed (failed_with fault) old new (a ++ b)
   ends_in Memory old new a b p = record {
     front = p.front;
     rest = p.rest ++ b;
@@ -66,8 +66,8 @@ module _ {W : Type 0} (written : W → Option (List ℕ)) (has_failed : W → Bo
   prints_same result old new a b e p = subst (λ (t : List ℕ). PrintsUnless written has_failed result old new t) e p
 
   -- memory was refused before anything was printed
-  pub ends_unprinted : {T : Type 0} (old new : W) (text : List ℕ) → new ≡ old
-      → PrintsUnless written has_failed (failed_with {T = T} Memory) old new text
+  pub ends_unprinted : (old new : W) (text : List ℕ) → new ≡ old
+      → PrintsUnless written has_failed (failed_with Memory) old new text
   ends_unprinted old new text e = record {
     front = [];
     rest = text;
@@ -101,14 +101,14 @@ module _ {W : Type 0} (written : W → Option (List ℕ)) (has_failed : W → Bo
   }
 
   -- a part ends it
-  pub stops_in : {S T U : Type 0} (fault : RunFault) (old mid new : W) (whole : Ran S) (part : Ran S) (next : S → Ran S)
+  pub stops_in : {S : Type 0} (fault : RunFault) (old mid new : W) (whole : Ran S) (part : Ran S) (next : S → Ran S)
       → IsUnderWay old mid whole (and_then part next)
-      → PrintsUnless written has_failed (failed_with {T = T} fault) mid new part.text
-      → PrintsUnless written has_failed (failed_with {T = U} fault) old new whole.text
-  stops_in {S} {T} {U} fault old mid new whole part next h p =
-      prints_same (failed_with {T = U} fault) old new _ _ h.text
-      (prints_then (failed_with {T = U} fault) old mid new h.front (part.text ++ (next part.now).text) h.printed
-      (ends_in {T = T} {U = U} fault mid new part.text (next part.now).text p))
+      → PrintsUnless written has_failed (failed_with fault) mid new part.text
+      → PrintsUnless written has_failed (failed_with fault) old new whole.text
+  stops_in fault old mid new whole part next h p =
+      prints_same (failed_with fault) old new _ _ h.text
+      (prints_then (failed_with fault) old mid new h.front (part.text ++ (next part.now).text) h.printed
+      (ends_in fault mid new part.text (next part.now).text p))
 
   -- what is left prints nothing
   pub is_over : {S : Type 0} (old now : W) (whole left : Ran S) → IsUnderWay old now whole left → left.text ≡ []

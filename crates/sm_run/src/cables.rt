@@ -14,6 +14,7 @@ use topo_file::Topology;
 
 impl World<'_> {
     /// The cable in a port is cut.
+    #[tactic(auto, unfolding(crate::specs::Commands::cut_run))]
     pub(crate) fn cut<W: Sink>(&mut self, port: NodePort, sink: &mut W) -> Result<(), RunFault>
         ensures managers { length self.new.managers.items ≡ length self.old.managers.items }
         ensures leaves { OnOk result (value_of self.new ≡ (cut_run (value_of self.old) port).now) }
@@ -27,6 +28,7 @@ impl World<'_> {
     }
 
     /// A cable is plugged into two ports.
+    #[tactic(auto, unfolding(crate::specs::Commands::plug_run))]
     pub(crate) fn plug<W: Sink>(
         &mut self,
         one: NodePort,
@@ -45,6 +47,7 @@ impl World<'_> {
     }
 
     /// Prints where a packet comes to that is sent from a port to a LID.
+    #[tactic(auto, using(crate::proofs::Printing::wrote), unfolding(crate::specs::Commands::ping_run))]
     pub(crate) fn show_ping<W: Sink>(
         &self,
         topology: &Topology,

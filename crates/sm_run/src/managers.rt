@@ -19,6 +19,7 @@ use std::alloc::{AllocError, Global};
 
 impl World<'_> {
     /// A manager comes to sit at its port.
+    #[tactic(auto, using(crate::proofs::Seats::sits), unfolding(crate::specs::Commands::seat_run))]
     pub(crate) fn seat<W: Sink>(&mut self, seat: usize, sink: &mut W) -> Result<(), RunFault>
         requires { seat < length self.old.managers.items }
         ensures managers { length self.new.managers.items ≡ length self.old.managers.items }
@@ -146,6 +147,7 @@ impl World<'_> {
     }
 
     /// Prints a manager's facts.
+    #[tactic(auto, using(crate::proofs::Printing::wrote), unfolding(crate::specs::Commands::facts_run))]
     pub(crate) fn show_facts<W: Sink>(&self, seat: usize, sink: &mut W) -> Result<(), RunFault>
         requires { seat < length self.now.managers.items }
         ensures prints { PrintsUnless W.written W.has_failed result sink.old sink.new
@@ -156,6 +158,7 @@ impl World<'_> {
     }
 
     /// Prints a manager's plan.
+    #[tactic(auto, using(crate::proofs::Printing::wrote, crate::proofs::Seats::sits), unfolding(crate::specs::Commands::plan_run))]
     pub(crate) fn show_plan<W: Sink>(&self, seat: usize, sink: &mut W) -> Result<(), RunFault>
         requires { seat < length self.now.managers.items }
         ensures prints { PrintsUnless W.written W.has_failed result sink.old sink.new
@@ -171,6 +174,7 @@ impl World<'_> {
     }
 
     /// Prints how far a manager is with its sweep.
+    #[tactic(auto, using(crate::proofs::Printing::wrote, crate::proofs::Seats::sits), unfolding(crate::specs::Commands::progress_run))]
     pub(crate) fn show_progress<W: Sink>(&self, seat: usize, sink: &mut W) -> Result<(), RunFault>
         requires { seat < length self.now.managers.items }
         ensures prints { PrintsUnless W.written W.has_failed result sink.old sink.new
@@ -182,6 +186,7 @@ impl World<'_> {
     }
 
     /// Prints a manager's state.
+    #[tactic(auto, using(crate::proofs::Printing::wrote, crate::proofs::Seats::sits), unfolding(crate::specs::Commands::state_run))]
     pub(crate) fn show_state<W: Sink>(&self, seat: usize, sink: &mut W) -> Result<(), RunFault>
         requires { seat < length self.now.managers.items }
         ensures prints { PrintsUnless W.written W.has_failed result sink.old sink.new

@@ -18,6 +18,7 @@ use topo_file::Topology;
 impl World<'_> {
     /// A packet in flight takes one step. What comes to a manager is taken in by it, and what it
     /// queues then goes out.
+    #[tactic(auto, unfolding(crate::specs::Commands::deliver_run))]
     pub(crate) fn deliver<W: Sink>(&mut self, which: Which, sink: &mut W) -> Result<(), RunFault>
         ensures managers { length self.new.managers.items ≡ length self.old.managers.items }
         ensures leaves { OnOk result (value_of self.new ≡ (deliver_run (value_of self.old) which).now) }
@@ -31,6 +32,7 @@ impl World<'_> {
     }
 
     /// A packet in flight is lost.
+    #[tactic(auto, unfolding(crate::specs::Commands::lose_run))]
     pub(crate) fn lose<W: Sink>(&mut self, which: Which, sink: &mut W) -> Result<(), RunFault>
         ensures managers { length self.new.managers.items ≡ length self.old.managers.items }
         ensures leaves { OnOk result (value_of self.new ≡ (lose_run (value_of self.old) which).now) }
@@ -47,6 +49,7 @@ impl World<'_> {
     }
 
     /// A packet in flight is there once more.
+    #[tactic(auto, unfolding(crate::specs::Commands::repeat_run))]
     pub(crate) fn repeat<W: Sink>(&mut self, which: Which, sink: &mut W) -> Result<(), RunFault>
         ensures managers { length self.new.managers.items ≡ length self.old.managers.items }
         ensures leaves { OnOk result (value_of self.new ≡ (repeat_run (value_of self.old) which).now) }
