@@ -14,10 +14,10 @@ first_of m [] out e = absurd (cc)
 first_of m (x ∷ later) out e = let same : x ≡ out = cc in ap (λ y. y ∷ later) same
 
 -- the first packet of a queue, and those after it
-pub first_goes : (m : Manager) (out : Outgoing) (fabric : Simulation) (at : NodePort) → (taken m).packet ≡ Some out
-    → sent_from fabric at m.outgoing
-    ≡ and_then (after_fabric (injected fabric at (packet_out out))) (λ now. sent_from now at (taken m).manager.outgoing)
-first_goes m out fabric at e = ap (sent_from fabric at) (first_of m m.outgoing out e)
+pub first_goes : (m left : Manager) (out : Outgoing) (fabric : Simulation) (at : NodePort) → Some out ≡ (taken m).packet → left ≡ (taken m).manager
+    → sent_from fabric at m.outgoing ≡ and_then (after_fabric (injected fabric at (packet_out out))) (λ now. sent_from now at left.outgoing)
+first_goes m left out fabric at e same =
+    ap (sent_from fabric at) (first_of m m.outgoing out (sym e) ∙ ap (λ m. out ∷ m.outgoing) (sym same))
 
 none_of : (m : Manager) (queue : List Outgoing) → (taken_of m queue).packet ≡ None → queue ≡ []
 none_of m [] e = refl

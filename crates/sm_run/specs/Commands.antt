@@ -41,7 +41,7 @@ use Rattle.sm_run.specs.Flights.{serial_of}
 use Rattle.sm_run.specs.Lines.{flight_line, ping_line, progress_line, state_line}
 use Rattle.sm_run.specs.Refusals.{refusal_line}
 use Rattle.sm_run.specs.Tables.{tables_text}
-use Rattle.sm_run.specs.World.{Ran, SeatedValue, WorldValue, and_then, at_seat, called_run, fabric_line, fabric_run, manager_line, quiet, sent, shows, with_manager}
+use Rattle.sm_run.specs.World.{Ran, SeatedValue, WorldValue, and_then, asked_run, at_seat, fabric_run, manager_line, quiet, sent, shows, with_manager}
 
 -- managers -----------------------------------------------------------------------------------------
 
@@ -49,9 +49,9 @@ use Rattle.sm_run.specs.World.{Ran, SeatedValue, WorldValue, and_then, at_seat, 
 unfoldable pub seat_run : WorldValue → ℕ → Ran WorldValue
 seat_run w seat = at_seat w seat (λ s. fabric_run w (manager_seated w.fabric s.at))
 
--- the manager of a seat is asked for something: it is refused with its fault, or is this manager then and sends what it has queued
+-- what the manager of a seat is asked for, and then it sends what it has queued
 abbrev pub sending_run : WorldValue → ℕ → (Manager → Option ManagerFault) → (Manager → Manager) → Ran WorldValue
-sending_run w seat fault after = at_seat w seat (λ s. called_run (λ now. sent now seat) w seat s (fault s.manager) (after s.manager))
+sending_run w seat fault after = asked_run (λ now. sent now seat) w seat fault after
 
 -- `sweep M`
 unfoldable pub sweep_run : WorldValue → ℕ → Ran WorldValue
@@ -77,7 +77,7 @@ merge_run w seat other =
 -- `timeout M`: the manager gives up a request
 unfoldable pub gave_up_run : WorldValue → ℕ → ℕ → Ran WorldValue
 gave_up_run w seat transaction =
-    at_seat w seat (λ s. let called = manager.gave_up s.manager transaction in called_run quiet w seat s called.fault called.manager)
+    asked_run quiet w seat (λ m. (manager.gave_up m transaction).fault) (λ m. (manager.gave_up m transaction).manager)
 
 -- one after the other
 abbrev pub given_up : WorldValue → ℕ → List ℕ → Ran WorldValue
@@ -90,11 +90,14 @@ timeout_run w seat = at_seat w seat (λ s. and_then (given_up w seat (outstandin
 
 -- packets ------------------------------------------------------------------------------------------
 
--- the manager of a seat takes in a packet, or refuses it, and sends what it has queued
+-- the manager of a seat takes in a packet, or refuses it
+abbrev pub taken_by : WorldValue → ℕ → Packet → Ran WorldValue
+taken_by w seat packet =
+    asked_run quiet w seat (λ m. (manager.took m packet.bytes (Some packet.slid)).fault) (λ m. (manager.took m packet.bytes (Some packet.slid)).manager)
+
+-- and sends what it has queued
 unfoldable pub took_run : WorldValue → ℕ → Packet → Ran WorldValue
-took_run w seat packet =
-    and_then (at_seat w seat (λ s. let called = manager.took s.manager packet.bytes (Some packet.slid) in called_run quiet w seat s called.fault called.manager))
-    (λ now. sent now seat)
+took_run w seat packet = and_then (taken_by w seat packet) (λ now. sent now seat)
 
 -- the seat at a port, where a manager sits by now
 abbrev pub seat_at : WorldValue → NodePort → Option ℕ

@@ -92,6 +92,10 @@ abbrev pub called_run : (WorldValue → Ran WorldValue) → WorldValue → ℕ �
 called_run next w seat s None manager = next (with_manager w seat s manager)
 called_run next w seat s (Some fault) manager = shows (manager_line fault) w
 
+-- the manager of a seat is asked for something, that is refused for such a fault and leaves such a manager
+abbrev pub asked_run : (WorldValue → Ran WorldValue) → WorldValue → ℕ → (Manager → Option ManagerFault) → (Manager → Manager) → Ran WorldValue
+asked_run next w seat fault after = at_seat w seat (λ s. called_run next w seat s (fault s.manager) (after s.manager))
+
 -- nothing is left to be sent
 abbrev pub emptied : Manager → Manager
 emptied m = record m { outgoing = [] }

@@ -61,6 +61,7 @@ impl<'s> World<'s> {
     }
 
     /// All that a manager has queued goes out.
+    #[tactic(auto, using(crate::proofs::Seats::sits), unfolding(crate::specs::World::sent))]
     pub(crate) fn send<W: Sink>(&mut self, seat: usize, sink: &mut W) -> Result<(), RunFault>
         requires { seat < length self.old.managers.items }
         ensures managers { length self.new.managers.items ≡ length self.old.managers.items }
