@@ -1,18 +1,25 @@
 -- Managers in their seats, and calls that are refused.
-use Rattle.std.proofs.Common.{◌≡◌, ◌∙◌, ℕ, ◌<◌, ◌⊎◌, inl, inr, Bool, true, false, List, map, length, get_or, Option, None, Some, Result, Ok, Err, refl, sym, ap, subst, ◌↔◌}
-use Rattle.std.specs.Prelude.{if◌then◌else◌, option_map, slice_get, OnOk}
+use Rattle.std.proofs.Common.{◌≡◌, ◌∙◌, ℕ, ◌<◌, ◌≤◌, arith, cond, ◌⊎◌, inl, inr, Bool, true, false, List, [], ◌∷◌, map, length, get_or, Option, None, Some, Result, Ok, Err, refl, sym, ap, subst, ◌↔◌}
+use Rattle.std.specs.Prelude.{if◌then◌else◌, nat_lt, option_map, position, slice_get, OnOk}
+use Rattle.std.specs.List.{position_or_len}
 use Rattle.std.specs.Option.{option_map_or}
 use Rattle.std.proofs.Math.ListN.{set}
 use Rattle.std.proofs.Math.Seq.{map-set_same}
-use Rattle.std.proofs.lemmas.List.{map-set}
-use Rattle.std.proofs.lemmas.Option.{slice_get-map, slice_get_read}
+use Rattle.std.proofs.lemmas.Bool.{false_from_ne_true, lt-ltb, ltb-true}
+use Rattle.std.proofs.lemmas.List.{map-set, set-get_or}
+use Rattle.std.proofs.lemmas.List.Sums.{position_or_len_is}
+use Rattle.std.proofs.lemmas.Option.{get_or_from_slice_get, slice_get-map, slice_get_read, slice_get_within}
 use Rattle.smp_bytes.specs.Judges.{JudgesButFor}
-use Rattle.fabric_sim.specs.Simulation.{Simulation}
+use Rattle.smp_bytes.specs.Cables.{is_same_port}
+use Rattle.smp_bytes.specs.declared.cable.NodePort.{NodePort}
+use Rattle.fabric_sim.specs.Simulation.{Simulation, is_seat_at}
+use Rattle.fact_store.proofs.Merges.{merge_is_idempotent}
 use Rattle.sm_manager.specs.Fault.{is_memory}
-use Rattle.sm_manager.specs.Manager.{Manager}
+use Rattle.sm_manager.specs.Manager.{Manager, merged}
 use Rattle.sm_manager.specs.Plans.{JudgesAfter}
 use Rattle.sm_manager.specs.declared.fault.ManagerFault.{ManagerFault}
 use Rattle.sm_manager.specs.declared.fault.ManagerFault.TheVariants as manager
+use Rattle.sm_run.specs.Commands.{merge_run, seat_at}
 use Rattle.sm_run.specs.Prints.{PrintsUnless}
 use Rattle.sm_run.specs.World.{Ran, SeatedValue, WorldValue, asked_run, at_seat, called_run, emptied, manager_line, quiet, seated_value, sent, sent_by, sent_from, shows, with_manager}
 use Rattle.sm_run.specs.declared.run_fault.RunFault.{RunFault}
@@ -167,3 +174,48 @@ module _ (fabric : Simulation) (items : List Seated) (seat : ℕ) (s : Seated) (
       ∙ ap (λ ms. record before { fabric = (sent_from fabric s.seat.now.at s.manager.outgoing).now; managers = ms })
       (changes items seat s m ∙ ap (λ m. set (map seated_value items) seat (record (seated_value s) { manager = m })) empties)
       ∙ ap (λ r. r.now) (sym (at_seat_is (sent_by before seat)))
+
+-- a manager that takes in what it knows itself ----------------------------------------------------------
+
+merged_itself : (m : Manager) → merged m m.store ≡ m
+merged_itself m = ap (λ f. record m { store = f }) (merge_is_idempotent m.store)
+
+put_back : (ms : List SeatedValue) (seat : ℕ) (s : SeatedValue) → slice_get ms seat ≡ Some s → set ms seat s ≡ ms
+put_back ms seat s e = ap (λ x. set ms seat x) (sym (get_or_from_slice_get ms seat s s e)) ∙ set-get_or ms seat s
+
+pub merges_itself : (w : WorldValue) (seat other : ℕ) → seat ≡ other → w ≡ (merge_run w seat other).now
+unfolding merge_run
+merges_itself w seat other e =
+    let call = λ (s o : SeatedValue). with_manager w seat s (merged s.manager o.manager.store) in
+    subst (λ (k : ℕ). w ≡ (at_seat w seat (λ s. at_seat w k (λ o. quiet (call s o)))).now) e
+    (elim (slice_get w.managers seat) as (λ found. slice_get w.managers seat ≡ found
+        → w ≡ (option_map_or (λ s. option_map_or (λ o. quiet (call s o)) found (quiet w)) found (quiet w)).now) [
+      | None ↦ λ there. refl
+      | Some s ↦ λ there. ap (λ ms. record w { managers = ms }) (sym (put_back w.managers seat s there))
+          ∙ ap (λ m. with_manager w seat s m) (sym (merged_itself s.manager))
+    ] refl)
+
+-- which seat is at a port --------------------------------------------------------------------------------
+
+pub found_at : (w : WorldValue) (p : NodePort) (seat : ℕ) (s : SeatedValue) → is_seat_at w.fabric p ≡ true → slice_get w.managers seat ≡ Some s
+    → is_same_port s.at p ≡ true → ((k : ℕ) (d : SeatedValue) → k < seat → is_same_port (get_or w.managers k d).at p ≡ false)
+    → Some seat ≡ seat_at w p
+found_at w p seat s sits there same before =
+    let within = slice_get_within w.managers seat s there in
+    let first : position_or_len (λ s. is_same_port s.at p) w.managers ≡ seat =
+        position_or_len_is (λ s. is_same_port s.at p) w.managers seat s (omega arith) (λ k h. before k s h)
+        (λ h. ap (λ x. is_same_port x.at p) (get_or_from_slice_get w.managers seat s s there) ∙ same) in
+    sym (ap (λ b. if b then position (λ s. is_same_port s.at p) w.managers else None) sits
+    ∙ ap (λ n. cond (nat_lt n (length w.managers)) (Some n) None) first ∙ ap (λ b. cond b (Some seat) None) (lt-ltb seat (length w.managers) within))
+
+no_place : {X : Type 0} (p : X → Bool) (xs : List X) → ((k : ℕ) (d : X) → k < length xs → p (get_or xs k d) ≡ false) → position p xs ≡ None
+no_place p [] none = refl
+no_place p (x ∷ xs) none =
+    let n = length (x ∷ xs) in
+    ap (λ k. cond (nat_lt k n) (Some k) None) (position_or_len_is p (x ∷ xs) n x (omega arith) (λ k h. none k x h) (λ h. absurd (omega arith)))
+    ∙ ap (λ b. cond b (Some n) None) (false_from_ne_true (nat_lt n n) (λ t. omega (arith, ltb-true n n t)))
+
+pub none_at : (w : WorldValue) (p : NodePort) → is_seat_at w.fabric p ≡ true
+    → ((k : ℕ) (d : SeatedValue) → k < length w.managers → is_same_port (get_or w.managers k d).at p ≡ false) → None ≡ seat_at w p
+none_at w p sits before =
+    sym (ap (λ b. if b then position (λ s. is_same_port s.at p) w.managers else None) sits ∙ no_place (λ s. is_same_port s.at p) w.managers before)

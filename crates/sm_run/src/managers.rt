@@ -1,7 +1,7 @@
 //! The commands to managers.
 ghost use Rattle.std.specs.Prelude.{◌≡◌, ◌<◌, length, IfOk, OnOk};
 ghost use Rattle.sm_manager.specs.Manager.{outstanding};
-ghost use Rattle.sm_run.specs.Commands.{facts_run, handover_run, merge_run, plan_run, poll_run, progress_run};
+ghost use Rattle.sm_run.specs.Commands.{facts_run, gave_up_run, handover_run, merge_run, plan_run, poll_run, progress_run};
 ghost use Rattle.sm_run.specs.Commands.{seat_run, state_run, sweep_run, timeout_run, write_run};
 ghost use Rattle.sm_run.specs.Prints.{PrintsUnless};
 ghost use Rattle.sm_run.specs.World.{value_of};
@@ -95,6 +95,7 @@ impl World<'_> {
     }
 
     /// A manager takes in all that another knows. Its own facts tell it nothing.
+    #[tactic(auto, unfolding(crate::specs::Commands::merge_run))]
     pub(crate) fn merge<W: Sink>(
         &mut self,
         seat: usize,
@@ -139,11 +140,29 @@ impl World<'_> {
     {
         let waiting = waiting(alloc, &self.managers[seat].manager)?;
         for transaction in &waiting {
-            if let Err(fault) = self.managers[seat].manager.on_timeout(*transaction) {
-                refuse_manager(sink, fault)?;
-            }
+            self.give_up(seat, *transaction, sink)?;
         }
         self.send(seat, sink)
+    }
+
+    /// A manager waits no more for an answer.
+    fn give_up<W: Sink>(
+        &mut self,
+        seat: usize,
+        transaction: u64,
+        sink: &mut W,
+    ) -> Result<(), RunFault>
+        requires { seat < length self.old.managers.items }
+        ensures managers { length self.new.managers.items ≡ length self.old.managers.items }
+        ensures leaves { OnOk result (value_of self.new
+            ≡ (gave_up_run (value_of self.old) seat transaction).now) }
+        ensures prints { PrintsUnless W.written W.has_failed result sink.old sink.new
+            (gave_up_run (value_of self.old) seat transaction).text }
+    {
+        match self.managers[seat].manager.on_timeout(transaction) {
+            Ok(()) => Ok(()),
+            Err(fault) => refuse_manager(sink, fault),
+        }
     }
 
     /// Prints a manager's facts.

@@ -1,6 +1,6 @@
 //! The commands about packets in flight.
-ghost use Rattle.std.specs.Prelude.{◌≡◌, length, OnOk};
-ghost use Rattle.sm_run.specs.Commands.{deliver_run, drain_run, flights_text, handed_up, lose_run, repeat_run, step_run};
+ghost use Rattle.std.specs.Prelude.{◌≡◌, ◌<◌, length, OnOk};
+ghost use Rattle.sm_run.specs.Commands.{deliver_run, drain_run, flights_text, handed_up, lose_run, repeat_run, step_run, taken_by};
 ghost use Rattle.sm_run.specs.Flights.{serial_of};
 ghost use Rattle.sm_run.specs.Prints.{PrintsUnless};
 ghost use Rattle.sm_run.specs.World.{value_of};
@@ -72,7 +72,7 @@ impl World<'_> {
         ensures prints { PrintsUnless W.written W.has_failed result sink.old sink.new
             (drain_run (value_of self.old) most).text }
     {
-        for _ in 0..most {
+        for _step in 0..most {
             let Some(first) = self.fabric.in_flight(0) else {
                 return Ok(());
             };
@@ -99,6 +99,7 @@ impl World<'_> {
     }
 
     /// The packet with a serial number takes one step.
+    #[tactic(auto, using(crate::proofs::Printing::prints_then), unfolding(crate::specs::Commands::step_run))]
     fn deliver_one<W: Sink>(&mut self, serial: u64, sink: &mut W) -> Result<(), RunFault>
         ensures managers { length self.new.managers.items ≡ length self.old.managers.items }
         ensures leaves { OnOk result (value_of self.new ≡ (step_run (value_of self.old) serial).now) }
@@ -114,6 +115,7 @@ impl World<'_> {
 
     /// The manager at a port takes a packet in, and what it queues then goes out. Where none sits
     /// the packet is dropped.
+    #[tactic(auto, using(crate::proofs::Printing::prints_then, crate::proofs::Printing::ends_in), unfolding(crate::specs::Commands::handed_up, crate::specs::Commands::took_run))]
     fn hand_up<W: Sink>(
         &mut self,
         port: &NodePort,
@@ -128,11 +130,29 @@ impl World<'_> {
         let Some(seat) = self.manager_at(port) else {
             return Ok(());
         };
-        let manager = &mut self.managers[seat].manager;
-        if let Err(fault) = manager.on_packet(&packet.bytes, Some(packet.slid)) {
-            refuse_manager(sink, fault)?;
-        }
+        self.take_in(seat, packet, sink)?;
         self.send(seat, sink)
+    }
+
+    /// A manager takes a packet in.
+    fn take_in<W: Sink>(
+        &mut self,
+        seat: usize,
+        packet: &Packet,
+        sink: &mut W,
+    ) -> Result<(), RunFault>
+        requires { seat < length self.old.managers.items }
+        ensures managers { length self.new.managers.items ≡ length self.old.managers.items }
+        ensures leaves { OnOk result (value_of self.new
+            ≡ (taken_by (value_of self.old) seat packet.now).now) }
+        ensures prints { PrintsUnless W.written W.has_failed result sink.old sink.new
+            (taken_by (value_of self.old) seat packet.now).text }
+    {
+        let manager = &mut self.managers[seat].manager;
+        match manager.on_packet(&packet.bytes, Some(packet.slid)) {
+            Ok(()) => Ok(()),
+            Err(fault) => refuse_manager(sink, fault),
+        }
     }
 }
 
