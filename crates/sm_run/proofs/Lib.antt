@@ -4,4 +4,5 @@ pub mod Ports
 pub mod Printing
 pub mod Seats
 pub mod Sending
+pub mod Turns
 pub mod Written

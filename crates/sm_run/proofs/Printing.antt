@@ -121,3 +121,25 @@ module _ {W : Type 0} (written : W → Option (List ℕ)) (has_failed : W → Bo
       → PrintsUnless written has_failed result mid new left.text → PrintsUnless written has_failed result old new whole.text
   ends_with result old mid new whole left h p =
       prints_same result old new _ _ h.text (prints_then result old mid new h.front left.text h.printed p)
+
+  -- a run is over, and then comes what is next
+  pub then_prints : {S T : Type 0} (result : Result T RunFault) (old mid new : W) (whole left : Ran S) (s : S) (next : S → Ran S)
+      → IsUnderWay old mid whole left → left ≡ quiet s → PrintsUnless written has_failed result mid new (next s).text
+      → PrintsUnless written has_failed result old new (and_then whole next).text
+  then_prints result old mid new whole left s next h e p =
+      let same : s ≡ whole.now = ap (λ r. r.now) (sym e) ∙ h.same in
+      prints_then result old mid new whole.text (next whole.now).text (is_over old mid whole left h (ap (λ r. r.text) e))
+      (prints_same result mid new _ _ (ap (λ s. (next s).text) same) p)
+
+  pub then_leaves : {S T : Type 0} (result : Result T RunFault) (old mid : W) (now : S) (whole left : Ran S) (s : S) (next : S → Ran S)
+      → IsUnderWay old mid whole left → left ≡ quiet s → OnOk result (now ≡ (next s).now) → OnOk result (now ≡ (and_then whole next).now)
+  then_leaves result old mid now whole left s next h e p =
+      let same : s ≡ whole.now = ap (λ r. r.now) (sym e) ∙ h.same in
+      subst (λ s. OnOk result (now ≡ (next s).now)) same p
+
+  -- a part ends it, whatever would have come next
+  pub stops_before : {S : Type 0} (fault : RunFault) (old mid new : W) (whole : Ran S) (part : Ran S) (next later : S → Ran S)
+      → IsUnderWay old mid whole (and_then part next) → PrintsUnless written has_failed (failed_with fault) mid new part.text
+      → PrintsUnless written has_failed (failed_with fault) old new (and_then whole later).text
+  stops_before fault old mid new whole part next later h p =
+      ends_in fault old new whole.text (later whole.now).text (stops_in fault old mid new whole part next h p)

@@ -15,13 +15,13 @@ use Rattle.smp_bytes.specs.declared.cable.NodePort.{NodePort}
 use Rattle.fabric_sim.specs.Simulation.{Simulation, is_seat_at}
 use Rattle.fact_store.proofs.Merges.{merge_is_idempotent}
 use Rattle.sm_manager.specs.Fault.{is_memory}
-use Rattle.sm_manager.specs.Manager.{Manager, merged}
+use Rattle.sm_manager.specs.Manager.{Manager, merged, outstanding}
 use Rattle.sm_manager.specs.Plans.{JudgesAfter}
 use Rattle.sm_manager.specs.declared.fault.ManagerFault.{ManagerFault}
 use Rattle.sm_manager.specs.declared.fault.ManagerFault.TheVariants as manager
-use Rattle.sm_run.specs.Commands.{merge_run, seat_at}
+use Rattle.sm_run.specs.Commands.{given_up, merge_run, seat_at, timeout_run}
 use Rattle.sm_run.specs.Prints.{PrintsUnless}
-use Rattle.sm_run.specs.World.{Ran, SeatedValue, WorldValue, asked_run, at_seat, called_run, emptied, manager_line, quiet, seated_value, sent, sent_by, sent_from, shows, with_manager}
+use Rattle.sm_run.specs.World.{Ran, SeatedValue, WorldValue, and_then, asked_run, at_seat, called_run, emptied, manager_line, quiet, seated_value, sent, sent_by, sent_from, shows, with_manager}
 use Rattle.sm_run.specs.declared.run_fault.RunFault.{RunFault}
 use Rattle.sm_run.specs.declared.run_fault.RunFault.TheVariants.{Write, Memory}
 use Rattle.sm_run.specs.declared.world.Seated.{Seated}
@@ -109,6 +109,10 @@ refusal_leaves fault s now run (Ok u) refused memory same =
     is_no_fault : (u : Unit {0}) → ◌≡◌ {A = Result (Unit {0}) RunFault} (Ok u) (Err Memory) → ⊥
     is_no_fault u e = cc
 
+pub leaves_same : {S : Type 0} (result : Result (Unit {0}) RunFault) (now : S) (run other : Ran S) → other ≡ run → OnOk result (now ≡ other.now)
+    → OnOk result (now ≡ run.now)
+leaves_same {S} result now run other e h = subst (λ (r : Ran S). OnOk result (now ≡ r.now)) e h
+
 -- a manager in its seat that is asked for something --------------------------------------------------
 
 module _ (fabric : Simulation) (items : List Seated) (seat : ℕ) (s : Seated) (within : seat < length items) (is : s ≡ get_or items seat s) where
@@ -162,6 +166,14 @@ module _ (fabric : Simulation) (items : List Seated) (seat : ℕ) (s : Seated) (
         → PrintsUnless written has_failed result old new (asked_run next before seat fault after).text
     refused_prints written has_failed given only result old new memory prints unprinted =
         refusal_prints written has_failed given before (asked_run next before seat fault after) result old new (refused_run given only) memory prints unprinted
+
+  -- it gives up the requests that wait
+  pub timed_out : (items' : List ℕ) → items' ≡ outstanding s.manager
+      → timeout_run before seat ≡ and_then (given_up before seat items') (λ now. sent now seat)
+  unfolding timeout_run
+  timed_out items' same =
+      at_seat_is (λ s. and_then (given_up before seat (outstanding s.manager)) (λ now. sent now seat))
+      ∙ ap (λ xs. and_then (given_up before seat xs) (λ now. sent now seat)) (sym same)
 
   -- all that it has queued goes out
   pub sent_leaves : (fabric' : Simulation) (m : Manager) (result : Result (Unit {0}) RunFault)

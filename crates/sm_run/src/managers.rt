@@ -1,6 +1,6 @@
 //! The commands to managers.
-ghost use Rattle.std.specs.Prelude.{◌≡◌, ◌<◌, length, IfOk, OnOk};
-ghost use Rattle.sm_manager.specs.Manager.{outstanding};
+ghost use Rattle.std.specs.Prelude.{◌≡◌, ◌≢◌, ◌<◌, Err, Some, length, slice_get, slice_set, IfOk, OnErr, OnOk};
+ghost use Rattle.sm_manager.specs.Manager.{merged, outstanding};
 ghost use Rattle.sm_run.specs.Commands.{facts_run, gave_up_run, handover_run, merge_run, plan_run, poll_run, progress_run};
 ghost use Rattle.sm_run.specs.Commands.{seat_run, state_run, sweep_run, timeout_run, write_run};
 ghost use Rattle.sm_run.specs.Prints.{PrintsUnless};
@@ -9,11 +9,11 @@ ghost use Rattle.sm_run.specs.World.{value_of};
 use crate::lines::{write_progress, write_state};
 use crate::refusals::{refuse_fabric, refuse_manager};
 use crate::run_fault::RunFault;
-use crate::world::World;
+use crate::world::{Seated, World};
 use lft_blocks::write_plan;
 use record_file::Sink;
 use sm_cli::write_facts;
-use sm_manager::Manager;
+use sm_manager::{Manager, ManagerFault};
 use smp_bytes::Lid;
 use std::alloc::{AllocError, Global};
 
@@ -112,14 +112,7 @@ impl World<'_> {
         if seat == other {
             return Ok(());
         }
-        let merged = if seat < other {
-            let (front, back) = self.managers.split_at_mut(other);
-            front[seat].manager.merge_from(back[0].manager.store())
-        } else {
-            let (front, back) = self.managers.split_at_mut(seat);
-            back[0].manager.merge_from(front[other].manager.store())
-        };
-        match merged {
+        match merge_at(&mut self.managers, seat, other) {
             Ok(()) => Ok(()),
             Err(fault) => refuse_manager(sink, fault),
         }
@@ -214,6 +207,25 @@ impl World<'_> {
         let seated = &self.managers[seat];
         write_state(sink, seated.seat.name.as_str(), seated.manager.state())?;
         Ok(())
+    }
+}
+
+/// One of these managers takes in all that another knows.
+fn merge_at(managers: &mut [Seated], seat: usize, other: usize) -> Result<(), ManagerFault>
+    requires seat { seat < length managers.old }
+    requires other { other < length managers.old }
+    requires apart { seat ≢ other }
+    ensures ok { (s o : _) → slice_get managers.old seat ≡ Some s → slice_get managers.old other ≡ Some o
+        → OnOk result (managers.new ≡ slice_set managers.old seat
+        (record { seat = s.seat; manager = merged s.manager o.manager.store })) }
+    ensures memory { OnErr result (result ≡ Err ManagerFault.Memory) }
+{
+    if seat < other {
+        let (front, back) = managers.split_at_mut(other);
+        front[seat].manager.merge_from(back[0].manager.store())
+    } else {
+        let (front, back) = managers.split_at_mut(seat);
+        back[0].manager.merge_from(front[other].manager.store())
     }
 }
 

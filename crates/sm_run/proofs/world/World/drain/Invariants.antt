@@ -5,8 +5,8 @@ use Rattle.sm_run.proofs.Printing.{IsUnderWay}
 use Rattle.sm_run.proofs.world.World.drain.Given as goal
 
 -- the managers are still there, and the steps that are left are yet to be taken
-abbrev pub invariant-loop-_step : goal.invariant-loop-_step
-invariant-loop-_step g l = record {
+abbrev pub invariant-loop-step : goal.invariant-loop-step
+invariant-loop-step g l = record {
   managers : length l.self.managers.items ≡ length l.initial.self.managers.items;
   drains : IsUnderWay g.W.Sink.written g.W.Sink.has_failed l.initial.sink l.sink (drain_run (value_of l.initial.self) l.most)
       (drain_run (value_of l.self) (l.most - l._step));

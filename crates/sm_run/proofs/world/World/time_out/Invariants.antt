@@ -8,6 +8,6 @@ use Rattle.sm_run.proofs.world.World.time_out.Given as goal
 abbrev pub invariant-loop-transaction : goal.invariant-loop-transaction
 invariant-loop-transaction g l = record {
   managers : length l.self.managers.items ≡ length l.initial.self.managers.items;
-  gives_up : IsUnderWay g.W.Sink.written g.W.Sink.has_failed l.initial.sink l.sink (given_up (value_of l.initial.self) l.seat l.waiting.items)
-      (given_up (value_of l.self) l.seat (drop l.transaction-index l.waiting.items));
+  gives_up : IsUnderWay g.W.Sink.written g.W.Sink.has_failed l.initial.sink l.sink (given_up (value_of l.initial.self) l.seat l.transaction-items)
+      (given_up (value_of l.self) l.seat (drop l.transaction-index l.transaction-items));
 }
