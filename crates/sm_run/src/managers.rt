@@ -222,11 +222,22 @@ fn merge_at(managers: &mut [Seated], seat: usize, other: usize) -> Result<(), Ma
 {
     if seat < other {
         let (front, back) = managers.split_at_mut(other);
-        front[seat].manager.merge_from(back[0].manager.store())
+        merge_one(front, seat, &back[0])
     } else {
         let (front, back) = managers.split_at_mut(seat);
-        back[0].manager.merge_from(front[other].manager.store())
+        merge_one(back, 0, &front[other])
     }
+}
+
+/// One of these managers takes in all that another one knows.
+fn merge_one(managers: &mut [Seated], seat: usize, other: &Seated) -> Result<(), ManagerFault>
+    requires { seat < length managers.old }
+    ensures ok { (s : _) → slice_get managers.old seat ≡ Some s
+        → OnOk result (managers.new ≡ slice_set managers.old seat
+        (record { seat = s.seat; manager = merged s.manager other.now.manager.store })) }
+    ensures memory { OnErr result (result ≡ Err ManagerFault.Memory) }
+{
+    managers[seat].manager.merge_from(other.manager.store())
 }
 
 /// The TransactionIDs of the requests for whose answers a manager waits, rising.
