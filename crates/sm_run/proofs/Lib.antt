@@ -1,4 +1,5 @@
 pub mod Judging
+pub mod Merging
 pub mod Order
 pub mod Ports
 pub mod Printing

@@ -6,20 +6,19 @@ use Rattle.std.specs.Option.{option_map_or}
 use Rattle.std.proofs.Math.ListN.{set}
 use Rattle.std.proofs.Math.Seq.{map-set_same}
 use Rattle.std.proofs.lemmas.Bool.{false_from_ne_true, lt-ltb, ltb-true}
-use Rattle.std.proofs.lemmas.List.{map-set, set-get_or}
+use Rattle.std.proofs.lemmas.List.{map-set}
 use Rattle.std.proofs.lemmas.List.Sums.{position_or_len_is}
 use Rattle.std.proofs.lemmas.Option.{get_or_from_slice_get, slice_get-map, slice_get_read, slice_get_within}
 use Rattle.smp_bytes.specs.Judges.{JudgesButFor}
 use Rattle.smp_bytes.specs.Cables.{is_same_port}
 use Rattle.smp_bytes.specs.declared.cable.NodePort.{NodePort}
 use Rattle.fabric_sim.specs.Simulation.{Simulation, is_seat_at}
-use Rattle.fact_store.proofs.Merges.{merge_is_idempotent}
 use Rattle.sm_manager.specs.Fault.{is_memory}
-use Rattle.sm_manager.specs.Manager.{Manager, merged, outstanding}
+use Rattle.sm_manager.specs.Manager.{Manager, outstanding}
 use Rattle.sm_manager.specs.Plans.{JudgesAfter}
 use Rattle.sm_manager.specs.declared.fault.ManagerFault.{ManagerFault}
 use Rattle.sm_manager.specs.declared.fault.ManagerFault.TheVariants as manager
-use Rattle.sm_run.specs.Commands.{given_up, merge_run, seat_at, timeout_run}
+use Rattle.sm_run.specs.Commands.{given_up, seat_at, timeout_run}
 use Rattle.sm_run.specs.Prints.{PrintsUnless}
 use Rattle.sm_run.specs.World.{Ran, SeatedValue, WorldValue, and_then, asked_run, at_seat, called_run, emptied, manager_line, quiet, seated_value, sent, sent_by, sent_from, shows, with_manager}
 use Rattle.sm_run.specs.declared.run_fault.RunFault.{RunFault}
@@ -186,26 +185,6 @@ module _ (fabric : Simulation) (items : List Seated) (seat : ℕ) (s : Seated) (
       ∙ ap (λ ms. record before { fabric = (sent_from fabric s.seat.now.at s.manager.outgoing).now; managers = ms })
       (changes items seat s m ∙ ap (λ m. set (map seated_value items) seat (record (seated_value s) { manager = m })) empties)
       ∙ ap (λ r. r.now) (sym (at_seat_is (sent_by before seat)))
-
--- a manager that takes in what it knows itself ----------------------------------------------------------
-
-merged_itself : (m : Manager) → merged m m.store ≡ m
-merged_itself m = ap (λ f. record m { store = f }) (merge_is_idempotent m.store)
-
-put_back : (ms : List SeatedValue) (seat : ℕ) (s : SeatedValue) → slice_get ms seat ≡ Some s → set ms seat s ≡ ms
-put_back ms seat s e = ap (λ x. set ms seat x) (sym (get_or_from_slice_get ms seat s s e)) ∙ set-get_or ms seat s
-
-pub merges_itself : (w : WorldValue) (seat other : ℕ) → seat ≡ other → w ≡ (merge_run w seat other).now
-unfolding merge_run
-merges_itself w seat other e =
-    let call = λ (s o : SeatedValue). with_manager w seat s (merged s.manager o.manager.store) in
-    subst (λ (k : ℕ). w ≡ (at_seat w seat (λ s. at_seat w k (λ o. quiet (call s o)))).now) e
-    (elim (slice_get w.managers seat) as (λ found. slice_get w.managers seat ≡ found
-        → w ≡ (option_map_or (λ s. option_map_or (λ o. quiet (call s o)) found (quiet w)) found (quiet w)).now) [
-      | None ↦ λ there. refl
-      | Some s ↦ λ there. ap (λ ms. record w { managers = ms }) (sym (put_back w.managers seat s there))
-          ∙ ap (λ m. with_manager w seat s m) (sym (merged_itself s.manager))
-    ] refl)
 
 -- which seat is at a port --------------------------------------------------------------------------------
 

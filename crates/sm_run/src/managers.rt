@@ -210,34 +210,25 @@ impl World<'_> {
     }
 }
 
-/// One of these managers takes in all that another knows.
-fn merge_at(managers: &mut [Seated], seat: usize, other: usize) -> Result<(), ManagerFault>
-    requires seat { seat < length managers.old }
-    requires other { other < length managers.old }
+/// One of these managers takes in all that another knows. It is out of its place meanwhile.
+fn merge_at(managers: &mut Vec<Seated>, seat: usize, other: usize) -> Result<(), ManagerFault>
+    requires seat { seat < length managers.old.items }
+    requires other { other < length managers.old.items }
     requires apart { seat ≢ other }
-    ensures ok { (s o : _) → slice_get managers.old seat ≡ Some s → slice_get managers.old other ≡ Some o
-        → OnOk result (managers.new ≡ slice_set managers.old seat
+    ensures managers { length managers.new.items ≡ length managers.old.items }
+    ensures ok { (s o : _) → slice_get managers.old.items seat ≡ Some s
+        → slice_get managers.old.items other ≡ Some o
+        → OnOk result (managers.new.items ≡ slice_set managers.old.items seat
         (record { seat = s.seat; manager = merged s.manager o.manager.store })) }
     ensures memory { OnErr result (result ≡ Err ManagerFault.Memory) }
 {
-    if seat < other {
-        let (front, back) = managers.split_at_mut(other);
-        merge_one(front, seat, &back[0])
-    } else {
-        let (front, back) = managers.split_at_mut(seat);
-        merge_one(back, 0, &front[other])
+    let mut seated = managers.remove(seat);
+    let place = if seat < other { other - 1 } else { other };
+    let merged = seated.manager.merge_from(managers[place].manager.store());
+    match managers.insert(seat, seated) {
+        Ok(()) => merged,
+        Err(_) => unreachable!(),
     }
-}
-
-/// One of these managers takes in all that another one knows.
-fn merge_one(managers: &mut [Seated], seat: usize, other: &Seated) -> Result<(), ManagerFault>
-    requires { seat < length managers.old }
-    ensures ok { (s : _) → slice_get managers.old seat ≡ Some s
-        → OnOk result (managers.new ≡ slice_set managers.old seat
-        (record { seat = s.seat; manager = merged s.manager other.now.manager.store })) }
-    ensures memory { OnErr result (result ≡ Err ManagerFault.Memory) }
-{
-    managers[seat].manager.merge_from(other.manager.store())
 }
 
 /// The TransactionIDs of the requests for whose answers a manager waits, rising.
