@@ -1,12 +1,18 @@
 -- What comes first of several turns, and what is left then.
-use Rattle.std.proofs.Common.{◌≡◌, ◌∙◌, ℕ, zero, suc, ◌+◌, ◌-◌, ◌<◌, ◌≤◌, List, Option, None, Some, length, get_or, drop, add-one, refl, sym, ap, arith}
+use Rattle.std.proofs.Common.{◌≡◌, ◌∙◌, ◌∷◌, ℕ, zero, suc, ◌+◌, ◌-◌, ◌/◌, ◌<◌, ◌≤◌, List, Option, None, Some, length, get_or, drop, add-one, refl, sym, ap, arith}
 use Rattle.std.specs.Prelude.{slice_get}
+use Rattle.std.specs.List.{flat_map}
 use Rattle.std.specs.Option.{option_map_or}
+use Rattle.std.proofs.lemmas.Option.{get_or_from_slice_get, slice_get-get_or, slice_get_within}
+use Rattle.std.proofs.lemmas.List.FromFn.{get_or-range_with_len, length-range_with_len}
+use Rattle.topo_file.specs.declared.node.Node.{Node}
+use Rattle.schedule_file.specs.declared.command.Command.{Command}
 use Rattle.std.proofs.Math.Seq.{drop-cons}
 use Rattle.std.proofs.Math.ListN.{drop_of_length-le}
 use Rattle.fabric_sim.specs.declared.flight.Flight.{Flight}
-use Rattle.sm_run.specs.Commands.{drain_run, gave_up_run, given_up, step_run}
-use Rattle.sm_run.specs.World.{Ran, WorldValue, and_then, quiet}
+use Rattle.sm_run.specs.Commands.{command_run, commands_run, drain_run, gave_up_run, given_up, step_run}
+use Rattle.sm_run.specs.Tables.{blocks_to}
+use Rattle.sm_run.specs.World.{Ran, WorldValue, and_then, quiet, shows}
 
 -- requests that are given up ------------------------------------------------------------------------------
 
@@ -34,3 +40,43 @@ drain_none w (suc most) there = ap (λ o. option_map_or (λ (f : Flight). and_th
 
 pub drain_end : (w : WorldValue) (most i : ℕ) → most ≤ i → drain_run w (most - i) ≡ quiet w
 drain_end w most i h = let none : most - i ≡ 0 = omega arith in ap (drain_run w) none
+
+-- lines that are printed ---------------------------------------------------------------------------------------
+
+-- the lines from a place on
+abbrev pub lines_from : {X : Type 0} → (X → List ℕ) → List X → ℕ → Ran (Unit {0})
+lines_from line xs i = shows (flat_map line (drop i xs)) tt
+
+pub lines_next : {X : Type 0} (line : X → List ℕ) (xs : List X) (i : ℕ) (x : X) → slice_get xs i ≡ Some x
+    → lines_from line xs i ≡ and_then (shows (line x) tt) (λ u. lines_from line xs (i + 1))
+lines_next line xs i x there =
+    let at : drop i xs ≡ x ∷ drop (i + 1) xs = drop-cons xs i x (slice_get_within xs i x there)
+        ∙ ap (λ y. y ∷ drop (suc i) xs) (get_or_from_slice_get xs i x x there) ∙ ap (λ n. x ∷ drop n xs) (sym (add-one i)) in
+    ap (λ ys. shows (flat_map line ys) tt) at
+
+pub lines_none : {X : Type 0} (line : X → List ℕ) (xs : List X) (i : ℕ) → length xs ≤ i → lines_from line xs i ≡ quiet tt
+lines_none line xs i h = ap (λ ys. shows (flat_map line ys) tt) (drop_of_length-le xs h)
+
+-- commands that are run ------------------------------------------------------------------------------------------
+
+pub commands_next : (nodes : List Node) (w : WorldValue) (commands : List Command) (i : ℕ) (command : Command) → slice_get commands i ≡ Some command
+    → commands_run nodes w (drop i commands) ≡ and_then (command_run nodes w command) (λ now. commands_run nodes now (drop (i + 1) commands))
+commands_next nodes w commands i command there =
+    let at : drop i commands ≡ command ∷ drop (i + 1) commands = drop-cons commands i command (slice_get_within commands i command there)
+        ∙ ap (λ y. y ∷ drop (suc i) commands) (get_or_from_slice_get commands i command command there) ∙ ap (λ n. command ∷ drop n commands) (sym (add-one i)) in
+    ap (commands_run nodes w) at
+
+pub commands_none : (nodes : List Node) (w : WorldValue) (commands : List Command) (i : ℕ) → length commands ≤ i
+    → commands_run nodes w (drop i commands) ≡ quiet w
+commands_none nodes w commands i h = ap (commands_run nodes w) (drop_of_length-le commands h)
+
+-- blocks of tables -------------------------------------------------------------------------------------------------
+
+pub block_there : (top b : ℕ) → b < top / 64 + 1 → slice_get (blocks_to top) b ≡ Some b
+block_there top b h =
+    let n = top / 64 + 1 in
+    let zero_more : 0 + b ≡ b = omega arith in
+    slice_get-get_or (blocks_to top) b 0 (omega (arith, length-range_with_len 0 n)) ∙ ap (λ x. Some x) (get_or-range_with_len 0 n b 0 h ∙ zero_more)
+
+pub blocks_many : (top b : ℕ) → top / 64 + 1 ≤ b → length (blocks_to top) ≤ b
+blocks_many top b h = omega (arith, length-range_with_len 0 (top / 64 + 1))

@@ -140,9 +140,13 @@ drain_run w zero = quiet w
 drain_run w (suc most) =
     option_map_or (λ flight. and_then (step_run w flight.serial) (λ now. drain_run now most)) (slice_get w.fabric.flights 0) (quiet w)
 
--- `flight`
+-- `flight`: a packet, and where it waits
+abbrev pub flight_shown : List Node → Flight → List ℕ
+flight_shown nodes flight = flight_line nodes flight.serial (port_of flight.place).node
+
+-- all of them
 abbrev pub flights_text : List Node → List Flight → List ℕ
-flights_text nodes flights = flat_map (λ flight. flight_line nodes flight.serial (port_of flight.place).node) flights
+flights_text nodes flights = flat_map (flight_shown nodes) flights
 
 -- cables and ports -----------------------------------------------------------------------------------
 
@@ -154,35 +158,39 @@ cut_run w p = fabric_run w (cut w.fabric p)
 unfoldable pub plug_run : WorldValue → NodePort → NodePort → Ran WorldValue
 plug_run w p q = fabric_run w (plugged w.fabric p q)
 
--- `ping "n"[p] L`
+-- `ping "n"[p] L`: where the packet comes to, or why it cannot be sent
 abbrev pub ping_text : List Node → Simulation → NodePort → ℕ → Option FabricFault → List ℕ
 ping_text nodes fabric source lid None = ping_line nodes source lid (ping (fabric_of fabric) lid source)
 ping_text nodes fabric source lid (Some fault) = refusal_line (fabric_fault_name fault)
 
-unfoldable pub ping_run : List Node → WorldValue → NodePort → ℕ → Ran WorldValue
-ping_run nodes w source lid = shows (ping_text nodes w.fabric source lid (ping_fault w.fabric source)) w
+unfoldable pub ping_shown : List Node → WorldValue → NodePort → ℕ → List ℕ
+ping_shown nodes w source lid = ping_text nodes w.fabric source lid (ping_fault w.fabric source)
 
 -- what managers know -----------------------------------------------------------------------------------
 
+-- a text about the manager of a seat
+abbrev pub told_of : WorldValue → ℕ → (SeatedValue → List ℕ) → List ℕ
+told_of w seat text = option_map_or text (slice_get w.managers seat) []
+
 -- `facts M`
-unfoldable pub facts_run : WorldValue → ℕ → Ran WorldValue
-facts_run w seat = at_seat w seat (λ s. shows (facts_text (cells_of s.manager.store)) w)
+unfoldable pub facts_shown : WorldValue → ℕ → List ℕ
+facts_shown w seat = told_of w seat (λ s. facts_text (cells_of s.manager.store))
 
--- `plan M`
-abbrev pub plan_shown : Cells → Option ManagerFault → List ℕ
-plan_shown cells None = plan_text (plan_of cells)
-plan_shown cells (Some fault) = manager_line fault
+-- `plan M`: the plan, or why there is none
+abbrev pub plan_or_refusal : Cells → Option ManagerFault → List ℕ
+plan_or_refusal cells None = plan_text (plan_of cells)
+plan_or_refusal cells (Some fault) = manager_line fault
 
-unfoldable pub plan_run : WorldValue → ℕ → Ran WorldValue
-plan_run w seat = at_seat w seat (λ s. shows (plan_shown (cells_of s.manager.store) (plan_fault (cells_of s.manager.store))) w)
+unfoldable pub plan_shown : WorldValue → ℕ → List ℕ
+plan_shown w seat = told_of w seat (λ s. plan_or_refusal (cells_of s.manager.store) (plan_fault (cells_of s.manager.store)))
 
 -- `progress M`
-unfoldable pub progress_run : WorldValue → ℕ → Ran WorldValue
-progress_run w seat = at_seat w seat (λ s. shows (progress_line s.name (progress_of s.manager.sweep)) w)
+unfoldable pub progress_shown : WorldValue → ℕ → List ℕ
+progress_shown w seat = told_of w seat (λ s. progress_line s.name (progress_of s.manager.sweep))
 
 -- `state M`
-unfoldable pub state_run : WorldValue → ℕ → Ran WorldValue
-state_run w seat = at_seat w seat (λ s. shows (state_line s.name s.manager.standing.state) w)
+unfoldable pub state_shown : WorldValue → ℕ → List ℕ
+state_shown w seat = told_of w seat (λ s. state_line s.name s.manager.standing.state)
 
 -- all of them ------------------------------------------------------------------------------------------
 
@@ -201,11 +209,11 @@ command_run nodes w (command.Drain most) = drain_run w most
 command_run nodes w (command.Timeout seat) = timeout_run w seat
 command_run nodes w (command.Cut p) = cut_run w p
 command_run nodes w (command.Plug p q) = plug_run w p q
-command_run nodes w (command.Ping p lid) = ping_run nodes w p lid
-command_run nodes w (command.Facts seat) = facts_run w seat
-command_run nodes w (command.Plan seat) = plan_run w seat
-command_run nodes w (command.Progress seat) = progress_run w seat
-command_run nodes w (command.State seat) = state_run w seat
+command_run nodes w (command.Ping p lid) = shows (ping_shown nodes w p lid) w
+command_run nodes w (command.Facts seat) = shows (facts_shown w seat) w
+command_run nodes w (command.Plan seat) = shows (plan_shown w seat) w
+command_run nodes w (command.Progress seat) = shows (progress_shown w seat) w
+command_run nodes w (command.State seat) = shows (state_shown w seat) w
 command_run nodes w command.Tables = shows (tables_text w.fabric) w
 command_run nodes w command.Flight = shows (flights_text nodes w.fabric.flights) w
 

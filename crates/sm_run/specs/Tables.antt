@@ -31,7 +31,7 @@ held_by a = filter (λ x. not (x.0 == 0)) (map (λ port. (base_lid_at a port, a.
 
 -- by LID, GUID and port
 abbrev pub held_cmp : Held → Held → Ordering
-held_cmp x y = ordering_then (nat_cmp x.0 y.0) (ordering_then (nat_cmp x.1 y.1) (nat_cmp x.2 y.2))
+held_cmp x y = ordering_then (ordering_then (nat_cmp x.0 y.0) (nat_cmp x.1 y.1)) (nat_cmp x.2 y.2)
 
 -- of all nodes, in this order
 abbrev pub all_held : List Agent → List Held
@@ -47,9 +47,20 @@ held_line x = lid_line (x.0, record { node = x.1; port = x.2 })
 abbrev pub block_at : Agent → ℕ → List ℕ
 block_at a b = map (λ i. entry_at a (64 * b + i)) (range_with_len 0 64)
 
--- a switch with its top, and the blocks up to the top's
-abbrev pub table_text : Agent → List ℕ
-table_text a = switch_line a.top a.node.guid ++ flat_map (λ b. block_line (b, block_at a b)) (range_with_len 0 (a.top / 64 + 1))
+-- the line of a block
+abbrev pub block_shown : Agent → ℕ → List ℕ
+block_shown a b = block_line (b, block_at a b)
+
+-- the blocks up to the top's
+abbrev pub blocks_to : ℕ → List ℕ
+blocks_to top = range_with_len 0 (top / 64 + 1)
+
+abbrev pub blocks_text : Agent → List ℕ
+blocks_text a = flat_map (block_shown a) (blocks_to a.top)
+
+-- a switch with its top, and these blocks
+unfoldable pub table_text : Agent → List ℕ
+table_text a = switch_line a.top a.node.guid ++ blocks_text a
 
 -- the switches by GUID, and those of one GUID by their places
 abbrev pub switches : List Agent → List Agent

@@ -1,6 +1,6 @@
 //! The commands about cables and ports.
 ghost use Rattle.std.specs.Prelude.{◌≡◌, length, OnOk};
-ghost use Rattle.sm_run.specs.Commands.{cut_run, ping_run, plug_run};
+ghost use Rattle.sm_run.specs.Commands.{cut_run, ping_shown, plug_run};
 ghost use Rattle.sm_run.specs.Prints.{PrintsUnless};
 ghost use Rattle.sm_run.specs.World.{value_of};
 
@@ -47,7 +47,7 @@ impl World<'_> {
     }
 
     /// Prints where a packet comes to that is sent from a port to a LID.
-    #[tactic(auto, using(crate::proofs::Printing::wrote), unfolding(crate::specs::Commands::ping_run))]
+    #[tactic(auto, using(crate::proofs::Printing::wrote), unfolding(crate::specs::Commands::ping_shown))]
     pub(crate) fn show_ping<W: Sink>(
         &self,
         topology: &Topology,
@@ -56,7 +56,7 @@ impl World<'_> {
         sink: &mut W,
     ) -> Result<(), RunFault>
         ensures prints { PrintsUnless W.written W.has_failed result sink.old sink.new
-            (ping_run topology.now.nodes (value_of self.now) from lid).text }
+            (ping_shown topology.now.nodes (value_of self.now) from lid) }
     {
         match self.fabric.ping(from, lid) {
             Ok(ping) => {

@@ -1,8 +1,8 @@
 //! The commands to managers.
 ghost use Rattle.std.specs.Prelude.{◌≡◌, ◌≢◌, ◌<◌, Err, Some, length, slice_get, slice_set, IfOk, OnErr, OnOk};
 ghost use Rattle.sm_manager.specs.Manager.{merged, outstanding};
-ghost use Rattle.sm_run.specs.Commands.{facts_run, gave_up_run, handover_run, merge_run, plan_run, poll_run, progress_run};
-ghost use Rattle.sm_run.specs.Commands.{seat_run, state_run, sweep_run, timeout_run, write_run};
+ghost use Rattle.sm_run.specs.Commands.{facts_shown, gave_up_run, handover_run, merge_run, plan_shown, poll_run, progress_shown};
+ghost use Rattle.sm_run.specs.Commands.{seat_run, state_shown, sweep_run, timeout_run, write_run};
 ghost use Rattle.sm_run.specs.Prints.{PrintsUnless};
 ghost use Rattle.sm_run.specs.World.{value_of};
 
@@ -159,22 +159,22 @@ impl World<'_> {
     }
 
     /// Prints a manager's facts.
-    #[tactic(auto, using(crate::proofs::Printing::wrote), unfolding(crate::specs::Commands::facts_run))]
+    #[tactic(auto, using(crate::proofs::Printing::wrote), unfolding(crate::specs::Commands::facts_shown))]
     pub(crate) fn show_facts<W: Sink>(&self, seat: usize, sink: &mut W) -> Result<(), RunFault>
         requires { seat < length self.now.managers.items }
         ensures prints { PrintsUnless W.written W.has_failed result sink.old sink.new
-            (facts_run (value_of self.now) seat).text }
+            (facts_shown (value_of self.now) seat) }
     {
         write_facts(sink, self.managers[seat].manager.store())?;
         Ok(())
     }
 
     /// Prints a manager's plan.
-    #[tactic(auto, using(crate::proofs::Printing::wrote, crate::proofs::Seats::sits), unfolding(crate::specs::Commands::plan_run))]
+    #[tactic(auto, using(crate::proofs::Printing::wrote, crate::proofs::Seats::sits), unfolding(crate::specs::Commands::plan_shown))]
     pub(crate) fn show_plan<W: Sink>(&self, seat: usize, sink: &mut W) -> Result<(), RunFault>
         requires { seat < length self.now.managers.items }
         ensures prints { PrintsUnless W.written W.has_failed result sink.old sink.new
-            (plan_run (value_of self.now) seat).text }
+            (plan_shown (value_of self.now) seat) }
     {
         match self.managers[seat].manager.plan() {
             Ok(plan) => {
@@ -186,11 +186,11 @@ impl World<'_> {
     }
 
     /// Prints how far a manager is with its sweep.
-    #[tactic(auto, using(crate::proofs::Printing::wrote, crate::proofs::Seats::sits), unfolding(crate::specs::Commands::progress_run))]
+    #[tactic(auto, using(crate::proofs::Printing::wrote, crate::proofs::Seats::sits), unfolding(crate::specs::Commands::progress_shown))]
     pub(crate) fn show_progress<W: Sink>(&self, seat: usize, sink: &mut W) -> Result<(), RunFault>
         requires { seat < length self.now.managers.items }
         ensures prints { PrintsUnless W.written W.has_failed result sink.old sink.new
-            (progress_run (value_of self.now) seat).text }
+            (progress_shown (value_of self.now) seat) }
     {
         let seated = &self.managers[seat];
         write_progress(sink, seated.seat.name.as_str(), seated.manager.progress())?;
@@ -198,11 +198,11 @@ impl World<'_> {
     }
 
     /// Prints a manager's state.
-    #[tactic(auto, using(crate::proofs::Printing::wrote, crate::proofs::Seats::sits), unfolding(crate::specs::Commands::state_run))]
+    #[tactic(auto, using(crate::proofs::Printing::wrote, crate::proofs::Seats::sits), unfolding(crate::specs::Commands::state_shown))]
     pub(crate) fn show_state<W: Sink>(&self, seat: usize, sink: &mut W) -> Result<(), RunFault>
         requires { seat < length self.now.managers.items }
         ensures prints { PrintsUnless W.written W.has_failed result sink.old sink.new
-            (state_run (value_of self.now) seat).text }
+            (state_shown (value_of self.now) seat) }
     {
         let seated = &self.managers[seat];
         write_state(sink, seated.seat.name.as_str(), seated.manager.state())?;

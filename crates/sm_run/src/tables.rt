@@ -1,7 +1,8 @@
 //! What the agents of a fabric hold, in the form of a plan.
 ghost use Rattle.std.specs.Prelude.{◌≡◌, ◌++◌, ◌<◌, map, IfOk, OnOk};
 ghost use Rattle.sm_run.specs.Prints.{PrintsUnless};
-ghost use Rattle.sm_run.specs.Tables.{all_held, block_at, held_by, switches, table_text, tables_text};
+ghost use Rattle.std.specs.List.{flat_map};
+ghost use Rattle.sm_run.specs.Tables.{all_held, block_at, blocks_text, held_by, held_line, switches, table_text, tables_text};
 
 use crate::run_fault::RunFault;
 use crate::world::World;
@@ -15,26 +16,31 @@ use subnet_view::EndPort;
 
 impl World<'_> {
     /// Prints the LIDs that ports hold, and then the forwarding tables of all switches.
+    #[tactic(auto, using(crate::proofs::Printing::prints_then), unfolding(crate::specs::Tables::tables_text))]
     pub(crate) fn show_tables<W: Sink>(&self, alloc: Global, sink: &mut W) -> Result<(), RunFault>
         ensures prints { PrintsUnless W.written W.has_failed result sink.old sink.new
             (tables_text self.now.fabric) }
     {
         let lids = held_lids(alloc, &self.fabric)?;
-        for (lid, node, port) in &lids {
-            write_lid(
-                sink,
-                *lid,
-                EndPort {
-                    node: *node,
-                    port: *port,
-                },
-            )?;
-        }
-        for switch in &switches(alloc, &self.fabric)? {
-            write_table(sink, switch)?;
-        }
-        Ok(())
+        write_held(sink, &lids)?;
+        let switches = switches(alloc, &self.fabric)?;
+        write_tables(sink, &switches)
     }
+}
+
+/// Prints LIDs, with the GUIDs of the nodes and the numbers of the ports that hold them.
+fn write_held<W: Sink>(sink: &mut W, lids: &[(Lid, Guid, PortNum)]) -> Result<(), RunFault>
+    ensures prints { PrintsUnless W.written W.has_failed result sink.old sink.new
+        (flat_map held_line lids.now) }
+{
+    for (lid, node, port) in lids {
+        let port = EndPort {
+            node: *node,
+            port: *port,
+        };
+        write_lid(sink, *lid, port)?;
+    }
+    Ok(())
 }
 
 /// The LIDs that ports hold, with the GUIDs of their nodes and their numbers, in this order.
@@ -78,14 +84,33 @@ fn switches<'f>(alloc: Global, fabric: &'f Fabric) -> Result<Vec<&'f Agent>, All
     Ok(switches)
 }
 
+/// Prints switches.
+fn write_tables<W: Sink>(sink: &mut W, switches: &[&Agent]) -> Result<(), RunFault>
+    ensures prints { PrintsUnless W.written W.has_failed result sink.old sink.new
+        (flat_map (λ agent. table_text agent.now) switches.now) }
+{
+    for switch in switches {
+        write_table(sink, switch)?;
+    }
+    Ok(())
+}
+
 /// Prints a switch's GUID and the top of its table, and the blocks up to the top's.
+#[tactic(auto, using(crate::proofs::Printing::wrote, crate::proofs::Printing::prints_then), unfolding(crate::specs::Tables::table_text))]
 fn write_table<W: Sink>(sink: &mut W, agent: &Agent) -> Result<(), RunFault>
     ensures prints { PrintsUnless W.written W.has_failed result sink.old sink.new
         (table_text agent.now) }
 {
-    let top = agent.top();
-    write_switch(sink, top, agent.guid())?;
-    for b in 0..usize::from(top.number()) / 64 + 1 {
+    write_switch(sink, agent.top(), agent.guid())?;
+    write_blocks(sink, agent)
+}
+
+/// Prints the blocks of a switch, up to its top's.
+fn write_blocks<W: Sink>(sink: &mut W, agent: &Agent) -> Result<(), RunFault>
+    ensures prints { PrintsUnless W.written W.has_failed result sink.old sink.new
+        (blocks_text agent.now) }
+{
+    for b in 0..usize::from(agent.top().number()) / 64 + 1 {
         write_block(sink, b, &block(agent, b))?;
     }
     Ok(())
