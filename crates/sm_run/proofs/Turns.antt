@@ -1,9 +1,9 @@
 -- What comes first of several turns, and what is left then.
-use Rattle.std.proofs.Common.{◌≡◌, ◌∙◌, ◌∷◌, ℕ, zero, suc, ◌+◌, ◌-◌, ◌/◌, ◌<◌, ◌≤◌, List, Option, None, Some, length, get_or, drop, add-one, refl, sym, ap, arith}
+use Rattle.std.proofs.Common.{◌≡◌, ◌∙◌, [], ◌∷◌, ◌++◌, map, ℕ, zero, suc, ◌+◌, ◌-◌, ◌/◌, ◌<◌, ◌≤◌, List, Option, None, Some, length, get_or, drop, add-one, refl, sym, ap, arith}
 use Rattle.std.specs.Prelude.{slice_get}
 use Rattle.std.specs.List.{flat_map}
 use Rattle.std.specs.Option.{option_map_or}
-use Rattle.std.proofs.lemmas.Option.{get_or_from_slice_get, slice_get-get_or, slice_get_within}
+use Rattle.std.proofs.lemmas.Option.{get_or_from_slice_get, slice_get-get_or, slice_get_read, slice_get_within}
 use Rattle.std.proofs.lemmas.List.FromFn.{get_or-range_with_len, length-range_with_len}
 use Rattle.topo_file.specs.declared.node.Node.{Node}
 use Rattle.schedule_file.specs.declared.command.Command.{Command}
@@ -54,6 +54,10 @@ lines_next line xs i x there =
         ∙ ap (λ y. y ∷ drop (suc i) xs) (get_or_from_slice_get xs i x x there) ∙ ap (λ n. x ∷ drop n xs) (sym (add-one i)) in
     ap (λ ys. shows (flat_map line ys) tt) at
 
+pub lines_at : {X : Type 0} (line : X → List ℕ) (xs : List X) (i : ℕ) (x : X) → i < length xs → x ≡ get_or xs i x
+    → lines_from line xs i ≡ and_then (shows (line x) tt) (λ u. lines_from line xs (i + 1))
+lines_at line xs i x h e = lines_next line xs i x (slice_get_read xs (length xs) i x refl h e)
+
 pub lines_none : {X : Type 0} (line : X → List ℕ) (xs : List X) (i : ℕ) → length xs ≤ i → lines_from line xs i ≡ quiet tt
 lines_none line xs i h = ap (λ ys. shows (flat_map line ys) tt) (drop_of_length-le xs h)
 
@@ -80,3 +84,8 @@ block_there top b h =
 
 pub blocks_many : (top b : ℕ) → top / 64 + 1 ≤ b → length (blocks_to top) ≤ b
 blocks_many top b h = omega (arith, length-range_with_len 0 (top / 64 + 1))
+
+-- lines of what a function tells
+pub flat_map_map : {X Y A : Type 0} (f : Y → List A) (g : X → Y) (xs : List X) → flat_map (λ x. f (g x)) xs ≡ flat_map f (map g xs)
+flat_map_map f g [] = refl
+flat_map_map f g (x ∷ xs) = ap (λ t. f (g x) ++ t) (flat_map_map f g xs)
