@@ -1,5 +1,5 @@
 -- A manager that takes in what another knows.
-use Rattle.std.proofs.Common.{◌≡◌, ◌∙◌, ℕ, zero, suc, ◌+◌, ◌-◌, ◌<◌, List, [], ◌∷◌, map, length, get_or, Option, None, Some, refl, sym, ap, subst, arith}
+use Rattle.std.proofs.Common.{◌≡◌, ◌∙◌, ℕ, zero, suc, ◌+◌, ◌-◌, ◌<◌, List, [], ◌∷◌, map, length, get_or, None, Some, refl, sym, ap, subst, arith}
 use Rattle.std.specs.Prelude.{option_map, slice_get}
 use Rattle.std.specs.List.{insert, remove}
 use Rattle.std.specs.Option.{option_map_or}
@@ -11,7 +11,7 @@ use Rattle.fabric_sim.specs.Simulation.{Simulation}
 use Rattle.fact_store.proofs.Merges.{merge_is_idempotent}
 use Rattle.sm_manager.specs.Manager.{Manager, merged}
 use Rattle.sm_run.specs.Commands.{merge_run}
-use Rattle.sm_run.specs.World.{Ran, SeatedValue, WorldValue, at_seat, quiet, seated_value, with_manager}
+use Rattle.sm_run.specs.World.{SeatedValue, WorldValue, at_seat, quiet, seated_value, with_manager}
 use Rattle.sm_run.specs.declared.world.Seated.{Seated}
 use Rattle.sm_run.proofs.Seats.{with_one}
 

@@ -6,7 +6,7 @@ use Rattle.std.specs.Io.KnownBytes.{Appends}
 use Rattle.record_file.specs.Writes.{Writes}
 use Rattle.record_file.specs.declared.stream.sink.WriteFault.{WriteFault}
 use Rattle.record_file.proofs.Writing.{appends_then}
-use Rattle.sm_run.specs.Prints.{Prints, PrintsSome, PrintsUnless}
+use Rattle.sm_run.specs.Prints.{Prints, PrintsUnless}
 use Rattle.sm_run.specs.World.{Ran, quiet, and_then}
 use Rattle.sm_run.specs.declared.run_fault.RunFault.{RunFault}
 use Rattle.sm_run.specs.declared.run_fault.RunFault.TheVariants.{Write, Memory}

@@ -1,5 +1,5 @@
 -- A run of two texts that are sound: what it prints, and why it ends early.
-use Rattle.std.proofs.Common.{◌≡◌, ◌∙◌, ℕ, Bool, List, Option, None, Result, Ok, sym, ap, subst}
+use Rattle.std.proofs.Common.{◌≡◌, ◌∙◌, ℕ, Bool, List, Option, None, sym, ap, subst}
 use Rattle.topo_file.specs.Topology.{Layout}
 use Rattle.schedule_file.specs.Schedule.{Script}
 use Rattle.sm_run.specs.Commands.{run_text, schedule_text, script_text, topology_text}

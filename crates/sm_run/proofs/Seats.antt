@@ -1,5 +1,5 @@
 -- Managers in their seats, and calls that are refused.
-use Rattle.std.proofs.Common.{◌≡◌, ◌∙◌, ℕ, ◌<◌, ◌≤◌, arith, cond, ◌⊎◌, inl, inr, Bool, true, false, List, [], ◌∷◌, map, length, get_or, Option, None, Some, Result, Ok, Err, refl, sym, ap, subst, ◌↔◌}
+use Rattle.std.proofs.Common.{◌≡◌, ◌∙◌, ℕ, ◌<◌, arith, cond, ◌⊎◌, inl, inr, Bool, true, false, List, [], ◌∷◌, map, length, get_or, Option, None, Some, Result, Ok, Err, refl, sym, ap, subst, ◌↔◌}
 use Rattle.std.specs.Prelude.{if◌then◌else◌, nat_lt, option_map, position, slice_get, OnOk}
 use Rattle.std.specs.List.{position_or_len}
 use Rattle.std.specs.Option.{option_map_or}
@@ -22,7 +22,7 @@ use Rattle.sm_run.specs.Commands.{given_up, seat_at, timeout_run}
 use Rattle.sm_run.specs.Prints.{PrintsUnless}
 use Rattle.sm_run.specs.World.{Ran, SeatedValue, WorldValue, and_then, asked_run, at_seat, called_run, emptied, manager_line, quiet, seated_value, sent, sent_by, sent_from, shows, with_manager}
 use Rattle.sm_run.specs.declared.run_fault.RunFault.{RunFault}
-use Rattle.sm_run.specs.declared.run_fault.RunFault.TheVariants.{Write, Memory}
+use Rattle.sm_run.specs.declared.run_fault.RunFault.TheVariants.{Memory}
 use Rattle.sm_run.specs.declared.world.Seated.{Seated}
 use Rattle.sm_run.proofs.Printing.{ends_unprinted, failed_with, prints_same}
 

@@ -1,12 +1,12 @@
 -- Packets that are to go out: the first goes, and then the others.
-use Rattle.std.proofs.Common.{◌≡◌, ◌∙◌, List, [], ◌∷◌, Option, None, Some, refl, sym, ap, subst}
+use Rattle.std.proofs.Common.{◌≡◌, ◌∙◌, List, [], ◌∷◌, None, Some, refl, sym, ap}
 use Rattle.smp_bytes.specs.declared.cable.NodePort.{NodePort}
 use Rattle.fabric_sim.specs.Changes.{injected}
 use Rattle.fabric_sim.specs.Simulation.{Simulation}
 use Rattle.sm_manager.specs.declared.outgoing.Outgoing.{Outgoing}
 use Rattle.sm_manager.specs.Manager.{Manager, taken, taken_of}
 use Rattle.sm_run.specs.Flights.{packet_out}
-use Rattle.sm_run.specs.World.{Ran, and_then, after_fabric, emptied, quiet, sent_from}
+use Rattle.sm_run.specs.World.{and_then, after_fabric, emptied, quiet, sent_from}
 
 first_of : (m : Manager) (queue : List Outgoing) (out : Outgoing) → (taken_of m queue).packet ≡ Some out
     → queue ≡ out ∷ (taken_of m queue).manager.outgoing

@@ -1,5 +1,5 @@
 -- What each line of a schedule does, and what it prints; and so what a run prints.
-use Rattle.std.specs.Prelude.{◌≡◌, ℕ, zero, suc, ◌+◌, Bool, List, [], ◌∷◌, ◌++◌, map, position, slice_get, if◌then◌else◌, Option, None, Some, Result, Ok, Err}
+use Rattle.std.specs.Prelude.{ℕ, zero, suc, ◌+◌, List, [], ◌∷◌, map, position, slice_get, if◌then◌else◌, Option, None, Some, Result, Ok, Err}
 use Rattle.std.specs.List.{flat_map}
 use Rattle.std.specs.Option.{option_map_or}
 use Rattle.smp_bytes.specs.Cables.{is_same_port}
@@ -16,7 +16,7 @@ use Rattle.schedule_file.specs.declared.fault.ScheduleFault.{ScheduleFault}
 use Rattle.schedule_file.specs.declared.schedule.Seat.{Seat}
 use Rattle.fabric_sim.specs.Build.{simulation_of}
 use Rattle.fabric_sim.specs.Changes.{cut, lost, manager_seated, plugged, repeated}
-use Rattle.fabric_sim.specs.Delivery.{Called, delivered}
+use Rattle.fabric_sim.specs.Delivery.{delivered}
 use Rattle.fabric_sim.specs.FabricFault.{fabric_fault_name}
 use Rattle.fabric_sim.specs.Ping.{ping, ping_fault}
 use Rattle.fabric_sim.specs.Simulation.{Simulation, fabric_of, is_seat_at, port_of}

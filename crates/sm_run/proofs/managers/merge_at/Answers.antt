@@ -1,12 +1,10 @@
-use Rattle.std.proofs.Common.{◌≡◌, ◌∙◌, ℕ, List, get_or, length, arith, ap, subst, sym}
-use Rattle.std.specs.Prelude.{OnOk}
+use Rattle.std.proofs.Common.{◌≡◌, ◌∙◌, get_or, arith, ap}
 use Rattle.std.proofs.lemmas.Option.{get_or_from_slice_get}
-use Rattle.std.proofs.lemmas.List.Edits.{get_or-remove_above, get_or-remove_below}
+use Rattle.std.proofs.lemmas.List.Edits.{get_or-remove_below}
 use Rattle.std.proofs.lemmas.Result.{on_ok_weaker}
 use Rattle.std.specs.List.{insert, remove}
 use Rattle.std.proofs.Math.ListN.{set}
 use Rattle.sm_manager.specs.Manager.{merged}
-use Rattle.sm_run.specs.declared.world.Seated.{Seated}
 use Rattle.sm_run.proofs.Merging.{among_others, put_again}
 use Rattle.sm_run.proofs.Seats.{with_one}
 use Rattle.sm_run.proofs.managers.merge_at.Goals.{then-seat-other, else-seat-other}

@@ -1,4 +1,4 @@
-use Rattle.std.proofs.Common.{◌≡◌, ◌∙◌, ◌+◌, ◌++◌, map, sym, ap, subst, arith}
+use Rattle.std.proofs.Common.{◌≡◌, ◌∙◌, ◌+◌, ◌++◌, map, sym, ap, arith}
 use Rattle.std.specs.List.{filter, range_with_len}
 use Rattle.sm_run.proofs.Held.{held_at, held_more, holds, holds_none, is_held}
 use Rattle.sm_run.proofs.tables.hold_lids.Goals.{then-number-ne0+in_ok-push, else-number-ne0}

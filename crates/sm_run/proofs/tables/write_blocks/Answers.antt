@@ -1,4 +1,4 @@
-use Rattle.std.proofs.Common.{◌≡◌, ◌∙◌, ◌+◌, ◌<◌, ◌/◌, ◌≤◌, Ok, List, ℕ, length, ap, arith, subst, sym}
+use Rattle.std.proofs.Common.{◌≡◌, ◌∙◌, ◌+◌, ◌<◌, ◌/◌, ◌≤◌, Ok, List, ℕ, length, ap, subst}
 use Rattle.lft_blocks.specs.PlanText.{block_line}
 use Rattle.record_file.specs.Writes.{Writes}
 use Rattle.sm_run.specs.Tables.{block_shown, blocks_to}

@@ -1,8 +1,7 @@
-use Rattle.std.proofs.Common.{◌≡◌, ◌∙◌, List, sym, ap, subst}
+use Rattle.std.proofs.Common.{◌∙◌, sym, ap, subst}
 use Rattle.std.proofs.lemmas.Result.{err_from_is_err_and}
 use Rattle.fabric_sim.specs.Changes.{injected}
 use Rattle.fabric_sim.specs.Simulation.{Simulation}
-use Rattle.sm_manager.specs.declared.outgoing.Outgoing.{Outgoing}
 use Rattle.sm_run.specs.Flights.{packet_out}
 use Rattle.sm_run.specs.World.{Ran, after_fabric, emptied, sent_from}
 use Rattle.sm_run.proofs.Printing.{IsUnderWay, goes_on, stops_in}

@@ -1,9 +1,9 @@
-use Rattle.std.proofs.Common.{Ok, Some, refl}
+use Rattle.std.proofs.Common.{Ok, refl}
 use Rattle.sm_manager.specs.Packets.{gave_up}
 use Rattle.sm_run.specs.Commands.{gave_up_run}
 use Rattle.sm_run.specs.World.{quiet}
 use Rattle.sm_run.proofs.Printing.{prints_nothing}
-use Rattle.sm_run.proofs.Seats.{but_for_memory, done_leaves, done_prints, now_with, refused_leaves, refused_prints}
+use Rattle.sm_run.proofs.Seats.{but_for_memory, done_leaves, done_prints, refused_leaves, refused_prints}
 use Rattle.sm_run.proofs.world.World.give_up.Goals as goal
 
 pub returns-in-Ok-clause-leaves : goal.returns-in-Ok-clause-leaves

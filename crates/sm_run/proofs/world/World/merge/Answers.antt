@@ -1,6 +1,6 @@
-use Rattle.std.proofs.Common.{ap, refl, subst, sym}
+use Rattle.std.proofs.Common.{refl}
 use Rattle.sm_run.specs.World.{value_of}
-use Rattle.sm_run.proofs.Merging.{merges, merges_itself, merges_quietly, somebody}
+use Rattle.sm_run.proofs.Merging.{merges, merges_itself, somebody}
 use Rattle.sm_run.proofs.world.World.merge.Goals as goal
 
 pub returns-then-seat-other-clause-leaves : goal.returns-then-seat-other-clause-leaves

@@ -1,4 +1,4 @@
-use Rattle.std.proofs.Common.{◌≡◌, ◌∙◌, ◌+◌, ◌≤◌, Ok, length, ap, arith, subst, sym}
+use Rattle.std.proofs.Common.{◌∙◌, ◌+◌, ◌≤◌, Ok, length, ap, arith, subst, sym}
 use Rattle.std.specs.Option.{option_copied}
 use Rattle.record_file.specs.Writes.{Writes}
 use Rattle.smp_bytes.specs.declared.cable.NodePort.{NodePort}

@@ -1,9 +1,8 @@
 use Rattle.std.proofs.Common.{Ok, Some, refl}
 use Rattle.sm_manager.specs.Packets.{took}
-use Rattle.sm_run.specs.Commands.{taken_by}
 use Rattle.sm_run.specs.World.{quiet}
 use Rattle.sm_run.proofs.Printing.{prints_nothing}
-use Rattle.sm_run.proofs.Seats.{but_for_memory, done_leaves, done_prints, now_with, refused_leaves, refused_prints}
+use Rattle.sm_run.proofs.Seats.{but_for_memory, done_leaves, done_prints, refused_leaves, refused_prints}
 use Rattle.sm_run.proofs.world.World.take_in.Goals as goal
 
 pub returns-in-Ok-clause-leaves : goal.returns-in-Ok-clause-leaves

@@ -1,8 +1,7 @@
-use Rattle.std.proofs.Common.{◌≡◌, ◌∙◌, ◌+◌, ◌≤◌, List, ℕ, drop, get_or, length, refl, sym, ap, arith, subst}
+use Rattle.std.proofs.Common.{◌∙◌, ◌+◌, drop, get_or, sym, ap, subst}
 use Rattle.std.proofs.lemmas.Result.{err_from_is_err_and}
-use Rattle.sm_manager.specs.Manager.{outstanding}
 use Rattle.sm_run.specs.Commands.{gave_up_run, given_up}
-use Rattle.sm_run.specs.World.{Ran, WorldValue, and_then, seated_value, sent, value_of}
+use Rattle.sm_run.specs.World.{Ran, WorldValue, sent, value_of}
 use Rattle.sm_run.proofs.Printing.{IsUnderWay, failed_with, goes_on, prints_same, stops_before, then_leaves, then_prints}
 use Rattle.sm_run.proofs.Seats.{leaves_same, timed_out}
 use Rattle.sm_run.proofs.Turns.{given_next, given_none}
