@@ -38,12 +38,12 @@ pub record AnswersWords {S : Type 0} (answers : List ℕ → Result S OpenFault 
 abbrev pub file_named : List ℕ → ArgMatches → Option (List ℕ)
 file_named name matches = option_and_then (λ s. option_and_then (λ values. slice_get values 0) (values_in name s.1)) (subcommand_rows_of matches)
 
--- the words ask for a run of a schedule, and those that they name were run
+-- the words ask for a run of a schedule, and those that they name were run; this holds of what the run prints
 pub record RunsWords {S : Type 0} (answers : List ℕ → Result S OpenFault → Type 0) (left : S → Option (List ℕ)) (has_failed : S → Bool)
-    (matches : ArgMatches) : Type 0 where
+    (matches : ArgMatches) (prints : List ℕ → Type 0) : Type 0 where
   pub asked : subcommand_name_of matches ≡ Some (codes "run")
   pub topology : Bor (List ℕ)
   pub schedule : Bor (List ℕ)
   pub topology_named : file_named (codes "TOPOLOGY") matches ≡ Some topology.now
   pub schedule_named : file_named (codes "SCHEDULE") matches ≡ Some schedule.now
-  pub run : RunsFiles answers left has_failed (topology ∷ schedule ∷ [])
+  pub run : RunsFiles answers left has_failed (topology ∷ schedule ∷ []) prints

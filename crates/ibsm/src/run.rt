@@ -1,6 +1,7 @@
 //! One run of the program.
 ghost use Rattle.std.specs.Prelude.{◌≡◌, ◌⊎◌, Some, IfSome, IsSome, codes, map, length, slice_get};
 ghost use Rattle.clap.specs.Matches.{subcommand_name_of};
+ghost use Rattle.sm_run.specs.Prints.{Prints};
 ghost use Rattle.ibsm.specs.Asked.{AnswersWords, RunsWords, file_named, files_named, word_of};
 
 use crate::arguments::{FACTS, FILE, JOIN, PLAN, RUN, SCHEDULE, TOPOLOGY, command_line};
@@ -71,6 +72,7 @@ where
     E: Write,
     ensures done { result ≡ ExitStatus.Done
         → RunsWords (R.answers rt.now) R.Opened.left R.Opened.has_failed matches.now
+        (Prints ⟦<ToWrite<O> as Sink>⟧.written ⟦<ToWrite<O> as Sink>⟧.has_failed output.old output.new)
         ⊎ AnswersWords (R.answers rt.now) R.Opened.left R.Opened.has_failed matches.now
         (⟦<ToWrite<O> as Sink>⟧.written output.old) (⟦<ToWrite<O> as Sink>⟧.written output.new) }
 {
