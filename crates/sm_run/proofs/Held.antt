@@ -86,7 +86,7 @@ module _ {A B : Type 0} (f : A → B) (lt : B → B → Bool) where
   map_put x [] = refl
   map_put x (y ∷ ys) =
       elim (lt (f y) (f x)) as (λ b. map f (cond b (y ∷ put_in_order (λ a b. lt (f a) (f b)) x ys) (x ∷ y ∷ ys))
-          ≡ cond b (f y ∷ put_in_order lt (f x) (map f ys)) (f x ∷ f y ∷ map f ys)) [
+      ≡ cond b (f y ∷ put_in_order lt (f x) (map f ys)) (f x ∷ f y ∷ map f ys)) [
         | true ↦ ap (λ t. f y ∷ t) (map_put x ys)
         | false ↦ refl
       ]

@@ -48,19 +48,6 @@ merges fabric items now seat other s o there also same before is =
     ∙ ap (λ r. r.now) (sym (ap (λ found. option_map_or (λ s. at_seat w other (call s)) found (quiet w)) one
     ∙ ap (λ found. option_map_or (call (seated_value s)) found (quiet w)) two)) ∙ ap (λ b. (merge_run b seat other).now) (sym is)
 
--- and prints nothing
-pub merges_quietly : (w : WorldValue) (seat other : ℕ) → (merge_run w seat other).text ≡ []
-unfolding merge_run
-merges_quietly w seat other =
-    elim (slice_get w.managers seat) as (λ found. (option_map_or (λ s. at_seat w other (λ o. quiet (with_manager w seat s (merged s.manager o.manager.store)))) found (quiet w)).text ≡ []) [
-      | None ↦ refl
-      | Some s ↦ (elim (slice_get w.managers other)
-          as (λ found. (option_map_or (λ o. quiet (with_manager w seat s (merged s.manager o.manager.store))) found (quiet w)).text ≡ []) [
-        | None ↦ refl
-        | Some o ↦ refl
-      ])
-    ]
-
 -- its own facts tell it nothing ---------------------------------------------------------------------------
 
 merged_itself : (m : Manager) → merged m m.store ≡ m
@@ -75,7 +62,7 @@ merges_itself w seat other e =
     let call = λ (s o : SeatedValue). with_manager w seat s (merged s.manager o.manager.store) in
     subst (λ (k : ℕ). w ≡ (at_seat w seat (λ s. at_seat w k (λ o. quiet (call s o)))).now) e
     (elim (slice_get w.managers seat) as (λ found. slice_get w.managers seat ≡ found
-        → w ≡ (option_map_or (λ s. option_map_or (λ o. quiet (call s o)) found (quiet w)) found (quiet w)).now) [
+    → w ≡ (option_map_or (λ s. option_map_or (λ o. quiet (call s o)) found (quiet w)) found (quiet w)).now) [
       | None ↦ λ there. refl
       | Some s ↦ λ there. ap (λ ms. record w { managers = ms }) (sym (put_back w.managers seat s there))
           ∙ ap (λ m. with_manager w seat s m) (sym (merged_itself s.manager))

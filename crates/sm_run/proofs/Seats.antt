@@ -199,8 +199,8 @@ pub found_at : (w : WorldValue) (p : NodePort) (seat : ℕ) (s : SeatedValue) �
 found_at w p seat s sits there same before =
     let within = slice_get_within w.managers seat s there in
     let first : position_or_len (λ s. is_same_port s.at p) w.managers ≡ seat =
-        position_or_len_is (λ s. is_same_port s.at p) w.managers seat s (omega arith) (λ k h. before k s h)
-        (λ h. ap (λ x. is_same_port x.at p) (get_or_from_slice_get w.managers seat s s there) ∙ same) in
+    position_or_len_is (λ s. is_same_port s.at p) w.managers seat s (omega arith) (λ k h. before k s h)
+    (λ h. ap (λ x. is_same_port x.at p) (get_or_from_slice_get w.managers seat s s there) ∙ same) in
     sym (ap (λ b. if b then position (λ s. is_same_port s.at p) w.managers else None) sits
     ∙ ap (λ n. cond (nat_lt n (length w.managers)) (Some n) None) first ∙ ap (λ b. cond b (Some seat) None) (lt-ltb seat (length w.managers) within))
 

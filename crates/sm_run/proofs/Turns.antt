@@ -51,7 +51,7 @@ pub lines_next : {X : Type 0} (line : X → List ℕ) (xs : List X) (i : ℕ) (x
     → lines_from line xs i ≡ and_then (shows (line x) tt) (λ u. lines_from line xs (i + 1))
 lines_next line xs i x there =
     let at : drop i xs ≡ x ∷ drop (i + 1) xs = drop-cons xs i x (slice_get_within xs i x there)
-        ∙ ap (λ y. y ∷ drop (suc i) xs) (get_or_from_slice_get xs i x x there) ∙ ap (λ n. x ∷ drop n xs) (sym (add-one i)) in
+    ∙ ap (λ y. y ∷ drop (suc i) xs) (get_or_from_slice_get xs i x x there) ∙ ap (λ n. x ∷ drop n xs) (sym (add-one i)) in
     ap (λ ys. shows (flat_map line ys) tt) at
 
 pub lines_at : {X : Type 0} (line : X → List ℕ) (xs : List X) (i : ℕ) (x : X) → i < length xs → x ≡ get_or xs i x
@@ -67,7 +67,7 @@ pub commands_next : (nodes : List Node) (w : WorldValue) (commands : List Comman
     → commands_run nodes w (drop i commands) ≡ and_then (command_run nodes w command) (λ now. commands_run nodes now (drop (i + 1) commands))
 commands_next nodes w commands i command there =
     let at : drop i commands ≡ command ∷ drop (i + 1) commands = drop-cons commands i command (slice_get_within commands i command there)
-        ∙ ap (λ y. y ∷ drop (suc i) commands) (get_or_from_slice_get commands i command command there) ∙ ap (λ n. command ∷ drop n commands) (sym (add-one i)) in
+    ∙ ap (λ y. y ∷ drop (suc i) commands) (get_or_from_slice_get commands i command command there) ∙ ap (λ n. command ∷ drop n commands) (sym (add-one i)) in
     ap (commands_run nodes w) at
 
 pub commands_none : (nodes : List Node) (w : WorldValue) (commands : List Command) (i : ℕ) → length commands ≤ i

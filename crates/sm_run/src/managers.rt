@@ -1,8 +1,9 @@
 //! The commands to managers.
 ghost use Rattle.std.specs.Prelude.{◌≡◌, ◌≢◌, ◌<◌, Err, Some, length, slice_get, slice_set, IfOk, OnErr, OnOk};
 ghost use Rattle.sm_manager.specs.Manager.{merged, outstanding};
-ghost use Rattle.sm_run.specs.Commands.{facts_shown, floor_run, gave_up_run, handover_run, merge_run, plan_shown, poll_run, progress_shown};
-ghost use Rattle.sm_run.specs.Commands.{seat_run, state_shown, sweep_run, timeout_run, write_run};
+ghost use Rattle.sm_run.specs.Commands.{facts_shown, plan_shown, progress_shown, state_shown};
+ghost use Rattle.sm_run.specs.Commands.{floor_run, gave_up_run, handover_run, merge_run, poll_run, seat_run};
+ghost use Rattle.sm_run.specs.Commands.{sweep_run, timeout_run, write_run};
 ghost use Rattle.sm_run.specs.Prints.{PrintsUnless};
 ghost use Rattle.sm_run.specs.World.{value_of};
 

@@ -1,6 +1,7 @@
 //! The commands about packets in flight.
 ghost use Rattle.std.specs.Prelude.{◌≡◌, ◌<◌, length, OnOk};
-ghost use Rattle.sm_run.specs.Commands.{deliver_run, drain_run, flights_text, handed_up, lose_run, repeat_run, step_run, taken_by};
+ghost use Rattle.sm_run.specs.Commands.{deliver_run, drain_run, flights_text, handed_up};
+ghost use Rattle.sm_run.specs.Commands.{lose_run, repeat_run, step_run, taken_by};
 ghost use Rattle.sm_run.specs.Flights.{serial_of};
 ghost use Rattle.sm_run.specs.Prints.{PrintsUnless};
 ghost use Rattle.sm_run.specs.World.{value_of};

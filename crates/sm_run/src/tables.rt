@@ -2,7 +2,8 @@
 ghost use Rattle.std.specs.Prelude.{◌≡◌, ◌++◌, ◌<◌, map, IfOk, OnOk};
 ghost use Rattle.sm_run.specs.Prints.{PrintsUnless};
 ghost use Rattle.std.specs.List.{flat_map};
-ghost use Rattle.sm_run.specs.Tables.{all_held, block_at, blocks_text, held_by, held_line, switches, table_text, tables_text};
+ghost use Rattle.sm_run.specs.Tables.{all_held, block_at, blocks_text, held_by, held_line};
+ghost use Rattle.sm_run.specs.Tables.{switches, table_text, tables_text};
 
 use crate::run_fault::RunFault;
 use crate::world::World;
@@ -96,7 +97,6 @@ fn write_tables<W: Sink>(sink: &mut W, switches: &[&Agent]) -> Result<(), RunFau
 }
 
 /// Prints a switch's GUID and the top of its table, and the blocks up to the top's.
-#[tactic(auto, using(crate::proofs::Printing::wrote, crate::proofs::Printing::prints_then), unfolding(crate::specs::Tables::table_text))]
 fn write_table<W: Sink>(sink: &mut W, agent: &Agent) -> Result<(), RunFault>
     ensures prints { PrintsUnless W.written W.has_failed result sink.old sink.new
         (table_text agent.now) }

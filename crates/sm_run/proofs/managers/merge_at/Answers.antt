@@ -23,11 +23,11 @@ returns-clause-ok c = λ s o there also.
           ∙ get_or-remove_below items seat x other (let ne = c.requires.apart in omega arith) c.requires.seat
     ]) in
     let theirs : x ≡ o = c.index.ensures ∙ ap (λ xs. get_or xs c.if-seat-other.place x) c.remove-seated.ensures.items ∙ moved
-        ∙ get_or_from_slice_get items other o x also in
+    ∙ get_or_from_slice_get items other o x also in
     on_ok_weaker c.merge_from-merged.result
     (λ e. c.in-Ok.ensures.items
-      ∙ ap (λ xs. insert xs seat (with_one c.remove-seated.result c.merge_from-merged.new.self)) c.remove-seated.ensures.items
-      ∙ put_again items seat _ c.requires.seat
-      ∙ ap (λ m. set items seat (with_one c.remove-seated.result m)) (e ∙ ap (merged c.remove-seated.result.manager) (c.store.ensures ∙ ap (λ t. t.manager.store) theirs))
-      ∙ ap (λ t. set items seat (with_one t (merged t.manager o.manager.store))) mine)
+    ∙ ap (λ xs. insert xs seat (with_one c.remove-seated.result c.merge_from-merged.new.self)) c.remove-seated.ensures.items
+    ∙ put_again items seat _ c.requires.seat
+    ∙ ap (λ m. set items seat (with_one c.remove-seated.result m)) (e ∙ ap (merged c.remove-seated.result.manager) (c.store.ensures ∙ ap (λ t. t.manager.store) theirs))
+    ∙ ap (λ t. set items seat (with_one t (merged t.manager o.manager.store))) mine)
     c.merge_from-merged.ensures.ok

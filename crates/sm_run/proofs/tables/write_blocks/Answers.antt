@@ -14,7 +14,7 @@ loop-b-preserved g c =
     let whole = lines_from (block_shown a) (blocks_to a.top) 0 in
     let Under : Ran (Unit {0}) → Type 0 = λ ran. IsUnderWay g.W.Sink.written g.W.Sink.has_failed c.args.sink.now c.loop-b.sink whole ran in
     let Written : List ℕ → Type 0 = λ block. Writes g.W.Sink.written g.W.Sink.has_failed (Ok c.in_ok-write_block.field-0) c.loop-b.sink c.write_block.new.sink
-        (block_line (b, block)) in
+    (block_line (b, block)) in
     let top : c.from.result ≡ a.top = c.from.ensures ∙ c.number.ensures ∙ c.top.ensures in
     goes_on g.W.Sink.written g.W.Sink.has_failed c.args.sink.now c.loop-b.sink c.write_block.new.sink whole (shows (block_shown a b) tt)
     (λ u. lines_from (block_shown a) (blocks_to a.top) (b + 1))

@@ -18,7 +18,7 @@ loop-i-preserved g c =
     let whole = lines_from (flight_shown nodes) flights 0 in
     let Under : Ran (Unit {0}) → Type 0 = λ ran. IsUnderWay g.W.Sink.written g.W.Sink.has_failed c.args.sink.now c.loop-i.sink whole ran in
     let Written : NodePort → Type 0 = λ p. Writes g.W.Sink.written g.W.Sink.has_failed (Ok c.in_ok-write_flight.field-0) c.loop-i.sink c.write_flight.new.sink
-        (flight_line nodes x.serial p.node) in
+    (flight_line nodes x.serial p.node) in
     goes_on g.W.Sink.written g.W.Sink.has_failed c.args.sink.now c.loop-i.sink c.write_flight.new.sink whole (shows (flight_shown nodes x) tt)
     (λ u. lines_from (flight_shown nodes) flights (i + 1))
     (subst Under (lines_next (flight_shown nodes) flights i x (sym c.in_flight.ensures ∙ ap option_copied c.unwrap-flight.ensures)) c.loop-i.invariant)

@@ -17,8 +17,8 @@ returns g c =
     let agents = c.args.self.now.fabric.agents in
     let held : flat_map held_line c.deref.result.now ≡ flat_map held_line (all_held agents) = ap (flat_map held_line) (c.deref.ensures.value ∙ c.in_ok-lids.ensures) in
     let tables : flat_map (λ r. table_text (here r)) c.deref-2.result.now ≡ flat_map table_text (switches agents) =
-        ap (flat_map (λ r. table_text (here r))) c.deref-2.ensures.value ∙ flat_map_map table_text here c.in_ok-switches.switches.items
-        ∙ ap (flat_map table_text) c.in_ok-switches.ensures in
+    ap (flat_map (λ r. table_text (here r))) c.deref-2.ensures.value ∙ flat_map_map table_text here c.in_ok-switches.switches.items
+    ∙ ap (flat_map table_text) c.in_ok-switches.ensures in
     let Printed : List ℕ → Type 0 = Prints g.W.Sink.written g.W.Sink.has_failed c.args.sink.now c.write_held.new.sink in
     record {
       prints = prints_then g.W.Sink.written g.W.Sink.has_failed c.write_tables.result c.args.sink.now c.write_held.new.sink c.write_tables.new.sink
