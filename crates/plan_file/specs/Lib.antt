@@ -1,0 +1,6 @@
+pub mod Held
+pub mod Line
+pub mod Reading
+pub mod Reads
+pub mod TextFault
+pub mod Words
