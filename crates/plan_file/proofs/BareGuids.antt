@@ -1,9 +1,8 @@
 -- GUIDs without the prefix, and small numbers, as the words' numbers are read.
-use Rattle.std.proofs.Common.{◌≡◌, ℕ, ◌+◌, ◌-◌, ◌<◌, ◌≤◌, ◌^◌, Bool, true, false, cond, leb, List, ◌∷◌, ◌++◌, length, drop, min, Option, None, Some, refl, sym, ap, ◌∙◌, arith}
+use Rattle.std.proofs.Common.{◌≡◌, ℕ, ◌-◌, ◌<◌, ◌≤◌, ◌^◌, false, leb, List, ◌++◌, length, min, None, Some, refl, arith}
 use Rattle.std.specs.Prelude.{codes, option_map}
-use Rattle.std.proofs.lemmas.Bool.{leb-true}
-use Rattle.text_words.specs.Number.{number_of, guid_of}
-use Rattle.text_words.proofs.Digits.{guid_is, is_within, not_within}
+use Rattle.text_words.specs.Number.{number_of}
+use Rattle.text_words.proofs.Digits.{guid_is, not_within}
 use Rattle.plan_file.specs.Words.{bare_guid_of}
 
 -- up to sixteen digits

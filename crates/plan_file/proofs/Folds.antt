@@ -1,5 +1,5 @@
 -- Line after line: what the lines so far leave, with those to come, is what the text says.
-use Rattle.std.proofs.Common.{◌≡◌, ℕ, ◌+◌, ◌<◌, ◌≤◌, List, [], ◌∷◌, length, Option, None, Some, Result, Ok, Err, refl, sym, ap, ◌∙◌, subst, arith}
+use Rattle.std.proofs.Common.{◌≡◌, ℕ, ◌+◌, ◌<◌, ◌≤◌, List, [], ◌∷◌, length, None, Some, Ok, Err, sym, ap, ◌∙◌, arith}
 use Rattle.text_words.specs.Text.{lines}
 use Rattle.plan_file.specs.declared.fault.LineFault.{LineFault}
 use Rattle.plan_file.specs.declared.item.Item.{Item}

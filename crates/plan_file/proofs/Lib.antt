@@ -1,2 +1,6 @@
 pub mod BareGuids
 pub mod Folds
+pub mod LinesPrinted
+pub mod Passes
+pub mod Printed
+pub mod WordsPrinted

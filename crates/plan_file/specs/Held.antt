@@ -1,5 +1,5 @@
 -- What a plan's text says: who holds which LID, and the forwarding tables of switches.
-use Rattle.std.specs.Prelude.{ℕ, List, []}
+use Rattle.std.specs.Prelude.{List, []}
 use Rattle.plan_file.specs.declared.held.HeldLid.{HeldLid}
 use Rattle.plan_file.specs.declared.held.HeldSwitch.{HeldSwitch}
 use Rattle.plan_file.specs.declared.held.HeldBlock.{HeldBlock}

@@ -1,6 +1,7 @@
 ghost use Rattle.std.specs.Prelude.{◌≡◌};
 ghost use Rattle.plan_file.specs.Line.{line_of};
-ghost use Rattle.plan_file.specs.Reading.{start, item_of, place_after, lid_with, lid_behind, is_behind, switch_with, block_with};
+ghost use Rattle.plan_file.specs.Reading.{start, item_of, place_after};
+ghost use Rattle.plan_file.specs.Reading.{lid_with, lid_behind, is_behind, switch_with, block_with};
 
 use crate::fault::{LineFault, Wrong};
 use crate::held::{HeldLid, HeldSwitch};

@@ -5,6 +5,7 @@ mod fault;
 mod held;
 mod item;
 mod judge;
+pub mod laws;
 mod line;
 mod text;
 mod words;

@@ -39,7 +39,7 @@ pub fn parse(alloc: Global, text: &[u8]) -> Result<Held, TextFault>
     }
 }
 
-#[tactic(auto, using(crate::proofs::Folds::read_none, crate::proofs::Folds::read_more, crate::proofs::Folds::fault_here, crate::proofs::Folds::no_fault, crate::proofs::Folds::held_all))]
+#[tactic(auto, using(crate::proofs::Folds::read_more, crate::proofs::Folds::fault_here, crate::proofs::Folds::no_fault, crate::proofs::Folds::held_all))]
 /// What the lines of a text say.
 fn read_lines(alloc: Global, text: &[u8]) -> Result<Held, TextFault>
     ensures { IsReadAs text.now result }
