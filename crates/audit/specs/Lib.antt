@@ -1,1 +1,4 @@
+pub mod Network
+pub mod Steps
+pub mod Tables
 pub mod Walks

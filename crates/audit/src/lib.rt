@@ -2,6 +2,8 @@
 #![tactic(auto)]
 
 mod end;
+mod far;
+mod row;
 mod step;
 mod walks;
 

@@ -1,0 +1,45 @@
+-- What the tables held say: who holds a LID, and by which port a switch sends a packet on.
+use Rattle.std.specs.Prelude.{ℕ, ◌/◌, ◌%◌, ◌==◌, ◌&&◌, ◌||◌, Bool, List, Option, None, Some, map, filter, option_map, nat_lt, slice_index_or, reverse, if◌then◌else◌}
+use Rattle.std.specs.Option.{option_map_or}
+use Rattle.std.specs.List.{find, list_any, position}
+use Rattle.subnet_view.specs.declared.end_port.EndPort.{EndPort}
+use Rattle.plan_file.specs.declared.held.HeldLid.{HeldLid}
+use Rattle.plan_file.specs.declared.held.HeldSwitch.{HeldSwitch}
+use Rattle.plan_file.specs.declared.held.HeldBlock.{HeldBlock}
+use Rattle.plan_file.specs.Held.{HeldPlan}
+
+-- the end ports that hold a LID
+abbrev pub owners_of : HeldPlan → ℕ → List EndPort
+owners_of held lid = map (λ x. x.port) (filter (λ x. x.lid == lid) held.lids)
+
+abbrev pub is_same_end : EndPort → EndPort → Bool
+is_same_end e x = x.node == e.node && x.port == e.port
+
+-- the end port is one of these
+abbrev pub is_owner : List EndPort → EndPort → Bool
+is_owner owners e = list_any (is_same_end e) owners
+
+-- the place of a switch among those that are held
+abbrev pub place_of : HeldPlan → ℕ → Option ℕ
+place_of held g = position (λ s. s.guid == g) held.switches
+
+-- the top of a switch, and 0 where it is not held
+abbrev pub top_of : HeldPlan → ℕ → ℕ
+top_of held g = option_map_or (λ s. s.top) (find (λ s. s.guid == g) held.switches) 0
+
+-- the block of a number of the switch at a place
+abbrev pub is_block_of : ℕ → ℕ → HeldBlock → Bool
+is_block_of place number x = x.switch == place && x.number == number
+
+-- the entry in a block, and 255 where the block is not held
+abbrev pub entry_in : Option HeldBlock → ℕ → ℕ
+entry_in block i = option_map_or (λ x. slice_index_or x.entries i 255) block 255
+
+-- the entry of a switch for a LID, and 255 where it is not held
+abbrev pub entry_of : HeldPlan → ℕ → ℕ → ℕ
+entry_of held g lid =
+    option_map_or (λ place. entry_in (find (is_block_of place (lid / 64)) held.blocks) (lid % 64)) (place_of held g) 255
+
+-- the entry that counts: none does for LID 0 and LIDs over the top
+abbrev pub entry_for : HeldPlan → ℕ → ℕ → ℕ
+entry_for held lid g = if lid == 0 || nat_lt (top_of held g) lid then 255 else entry_of held g lid
