@@ -5,6 +5,14 @@ use Rattle.subnet_view.specs.declared.end_port.EndPort.{EndPort}
 use Rattle.subnet_view.specs.Reading.{Cells, switches}
 use Rattle.subnet_view.specs.EndPorts.{end_ports}
 use Rattle.subnet_view.specs.Wires.{across}
+use Rattle.std.specs.Coded.{Coded, code_by, coded×}
+use Rattle.std.specs.Prelude.{refl}
+use Rattle.fact_store.specs.View.{Facts}
+use Rattle.fact_store.specs.Coded.{facts_code}
+use Rattle.plan_file.specs.contracts.held.Held as held
+use Rattle.plan_file.specs.Held.{HeldPlan}
+use Rattle.audit.specs.Tables.{place_of, top_of}
+use Rattle.audit.specs.declared.node.Node.{Node}
 use Rattle.audit.specs.declared.far.Far.{Far}
 use Rattle.audit.specs.declared.far.Far.TheVariants.{Nothing, Switch, Port}
 use Rattle.audit.specs.declared.far.Source.{Source}
@@ -33,8 +41,20 @@ row_of cells g = map (far_of cells g) (range_with_len 0 256)
 abbrev pub source_of : Cells → EndPort → Source
 source_of cells e = record { port = e; switch = index_in (switches cells) e.node; far = far_of cells e.node e.port }
 
--- the usable switches by rising GUID, with where their ports lead, and the end ports as sources
-pub record IsNetwork (cells : Cells) (guids : List ℕ) (rows : List (List Far)) (sources : List Source) : Type 0 where
-  pub guids_are : guids ≡ switches cells
-  pub rows_are : rows ≡ map (row_of cells) (switches cells)
+-- a usable switch: where the wires in its ports lead, its place among the switches that are held, and its top
+abbrev pub node_of : Cells → HeldPlan → ℕ → Node
+node_of cells held g = record { guid = g; row = row_of cells g; place = place_of held g; top = top_of held g }
+
+-- the facts of a subnet, and the tables that its switches hold
+pub record Seen : Type 0 where
+  pub facts : Facts
+  pub held : HeldPlan
+
+-- facts and tables are stored as a pair
+abbrev pub seen_code : Coded Seen
+seen_code = code_by (Facts × HeldPlan) (coded× facts_code (held.the_row).coded) (λ s. (s.facts, s.held)) (λ p. record { facts = p.0; held = p.1 }) (λ _. refl)
+
+-- the usable switches by rising GUID, and the end ports as sources, in their order
+pub record IsNetwork (cells : Cells) (held : HeldPlan) (nodes : List Node) (sources : List Source) : Type 0 where
+  pub nodes_are : nodes ≡ map (node_of cells held) (switches cells)
   pub sources_are : sources ≡ map (source_of cells) (end_ports cells)

@@ -1,8 +1,10 @@
 -- What becomes of a packet for a LID at each switch, and at the port that sends it.
-use Rattle.std.specs.Prelude.{ℕ, ◌==◌, List, Option, None, Some, map, if◌then◌else◌}
+use Rattle.std.specs.Prelude.{◌≡◌, ℕ, ◌<◌, ◌==◌, List, [], Option, None, Some, length, map, slice_get, slice_index_or, if◌then◌else◌}
 use Rattle.subnet_view.specs.declared.end_port.EndPort.{EndPort}
 use Rattle.subnet_view.specs.Reading.{Cells, switches}
 use Rattle.plan_file.specs.Held.{HeldPlan}
+use Rattle.subnet_view.specs.EndPorts.{end_ports}
+use Rattle.audit.specs.declared.end.End.{End}
 use Rattle.audit.specs.declared.end.End.TheVariants.{Taken, Lost}
 use Rattle.audit.specs.declared.far.Far.{Far}
 use Rattle.audit.specs.declared.far.Far.TheVariants.{Nothing, Switch, Port}
@@ -10,7 +12,8 @@ use Rattle.audit.specs.declared.far.Source.{Source}
 use Rattle.audit.specs.declared.step.Step.{Step}
 use Rattle.audit.specs.declared.step.Step.TheVariants.{To, Ends}
 use Rattle.audit.specs.Network.{far_of, source_of}
-use Rattle.audit.specs.Tables.{owners_of, is_owner, entry_for}
+use Rattle.audit.specs.Tables.{owners_of, is_owner, entry_for, entry_in, block_at}
+use Rattle.audit.specs.Walks.{IsEndOf}
 
 -- over a wire of the node g: to a switch; to a port, which takes it where it holds the LID; or nowhere
 abbrev pub over : List EndPort → ℕ → Far → Step
@@ -34,3 +37,22 @@ sent owners e None far = if is_owner owners e then Ends (Taken e) else over owne
 -- where a packet begins
 abbrev pub first_step : List EndPort → Source → Step
 first_step owners source = sent owners source.port source.switch source.far
+
+-- where forwarding brings a packet for the LID that an end port sends; None is that it goes round for ever
+abbrev pub IsBrought : Cells → HeldPlan → ℕ → EndPort → Option End → Type 0
+IsBrought cells held lid e end = IsEndOf (steps_of cells held lid) (first_step (owners_of held lid) (source_of cells e)) end
+
+-- and each end port, in its order
+pub record AreBrought (cells : Cells) (held : HeldPlan) (lid : ℕ) (ends : List (Option End)) : Type 0 where
+  pub as_many : length ends ≡ length (end_ports cells)
+  pub brought : (k : ℕ) (e : EndPort) (end : Option End) → slice_get (end_ports cells) k ≡ Some e → slice_get ends k ≡ Some end → IsBrought cells held lid e end
+
+-- so many blocks with no entry
+pub record AreBlank (count : ℕ) (rows : List (List ℕ)) : Type 0 where
+  pub as_many : length rows ≡ count
+  pub entry : (place i : ℕ) → slice_index_or (slice_index_or rows place []) i 255 ≡ 255
+
+-- the blocks of a number, by the places of their switches
+pub record AreBlocks (held : HeldPlan) (number : ℕ) (rows : List (List ℕ)) : Type 0 where
+  pub as_many : length rows ≡ length held.switches
+  pub entry : (place i : ℕ) → place < length rows → slice_index_or (slice_index_or rows place []) i 255 ≡ entry_in (block_at held place number) i

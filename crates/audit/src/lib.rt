@@ -1,10 +1,14 @@
 //! Where packets come to by the forwarding tables that a subnet's switches hold, whoever wrote them.
 #![tactic(auto)]
 
+mod blocks;
 mod end;
 mod far;
+mod network;
+mod node;
 mod row;
 mod step;
 mod walks;
 
 pub use end::End;
+pub use network::{Blocks, Network};

@@ -1,4 +1,4 @@
-ghost use Rattle.std.specs.Prelude.{◌≡◌, slice_index_or, IfOk, map};
+ghost use Rattle.std.specs.Prelude.{◌≡◌, slice_index_or, IfOk};
 ghost use Rattle.fact_store.specs.View.{cells_of};
 ghost use Rattle.subnet_view.specs.Reading.{switches};
 ghost use Rattle.audit.specs.Network.{row_of};
@@ -36,20 +36,8 @@ impl Row {
     }
 }
 
-/// The row of each usable switch of the view.
-pub(crate) fn rows(alloc: Global, wires: &Wires, guids: &[Guid]) -> Result<Vec<Row>, AllocError>
-    requires { guids.now ≡ switches (cells_of wires.now) }
-    ensures { IfOk result (λ rows. rows.items ≡ map (row_of (cells_of wires.now)) guids.now) }
-{
-    let mut rows = Vec::with_capacity(alloc, guids.len())?;
-    for guid in guids {
-        rows.push(row_of(alloc, wires, guids, *guid)?)?;
-    }
-    Ok(rows)
-}
-
 /// The row of a switch.
-fn row_of(alloc: Global, wires: &Wires, guids: &[Guid], node: Guid) -> Result<Row, AllocError>
+pub(crate) fn row_of(alloc: Global, wires: &Wires, guids: &[Guid], node: Guid) -> Result<Row, AllocError>
     requires { guids.now ≡ switches (cells_of wires.now) }
     ensures { IfOk result (λ row. row ≡ row_of (cells_of wires.now) node) }
 {

@@ -1,0 +1,82 @@
+ghost use Rattle.std.specs.Prelude.{◌≡◌, ◌/◌, ◌<◌, IfOk, map, length};
+ghost use Rattle.fact_store.specs.View.{cells_of};
+ghost use Rattle.subnet_view.specs.EndPorts.{end_ports};
+ghost use Rattle.plan_file.specs.declared.held.HeldLid.{HeldLid};
+ghost use Rattle.audit.specs.Network.{node_of};
+ghost use Rattle.audit.specs.Steps.{AreBlocks, AreBrought, by_entry, first_step, over, steps_of};
+ghost use Rattle.audit.specs.Tables.{counted, entry_at, is_owner, owners_of};
+
+use crate::blocks::blocks;
+use crate::end::End;
+use crate::far::{Far, Source, sources};
+use crate::node::{Node, nodes};
+use crate::step::Step;
+use crate::walks::{end_of, ends, onward};
+use fact_store::{Refused, Store};
+use plan_file::Held;
+use smp_bytes::{Guid, Lid, PortNum};
+use std::alloc::{AllocError, Global};
+use std::marker::Model;
+use subnet_view::{EndPort, Wires, end_ports, switches};
+
+/// What a view says of a subnet, with the forwarding tables that its switches hold.
+#[derive(Drop)]
+pub struct Network<'a> {
+    store: &'a Store,
+    held: &'a Held,
+    /// The usable switches, by rising GUID.
+    nodes: Vec<Node>,
+    /// The end ports, in their order.
+    sources: Vec<Source>,
+}
+
+impl<'a> Model for Network<'a> {
+    ghost use Rattle.fact_store.specs.View.{cells_of};
+    ghost use Rattle.audit.specs.Network.{Seen, seen_code, IsNetwork};
+
+    ghost Value = { Seen };
+
+    ghost coded = { seen_code };
+
+    ghost view = { λ a. record { facts = a.store.now; held = a.held.now } };
+
+    ghost invariant = { λ a. IsNetwork (cells_of a.store.now) a.held.now a.nodes.items a.sources.items };
+}
+
+/// The blocks of a number that switches hold.
+#[derive(Drop)]
+pub struct Blocks {
+    pub(crate) number: u16,
+    /// By the places of their switches among those that are held.
+    pub(crate) rows: Vec<[u8; 64]>,
+}
+
+impl<'a> Network<'a> {
+    /// The usable switches and the end ports of the view, with these tables. Takes two searches for each port of
+    /// a switch and each end port, and a walk over the switches for each wire.
+    pub fn of(alloc: Global, store: &'a Store, held: &'a Held) -> Result<Self, Refused>
+        ensures facts { IfOk result (λ network. network.facts ≡ store.now) }
+        ensures held { IfOk result (λ network. network.held ≡ held.now) }
+    {
+        let guids = switches(alloc, store)?;
+        let wires = Wires::of(alloc, store)?;
+        let nodes = nodes(alloc, &wires, &guids, held)?;
+        let ports = end_ports(alloc, store)?;
+        let sources = sources(alloc, &wires, &guids, &ports)?;
+        Ok(Network {
+            store,
+            held,
+            nodes,
+            sources,
+        })
+    }
+
+    /// The blocks of a number: LIDs from 64 times the number on. Takes a walk over all blocks.
+    pub fn blocks(&self, alloc: Global, number: u16) -> Result<Blocks, AllocError>
+        ensures { IfOk result (λ blocks. AreBlocks self.now.held blocks.number blocks.rows.items
+            × (blocks.number ≡ number)) }
+    {
+        let rows = blocks(alloc, self.held, number)?;
+        Ok(Blocks { number, rows })
+    }
+}
