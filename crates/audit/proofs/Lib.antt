@@ -1,3 +1,4 @@
+pub mod Brought
 pub mod Ended
 pub mod Gathered
 pub mod Mapped

@@ -1,5 +1,6 @@
 -- What becomes of a packet for a LID at each switch, and at the port that sends it.
-use Rattle.std.specs.Prelude.{◌≡◌, ℕ, ◌<◌, ◌==◌, List, [], Option, None, Some, length, map, slice_get, slice_index_or, if◌then◌else◌}
+use Rattle.std.specs.Prelude.{◌≡◌, ℕ, ◌<◌, ◌%◌, ◌==◌, List, [], Option, None, Some, length, map, slice_get, slice_index_or, if◌then◌else◌}
+use Rattle.std.specs.Option.{option_map_or}
 use Rattle.subnet_view.specs.declared.end_port.EndPort.{EndPort}
 use Rattle.subnet_view.specs.Reading.{Cells, switches}
 use Rattle.plan_file.specs.Held.{HeldPlan}
@@ -9,25 +10,38 @@ use Rattle.audit.specs.declared.end.End.TheVariants.{Taken, Lost}
 use Rattle.audit.specs.declared.far.Far.{Far}
 use Rattle.audit.specs.declared.far.Far.TheVariants.{Nothing, Switch, Port}
 use Rattle.audit.specs.declared.far.Source.{Source}
+use Rattle.audit.specs.declared.node.Node.{Node}
 use Rattle.audit.specs.declared.step.Step.{Step}
 use Rattle.audit.specs.declared.step.Step.TheVariants.{To, Ends}
-use Rattle.audit.specs.Network.{far_of, source_of}
-use Rattle.audit.specs.Tables.{owners_of, is_owner, entry_for, entry_in, block_at}
+use Rattle.audit.specs.Network.{row_of, source_of}
+use Rattle.audit.specs.Tables.{owners_of, is_owner, counted, entry_for, entry_in, block_at}
 use Rattle.audit.specs.Walks.{IsEndOf}
+
+-- an adapter port takes a packet for a LID that it holds
+abbrev pub at_port : List EndPort → EndPort → End
+at_port owners e = if is_owner owners e then Taken e else Lost e.node
 
 -- over a wire of the node g: to a switch; to a port, which takes it where it holds the LID; or nowhere
 abbrev pub over : List EndPort → ℕ → Far → Step
 over owners g Nothing = Ends (Lost g)
 over owners g (Switch index) = To index
-over owners g (Port e) = Ends (if is_owner owners e then Taken e else Lost e.node)
+over owners g (Port e) = Ends (at_port owners e)
 
--- by its entry: 0 is the switch itself
-abbrev pub by_entry : Cells → List EndPort → ℕ → ℕ → Step
-by_entry cells owners g entry = if entry == 0 then Ends (Taken (record { node = g; port = 0 })) else over owners g (far_of cells g entry)
+-- by its entry: 0 is the switch itself, and the ports of its row lead on
+abbrev pub by_entry : List EndPort → ℕ → List Far → ℕ → Step
+by_entry owners g row entry =
+    if entry == 0 then Ends (Taken (record { node = g; port = 0 })) else over owners g (slice_index_or row entry Nothing)
 
 -- what each usable switch does with a packet for the LID
 abbrev pub steps_of : Cells → HeldPlan → ℕ → List Step
-steps_of cells held lid = map (λ g. by_entry cells (owners_of held lid) g (entry_for held lid g)) (switches cells)
+steps_of cells held lid = map (λ g. by_entry (owners_of held lid) g (row_of cells g) (entry_for held lid g)) (switches cells)
+
+-- the same of a switch with its place, its top and its row, by the blocks of a number
+abbrev pub entry_among : List (List ℕ) → Option ℕ → ℕ → ℕ
+entry_among rows place lid = option_map_or (λ k. slice_index_or (slice_index_or rows k []) (lid % 64) 255) place 255
+
+abbrev pub step_of : List EndPort → List (List ℕ) → ℕ → Node → Step
+step_of owners rows lid node = by_entry owners node.guid node.row (counted lid node.top (entry_among rows node.place lid))
 
 -- a switch's own packet begins there; an adapter port takes its own LID, and sends any other out
 abbrev pub sent : List EndPort → EndPort → Option ℕ → Far → Step

@@ -2,6 +2,7 @@
 #![tactic(auto)]
 
 mod blocks;
+mod column;
 mod end;
 mod far;
 mod network;

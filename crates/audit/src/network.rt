@@ -1,23 +1,19 @@
-ghost use Rattle.std.specs.Prelude.{◌≡◌, ◌/◌, ◌<◌, IfOk, map, length};
+ghost use Rattle.std.specs.Prelude.{◌≡◌, ◌/◌, IfOk};
 ghost use Rattle.fact_store.specs.View.{cells_of};
-ghost use Rattle.subnet_view.specs.EndPorts.{end_ports};
-ghost use Rattle.plan_file.specs.declared.held.HeldLid.{HeldLid};
-ghost use Rattle.audit.specs.Network.{node_of};
-ghost use Rattle.audit.specs.Steps.{AreBlocks, AreBrought, by_entry, first_step, over, steps_of};
-ghost use Rattle.audit.specs.Tables.{counted, entry_at, is_owner, owners_of};
+ghost use Rattle.audit.specs.Steps.{AreBlocks, AreBrought};
 
 use crate::blocks::blocks;
+use crate::column::{brought, owners_of, steps};
 use crate::end::End;
-use crate::far::{Far, Source, sources};
+use crate::far::{Source, sources};
 use crate::node::{Node, nodes};
-use crate::step::Step;
-use crate::walks::{end_of, ends, onward};
+use crate::walks::ends;
 use fact_store::{Refused, Store};
 use plan_file::Held;
-use smp_bytes::{Guid, Lid, PortNum};
+use smp_bytes::Lid;
 use std::alloc::{AllocError, Global};
 use std::marker::Model;
-use subnet_view::{EndPort, Wires, end_ports, switches};
+use subnet_view::{Wires, end_ports, switches};
 
 /// What a view says of a subnet, with the forwarding tables that its switches hold.
 #[derive(Drop)]
@@ -78,5 +74,24 @@ impl<'a> Network<'a> {
     {
         let rows = blocks(alloc, self.held, number)?;
         Ok(Blocks { number, rows })
+    }
+
+    /// Where forwarding brings a packet for a LID, for each end port that sends it, in their order; None is that it
+    /// goes round for ever. Takes a walk over the LIDs that are held, and for each switch and each end port some
+    /// steps, by the number of digits of the longest way's length.
+    pub fn ends(
+        &self,
+        alloc: Global,
+        blocks: &Blocks,
+        lid: Lid,
+    ) -> Result<Vec<Option<End>>, AllocError>
+        requires held { AreBlocks self.now.held blocks.now.number blocks.now.rows.items }
+        requires number { blocks.now.number ≡ lid / 64 }
+        ensures { IfOk result (λ ends. AreBrought (cells_of self.now.facts) self.now.held lid ends.items) }
+    {
+        let owners = owners_of(alloc, self.held, lid)?;
+        let steps = steps(alloc, &self.nodes, &owners, &blocks.rows, lid)?;
+        let ends = ends(alloc, steps)?;
+        brought(alloc, &self.sources, &owners, &ends)
     }
 }
