@@ -1,4 +1,6 @@
 pub mod Brought
 pub mod Ended
+pub mod FabricParts
 pub mod Gathered
 pub mod Mapped
+pub mod Told

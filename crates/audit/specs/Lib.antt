@@ -1,3 +1,4 @@
+pub mod Fabrics
 pub mod Network
 pub mod Steps
 pub mod Tables

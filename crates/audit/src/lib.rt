@@ -5,6 +5,7 @@ mod blocks;
 mod column;
 mod end;
 mod far;
+pub mod laws;
 mod network;
 mod node;
 mod row;

@@ -1,0 +1,8 @@
+//! The laws of what tables do.
+ghost use Rattle.audit.specs.Fabrics.{PacketsEndAsTold};
+
+/// In each fabric that is as the facts say and holds the tables, a packet for a LID that an end port sends is
+/// delivered at the port where `Network::ends` says that it ends, and lost where it says that it ends at none.
+pub fn packets_end_as_told()
+    ensures law { PacketsEndAsTold }
+{}
