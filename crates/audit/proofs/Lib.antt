@@ -2,5 +2,6 @@ pub mod Brought
 pub mod Ended
 pub mod FabricParts
 pub mod Gathered
+pub mod Judged
 pub mod Mapped
 pub mod Told

@@ -1,8 +1,9 @@
 -- What becomes of a packet for a LID at each switch, and at the port that sends it.
-use Rattle.std.specs.Prelude.{◌≡◌, ℕ, ◌<◌, ◌%◌, ◌==◌, List, [], Option, None, Some, length, map, slice_get, slice_index_or, if◌then◌else◌}
+use Rattle.std.specs.Prelude.{◌≡◌, ◌≢◌, Bool, false, Contains, ℕ, ◌<◌, ◌%◌, ◌==◌, List, [], Option, None, Some, length, map, slice_get, slice_index_or, if◌then◌else◌}
 use Rattle.std.specs.Option.{option_map_or}
 use Rattle.subnet_view.specs.declared.end_port.EndPort.{EndPort}
 use Rattle.subnet_view.specs.Reading.{Cells, switches}
+use Rattle.plan_file.specs.declared.held.HeldLid.{HeldLid}
 use Rattle.plan_file.specs.Held.{HeldPlan}
 use Rattle.subnet_view.specs.EndPorts.{end_ports}
 use Rattle.audit.specs.declared.end.End.{End}
@@ -14,7 +15,7 @@ use Rattle.audit.specs.declared.node.Node.{Node}
 use Rattle.audit.specs.declared.step.Step.{Step}
 use Rattle.audit.specs.declared.step.Step.TheVariants.{To, Ends}
 use Rattle.audit.specs.Network.{row_of, source_of}
-use Rattle.audit.specs.Tables.{owners_of, is_owner, counted, entry_for, entry_in, block_at}
+use Rattle.audit.specs.Tables.{owners_of, is_owner, is_same_end, counted, entry_for, entry_in, block_at}
 use Rattle.audit.specs.Walks.{IsEndOf}
 
 -- an adapter port takes a packet for a LID that it holds
@@ -70,3 +71,39 @@ pub record AreBlank (count : ℕ) (rows : List (List ℕ)) : Type 0 where
 pub record AreBlocks (held : HeldPlan) (number : ℕ) (rows : List (List ℕ)) : Type 0 where
   pub as_many : length rows ≡ length held.switches
   pub entry : (place i : ℕ) → place < length rows → slice_index_or (slice_index_or rows place []) i 255 ≡ entry_in (block_at held place number) i
+
+-- the packets of every end port for a LID come to an end port that holds it
+abbrev pub LineArrives : Cells → HeldPlan → HeldLid → Type 0
+LineArrives cells held line = (e : EndPort) → Contains (end_ports cells) e → IsBrought cells held line.lid e (Some (Taken line.port))
+
+-- a packet ends at the port
+abbrev pub is_at : EndPort → Option End → Bool
+is_at e None = false
+is_at e (Some (Lost g)) = false
+is_at e (Some (Taken x)) = is_same_end e x
+
+-- those of some end port do not
+pub record LineFails (cells : Cells) (held : HeldPlan) (line : HeldLid) : Type 0 where
+  pub source : EndPort
+  pub is_source : Contains (end_ports cells) source
+  pub end : Option End
+  pub brought : IsBrought cells held line.lid source end
+  pub elsewhere : end ≢ Some (Taken line.port)
+
+-- they do, where the view has that end port
+abbrev pub LineIsRight : Cells → HeldPlan → HeldLid → Type 0
+LineIsRight cells held line = Contains (end_ports cells) line.port → LineArrives cells held line
+
+pub record LineIsWrong (cells : Cells) (held : HeldPlan) (line : HeldLid) : Type 0 where
+  pub is_end_port : Contains (end_ports cells) line.port
+  pub fails : LineFails cells held line
+
+-- the packets of every end port for every LID that an end port holds come there
+abbrev pub AllArrive : Cells → HeldPlan → Type 0
+AllArrive cells held = (line : HeldLid) → Contains held.lids line → LineIsRight cells held line
+
+-- some do not
+pub record SomeFail (cells : Cells) (held : HeldPlan) : Type 0 where
+  pub line : HeldLid
+  pub is_held : Contains held.lids line
+  pub is_wrong : LineIsWrong cells held line

@@ -1,6 +1,7 @@
 //! Where packets come to by the forwarding tables that a subnet's switches hold, whoever wrote them.
 #![tactic(auto)]
 
+mod arrival;
 mod blocks;
 mod column;
 mod end;
@@ -12,5 +13,6 @@ mod row;
 mod step;
 mod walks;
 
+pub use arrival::all_arrive;
 pub use end::End;
 pub use network::{Blocks, Network};

@@ -1,6 +1,9 @@
-ghost use Rattle.std.specs.Prelude.{◌≡◌, ◌/◌, IfOk};
+ghost use Rattle.std.specs.Prelude.{◌≡◌, ◌↔◌, ◌/◌, Contains, IfOk, IsTrue};
+ghost use Rattle.std.specs.List.{list_any};
 ghost use Rattle.fact_store.specs.View.{cells_of};
+ghost use Rattle.subnet_view.specs.EndPorts.{end_ports};
 ghost use Rattle.audit.specs.Steps.{AreBlocks, AreBrought};
+ghost use Rattle.audit.specs.Tables.{is_same_end};
 
 use crate::blocks::blocks;
 use crate::column::{brought, owners_of, steps};
@@ -9,11 +12,11 @@ use crate::far::{Source, sources};
 use crate::node::{Node, nodes};
 use crate::walks::ends;
 use fact_store::{Refused, Store};
-use plan_file::Held;
+use plan_file::{Held, HeldLid};
 use smp_bytes::Lid;
 use std::alloc::{AllocError, Global};
 use std::marker::Model;
-use subnet_view::{Wires, end_ports, switches};
+use subnet_view::{EndPort, Wires, end_ports, switches};
 
 /// What a view says of a subnet, with the forwarding tables that its switches hold.
 #[derive(Drop)]
@@ -94,4 +97,27 @@ impl<'a> Network<'a> {
         let ends = ends(alloc, steps)?;
         brought(alloc, &self.sources, &owners, &ends)
     }
+
+    /// The LIDs that are held, with their end ports.
+    pub(crate) fn lids(&self) -> &[HeldLid]
+        ensures { result.now ≡ self.now.held.lids }
+    {
+        self.held.lids()
+    }
+
+    /// Whether the port is an end port of the view. Takes a walk over them.
+    pub(crate) fn has_end_port(&self, port: &EndPort) -> bool
+        ensures { IsTrue result ↔ Contains (end_ports (cells_of self.now.facts)) port.now }
+    {
+        has_port(&self.sources, port)
+    }
+}
+
+/// Whether a port is one of these sources.
+fn has_port(sources: &[Source], port: &EndPort) -> bool
+    ensures { result ≡ list_any (λ source. is_same_end port.now source.port) sources.now }
+{
+    sources
+        .iter()
+        .any(|source| source.port.node == port.node && source.port.port == port.port)
 }
