@@ -17,14 +17,14 @@ use Rattle.audit.specs.Network.{source_of}
 use Rattle.audit.specs.Steps.{AreBrought, AreBlocks, IsBrought, LineArrives, LineFails, LineIsRight, LineIsWrong, AllArrive, SomeFail, is_at}
 use Rattle.audit.specs.Tables.{is_same_end}
 
-same_ends : (e x : EndPort) → is_same_end e x ≡ true → x ≡ e
+pub same_ends : (e x : EndPort) → is_same_end e x ≡ true → x ≡ e
 same_ends e x h =
     let parts = and_parts (x.node == e.node) (x.port == e.port) h in
     let node : x.node ≡ e.node = eqb-true x.node e.node parts.0 in
     let port : x.port ≡ e.port = eqb-true x.port e.port parts.1 in
     λ i. record { node = node i; port = port i }
 
-same_itself : (e : EndPort) → is_same_end e e ≡ true
+pub same_itself : (e : EndPort) → is_same_end e e ≡ true
 same_itself e =
     let node : (e.node == e.node) ≡ true = eq-eqb e.node e.node refl in
     let port : (e.port == e.port) ≡ true = eq-eqb e.port e.port refl in

@@ -63,7 +63,7 @@ module _ (f : Fabric) (lid : ℕ) where
       let wire : f.across p ≡ Some h.into = ap f.across out ∙ g.1 in
       cc
 
-  into_is : (st : Standing) (p q : NodePort) (h : Hop) → course f lid st ≡ LeavesBy p → f.across p ≡ Some q → course f lid st ≡ LeavesBy h.out
+  pub into_is : (st : Standing) (p q : NodePort) (h : Hop) → course f lid st ≡ LeavesBy p → f.across p ≡ Some q → course f lid st ≡ LeavesBy h.out
       → f.across h.out ≡ Some h.into → h.into ≡ q
   into_is st p q h leaves wire its there =
       let out : p ≡ h.out = same_out p h.out (sym leaves ∙ its) in

@@ -1,7 +1,7 @@
 -- When a fabric is as the facts say and holds the tables, and what then becomes of packets there.
 -- InfiniBand Architecture Specification, Volume 1: subnet management, PortInfo (LID), SwitchInfo (LinearFDBTop) and LinearForwardingTable;
 -- switches, unicast forwarding by the linear forwarding table.
-use Rattle.std.specs.Prelude.{◌≡◌, ◌≤◌, ℕ, List, Option, None, Some, IsTrue}
+use Rattle.std.specs.Prelude.{◌≡◌, ◌≤◌, ℕ, List, Contains, Option, None, Some, IsTrue}
 use Rattle.smp_bytes.specs.declared.cable.NodePort.{NodePort}
 use Rattle.smp_bytes.specs.NodeType.{is_switch}
 use Rattle.smp_bytes.specs.Fabric.{Node, Fabric, IsFabric, IsNodeAt, IsEndPort, owns}
@@ -12,7 +12,8 @@ use Rattle.subnet_view.specs.Agreement.{WholeFabric, IsPortNamed, AgreesOn}
 use Rattle.plan_file.specs.Held.{HeldPlan}
 use Rattle.audit.specs.declared.end.End.{End}
 use Rattle.audit.specs.declared.end.End.TheVariants.{Taken, Lost}
-use Rattle.audit.specs.Steps.{IsBrought}
+use Rattle.plan_file.specs.declared.held.HeldLid.{HeldLid}
+use Rattle.audit.specs.Steps.{IsBrought, AllArrive, SomeFail}
 use Rattle.audit.specs.Tables.{owners_of, is_owner, top_of, entry_of}
 
 -- an end port owns a LID where a line says that it holds it; a switch has the top and the entries of its lines, a top of 0 where it has none,
@@ -40,3 +41,33 @@ abbrev pub PacketsEndAsTold : Type 0
 PacketsEndAsTold = (facts : Facts) (held : HeldPlan) (f : Fabric) → IsSeen (cells_of facts) held f
     → (source : NodePort) (node : Node) (lid : ℕ) (end : Option End) → IsNodeAt f source.node node → IsEndPort f source → 1 ≤ lid
     → IsBrought (cells_of facts) held lid (record { node = node.guid; port = source.port }) end → EndsAs f lid source end
+
+-- a packet from the one end port to the LID of the other is delivered there
+pub record ArrivesAt (f : Fabric) (source target : NodePort) (lid : ℕ) : Type 0 where
+  pub hops : List Hop
+  pub delivered : IsDelivered f lid source hops target
+
+-- from each end port to each that has a LID
+abbrev pub EachArrives : Fabric → Type 0
+EachArrives f = (source target : NodePort) → IsEndPort f source → IsEndPort f target → 1 ≤ f.base_lid target → ArrivesAt f source target (f.base_lid target)
+
+-- from some end port to some that has a LID it is not
+pub record SomeMisses (f : Fabric) : Type 0 where
+  pub source : NodePort
+  pub target : NodePort
+  pub is_source : IsEndPort f source
+  pub is_target : IsEndPort f target
+  pub has_lid : 1 ≤ f.base_lid target
+  pub misses : ¬ (ArrivesAt f source target (f.base_lid target))
+
+-- no line tells of LID 0
+abbrev pub HoldsLids : HeldPlan → Type 0
+HoldsLids held = (line : HeldLid) → Contains held.lids line → 1 ≤ line.lid
+
+-- where all packets arrive by the facts and the tables, they do in each such fabric; and where some fail, some miss
+pub record JudgesFabrics (facts : Facts) (held : HeldPlan) (f : Fabric) : Type 0 where
+  pub arrive : AllArrive (cells_of facts) held → EachArrives f
+  pub miss : SomeFail (cells_of facts) held → SomeMisses f
+
+abbrev pub FabricsAreJudged : Type 0
+FabricsAreJudged = (facts : Facts) (held : HeldPlan) (f : Fabric) → HoldsLids held → IsSeen (cells_of facts) held f → JudgesFabrics facts held f
