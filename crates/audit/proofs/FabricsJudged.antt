@@ -21,9 +21,10 @@ use Rattle.subnet_view.proofs.Members.{contains_here, contains_later, contains_c
 use Rattle.plan_file.specs.declared.held.HeldLid.{HeldLid}
 use Rattle.plan_file.specs.Held.{HeldPlan}
 use Rattle.audit.specs.declared.end.End.{End}
+use Rattle.audit.specs.declared.end.Failure.{Failure}
 use Rattle.audit.specs.declared.end.End.TheVariants.{Taken, Lost}
 use Rattle.audit.specs.Fabrics.{IsSeen, EndsAs, ArrivesAt, EachArrives, SomeMisses, HoldsLids, JudgesFabrics, FabricsAreJudged}
-use Rattle.audit.specs.Steps.{AllArrive, SomeFail, IsBrought}
+use Rattle.audit.specs.Steps.{AllArrive, IsBrought, IsHeldFailure}
 use Rattle.audit.specs.Tables.{owners_of, is_owner, is_same_end}
 use Rattle.audit.proofs.FabricParts.{InFabric, as_part, switch_end}
 use Rattle.audit.proofs.Judged.{same_ends, same_itself}
@@ -151,29 +152,28 @@ module _ (facts : Facts) (held : HeldPlan) (f : Fabric) (lids : HoldsLids held) 
   not_there source target lid e (Some (Lost g)) named (others, place, lost) apart hops d = (packets_end_once f lid source).1 hops others target place d lost
   not_there source target lid e None named (others, place, lost) apart hops d = (packets_end_once f lid source).1 hops others target place d lost
 
-  miss : SomeFail cells held → SomeMisses f
-  miss fail =
-      let line = fail.line in
-      let wrong = fail.is_wrong in
-      let from = wrong.fails.source in
-      let (target, named, is_target) = end_there line.port wrong.is_end_port in
-      let (source, its, is_source) = end_there from wrong.fails.is_source in
-      let some = lids line fail.is_held in
+  miss : (failure : Failure) → IsHeldFailure cells held failure → SomeMisses f
+  miss failure h =
+      let line = failure.line in
+      let from = failure.source in
+      let (target, named, is_target) = end_there line.port h.fails.is_end_port in
+      let (source, its, is_source) = end_there from h.fails.is_source in
+      let some = lids line h.is_held in
       let this : name target named.node ≡ line.port = λ i. record { node = named.guid_is i; port = named.port_is i } in
       let that : name source its.node ≡ from = λ i. record { node = its.guid_is i; port = its.port_is i } in
       let own : owns f target line.lid ≡ true =
       seen.holds.lids target named.node line.lid named.node_there is_target some ∙ ap (is_owner (owners_of held line.lid)) this
-      ∙ line_owner held.lids line fail.is_held in
+      ∙ line_owner held.lids line h.is_held in
       let lid_is : f.base_lid target ≡ line.lid = eqb-true (f.base_lid target) line.lid own in
-      let told = packets_end_as_told facts held f seen source its.node line.lid wrong.fails.end its.node_there is_source some
-      (subst (λ (e : EndPort). IsBrought cells held line.lid e wrong.fails.end) (sym that) wrong.fails.brought) in
+      let told = packets_end_as_told facts held f seen source its.node line.lid failure.end its.node_there is_source some
+      (subst (λ (e : EndPort). IsBrought cells held line.lid e failure.end) (sym that) h.fails.brought) in
       record {
         source = source;
         target = target;
         is_source = is_source;
         is_target = is_target;
         has_lid = omega arith;
-        misses = λ a. not_there source target line.lid line.port wrong.fails.end named told wrong.fails.elsewhere a.hops
+        misses = λ a. not_there source target line.lid line.port failure.end named told h.fails.elsewhere a.hops
             (subst (λ (n : ℕ). IsDelivered f n source a.hops target) lid_is a.delivered);
       }
 

@@ -12,9 +12,16 @@ use Rattle.plan_file.specs.declared.held.HeldLid.{HeldLid}
 use Rattle.plan_file.specs.Held.{HeldPlan}
 use Rattle.audit.specs.declared.end.End.{End}
 use Rattle.audit.specs.declared.end.End.TheVariants.{Taken, Lost}
+use Rattle.audit.specs.declared.end.Failure.{Failure}
 use Rattle.audit.specs.declared.far.Source.{Source}
+use Rattle.std.specs.Prelude.{not}
+use Rattle.std.specs.List.{position, position_or_len}
+use Rattle.std.proofs.lemmas.Bool.{ltb-false}
+use Rattle.std.proofs.lemmas.List.Sums.{fails_before_first}
+use Rattle.std.proofs.lemmas.List.Quantifiers.{position-Some}
+use Rattle.text_words.proofs.Splits.{unfound}
 use Rattle.audit.specs.Network.{source_of}
-use Rattle.audit.specs.Steps.{AreBrought, AreBlocks, IsBrought, LineArrives, LineFails, LineIsRight, LineIsWrong, AllArrive, SomeFail, is_at}
+use Rattle.audit.specs.Steps.{AreBrought, AreBlocks, IsBrought, LineIsRight, AllArrive, IsFailureOf, IsHeldFailure, is_at}
 use Rattle.audit.specs.Tables.{is_same_end}
 
 pub same_ends : (e x : EndPort) → is_same_end e x ≡ true → x ≡ e
@@ -52,66 +59,61 @@ at_is e None h = cc
 at_is e (Some (Lost g)) h = cc
 at_is e (Some (Taken x)) h = ap (λ y. Some (Taken y)) (same_ends e x h)
 
-all_at : (p : Option End → Bool) (xs : List (Option End)) (k : ℕ) (x : Option End) → list_all p xs ≡ true → slice_get xs k ≡ Some x → p x ≡ true
-all_at p [] k x all e = cc
-all_at p (y ∷ xs) zero x all e = ap p (sym (same_Some y x e)) ∙ (and_parts (p y) (list_all p xs) all).0
-all_at p (y ∷ xs) (suc k) x all e = all_at p xs k x (and_parts (p y) (list_all p xs) all).1 e
-
-record FailsAt (p : Option End → Bool) (xs : List (Option End)) : Type 0 where
-  place : ℕ
-  what : Option End
-  there : slice_get xs place ≡ Some what
-  fails : p what ≡ false
-
-one_fails : (p : Option End → Bool) (xs : List (Option End)) → list_all p xs ≡ false → FailsAt p xs
-one_fails p [] e = absurd (cc)
-one_fails p (x ∷ xs) e =
-    elim (p x) as (λ t. p x ≡ t → (t && list_all p xs) ≡ false → FailsAt p (x ∷ xs)) [
-      | true ↦ λ q k. let rest = one_fails p xs k in record { place = suc rest.place; what = rest.what; there = rest.there; fails = rest.fails }
-      | false ↦ λ q k. record { place = 0; what = x; there = refl; fails = q }
-    ] refl e
-
 at_place : {X : Type 0} (xs : List X) (k : ℕ) (d : X) → k < length xs → slice_get xs k ≡ Some (get_or xs k d)
 at_place xs k d h = slice_get-get_or xs k d h
 
-at_contains : (xs : List EndPort) (k : ℕ) (d : EndPort) → k < length xs → Contains xs (get_or xs k d)
-at_contains [] k d h = absurd (omega arith)
-at_contains (x ∷ xs) zero d h = contains_here x xs
-at_contains (x ∷ xs) (suc k) d h = contains_later x (get_or xs k d) xs (at_contains xs k d (omega arith))
+at_contains : (xs : List EndPort) (k : ℕ) (x : EndPort) → slice_get xs k ≡ Some x → Contains xs x
+at_contains [] k x e = cc
+at_contains (y ∷ xs) zero x e = subst (λ (z : EndPort). Contains (y ∷ xs) z) (same_Some y x e) (contains_here y xs)
+at_contains (y ∷ xs) (suc k) x e = contains_later y x xs (at_contains xs k x e)
 
-pub line_is_judged : (cells : Cells) (held : HeldPlan) (line : HeldLid) (ends : List (Option End)) (b : Bool) → AreBrought cells held line.lid ends
-    → b ≡ list_all (is_at line.port) ends → MatchBool b (LineArrives cells held line) (LineFails cells held line)
-line_is_judged cells held line ends true are e = λ source is.
+not_not : (b : Bool) → not b ≡ false → b ≡ true
+not_not true h = refl
+not_not false h = cc
+
+pub none_elsewhere : (cells : Cells) (held : HeldPlan) (line : HeldLid) (ends : List (Option End)) → AreBrought cells held line.lid ends
+    → position (λ end. not (is_at line.port end)) ends ≡ None → LineIsRight cells held line
+none_elsewhere cells held line ends are e = λ is_end source is.
     let as_many = are.as_many in
     let less = is.1 in
     let there : slice_get ends is.0 ≡ Some (get_or ends is.0 None) = at_place ends is.0 None (omega arith) in
     let this : slice_get (end_ports cells) is.0 ≡ Some source = at_place (end_ports cells) is.0 source is.1 ∙ ap (λ x. Some x) is.2 in
-    let at : get_or ends is.0 None ≡ Some (Taken line.port) = at_is line.port (get_or ends is.0 None) (all_at (is_at line.port) ends is.0 _ (sym e) there) in
+    let past : length ends ≤ position_or_len (λ end. not (is_at line.port end)) ends = ltb-false _ _ (unfound _ _ e) in
+    let passes : not (is_at line.port (get_or ends is.0 None)) ≡ false = fails_before_first (λ end. not (is_at line.port end)) ends is.0 None (omega arith) in
+    let at : get_or ends is.0 None ≡ Some (Taken line.port) = at_is line.port (get_or ends is.0 None) (not_not _ passes) in
     subst (IsBrought cells held line.lid source) at (are.brought is.0 source (get_or ends is.0 None) this there)
-line_is_judged cells held line ends false are e =
-    let one = one_fails (is_at line.port) ends (sym e) in
-    let as_many = are.as_many in
-    let less = slice_get_within ends one.place one.what one.there in
-    let source = get_or (end_ports cells) one.place line.port in
-    let this : slice_get (end_ports cells) one.place ≡ Some source = at_place (end_ports cells) one.place line.port (omega arith) in
+
+not_at : (line : HeldLid) (end : Option End) → not (is_at line.port end) ≡ true → end ≢ Some (Taken line.port)
+not_at line end h same = let is : is_at line.port end ≡ true = ap (is_at line.port) same ∙ same_itself line.port in cc
+
+pub one_elsewhere : (cells : Cells) (held : HeldPlan) (line : HeldLid) (ends : List (Option End)) (place : ℕ) (source : EndPort) (end : Option End)
+    → AreBrought cells held line.lid ends → Contains (end_ports cells) line.port → position (λ x. not (is_at line.port x)) ends ≡ Some place
+    → slice_get (end_ports cells) place ≡ Some source → end ≡ get_or ends place end
+    → IsFailureOf cells held line (record { line = line; source = source; end = end })
+one_elsewhere cells held line ends place source end are is_end e this is =
+    let found = position-Some (λ x. not (is_at line.port x)) ends place end e in
+    let there : slice_get ends place ≡ Some end = at_place ends place end found.0 ∙ ap (λ x. Some x) (sym is) in
+    let other : not (is_at line.port end) ≡ true = ap (λ x. not (is_at line.port x)) is ∙ found.1 in
     record {
-      source = source;
-      is_source = at_contains (end_ports cells) one.place line.port (omega arith);
-      end = one.what;
-      brought = are.brought one.place source one.what this one.there;
-      elsewhere = λ same. let is : is_at line.port one.what ≡ true = ap (is_at line.port) same ∙ same_itself line.port in let not = one.fails in cc;
+      line_is = refl;
+      fails = record {
+        is_source = at_contains (end_ports cells) place source this;
+        is_end_port = is_end;
+        brought = are.brought place source end this there;
+        elsewhere = not_at line end other;
+      };
     }
+
+pub place_within : (cells : Cells) (held : HeldPlan) (lid : ℕ) (line : HeldLid) (ends : List (Option End)) (place : ℕ) → AreBrought cells held lid ends
+    → position (λ x. not (is_at line.port x)) ends ≡ Some place → (place < length (end_ports cells)) × (place < length ends)
+place_within cells held lid line ends place are e =
+    let found = position-Some (λ x. not (is_at line.port x)) ends place None e in let as_many = are.as_many in let less = found.0 in (omega arith, less)
 
 -- line by line ------------------------------------------------------------------------
 
 pub right_unlisted : (cells : Cells) (held : HeldPlan) (line : HeldLid) (b : Bool) → IsTrue b ↔ Contains (end_ports cells) line.port → b ≡ false
     → LineIsRight cells held line
 right_unlisted cells held line b is e = λ c. let yes : b ≡ true = is.1 c in absurd (cc)
-
-pub right_listed : (cells : Cells) (held : HeldPlan) (line : HeldLid) (b right : Bool) → IsTrue b ↔ Contains (end_ports cells) line.port → b ≡ true
-    → MatchBool right (LineArrives cells held line) (LineFails cells held line) → MatchBool right (LineIsRight cells held line) (LineIsWrong cells held line)
-right_listed cells held line b true is e h = λ c. h
-right_listed cells held line b false is e h = record { is_end_port = is.0 e; fails = h }
 
 pub record RightSoFar (cells : Cells) (held : HeldPlan) (lines : List HeldLid) (number : ℕ) (rows : List (List ℕ)) (index : ℕ) : Type 0 where
   pub blocks : AreBlocks held number rows
@@ -143,8 +145,3 @@ all_right cells held lines number rows index h are all = λ line is.
     let there : slice_get held.lids is.0 ≡ Some line = slice_get-get_or held.lids is.0 line is.1 ∙ ap (λ x. Some x) is.2 in
     let less = is.1 in
     h.so_far is.0 line (omega (arith, ap length are)) (ap (λ ls. slice_get ls is.0) are ∙ there)
-
-pub some_fail : (cells : Cells) (held : HeldPlan) (lines : List HeldLid) (index : ℕ) (line : HeldLid) → lines ≡ held.lids → line ≡ get_or lines index line
-    → index < length lines → LineIsWrong cells held line → SomeFail cells held
-some_fail cells held lines index line are is within wrong =
-    record { line = line; is_held = (index, omega (arith, ap length are), sym (ap (λ ls. get_or ls index line) are) ∙ sym is); is_wrong = wrong }

@@ -11,9 +11,10 @@ use Rattle.subnet_view.specs.Reading.{Cells}
 use Rattle.subnet_view.specs.Agreement.{WholeFabric, IsPortNamed, AgreesOn}
 use Rattle.plan_file.specs.Held.{HeldPlan}
 use Rattle.audit.specs.declared.end.End.{End}
+use Rattle.audit.specs.declared.end.Failure.{Failure}
 use Rattle.audit.specs.declared.end.End.TheVariants.{Taken, Lost}
 use Rattle.plan_file.specs.declared.held.HeldLid.{HeldLid}
-use Rattle.audit.specs.Steps.{IsBrought, AllArrive, SomeFail}
+use Rattle.audit.specs.Steps.{IsBrought, AllArrive, IsHeldFailure}
 use Rattle.audit.specs.Tables.{owners_of, is_owner, top_of, entry_of}
 
 -- an end port owns a LID where a line says that it holds it; a switch has the top and the entries of its lines, a top of 0 where it has none,
@@ -64,10 +65,10 @@ pub record SomeMisses (f : Fabric) : Type 0 where
 abbrev pub HoldsLids : HeldPlan → Type 0
 HoldsLids held = (line : HeldLid) → Contains held.lids line → 1 ≤ line.lid
 
--- where all packets arrive by the facts and the tables, they do in each such fabric; and where some fail, some miss
+-- where all packets arrive by the facts and the tables, they do in each such fabric; and where one fails, one misses
 pub record JudgesFabrics (facts : Facts) (held : HeldPlan) (f : Fabric) : Type 0 where
   pub arrive : AllArrive (cells_of facts) held → EachArrives f
-  pub miss : SomeFail (cells_of facts) held → SomeMisses f
+  pub miss : (failure : Failure) → IsHeldFailure (cells_of facts) held failure → SomeMisses f
 
 abbrev pub FabricsAreJudged : Type 0
 FabricsAreJudged = (facts : Facts) (held : HeldPlan) (f : Fabric) → HoldsLids held → IsSeen (cells_of facts) held f → JudgesFabrics facts held f

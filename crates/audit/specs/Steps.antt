@@ -7,6 +7,7 @@ use Rattle.plan_file.specs.declared.held.HeldLid.{HeldLid}
 use Rattle.plan_file.specs.Held.{HeldPlan}
 use Rattle.subnet_view.specs.EndPorts.{end_ports}
 use Rattle.audit.specs.declared.end.End.{End}
+use Rattle.audit.specs.declared.end.Failure.{Failure}
 use Rattle.audit.specs.declared.end.End.TheVariants.{Taken, Lost}
 use Rattle.audit.specs.declared.far.Far.{Far}
 use Rattle.audit.specs.declared.far.Far.TheVariants.{Nothing, Switch, Port}
@@ -82,28 +83,27 @@ is_at e None = false
 is_at e (Some (Lost g)) = false
 is_at e (Some (Taken x)) = is_same_end e x
 
--- those of some end port do not
-pub record LineFails (cells : Cells) (held : HeldPlan) (line : HeldLid) : Type 0 where
-  pub source : EndPort
-  pub is_source : Contains (end_ports cells) source
-  pub end : Option End
-  pub brought : IsBrought cells held line.lid source end
-  pub elsewhere : end ≢ Some (Taken line.port)
+-- those of an end port do not: they end elsewhere, or go round for ever
+pub record IsFailure (cells : Cells) (held : HeldPlan) (failure : Failure) : Type 0 where
+  pub is_source : Contains (end_ports cells) failure.source
+  pub is_end_port : Contains (end_ports cells) failure.line.port
+  pub brought : IsBrought cells held failure.line.lid failure.source failure.end
+  pub elsewhere : failure.end ≢ Some (Taken failure.line.port)
+
+-- a failure of the line
+pub record IsFailureOf (cells : Cells) (held : HeldPlan) (line : HeldLid) (failure : Failure) : Type 0 where
+  pub line_is : failure.line ≡ line
+  pub fails : IsFailure cells held failure
 
 -- they do, where the view has that end port
 abbrev pub LineIsRight : Cells → HeldPlan → HeldLid → Type 0
 LineIsRight cells held line = Contains (end_ports cells) line.port → LineArrives cells held line
 
-pub record LineIsWrong (cells : Cells) (held : HeldPlan) (line : HeldLid) : Type 0 where
-  pub is_end_port : Contains (end_ports cells) line.port
-  pub fails : LineFails cells held line
-
 -- the packets of every end port for every LID that an end port holds come there
 abbrev pub AllArrive : Cells → HeldPlan → Type 0
 AllArrive cells held = (line : HeldLid) → Contains held.lids line → LineIsRight cells held line
 
--- some do not
-pub record SomeFail (cells : Cells) (held : HeldPlan) : Type 0 where
-  pub line : HeldLid
-  pub is_held : Contains held.lids line
-  pub is_wrong : LineIsWrong cells held line
+-- a failure of a line that is held
+pub record IsHeldFailure (cells : Cells) (held : HeldPlan) (failure : Failure) : Type 0 where
+  pub is_held : Contains held.lids failure.line
+  pub fails : IsFailure cells held failure

@@ -1,42 +1,34 @@
-//! Whether all packets come to the end ports that hold their LIDs.
-ghost use Rattle.std.specs.Prelude.{◌≡◌, ◌/◌, IfOk, MatchBool};
-ghost use Rattle.std.specs.List.{list_all};
+//! The first packet that does not come to the end port that holds its LID.
+ghost use Rattle.std.specs.Prelude.{◌≡◌, ◌/◌, IfOk, MatchOption, not, position};
 ghost use Rattle.fact_store.specs.View.{cells_of};
-ghost use Rattle.audit.specs.Steps.{AllArrive, AreBlocks, LineArrives, LineFails, SomeFail, is_at};
-ghost use Rattle.audit.specs.Steps.{LineIsRight, LineIsWrong};
+ghost use Rattle.audit.specs.Steps.{AllArrive, AreBlocks, IsFailureOf, IsHeldFailure, LineIsRight, is_at};
 
-use crate::end::End;
+use crate::end::{End, Failure};
 use crate::network::{Blocks, Network};
 use plan_file::HeldLid;
 use smp_bytes::Lid;
 use std::alloc::{AllocError, Global};
 use subnet_view::EndPort;
 
-#[tactic(
-    auto,
-    using(
-        crate::proofs::Judged::right_none,
-        crate::proofs::Judged::right_more,
-        crate::proofs::Judged::all_right,
-        crate::proofs::Judged::some_fail
-    )
-)]
-/// Whether each packet that an end port of the view sends to a LID that an end port of it holds is delivered there.
-/// So a LID that two end ports hold is never right, nor is a view whose end ports are not all joined. Takes what
-/// `Network::ends` does for each LID, and a walk over all blocks for each 64.
-pub fn all_arrive(alloc: Global, network: &Network) -> Result<bool, AllocError>
-    ensures { IfOk result (λ all. MatchBool all
+#[tactic(auto, using(crate::proofs::Judged::right_none))]
+/// The first packet, by the order of LIDs and then of end ports, that an end port of the view sends to a LID which
+/// an end port of it holds, and that is not delivered there; None where all are. So a LID that two end ports hold is
+/// a failure, and so are end ports that are not joined. Takes what `Network::ends` does for each LID, and a walk over
+/// all blocks for each 64.
+pub fn first_failure(alloc: Global, network: &Network) -> Result<Option<Failure>, AllocError>
+    ensures { IfOk result (λ failure. MatchOption failure
         (AllArrive (cells_of network.now.facts) network.now.held)
-        (SomeFail (cells_of network.now.facts) network.now.held)) }
+        (IsHeldFailure (cells_of network.now.facts) network.now.held)) }
 {
     let mut blocks = network.blocks(alloc, 0)?;
     for line in network.lids() {
         blocks = blocks_of(alloc, network, blocks, line.lid)?;
-        if !is_right(alloc, network, &blocks, line)? {
-            return Ok(false);
+        match failure_of(alloc, network, &blocks, line)? {
+            Some(failure) => return Ok(Some(failure)),
+            None => {}
         }
     }
-    Ok(true)
+    Ok(None)
 }
 
 /// The blocks of a LID's number, by those of another.
@@ -52,48 +44,38 @@ fn blocks_of(alloc: Global, network: &Network, blocks: Blocks, lid: Lid) -> Resu
     network.blocks(alloc, number)
 }
 
-#[tactic(auto, using(crate::proofs::Judged::right_unlisted, crate::proofs::Judged::right_listed))]
-/// Whether the packets of every end port for a LID come to the end port that holds it, where the view has that.
-fn is_right(
+/// The first packet that does not come to the end port of a line, where the view has that.
+fn failure_of(
     alloc: Global,
     network: &Network,
     blocks: &Blocks,
     line: &HeldLid,
-) -> Result<bool, AllocError>
+) -> Result<Option<Failure>, AllocError>
     requires held { AreBlocks network.now.held blocks.now.number blocks.now.rows.items }
     requires number { blocks.now.number ≡ line.now.lid / 64 }
-    ensures { IfOk result (λ right. MatchBool right
+    ensures { IfOk result (λ failure. MatchOption failure
         (LineIsRight (cells_of network.now.facts) network.now.held line.now)
-        (LineIsWrong (cells_of network.now.facts) network.now.held line.now)) }
+        (IsFailureOf (cells_of network.now.facts) network.now.held line.now)) }
 {
     if !network.has_end_port(&line.port) {
-        return Ok(true);
+        return Ok(None);
     }
-    line_arrives(alloc, network, blocks, line)
-}
-
-/// Whether the packets of every end port for a LID come to an end port that holds it.
-fn line_arrives(
-    alloc: Global,
-    network: &Network,
-    blocks: &Blocks,
-    line: &HeldLid,
-) -> Result<bool, AllocError>
-    requires held { AreBlocks network.now.held blocks.now.number blocks.now.rows.items }
-    requires number { blocks.now.number ≡ line.now.lid / 64 }
-    ensures { IfOk result (λ all. MatchBool all
-        (LineArrives (cells_of network.now.facts) network.now.held line.now)
-        (LineFails (cells_of network.now.facts) network.now.held line.now)) }
-{
     let ends = network.ends(alloc, blocks, line.lid)?;
-    Ok(are_at(&ends, &line.port))
+    match place_elsewhere(&ends, &line.port) {
+        None => Ok(None),
+        Some(place) => Ok(Some(Failure {
+            line: *line,
+            source: network.end_port(place),
+            end: ends[place],
+        })),
+    }
 }
 
-/// Whether all packets end at a port.
-fn are_at(ends: &[Option<End>], port: &EndPort) -> bool
-    ensures { result ≡ list_all (is_at port.now) ends.now }
+/// The place of the first packet that does not end at a port.
+fn place_elsewhere(ends: &[Option<End>], port: &EndPort) -> Option<usize>
+    ensures { result ≡ position (λ end. not (is_at port.now end)) ends.now }
 {
-    ends.iter().all(|end| is_at(port, end))
+    ends.iter().position(|end| !is_at(port, end))
 }
 
 /// Whether a packet ends at a port.

@@ -1,3 +1,4 @@
+use plan_file::HeldLid;
 use smp_bytes::Guid;
 use subnet_view::EndPort;
 
@@ -8,4 +9,15 @@ pub enum End {
     Taken(EndPort),
     /// It goes no further at the node with this GUID.
     Lost(Guid),
+}
+
+/// A packet for a LID that an end port holds, which does not come there.
+#[derive(Clone, Copy, Debug, PartialEq, Eq)]
+pub struct Failure {
+    /// The LID, and an end port that holds it.
+    pub line: HeldLid,
+    /// The end port that sends the packet.
+    pub source: EndPort,
+    /// Where it ends; None is that it goes round for ever.
+    pub end: Option<End>,
 }

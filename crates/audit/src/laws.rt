@@ -7,8 +7,8 @@ pub fn packets_end_as_told()
     ensures law { PacketsEndAsTold }
 {}
 
-/// Where `all_arrive` is true, a packet from each end port of each such fabric for the LID of each other is delivered
-/// there; and where it is false, there are two end ports of which that is not so.
+/// Where `first_failure` answers None, a packet from each end port of each such fabric for the LID of each is delivered
+/// there; and where it answers a failure, there are two end ports of which that is not so.
 pub fn fabrics_are_judged()
     ensures law { FabricsAreJudged }
 {}

@@ -13,6 +13,6 @@ mod row;
 mod step;
 mod walks;
 
-pub use arrival::all_arrive;
-pub use end::End;
+pub use arrival::first_failure;
+pub use end::{End, Failure};
 pub use network::{Blocks, Network};

@@ -1,4 +1,4 @@
-ghost use Rattle.std.specs.Prelude.{◌≡◌, ◌↔◌, ◌/◌, Contains, IfOk, IsTrue};
+ghost use Rattle.std.specs.Prelude.{◌≡◌, ◌↔◌, ◌<◌, ◌/◌, Contains, IfOk, IsTrue, length, slice_get};
 ghost use Rattle.std.specs.List.{list_any};
 ghost use Rattle.fact_store.specs.View.{cells_of};
 ghost use Rattle.subnet_view.specs.EndPorts.{end_ports};
@@ -103,6 +103,14 @@ impl<'a> Network<'a> {
         ensures { result.now ≡ self.now.held.lids }
     {
         self.held.lids()
+    }
+
+    /// The end port at a place, in their order. Takes one step.
+    pub(crate) fn end_port(&self, place: usize) -> EndPort
+        requires { place < length (end_ports (cells_of self.now.facts)) }
+        ensures { slice_get (end_ports (cells_of self.now.facts)) place ≡ Some result }
+    {
+        self.sources[place].port
     }
 
     /// Whether the port is an end port of the view. Takes a walk over them.

@@ -1,6 +1,6 @@
 use Rattle.fact_store.specs.View.{cells_of}
 use Rattle.audit.proofs.Judged.{RightSoFar}
-use Rattle.audit.proofs.arrival.all_arrive.Given as goal
+use Rattle.audit.proofs.arrival.first_failure.Given as goal
 
 -- the lines so far arrive
 abbrev pub invariant-loop-line : goal.invariant-loop-line
