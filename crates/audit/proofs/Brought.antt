@@ -1,5 +1,5 @@
 -- The ends that are found are those of the walks by the tables held.
-use Rattle.std.proofs.Common.{◌≡◌, ℕ, zero, suc, ◌+◌, ◌<◌, ◌/◌, ◌%◌, List, [], ◌∷◌, length, Option, None, Some, Result, Ok, Err, refl, sym, ap, ◌∙◌, subst, arith}
+use Rattle.std.proofs.Common.{◌≡◌, ℕ, zero, suc, ◌/◌, ◌%◌, List, [], ◌∷◌, length, Option, None, Some, Result, Ok, Err, refl, sym, ap, ◌∙◌, subst, arith}
 use Rattle.std.specs.Prelude.{map, slice_get, IfOk, ◌==◌}
 use Rattle.std.proofs.lemmas.List.Quantifiers.{position-Some}
 use Rattle.subnet_view.specs.declared.end_port.EndPort.{EndPort}
@@ -12,7 +12,7 @@ use Rattle.audit.specs.declared.far.Source.{Source}
 use Rattle.audit.specs.declared.node.Node.{Node}
 use Rattle.audit.specs.declared.step.Step.{Step}
 use Rattle.audit.specs.Network.{row_of, node_of, source_of, IsNetwork}
-use Rattle.audit.specs.Steps.{by_entry, steps_of, entry_among, step_of, first_step, IsBrought, AreBrought, AreBlocks}
+use Rattle.audit.specs.Steps.{by_entry, steps_of, entry_among, step_of, first_step, AreBrought, AreBlocks}
 use Rattle.audit.specs.Tables.{owners_of, place_of, top_of, block_at, entry_in, entry_at, counted}
 use Rattle.audit.specs.Walks.{onward, end_of, IsEndOf, HaveEnded}
 

@@ -1,23 +1,22 @@
 -- What facts that agree with a fabric say of its switches and its wires.
-use Rattle.std.proofs.Common.{◌≡◌, ◌≢◌, ℕ, zero, suc, ◌+◌, ◌<◌, ◌≤◌, Bool, true, false, cond, ◌&&◌, List, [], ◌∷◌, length, get_or, Option, None, Some, refl, sym, ap, ◌∙◌, subst, arith}
-use Rattle.std.specs.Prelude.{slice_get, is_some, Contains, ◌==◌, slice_index_or}
-use Rattle.std.specs.List.{position, position_or_len}
+use Rattle.std.proofs.Common.{◌≡◌, ◌≢◌, ℕ, ◌≤◌, true, false, List, length, get_or, None, Some, refl, sym, ap, ◌∙◌, subst, arith}
+use Rattle.std.specs.Prelude.{slice_get, is_some, Contains, ◌==◌}
+use Rattle.std.specs.List.{position_or_len}
 use Rattle.std.specs.Option.{option_map_or}
 use Rattle.std.proofs.lemmas.Bool.{and_from, and_parts, eqb-true, eq-eqb, ltb-false}
-use Rattle.std.proofs.lemmas.Option.{same_Some, slice_get-get_or}
+use Rattle.std.proofs.lemmas.Option.{slice_get-get_or}
 use Rattle.std.proofs.lemmas.List.Sums.{fails_before_first}
 use Rattle.text_words.proofs.Splits.{unfound}
 use Rattle.std.proofs.lemmas.List.Quantifiers.{position-Some}
 use Rattle.smp_bytes.specs.declared.cable.NodePort.{NodePort}
 use Rattle.smp_bytes.specs.NodeType.{is_switch}
-use Rattle.smp_bytes.specs.Fabric.{Node, Fabric, IsFabric, IsNodeAt, IsEndPort, IsCablePort}
-use Rattle.smp_bytes.specs.FabricWalks.{IsWire, vertex_of}
+use Rattle.smp_bytes.specs.Fabric.{Node, Fabric, IsNodeAt, IsEndPort}
+use Rattle.smp_bytes.specs.FabricWalks.{vertex_of}
 use Rattle.smp_bytes.proofs.FabricWalks.{port_at, same_port, EndNumber, vertex_node, vertex_is_end}
 use Rattle.fact_store.specs.View.{Facts, cells_of}
 use Rattle.subnet_view.specs.Reading.{Cells, is_switch_node, is_usable, cap_of, switches}
 use Rattle.subnet_view.specs.Wires.{across}
-use Rattle.subnet_view.specs.Agreement.{WholeFabric, IsEndPortIn, IsPortNamed, HasWire, TellsEndPort, AgreesOn}
-use Rattle.subnet_view.proofs.Members.{contains_cases, contains_none}
+use Rattle.subnet_view.specs.Agreement.{WholeFabric, IsEndPortIn}
 use Rattle.subnet_view.proofs.UsableSwitches.{switches_law, usable_law}
 use Rattle.subnet_view.proofs.WireLaws.{wire_law}
 use Rattle.audit.specs.Fabrics.{IsSeen}

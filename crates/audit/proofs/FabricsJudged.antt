@@ -1,21 +1,20 @@
 -- Whether packets arrive in each fabric that is seen.
-use Rattle.std.proofs.Common.{◌≡◌, ◌≢◌, ℕ, zero, suc, ◌+◌, ◌<◌, ◌≤◌, Bool, true, false, cond, ◌||◌, List, [], ◌∷◌, length, get_or, Option, None, Some, refl, sym, ap, ◌∙◌, subst, arith, inl, inr, ◌⊎◌}
-use Rattle.std.specs.Prelude.{slice_get, map, filter, Contains, MatchBool, is_some, ◌==◌}
-use Rattle.std.specs.List.{list_any}
+use Rattle.std.proofs.Common.{◌≡◌, ◌≢◌, ℕ, true, false, cond, ◌||◌, List, [], ◌∷◌, Option, None, Some, refl, sym, ap, ◌∙◌, subst, arith, inl, inr}
+use Rattle.std.specs.Prelude.{slice_get, map, filter, Contains, is_some, ◌==◌}
 use Rattle.std.proofs.lemmas.Bool.{eqb-true, eq-eqb}
 use Rattle.std.proofs.lemmas.Option.{same_Some}
 use Rattle.smp_bytes.specs.declared.cable.NodePort.{NodePort}
-use Rattle.smp_bytes.specs.declared.course.Course.TheVariants.{Delivers, LeavesBy, Drops}
+use Rattle.smp_bytes.specs.declared.course.Course.TheVariants.{Delivers}
 use Rattle.smp_bytes.specs.NodeType.{is_switch}
 use Rattle.smp_bytes.specs.Fabric.{Node, Fabric, IsNodeAt, IsEndPort, owns}
-use Rattle.smp_bytes.specs.Forwarding.{Standing, sent_from, arrived_at, course, Hop, Goes, IsDelivered, IsLost}
+use Rattle.smp_bytes.specs.Forwarding.{Standing, sent_from, arrived_at, course, Hop, Goes, IsDelivered}
 use Rattle.smp_bytes.proofs.FabricWalks.{port_at, same_port, EndNumber}
 use Rattle.smp_bytes.proofs.Forwarded.{packets_end_once}
 use Rattle.fact_store.specs.View.{Facts, cells_of}
 use Rattle.subnet_view.specs.declared.end_port.EndPort.{EndPort}
 use Rattle.subnet_view.specs.Reading.{Cells}
 use Rattle.subnet_view.specs.EndPorts.{end_ports}
-use Rattle.subnet_view.specs.Agreement.{IsPortNamed, HasEndPort}
+use Rattle.subnet_view.specs.Agreement.{IsPortNamed}
 use Rattle.subnet_view.proofs.EndPortList.{end_ports_law}
 use Rattle.subnet_view.proofs.Members.{contains_here, contains_later, contains_cases, contains_none}
 use Rattle.plan_file.specs.declared.held.HeldLid.{HeldLid}
@@ -23,7 +22,7 @@ use Rattle.plan_file.specs.Held.{HeldPlan}
 use Rattle.audit.specs.declared.end.End.{End}
 use Rattle.audit.specs.declared.end.Failure.{Failure}
 use Rattle.audit.specs.declared.end.End.TheVariants.{Taken, Lost}
-use Rattle.audit.specs.Fabrics.{IsSeen, EndsAs, ArrivesAt, EachArrives, SomeMisses, HoldsLids, JudgesFabrics, FabricsAreJudged}
+use Rattle.audit.specs.Fabrics.{IsSeen, EndsAs, EachArrives, SomeMisses, HoldsLids, FabricsAreJudged}
 use Rattle.audit.specs.Steps.{AllArrive, IsBrought, IsHeldFailure}
 use Rattle.audit.specs.Tables.{owners_of, is_owner, is_same_end}
 use Rattle.audit.proofs.FabricParts.{InFabric, as_part, switch_end}

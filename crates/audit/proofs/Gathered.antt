@@ -1,13 +1,10 @@
 -- The blocks of a number, gathered block by block.
-use Rattle.std.proofs.Common.{◌≡◌, ℕ, zero, suc, ◌+◌, ◌<◌, ◌≤◌, Bool, true, false, cond, ◌&&◌, List, [], ◌∷◌, ◌++◌, length, take, Option, None, Some, refl, sym, ap, ◌∙◌, subst, arith, inl, inr, add-one, length-append}
-use Rattle.std.specs.Prelude.{map, slice_index_or, slice_set, reverse, ◌==◌, replicate}
-use Rattle.std.specs.Option.{option_map_or}
+use Rattle.std.proofs.Common.{◌≡◌, ℕ, zero, suc, ◌+◌, ◌<◌, List, [], ◌∷◌, ◌++◌, length, take, Option, refl, ap, ◌∙◌, arith, length-append}
+use Rattle.std.specs.Prelude.{slice_index_or, reverse, replicate}
 use Rattle.std.specs.List.{find}
-use Rattle.std.proofs.lemmas.Bool.{eqb-true, eq-eqb, ne_eqb, and_parts}
 use Rattle.plan_file.specs.declared.held.HeldBlock.{HeldBlock}
-use Rattle.plan_file.specs.declared.held.HeldSwitch.{HeldSwitch}
 use Rattle.plan_file.specs.Held.{HeldPlan}
-use Rattle.audit.specs.Steps.{AreBlank, AreBlocks}
+use Rattle.audit.specs.Steps.{AreBlank}
 use Rattle.audit.specs.Tables.{is_block_of, entry_in}
 
 -- the last of some blocks that is of the number and of the switch at a place

@@ -1,9 +1,8 @@
 -- In each fabric that is seen, packets end as told.
-use Rattle.std.proofs.Common.{◌≡◌, ◌≢◌, ℕ, zero, suc, ◌+◌, ◌<◌, ◌≤◌, Bool, true, false, cond, ◌||◌, List, [], ◌∷◌, length, get_or, Option, None, Some, refl, sym, ap, ◌∙◌, subst, arith, inl, inr, ◌⊎◌}
+use Rattle.std.proofs.Common.{◌≡◌, ◌≢◌, ℕ, zero, suc, ◌<◌, ◌≤◌, Bool, true, false, cond, ◌||◌, List, [], ◌∷◌, length, Option, None, Some, refl, sym, ap, ◌∙◌, subst, arith, inl, inr, ◌⊎◌}
 use Rattle.std.specs.Prelude.{slice_get, slice_index_or, map, nat_lt, ◌==◌}
 use Rattle.std.specs.Option.{option_map_or}
-use Rattle.std.specs.List.{range_with_len}
-use Rattle.std.proofs.lemmas.Bool.{and_parts, cases_lt, eqb-true, le-ltb, ltb-true, ltb-false, or_from, ne_eqb}
+use Rattle.std.proofs.lemmas.Bool.{cases_lt, eqb-true, le-ltb, ltb-true, ltb-false}
 use Rattle.std.proofs.lemmas.Option.{same_Some}
 use Rattle.std.proofs.lemmas.List.FromFn.{get_or-map-range_with_len, length-map-range_with_len}
 use Rattle.smp_bytes.specs.declared.cable.NodePort.{NodePort}
@@ -13,9 +12,9 @@ use Rattle.smp_bytes.specs.Cables.{is_same_port}
 use Rattle.smp_bytes.specs.NodeType.{is_switch}
 use Rattle.smp_bytes.specs.Fabric.{Node, Fabric, IsNodeAt, IsEndPort, owns}
 use Rattle.smp_bytes.specs.FabricWalks.{vertex_of}
-use Rattle.smp_bytes.specs.Forwarding.{Standing, sent_from, arrived_at, course, adapter_course, entry_course, switch_course, Hop, Goes, IsDelivered, IsLost}
+use Rattle.smp_bytes.specs.Forwarding.{Standing, sent_from, arrived_at, course, adapter_course, entry_course, switch_course, Hop, Goes, IsLost}
 use Rattle.smp_bytes.proofs.Cabled.{same_port-is, same_port-refl}
-use Rattle.smp_bytes.proofs.FabricWalks.{port_at, EndNumber, vertex_node}
+use Rattle.smp_bytes.proofs.FabricWalks.{port_at, EndNumber}
 use Rattle.smp_bytes.proofs.Forwarded.{packets_end_once}
 use Rattle.fact_store.specs.View.{Facts, cells_of}
 use Rattle.subnet_view.specs.declared.end_port.EndPort.{EndPort}
@@ -26,15 +25,15 @@ use Rattle.plan_file.specs.Held.{HeldPlan}
 use Rattle.audit.specs.declared.end.End.{End}
 use Rattle.audit.specs.declared.end.End.TheVariants.{Taken, Lost}
 use Rattle.audit.specs.declared.far.Far.{Far}
-use Rattle.audit.specs.declared.far.Far.TheVariants.{Nothing, Switch, Port}
+use Rattle.audit.specs.declared.far.Far.TheVariants.{Nothing}
 use Rattle.audit.specs.declared.step.Step.{Step}
 use Rattle.audit.specs.declared.step.Step.TheVariants.{To, Ends}
 use Rattle.audit.specs.Fabrics.{IsSeen, EndsAs, PacketsEndAsTold}
 use Rattle.audit.specs.Network.{index_in, far_at, far_to, far_of, row_of, source_of}
-use Rattle.audit.specs.Steps.{at_port, over, by_entry, steps_of, sent, first_step, IsBrought}
-use Rattle.audit.specs.Tables.{owners_of, is_owner, entry_for, top_of, entry_of, counted}
+use Rattle.audit.specs.Steps.{at_port, over, by_entry, steps_of, sent, first_step}
+use Rattle.audit.specs.Tables.{owners_of, is_owner, entry_for, top_of, entry_of}
 use Rattle.audit.specs.Walks.{onward, after, IsEndOf}
-use Rattle.audit.proofs.FabricParts.{InFabric, as_part, vertex_part, switch_end, listed, indexed, wire_told, WireThere, told_wire}
+use Rattle.audit.proofs.FabricParts.{InFabric, as_part, vertex_part, switch_end, listed, indexed, wire_told, told_wire}
 
 same_out : (p q : NodePort) → LeavesBy p ≡ LeavesBy q → p ≡ q
 same_out p q e = cc
@@ -312,20 +311,20 @@ module _ (facts : Facts) (held : HeldPlan) (f : Fabric) (seen : IsSeen (cells_of
               named = record { node = node; node_there = a.at; guid_is = refl; port_is = refl };
             }
         | false ↦ λ z. (elim (n == 255 || nat_lt node.ports n) as (λ t. (n == 255 || nat_lt node.ports n) ≡ t
-          → Leads st (over owners node.guid (slice_index_or (row_of cells node.guid) n Nothing))) [
-          | true ↦ λ e.
-              let drops : course f lid st ≡ Drops = goes ∙ ap (λ t. cond t Drops (cond (n == 0) (Delivers (port_at k 0)) (LeavesBy (port_at k n)))) e in
-              subst (λ (far : Far). Leads st (over owners node.guid far)) (sym (no_port k node n a.at a.kind (lacks n node.ports e)))
-              (never_dropped f lid st drops)
-          | false ↦ λ e.
-              let within = has n node.ports e in
-              let leaves : (s : Standing) → s.place.node ≡ k → IsNodeAt f s.place.node node → course f lid s ≡ LeavesBy (port_at k n) =
-              λ s same at. switch_goes s node at a.kind ∙ ap (λ m. entry_course node.ports m n) same
-              ∙ ap (λ t. cond t Drops (cond (n == 0) (Delivers (port_at k 0)) (LeavesBy (port_at k n)))) e
-              ∙ ap (λ t. cond t (Delivers (port_at k 0)) (LeavesBy (port_at k n))) z in
-              subst (λ (far : Far). Leads st (over owners node.guid far)) (sym (row_at node.guid n (omega arith)))
-              (leaving st (port_at k n) (port_at k 0) node part refl (leaves st refl a.at) (inl (leaves (arrived_at (port_at k n)) refl a.at)))
-        ] refl)
+            → Leads st (over owners node.guid (slice_index_or (row_of cells node.guid) n Nothing))) [
+              | true ↦ λ e.
+                  let drops : course f lid st ≡ Drops = goes ∙ ap (λ t. cond t Drops (cond (n == 0) (Delivers (port_at k 0)) (LeavesBy (port_at k n)))) e in
+                  subst (λ (far : Far). Leads st (over owners node.guid far)) (sym (no_port k node n a.at a.kind (lacks n node.ports e)))
+                  (never_dropped f lid st drops)
+              | false ↦ λ e.
+                  let within = has n node.ports e in
+                  let leaves : (s : Standing) → s.place.node ≡ k → IsNodeAt f s.place.node node → course f lid s ≡ LeavesBy (port_at k n) =
+                  λ s same at. switch_goes s node at a.kind ∙ ap (λ m. entry_course node.ports m n) same
+                  ∙ ap (λ t. cond t Drops (cond (n == 0) (Delivers (port_at k 0)) (LeavesBy (port_at k n)))) e
+                  ∙ ap (λ t. cond t (Delivers (port_at k 0)) (LeavesBy (port_at k n))) z in
+                  subst (λ (far : Far). Leads st (over owners node.guid far)) (sym (row_at node.guid n (omega arith)))
+                  (leaving st (port_at k n) (port_at k 0) node part refl (leaves st refl a.at) (inl (leaves (arrived_at (port_at k n)) refl a.at)))
+            ] refl)
       ] refl
 
   -- step by step ------------------------------------------------------------------------
@@ -441,9 +440,9 @@ module _ (facts : Facts) (held : HeldPlan) (f : Fabric) (seen : IsSeen (cells_of
               inl (record { node = node; at = at; kind = here.0; index = here.1 })
           | None ↦ λ e. (elim (is_switch node.kind) as
               (λ t. is_switch node.kind ≡ t → Begins st (sent owners this None (far_of cells node.guid source.port))) [
-              | true ↦ λ k. absurd (listed facts held f seen source.node node at k e)
-              | false ↦ λ k. sends k (is_owner owners this) refl
-            ] refl)
+                | true ↦ λ k. absurd (listed facts held f seen source.node node at k e)
+                | false ↦ λ k. sends k (is_owner owners this) refl
+              ] refl)
         ] refl
 
     lost : Never f lid st → (hops : List Hop) × (place : ℕ) × IsLost f lid source hops place

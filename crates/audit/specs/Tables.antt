@@ -1,10 +1,8 @@
 -- What the tables held say: who holds a LID, and by which port a switch sends a packet on.
-use Rattle.std.specs.Prelude.{ℕ, ◌/◌, ◌%◌, ◌==◌, ◌&&◌, ◌||◌, Bool, List, Option, None, Some, map, filter, option_and_then, nat_lt, slice_get, slice_index_or, reverse, if◌then◌else◌}
+use Rattle.std.specs.Prelude.{ℕ, ◌/◌, ◌%◌, ◌==◌, ◌&&◌, ◌||◌, Bool, List, Option, map, filter, option_and_then, nat_lt, slice_get, slice_index_or, reverse, if◌then◌else◌}
 use Rattle.std.specs.Option.{option_map_or}
 use Rattle.std.specs.List.{find, list_any, position}
 use Rattle.subnet_view.specs.declared.end_port.EndPort.{EndPort}
-use Rattle.plan_file.specs.declared.held.HeldLid.{HeldLid}
-use Rattle.plan_file.specs.declared.held.HeldSwitch.{HeldSwitch}
 use Rattle.plan_file.specs.declared.held.HeldBlock.{HeldBlock}
 use Rattle.plan_file.specs.Held.{HeldPlan}
 

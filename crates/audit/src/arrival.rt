@@ -32,7 +32,12 @@ pub fn first_failure(alloc: Global, network: &Network) -> Result<Option<Failure>
 }
 
 /// The blocks of a LID's number, by those of another.
-fn blocks_of(alloc: Global, network: &Network, blocks: Blocks, lid: Lid) -> Result<Blocks, AllocError>
+fn blocks_of(
+    alloc: Global,
+    network: &Network,
+    blocks: Blocks,
+    lid: Lid,
+) -> Result<Blocks, AllocError>
     requires { AreBlocks network.now.held blocks.number blocks.rows.items }
     ensures { IfOk result (λ blocks. AreBlocks network.now.held blocks.number blocks.rows.items
         × (blocks.number ≡ lid / 64)) }

@@ -125,7 +125,5 @@ impl<'a> Network<'a> {
 fn has_port(sources: &[Source], port: &EndPort) -> bool
     ensures { result ≡ list_any (λ source. is_same_end port.now source.port) sources.now }
 {
-    sources
-        .iter()
-        .any(|source| source.port.node == port.node && source.port.port == port.port)
+    sources.iter().any(|source| source.port.node == port.node && source.port.port == port.port)
 }

@@ -65,7 +65,9 @@ fn node_at(
 fn place_of(held: &Held, guid: Guid) -> Option<usize>
     ensures { result ≡ place_of held.now guid }
 {
-    held.switches().iter().position(|switch| switch.guid == guid)
+    held.switches()
+        .iter()
+        .position(|switch| switch.guid == guid)
 }
 
 /// The top of the switch at a place, and 0 where there is none.

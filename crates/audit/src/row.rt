@@ -37,7 +37,12 @@ impl Row {
 }
 
 /// The row of a switch.
-pub(crate) fn row_of(alloc: Global, wires: &Wires, guids: &[Guid], node: Guid) -> Result<Row, AllocError>
+pub(crate) fn row_of(
+    alloc: Global,
+    wires: &Wires,
+    guids: &[Guid],
+    node: Guid,
+) -> Result<Row, AllocError>
     requires { guids.now ≡ switches (cells_of wires.now) }
     ensures { IfOk result (λ row. row ≡ row_of (cells_of wires.now) node) }
 {

@@ -1,4 +1,3 @@
-use Rattle.std.proofs.Common.{take}
 use Rattle.audit.proofs.Gathered.{AreGathered}
 use Rattle.audit.proofs.blocks.blocks.Given as goal
 
