@@ -16,3 +16,6 @@ mod walks;
 pub use arrival::first_failure;
 pub use end::{End, Failure};
 pub use network::{Blocks, Network};
+
+#[cfg(test)]
+mod tests;
