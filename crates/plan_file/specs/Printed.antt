@@ -6,8 +6,10 @@ use Rattle.std.specs.List.Sorted.{IsStrictlyIncreasing}
 use Rattle.std.specs.Prelude.{option_map}
 use Rattle.hex.specs.Hex.{IsBytes}
 use Rattle.subnet_view.specs.declared.end_port.EndPort.{EndPort}
-use Rattle.lid_assign.specs.Lids.{owner_of, top_of, rising_lids}
-use Rattle.lft_blocks.specs.Plan.{SwitchTable, PlanValue}
+use Rattle.fact_store.specs.Sighting.{AreInRange}
+use Rattle.fact_store.specs.View.{Facts, cells_of}
+use Rattle.lid_assign.specs.Lids.{IsNoRoom, owner_of, top_of, rising_lids}
+use Rattle.lft_blocks.specs.Plan.{SwitchTable, PlanValue, plan_of}
 use Rattle.lft_blocks.specs.PlanText.{plan_text}
 use Rattle.plan_file.specs.declared.held.HeldLid.{HeldLid}
 use Rattle.plan_file.specs.declared.held.HeldSwitch.{HeldSwitch}
@@ -66,5 +68,12 @@ pub record IsPlanInRange (plan : PlanValue) : Type 0 where
   pub tables : AllByRecursion IsTableInRange plan.tables
 
 -- its text has no fault, and says what it holds
+abbrev pub IsRead : PlanValue → Type 0
+IsRead plan = (first_fault (plan_text plan) ≡ None) × (held_of (plan_text plan) ≡ held_plan plan)
+
 abbrev pub PrintedPlansAreRead : Type 0
-PrintedPlansAreRead = (plan : PlanValue) → IsPlanInRange plan → (first_fault (plan_text plan) ≡ None) × (held_of (plan_text plan) ≡ held_plan plan)
+PrintedPlansAreRead = (plan : PlanValue) → IsPlanInRange plan → IsRead plan
+
+-- so is that of the plan of each view whose facts are in range, where there is room for its LIDs
+abbrev pub PlansAreRead : Type 0
+PlansAreRead = (facts : Facts) → AreInRange facts → ¬ (IsNoRoom (cells_of facts)) → IsRead (plan_of (cells_of facts))
