@@ -1,6 +1,6 @@
 -- The numbers of the plan of a view are in their ranges.
-use Rattle.std.proofs.Common.{◌≡◌, ℕ, zero, suc, ◌+◌, ◌*◌, ◌/◌, ◌<◌, ◌≤◌, ◌^◌, Bool, true, false, cond, List, [], ◌∷◌, length, get_or, Option, None, Some, refl, sym, ap, ◌∙◌, subst, arith, inl, inr, ◌⊎◌}
-use Rattle.std.specs.Prelude.{map, Contains, MatchOption, MatchBool, unwrap_or, option_and_then, slice_index, nat_le, nat_lt, ◌==◌, ◌&&◌, is_some}
+use Rattle.std.proofs.Common.{◌≡◌, ℕ, zero, suc, ◌+◌, ◌*◌, ◌<◌, ◌≤◌, ◌^◌, Bool, true, false, cond, List, [], ◌∷◌, length, get_or, Option, None, Some, refl, sym, ap, ◌∙◌, subst, arith, inl, inr}
+use Rattle.std.specs.Prelude.{map, Contains, MatchOption, MatchBool, unwrap_or, option_and_then, slice_index, nat_le, ◌==◌, ◌&&◌, is_some}
 use Rattle.std.specs.Option.{option_map_or}
 use Rattle.std.specs.List.{AllByRecursion, range_with_len}
 use Rattle.std.specs.FinMap.{find}
@@ -20,7 +20,7 @@ use Rattle.fact_store.specs.View.{Facts, cells_of}
 use Rattle.fact_store.proofs.Orders.{contained_get}
 use Rattle.smp_bytes.specs.NodeType.{is_switch}
 use Rattle.subnet_view.specs.declared.end_port.EndPort.{EndPort}
-use Rattle.subnet_view.specs.Reading.{Cells, node_of, port_count_of, switches, IsUsable}
+use Rattle.subnet_view.specs.Reading.{Cells, node_of, port_count_of, switches}
 use Rattle.subnet_view.specs.Wires.{across, attached}
 use Rattle.subnet_view.proofs.Members.{contains_here, contains_later, contains-from_filter}
 use Rattle.subnet_view.proofs.Taken.{found_in}
@@ -49,7 +49,7 @@ use Rattle.updown_routes.proofs.Before.{ups_filter, downs_filter}
 use Rattle.updown_routes.proofs.Graphs.{exit_is_wire, graph_law}
 use Rattle.updown_routes.proofs.NextPorts.{next_port_law}
 use Rattle.updown_routes.proofs.Switches.{graph_guids, switches_rise}
-use Rattle.lft_blocks.specs.Entries.{home_of, home_of_lid, port_to, entry, block, blocks, block_count}
+use Rattle.lft_blocks.specs.Entries.{home_of, home_of_lid, port_to, entry, block, block_count}
 use Rattle.plan_file.specs.Printed.{IsLidInRange, IsBlock, IsTableInRange, IsPlanInRange}
 
 -- of all elements
@@ -106,10 +106,10 @@ module _ (facts : Facts) (range : AreInRange facts) where
       elim (is_switch_node cells g) as (λ t. cond t None (option_and_then (λ q. cond (is_switch_node cells q.0) (Some q) None) (across cells g p)) ≡ Some home → home.1 ≤ 254) [
         | true ↦ λ k. absurd (cc)
         | false ↦ λ k. (elim (across cells g p) as
-          (λ o. across cells g p ≡ o → option_and_then (λ q. cond (is_switch_node cells q.0) (Some q) None) o ≡ Some home → home.1 ≤ 254) [
-          | None ↦ λ w m. absurd (cc)
-          | Some q ↦ λ w m. by_kind q (is_switch_node cells q.0) w m
-        ] refl k)
+            (λ o. across cells g p ≡ o → option_and_then (λ q. cond (is_switch_node cells q.0) (Some q) None) o ≡ Some home → home.1 ≤ 254) [
+              | None ↦ λ w m. absurd (cc)
+              | Some q ↦ λ w m. by_kind q (is_switch_node cells q.0) w m
+            ] refl k)
       ] e
     where
       by_kind : (q : ℕ × ℕ) (t : Bool) → across cells g p ≡ Some q → cond t (Some q) None ≡ Some home → home.1 ≤ 254
