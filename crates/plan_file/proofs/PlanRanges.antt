@@ -66,7 +66,7 @@ module _ (facts : Facts) (range : AreInRange facts) where
   cells = cells_of facts
 
   sighted : (k : Key) (c : Cell Value) → find key_cmp k cells ≡ Some c → IsSighting (k, c)
-  sighted k c e = range k c (contained_get facts k c (found_in k cells c e))
+  sighted k c e = range k c (contained_get facts.found k c (found_in k cells c e))
 
   few_ports : (g : ℕ) (o : Option (Cell Value)) → find key_cmp (key.Node g) cells ≡ o → option_map_or (λ n. n.1) (kind_in (value_in o)) 0 ≤ 254
   few_ports g None e = omega arith
