@@ -20,6 +20,8 @@ FACTS = {
 FORMS = {
     kind: re.compile(f"{kind} {about} (?:(disputed)|{value}) @{NUMBER}") for kind, (about, value) in FACTS.items()
 }
+# The first line, where there is a floor over 1: what is older was forgotten.
+FLOOR = re.compile(f"floor {NUMBER}")
 NO_WAY = 255
 ENTRIES = 64
 
@@ -80,8 +82,12 @@ class Facts:
         self.caps = {}
         self.disputed = []  # kind, GUID, port
         self.generations = set()
+        self.floor = 1
         for number, line in enumerate(lines_of(path), 1):
-            if not self.take(line):
+            floor = FLOOR.fullmatch(line) if number == 1 else None
+            if floor:
+                self.floor = int(floor[1])
+            elif not self.take(line):
                 raise Refused(f"{path}: line {number} is no fact: {line[:60]}")
 
     def take(self, line):

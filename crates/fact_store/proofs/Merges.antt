@@ -71,6 +71,10 @@ merge_at f h u v =
 of_own : (x y : Facts) → merge x y ≡ merge (at_floor x.floor x.found) (at_floor y.floor y.found)
 of_own x y = ap (λ (z : Facts). merge z y) (sym (at_own_floor x)) ∙ ap (merge (at_floor x.floor x.found)) (sym (at_own_floor y))
 
+-- a floor that is not above theirs changes nothing
+pub raised_same : (x : Facts) (floor : ℕ) → floor ≤ x.floor → raised x floor ≡ x
+raised_same x floor h = at_same_floor (max x.floor floor) x.floor x.found (omega arith) ∙ at_own_floor x
+
 -- the laws ----------------------------------------------------------------------------------
 
 -- the order of two does not matter

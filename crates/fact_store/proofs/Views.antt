@@ -10,9 +10,10 @@ use Rattle.fact_store.specs.Coded.{same_facts}
 use Rattle.fact_store.specs.Floor.{dropped, is_kept, kept}
 use Rattle.fact_store.specs.Merge.{merge, ViewOfBoth}
 use Rattle.fact_store.specs.Seen.{CellMap, IsSeen, seen}
-use Rattle.fact_store.specs.View.{Facts, at_floor, cell_for, cells_of, view, view_at, MembersDecideView, RaisingForgets, ViewIsUnique, ViewLaw, ViewOfItsCells}
+use Rattle.fact_store.specs.View.{Facts, at_floor, cell_for, cells_of, raised, view, view_at, MembersDecideView, RaisingForgets, ViewIsUnique, ViewLaw, ViewOfItsCells}
 use Rattle.fact_store.proofs.Entries.{kept_all}
 use Rattle.fact_store.proofs.Floors.{get-dropped, kept_at_one, kept_is, seen_kept}
+use Rattle.fact_store.proofs.MapMerges.{merge_maps_empty, merge_maps_is_commutative}
 use Rattle.fact_store.proofs.Merges.{at_own_floor, at_same_floor, floor_from_one, merge_at, raised_at}
 use Rattle.fact_store.proofs.Seen.{members_decide_seen, seen_of_both}
 use Rattle.fact_store.proofs.SeenLaws.{seen_is_unique, seen_law, seen_of_its_cells}
@@ -64,6 +65,12 @@ raising_forgets floor greater s = raised_at floor greater (seen s)
 -- the view of both lists is the merge of their views
 pub view_of_both : ViewOfBoth
 view_of_both f h s t = ap (at_floor (max f h)) (seen_of_both s t) ∙ sym (merge_at f h (seen s) (seen t))
+
+-- to raise a floor is to merge nothing at that floor
+pub raised_is_merge : (x : Facts) (floor : ℕ) → raised x floor ≡ merge x (view_at floor [])
+raised_is_merge x floor =
+    sym (ap (λ (y : Facts). merge y (view_at floor [])) (sym (at_own_floor x)) ∙ merge_at x.floor floor x.found (seen [])
+    ∙ ap (at_floor (max x.floor floor)) (merge_maps_is_commutative x.found (seen []) ∙ merge_maps_empty x.found))
 
 -- at equal floors
 pub view_of_all : (floor : ℕ) (s t : List (Key × Cell Value)) → view_at floor (s ++ t) ≡ merge (view_at floor s) (view_at floor t)

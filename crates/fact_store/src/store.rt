@@ -99,8 +99,8 @@ impl Store {
         Ok(())
     }
 
-    /// Adds all of them or, where memory runs out, none. A few take a search each; more are put in order first, and then
-    /// merged.
+    /// Adds all of them or, where memory runs out, none. A few take a search each; more are put in order first, and
+    /// then merged.
     pub fn add_all(&mut self, sightings: &[Sighting]) -> Result<(), Refused>
         ensures ok { OnOk result (self.new ≡ merge self.old (view sightings.now)) }
         ensures err { OnErr result (self.new ≡ self.old) }

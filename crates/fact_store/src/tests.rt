@@ -239,7 +239,8 @@ fn told_of(sightings: &[Sighting], key: Key) -> Option<Cell<Value>> {
     found
 }
 
-/// How many of 400 keys have another cell in a store of 600 sightings, added in steps of `stride`, than a look at each says.
+/// How many of 400 keys have another cell in a store of 600 sightings, added in steps of `stride`, than a look at each
+/// says.
 fn wrong_cells(alloc: Global, stride: u64) -> Result<u64, Fail> {
     let mut store = Store::new(alloc);
     let mut plain = Vec::new(alloc);

@@ -32,13 +32,18 @@ first_of : (m : Option MatchedArg)
 first_of None = refl
 first_of (Some a) = sym (slice_get-map (λ s. s.now) a.vals.items 0)
 
--- and the first of them is the first behind the subcommand
-pub first_named : (o : Option (Text × List Row)) (found : Found) (name value : List ℕ) → Some (rows_of found) ≡ option_map (λ p. p.1) o
-    → Some value ≡ first_value found name
-    → option_and_then (λ s. option_and_then (λ vs. slice_get vs 0) (values_in name s.1)) o ≡ Some value
-first_named None found name value e f = absurd (cc)
-first_named (Some p) found name value e f =
+-- so is the first of them, if there is one
+pub first_is : (o : Option (Text × List Row)) (found : Found) (name : List ℕ) → Some (rows_of found) ≡ option_map (λ p. p.1) o
+    → option_and_then (λ s. option_and_then (λ vs. slice_get vs 0) (values_in name s.1)) o ≡ first_value found name
+first_is None found name e = absurd (cc)
+first_is (Some p) found name e =
     let same : rows_of found ≡ p.1 = cc in
     ap (λ rows. option_and_then (λ vs. slice_get vs 0) (values_in name rows)) (sym same)
     ∙ sym (ap (option_and_then (λ vs. slice_get vs 0)) (found_values name found.entries.items))
-    ∙ sym (first_of (matched_of found name)) ∙ sym f
+    ∙ sym (first_of (matched_of found name))
+
+-- that it is
+pub first_named : (o : Option (Text × List Row)) (found : Found) (name value : List ℕ) → Some (rows_of found) ≡ option_map (λ p. p.1) o
+    → Some value ≡ first_value found name
+    → option_and_then (λ s. option_and_then (λ vs. slice_get vs 0) (values_in name s.1)) o ≡ Some value
+first_named o found name value e f = first_is o found name e ∙ sym f

@@ -1,5 +1,5 @@
 //! The command line.
-use clap::{Arg, ArgAction, Command};
+use clap::{Arg, ArgAction, Command, value_parser};
 use std::alloc::{AllocError, Global};
 
 /// The subcommand that prints facts.
@@ -16,6 +16,9 @@ pub(crate) const RUN: &str = "run";
 
 /// The files of a subcommand.
 pub(crate) const FILE: &str = "FILE";
+
+/// The generation before which nothing counts.
+pub(crate) const FLOOR: &str = "floor";
 
 /// The text of a fabric, and the text of what is run in it.
 pub(crate) const TOPOLOGY: &str = "TOPOLOGY";
@@ -44,7 +47,8 @@ fn program<'a>(alloc: Global) -> Command<'a> {
 fn facts<'a>(alloc: Global) -> Result<Command<'a>, AllocError> {
     Command::new(alloc, FACTS)
         .about("Prints the facts that all the files tell together")
-        .arg(files(alloc))
+        .arg(files(alloc))?
+        .arg(floor(alloc))
 }
 
 fn join<'a>(alloc: Global) -> Result<Command<'a>, AllocError> {
@@ -52,7 +56,8 @@ fn join<'a>(alloc: Global) -> Result<Command<'a>, AllocError> {
         .about(
             "Writes the facts that all the files tell together to standard output, as a store file",
         )
-        .arg(files(alloc))
+        .arg(files(alloc))?
+        .arg(floor(alloc))
 }
 
 fn plan<'a>(alloc: Global) -> Result<Command<'a>, AllocError> {
@@ -60,7 +65,8 @@ fn plan<'a>(alloc: Global) -> Result<Command<'a>, AllocError> {
         .about(
             "Prints the LIDs and the forwarding blocks that follow from the facts of all the files",
         )
-        .arg(files(alloc))
+        .arg(files(alloc))?
+        .arg(floor(alloc))
 }
 
 fn run<'a>(alloc: Global) -> Result<Command<'a>, AllocError> {
@@ -85,6 +91,16 @@ fn text<'a>(alloc: Global, name: &'a str, help: &'a str) -> Arg<'a> {
     Arg::new(alloc, name)
         .help(help)
         .required(true)
+        .action(ArgAction::Set)
+}
+
+/// A generation.
+fn floor<'a>(alloc: Global) -> Arg<'a> {
+    Arg::new(alloc, FLOOR)
+        .long(FLOOR)
+        .value_name("G")
+        .help("Forgets what is older than generation G, 1 to 4294967295")
+        .value_parser(value_parser!(u32).range(1..))
         .action(ArgAction::Set)
 }
 

@@ -1,6 +1,7 @@
 //! The subcommands that read files.
 ghost use Rattle.std.specs.Prelude.{◌≡◌, ◌⊎◌, Err, length, IfOk, IfErr, OnOk, OnErr, IsTrue};
 ghost use Rattle.sm_cli.specs.ExitStatus.{status_of};
+ghost use Rattle.sm_run.specs.Prints.{Prints, PrintsSome};
 ghost use Rattle.ibsm.specs.Ending.{AnswersFiles, IsAnswersFault, IsRunsFault, IsSaid, RunsFiles, SaysWhy};
 ghost use Rattle.ibsm.specs.Ending.{fault_line, name_of};
 ghost use Rattle.ibsm.specs.Opening.{AreOpened, IsOpenFault};
@@ -57,12 +58,14 @@ where
     E: Write,
     requires { length names.now ≡ 2 }
     ensures done { result ≡ ExitStatus.Done → RunsFiles (R.answers rt.now)
-        R.Opened.left R.Opened.has_failed names.now }
+        R.Opened.left R.Opened.has_failed names.now
+        (Prints ⟦<ToWrite<O> as Sink>⟧.written ⟦<ToWrite<O> as Sink>⟧.has_failed output.old output.new) }
     ensures flushed { result ≡ ExitStatus.Done → IsTrue (⟦<ToWrite<O> as Sink>⟧.is_flushed output.new) }
     ensures silent { result ≡ ExitStatus.Done → errors.new ≡ errors.old }
     ensures says_why { (result ≡ ExitStatus.Done) ⊎ SaysWhy names.now
         (IsRunsFault (R.answers rt.now) R.Opened.left R.Opened.has_failed R.Opened.interruptions
-        names.now (⟦<ToWrite<O> as Sink>⟧.has_failed output.new))
+        names.now (PrintsSome ⟦<ToWrite<O> as Sink>⟧.written ⟦<ToWrite<O> as Sink>⟧.has_failed output.old output.new)
+        (⟦<ToWrite<O> as Sink>⟧.has_failed output.new))
         result (⟦<ToWrite<E> as Sink>⟧.written errors.old)
         (⟦<ToWrite<E> as Sink>⟧.written errors.new) (⟦<ToWrite<E> as Sink>⟧.has_failed errors.new) }
     ensures nothing_written { (result ≡ ExitStatus.Refused) → (output.new ≡ output.old) }
@@ -80,11 +83,13 @@ where
     O: Write,
     requires { length names.now ≡ 2 }
     ensures done { OnOk result (RunsFiles (R.answers rt.now)
-        R.Opened.left R.Opened.has_failed names.now) }
+        R.Opened.left R.Opened.has_failed names.now
+        (Prints ⟦<ToWrite<O> as Sink>⟧.written ⟦<ToWrite<O> as Sink>⟧.has_failed output.old output.new)) }
     ensures flushed { OnOk result (IsTrue (⟦<ToWrite<O> as Sink>⟧.is_flushed output.new)) }
     ensures refused { IfErr result (IsRunsFault (R.answers rt.now)
         R.Opened.left R.Opened.has_failed R.Opened.interruptions
-        names.now (⟦<ToWrite<O> as Sink>⟧.has_failed output.new)) }
+        names.now (PrintsSome ⟦<ToWrite<O> as Sink>⟧.written ⟦<ToWrite<O> as Sink>⟧.has_failed output.old output.new)
+        (⟦<ToWrite<O> as Sink>⟧.has_failed output.new)) }
     ensures nothing_written { OnErr result ((result ≡ Err Fault.Write) ⊎ (result ≡ Err Fault.Memory) ⊎ (output.new ≡ output.old)) }
 {
     match open_all(rt, names) {

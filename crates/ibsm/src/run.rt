@@ -1,15 +1,18 @@
 //! One run of the program.
 ghost use Rattle.std.specs.Prelude.{◌≡◌, ◌⊎◌, Some, IfSome, IsSome, codes, map, length, slice_get};
 ghost use Rattle.clap.specs.Matches.{subcommand_name_of};
-ghost use Rattle.ibsm.specs.Asked.{AnswersWords, RunsWords, file_named, files_named, word_of};
+ghost use Rattle.clap.specs.Matches.{first_value, found_of};
+ghost use Rattle.sm_run.specs.Prints.{Prints};
+ghost use Rattle.ibsm.specs.Asked.{AnswersWords, IsFloor, RunsWords, files_named, word_named, word_of};
 
-use crate::arguments::{FACTS, FILE, JOIN, PLAN, RUN, SCHEDULE, TOPOLOGY, command_line};
+use crate::arguments::{FACTS, FILE, FLOOR, JOIN, PLAN, RUN, SCHEDULE, TOPOLOGY, command_line};
 use crate::files::{answer_or_explain, run_or_explain, say};
 use crate::opener::Opener;
 use clap::error::ErrorKind;
 use clap::{ArgMatches, Error};
 use record_file::{Sink, ToWrite};
-use sm_cli::{Command, ExitStatus, Fault};
+use sm_cli::{Command, ExitStatus, Fault, Output};
+use smp_bytes::Generation;
 use std::alloc::AllocError;
 use std::io::{BufWriter, Write};
 use std::rt::Env;
@@ -71,6 +74,7 @@ where
     E: Write,
     ensures done { result ≡ ExitStatus.Done
         → RunsWords (R.answers rt.now) R.Opened.left R.Opened.has_failed matches.now
+        (Prints ⟦<ToWrite<O> as Sink>⟧.written ⟦<ToWrite<O> as Sink>⟧.has_failed output.old output.new)
         ⊎ AnswersWords (R.answers rt.now) R.Opened.left R.Opened.has_failed matches.now
         (⟦<ToWrite<O> as Sink>⟧.written output.old) (⟦<ToWrite<O> as Sink>⟧.written output.new) }
 {
@@ -85,24 +89,37 @@ where
 
 /// The command that the words of the command line ask for, and the names of its files.
 pub(crate) fn asked<'m, 'a>(matches: &'m ArgMatches<'a>) -> Option<(Command, &'m [&'a str])>
-    ensures command { IfSome result (λ asked. subcommand_name_of matches.now ≡ Some (word_of asked.0)) }
+    ensures command { IfSome result (λ asked. subcommand_name_of matches.now ≡ Some (word_of asked.0.output)) }
+    ensures floor { IfSome result (λ asked. IsFloor (word_named (codes "floor") matches.now) asked.0.floor) }
     ensures files { IfSome result (λ asked. files_named matches.now ≡ Some (map (λ n. n.now) asked.1.now)) }
 {
     let (name, words) = matches.subcommand()?;
-    let command = match name {
-        FACTS => Command::Facts,
-        JOIN => Command::Join,
-        PLAN => Command::Plan,
+    let output = match name {
+        FACTS => Output::Facts,
+        JOIN => Output::Join,
+        PLAN => Output::Plan,
         _ => return None,
     };
-    Some((command, words.get_strs(FILE)?))
+    let floor = floor_of(words)?;
+    Some((Command { output, floor }, words.get_strs(FILE)?))
+}
+
+/// The floor that the words behind a subcommand ask for, 1 where they ask for none.
+fn floor_of(words: &ArgMatches<'_>) -> Option<Generation>
+    ensures { IfSome result (IsFloor (first_value (found_of words.now) (codes "floor"))) }
+{
+    let number = match words.get_str(FLOOR) {
+        Some(text) => text.parse::<u32>().ok()?,
+        None => 1,
+    };
+    Generation::new(number)
 }
 
 /// The names of the topology and of the schedule that the words of the command line ask to be run.
 pub(crate) fn run_asked<'a>(matches: &ArgMatches<'a>) -> Option<(&'a str, &'a str)>
     ensures command { IsSome result → subcommand_name_of matches.now ≡ Some (codes "run") }
-    ensures topology { IfSome result (λ names. file_named (codes "TOPOLOGY") matches.now ≡ Some names.0.now) }
-    ensures schedule { IfSome result (λ names. file_named (codes "SCHEDULE") matches.now ≡ Some names.1.now) }
+    ensures topology { IfSome result (λ names. word_named (codes "TOPOLOGY") matches.now ≡ Some names.0.now) }
+    ensures schedule { IfSome result (λ names. word_named (codes "SCHEDULE") matches.now ≡ Some names.1.now) }
 {
     let (name, words) = matches.subcommand()?;
     if name == RUN {

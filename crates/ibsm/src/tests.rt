@@ -4,7 +4,8 @@ use crate::run::{asked, explain, run_asked};
 use clap::Error;
 use clap::error::ErrorKind;
 use record_file::ToWrite;
-use sm_cli::{Command, ExitStatus};
+use sm_cli::{Command, ExitStatus, Output};
+use smp_bytes::Generation;
 use std::alloc::AllocError;
 use std::fmt::Display;
 use std::io::BufWriter;
@@ -53,7 +54,23 @@ fn other_words_are_explained(rt: HostRuntime) -> Result<(), Fail> {
         check_words(&rt, &rt, &words, kind, ExitStatus::Usage, "Usage: ")?;
     }
     for (words, kind) in [
+        (
+            ["ibsm", "join", "a", "--floor", "0"].as_slice(),
+            ErrorKind::ValueValidation,
+        ),
+        (
+            &["ibsm", "facts", "--floor", "4294967296", "a"],
+            ErrorKind::ValueValidation,
+        ),
+    ] {
+        check_words(&rt, &rt, words, kind, ExitStatus::Usage, "--floor <G>")?;
+    }
+    for (words, kind) in [
         (["ibsm"].as_slice(), ErrorKind::MissingSubcommand),
+        (
+            &["ibsm", "plan", "--floor", "1", "--floor", "1", "a"],
+            ErrorKind::ArgumentConflict,
+        ),
         (&["ibsm", "facts"], ErrorKind::MissingRequiredArgument),
         (&["ibsm", "join"], ErrorKind::MissingRequiredArgument),
     ] {
@@ -68,12 +85,12 @@ fn other_words_are_explained(rt: HostRuntime) -> Result<(), Fail> {
         (
             &["ibsm", "facts", "--help"],
             ErrorKind::DisplayHelp,
-            "Usage: ibsm facts <FILE>...",
+            "Usage: ibsm facts [OPTIONS] <FILE>...",
         ),
         (
             &["ibsm", "join", "--help"],
             ErrorKind::DisplayHelp,
-            "Usage: ibsm join <FILE>...",
+            "Usage: ibsm join [OPTIONS] <FILE>...",
         ),
         (
             &["ibsm", "run", "--help"],
@@ -91,22 +108,37 @@ fn other_words_are_explained(rt: HostRuntime) -> Result<(), Fail> {
     Ok(())
 }
 
+/// Asks for this at a floor.
+fn from(floor: u32, output: Output) -> Result<Command, Fail> {
+    let floor = Generation::new(floor).ok_or("0")?;
+    Ok(Command { output, floor })
+}
+
 #[test]
 fn commands_and_files_are_taken(rt: HostRuntime) -> Result<(), Fail> {
-    let cases: [(&[&str], Command, &[&str]); 5] = [
-        (&["ibsm", "facts", "a"], Command::Facts, &["a"]),
-        (&["ibsm", "facts", "a", "b"], Command::Facts, &["a", "b"]),
-        (&["ibsm", "join", "a"], Command::Join, &["a"]),
-        (&["ibsm", "plan", "a", "b"], Command::Plan, &["a", "b"]),
+    let cases: [(&[&str], Output, u32, &[&str]); 7] = [
+        (&["ibsm", "facts", "a"], Output::Facts, 1, &["a"]),
+        (&["ibsm", "facts", "a", "b"], Output::Facts, 1, &["a", "b"]),
+        (&["ibsm", "join", "a"], Output::Join, 1, &["a"]),
+        (&["ibsm", "plan", "a", "b"], Output::Plan, 1, &["a", "b"]),
         (
             &["ibsm", "join", "b", "a", "b"],
-            Command::Join,
+            Output::Join,
+            1,
             &["b", "a", "b"],
         ),
+        (
+            &["ibsm", "facts", "--floor", "4294967295", "a"],
+            Output::Facts,
+            u32::MAX,
+            &["a"],
+        ),
+        (&["ibsm", "plan", "a", "--floor=2"], Output::Plan, 2, &["a"]),
     ];
-    for (words, command, names) in cases {
+    for (words, output, floor, names) in cases {
         let matches = command_line(rt.alloc())?.try_get_matches_from(words)?;
-        assert!(rt; asked(&matches) == Some((command, names)), "{words:?}");
+        let wanted = from(floor, output)?;
+        assert!(rt; asked(&matches) == Some((wanted, names)), "{words:?}");
     }
     let words = ["ibsm", "run", "a", "b"];
     let matches = command_line(rt.alloc())?.try_get_matches_from(words.as_slice())?;
@@ -139,9 +171,10 @@ const BOTH: &[u8] =
 /// How a run over the files of these names ends, and what it writes as its output and as its errors.
 fn answered(
     rt: &HostRuntime,
-    command: Command,
+    output: Output,
     names: &[&str],
-) -> Result<(ExitStatus, Vec<u8>, Vec<u8>), AllocError> {
+) -> Result<(ExitStatus, Vec<u8>, Vec<u8>), Fail> {
+    let command = from(1, output)?;
     let mut output = ToWrite::new(Vec::new(rt.alloc()));
     let mut errors = ToWrite::new(Vec::new(rt.alloc()));
     let status = answer_or_explain(rt, command, names, &mut output, &mut errors);
@@ -152,15 +185,15 @@ fn answered(
 fn check_run(
     abort: &impl Abort,
     rt: &HostRuntime,
-    command: Command,
+    output: Output,
     names: [&str; 3],
     ends: ExitStatus,
     writes: &[u8],
     says: &str,
 ) -> Result<(), Fail> {
-    let (status, output, errors) = answered(rt, command, &names)?;
+    let (status, wrote, errors) = answered(rt, output, &names)?;
     assert!(abort;
-        status == ends && output.as_slice() == writes,
+        status == ends && wrote.as_slice() == writes,
         "{names:?}: {status:?}"
     );
     assert!(abort;
@@ -185,8 +218,8 @@ fn all_files_are_read_and_the_first_fault_counts(rt: HostRuntime) -> Result<(), 
         [none, port_guid, node],
         [port_guid, node, node],
     ] {
-        check_run(&rt, &rt, Command::Join, names, ExitStatus::Done, BOTH, "")?;
-        check_run(&rt, &rt, Command::Facts, names, ExitStatus::Done, facts, "")?;
+        check_run(&rt, &rt, Output::Join, names, ExitStatus::Done, BOTH, "")?;
+        check_run(&rt, &rt, Output::Facts, names, ExitStatus::Done, facts, "")?;
     }
     for (names, ends, says) in [
         ([node, bad, cut], ExitStatus::Refused, "-bad: bad magic\n"),
@@ -211,7 +244,7 @@ fn all_files_are_read_and_the_first_fault_counts(rt: HostRuntime) -> Result<(), 
             "ibsm: missing: cannot open\n",
         ),
     ] {
-        check_run(&rt, &rt, Command::Join, names, ends, b"", says)?;
+        check_run(&rt, &rt, Output::Join, names, ends, b"", says)?;
     }
     for name in [node, port_guid, none, bad, cut] {
         fs::remove_file(&rt, name)?;
@@ -224,7 +257,7 @@ fn the_last_of_seventy_files_is_read(rt: HostRuntime) -> Result<(), Fail> {
     let (node, port_guid) = (file(&rt, "first", NODE)?, file(&rt, "last", PORT_GUID)?);
     let mut names = [node.as_str(); 70];
     names[69] = port_guid.as_str();
-    let (status, output, errors) = answered(&rt, Command::Join, &names)?;
+    let (status, output, errors) = answered(&rt, Output::Join, &names)?;
     assert!(rt; status == ExitStatus::Done && output.as_slice() == BOTH && errors.is_empty());
     for name in [node, port_guid] {
         fs::remove_file(&rt, name.as_str())?;
@@ -283,7 +316,13 @@ fn a_full_device_takes_nothing(rt: HostRuntime) -> Result<(), Fail> {
     let mut output = ToWrite::new(BufWriter::new(rt.alloc(), device)?);
     let mut errors = ToWrite::new(Vec::new(rt.alloc()));
     let names = [node.as_str()];
-    let status = answer_or_explain(&rt, Command::Facts, &names, &mut output, &mut errors);
+    let status = answer_or_explain(
+        &rt,
+        from(1, Output::Facts)?,
+        &names,
+        &mut output,
+        &mut errors,
+    );
     assert!(rt; status == ExitStatus::InputOutput);
     assert!(rt; errors.into_inner().as_slice() == b"ibsm: write failed\n".as_slice());
     fs::remove_file(&rt, node.as_str())?;

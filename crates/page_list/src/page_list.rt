@@ -153,7 +153,8 @@ impl<T: Copy> PageList<T> {
         Ok(())
     }
 
-    /// Keeps the items before a place, if that is not past the end. Pages after the one that has the place are given back.
+    /// Keeps the items before a place, if that is not past the end. Pages after the one that has the place are given
+    /// back.
     pub fn truncate(&mut self, n: usize)
         ensures items { self.new.items ≡ take n self.old.items }
         ensures room { self.new.room ≡ self.old.room }

@@ -20,10 +20,10 @@ use Rattle.schedule_file.specs.declared.line.Line.TheVariants as line
 use Rattle.schedule_file.specs.declared.line.NewManager.{NewManager}
 use Rattle.schedule_file.specs.declared.schedule.Seat.{Seat}
 use Rattle.schedule_file.specs.declared.spoken.Spoken.{Spoken}
-use Rattle.schedule_file.specs.declared.spoken.Spoken.TheVariants.{Plain, OfOne, Merge, Poll, Cut, Plug, Ping}
+use Rattle.schedule_file.specs.declared.spoken.Spoken.TheVariants.{Plain, OfOne, Merge, Poll, Floor, Cut, Plug, Ping}
 use Rattle.schedule_file.specs.declared.spoken.Verb.{Verb}
 use Rattle.schedule_file.specs.declared.spoken.Verb.TheVariants.{Sweep, Write, Handover, Timeout, Facts, Plan, Progress, State}
-use Rattle.schedule_file.specs.Command.{only, pair, number_up_to, which_of, port_name, verb_of, merge, poll, cut, plug, ping, bare_of, packet_of, plain_of}
+use Rattle.schedule_file.specs.Command.{only, pair, number_up_to, which_of, port_name, verb_of, generation_of, merge, poll, floor, cut, plug, ping, bare_of, packet_of, plain_of}
 use Rattle.schedule_file.specs.Command.{other_of, spoken_with, spoken_of, new_manager, line_in, line_of}
 use Rattle.schedule_file.specs.ManagerName.{manager_name_in}
 use Rattle.schedule_file.specs.Schedule.{◌>>=◌, Script, IsScript, NamesManagers, seat_of, is_seat, is_taken}
@@ -77,6 +77,12 @@ poll_range args =
     then_some (λ _. Unit {0}) IsSpoken (manager_name_in x.0) _ (always _) (λ m _.
     mapped (λ _. Unit {0}) IsSpoken (number_up_to 0xFFFF x.1) _ (always _) (λ l _. tt)))
 
+floor_range : (args : List (List ℕ)) → IfSome (floor args) IsSpoken
+floor_range args =
+    then_some (λ _. Unit {0}) IsSpoken (pair args) _ (always _) (λ x _.
+    then_some (λ _. Unit {0}) IsSpoken (manager_name_in x.0) _ (always _) (λ m _.
+    mapped (λ _. Unit {0}) IsSpoken (generation_of x.1) _ (always _) (λ g _. tt)))
+
 cut_range : (args : List (List ℕ)) → IfSome (cut args) IsSpoken
 cut_range args = mapped (λ _. Unit {0}) IsSpoken (option_and_then port_name (only args)) _ (always _) (λ p _. tt)
 
@@ -96,10 +102,11 @@ other_range : (word : List ℕ) (args : List (List ℕ)) → IfSome (other_of wo
 other_range word args =
     either IsSpoken (bytes_eq word (codes "merge")) _ _ (merge_range args)
     (either IsSpoken (bytes_eq word (codes "poll")) _ _ (poll_range args)
+    (either IsSpoken (bytes_eq word (codes "floor")) _ _ (floor_range args)
     (either IsSpoken (bytes_eq word (codes "cut")) _ _ (cut_range args)
     (either IsSpoken (bytes_eq word (codes "plug")) _ _ (plug_range args)
     (either IsSpoken (bytes_eq word (codes "ping")) _ _ (ping_range args)
-    (mapped NamesNone IsSpoken (plain_of word args) Plain (plain_range word args) (λ c h. h))))))
+    (mapped NamesNone IsSpoken (plain_of word args) Plain (plain_range word args) (λ c h. h)))))))
 
 spoken_range : (verb : Option Verb) (word : List ℕ) (args : List (List ℕ)) → IfSome (spoken_with verb word args) IsSpoken
 spoken_range (Some verb) word args = mapped (λ _. Unit {0}) IsSpoken (option_and_then manager_name_in (only args)) _ (always _) (λ n _. tt)
@@ -145,6 +152,8 @@ command_range nodes seats (Merge one other) h =
     mapped (λ j. j < length seats) (NamesManagers (length seats)) (seat_of seats other) _ (seat_range seats other) (λ j l. (k, l)))
 command_range nodes seats (Poll name lid) h =
     mapped (λ i. i < length seats) (NamesManagers (length seats)) (seat_of seats name) _ (seat_range seats name) (λ i k. k)
+command_range nodes seats (Floor name floor) h =
+    mapped (λ i. i < length seats) (NamesManagers (length seats)) (seat_of seats name) _ (seat_range seats name) (λ i k. k)
 command_range nodes seats (Cut name) h = mapped (λ _. Unit {0}) (NamesManagers (length seats)) (port_of nodes name) _ (always _) (λ p _. tt)
 command_range nodes seats (Plug one other) h =
     then_some (λ _. Unit {0}) (NamesManagers (length seats)) (port_of nodes one) _ (always _) (λ p _.
@@ -184,6 +193,7 @@ more count (command.Sweep seat) h = omega arith
 more count (command.Write seat) h = omega arith
 more count (command.Handover seat) h = omega arith
 more count (command.Poll seat lid) h = omega arith
+more count (command.Floor seat floor) h = omega arith
 more count (command.Merge seat other) h = let one = h.0 in let two = h.1 in (omega arith, omega arith)
 more count (command.Deliver which) h = tt
 more count (command.Lose which) h = tt

@@ -1,5 +1,5 @@
 -- What a line says: nothing, a new manager, or a command with the names that it tells.
-use Rattle.std.specs.Prelude.{ℕ, ◌-◌, ◌^◌, List, [], ◌∷◌, Option, None, Some, option_map, option_and_then, codes, nat_le, if◌then◌else◌}
+use Rattle.std.specs.Prelude.{ℕ, ◌-◌, ◌^◌, List, [], ◌∷◌, Option, None, Some, option_map, option_and_then, codes, nat_le, ◌==◌, if◌then◌else◌}
 use Rattle.std.specs.Str.{bytes_eq}
 use Rattle.text_words.specs.Text.{words}
 use Rattle.text_words.specs.NodeName.{name_in}
@@ -14,7 +14,7 @@ use Rattle.schedule_file.specs.declared.line.Line.TheVariants as line
 use Rattle.schedule_file.specs.declared.line.NewManager.{NewManager}
 use Rattle.schedule_file.specs.declared.spoken.PortName.{PortName}
 use Rattle.schedule_file.specs.declared.spoken.Spoken.{Spoken}
-use Rattle.schedule_file.specs.declared.spoken.Spoken.TheVariants.{Plain, OfOne, Merge, Poll, Cut, Plug, Ping}
+use Rattle.schedule_file.specs.declared.spoken.Spoken.TheVariants.{Plain, OfOne, Merge, Poll, Floor, Cut, Plug, Ping}
 use Rattle.schedule_file.specs.declared.spoken.Verb.{Verb}
 use Rattle.schedule_file.specs.declared.spoken.Verb.TheVariants.{Sweep, Write, Handover, Timeout, Facts, Plan, Progress, State}
 use Rattle.schedule_file.specs.ManagerName.{manager_name_in}
@@ -76,6 +76,13 @@ merge args = option_and_then (λ x. option_and_then (λ m. option_map (Merge m) 
 abbrev pub poll : List (List ℕ) → Option Spoken
 poll args = option_and_then (λ x. option_and_then (λ m. option_map (Poll m) (number_up_to 0xFFFF x.1)) (manager_name_in x.0)) (pair args)
 
+-- a generation in decimal
+abbrev pub generation_of : List ℕ → Option ℕ
+generation_of word = option_and_then (λ n. if n == 0 then None else Some n) (number_up_to 0xFFFFFFFF word)
+
+abbrev pub floor : List (List ℕ) → Option Spoken
+floor args = option_and_then (λ x. option_and_then (λ m. option_map (Floor m) (generation_of x.1)) (manager_name_in x.0)) (pair args)
+
 abbrev pub cut : List (List ℕ) → Option Spoken
 cut args = option_map Cut (option_and_then port_name (only args))
 
@@ -112,6 +119,7 @@ abbrev pub other_of : List ℕ → List (List ℕ) → Option Spoken
 other_of word args =
     if bytes_eq word (codes "merge") then merge args
     else if bytes_eq word (codes "poll") then poll args
+    else if bytes_eq word (codes "floor") then floor args
     else if bytes_eq word (codes "cut") then cut args
     else if bytes_eq word (codes "plug") then plug args
     else if bytes_eq word (codes "ping") then ping args

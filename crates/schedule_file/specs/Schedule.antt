@@ -20,7 +20,7 @@ use Rattle.schedule_file.specs.declared.line.NewManager.{NewManager}
 use Rattle.schedule_file.specs.declared.schedule.Seat.{Seat}
 use Rattle.schedule_file.specs.declared.spoken.PortName.{PortName}
 use Rattle.schedule_file.specs.declared.spoken.Spoken.{Spoken}
-use Rattle.schedule_file.specs.declared.spoken.Spoken.TheVariants.{Plain, OfOne, Merge, Poll, Cut, Plug, Ping}
+use Rattle.schedule_file.specs.declared.spoken.Spoken.TheVariants.{Plain, OfOne, Merge, Poll, Floor, Cut, Plug, Ping}
 use Rattle.schedule_file.specs.declared.spoken.Verb.{Verb}
 use Rattle.schedule_file.specs.declared.spoken.Verb.TheVariants.{Sweep, Write, Handover, Timeout, Facts, Plan, Progress, State}
 use Rattle.schedule_file.specs.Command.{line_of}
@@ -77,6 +77,7 @@ command_of nodes seats (Plain command) = Some command
 command_of nodes seats (OfOne verb name) = option_map (of_verb verb) (seat_of seats name)
 command_of nodes seats (Merge one other) = option_and_then (λ a. option_map (command.Merge a) (seat_of seats other)) (seat_of seats one)
 command_of nodes seats (Poll name lid) = option_map (λ seat. command.Poll seat lid) (seat_of seats name)
+command_of nodes seats (Floor name floor) = option_map (λ seat. command.Floor seat floor) (seat_of seats name)
 command_of nodes seats (Cut name) = option_map command.Cut (port_of nodes name)
 command_of nodes seats (Plug one other) = option_and_then (λ p. option_map (command.Plug p) (port_of nodes other)) (port_of nodes one)
 command_of nodes seats (Ping name lid) = option_map (λ p. command.Ping p lid) (port_of nodes name)
@@ -132,6 +133,7 @@ NamesManagers count (command.Sweep seat) = seat < count
 NamesManagers count (command.Write seat) = seat < count
 NamesManagers count (command.Handover seat) = seat < count
 NamesManagers count (command.Poll seat lid) = seat < count
+NamesManagers count (command.Floor seat floor) = seat < count
 NamesManagers count (command.Merge seat other) = (seat < count) × (other < count)
 NamesManagers count (command.Timeout seat) = seat < count
 NamesManagers count (command.Facts seat) = seat < count

@@ -1,5 +1,5 @@
 //! The commands of a schedule.
-use smp_bytes::{Lid, NodePort};
+use smp_bytes::{Generation, Lid, NodePort};
 
 /// A command. A manager is told by its place among the schedule's seats, from 0.
 #[derive(Clone, Copy, PartialEq, Eq)]
@@ -14,6 +14,8 @@ pub enum Command {
     Handover(usize),
     /// The manager asks the one at a LID whether it is there.
     Poll(usize, Lid),
+    /// The manager forgets what is older than a generation.
+    Floor(usize, Generation),
     /// The second manager's records go to the first.
     Merge(usize, usize),
     /// A packet in flight arrives.

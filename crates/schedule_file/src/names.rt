@@ -20,6 +20,7 @@ pub(crate) fn command(topology: &Topology, seats: &[Seat], spoken: Spoken) -> Op
             Some(Command::Merge(one, seat(seats, &other)?))
         }
         Spoken::Poll(name, lid) => Some(Command::Poll(seat(seats, &name)?, lid)),
+        Spoken::Floor(name, floor) => Some(Command::Floor(seat(seats, &name)?, floor)),
         Spoken::Cut(name) => Some(Command::Cut(port(topology, &name)?)),
         Spoken::Plug(one, other) => {
             let one = port(topology, &one)?;

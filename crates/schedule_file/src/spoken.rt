@@ -1,12 +1,12 @@
 ghost use Rattle.std.specs.Prelude.{◌≡◌, option_map};
 ghost use Rattle.text_words.specs.Text.{words};
-ghost use Rattle.schedule_file.specs.Command.{only, pair, port_name, bracketed_number, verb_of, of_one, merge, number_up_to, poll, cut, plug, ping, other_of, spoken_of};
+ghost use Rattle.schedule_file.specs.Command.{only, pair, port_name, bracketed_number, verb_of, of_one, merge, number_up_to, generation_of, poll, floor, cut, plug, ping, other_of, spoken_of};
 
 use crate::command::Command;
 use crate::manager_name::ManagerName;
 use crate::numbers::number_up_to;
 use crate::plain::plain;
-use smp_bytes::{Lid, PortNum};
+use smp_bytes::{Generation, Lid, PortNum};
 use text_words::{NodeName, enclosed, is_word, split_word};
 
 /// A port as a line tells it.
@@ -37,6 +37,7 @@ pub(crate) enum Spoken {
     OfOne(Verb, ManagerName),
     Merge(ManagerName, ManagerName),
     Poll(ManagerName, Lid),
+    Floor(ManagerName, Generation),
     Cut(PortName),
     Plug(PortName, PortName),
     Ping(PortName, Lid),
@@ -85,6 +86,8 @@ fn other(word: &[u8], line: &[u8]) -> Option<Spoken>
         merge(line)
     } else if is_word(word, "poll") {
         poll(line)
+    } else if is_word(word, "floor") {
+        floor(line)
     } else if is_word(word, "cut") {
         cut(line)
     } else if is_word(word, "plug") {
@@ -119,6 +122,14 @@ fn poll(line: &[u8]) -> Option<Spoken>
     Some(Spoken::Poll(name, lid_of(lid)?))
 }
 
+fn floor(line: &[u8]) -> Option<Spoken>
+    ensures { result ≡ floor (words line.now) }
+{
+    let (name, generation) = pair(line)?;
+    let name = ManagerName::new(name)?;
+    Some(Spoken::Floor(name, generation_of(generation)?))
+}
+
 fn cut(line: &[u8]) -> Option<Spoken>
     ensures { result ≡ cut (words line.now) }
 {
@@ -147,6 +158,13 @@ fn lid_of(word: &[u8]) -> Option<Lid>
     ensures { result ≡ number_up_to 0xFFFF word.now }
 {
     Some(Lid::new(number_up_to(word, 0xFFFF)? as u16))
+}
+
+/// A generation from 1 to 4,294,967,295 in decimal.
+fn generation_of(word: &[u8]) -> Option<Generation>
+    ensures { result ≡ generation_of word.now }
+{
+    Generation::new(number_up_to(word, u32::MAX)?)
 }
 
 /// A node's name in quotes, and at once behind it a port up to 255 in brackets.

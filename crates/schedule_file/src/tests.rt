@@ -1,7 +1,7 @@
 //! Texts of schedules, and what is wrong with others.
 use super::*;
 use crate::first_fault::first_fault;
-use smp_bytes::{Lid, NodePort, PortNum};
+use smp_bytes::{Generation, Lid, NodePort, PortNum};
 use std::alloc::Global;
 use std::test::Fail;
 
@@ -50,6 +50,7 @@ fn at(node: usize, port: u8) -> NodePort {
 
 #[test]
 fn commands_of_managers_and_ports(rt: HostRuntime) -> Result<(), Fail> {
+    let greatest = Generation::new(u32::MAX).ok_or("0")?;
     for (line, wanted) in [
         ("sweep A", Command::Sweep(0)),
         ("write A", Command::Write(0)),
@@ -58,6 +59,7 @@ fn commands_of_managers_and_ports(rt: HostRuntime) -> Result<(), Fail> {
         ("handover b2", Command::Handover(1)),
         ("poll b2 065535", Command::Poll(1, Lid::new(65535))),
         ("poll A 0", Command::Poll(0, Lid::new(0))),
+        ("floor b2 4294967295", Command::Floor(1, greatest)),
         ("timeout b2", Command::Timeout(1)),
         ("facts A", Command::Facts(0)),
         ("plan b2", Command::Plan(1)),
@@ -139,6 +141,9 @@ fn lines_of_no_grammar(rt: HostRuntime) -> Result<(), Fail> {
         "poll A",
         "poll 1 A 1",
         "poll A 65536",
+        "floor A",
+        "floor A 0",
+        "floor A 4294967296",
         "state",
         "State A",
     ] {
@@ -162,6 +167,7 @@ fn faults_with_their_lines(rt: HostRuntime) -> Result<(), Fail> {
         ("merge c A", ScheduleFault::Name { line: 3 }),
         ("handover c", ScheduleFault::Name { line: 3 }),
         ("poll c 1", ScheduleFault::Name { line: 3 }),
+        ("floor c 1", ScheduleFault::Name { line: 3 }),
         ("state c", ScheduleFault::Name { line: 3 }),
         ("cut \"S\"[1]", ScheduleFault::Name { line: 3 }),
         ("plug \"H1\"[1] \"S\"[1]", ScheduleFault::Name { line: 3 }),

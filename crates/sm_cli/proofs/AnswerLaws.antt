@@ -13,7 +13,7 @@ use Rattle.sm_cli.specs.Run.{answer_to}
 use Rattle.sm_cli.specs.RunLaws.{FilesDecideAnswer, SightingsDecideAnswer}
 
 pub sightings_decide_answer : SightingsDecideAnswer
-sightings_decide_answer command files others same = ap (answer_to command) (members_decide_view 1 (flat_map kept files) (flat_map kept others) same)
+sightings_decide_answer command files others same = ap (answer_to command.output) (members_decide_view command.floor (flat_map kept files) (flat_map kept others) same)
 
 -- what a file keeps, all of them keep
 kept_by_all : (files : List (List ℕ)) (file : List ℕ) (x : Key × Cell Value) → Contains files file → Contains (kept file) x → Contains (flat_map kept files) x

@@ -9,7 +9,7 @@ use Rattle.lid_assign.specs.declared.fault.LidFault.TheVariants as lids
 use Rattle.sm_cli.specs.Faults.{fault_of_lids}
 use Rattle.sm_cli.specs.Run.{IsAnswerFault}
 use Rattle.sm_cli.specs.declared.fault.Fault.{Fault}
-use Rattle.sm_cli.specs.declared.run.Command.TheVariants as commands
+use Rattle.sm_cli.specs.declared.run.Output.TheVariants as output
 
 none_lacks : (o : Option Room) → lid_fault o ≡ None → o ≡ None
 none_lacks None e = refl
@@ -25,6 +25,6 @@ has_room facts e = none_lacks (no_room (cells_of facts)) e
 
 -- and where there is none, there is no room, or memory was refused though there is
 pub plan_fault : (facts : Facts) (sink_failed : Bool) (why : LidFault) (fault : Fault)
-    → lid_fault (no_room (cells_of facts)) ≡ (if is_memory why then None else Some why) → fault ≡ fault_of_lids why → IsAnswerFault commands.Plan facts sink_failed fault
+    → lid_fault (no_room (cells_of facts)) ≡ (if is_memory why then None else Some why) → fault ≡ fault_of_lids why → IsAnswerFault output.Plan facts sink_failed fault
 plan_fault facts sink_failed (lids.NoRoom why) fault e f = rw f (refl, one_lacks (no_room (cells_of facts)) why e)
 plan_fault facts sink_failed lids.Memory fault e f = rw f (refl, none_lacks (no_room (cells_of facts)) e)

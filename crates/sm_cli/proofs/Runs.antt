@@ -4,12 +4,13 @@ use Rattle.std.proofs.Math.ListN.{set, length-set}
 use Rattle.std.proofs.lemmas.Bool.{ltb-true, ltb-false}
 use Rattle.std.proofs.lemmas.List.{get_or-set_same, flat_map_more}
 use Rattle.std.proofs.lemmas.Option.{slice_get-get_or}
-use Rattle.std.specs.Prelude.{nat_lt, IfSome, slice_get}
+use Rattle.std.specs.Prelude.{max, nat_lt, IfSome, slice_get}
 use Rattle.std.specs.List.{flat_map}
-use Rattle.fact_store.specs.View.{Facts, view, no_facts}
+use Rattle.fact_store.specs.Seen.{seen}
+use Rattle.fact_store.specs.View.{Facts, raised, view, view_at, no_facts}
 use Rattle.fact_store.specs.Merge.{merge}
-use Rattle.fact_store.proofs.Merges.{merge_empty}
-use Rattle.fact_store.proofs.Views.{view_of_both}
+use Rattle.fact_store.proofs.Merges.{at_same_floor, merge_empty}
+use Rattle.fact_store.proofs.Views.{raising_forgets, view_of_both}
 use Rattle.record_file.specs.Absorbs.{Absorbs, AnswersKnown, HasNoFaultYet, HoldsKept}
 use Rattle.record_file.specs.RecordFile.{ending, fault_first, fault_in, format_of, kept, outcome, outcome_as, record_size}
 use Rattle.record_file.specs.declared.file_fault.FileFault.{FileFault}
@@ -150,19 +151,26 @@ module _ {S : Type 0} (left : S → Option (List ℕ)) (has_failed : S → Bool)
   }
 
 -- what one more file says is merged into what all before say
-pub facts-more : (files : List (List ℕ)) (file : List ℕ) (facts facts' : Facts) → facts ≡ facts_of files → facts' ≡ merge facts (view (kept file)) → facts' ≡ facts_of (files ++ file ∷ [])
-facts-more files file facts facts' e more =
-    more ∙ ap (λ x. merge x (view (kept file))) e ∙ sym (view_of_both 1 1 (flat_map kept files) (kept file))
-    ∙ ap view (flat_map_more kept [] files file)
+pub facts-more : (floor : ℕ) (files : List (List ℕ)) (file : List ℕ) (facts facts' : Facts) → facts ≡ facts_of floor files → facts' ≡ merge facts (view (kept file))
+    → facts' ≡ facts_of floor (files ++ file ∷ [])
+facts-more floor files file facts facts' e more =
+    more ∙ ap (λ x. merge x (view (kept file))) e ∙ sym (view_of_both floor 1 (flat_map kept files) (kept file))
+    ∙ at_same_floor (max floor 1) floor (seen (flat_map kept files ++ kept file)) (omega arith)
+    ∙ ap (view_at floor) (flat_map_more kept [] files file)
+
+-- before the first
+pub facts-none : (floor : ℕ) (facts facts' : Facts) → facts ≡ no_facts → facts' ≡ raised facts floor → facts' ≡ facts_of floor []
+facts-none floor facts facts' e up =
+    up ∙ ap (λ x. raised x floor) e ∙ raising_forgets 1 floor [] ∙ at_same_floor (max 1 floor) floor (seen []) (omega arith)
 
 -- the first sources were read, the others are as they were, and the facts are what the files say
-pub record HasReadSome {S : Type 0} (left : S → Option (List ℕ)) (has_failed : S → Bool) (olds news : List S) (place : ℕ) (facts : Facts) : Type 0 where
+pub record HasReadSome {S : Type 0} (left : S → Option (List ℕ)) (has_failed : S → Bool) (floor : ℕ) (olds news : List S) (place : ℕ) (facts : Facts) : Type 0 where
   pub as_many : length news ≡ length olds
   pub untouched : (k : ℕ) → place ≤ k → slice_get news k ≡ slice_get olds k
   pub files : List (List ℕ)
   pub one_each : length files ≡ place
   pub read : AreReadAs left has_failed olds news files
-  pub told : facts ≡ facts_of files
+  pub told : facts ≡ facts_of floor files
 
 -- a source that was read to its end has not failed
 pub working : {E : Type 0} (failed : Bool) (u : Unit {0}) (e : E) → (◌≡◌ {A = Result (Unit {0}) E} (Ok u) (Err e) ↔ IsTrue failed) → failed ≡ false

@@ -1,11 +1,12 @@
 -- Facts as text.
-use Rattle.std.specs.Prelude.{ℕ, List, ◌++◌, codes, decimal, if◌then◌else◌}
+use Rattle.std.specs.Prelude.{ℕ, List, [], ◌++◌, nat_le, codes, decimal, if◌then◌else◌}
 use Rattle.std.specs.List.{flat_map}
 use Rattle.smp_bytes.specs.Text.{guid_text, port_text, type_word}
 use Rattle.fact_join.specs.declared.cell.Cell.{Cell}
 use Rattle.fact_join.specs.declared.cell.Cell.TheVariants.{Known, Disputed}
 use Rattle.fact_store.specs.declared.key.Key.{Key}
 use Rattle.fact_store.specs.declared.key.Key.TheVariants.{Node, PortGuid, Link, Port, Claim, Cap}
+use Rattle.fact_store.specs.View.{Facts, cells_of}
 use Rattle.fact_store.specs.declared.value.Value.{Value}
 use Rattle.fact_store.specs.declared.value.Value.TheVariants.{Kind, Guid, Peer, Up, Lid, Count}
 
@@ -53,6 +54,10 @@ fact_text cell = key_text cell.0 ++ codes " " ++ cell_text cell.1
 abbrev pub line_text : Key × Cell Value → List ℕ
 line_text cell = fact_text cell ++ codes "\n"
 
--- a line for each cell
-abbrev pub facts_text : List (Key × Cell Value) → List ℕ
-facts_text cells = flat_map line_text cells
+-- the line of a floor; the least one has none
+abbrev pub floor_line : ℕ → List ℕ
+floor_line floor = if nat_le floor 1 then [] else codes "floor " ++ decimal floor ++ codes "\n"
+
+-- a line for the floor, and one for each cell
+abbrev pub facts_text : Facts → List ℕ
+facts_text facts = floor_line facts.floor ++ flat_map line_text (cells_of facts)

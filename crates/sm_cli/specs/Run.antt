@@ -4,7 +4,7 @@ use Rattle.std.specs.List.{flat_map}
 use Rattle.std.specs.Io.KnownBytes.{Appends, Consumes, IsAtEnd}
 use Rattle.fact_store.specs.Sighting.{AreInRange}
 use Rattle.fact_store.specs.Merge.{merge}
-use Rattle.fact_store.specs.View.{Facts, view, cells_of}
+use Rattle.fact_store.specs.View.{Facts, view, view_at, cells_of}
 use Rattle.record_file.specs.Absorbs.{AnswersKnown, AnswersOutcome, HasNoFaultBefore, IsBounded, IsDecided, WasInterruptedTooOften}
 use Rattle.record_file.specs.RecordFile.{kept, outcome}
 use Rattle.record_file.specs.StoreFile.{store_bytes}
@@ -16,33 +16,34 @@ use Rattle.lft_blocks.specs.PlanText.{plan_text}
 use Rattle.sm_cli.specs.declared.fault.Fault.{Fault}
 use Rattle.sm_cli.specs.declared.fault.Fault.TheVariants.{Open, File, Text, NoRoom, Write, Memory}
 use Rattle.sm_cli.specs.declared.run.Command.{Command}
-use Rattle.sm_cli.specs.declared.run.Command.TheVariants as commands
+use Rattle.sm_cli.specs.declared.run.Output.{Output}
+use Rattle.sm_cli.specs.declared.run.Output.TheVariants as output
 use Rattle.sm_cli.specs.FactsText.{facts_text}
 
--- what all records of all files say together
-abbrev pub facts_of : List (List ℕ) → Facts
-facts_of files = view (flat_map kept files)
+-- what all records of all files say together at a floor
+abbrev pub facts_of : ℕ → List (List ℕ) → Facts
+facts_of floor files = view_at floor (flat_map kept files)
 
--- what a command writes of the facts
-abbrev pub answer_to : Command → Facts → List ℕ
-answer_to commands.Facts facts = facts_text (cells_of facts)
-answer_to commands.Join facts = store_bytes (cells_of facts)
-answer_to commands.Plan facts = plan_text (plan_of (cells_of facts))
+-- what is written of the facts
+abbrev pub answer_to : Output → Facts → List ℕ
+answer_to output.Facts facts = facts_text facts
+answer_to output.Join facts = store_bytes (cells_of facts)
+answer_to output.Plan facts = plan_text (plan_of (cells_of facts))
 
--- what is so of facts that a command answers: they are in range, and a plan has room for their LIDs
-abbrev pub IsAnswered : Command → Facts → Type 0
-IsAnswered commands.Facts facts = AreInRange facts
-IsAnswered commands.Join facts = AreInRange facts
-IsAnswered commands.Plan facts = no_room (cells_of facts) ≡ None
+-- what is so of facts that are answered: they are in range, and a plan has room for their LIDs
+abbrev pub IsAnswered : Output → Facts → Type 0
+IsAnswered output.Facts facts = AreInRange facts
+IsAnswered output.Join facts = AreInRange facts
+IsAnswered output.Plan facts = no_room (cells_of facts) ≡ None
 
--- why a command does not answer the facts
-abbrev pub IsAnswerFault : Command → Facts → Bool → Fault → Type 0
-IsAnswerFault command facts sink_failed (Open place) = ⊥
-IsAnswerFault command facts sink_failed (File place fault) = ⊥
-IsAnswerFault command facts sink_failed (Text place fault) = ⊥
-IsAnswerFault command facts sink_failed (NoRoom why) = (command ≡ commands.Plan) × (no_room (cells_of facts) ≡ Some why)
-IsAnswerFault command facts sink_failed Write = IsTrue sink_failed
-IsAnswerFault command facts sink_failed Memory = (command ≡ commands.Plan) × (no_room (cells_of facts) ≡ None)
+-- why the facts are not answered
+abbrev pub IsAnswerFault : Output → Facts → Bool → Fault → Type 0
+IsAnswerFault what facts sink_failed (Open place) = ⊥
+IsAnswerFault what facts sink_failed (File place fault) = ⊥
+IsAnswerFault what facts sink_failed (Text place fault) = ⊥
+IsAnswerFault what facts sink_failed (NoRoom why) = (what ≡ output.Plan) × (no_room (cells_of facts) ≡ Some why)
+IsAnswerFault what facts sink_failed Write = IsTrue sink_failed
+IsAnswerFault what facts sink_failed Memory = (what ≡ output.Plan) × (no_room (cells_of facts) ≡ None)
 
 -- the source was read to its end: this was its file, which is accepted
 pub record IsReadAs {S : Type 0} (left : S → Option (List ℕ)) (has_failed : S → Bool) (old new : S) (file : List ℕ) : Type 0 where
@@ -70,19 +71,19 @@ abbrev pub AreReadAs : {S : Type 0} → (S → Option (List ℕ)) → (S → Boo
 AreReadAs left has_failed olds news files = (place : ℕ) (file : List ℕ) → slice_get files place ≡ Some file → IsReadAt left has_failed olds news place file
 
 -- all sources were read, and this is what their files say
-pub record HasRead {S : Type 0} (left : S → Option (List ℕ)) (has_failed : S → Bool) (olds news : List S) (facts : Facts) : Type 0 where
+pub record HasRead {S : Type 0} (left : S → Option (List ℕ)) (has_failed : S → Bool) (floor : ℕ) (olds news : List S) (facts : Facts) : Type 0 where
   pub files : List (List ℕ)
   pub one_each : length files ≡ length olds
   pub read : AreReadAs left has_failed olds news files
-  pub told : facts ≡ facts_of files
+  pub told : facts ≡ facts_of floor files
 
 -- all sources were read, and what their files say was written
 pub record HasAnswered {S : Type 0} (left : S → Option (List ℕ)) (has_failed : S → Bool) (command : Command) (olds news : List S) (written written' : Option (List ℕ)) : Type 0 where
   pub files : List (List ℕ)
   pub one_each : length files ≡ length olds
   pub read : AreReadAs left has_failed olds news files
-  pub can_be : IsAnswered command (facts_of files)
-  pub answered : Appends written written' (answer_to command (facts_of files))
+  pub can_be : IsAnswered command.output (facts_of command.floor files)
+  pub answered : Appends written written' (answer_to command.output (facts_of command.floor files))
 
 -- reading the source ended with this fault: it is that of the bytes that were taken, or a read or a growth failed before any
 pub record Refuses {S : Type 0} (left : S → Option (List ℕ)) (has_failed : S → Bool) (interruptions : S → ℕ) (old new : S) (fault : FileFault) : Type 0 where
@@ -111,7 +112,7 @@ pub record FailsToAnswer {S : Type 0} (left : S → Option (List ℕ)) (has_fail
   pub files : List (List ℕ)
   pub one_each : length files ≡ length olds
   pub read : AreReadAs left has_failed olds news files
-  pub fails : IsAnswerFault command (facts_of files) sink_failed fault
+  pub fails : IsAnswerFault command.output (facts_of command.floor files) sink_failed fault
 
 -- why a run over open files ends early
 abbrev pub IsFaultOf : {S : Type 0} → (S → Option (List ℕ)) → (S → Bool) → (S → ℕ) → Command → List S → List S → Bool → Fault → Type 0

@@ -15,7 +15,7 @@ use Rattle.sm_cli.specs.Run.{answer_to, facts_of}
 
 -- on which sightings the files keep, and neither on their order nor on how often they are there
 abbrev pub SightingsDecideAnswer : Type 0
-SightingsDecideAnswer = (command : Command) (files others : List (List ℕ)) → HaveSameMembers (flat_map kept files) (flat_map kept others) → answer_to command (facts_of files) ≡ answer_to command (facts_of others)
+SightingsDecideAnswer = (command : Command) (files others : List (List ℕ)) → HaveSameMembers (flat_map kept files) (flat_map kept others) → answer_to command.output (facts_of command.floor files) ≡ answer_to command.output (facts_of command.floor others)
 
 -- two lists have the same files, in whatever order and however often
 pub record AreSameFiles (files others : List (List ℕ)) : Type 0 where
@@ -24,17 +24,17 @@ pub record AreSameFiles (files others : List (List ℕ)) : Type 0 where
 
 -- so the files may be named in any order, and again
 abbrev pub FilesDecideAnswer : Type 0
-FilesDecideAnswer = (command : Command) (files others : List (List ℕ)) → AreSameFiles files others → answer_to command (facts_of files) ≡ answer_to command (facts_of others)
+FilesDecideAnswer = (command : Command) (files others : List (List ℕ)) → AreSameFiles files others → answer_to command.output (facts_of command.floor files) ≡ answer_to command.output (facts_of command.floor others)
 
--- a store file that files were joined into stands for them, alone or among others
+-- a store file that files were joined into at floor 1 stands for them, alone or among others
 abbrev pub JoinedFileStands : Type 0
-JoinedFileStands = (command : Command) (files others : List (List ℕ)) (joined : List ℕ) → IsStoreFile joined (facts_of files) → (outcome joined ≡ Ok tt) × (answer_to command (facts_of (joined ∷ others)) ≡ answer_to command (facts_of (files ++ others)))
+JoinedFileStands = (command : Command) (files others : List (List ℕ)) (joined : List ℕ) → IsStoreFile joined (facts_of 1 files) → (outcome joined ≡ Ok tt) × (answer_to command.output (facts_of command.floor (joined ∷ others)) ≡ answer_to command.output (facts_of command.floor (files ++ others)))
 
 -- two files are accepted, and stand for a whole one, alone or among others
 pub record StandFor (command : Command) (whole front back : List ℕ) (others : List (List ℕ)) : Type 0 where
   pub front_accepted : outcome front ≡ Ok tt
   pub back_accepted : outcome back ≡ Ok tt
-  pub same : answer_to command (facts_of (whole ∷ others)) ≡ answer_to command (facts_of (front ∷ back ∷ others))
+  pub same : answer_to command.output (facts_of command.floor (whole ∷ others)) ≡ answer_to command.output (facts_of command.floor (front ∷ back ∷ others))
 
 -- so do the parts of a report file that is split between its records
 abbrev pub SplitFileStands : Type 0

@@ -1,13 +1,13 @@
-//! The facts of a store as text, a line for each cell.
+//! The facts of a store as text: a line for its floor, and one for each cell.
 ghost use Rattle.std.specs.Prelude.{◌≡◌, IsTrue, OnOk};
-ghost use Rattle.fact_store.specs.View.{cells_of};
 ghost use Rattle.record_file.specs.Writes.{Writes};
 ghost use Rattle.fact_store.specs.Sighting.{AreInRange};
-ghost use Rattle.sm_cli.specs.FactsText.{kind_word, place_text, key_text, value_text, cell_text, fact_text, line_text, facts_text};
+ghost use Rattle.sm_cli.specs.FactsText.{kind_word, place_text, key_text, value_text, cell_text, fact_text, line_text, floor_line, facts_text};
 
 use fact_join::Cell;
 use fact_store::{Key, Sighting, Store, Value};
 use record_file::{Sink, WriteFault, write_guid, write_number, write_port};
+use smp_bytes::Generation;
 
 /// The word of what a fact is about.
 fn kind_word(key: &Key) -> &'static str
@@ -93,12 +93,27 @@ pub fn write_cell<W: Sink>(sink: &mut W, cell: &Sighting) -> Result<(), WriteFau
     sink.write(b"\n")
 }
 
-/// Writes the line of each cell in the order of the keys, and flushes. It takes no memory.
+/// Writes the line of a floor over 1: `floor`, and its generation.
+fn write_floor<W: Sink>(sink: &mut W, floor: Generation) -> Result<(), WriteFault>
+    ensures writes { Writes W.written W.has_failed result sink.old sink.new (floor_line floor) }
+{
+    if floor.number() <= 1 {
+        // A sink that has failed says so even here.
+        return sink.write(b"");
+    }
+    sink.write(b"floor ")?;
+    write_number(sink, u64::from(floor.number()))?;
+    sink.write(b"\n")
+}
+
+/// Writes the line of the floor, if it is over 1, and that of each cell in the order of the keys, and flushes. It takes no
+/// memory.
 pub fn write_facts<W: Sink>(sink: &mut W, store: &Store) -> Result<(), WriteFault>
-    ensures writes { Writes W.written W.has_failed result sink.old sink.new (facts_text (cells_of store.now)) }
+    ensures writes { Writes W.written W.has_failed result sink.old sink.new (facts_text store.now) }
     ensures flushed { OnOk result (IsTrue (W.is_flushed sink.new)) }
     ensures in_range { OnOk result (AreInRange store.now) }
 {
+    write_floor(sink, store.floor())?;
     for cell in store.cells() {
         write_cell(sink, &cell)?;
     }

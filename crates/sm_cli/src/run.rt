@@ -7,17 +7,26 @@ use crate::fault::Fault;
 use fact_store::Store;
 use lft_blocks::{Plan, write_plan};
 use record_file::{FileFault, Sink, Source, absorb, write_store};
+use smp_bytes::Generation;
 use std::alloc::Global;
+
+/// What a run writes of the files.
+#[derive(Clone, Copy, Debug, PartialEq, Eq)]
+pub enum Output {
+    /// What they say together as text, a line for each fact.
+    Facts,
+    /// The same as a store file.
+    Join,
+    /// The LID of each end port, and the forwarding blocks of each switch, that follow from it.
+    Plan,
+}
 
 /// What a run is to do with the files.
 #[derive(Clone, Copy, Debug, PartialEq, Eq)]
-pub enum Command {
-    /// Write what the files say together as text, a line for each fact.
-    Facts,
-    /// Write them as a store file.
-    Join,
-    /// Write the LID of each end port, and the forwarding blocks of each switch, that follow from them.
-    Plan,
+pub struct Command {
+    pub output: Output,
+    /// What is older than this generation does not count.
+    pub floor: Generation,
 }
 
 /// Reads the files in order, and writes what the command asks for of all that they say. The first fault counts. Where a
@@ -36,7 +45,7 @@ pub fn run_files<S: Source, W: Sink>(
         sources.old.items sources.new.items (W.has_failed sink.new)) }
     ensures nothing_written { OnErr result ((result ≡ Err Fault.Write) ⊎ (sink.new ≡ sink.old)) }
 {
-    let store = match read_all(alloc, sources) {
+    let store = match read_all(alloc, sources, command.floor) {
         Ok(store) => store,
         Err(refused) => {
             return Err(Fault::File {
@@ -45,28 +54,28 @@ pub fn run_files<S: Source, W: Sink>(
             });
         }
     };
-    write_answer(alloc, sink, command, &store)
+    write_answer(alloc, sink, command.output, &store)
 }
 
-/// Writes what a command asks for of the facts that a store holds, and flushes.
+/// Writes what is asked for of the facts that a store holds, and flushes.
 fn write_answer<W: Sink>(
     alloc: Global,
     sink: &mut W,
-    command: Command,
+    output: Output,
     store: &Store,
 ) -> Result<(), Fault>
     ensures answered { OnOk result (Appends (W.written sink.old) (W.written sink.new)
-        (answer_to command store.now)) }
-    ensures can_be { OnOk result (IsAnswered command store.now) }
+        (answer_to output store.now)) }
+    ensures can_be { OnOk result (IsAnswered output store.now) }
     ensures flushed { OnOk result (IsTrue (W.is_flushed sink.new)) }
     ensures sink_works { OnOk result (W.has_failed sink.new ≡ false) }
-    ensures refused { IfErr result (IsAnswerFault command store.now (W.has_failed sink.new)) }
+    ensures refused { IfErr result (IsAnswerFault output store.now (W.has_failed sink.new)) }
     ensures nothing_written { OnErr result ((result ≡ Err Fault.Write) ⊎ (sink.new ≡ sink.old)) }
 {
-    match command {
-        Command::Facts => write_facts(sink, store)?,
-        Command::Join => write_store(sink, store)?,
-        Command::Plan => return answer_plan(alloc, sink, store),
+    match output {
+        Output::Facts => write_facts(sink, store)?,
+        Output::Join => write_store(sink, store)?,
+        Output::Plan => return answer_plan(alloc, sink, store),
     }
     Ok(())
 }
@@ -75,11 +84,11 @@ fn write_answer<W: Sink>(
 #[tactic(auto, using(crate::proofs::Plans::has_room, crate::proofs::Plans::plan_fault))]
 fn answer_plan<W: Sink>(alloc: Global, sink: &mut W, store: &Store) -> Result<(), Fault>
     ensures answered { OnOk result (Appends (W.written sink.old) (W.written sink.new)
-        (answer_to Command.Plan store.now)) }
-    ensures can_be { OnOk result (IsAnswered Command.Plan store.now) }
+        (answer_to Output.Plan store.now)) }
+    ensures can_be { OnOk result (IsAnswered Output.Plan store.now) }
     ensures flushed { OnOk result (IsTrue (W.is_flushed sink.new)) }
     ensures sink_works { OnOk result (W.has_failed sink.new ≡ false) }
-    ensures refused { IfErr result (IsAnswerFault Command.Plan store.now (W.has_failed sink.new)) }
+    ensures refused { IfErr result (IsAnswerFault Output.Plan store.now (W.has_failed sink.new)) }
     ensures nothing_written { OnErr result ((result ≡ Err Fault.Write) ⊎ (sink.new ≡ sink.old)) }
 {
     let plan = Plan::of(alloc, store)?;
@@ -94,13 +103,19 @@ struct RefusedFile {
     fault: FileFault,
 }
 
-/// All that the files say, or the first that is refused.
-fn read_all<S: Source>(alloc: Global, sources: &mut Vec<S>) -> Result<Store, RefusedFile>
-    ensures read { IfOk result (HasRead S.left S.has_failed sources.old.items sources.new.items) }
+/// All that the files say from a floor on, or the first that is refused.
+fn read_all<S: Source>(
+    alloc: Global,
+    sources: &mut Vec<S>,
+    floor: Generation,
+) -> Result<Store, RefusedFile>
+    ensures read { IfOk result (HasRead S.left S.has_failed floor
+        sources.old.items sources.new.items) }
     ensures refused { IfErr result (λ refused. RefusesFile S.left S.has_failed S.interruptions
         sources.old.items sources.new.items refused.place refused.fault) }
 {
     let mut all = Store::new(alloc);
+    all.raise_floor(floor);
     for place in 0..sources.len() {
         if let Err(fault) = read_into(&mut all, alloc, &mut sources[place]) {
             return Err(RefusedFile { place, fault });

@@ -5,7 +5,7 @@ use fact_store::ReportFault;
 use lid_assign::NoRoom;
 use record_file::{FileFault, FromBytes, FromRead, Sink, ToRoom, ToWrite, write_number};
 use schedule_file::ScheduleFault;
-use smp_bytes::SmpFault;
+use smp_bytes::{Generation, SmpFault};
 use std::alloc::{AllocError, Global};
 use std::process::Abort;
 use std::test::Fail;
@@ -106,6 +106,12 @@ fn tell<W: Sink>(sink: &mut W, fault: Fault) -> Result<(), Fail> {
     Ok(())
 }
 
+/// Asks for this at a floor.
+fn from(floor: u32, output: Output) -> Result<Command, Fail> {
+    let floor = Generation::new(floor).ok_or("0")?;
+    Ok(Command { output, floor })
+}
+
 /// What a run over files writes into a sink with room for so many bytes and, where it ends early,
 /// how.
 fn ended_within(
@@ -126,19 +132,19 @@ fn ended_within(
 }
 
 /// The same with room for 4,096.
-fn ended(alloc: Global, command: Command, files: &[&[u8]]) -> Result<ToRoom, Fail> {
-    ended_within(alloc, 4096, command, files)
+fn ended(alloc: Global, output: Output, files: &[&[u8]]) -> Result<ToRoom, Fail> {
+    ended_within(alloc, 4096, from(1, output)?, files)
 }
 
 /// A run over files writes this and ends so.
 fn check(
     rt: &impl Abort,
     alloc: Global,
-    command: Command,
+    output: Output,
     files: &[&[u8]],
     wanted: &[u8],
 ) -> Result<(), Fail> {
-    assert_eq!(rt; ended(alloc, command, files)?.bytes(), wanted);
+    assert_eq!(rt; ended(alloc, output, files)?.bytes(), wanted);
     Ok(())
 }
 
@@ -149,11 +155,11 @@ type Row<'a> = (&'a [u8], &'a [u8], &'a [u8]);
 fn check_rows(
     rt: &impl Abort,
     alloc: Global,
-    command: Command,
+    output: Output,
     rows: &[Row<'_>],
 ) -> Result<(), Fail> {
     for (first, second, wanted) in rows {
-        check(rt, alloc, command, &[*first, *second], wanted)?;
+        check(rt, alloc, output, &[*first, *second], wanted)?;
     }
     Ok(())
 }
@@ -173,13 +179,13 @@ fn files_are_taken(rt: HostRuntime) -> Result<(), Fail> {
             b"claim ffffffffffffffff/254 65535 @4294967295\n",
         ),
     ];
-    check_rows(&rt, rt.alloc(), Command::Facts, &rows)?;
+    check_rows(&rt, rt.alloc(), Output::Facts, &rows)?;
     let joined: [Row<'_>; 3] = [
         (&store, &store, &store),
         (&adapter, b"IBSMSTO1", &store),
         (&greatest, &greatest, &greatest),
     ];
-    check_rows(&rt, rt.alloc(), Command::Join, &joined)
+    check_rows(&rt, rt.alloc(), Output::Join, &joined)
 }
 
 #[test]
@@ -197,8 +203,8 @@ fn the_first_refused_file_is_named(rt: HostRuntime) -> Result<(), Fail> {
         (&good, &exchanged, b"3 ibsm: OTHER: cell out of order 1\n"),
         (&good, b"IBSMSTO1\x01", b"3 ibsm: OTHER: truncated at 8\n"),
     ];
-    check_rows(&rt, rt.alloc(), Command::Facts, &rows)?;
-    check_rows(&rt, rt.alloc(), Command::Join, &rows)
+    check_rows(&rt, rt.alloc(), Output::Facts, &rows)?;
+    check_rows(&rt, rt.alloc(), Output::Join, &rows)
 }
 
 /// How a run ends over the first bytes of the adapter's report file.
@@ -226,11 +232,11 @@ fn each_cut_is_told(rt: HostRuntime) -> Result<(), Fail> {
     let (reports, store) = (adapter_file(), adapter_store());
     for length in 0..=280 {
         let cut = [first_of(&reports, length)];
-        check(&rt, rt.alloc(), Command::Facts, &cut, cut_report(length))?;
+        check(&rt, rt.alloc(), Output::Facts, &cut, cut_report(length))?;
     }
     for length in 0..=72 {
         let cut = [first_of(&store, length)];
-        check(&rt, rt.alloc(), Command::Facts, &cut, cut_store(length))?;
+        check(&rt, rt.alloc(), Output::Facts, &cut, cut_store(length))?;
     }
     Ok(())
 }
@@ -261,7 +267,7 @@ fn each_damage_is_told(rt: HostRuntime) -> Result<(), Fail> {
         (39, 1),
     ] {
         let store = damaged_store(place, byte);
-        check(&rt, rt.alloc(), Command::Facts, &[&store], wanted)?;
+        check(&rt, rt.alloc(), Output::Facts, &[&store], wanted)?;
     }
     Ok(())
 }
@@ -311,7 +317,7 @@ fn each_byte_may_be_overwritten(rt: HostRuntime) -> Result<(), Fail> {
         let mut file = adapter_file();
         file[place] = 0xFF;
         let wanted = overwritten(rt.alloc(), place)?;
-        check(&rt, rt.alloc(), Command::Facts, &[&file], wanted.as_bytes())?;
+        check(&rt, rt.alloc(), Output::Facts, &[&file], wanted.as_bytes())?;
     }
     Ok(())
 }
@@ -395,6 +401,30 @@ fn each_fault_has_its_line_and_status(rt: HostRuntime) -> Result<(), Fail> {
     Ok(())
 }
 
+#[test]
+fn what_is_below_a_floor_does_not_count(rt: HostRuntime) -> Result<(), Fail> {
+    let (adapter, greatest) = (adapter_file(), greatest_store());
+    let both = [adapter.as_slice(), &greatest];
+    for (floor, output, text) in [
+        (
+            2,
+            Output::Facts,
+            b"floor 2\nclaim ffffffffffffffff/254 65535 @4294967295\n".as_slice(),
+        ),
+        (2, Output::Join, &greatest),
+        (2, Output::Plan, b""),
+        (
+            u32::MAX,
+            Output::Facts,
+            b"floor 4294967295\nclaim ffffffffffffffff/254 65535 @4294967295\n",
+        ),
+    ] {
+        let wrote = ended_within(rt.alloc(), 4096, from(floor, output)?, &both)?;
+        assert!(rt; wrote.bytes() == text, "{floor} {output:?}");
+    }
+    Ok(())
+}
+
 /// How a run over the adapter's file ends whose reader fails at a call.
 fn read_failing(alloc: Global, fails_at: u64) -> Result<ToRoom, Fail> {
     let file = adapter_file();
@@ -405,14 +435,14 @@ fn read_failing(alloc: Global, fails_at: u64) -> Result<ToRoom, Fail> {
         fails_at,
     }))?;
     let mut sink = ToRoom::new(alloc, 128)?;
-    if let Err(fault) = run_files(alloc, &mut sources, Command::Facts, &mut sink) {
+    if let Err(fault) = run_files(alloc, &mut sources, from(1, Output::Facts)?, &mut sink) {
         tell(&mut sink, fault)?;
     }
     Ok(sink)
 }
 
 /// How a run over the adapter's file ends whose writer fails at a call, and what it has taken.
-fn write_failing(alloc: Global, fails_at: u64) -> Result<(Result<(), Fault>, Vec<u8>), AllocError> {
+fn write_failing(alloc: Global, fails_at: u64) -> Result<(Result<(), Fault>, Vec<u8>), Fail> {
     let file = adapter_file();
     let mut sources = Vec::new(alloc);
     sources.push(FromBytes::new(&file))?;
@@ -422,7 +452,7 @@ fn write_failing(alloc: Global, fails_at: u64) -> Result<(Result<(), Fault>, Vec
         calls: 0,
         fails_at,
     });
-    let outcome = run_files(alloc, &mut sources, Command::Facts, &mut sink);
+    let outcome = run_files(alloc, &mut sources, from(1, Output::Facts)?, &mut sink);
     Ok((outcome, sink.into_inner().out))
 }
 

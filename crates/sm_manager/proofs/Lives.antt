@@ -1,15 +1,16 @@
 -- A manager knows the view of all that it took in.
-use Rattle.std.proofs.Common.{◌≡◌, ℕ, Bool, true, false, cond, List, [], ◌∷◌, ◌++◌, refl, sym, ap, ◌∙◌}
+use Rattle.std.proofs.Common.{◌≡◌, ℕ, Bool, true, false, cond, List, [], ◌∷◌, ◌++◌, refl, sym, ap, ◌∙◌, arith}
 use Rattle.std.proofs.lemmas.Bool.{cond_both}
 use Rattle.std.proofs.lemmas.List.{append_assoc, append-nil}
-use Rattle.std.specs.Prelude.{◌^◌, ◌==◌, nat_le, Option, Some, None, Result, Ok, Err, is_none}
+use Rattle.std.specs.Prelude.{◌^◌, ◌==◌, max, nat_le, Option, Some, None, Result, Ok, Err, is_none}
 use Rattle.smp_bytes.specs.Packet.{fault_of, status}
 use Rattle.smp_bytes.specs.declared.smp_fault.SmpFault.{SmpFault}
 use Rattle.fact_store.specs.Merge.{merge}
 use Rattle.fact_store.specs.Report.{Told}
-use Rattle.fact_store.specs.View.{Facts, view, cells_of, no_facts}
-use Rattle.fact_store.proofs.Merges.{merge_empty, merge_is_commutative}
-use Rattle.fact_store.proofs.Views.{members_decide_view, view_of_both}
+use Rattle.fact_store.specs.Seen.{seen}
+use Rattle.fact_store.specs.View.{Facts, view, view_at, cells_of, no_facts}
+use Rattle.fact_store.proofs.Merges.{at_same_floor, merge_empty, merge_is_commutative}
+use Rattle.fact_store.proofs.Views.{members_decide_view, raised_is_merge, view_of_both}
 use Rattle.sweep.specs.declared.answer.Answer.{Answer}
 use Rattle.sweep.specs.declared.fault.SweepFault.{SweepFault}
 use Rattle.sweep.specs.Replies.{judged}
@@ -29,7 +30,7 @@ use Rattle.sm_manager.specs.Plans.{writing_fault}
 use Rattle.sm_manager.specs.Requests.{counts, no_step_waits, with_number, without_number}
 use Rattle.sm_state.specs.declared.event.Message.{Message}
 use Rattle.sm_manager.specs.Writing.{is_done_by, is_spent, noted, phase_sent, step_over, went_on_with, writing_begun}
-use Rattle.sm_manager.specs.Calls.{Call, BeginSweep, WriteSteps, Take, Packet, Timeout, Merge, Poll, Handover, after_call, after_calls, told_if, told_of_reply, told_of_packet, told_in, taken_in, KnowsWhatItTookIn, SameTakenInSamePlan}
+use Rattle.sm_manager.specs.Calls.{Call, BeginSweep, WriteSteps, Take, Packet, Timeout, Raise, Merge, Poll, Handover, after_call, after_calls, told_if, told_of_reply, told_of_packet, told_in, taken_in, floor_in, greatest_floor, KnowsWhatItTookIn, SameTakenInSamePlan}
 
 -- what a call takes in is merged with what was known -------------------------------------------
 
@@ -119,7 +120,7 @@ module _ (m : Manager) where
   handing_keeps None = refl
   handing_keeps (Some lid) = refl
 
-  takes_call : (call : Call) → (after_call m call).store ≡ merge m.store (view (told_in m call))
+  takes_call : (call : Call) → (after_call m call).store ≡ merge m.store (view_at (floor_in call) (told_in m call))
   unfolding Takes
   takes_call BeginSweep =
       nothing_taken m _ (cond_both (is_none (begin_fault m)) (sweep_begun m) m (λ (x : Manager). x.store ≡ m.store) (λ _. refl) (λ _. refl))
@@ -128,7 +129,8 @@ module _ (m : Manager) where
   takes_call Take = nothing_taken m _ (taking_keeps m.outgoing)
   takes_call (Packet bytes from) = takes_packet bytes from (fault_of bytes)
   takes_call (Timeout transaction) = nothing_taken m _ (timeout_keeps transaction)
-  takes_call (Merge sightings) = refl
+  takes_call (Raise floor) = raised_is_merge m.store floor
+  takes_call (Merge floor sightings) = refl
   takes_call (Poll lid) =
       nothing_taken m _ (cond_both (is_none (poll_fault m)) (poll_sent m lid) m (λ (x : Manager). x.store ≡ m.store) (λ _. refl) (λ _. refl))
   takes_call Handover =
@@ -137,21 +139,27 @@ module _ (m : Manager) where
 -- the laws ------------------------------------------------------------------------------------------
 
 -- with what it knew before
-knows : (calls : List Call) (m : Manager) (before : Told) → m.store ≡ view before → (after_calls calls m).store ≡ view (before ++ taken_in calls m)
-knows [] m before e = e ∙ ap view (sym (append-nil before))
-knows (call ∷ calls) m before e =
-    knows calls (after_call m call) (before ++ told_in m call)
-    (takes_call m call ∙ ap (λ x. merge x (view (told_in m call))) e ∙ sym (view_of_both 1 1 before (told_in m call)))
-    ∙ ap view (append_assoc before (told_in m call) (taken_in calls (after_call m call)))
+knows : (calls : List Call) (m : Manager) (floor : ℕ) (before : Told) → m.store ≡ view_at floor before
+    → (after_calls calls m).store ≡ view_at (max floor (greatest_floor calls)) (before ++ taken_in calls m)
+knows [] m floor before e = e ∙ at_same_floor floor (max floor 1) (seen before) (omega arith) ∙ ap (view_at (max floor 1)) (sym (append-nil before))
+knows (call ∷ calls) m floor before e =
+    let told = before ++ (told_in m call ++ taken_in calls (after_call m call)) in
+    knows calls (after_call m call) (max floor (floor_in call)) (before ++ told_in m call)
+    (takes_call m call ∙ ap (λ x. merge x (view_at (floor_in call) (told_in m call))) e ∙ sym (view_of_both floor (floor_in call) before (told_in m call)))
+    ∙ ap (view_at (max (max floor (floor_in call)) (greatest_floor calls))) (append_assoc before (told_in m call) (taken_in calls (after_call m call)))
+    ∙ at_same_floor (max (max floor (floor_in call)) (greatest_floor calls)) (max floor (max (floor_in call) (greatest_floor calls))) (seen told) (omega arith)
 
 pub knows_what_it_took_in : KnowsWhatItTookIn
-knows_what_it_took_in port_guid port priority calls = knows calls (new_manager port_guid port priority) [] refl
+knows_what_it_took_in port_guid port priority calls =
+    let m = new_manager port_guid port priority in
+    knows calls m 1 [] refl ∙ at_same_floor (max 1 (greatest_floor calls)) (greatest_floor calls) (seen (taken_in calls m)) (omega arith)
 
 pub same_taken_in_same_plan : SameTakenInSamePlan
-same_taken_in_same_plan guid port priority guid' port' priority' calls calls' same =
+same_taken_in_same_plan guid port priority guid' port' priority' calls calls' floors same =
     let facts =
     knows_what_it_took_in guid port priority calls
-    ∙ members_decide_view 1 (taken_in calls (new_manager guid port priority)) (taken_in calls' (new_manager guid' port' priority')) same
+    ∙ members_decide_view (greatest_floor calls) (taken_in calls (new_manager guid port priority)) (taken_in calls' (new_manager guid' port' priority')) same
+    ∙ ap (λ floor. view_at floor (taken_in calls' (new_manager guid' port' priority'))) floors
     ∙ sym (knows_what_it_took_in guid' port' priority' calls') in
     record {
       facts = facts;

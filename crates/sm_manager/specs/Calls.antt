@@ -1,8 +1,8 @@
 -- A manager's life: one call after the other.
-use Rattle.std.specs.Prelude.{◌≡◌, ℕ, List, [], ◌∷◌, ◌++◌, Option, Some, None, Result, Ok, Err, if◌then◌else◌, is_none}
+use Rattle.std.specs.Prelude.{◌≡◌, ℕ, List, [], ◌∷◌, ◌++◌, Option, Some, None, Result, Ok, Err, if◌then◌else◌, is_none, max}
 use Rattle.fact_store.specs.Report.{Told}
 use Rattle.fact_store.specs.Seen.{HaveSameMembers}
-use Rattle.fact_store.specs.View.{view, cells_of}
+use Rattle.fact_store.specs.View.{view_at, cells_of}
 use Rattle.smp_bytes.specs.Packet.{fault_of}
 use Rattle.smp_bytes.specs.declared.smp_fault.SmpFault.{SmpFault}
 use Rattle.sweep.specs.declared.answer.Answer.{Answer}
@@ -12,20 +12,21 @@ use Rattle.sweep.specs.Sweep.{Sweep}
 use Rattle.lid_assign.specs.Lids.{IsNoRoom}
 use Rattle.lft_blocks.specs.Arrival.{EveryPacketArrives}
 use Rattle.lft_blocks.specs.Plan.{plan_of}
-use Rattle.sm_manager.specs.Manager.{Manager, new_manager, begin_fault, sweep_begun, merged, taken}
+use Rattle.sm_manager.specs.Manager.{Manager, new_manager, begin_fault, sweep_begun, floor_raised, merged, taken}
 use Rattle.sm_manager.specs.Election.{handed_over, handover_fault, poll_fault, poll_sent}
 use Rattle.sm_manager.specs.Packets.{took, gave_up, is_for_sweep, is_info_request}
 use Rattle.sm_manager.specs.Plans.{writing_fault}
 use Rattle.sm_manager.specs.Writing.{writing_begun}
 
--- what may change a manager; a store that is merged is told by sightings that it is the view of
+-- what may change a manager; a store that is merged is told by its floor, and by sightings that it is the view of there
 pub data Call : Type 0 where
   BeginSweep : Call
   WriteSteps : Call
   Take : Call
   Packet : (bytes : List ℕ) → (from : Option ℕ) → Call
   Timeout : (transaction : ℕ) → Call
-  Merge : (sightings : Told) → Call
+  Raise : (floor : ℕ) → Call
+  Merge : (floor : ℕ) → (sightings : Told) → Call
   Poll : (lid : ℕ) → Call
   Handover : Call
 
@@ -36,7 +37,8 @@ after_call m WriteSteps = if is_none (writing_fault m) then writing_begun m else
 after_call m Take = (taken m).manager
 after_call m (Packet bytes from) = (took m bytes from).manager
 after_call m (Timeout transaction) = (gave_up m transaction).manager
-after_call m (Merge sightings) = merged m (view sightings)
+after_call m (Raise floor) = floor_raised m floor
+after_call m (Merge floor sightings) = merged m (view_at floor sightings)
 after_call m (Poll lid) = if is_none (poll_fault m) then poll_sent m lid else m
 after_call m Handover = if is_none (handover_fault m) then handed_over m else m
 
@@ -68,7 +70,8 @@ told_in m WriteSteps = []
 told_in m Take = []
 told_in m (Packet bytes from) = told_of_packet m bytes (fault_of bytes)
 told_in m (Timeout transaction) = []
-told_in m (Merge sightings) = sightings
+told_in m (Raise floor) = []
+told_in m (Merge floor sightings) = sightings
 told_in m (Poll lid) = []
 told_in m Handover = []
 
@@ -77,12 +80,29 @@ abbrev pub taken_in : List Call → Manager → Told
 taken_in [] m = []
 taken_in (call ∷ calls) m = told_in m call ++ taken_in calls (after_call m call)
 
--- a manager knows the view of all that it took in, whatever else was asked of it
+-- the floor that a call raises or merges, or 1
+abbrev pub floor_in : Call → ℕ
+floor_in BeginSweep = 1
+floor_in WriteSteps = 1
+floor_in Take = 1
+floor_in (Packet bytes from) = 1
+floor_in (Timeout transaction) = 1
+floor_in (Raise floor) = floor
+floor_in (Merge floor sightings) = floor
+floor_in (Poll lid) = 1
+floor_in Handover = 1
+
+-- the greatest of these
+abbrev pub greatest_floor : List Call → ℕ
+greatest_floor [] = 1
+greatest_floor (call ∷ calls) = max (floor_in call) (greatest_floor calls)
+
+-- a manager knows the view of all that it took in at the greatest floor, whatever else was asked of it
 abbrev pub KnowsWhatItTookIn : Type 0
 KnowsWhatItTookIn = (port_guid port priority : ℕ) (calls : List Call) →
-    (after_calls calls (new_manager port_guid port priority)).store ≡ view (taken_in calls (new_manager port_guid port priority))
+    (after_calls calls (new_manager port_guid port priority)).store ≡ view_at (greatest_floor calls) (taken_in calls (new_manager port_guid port priority))
 
--- two managers that took in the same, in whatever order and however often, know the same and plan the same; and where that plan has room and is in
+-- two managers that took in the same, in whatever order and however often, and have one greatest floor know the same and plan the same; and where that plan has room and is in
 -- force in what an end port is joined to, each packet from each end port there for each of its LIDs arrives
 pub record KnowTheSame (one other : Manager) : Type 0 where
   pub facts : one.store ≡ other.store
@@ -91,5 +111,6 @@ pub record KnowTheSame (one other : Manager) : Type 0 where
 
 abbrev pub SameTakenInSamePlan : Type 0
 SameTakenInSamePlan = (guid port priority guid' port' priority' : ℕ) (calls calls' : List Call) →
+    greatest_floor calls ≡ greatest_floor calls' →
     HaveSameMembers (taken_in calls (new_manager guid port priority)) (taken_in calls' (new_manager guid' port' priority')) →
     KnowTheSame (after_calls calls (new_manager guid port priority)) (after_calls calls' (new_manager guid' port' priority'))

@@ -1,8 +1,8 @@
 -- A subnet manager: what it knows, its last sweep, and what it is about to send; and what it is asked to do.
 -- InfiniBand Architecture Specification, Volume 1: subnet management, subnet manager; topology discovery.
-use Rattle.std.specs.Prelude.{◌≡◌, ℕ, ◌+◌, ◌-◌, ◌^◌, Bool, false, not, List, [], ◌∷◌, ◌++◌, map, ◌==◌, if◌then◌else◌, Option, Some, None}
+use Rattle.std.specs.Prelude.{◌≡◌, ℕ, ◌+◌, ◌-◌, ◌^◌, max, Bool, false, not, List, [], ◌∷◌, ◌++◌, map, ◌==◌, if◌then◌else◌, Option, Some, None}
 use Rattle.fact_store.specs.Seen.{newest_of}
-use Rattle.fact_store.specs.View.{Facts, cells_of, no_facts}
+use Rattle.fact_store.specs.View.{Facts, cells_of, no_facts, raised}
 use Rattle.plan_steps.specs.Phases.{Phase}
 use Rattle.fact_store.specs.Merge.{merge}
 use Rattle.sweep.specs.declared.request.Request.{Request}
@@ -100,20 +100,28 @@ after_sweep m = record m { standing = if is_over m.sweep then swept m.seen m.sta
 abbrev pub newest_held : Facts → ℕ
 newest_held facts = newest_of (map (λ e. e.1) (cells_of facts))
 
+-- the generation of the next sweep: after all that it knows, and not below the floor
+abbrev pub next_generation : Facts → ℕ
+next_generation facts = max (newest_held facts + 1) facts.floor
+
 -- why no sweep begins: one runs, or the newest generation is the greatest that there is
 abbrev pub begin_fault : Manager → Option ManagerFault
 begin_fault m = if is_running m.sweep then Some SweepRunning else (if newest_held m.store == 2 ^ 32 - 1 then Some GenerationsSpent else None)
 
--- a sweep by the manager's own port, of a generation after all that it knows; it has seen no manager yet
+-- a sweep by the manager's own port, of the next generation; it has seen no manager yet
 abbrev pub sweep_begun : Manager → Manager
 sweep_begun m =
-    with_sweep (record m { standing = active_once_more m.standing; seen = [] }) (started m.port (newest_held m.store + 1) 1)
+    with_sweep (record m { standing = active_once_more m.standing; seen = [] }) (started m.port (next_generation m.store) 1)
 
 -- other calls ------------------------------------------------------------------------------------
 
 -- the facts of another store are merged with its own
 abbrev pub merged : Manager → Facts → Manager
 merged m facts = record m { store = merge m.store facts }
+
+-- it forgets what is below a floor
+abbrev pub floor_raised : Manager → ℕ → Manager
+floor_raised m floor = record m { store = raised m.store floor }
 
 -- the manager after its first packet was taken to be sent, and that packet
 pub record Taken : Type 0 where

@@ -2,14 +2,15 @@
 ghost use Rattle.sm_manager.specs.Calls.{KnowsWhatItTookIn, SameTakenInSamePlan};
 ghost use Rattle.sm_manager.specs.Seen.{HeirLaw};
 
-/// After any calls, in whatever order, a manager knows the view of all sightings that it took in: those of the reports that
-/// it accepted, and those behind the stores that it merged.
+/// After any calls, in whatever order, a manager knows the view of all sightings that it took in, at the greatest floor: those
+/// of the reports that it accepted, and those behind the stores that it merged; the floors that were raised, and those of
+/// these stores.
 #[tactic(auto, using(crate::proofs::Lives::knows_what_it_took_in))]
 pub fn knows_what_it_took_in()
     ensures { KnowsWhatItTookIn }
 {}
 
-/// So two managers that took in the same sightings hold equal facts and plan equal LIDs and forwarding blocks, whatever
+/// So two managers that took in the same sightings and have the same greatest floor hold equal facts and plan equal LIDs and forwarding blocks, whatever
 /// else befell them; and where what an end port is joined to is as these facts say, and holds that plan, each packet from
 /// each end port there for each LID of the plan arrives at the end port that owns it.
 #[tactic(auto, using(crate::proofs::Lives::same_taken_in_same_plan))]

@@ -2,7 +2,7 @@ ghost use Rattle.std.specs.Prelude.{◌≡◌, IfOk, OnOk, OnErr, slice_get};
 ghost use Rattle.fact_store.specs.View.{cells_of};
 ghost use Rattle.lft_blocks.specs.Arrival.{EveryPacketArrives};
 ghost use Rattle.lft_blocks.specs.Plan.{plan_of};
-ghost use Rattle.sm_manager.specs.Manager.{begin_fault, merged, new_manager, outstanding, progress_of, sweep_begun, taken};
+ghost use Rattle.sm_manager.specs.Manager.{begin_fault, floor_raised, merged, new_manager, outstanding, progress_of, sweep_begun, taken};
 ghost use Rattle.smp_bytes.specs.Judges.{JudgesButFor};
 ghost use Rattle.sm_manager.specs.Fault.{is_memory};
 ghost use Rattle.sm_manager.specs.Plans.{plan_fault};
@@ -71,8 +71,8 @@ impl Manager {
         }
     }
 
-    /// Begins a sweep, of the generation after the newest that is held, or of the first; what it asks first goes out. The
-    /// managers that the sweep before it saw are forgotten. Walks the store once.
+    /// Begins a sweep, of the generation after the newest that is held, or of the floor where that is greater; what it asks
+    /// first goes out. The managers that the sweep before it saw are forgotten. Walks the store once.
     ///
     /// # Errors
     ///
@@ -105,7 +105,16 @@ impl Manager {
         self.outgoing.pop_front()
     }
 
-    /// Takes in what another store holds. Walks both stores.
+    /// Forgets what is older than a generation, now and whenever it comes again. A sweep that runs goes on, and its replies
+    /// are taken, but tell nothing where it is older; the next one is not. Takes no memory. Walks the store where this floor
+    /// is greater than the one held.
+    pub fn raise_floor(&mut self, floor: Generation)
+        ensures { self.new ≡ floor_raised self.old floor }
+    {
+        self.store.raise_floor(floor);
+    }
+
+    /// Takes in what another store holds, and the greater floor. Walks both stores.
     ///
     /// # Errors
     ///

@@ -1,5 +1,5 @@
 ghost use Rattle.std.specs.Prelude.{◌≡◌, ◌+◌, ◌-◌, ◌^◌, IfSome, IsNone, OnOk, OnErr};
-ghost use Rattle.sm_manager.specs.Manager.{is_running, newest_held, swept};
+ghost use Rattle.sm_manager.specs.Manager.{is_running, newest_held, next_generation, swept};
 ghost use Rattle.sm_manager.specs.Packets.{HasSender, IsFaultWithoutRoom, gave_up, is_for_sweep, is_info_request, sweep_answered, sweep_gave_up, took};
 ghost use Rattle.smp_bytes.specs.Judges.{JudgesButFor};
 ghost use Rattle.sm_manager.specs.Fault.{is_memory, refusal_of};
@@ -140,9 +140,9 @@ impl Manager {
         }
     }
 
-    /// The generation after the newest that is held; none comes after the greatest.
+    /// The generation after the newest that is held, or the floor where that is greater; none comes after the greatest.
     pub(crate) fn next_generation(&self) -> Option<Generation>
-        ensures some { IfSome result (λ next. next ≡ newest_held self.now.store + 1) }
+        ensures some { IfSome result (λ next. next ≡ next_generation self.now.store) }
         ensures none { IsNone result → newest_held self.now.store ≡ 2 ^ 32 - 1 }
         ensures last { newest_held self.now.store ≡ 2 ^ 32 - 1 → IsNone result }
     {
@@ -150,7 +150,8 @@ impl Manager {
         if newest == u32::MAX {
             None
         } else {
-            Generation::new(newest + 1)
+            let floor = self.store.floor();
+            Generation::new((newest + 1).max(floor.number()))
         }
     }
 }

@@ -159,14 +159,18 @@ fn store_at(alloc: Global, generation: u32) -> Result<Store, Fail> {
 
 #[test]
 fn begins_after_what_it_merged(rt: HostRuntime) -> Result<(), Fail> {
-    for (newest, next) in [
-        (1, Some(2)),
-        (41, Some(42)),
-        (u32::MAX - 1, Some(u32::MAX)),
-        (u32::MAX, None),
+    // behind the newest, or at the floor, where all may be forgotten
+    for (newest, floor, next) in [
+        (1, 1, Some(2)),
+        (41, 9, Some(42)),
+        (41, 43, Some(43)),
+        (1, u32::MAX, Some(u32::MAX)),
+        (u32::MAX - 1, 1, Some(u32::MAX)),
+        (u32::MAX, 9, None),
     ] {
         let mut manager = manager(rt.alloc())?;
         manager.merge_from(&store_at(rt.alloc(), newest)?)?;
+        manager.raise_floor(Generation::new(floor).ok_or("0")?);
         let begun = manager.begin_sweep();
         let generation = manager.outstanding(0).map(|id| (id / 0x1_0000_0000) as u32);
         let refused = begun == Err(ManagerFault::GenerationsSpent);

@@ -1,4 +1,12 @@
-pub mod Growth
+pub mod Held
 pub mod Judging
+pub mod Merging
+pub mod Order
 pub mod Ports
+pub mod Printing
+pub mod Running
+pub mod Seating
+pub mod Seats
+pub mod Sending
+pub mod Turns
 pub mod Written

@@ -1,5 +1,8 @@
+pub mod Commands
 pub mod Flights
 pub mod Lines
+pub mod Prints
 pub mod Refusals
 pub mod Run
-pub mod Stops
+pub mod Tables
+pub mod World

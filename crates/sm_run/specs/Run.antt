@@ -18,6 +18,9 @@ use Rattle.sm_cli.specs.TextFault.{is_of_text}
 use Rattle.sm_cli.specs.declared.fault.Fault.{Fault}
 use Rattle.sm_cli.specs.declared.fault.Fault.TheVariants.{Open, File, Text, NoRoom, Write, Memory}
 use Rattle.sm_cli.specs.declared.text_fault.TextFault.TheVariants.{NotUtf8, Topology, Schedule}
+use Rattle.sm_run.specs.Commands.{run_text}
+use Rattle.sm_run.specs.declared.run_fault.RunFault.{RunFault}
+use Rattle.sm_run.specs.declared.run_fault.RunFault.TheVariants as runs
 
 -- judging ---------------------------------------------------------------------------------------
 
@@ -103,15 +106,27 @@ FailsToReadThem left has_failed interruptions left' has_failed' interruptions' o
     ⊎ FailsAtSchedule left has_failed left' has_failed' interruptions' old new old' new' place fault
 FailsToReadThem left has_failed interruptions left' has_failed' interruptions' old new old' new' fault = ⊥
 
+-- the texts tell this topology and, for it, this schedule
+pub record Tells (topology schedule : List ℕ) (layout : Layout) (script : Script) : Type 0 where
+  pub topology_told : TellsTopology topology layout
+  pub schedule_told : schedule_of layout.nodes schedule ≡ Ok script
+
 -- running ---------------------------------------------------------------------------------------
 
 -- both sources were read to their ends, and what they say has no fault
-pub record HasRun {T S : Type 0} (left : T → Option (List ℕ)) (has_failed : T → Bool) (left' : S → Option (List ℕ)) (has_failed' : S → Bool)
+pub record AreSound {T S : Type 0} (left : T → Option (List ℕ)) (has_failed : T → Bool) (left' : S → Option (List ℕ)) (has_failed' : S → Bool)
     (old new : T) (old' new' : S) : Type 0 where
   pub topology : List ℕ
   pub schedule : List ℕ
   pub read : AreRead left has_failed left' has_failed' old new old' new' topology schedule
   pub sound : input_fault topology schedule ≡ None
+
+-- they are so, and this holds of what their run prints
+pub record HasRun {T S : Type 0} (left : T → Option (List ℕ)) (has_failed : T → Bool) (left' : S → Option (List ℕ)) (has_failed' : S → Bool)
+    (old new : T) (old' new' : S)
+    (prints : List ℕ → Type 0) : Type 0 where
+  pub texts : AreSound left has_failed left' has_failed' old new old' new'
+  pub printed : prints (run_text texts.topology texts.schedule)
 
 -- both sources were read to their ends, and what they say is refused with this fault
 pub record IsRefusedInput {T S : Type 0} (left : T → Option (List ℕ)) (has_failed : T → Bool) (left' : S → Option (List ℕ)) (has_failed' : S → Bool)
@@ -126,19 +141,25 @@ pub record IsRefusedInput {T S : Type 0} (left : T → Option (List ℕ)) (has_f
 pub record FailsToWrite {T S : Type 0} (left : T → Option (List ℕ)) (has_failed : T → Bool) (left' : S → Option (List ℕ)) (has_failed' : S → Bool)
     (old new : T) (old' new' : S)
     (sink_failed : Bool) : Type 0 where
-  pub run : HasRun left has_failed left' has_failed' old new old' new'
+  pub texts : AreSound left has_failed left' has_failed' old new old' new'
   pub failed : IsTrue sink_failed
 
--- why a run ends early
+-- the fault of a run as one of the program
+abbrev pub fault_of_run : RunFault → Fault
+fault_of_run runs.Write = Write
+fault_of_run runs.Memory = Memory
+
+-- why a run ends early; where memory was refused as it went on, this holds of what it would have printed
 abbrev pub IsRunFault :
-    {T S : Type 0} → (T → Option (List ℕ)) → (T → Bool) → (T → ℕ) → (S → Option (List ℕ)) → (S → Bool) → (S → ℕ) → T → T → S → S → Bool → Fault → Type 0
-IsRunFault left has_failed interruptions left' has_failed' interruptions' old new old' new' sink_failed (Open place) = ⊥
-IsRunFault left has_failed interruptions left' has_failed' interruptions' old new old' new' sink_failed (File place fault) =
+    {T S : Type 0} → (T → Option (List ℕ)) → (T → Bool) → (T → ℕ) → (S → Option (List ℕ)) → (S → Bool) → (S → ℕ) → T → T → S → S → (List ℕ → Type 0)
+    → Bool → Fault → Type 0
+IsRunFault left has_failed interruptions left' has_failed' interruptions' old new old' new' prints sink_failed (Open place) = ⊥
+IsRunFault left has_failed interruptions left' has_failed' interruptions' old new old' new' prints sink_failed (File place fault) =
     FailsToReadThem left has_failed interruptions left' has_failed' interruptions' old new old' new' (File place fault)
-IsRunFault left has_failed interruptions left' has_failed' interruptions' old new old' new' sink_failed (Text place fault) =
+IsRunFault left has_failed interruptions left' has_failed' interruptions' old new old' new' prints sink_failed (Text place fault) =
     IsRefusedInput left has_failed left' has_failed' old new old' new' (Text place fault)
-IsRunFault left has_failed interruptions left' has_failed' interruptions' old new old' new' sink_failed (NoRoom why) = ⊥
-IsRunFault left has_failed interruptions left' has_failed' interruptions' old new old' new' sink_failed Write =
+IsRunFault left has_failed interruptions left' has_failed' interruptions' old new old' new' prints sink_failed (NoRoom why) = ⊥
+IsRunFault left has_failed interruptions left' has_failed' interruptions' old new old' new' prints sink_failed Write =
     FailsToWrite left has_failed left' has_failed' old new old' new' sink_failed
-IsRunFault left has_failed interruptions left' has_failed' interruptions' old new old' new' sink_failed Memory =
-    HasRun left has_failed left' has_failed' old new old' new'
+IsRunFault left has_failed interruptions left' has_failed' interruptions' old new old' new' prints sink_failed Memory =
+    HasRun left has_failed left' has_failed' old new old' new' prints

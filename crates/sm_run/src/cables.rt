@@ -1,11 +1,8 @@
 //! The commands about cables and ports.
-ghost use Rattle.std.specs.Prelude.{◌≡◌, None, OnOk};
-ghost use Rattle.std.specs.Io.KnownBytes.{Appends};
-ghost use Rattle.fabric_sim.specs.Changes.{cut, plugged};
-ghost use Rattle.fabric_sim.specs.Ping.{ping, ping_fault};
-ghost use Rattle.fabric_sim.specs.Simulation.{fabric_of};
-ghost use Rattle.sm_run.specs.Lines.{ping_line};
-ghost use Rattle.sm_run.specs.Stops.{StopsFor};
+ghost use Rattle.std.specs.Prelude.{◌≡◌, length, OnOk};
+ghost use Rattle.sm_run.specs.Commands.{cut_run, ping_shown, plug_run};
+ghost use Rattle.sm_run.specs.Prints.{PrintsUnless};
+ghost use Rattle.sm_run.specs.World.{value_of};
 
 use crate::lines::write_ping;
 use crate::refusals::refuse_fabric;
@@ -17,10 +14,12 @@ use topo_file::Topology;
 
 impl World<'_> {
     /// The cable in a port is cut.
+    #[tactic(auto, unfolding(crate::specs::Commands::cut_run))]
     pub(crate) fn cut<W: Sink>(&mut self, port: NodePort, sink: &mut W) -> Result<(), RunFault>
-        ensures fabric { self.new.fabric ≡ (cut self.old.fabric port).fabric }
-        ensures managers { self.new.managers ≡ self.old.managers }
-        ensures stops { StopsFor W.written W.has_failed result sink.old sink.new }
+        ensures managers { length self.new.managers.items ≡ length self.old.managers.items }
+        ensures leaves { OnOk result (value_of self.new ≡ (cut_run (value_of self.old) port).now) }
+        ensures prints { PrintsUnless W.written W.has_failed result sink.old sink.new
+            (cut_run (value_of self.old) port).text }
     {
         match self.fabric.cut(port) {
             Ok(()) => Ok(()),
@@ -29,15 +28,17 @@ impl World<'_> {
     }
 
     /// A cable is plugged into two ports.
+    #[tactic(auto, unfolding(crate::specs::Commands::plug_run))]
     pub(crate) fn plug<W: Sink>(
         &mut self,
         one: NodePort,
         other: NodePort,
         sink: &mut W,
     ) -> Result<(), RunFault>
-        ensures fabric { self.new.fabric ≡ (plugged self.old.fabric one other).fabric }
-        ensures managers { self.new.managers ≡ self.old.managers }
-        ensures stops { StopsFor W.written W.has_failed result sink.old sink.new }
+        ensures managers { length self.new.managers.items ≡ length self.old.managers.items }
+        ensures leaves { OnOk result (value_of self.new ≡ (plug_run (value_of self.old) one other).now) }
+        ensures prints { PrintsUnless W.written W.has_failed result sink.old sink.new
+            (plug_run (value_of self.old) one other).text }
     {
         match self.fabric.plug(one, other) {
             Ok(()) => Ok(()),
@@ -46,6 +47,7 @@ impl World<'_> {
     }
 
     /// Prints where a packet comes to that is sent from a port to a LID.
+    #[tactic(auto, using(crate::proofs::Printing::wrote), unfolding(crate::specs::Commands::ping_shown))]
     pub(crate) fn show_ping<W: Sink>(
         &self,
         topology: &Topology,
@@ -53,10 +55,8 @@ impl World<'_> {
         lid: Lid,
         sink: &mut W,
     ) -> Result<(), RunFault>
-        ensures reached { OnOk result (ping_fault self.now.fabric from ≡ None
-            → Appends (W.written sink.old) (W.written sink.new)
-            (ping_line topology.now.nodes from lid (ping (fabric_of self.now.fabric) lid from))) }
-        ensures stops { StopsFor W.written W.has_failed result sink.old sink.new }
+        ensures prints { PrintsUnless W.written W.has_failed result sink.old sink.new
+            (ping_shown topology.now.nodes (value_of self.now) from lid) }
     {
         match self.fabric.ping(from, lid) {
             Ok(ping) => {

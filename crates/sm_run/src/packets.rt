@@ -1,7 +1,10 @@
 //! The commands about packets in flight.
-ghost use Rattle.std.specs.Prelude.{◌≡◌, length};
-ghost use Rattle.sm_run.specs.Stops.{StopsFor};
-ghost use Rattle.sm_run.specs.Flights.{serial_of, without};
+ghost use Rattle.std.specs.Prelude.{◌≡◌, ◌<◌, length, OnOk};
+ghost use Rattle.sm_run.specs.Commands.{deliver_run, drain_run, flights_text, handed_up};
+ghost use Rattle.sm_run.specs.Commands.{lose_run, repeat_run, step_run, taken_by};
+ghost use Rattle.sm_run.specs.Flights.{serial_of};
+ghost use Rattle.sm_run.specs.Prints.{PrintsUnless};
+ghost use Rattle.sm_run.specs.World.{value_of};
 
 use crate::lines::write_flight;
 use crate::refusals::{refuse_fabric, refuse_manager};
@@ -16,9 +19,12 @@ use topo_file::Topology;
 impl World<'_> {
     /// A packet in flight takes one step. What comes to a manager is taken in by it, and what it
     /// queues then goes out.
+    #[tactic(auto, unfolding(crate::specs::Commands::deliver_run))]
     pub(crate) fn deliver<W: Sink>(&mut self, which: Which, sink: &mut W) -> Result<(), RunFault>
         ensures managers { length self.new.managers.items ≡ length self.old.managers.items }
-        ensures stops { StopsFor W.written W.has_failed result sink.old sink.new }
+        ensures leaves { OnOk result (value_of self.new ≡ (deliver_run (value_of self.old) which).now) }
+        ensures prints { PrintsUnless W.written W.has_failed result sink.old sink.new
+            (deliver_run (value_of self.old) which).text }
     {
         match serial(&self.fabric, which) {
             Some(serial) => self.deliver_one(serial, sink),
@@ -27,10 +33,12 @@ impl World<'_> {
     }
 
     /// A packet in flight is lost.
+    #[tactic(auto, unfolding(crate::specs::Commands::lose_run))]
     pub(crate) fn lose<W: Sink>(&mut self, which: Which, sink: &mut W) -> Result<(), RunFault>
-        ensures fabric { self.new.fabric ≡ without self.old.fabric (serial_of self.old.fabric.flights which) }
-        ensures managers { self.new.managers ≡ self.old.managers }
-        ensures stops { StopsFor W.written W.has_failed result sink.old sink.new }
+        ensures managers { length self.new.managers.items ≡ length self.old.managers.items }
+        ensures leaves { OnOk result (value_of self.new ≡ (lose_run (value_of self.old) which).now) }
+        ensures prints { PrintsUnless W.written W.has_failed result sink.old sink.new
+            (lose_run (value_of self.old) which).text }
     {
         let Some(serial) = serial(&self.fabric, which) else {
             return refuse_fabric(sink, FabricFault::NoSuchPacket);
@@ -42,9 +50,12 @@ impl World<'_> {
     }
 
     /// A packet in flight is there once more.
+    #[tactic(auto, unfolding(crate::specs::Commands::repeat_run))]
     pub(crate) fn repeat<W: Sink>(&mut self, which: Which, sink: &mut W) -> Result<(), RunFault>
-        ensures managers { self.new.managers ≡ self.old.managers }
-        ensures stops { StopsFor W.written W.has_failed result sink.old sink.new }
+        ensures managers { length self.new.managers.items ≡ length self.old.managers.items }
+        ensures leaves { OnOk result (value_of self.new ≡ (repeat_run (value_of self.old) which).now) }
+        ensures prints { PrintsUnless W.written W.has_failed result sink.old sink.new
+            (repeat_run (value_of self.old) which).text }
     {
         let Some(serial) = serial(&self.fabric, which) else {
             return refuse_fabric(sink, FabricFault::NoSuchPacket);
@@ -56,12 +67,13 @@ impl World<'_> {
     }
 
     /// The packet of the least serial number takes a step, at most so many times.
-    #[tactic(auto, using(crate::proofs::Growth::grown_then, crate::proofs::Growth::stops_then))]
     pub(crate) fn drain<W: Sink>(&mut self, most: u32, sink: &mut W) -> Result<(), RunFault>
         ensures managers { length self.new.managers.items ≡ length self.old.managers.items }
-        ensures stops { StopsFor W.written W.has_failed result sink.old sink.new }
+        ensures leaves { OnOk result (value_of self.new ≡ (drain_run (value_of self.old) most).now) }
+        ensures prints { PrintsUnless W.written W.has_failed result sink.old sink.new
+            (drain_run (value_of self.old) most).text }
     {
-        for _ in 0..most {
+        for _step in 0..most {
             let Some(first) = self.fabric.in_flight(0) else {
                 return Ok(());
             };
@@ -72,13 +84,13 @@ impl World<'_> {
     }
 
     /// Prints the packets in flight, by rising serial number.
-    #[tactic(auto, using(crate::proofs::Growth::grown_then, crate::proofs::Growth::wrote, crate::proofs::Growth::stops_then))]
     pub(crate) fn show_flight<W: Sink>(
         &self,
         topology: &Topology,
         sink: &mut W,
     ) -> Result<(), RunFault>
-        ensures stops { StopsFor W.written W.has_failed result sink.old sink.new }
+        ensures prints { PrintsUnless W.written W.has_failed result sink.old sink.new
+            (flights_text topology.now.nodes self.now.fabric.flights) }
     {
         for i in 0..self.fabric.flight_count() {
             let flight = self.fabric.in_flight(i).unwrap();
@@ -88,9 +100,12 @@ impl World<'_> {
     }
 
     /// The packet with a serial number takes one step.
+    #[tactic(auto, using(crate::proofs::Printing::prints_then), unfolding(crate::specs::Commands::step_run))]
     fn deliver_one<W: Sink>(&mut self, serial: u64, sink: &mut W) -> Result<(), RunFault>
         ensures managers { length self.new.managers.items ≡ length self.old.managers.items }
-        ensures stops { StopsFor W.written W.has_failed result sink.old sink.new }
+        ensures leaves { OnOk result (value_of self.new ≡ (step_run (value_of self.old) serial).now) }
+        ensures prints { PrintsUnless W.written W.has_failed result sink.old sink.new
+            (step_run (value_of self.old) serial).text }
     {
         match self.fabric.deliver(serial) {
             Ok(Delivered::ToManager(port, packet)) => self.hand_up(&port, &packet, sink),
@@ -101,7 +116,7 @@ impl World<'_> {
 
     /// The manager at a port takes a packet in, and what it queues then goes out. Where none sits
     /// the packet is dropped.
-    #[tactic(auto, using(crate::proofs::Growth::grown_then, crate::proofs::Growth::stops_then))]
+    #[tactic(auto, using(crate::proofs::Printing::prints_then, crate::proofs::Printing::ends_in), unfolding(crate::specs::Commands::handed_up, crate::specs::Commands::took_run))]
     fn hand_up<W: Sink>(
         &mut self,
         port: &NodePort,
@@ -109,16 +124,36 @@ impl World<'_> {
         sink: &mut W,
     ) -> Result<(), RunFault>
         ensures managers { length self.new.managers.items ≡ length self.old.managers.items }
-        ensures stops { StopsFor W.written W.has_failed result sink.old sink.new }
+        ensures leaves { OnOk result (value_of self.new ≡ (handed_up (value_of self.old) port.now packet.now).now) }
+        ensures prints { PrintsUnless W.written W.has_failed result sink.old sink.new
+            (handed_up (value_of self.old) port.now packet.now).text }
     {
         let Some(seat) = self.manager_at(port) else {
             return Ok(());
         };
-        let manager = &mut self.managers[seat].manager;
-        if let Err(fault) = manager.on_packet(&packet.bytes, Some(packet.slid)) {
-            refuse_manager(sink, fault)?;
-        }
+        self.take_in(seat, packet, sink)?;
         self.send(seat, sink)
+    }
+
+    /// A manager takes a packet in.
+    fn take_in<W: Sink>(
+        &mut self,
+        seat: usize,
+        packet: &Packet,
+        sink: &mut W,
+    ) -> Result<(), RunFault>
+        requires { seat < length self.old.managers.items }
+        ensures managers { length self.new.managers.items ≡ length self.old.managers.items }
+        ensures leaves { OnOk result (value_of self.new
+            ≡ (taken_by (value_of self.old) seat packet.now).now) }
+        ensures prints { PrintsUnless W.written W.has_failed result sink.old sink.new
+            (taken_by (value_of self.old) seat packet.now).text }
+    {
+        let manager = &mut self.managers[seat].manager;
+        match manager.on_packet(&packet.bytes, Some(packet.slid)) {
+            Ok(()) => Ok(()),
+            Err(fault) => refuse_manager(sink, fault),
+        }
     }
 }
 

@@ -1,11 +1,10 @@
 //! What is printed of a call that is refused: its innermost fault's name.
-ghost use Rattle.std.specs.Prelude.{◌≡◌, ◌↔◌, Err, OnOk};
-ghost use Rattle.std.specs.Io.KnownBytes.{Appends};
+ghost use Rattle.std.specs.Prelude.{◌≡◌, ◌↔◌, Err};
 ghost use Rattle.record_file.specs.Writes.{Writes};
 ghost use Rattle.fabric_sim.specs.FabricFault.{fabric_fault_name};
 ghost use Rattle.sm_manager.specs.Fault.{manager_fault_name};
+ghost use Rattle.sm_run.specs.Prints.{PrintsUnless};
 ghost use Rattle.sm_run.specs.Refusals.{refusal_line};
-ghost use Rattle.sm_run.specs.Stops.{StopsFor};
 
 use crate::run_fault::RunFault;
 use fabric_sim::FabricFault;
@@ -14,10 +13,10 @@ use sm_manager::ManagerFault;
 
 /// Prints that the fabric refuses a call. Want of memory is not printed, and ends the run.
 pub(crate) fn refuse_fabric<W: Sink>(sink: &mut W, fault: FabricFault) -> Result<(), RunFault>
-    ensures stops { StopsFor W.written W.has_failed result sink.old sink.new }
+    ensures prints { PrintsUnless W.written W.has_failed result sink.old sink.new
+        (refusal_line (fabric_fault_name fault)) }
     ensures memory { (result ≡ Err RunFault.Memory) ↔ (fault ≡ FabricFault.Memory) }
-    ensures prints { OnOk result (Appends (W.written sink.old) (W.written sink.new)
-        (refusal_line (fabric_fault_name fault))) }
+    ensures unprinted { fault ≡ FabricFault.Memory → sink.new ≡ sink.old }
 {
     if fault == FabricFault::Memory {
         return Err(RunFault::Memory);
@@ -28,10 +27,10 @@ pub(crate) fn refuse_fabric<W: Sink>(sink: &mut W, fault: FabricFault) -> Result
 
 /// Prints that a manager refuses a call. Want of memory is not printed, and ends the run.
 pub(crate) fn refuse_manager<W: Sink>(sink: &mut W, fault: ManagerFault) -> Result<(), RunFault>
-    ensures stops { StopsFor W.written W.has_failed result sink.old sink.new }
+    ensures prints { PrintsUnless W.written W.has_failed result sink.old sink.new
+        (refusal_line (manager_fault_name fault)) }
     ensures memory { (result ≡ Err RunFault.Memory) ↔ (fault ≡ ManagerFault.Memory) }
-    ensures prints { OnOk result (Appends (W.written sink.old) (W.written sink.new)
-        (refusal_line (manager_fault_name fault))) }
+    ensures unprinted { fault ≡ ManagerFault.Memory → sink.new ≡ sink.old }
 {
     if fault == ManagerFault::Memory {
         return Err(RunFault::Memory);

@@ -1,8 +1,10 @@
 //! The run of a schedule.
 ghost use Rattle.std.specs.Prelude.{◌≡◌, ◌⊎◌, Err, false, length, IfErr, OnOk, OnErr, IsTrue};
 ghost use Rattle.schedule_file.specs.Schedule.{IsScript, NamesManagers};
+ghost use Rattle.sm_run.specs.Commands.{command_run, script_text};
+ghost use Rattle.sm_run.specs.Prints.{Prints, PrintsSome, PrintsUnless};
 ghost use Rattle.sm_run.specs.Run.{HasRun, IsRunFault};
-ghost use Rattle.sm_run.specs.Stops.{HasGrown, StopsFor};
+ghost use Rattle.sm_run.specs.World.{value_of};
 
 use crate::run_fault::RunFault;
 use crate::texts::{Setting, judge, read_texts};
@@ -17,11 +19,12 @@ use topo_file::Topology;
 /// first, and then judged, the topology first; then the commands are run in their order, and their
 /// output is flushed.
 ///
-/// Where an input is refused nothing is written; how much went out before a write failed or memory
-/// was refused is not said. What a fault says of a file is said of place 0 for the topology, and of
-/// place 1 for the schedule. A call that the fabric or a manager refuses is told by a line with its
-/// fault's name, and the run goes on; only want of memory ends it. Which lines the commands print
-/// is in `docs/FORMATS.md`, and shown by tests; no clause says it.
+/// What is written is `run_text` of the two texts: the lines of all commands in turn. Where an input
+/// is refused nothing is written; where memory is refused as the commands are run it is a beginning
+/// of that text; how much went out before a write failed is not said. What a fault says of a file is
+/// said of place 0 for the topology, and of place 1 for the schedule. A call that the fabric or a
+/// manager refuses is told by a line with its fault's name, and the run goes on; only want of memory
+/// ends it. `docs/FORMATS.md` has the table of the commands.
 ///
 /// It takes the memory of both texts, of the fabric and of what is in flight and known. A delivery
 /// takes one step where the packet of the least serial number is delivered, as `drain` does, and a
@@ -33,14 +36,14 @@ pub fn run_schedule<T: Source, S: Source, W: Sink>(
     sink: &mut W,
 ) -> Result<(), Fault>
     ensures done { OnOk result (HasRun T.left T.has_failed S.left S.has_failed
-        topology.old topology.new schedule.old schedule.new) }
+        topology.old topology.new schedule.old schedule.new
+        (Prints W.written W.has_failed sink.old sink.new)) }
     ensures flushed { OnOk result (IsTrue (W.is_flushed sink.new)) }
     ensures sink_works { OnOk result (W.has_failed sink.new ≡ false) }
-    ensures grown { OnOk result (HasGrown W.written W.has_failed sink.old sink.new) }
-    ensures memory { result ≡ Err Fault.Memory → HasGrown W.written W.has_failed sink.old sink.new }
     ensures refused { IfErr result (IsRunFault T.left T.has_failed T.interruptions
         S.left S.has_failed S.interruptions
-        topology.old topology.new schedule.old schedule.new (W.has_failed sink.new)) }
+        topology.old topology.new schedule.old schedule.new
+        (PrintsSome W.written W.has_failed sink.old sink.new) (W.has_failed sink.new)) }
     ensures nothing_written { OnErr result ((result ≡ Err Fault.Write)
         ⊎ (result ≡ Err Fault.Memory) ⊎ (sink.new ≡ sink.old)) }
 {
@@ -51,10 +54,10 @@ pub fn run_schedule<T: Source, S: Source, W: Sink>(
 }
 
 /// Runs the commands of a schedule, and flushes.
-#[tactic(auto, using(crate::proofs::Growth::grown_then, crate::proofs::Growth::wrote, crate::proofs::Growth::stops_then))]
 fn run<W: Sink>(alloc: Global, setting: &Setting, sink: &mut W) -> Result<(), RunFault>
     requires { IsScript setting.now.topology.nodes setting.now.schedule }
-    ensures stops { StopsFor W.written W.has_failed result sink.old sink.new }
+    ensures prints { PrintsUnless W.written W.has_failed result sink.old sink.new
+        (script_text setting.now.topology setting.now.schedule) }
     ensures flushed { OnOk result (IsTrue (W.is_flushed sink.new)) }
     ensures sink_works { OnOk result (W.has_failed sink.new ≡ false) }
 {
@@ -77,7 +80,10 @@ impl World<'_> {
     ) -> Result<(), RunFault>
         requires { NamesManagers (length self.old.managers.items) command }
         ensures managers { length self.new.managers.items ≡ length self.old.managers.items }
-        ensures stops { StopsFor W.written W.has_failed result sink.old sink.new }
+        ensures leaves { OnOk result (value_of self.new
+            ≡ (command_run topology.now.nodes (value_of self.old) command).now) }
+        ensures prints { PrintsUnless W.written W.has_failed result sink.old sink.new
+            (command_run topology.now.nodes (value_of self.old) command).text }
     {
         match command {
             Command::Manager(seat) => self.seat(seat, sink),
@@ -85,6 +91,10 @@ impl World<'_> {
             Command::Write(seat) => self.write(seat, sink),
             Command::Handover(seat) => self.hand_over(seat, sink),
             Command::Poll(seat, lid) => self.poll(seat, lid, sink),
+            Command::Floor(seat, floor) => {
+                self.raise_floor(seat, floor);
+                Ok(())
+            }
             Command::Merge(seat, other) => self.merge(seat, other, sink),
             Command::Deliver(which) => self.deliver(which, sink),
             Command::Lose(which) => self.lose(which, sink),

@@ -46,7 +46,7 @@ impl<T: Drop> From<AllocFailed<T>> for RunFault {
 
 impl From<RunFault> for Fault {
     ghost use Rattle.std.specs.Prelude.{◌≡◌};
-    ghost use Rattle.sm_run.specs.Stops.{fault_of_run};
+    ghost use Rattle.sm_run.specs.Run.{fault_of_run};
 
     ghost from_gives = { λ run fault. fault ≡ fault_of_run run };
 

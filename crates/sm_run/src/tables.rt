@@ -1,8 +1,9 @@
 //! What the agents of a fabric hold, in the form of a plan.
-ghost use Rattle.std.specs.Prelude.{◌≡◌, ◌+◌, ◌*◌, ◌<◌, map};
-ghost use Rattle.std.specs.List.{range_with_len};
-ghost use Rattle.node_agents.specs.Agent.{entry_at};
-ghost use Rattle.sm_run.specs.Stops.{StopsFor};
+ghost use Rattle.std.specs.Prelude.{◌≡◌, ◌++◌, ◌<◌, map, IfOk, OnOk};
+ghost use Rattle.sm_run.specs.Prints.{PrintsUnless};
+ghost use Rattle.std.specs.List.{flat_map};
+ghost use Rattle.sm_run.specs.Tables.{all_held, block_at, blocks_text, held_by, held_line};
+ghost use Rattle.sm_run.specs.Tables.{switches, table_text, tables_text};
 
 use crate::run_fault::RunFault;
 use crate::world::World;
@@ -16,30 +17,37 @@ use subnet_view::EndPort;
 
 impl World<'_> {
     /// Prints the LIDs that ports hold, and then the forwarding tables of all switches.
-    #[tactic(auto, using(crate::proofs::Growth::grown_then, crate::proofs::Growth::wrote, crate::proofs::Growth::stops_then))]
+    #[tactic(auto, using(crate::proofs::Printing::prints_then), unfolding(crate::specs::Tables::tables_text))]
     pub(crate) fn show_tables<W: Sink>(&self, alloc: Global, sink: &mut W) -> Result<(), RunFault>
-        ensures stops { StopsFor W.written W.has_failed result sink.old sink.new }
+        ensures prints { PrintsUnless W.written W.has_failed result sink.old sink.new
+            (tables_text self.now.fabric) }
     {
         let lids = held_lids(alloc, &self.fabric)?;
-        for (lid, node, port) in &lids {
-            write_lid(
-                sink,
-                *lid,
-                EndPort {
-                    node: *node,
-                    port: *port,
-                },
-            )?;
-        }
-        for switch in &switches(alloc, &self.fabric)? {
-            write_table(sink, switch)?;
-        }
-        Ok(())
+        write_held(sink, &lids)?;
+        let switches = switches(alloc, &self.fabric)?;
+        write_tables(sink, &switches)
     }
 }
 
+/// Prints LIDs, with the GUIDs of the nodes and the numbers of the ports that hold them.
+fn write_held<W: Sink>(sink: &mut W, lids: &[(Lid, Guid, PortNum)]) -> Result<(), RunFault>
+    ensures prints { PrintsUnless W.written W.has_failed result sink.old sink.new
+        (flat_map held_line lids.now) }
+{
+    for (lid, node, port) in lids {
+        let port = EndPort {
+            node: *node,
+            port: *port,
+        };
+        write_lid(sink, *lid, port)?;
+    }
+    Ok(())
+}
+
 /// The LIDs that ports hold, with the GUIDs of their nodes and their numbers, in this order.
-fn held_lids(alloc: Global, fabric: &Fabric) -> Result<Vec<(Lid, Guid, PortNum)>, AllocError> {
+fn held_lids(alloc: Global, fabric: &Fabric) -> Result<Vec<(Lid, Guid, PortNum)>, AllocError>
+    ensures { IfOk result (λ held. held.items ≡ all_held fabric.now.agents) }
+{
     let mut held = Vec::new(alloc);
     for place in 0..fabric.node_count() {
         hold_lids(&mut held, fabric.agent(place).unwrap())?;
@@ -49,7 +57,9 @@ fn held_lids(alloc: Global, fabric: &Fabric) -> Result<Vec<(Lid, Guid, PortNum)>
 }
 
 /// And those of a node.
-fn hold_lids(held: &mut Vec<(Lid, Guid, PortNum)>, agent: &Agent) -> Result<(), AllocError> {
+fn hold_lids(held: &mut Vec<(Lid, Guid, PortNum)>, agent: &Agent) -> Result<(), AllocError>
+    ensures { OnOk result (held.new.items ≡ held.old.items ++ held_by agent.now) }
+{
     for port in 0..=agent.ports() {
         let port = PortNum::new(port);
         let lid = agent.base_lid(port);
@@ -61,7 +71,9 @@ fn hold_lids(held: &mut Vec<(Lid, Guid, PortNum)>, agent: &Agent) -> Result<(), 
 }
 
 /// The agents of the switches by their GUIDs, and then by their places.
-fn switches<'f>(alloc: Global, fabric: &'f Fabric) -> Result<Vec<&'f Agent>, AllocError> {
+fn switches<'f>(alloc: Global, fabric: &'f Fabric) -> Result<Vec<&'f Agent>, AllocError>
+    ensures { IfOk result (λ found. map (λ agent. agent.now) found.items ≡ switches fabric.now.agents) }
+{
     let mut switches = Vec::new(alloc);
     for place in 0..fabric.node_count() {
         let agent = fabric.agent(place).unwrap();
@@ -73,14 +85,32 @@ fn switches<'f>(alloc: Global, fabric: &'f Fabric) -> Result<Vec<&'f Agent>, All
     Ok(switches)
 }
 
-/// Prints a switch's GUID and the top of its table, and the blocks up to the top's.
-#[tactic(auto, using(crate::proofs::Growth::grown_then, crate::proofs::Growth::wrote, crate::proofs::Growth::stops_then))]
-fn write_table<W: Sink>(sink: &mut W, agent: &Agent) -> Result<(), RunFault>
-    ensures stops { StopsFor W.written W.has_failed result sink.old sink.new }
+/// Prints switches.
+fn write_tables<W: Sink>(sink: &mut W, switches: &[&Agent]) -> Result<(), RunFault>
+    ensures prints { PrintsUnless W.written W.has_failed result sink.old sink.new
+        (flat_map (λ agent. table_text agent.now) switches.now) }
 {
-    let top = agent.top();
-    write_switch(sink, top, agent.guid())?;
-    for b in 0..usize::from(top.number()) / 64 + 1 {
+    for switch in switches {
+        write_table(sink, switch)?;
+    }
+    Ok(())
+}
+
+/// Prints a switch's GUID and the top of its table, and the blocks up to the top's.
+fn write_table<W: Sink>(sink: &mut W, agent: &Agent) -> Result<(), RunFault>
+    ensures prints { PrintsUnless W.written W.has_failed result sink.old sink.new
+        (table_text agent.now) }
+{
+    write_switch(sink, agent.top(), agent.guid())?;
+    write_blocks(sink, agent)
+}
+
+/// Prints the blocks of a switch, up to its top's.
+fn write_blocks<W: Sink>(sink: &mut W, agent: &Agent) -> Result<(), RunFault>
+    ensures prints { PrintsUnless W.written W.has_failed result sink.old sink.new
+        (blocks_text agent.now) }
+{
+    for b in 0..usize::from(agent.top().number()) / 64 + 1 {
         write_block(sink, b, &block(agent, b))?;
     }
     Ok(())
@@ -89,7 +119,7 @@ fn write_table<W: Sink>(sink: &mut W, agent: &Agent) -> Result<(), RunFault>
 /// A block of a switch.
 fn block(agent: &Agent, b: usize) -> [u8; 64]
     requires { b < 1024 }
-    ensures { result ≡ map (λ i. entry_at agent.now (64 * b + i)) (range_with_len 0 64) }
+    ensures { result ≡ block_at agent.now b }
 {
     let mut block = [0; 64];
     for i in 0..64 {

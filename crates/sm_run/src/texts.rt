@@ -1,7 +1,7 @@
 //! The two texts of a run: they are read, and then judged.
-ghost use Rattle.std.specs.Prelude.{◌≡◌, ℕ, List, IfOk, IfErr, OnOk, None};
-ghost use Rattle.schedule_file.specs.Schedule.{IsScript};
-ghost use Rattle.sm_run.specs.Run.{AreRead, FailsToReadThem, RefusesScript, RefusesTexts};
+ghost use Rattle.std.specs.Prelude.{◌≡◌, ℕ, List, IfOk, IfErr, Ok, OnOk, None};
+ghost use Rattle.schedule_file.specs.Schedule.{IsScript, schedule_of};
+ghost use Rattle.sm_run.specs.Run.{AreRead, FailsToReadThem, RefusesScript, RefusesTexts, Tells};
 ghost use Rattle.sm_run.specs.Run.{TellsTopology, input_fault, schedule_fault};
 
 use record_file::{Source, read_whole};
@@ -64,6 +64,8 @@ pub(crate) fn read_texts<T: Source, S: Source>(
 pub(crate) fn judge(alloc: Global, texts: &Texts) -> Result<Setting, Fault>
     ensures sound { OnOk result
         (input_fault texts.now.topology.items texts.now.schedule.items ≡ None) }
+    ensures told { IfOk result (λ setting. Tells texts.now.topology.items
+        texts.now.schedule.items setting.topology setting.schedule) }
     ensures script { IfOk result (λ setting. IsScript setting.topology.nodes setting.schedule) }
     ensures refused { IfErr result
         (RefusesTexts texts.now.topology.items texts.now.schedule.items) }
@@ -90,6 +92,8 @@ fn judge_topology(alloc: Global, bytes: &[u8]) -> Result<Topology, Fault>
 /// The schedule for a topology that bytes tell.
 fn judge_schedule(alloc: Global, topology: &Topology, bytes: &[u8]) -> Result<Schedule, Fault>
     ensures sound { OnOk result (schedule_fault topology.now.nodes bytes.now ≡ None) }
+    ensures told { IfOk result (λ schedule.
+        schedule_of topology.now.nodes bytes.now ≡ Ok schedule) }
     ensures script { IfOk result (IsScript topology.now.nodes) }
     ensures refused { IfErr result (RefusesScript topology.now.nodes bytes.now) }
 {

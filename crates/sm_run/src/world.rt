@@ -1,9 +1,12 @@
 //! A simulated fabric and the managers that sit in it.
-ghost use Rattle.std.specs.Prelude.{◌≡◌, ◌+◌, ◌<◌, true, All, IfOk, IfSome, Some, length};
+ghost use Rattle.std.specs.Prelude.{◌≡◌, ◌+◌, ◌<◌, true, All, IfOk, IfSome, OnOk, Some, length};
 ghost use Rattle.std.specs.Prelude.{option_map, slice_get};
 ghost use Rattle.schedule_file.specs.Schedule.{is_seat};
+ghost use Rattle.fabric_sim.specs.Changes.{injected};
+ghost use Rattle.sm_run.specs.Commands.{seat_at, world_of};
 ghost use Rattle.sm_run.specs.Flights.{packet_out};
-ghost use Rattle.sm_run.specs.Stops.{StopsFor};
+ghost use Rattle.sm_run.specs.Prints.{PrintsUnless};
+ghost use Rattle.sm_run.specs.World.{after_fabric, emptied, sent, sent_from, value_of};
 
 use crate::refusals::refuse_fabric;
 use crate::run_fault::RunFault;
@@ -45,7 +48,7 @@ impl<'s> World<'s> {
         seats: &'s [Seat],
     ) -> Result<World<'s>, AllocError>
         requires { All (λ seat. is_seat topology.now.nodes seat.at ≡ true) seats.now }
-        ensures { IfOk result (λ world. length world.managers.items ≡ length seats.now) }
+        ensures { IfOk result (λ world. value_of world ≡ world_of topology.now seats.now) }
     {
         let fabric = Fabric::of(alloc, topology, FIRST_SERIAL)?;
         let mut managers = Vec::with_capacity(alloc, seats.len())?;
@@ -58,10 +61,13 @@ impl<'s> World<'s> {
     }
 
     /// All that a manager has queued goes out.
+    #[tactic(auto, using(crate::proofs::Seats::sits), unfolding(crate::specs::World::sent))]
     pub(crate) fn send<W: Sink>(&mut self, seat: usize, sink: &mut W) -> Result<(), RunFault>
         requires { seat < length self.old.managers.items }
         ensures managers { length self.new.managers.items ≡ length self.old.managers.items }
-        ensures stops { StopsFor W.written W.has_failed result sink.old sink.new }
+        ensures leaves { OnOk result (value_of self.new ≡ (sent (value_of self.old) seat).now) }
+        ensures prints { PrintsUnless W.written W.has_failed result sink.old sink.new
+            (sent (value_of self.old) seat).text }
     {
         let Seated { seat, manager } = &mut self.managers[seat];
         send_queued(&mut self.fabric, &seat.at, manager, sink)
@@ -69,26 +75,32 @@ impl<'s> World<'s> {
 
     /// The manager that sits at a port.
     pub(crate) fn manager_at(&self, port: &NodePort) -> Option<usize>
-        ensures { IfSome result (λ seat. seat < length self.now.managers.items) }
+        ensures seat { result ≡ seat_at (value_of self.now) port.now }
+        ensures within { IfSome result (λ seat. seat < length self.now.managers.items) }
     {
         if !self.fabric.is_seat(port) {
             return None;
         }
-        self.managers
-            .iter()
-            .position(|seated| seated.seat.at == *port)
+        for (seat, seated) in self.managers.iter().enumerate() {
+            if seated.seat.at == *port {
+                return Some(seat);
+            }
+        }
+        None
     }
 }
 
 /// All that a manager at a port has queued goes out, in its order.
-#[tactic(auto, using(crate::proofs::Growth::grown_then, crate::proofs::Growth::stops_then))]
 fn send_queued<W: Sink>(
     fabric: &mut Fabric,
     from: &NodePort,
     manager: &mut Manager,
     sink: &mut W,
 ) -> Result<(), RunFault>
-    ensures stops { StopsFor W.written W.has_failed result sink.old sink.new }
+    ensures fabric { OnOk result (fabric.new ≡ (sent_from fabric.old from.now manager.old.outgoing).now) }
+    ensures manager { OnOk result (manager.new ≡ emptied manager.old) }
+    ensures prints { PrintsUnless W.written W.has_failed result sink.old sink.new
+        (sent_from fabric.old from.now manager.old.outgoing).text }
 {
     while let Some(outgoing) = manager.take_outgoing() {
         send_one(fabric, from, &outgoing, sink)?;
@@ -103,7 +115,10 @@ fn send_one<W: Sink>(
     outgoing: &Outgoing,
     sink: &mut W,
 ) -> Result<(), RunFault>
-    ensures stops { StopsFor W.written W.has_failed result sink.old sink.new }
+    ensures fabric { OnOk result (fabric.new
+        ≡ (injected fabric.old from.now (packet_out outgoing.now)).fabric) }
+    ensures prints { PrintsUnless W.written W.has_failed result sink.old sink.new
+        (after_fabric (injected fabric.old from.now (packet_out outgoing.now))).text }
 {
     match fabric.inject(*from, packet(outgoing)) {
         Ok(_) => Ok(()),

@@ -79,7 +79,7 @@ pub all_append : (p : ℕ → Bool) (xs ys : List ℕ) → list_all p xs ≡ tru
 all_append p [] ys e f = f
 all_append p (x ∷ xs) ys e f = let h = both _ _ e in both_true (p x) _ h.0 (all_append p xs ys h.1 f)
 
-line_plain : (line : List (List ℕ)) → AllByRecursion IsWord line → list_all is_plain (line_text line) ≡ true
+pub line_plain : (line : List (List ℕ)) → AllByRecursion IsWord line → list_all is_plain (line_text line) ≡ true
 line_plain [] all = refl
 line_plain (word ∷ []) all = all.0.plain
 line_plain (word ∷ next ∷ later) all = all_append is_plain word (32 ∷ line_text (next ∷ later)) all.0.plain (line_plain (next ∷ later) all.1)
@@ -116,25 +116,25 @@ name_then (b ∷ name) rest e f =
     rw quote (name_then name rest p.1 f)
 
 -- digits are none of these bytes
-digit_apart : (b c : ℕ) → digit_value c ≡ 36 → digit_value b < 36 → (b == c) ≡ false
+pub digit_apart : (b c : ℕ) → digit_value c ≡ 36 → digit_value b < 36 → (b == c) ≡ false
 digit_apart b c e h = differs b c (λ same. let past : digit_value b ≡ 36 = ap digit_value same ∙ e in omega arith)
 
-digits_all : (base : ℕ) (p : ℕ → Bool) (word : List ℕ) → base ≤ 36 → ((b : ℕ) → digit_value b < 36 → p b ≡ true) → AllDigits base word → list_all p word ≡ true
+pub digits_all : (base : ℕ) (p : ℕ → Bool) (word : List ℕ) → base ≤ 36 → ((b : ℕ) → digit_value b < 36 → p b ≡ true) → AllDigits base word → list_all p word ≡ true
 digits_all base p [] few passes all = refl
 digits_all base p (b ∷ word) few passes all =
     let small : digit_value b < base = all.0 in
     both_true (p b) _ (passes b (omega arith)) (digits_all base p word few passes all.1)
 
-digit_bare : (b : ℕ) → digit_value b < 36 → is_bare b ≡ true
+pub digit_bare : (b : ℕ) → digit_value b < 36 → is_bare b ≡ true
 digit_bare b h = rw (digit_apart b 34 refl h, digit_apart b 35 refl h, digit_apart b 32 refl h, digit_apart b 9 refl h) refl
 
-digit_plain : (b : ℕ) → digit_value b < 36 → is_plain b ≡ true
+pub digit_plain : (b : ℕ) → digit_value b < 36 → is_plain b ≡ true
 digit_plain b h = rw (digit_apart b 10 refl h, digit_apart b 13 refl h) refl
 
 digit_inside : (b : ℕ) → digit_value b < 36 → not (b == 93) ≡ true
 digit_inside b h = rw (digit_apart b 93 refl h) refl
 
-bare_on : (word : List ℕ) → list_all is_bare word ≡ true → goes_on false word ≡ true
+pub bare_on : (word : List ℕ) → list_all is_bare word ≡ true → goes_on false word ≡ true
 bare_on [] e = refl
 bare_on (b ∷ word) e =
     let p = both _ _ e in
@@ -210,7 +210,7 @@ named_word name port e h =
     }
 
 -- what stands before the first such byte
-until_then : (close : ℕ) (bytes rest : List ℕ) → list_all (λ b. not (b == close)) bytes ≡ true → until close (bytes ++ close ∷ rest) ≡ Some (bytes, rest)
+pub until_then : (close : ℕ) (bytes rest : List ℕ) → list_all (λ b. not (b == close)) bytes ≡ true → until close (bytes ++ close ∷ rest) ≡ Some (bytes, rest)
 until_then close [] rest e = let here : (close == close) ≡ true = eq-eqb close close refl in rw here refl
 until_then close (b ∷ bytes) rest e =
     let p = both _ _ e in

@@ -37,7 +37,7 @@ use Rattle.sm_laws.specs.Scene.{Handed, Scene, Sending, ByLid, ByPath, Answer, E
 use Rattle.sm_laws.specs.Scene.{answer_to, answered_from, asks_manager, sent, sent_from}
 use Rattle.sm_laws.proofs.Answers.{was_there}
 use Rattle.sm_laws.proofs.TracedScenes.{traced_there}
-use Rattle.written_laws.specs.Managing.{Managing, ManagerEvent, Around, Begin, Write, Take, Send, Hear, TimeOut, Merge, Poll, HandOver}
+use Rattle.written_laws.specs.Managing.{Managing, ManagerEvent, Around, Begin, Write, Take, Send, Hear, TimeOut, Raise, Merge, Poll, HandOver}
 use Rattle.written_laws.specs.Managing.{CanBe, packet_of, sending, hearing}
 use Rattle.written_laws.specs.Managing.{after_manager_event, after_manager_events}
 use Rattle.written_laws.specs.Sets.{Carries, KeepsPlan, OwnSets}
@@ -46,7 +46,7 @@ use Rattle.written_laws.proofs.Before.{is_none-none, takes_first}
 use Rattle.written_laws.proofs.Calls.{HeardBy, beside_swept, hands_over, packet_comes, polls_beside, time_passes}
 use Rattle.written_laws.proofs.Fair.{BesideCall, CanGo, IsFair, IsOwnPacket, own_steps, step_is_own, fair_beside, fair_later, fair_taken}
 use Rattle.written_laws.proofs.Fair.{fair_sent, fair_around}
-use Rattle.written_laws.proofs.Generations.{all_small}
+use Rattle.written_laws.proofs.Generations.{all_small, generation_small}
 use Rattle.written_laws.proofs.Goes.{heard_at_seat, phase_fair}
 use Rattle.written_laws.proofs.Lists.{in_left, in_right, in_either}
 use Rattle.written_laws.proofs.Numbered.{AreOnce, HasNumber, from_passed, least_number, length-sent_from, most_number, next_is_of}
@@ -56,7 +56,7 @@ use Rattle.written_laws.proofs.Numbered.{out_of, passed_is_of, pending_of}
 use Rattle.written_laws.proofs.Numbered.{rest_is_of, waits_as, as_waits}
 use Rattle.written_laws.proofs.Scenes.{Sends, Tells, AnswersStep, IsOld, same_agents, Stays}
 use Rattle.written_laws.proofs.Steps.{IsOf, StepSent}
-use Rattle.written_laws.proofs.Sweeps.{Ground, SweepSide, begun, facts_merged}
+use Rattle.written_laws.proofs.Sweeps.{Ground, SweepSide, begun, facts_merged, rises}
 use Rattle.written_laws.proofs.Taken.{IsGood, IsDone, done_stays}
 
 or_left : (a b : Bool) → a ≡ true → (a || b) ≡ true
@@ -548,10 +548,14 @@ module _ (start : Simulation) (seat : NodePort) (plan : PlanValue) (c : ℕ) (ph
             | inr ends ↦ subst (λ x. Writes (record w { manager = x })) (sym ends.is)
                 (step_writes w g ends.step ends.there (ap is_for_step ends.purpose_is) ends.was_done (λ f was. absurd (ends.heard was)))
           ]
-      event_writes w (Merge sightings) keeps g can_be =
+      event_writes w (Raise floor) keeps g can_be =
           beside_writes w _ g
           (beside_swept start seat plan ground ⊥ w.scene.handed ⊥ w.manager _ g.fair.once
-          (facts_merged start seat ⊥ w.manager g.fair.side sightings (all_small sightings can_be)))
+          (rises start seat ⊥ w.manager g.fair.side floor (generation_small floor can_be)))
+      event_writes w (Merge floor sightings) keeps g can_be =
+          beside_writes w _ g
+          (beside_swept start seat plan ground ⊥ w.scene.handed ⊥ w.manager _ g.fair.once
+          (facts_merged start seat ⊥ w.manager g.fair.side floor sightings (generation_small floor can_be.0) (all_small sightings can_be.1)))
       event_writes w (Poll lid) keeps g can_be =
           beside_writes w _ g (polls_beside start seat plan ground ⊥ w.scene.handed w.manager g.fair.side g.fair.once lid)
       event_writes w HandOver keeps g can_be =

@@ -2,7 +2,7 @@
 use Rattle.std.proofs.Common.{◌≡◌, inl, inr, ℕ, ◌+◌, true, List, [], ◌∷◌, ◌++◌, refl, sym, ap, ◌∙◌, subst, arith}
 use Rattle.std.proofs.lemmas.List.Elements.{All-nil, All-head, All-tail}
 use Rattle.std.proofs.lemmas.Option.{same_Some}
-use Rattle.std.specs.Prelude.{Some, All, is_some}
+use Rattle.std.specs.Prelude.{Some, All, is_some, max}
 use Rattle.smp_bytes.specs.Fabric as fabrics
 use Rattle.smp_bytes.specs.FabricWalks.{IsJoinedTo}
 use Rattle.fabric_sim.specs.Simulation.{fabric_of}
@@ -11,7 +11,7 @@ use Rattle.subnet_view.specs.Agreement.{AgreesOn}
 use Rattle.subnet_view.specs.EndPorts.{IsEndPort}
 use Rattle.lft_blocks.specs.Plan.{PlanValue}
 use Rattle.sweep.specs.Sweep.{Sweep, path_to, started}
-use Rattle.sm_manager.specs.Manager.{newest_held, with_all_sent}
+use Rattle.sm_manager.specs.Manager.{next_generation, with_all_sent}
 use Rattle.sm_manager.specs.Writing.{is_written}
 use Rattle.sm_laws.specs.Pings.{EachPingArrives}
 use Rattle.sm_laws.specs.Scene.{Scene}
@@ -132,20 +132,17 @@ module _ (w : Managing) (before between after : List ManagerEvent) (run : IsWrit
     begun_followed u is =
         let x = after_manager_events before w in
         let all = asks_all (started w.seat.port 1 1).queued u (ap (λ (y : Sweeping). y.sweep.queued) is) in
-        let newest : newest_held x.manager.store ≡ 0 = ap newest_held store ∙ nothing_newest in
+        let newest : next_generation x.manager.store ≡ 1 = ap next_generation store ∙ ap (λ n. max (n + 1) 1) nothing_newest in
         let reports = all.reports ∙ ap (λ (y : Sweeping). y.reports) is in
         let port = (held.went_before w before between after run).fair.side.port in
         subst (λ y. Follows y (after_sweep_events (asks (started w.seat.port 1 1).queued) u)) (sym (held.sweep_first w before between after run))
         (record {
           scene = all.scene ∙ ap (λ (y : Sweeping). y.scene) is;
           seat = all.seat ∙ ap (λ (y : Sweeping). y.seat) is ∙ sym (held.went_before w before between after run).fair.seat_is;
-          sweep = (λ j. Some (with_all_sent (started (port j) (newest j + 1) 1)))
-              ∙ ap (λ y. Some (with_all_sent y)) (one_is ∙ sym (ap (λ (y : Sweeping). y.sweep) is)) ∙ ap (λ y. Some y) (sym all.sweep);
+          sweep = (λ j. Some (with_all_sent (started (port j) (newest j) 1)))
+              ∙ ap (λ y. Some (with_all_sent y)) (sym (ap (λ (y : Sweeping). y.sweep) is)) ∙ ap (λ y. Some y) (sym all.sweep);
           store = store ∙ ap facts_of (sym reports);
         })
-      where
-        one_is : started w.seat.port (0 + 1) 1 ≡ started w.seat.port 1 1
-        one_is = let same : 0 + 1 ≡ 1 = omega arith in ap (λ n. started w.seat.port n 1) same
 
     seen : SeenBySweeps w.scene (after_manager_events before w).scene
     seen =

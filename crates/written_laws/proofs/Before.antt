@@ -19,14 +19,14 @@ use Rattle.sm_manager.specs.Requests.{is_for_step}
 use Rattle.sm_manager.specs.Writing.{begun_with, passed, phases_by, writing_begun}
 use Rattle.sm_laws.specs.Scene.{Handed}
 use Rattle.sm_laws.proofs.Answers.{was_there}
-use Rattle.written_laws.specs.Managing.{Managing, ManagerEvent, Around, Begin, Write, Take, Send, Hear, TimeOut, Merge, Poll, HandOver}
+use Rattle.written_laws.specs.Managing.{Managing, ManagerEvent, Around, Begin, Write, Take, Send, Hear, TimeOut, Raise, Merge, Poll, HandOver}
 use Rattle.written_laws.specs.Managing.{CanBe, taking, sending, hearing, after_manager_event, after_manager_events}
 use Rattle.written_laws.specs.Written.{BeginsNoWriting, BeginsSweep, SweepsFirst}
 use Rattle.written_laws.proofs.Calls.{beside_swept, hands_over, packet_comes, polls_beside, time_passes}
 use Rattle.written_laws.proofs.Fair.{IsFair, fair_taken, fair_sent, fair_around}
-use Rattle.written_laws.proofs.Generations.{all_small}
+use Rattle.written_laws.proofs.Generations.{all_small, generation_small}
 use Rattle.written_laws.proofs.Goes.{Goes, CanGoOn, passed_goes, heard_at_seat, phase_goes, step_goes, beside_goes}
-use Rattle.written_laws.proofs.Sweeps.{Ground, SweepIs, IsSweptOne, begun, facts_merged}
+use Rattle.written_laws.proofs.Sweeps.{Ground, SweepIs, IsSweptOne, begun, facts_merged, rises}
 use Rattle.written_laws.proofs.Writings.{MayWrite, may_write, writing_goes}
 
 pub is_none-none : {X : Type 0} (m : Option X) → is_none m ≡ true → m ≡ None
@@ -164,10 +164,14 @@ module _ (start : Simulation) (seat : NodePort) (plan : PlanValue) (ground : Gro
         | inr ends ↦ subst (λ x. Goes start seat plan old (record w { manager = x })) (sym ends.is)
             (step_goes start seat plan old w g ends.step ends.there (ap is_for_step ends.purpose_is) ends.was_done)
       ]
-  event_goes old w (Merge sightings) quiet g can_be =
+  event_goes old w (Raise floor) quiet g can_be =
       beside_goes start seat plan old old w _ g
       (beside_swept start seat plan ground old w.scene.handed old w.manager _ g.fair.once
-      (facts_merged start seat old w.manager g.fair.side sightings (all_small sightings can_be)))
+      (rises start seat old w.manager g.fair.side floor (generation_small floor can_be)))
+  event_goes old w (Merge floor sightings) quiet g can_be =
+      beside_goes start seat plan old old w _ g
+      (beside_swept start seat plan ground old w.scene.handed old w.manager _ g.fair.once
+      (facts_merged start seat old w.manager g.fair.side floor sightings (generation_small floor can_be.0) (all_small sightings can_be.1)))
   event_goes old w (Poll lid) quiet g can_be =
       beside_goes start seat plan old old w _ g (polls_beside start seat plan ground old w.scene.handed w.manager g.fair.side g.fair.once lid)
   event_goes old w HandOver quiet g can_be =
@@ -193,7 +197,8 @@ module _ (start : Simulation) (seat : NodePort) (plan : PlanValue) (ground : Gro
   begins_first w (Send which) none g = absurd none
   begins_first w (Hear which) none g = absurd none
   begins_first w (TimeOut transaction) none g = absurd none
-  begins_first w (Merge sightings) none g = absurd none
+  begins_first w (Raise floor) none g = absurd none
+  begins_first w (Merge floor sightings) none g = absurd none
   begins_first w (Poll lid) none g = absurd none
   begins_first w HandOver none g = absurd none
 

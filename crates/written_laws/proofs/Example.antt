@@ -3,7 +3,7 @@ use Rattle.std.proofs.Common.{◌≡◌, ◌≢◌, inl, inr, ℕ, zero, suc, �
 use Rattle.std.proofs.Common.{length, replicate, refl, sym, ap, ◌∙◌, subst, arith}
 use Rattle.std.proofs.lemmas.Option.{slice_get-map}
 use Rattle.std.proofs.lemmas.List.Elements.{All-from_recursion}
-use Rattle.std.specs.Prelude.{Option, Some, None, All, Result, Ok, Err, is_none, option_map, slice_get, slice_index_or, if◌then◌else◌, ◌==◌}
+use Rattle.std.specs.Prelude.{Option, Some, None, All, Result, Ok, Err, is_none, max, option_map, slice_get, slice_index_or, if◌then◌else◌, ◌==◌}
 use Rattle.std.specs.List.{AllByRecursion}
 use Rattle.smp_bytes.specs.declared.cable.NodePort.{NodePort}
 use Rattle.smp_bytes.specs.declared.node_type.NodeType.TheVariants.{ChannelAdapter}
@@ -62,7 +62,7 @@ use Rattle.sm_laws.specs.Scene.{Deliver, Lose, Repeat, Send as SendFrom}
 use Rattle.sm_laws.specs.Truth.{AreGuidsDistinct}
 use Rattle.sweep_complete.specs.Complete.{IsWhole}
 use Rattle.sweep_complete.proofs.Lists.{all_append}
-use Rattle.written_laws.specs.Managing.{Managing, ManagerEvent, Around, Begin, Write, Take, Send, Hear, TimeOut, Merge, Poll, HandOver}
+use Rattle.written_laws.specs.Managing.{Managing, ManagerEvent, Around, Begin, Write, Take, Send, Hear, TimeOut, Raise, Merge, Poll, HandOver}
 use Rattle.written_laws.specs.Managing.{CanBe, Starts, after_manager_event, after_manager_events}
 use Rattle.written_laws.specs.Sets.{IsOwnSet, KeepsPlan, OwnSets}
 use Rattle.written_laws.specs.Pings.{AreNoSweeps, BeginsNoSweep, BringsUp, SomeManagerBringsUp}
@@ -152,7 +152,7 @@ may_begin = ap (λ n. if n == 2 ^ 32 - 1 then Some GenerationsSpent else None) n
 begun : after_manager_event beginning Begin ≡ sweeping_with 1
 begun =
     ap (λ o. record beginning { manager = if is_none o then sweep_begun (new_manager 17 1 0) else new_manager 17 1 0 }) may_begin
-    ∙ ap (λ n. sweeping_with (n + 1)) nothing_newest
+    ∙ ap (λ n. sweeping_with (max (n + 1) 1)) nothing_newest
 
 -- so many deliveries of a packet
 abbrev deliveries : ℕ → ℕ → List ManagerEvent
@@ -470,7 +470,8 @@ can_be_plain Take is = tt
 can_be_plain (Send which) is = tt
 can_be_plain (Hear which) is = tt
 can_be_plain (TimeOut transaction) is = absurd is
-can_be_plain (Merge sightings) is = absurd is
+can_be_plain (Raise floor) is = absurd is
+can_be_plain (Merge floor sightings) is = absurd is
 can_be_plain (Poll lid) is = absurd is
 can_be_plain HandOver is = absurd is
 
@@ -486,7 +487,8 @@ begins_none w Take is = tt
 begins_none w (Send which) is = tt
 begins_none w (Hear which) is = tt
 begins_none w (TimeOut transaction) is = absurd is
-begins_none w (Merge sightings) is = absurd is
+begins_none w (Raise floor) is = absurd is
+begins_none w (Merge floor sightings) is = absurd is
 begins_none w (Poll lid) is = absurd is
 begins_none w HandOver is = absurd is
 

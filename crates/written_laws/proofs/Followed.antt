@@ -15,7 +15,7 @@ use Rattle.sm_manager.specs.Manager.{with_all_sent}
 use Rattle.sm_laws.specs.Scene.{Handed, Scene, Event, Send as SendFrom, CanHappen, after_event, sent, sent_from}
 use Rattle.sm_laws.specs.Sweeping as sweeping
 use Rattle.sm_laws.specs.Sweeping.{Sweeping, SweepEvent, asking_more, after_sweep_event, after_sweep_events}
-use Rattle.written_laws.specs.Managing.{Managing, ManagerEvent, Around, Begin, Write, Take, Send, Hear, TimeOut, Merge, Poll, HandOver}
+use Rattle.written_laws.specs.Managing.{Managing, ManagerEvent, Around, Begin, Write, Take, Send, Hear, TimeOut, Raise, Merge, Poll, HandOver}
 use Rattle.written_laws.specs.Managing.{CanBe, hearing, packet_of, sending, after_manager_event}
 use Rattle.written_laws.proofs.Fair.{IsFair, IsOwnPacket, own_there}
 use Rattle.written_laws.proofs.Steps.{StepSent}
@@ -80,7 +80,8 @@ module _ (start : Simulation) (seat : NodePort) (plan : PlanValue) where
       by_handed (Some h) =
           cond_both (is_same_port h.at w.seat) _ _ (λ (x : Managing). SeenBySweeps w.scene x.scene) (λ _. nothing_seen w.scene) (λ _. nothing_seen w.scene)
   event_seen old c all w (TimeOut transaction) fair can_be = nothing_seen w.scene
-  event_seen old c all w (Merge sightings) fair can_be = nothing_seen w.scene
+  event_seen old c all w (Raise floor) fair can_be = nothing_seen w.scene
+  event_seen old c all w (Merge floor sightings) fair can_be = nothing_seen w.scene
   event_seen old c all w (Poll lid) fair can_be = nothing_seen w.scene
   event_seen old c all w HandOver fair can_be = nothing_seen w.scene
 

@@ -11,9 +11,9 @@ use Rattle.smp_bytes.specs.Packet.{attribute_modifier, fault_of, status}
 use Rattle.fabric_sim.specs.Simulation.{Simulation}
 use Rattle.fact_store.specs.declared.report.Report.{Report}
 use Rattle.fact_store.specs.Merge.{merge}
-use Rattle.fact_store.specs.View.{no_facts, view}
-use Rattle.fact_store.proofs.Merges.{merge_is_commutative, merge_empty}
-use Rattle.fact_store.proofs.Views.{view_of_both}
+use Rattle.fact_store.specs.View.{view, view_at}
+use Rattle.fact_store.proofs.Merges.{raised_same}
+use Rattle.fact_store.proofs.Views.{raised_is_merge, view_of_both}
 use Rattle.lft_blocks.specs.Plan.{PlanValue}
 use Rattle.sweep.specs.declared.answer.Answer.{Answer}
 use Rattle.sweep.specs.declared.fault.SweepFault.{SweepFault}
@@ -42,7 +42,7 @@ use Rattle.sm_laws.specs.Sweeping as sweeping
 use Rattle.sm_laws.specs.Sweeping.{Sweeping, SweepEvent, reports_of, after_sweep_event, after_sweep_events}
 use Rattle.sweep_complete.specs.Complete.{facts_of}
 use Rattle.sweep_complete.proofs.Sweeps.{told_in, told_more}
-use Rattle.written_laws.specs.Managing.{Managing, ManagerEvent, Around, Begin, Write, Take, Send, Hear, TimeOut, Merge, Poll, HandOver, CanBe}
+use Rattle.written_laws.specs.Managing.{Managing, ManagerEvent, Around, Begin, Write, Take, Send, Hear, TimeOut, Raise, Merge, Poll, HandOver, CanBe}
 use Rattle.written_laws.specs.Managing.{hearing, sending, after_manager_event}
 use Rattle.written_laws.specs.Pings.{BeginsNoSweep}
 use Rattle.written_laws.proofs.Before.{is_none-none, takes_first}
@@ -249,11 +249,14 @@ module _ (start : Simulation) (seat : NodePort) (plan : PlanValue) (ground : Gro
       by_packet (Some o) seen = quiet_followed w (sending w (Some o)) u seen refl (kept w.manager) f
   event_followed w (Hear which) u g quiet can_be f = heard_followed w which (slice_get w.scene.handed which) u refl g f
   event_followed w (TimeOut transaction) u g quiet can_be f = timed_followed w transaction u f
-  event_followed w (Merge sightings) u g quiet can_be f =
-      quiet_followed w (after_manager_event w (Merge sightings)) u (unseen w) refl
+  event_followed w (Raise floor) u g quiet can_be f =
+      quiet_followed w (after_manager_event w (Raise floor)) u (unseen w) refl (record { sweep = refl; store = raised_same w.manager.store floor quiet }) f
+  event_followed w (Merge floor sightings) u g quiet can_be f =
+      quiet_followed w (after_manager_event w (Merge floor sightings)) u (unseen w) refl
       (record {
         sweep = refl;
-        store = ap (λ told. merge w.manager.store (view told)) quiet ∙ merge_is_commutative w.manager.store no_facts ∙ merge_empty w.manager.store;
+        store = ap (λ told. merge w.manager.store (view_at floor told)) quiet.0 ∙ sym (raised_is_merge w.manager.store floor)
+            ∙ raised_same w.manager.store floor quiet.1;
       }) f
   event_followed w (Poll lid) u g quiet can_be f =
       quiet_followed w (after_manager_event w (Poll lid)) u (unseen w) refl

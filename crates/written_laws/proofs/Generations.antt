@@ -2,7 +2,7 @@
 use Rattle.std.proofs.Common.{◌≡◌, inl, inr, ℕ, ◌<◌, ◌^◌, List, [], ◌∷◌, ◌++◌, map, refl, sym, ap, ◌∙◌, subst, arith}
 use Rattle.std.proofs.lemmas.Bool.{cond_both, and_parts, ltb-true}
 use Rattle.std.proofs.lemmas.List.Elements.{All-head, All-tail}
-use Rattle.std.specs.Prelude.{Contains, Option, Some, None, All, max, nat_le, nat_lt, ◌==◌, ◌&&◌}
+use Rattle.std.specs.Prelude.{Contains, Option, Some, None, All, IsTrue, max, nat_le, nat_lt, ◌==◌, ◌&&◌}
 use Rattle.fact_join.specs.declared.cell.Cell.{Cell}
 use Rattle.fact_join.specs.Cell.{generation_of}
 use Rattle.fact_store.specs.declared.key.Key.{Key}
@@ -19,12 +19,12 @@ use Rattle.fact_store.specs.Merge.{merge}
 use Rattle.fact_store.specs.Report.{Told, told_of_link, told_of_kind, told_by_port_info, told_by_switch_info, node_info_of, sightings_of}
 use Rattle.fact_store.specs.Sighting.{IsSighting, AreInRange, is_key, is_generation, is_cell_of}
 use Rattle.fact_store.specs.Seen.{newest_of}
-use Rattle.fact_store.specs.View.{Facts, view, view_at, cells_of, no_facts}
+use Rattle.fact_store.specs.View.{Facts, raised, view_at, cells_of, no_facts}
 use Rattle.fact_store.proofs.Entries.{entries-view}
 use Rattle.fact_store.proofs.Orders.{contained_get}
 use Rattle.fact_store.proofs.SightingRanges.{newest_at}
 use Rattle.fact_store.proofs.Seen.{get-seen, newest_there}
-use Rattle.fact_store.proofs.Views.{cell_was_seen, get-view, view_of_both, view_of_its_cells}
+use Rattle.fact_store.proofs.Views.{cell_was_seen, raised_is_merge, get-view, view_of_both, view_of_its_cells}
 use Rattle.subnet_view.proofs.Apart.{contains-from_map}
 use Rattle.subnet_view.proofs.Members.{contains_here, contains_later, contains_cases, contains_none}
 use Rattle.sm_manager.specs.Manager.{newest_held}
@@ -49,11 +49,14 @@ small_from : (told : Told) → ((x : Key × Cell Value) → Contains told x → 
 small_from [] all = tt
 small_from (x ∷ told) all = (all x (contains_here x told), small_from told (λ y there. all y (contains_later x y told there)))
 
+pub generation_small : (g : ℕ) → IsTrue (is_generation g) → g < 2 ^ 32
+generation_small g is = ltb-true _ _ (and_parts (nat_le 1 g) (nat_lt g (2 ^ 32)) is).1
+
 sighting_small : (x : Key × Cell Value) → IsSighting x → generation_of x.1 < 2 ^ 32
 sighting_small x is =
     let parts = and_parts (is_key x.0 && is_generation (generation_of x.1)) (is_cell_of x.0 x.1) is in
     let generation = and_parts (is_key x.0) (is_generation (generation_of x.1)) parts.0 in
-    ltb-true _ _ (and_parts (nat_le 1 (generation_of x.1)) (nat_lt (generation_of x.1) (2 ^ 32)) generation.1).1
+    generation_small (generation_of x.1) generation.1
 
 pub all_small : (told : Told) → All IsSighting told → AreSmall told
 all_small [] all = tt
@@ -65,24 +68,34 @@ pub record KnowsSmall (facts : Facts) : Type 0 where
   pub told : Told
   pub is : facts ≡ view_at floor told
   pub small : AreSmall told
+  pub few : floor < 2 ^ 32
 
-pub in_range_small : (facts : Facts) → AreInRange facts → KnowsSmall facts
-in_range_small facts in_range =
+pub in_range_small : (facts : Facts) → AreInRange facts → facts.floor < 2 ^ 32 → KnowsSmall facts
+in_range_small facts in_range few =
     record {
       floor = facts.floor;
       told = cells_of facts;
       is = sym (view_of_its_cells facts);
       small = small_from (cells_of facts) (λ x there. sighting_small x (in_range x.0 x.1 (contained_get facts.found x.0 x.1 there)));
+      few = few;
     }
 
-pub merged_small : (facts : Facts) (told : Told) → KnowsSmall facts → AreSmall told → KnowsSmall (merge facts (view told))
-merged_small facts told knows small =
+pub merged_small : (facts : Facts) (floor : ℕ) (told : Told) → KnowsSmall facts → floor < 2 ^ 32 → AreSmall told → KnowsSmall (merge facts (view_at floor told))
+merged_small facts floor told knows few small =
     record {
-      floor = max knows.floor 1;
+      floor = max knows.floor floor;
       told = knows.told ++ told;
-      is = ap (λ x. merge x (view told)) knows.is ∙ sym (view_of_both knows.floor 1 knows.told told);
+      is = ap (λ x. merge x (view_at floor told)) knows.is ∙ sym (view_of_both knows.floor floor knows.told told);
       small = small_more knows.told told knows.small small;
+      few = omega (arith, knows.few, few);
     }
+
+pub raised_small : (facts : Facts) (floor : ℕ) → KnowsSmall facts → floor < 2 ^ 32 → KnowsSmall (raised facts floor)
+raised_small facts floor knows few = subst KnowsSmall (sym (raised_is_merge facts floor)) (merged_small facts floor [] knows few tt)
+
+-- so is their floor
+pub floor_small : (facts : Facts) → KnowsSmall facts → facts.floor < 2 ^ 32
+floor_small facts knows = omega (arith, knows.few, ap (λ (x : Facts). x.floor) knows.is)
 
 -- so is the greatest of them
 pub newest_small : (facts : Facts) → KnowsSmall facts → newest_held facts < 2 ^ 32

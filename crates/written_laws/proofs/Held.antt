@@ -40,7 +40,7 @@ use Rattle.written_laws.proofs.After.{IsOnWay, Writes, phase_writes, after_write
 use Rattle.written_laws.proofs.AgentSets.{Holds}
 use Rattle.written_laws.proofs.Before.{none-is_none, begin_goes, before_goes, between_goes}
 use Rattle.written_laws.proofs.Fair.{AreOwnPackets}
-use Rattle.written_laws.proofs.Generations.{in_range_small}
+use Rattle.written_laws.proofs.Generations.{generation_small, in_range_small}
 use Rattle.written_laws.proofs.Goes.{Goes}
 use Rattle.written_laws.proofs.Led.{IsLedSweep, LeadsToVertex, path_led, seen_small}
 use Rattle.written_laws.proofs.Numbered.{from_passed, none_once, passed_is_of}
@@ -67,7 +67,7 @@ starting w starts plan =
         side = record {
           port = starts.port;
           sweep = inl (tt, nothing_accepted start w.seat w.manager starts.at_rest.sweep);
-          knows = in_range_small w.manager.store starts.at_rest.facts;
+          knows = in_range_small w.manager.store starts.at_rest.facts (generation_small w.manager.store.floor starts.at_rest.floor);
         };
         once = none_once c w.manager.pending starts.at_rest.pending;
         outgoing = subst (AreOwnPackets start w.seat plan c [] w.scene.handed) (sym starts.at_rest.outgoing) tt;

@@ -17,7 +17,7 @@ use Rattle.fact_store.specs.View.{cells_of}
 use Rattle.sm_manager.specs.Requests.{with_number}
 use Rattle.sm_manager.specs.Writing.{write_fault_with, writing_begun}
 use Rattle.sm_laws.specs.Scene.{Handed}
-use Rattle.written_laws.specs.Managing.{Managing, ManagerEvent, Around, Begin, Write, Take, Send, Hear, TimeOut, Merge, Poll, HandOver}
+use Rattle.written_laws.specs.Managing.{Managing, ManagerEvent, Around, Begin, Write, Take, Send, Hear, TimeOut, Raise, Merge, Poll, HandOver}
 use Rattle.written_laws.specs.Managing.{NewManagersRest, hearing, sending, after_manager_event}
 use Rattle.written_laws.specs.Written.{BeginsNoWriting, BeginsSweep, NewManagersSweepFirst, SweepsFirst}
 use Rattle.written_laws.proofs.Before.{takes_first}
@@ -25,7 +25,7 @@ use Rattle.written_laws.proofs.Follows.{KeepsSweep, handed_keeps, request_keeps,
 use Rattle.written_laws.proofs.Generations.{nothing_held}
 
 pub new_managers_rest : NewManagersRest
-new_managers_rest port_guid port priority = record { sweep = refl; pending = refl; outgoing = refl; facts = nothing_held }
+new_managers_rest port_guid port priority = record { sweep = refl; pending = refl; outgoing = refl; facts = nothing_held; floor = refl }
 
 -- a manager that never began a sweep ------------------------------------------------------------------------
 
@@ -85,7 +85,8 @@ goes_on w (Hear which) never = inr (by_handed (slice_get w.scene.handed which))
     by_handed (Some h) =
         cond_both (is_same_port h.at w.seat) _ _ (λ (x : Managing). NeverSwept x) (λ _. heard w.manager h.packet.bytes (Some h.packet.slid) never) (λ _. never)
 goes_on w (TimeOut transaction) never = inr (timed w.manager transaction never)
-goes_on w (Merge sightings) never = inr never
+goes_on w (Raise floor) never = inr never
+goes_on w (Merge floor sightings) never = inr never
 goes_on w (Poll lid) never = inr (cond_both (is_none (poll_fault w.manager)) _ _ (λ (x : Manager). x.sweep ≡ None) (λ _. never) (λ _. never))
 goes_on w HandOver never =
     inr (cond_both (is_none (handover_fault w.manager)) _ _ (λ (x : Manager). x.sweep ≡ None)
@@ -102,7 +103,8 @@ writes_nothing w Take never = tt
 writes_nothing w (Send which) never = tt
 writes_nothing w (Hear which) never = tt
 writes_nothing w (TimeOut transaction) never = tt
-writes_nothing w (Merge sightings) never = tt
+writes_nothing w (Raise floor) never = tt
+writes_nothing w (Merge floor sightings) never = tt
 writes_nothing w (Poll lid) never = tt
 writes_nothing w HandOver never = tt
 

@@ -4,7 +4,8 @@ use Rattle.std.proofs.lemmas.Bool.{eqb-false}
 use Rattle.std.proofs.lemmas.List.{append-nil}
 use Rattle.std.specs.Prelude.{Option, Some, None, Result, Ok, Err, find, not, ◌==◌, ◌&&◌}
 use Rattle.smp_bytes.specs.declared.cable.NodePort.{NodePort}
-use Rattle.fact_store.specs.View.{view}
+use Rattle.fact_store.specs.Merge.{merge}
+use Rattle.fact_store.specs.View.{Facts, raised, view, view_at}
 use Rattle.fact_store.specs.Report.{Told}
 use Rattle.fabric_sim.specs.Simulation.{Simulation, AreCables, fabric_of, port_count}
 use Rattle.fabric_sim.proofs.Courses.{IsForManager}
@@ -17,14 +18,14 @@ use Rattle.sweep.specs.Sweep.{Sweep, is_none_left, packet_of, request_with, time
 use Rattle.sweep.specs.Replies.{answer_by, belongs, judged, replied_to, replied, report_for, request_of, told_by}
 use Rattle.sm_manager.specs.declared.outgoing.Outgoing.{Outgoing}
 use Rattle.sm_manager.specs.declared.fault.ManagerFault.TheVariants as fault
-use Rattle.sm_manager.specs.Manager.{Manager, begin_fault, is_running, newest_held, requests_out, sweep_begun, merged}
+use Rattle.sm_manager.specs.Manager.{Manager, begin_fault, floor_raised, is_running, newest_held, next_generation, requests_out, sweep_begun, merged}
 use Rattle.sm_manager.specs.Packets.{answered_by, sweep_answered, sweep_timed_out, sweep_gave_up}
 use Rattle.sm_laws.proofs.Accepted.{IsAccepted, accepted}
 use Rattle.sm_laws.proofs.Replied.{FoundSound, sound_without}
 use Rattle.sm_laws.proofs.Sound.{CanBeSwept, IsSoundRequest, AreSound, IsSoundSweep, sound_append}
 use Rattle.sm_laws.proofs.Swept as swept
 use Rattle.sm_laws.proofs.TrueFacts.{IsCabled}
-use Rattle.written_laws.proofs.Generations.{KnowsSmall, AreSmall, merged_small, newest_small, report_small}
+use Rattle.written_laws.proofs.Generations.{KnowsSmall, AreSmall, floor_small, merged_small, newest_small, raised_small, report_small}
 use Rattle.written_laws.proofs.Led.{IsLedSweep, finds_led}
 
 -- what is so of a fabric at the start, where a manager sits at the seat
@@ -112,9 +113,9 @@ module _ (start : Simulation) (seat : NodePort) where
         writing = refl;
         pending = refl;
         counter = refl;
-        more = requests_out (newest_held m.store + 1) (started m.port (newest_held m.store + 1) 1).queued;
+        more = requests_out (next_generation m.store) (started m.port (next_generation m.store) 1).queued;
         outgoing = refl;
-        asks = asked_out (newest_held m.store + 1) (started m.port (newest_held m.store + 1) 1).queued few first;
+        asks = asked_out (next_generation m.store) (started m.port (next_generation m.store) 1).queued few first;
         side = record {
           port = side.port;
           sweep = inr (record {
@@ -141,13 +142,14 @@ module _ (start : Simulation) (seat : NodePort) where
           by_tests false true e = absurd (cc)
           by_tests false false e = refl
 
-      few : (1 ≤ newest_held m.store + 1) × (newest_held m.store + 1 < 2 ^ 32)
+      few : (1 ≤ next_generation m.store) × (next_generation m.store < 2 ^ 32)
       few =
           let small = newest_small m.store side.knows in
           let other = eqb-false _ _ not_last in
-          (omega arith, omega (arith, small, other))
+          let low = floor_small m.store side.knows in
+          (omega arith, omega (arith, small, other, low))
 
-      first : AreSound (fabric_of start) seat (started m.port (newest_held m.store + 1) 1).queued
+      first : AreSound (fabric_of start) seat (started m.port (next_generation m.store) 1).queued
       first = (record { sound = record { own = tt; short = omega arith; asks = refl }; number = omega arith }, tt)
 
   -- a reply ----------------------------------------------------------------------------------------
@@ -206,7 +208,7 @@ module _ (start : Simulation) (seat : NodePort) where
                 led = record { reached = reply_led.reached; states = reply_led.states };
                 sent = refl;
               });
-              knows = merged_small m.store (told_by answer) side.knows told_small;
+              knows = merged_small m.store 1 (told_by answer) side.knows (omega arith) told_small;
             };
           }
 
@@ -270,8 +272,9 @@ module _ (start : Simulation) (seat : NodePort) where
 
   -- facts of others --------------------------------------------------------------------------------
 
-  pub facts_merged : (old : Type 0) (m : Manager) → SweepSide old m → (told : Told) → AreSmall told → SweepCall old m (merged m (view told))
-  facts_merged old m side told small =
+  -- another store changes
+  store_changed : (old : Type 0) (m : Manager) → SweepSide old m → (facts : Facts) → KnowsSmall facts → SweepCall old m (record m { store = facts })
+  store_changed old m side facts knows =
       record {
         writing = refl;
         pending = refl;
@@ -279,5 +282,14 @@ module _ (start : Simulation) (seat : NodePort) where
         more = [];
         outgoing = sym (append-nil m.outgoing);
         asks = tt;
-        side = record { port = side.port; sweep = side.sweep; knows = merged_small m.store told side.knows small };
+        side = record { port = side.port; sweep = side.sweep; knows = knows };
       }
+
+  pub facts_merged : (old : Type 0) (m : Manager) → SweepSide old m → (floor : ℕ) (told : Told) → floor < 2 ^ 32 → AreSmall told
+      → SweepCall old m (merged m (view_at floor told))
+  facts_merged old m side floor told few small =
+      store_changed old m side (merge m.store (view_at floor told)) (merged_small m.store floor told side.knows few small)
+
+  -- a floor that is raised
+  pub rises : (old : Type 0) (m : Manager) → SweepSide old m → (floor : ℕ) → floor < 2 ^ 32 → SweepCall old m (floor_raised m floor)
+  rises old m side floor few = store_changed old m side (raised m.store floor) (raised_small m.store floor side.knows few)

@@ -1,11 +1,11 @@
 -- A manager at its seat on a fabric on which other managers work too: its calls, and the packets that it gave out.
-use Rattle.std.specs.Prelude.{◌≡◌, ◌≢◌, ℕ, true, false, List, [], ◌∷◌, ◌++◌, All, slice_get, if◌then◌else◌, Option, Some, None}
+use Rattle.std.specs.Prelude.{◌≡◌, ◌≢◌, ℕ, true, false, List, [], ◌∷◌, ◌++◌, All, slice_get, if◌then◌else◌, Option, Some, None, IsTrue}
 use Rattle.std.specs.Option.{unwrap_or}
 use Rattle.smp_bytes.specs.declared.cable.NodePort.{NodePort}
 use Rattle.smp_bytes.specs.Cables.{is_same_port}
 use Rattle.smp_bytes.specs.Packet.{permissive_lid}
 use Rattle.fact_store.specs.Report.{Told}
-use Rattle.fact_store.specs.Sighting.{IsSighting, AreInRange}
+use Rattle.fact_store.specs.Sighting.{IsSighting, AreInRange, is_generation}
 use Rattle.fabric_sim.specs.declared.packet.Packet.{Packet}
 use Rattle.fabric_sim.specs.Simulation.{fabric_of, is_seat_at}
 use Rattle.sm_manager.specs.declared.outgoing.Outgoing.{Outgoing}
@@ -25,8 +25,8 @@ pub record Managing : Type 0 where
 
 -- Something happens on the fabric; the manager is told to begin a sweep, or to write its plan; it gives its first packet out;
 -- a packet that it gave out is sent from its seat, and may be again; a packet that was handed up at its seat is given to it,
--- and may be again; one of its requests times out; facts of others are merged with its own; it is told to poll a LID, or to
--- hand over.
+-- and may be again; one of its requests times out; its floor is raised; facts of others at a floor are merged with its own; it is told
+-- to poll a LID, or to hand over.
 pub data ManagerEvent : Type 0 where
   Around : (event : Event) → ManagerEvent
   Begin : ManagerEvent
@@ -35,7 +35,8 @@ pub data ManagerEvent : Type 0 where
   Send : (which : ℕ) → ManagerEvent
   Hear : (which : ℕ) → ManagerEvent
   TimeOut : (transaction : ℕ) → ManagerEvent
-  Merge : (sightings : Told) → ManagerEvent
+  Raise : (floor : ℕ) → ManagerEvent
+  Merge : (floor : ℕ) → (sightings : Told) → ManagerEvent
   Poll : (lid : ℕ) → ManagerEvent
   HandOver : ManagerEvent
 
@@ -48,7 +49,8 @@ IsElsewhere seat event = Unit {0}
 
 abbrev pub CanBe : NodePort → ManagerEvent → Type 0
 CanBe seat (Around event) = CanHappen event × IsElsewhere seat event
-CanBe seat (Merge sightings) = All IsSighting sightings
+CanBe seat (Raise floor) = IsTrue (is_generation floor)
+CanBe seat (Merge floor sightings) = IsTrue (is_generation floor) × All IsSighting sightings
 CanBe seat event = Unit {0}
 
 -- what they do --------------------------------------------------------------------------------
@@ -85,7 +87,8 @@ after_manager_event w Take = taking w (taken w.manager)
 after_manager_event w (Send which) = sending w (slice_get w.out which)
 after_manager_event w (Hear which) = hearing w (slice_get w.scene.handed which)
 after_manager_event w (TimeOut transaction) = calling w (calls.Timeout transaction)
-after_manager_event w (Merge sightings) = calling w (calls.Merge sightings)
+after_manager_event w (Raise floor) = calling w (calls.Raise floor)
+after_manager_event w (Merge floor sightings) = calling w (calls.Merge floor sightings)
 after_manager_event w (Poll lid) = calling w (calls.Poll lid)
 after_manager_event w HandOver = calling w calls.Handover
 
@@ -105,6 +108,7 @@ pub record IsAtRest (m : Manager) : Type 0 where
   pub outgoing : m.outgoing ≡ []
   -- what it knows is of keys, generations and values that there are
   pub facts : AreInRange m.store
+  pub floor : IsTrue (is_generation m.store.floor)
 
 -- where a run starts
 pub record Starts (w : Managing) : Type 0 where

@@ -1,18 +1,19 @@
 -- Once the plan of a sweep that has every answer is written, pings arrive.
-use Rattle.std.specs.Prelude.{◌≡◌, ◌≢◌, ℕ, true, List, [], ◌∷◌, Some, None}
+use Rattle.std.specs.Prelude.{◌≡◌, ◌≢◌, ◌≤◌, ℕ, true, List, [], ◌∷◌, Some, None}
 use Rattle.fact_store.specs.View.{cells_of, no_facts}
 use Rattle.sweep.specs.Sweep.{Sweep}
 use Rattle.sm_manager.specs.Manager.{begin_fault, new_manager}
 use Rattle.sm_manager.specs.Writing.{is_written}
 use Rattle.sm_laws.specs.Pings.{EachPingArrives}
 use Rattle.sweep_complete.specs.Complete.{IsWhole}
-use Rattle.written_laws.specs.Managing.{Managing, ManagerEvent, Begin, Merge, after_manager_event, after_manager_events}
+use Rattle.written_laws.specs.Managing.{Managing, ManagerEvent, Begin, Raise, Merge, after_manager_event, after_manager_events}
 use Rattle.written_laws.specs.Written.{IsWritingRun, at_writing, at_end, plan_at}
 
--- no other sweep begins, and no facts of others are merged
+-- no other sweep begins, no facts of others are merged, and no floor comes above that of the store
 abbrev pub BeginsNoSweep : Managing → ManagerEvent → Type 0
 BeginsNoSweep w Begin = begin_fault w.manager ≢ None
-BeginsNoSweep w (Merge sightings) = sightings ≡ []
+BeginsNoSweep w (Raise floor) = floor ≤ w.manager.store.floor
+BeginsNoSweep w (Merge floor sightings) = (sightings ≡ []) × (floor ≤ w.manager.store.floor)
 BeginsNoSweep w event = Unit {0}
 
 abbrev pub AreNoSweeps : List ManagerEvent → Managing → Type 0

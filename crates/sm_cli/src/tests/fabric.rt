@@ -110,7 +110,7 @@ fn neither_order_nor_repetition_counts(rt: HostRuntime) -> Result<(), Fail> {
         [&files.1, b"IBSMREP1"],
         [&files.0, &files.1],
     ] {
-        check(&rt, rt.alloc(), Command::Facts, &pair, FABRIC_FACTS)?;
+        check(&rt, rt.alloc(), Output::Facts, &pair, FABRIC_FACTS)?;
     }
     Ok(())
 }
@@ -166,7 +166,7 @@ fn pieces_of_any_size_give_the_same_facts(rt: HostRuntime) -> Result<(), Fail> {
 
 /// The store file that files are joined into.
 fn joined(alloc: Global, files: &[&[u8]]) -> Result<Vec<u8>, Fail> {
-    Ok(Vec::from_slice(alloc, ended(alloc, Command::Join, files)?.bytes())?)
+    Ok(Vec::from_slice(alloc, ended(alloc, Output::Join, files)?.bytes())?)
 }
 
 /// The store file of the fabric's file.
@@ -214,12 +214,12 @@ fn files_are_joined_in_any_grouping(rt: HostRuntime) -> Result<(), Fail> {
         check(
             &rt,
             rt.alloc(),
-            Command::Join,
+            Output::Join,
             &[&pieces.0, &pieces.1],
             &whole,
         )?;
     }
-    check(&rt, rt.alloc(), Command::Facts, &[&whole], FABRIC_FACTS)
+    check(&rt, rt.alloc(), Output::Facts, &[&whole], FABRIC_FACTS)
 }
 
 /// The file of one answer: SwitchInfo of the switch 0x10, told at a generation, with room for so many LIDs.
@@ -256,7 +256,7 @@ fn a_newer_generation_settles_a_dispute(rt: HostRuntime) -> Result<(), Fail> {
     ] {
         let files = room_files(rt.alloc(), rooms)?;
         let files = [files[0].as_slice(), &files[1], &files[2]];
-        check(&rt, rt.alloc(), Command::Facts, &files, text)?;
+        check(&rt, rt.alloc(), Output::Facts, &files, text)?;
     }
     Ok(())
 }

@@ -344,7 +344,7 @@ fn subnet_file(alloc: Global, row: &Row) -> Result<ToRoom, Fail> {
 /// What a run that plans a subnet writes and how it ends.
 fn planned(alloc: Global, row: &Row, room: usize) -> Result<ToRoom, Fail> {
     let file = subnet_file(alloc, row)?;
-    ended_within(alloc, room, Command::Plan, &[file.bytes()])
+    ended_within(alloc, room, from(1, Output::Plan)?, &[file.bytes()])
 }
 
 /// What follows the line of a block in a text, if it begins with that line: these words, and 128
@@ -382,11 +382,11 @@ fn is_plan(text: &[u8], lids: &[u8], tables: &[Table]) -> bool {
 fn the_sample_fabric_is_planned(rt: HostRuntime) -> Result<(), Fail> {
     let files = fabric::fabric_files(rt.alloc())?;
     for pair in [[files.0.as_slice(), b"IBSMREP1"], [&files.1, &files.0]] {
-        let plan = ended(rt.alloc(), Command::Plan, &pair)?;
+        let plan = ended(rt.alloc(), Output::Plan, &pair)?;
         assert!(rt; is_plan(plan.bytes(), LIDS, &TABLES));
     }
     for file in [b"IBSMREP1".as_slice(), &greatest_store()] {
-        check(&rt, rt.alloc(), Command::Plan, &[file], b"")?;
+        check(&rt, rt.alloc(), Output::Plan, &[file], b"")?;
     }
     Ok(())
 }

@@ -42,7 +42,7 @@ plan A
 }
 
 /// Fabrics in which nothing moves, schedules, and what they print.
-const STILL: [Row; 6] = [
+const STILL: [Row; 7] = [
     // No manager, and comments alone.
     (TRIANGLE, "# nothing\n\n\t # at all", ""),
     ("", "tables\nflight\n", ""),
@@ -77,6 +77,43 @@ lid 1 0000000000000100/2
 ping "H"[2] 0 reached "H"[2] hops 0
 ping "H"[2] 1 lost "H"
 "#,
+    ),
+    // A floor: what comes later is above it, and what is older goes, also where the floor comes from another manager.
+    (
+        "Hca 2 \"H\" guid 0x100",
+        r#"manager M "H"[2] 0
+floor M 9
+sweep M
+drain 1000
+floor M 8
+facts M
+manager N "H"[1] 0
+sweep N
+drain 1000
+facts N
+merge N M
+facts N
+floor M 4294967295
+facts M
+plan M
+"#,
+        "\
+floor 9
+node 0000000000000100 ca 2 @9
+portguid 0000000000000100/2 0000000000000102 @9
+port 0000000000000100/2 down @9
+claim 0000000000000100/2 0 @9
+node 0000000000000100 ca 2 @1
+portguid 0000000000000100/1 0000000000000101 @1
+port 0000000000000100/1 down @1
+claim 0000000000000100/1 0 @1
+floor 9
+node 0000000000000100 ca 2 @9
+portguid 0000000000000100/2 0000000000000102 @9
+port 0000000000000100/2 down @9
+claim 0000000000000100/2 0 @9
+floor 4294967295
+",
     ),
     // One GUID for two adapters.
     (

@@ -3,7 +3,7 @@ use Rattle.std.specs.Prelude.{slice_get}
 use Rattle.std.proofs.Math.ListN.{length-set}
 use Rattle.std.proofs.lemmas.List.{length-append}
 use Rattle.std.proofs.lemmas.Option.{slice_get_read}
-use Rattle.sm_cli.proofs.Runs.{elsewhere, facts-more, read_more, reads_stay, there_after}
+use Rattle.sm_cli.proofs.Runs.{elsewhere, facts-more, facts-none, read_more, reads_stay, there_after}
 use Rattle.sm_cli.proofs.run.read_all.Goals as goal
 
 pub returns-in-Err-clause-refused : goal.returns-in-Err-clause-refused
@@ -33,5 +33,15 @@ loop-place-preserved g c =
       one_each = length-append files (r.file ∷ []) ∙ ap (λ n. n + 1) c.loop-place.invariant.one_each;
       read = read_more g.S.Source.left g.S.Source.has_failed c.args.sources.now.items c.loop-place.sources.items files c.loop-place.place c.index_mut.result.now c.read_into.new.source r.file
           c.loop-place.invariant.one_each c.loop-place.invariant.read there within r.read;
-      told = facts-more files r.file c.loop-place.all c.read_into.new.all c.loop-place.invariant.told r.merged;
+      told = facts-more c.args.floor files r.file c.loop-place.all c.read_into.new.all c.loop-place.invariant.told r.merged;
     }
+
+pub loop-place-init : goal.loop-place-init
+loop-place-init g c = record {
+  as_many = refl;
+  untouched = λ k h. refl;
+  files = [];
+  one_each = refl;
+  read = λ place file e. absurd (cc);
+  told = facts-none c.args.floor c.new-all.result c.raise_floor.new.self c.new-all.ensures c.raise_floor.ensures;
+}

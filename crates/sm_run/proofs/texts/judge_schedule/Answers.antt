@@ -19,3 +19,6 @@ returns-in-Err-clause-refused c =
     rw c.refused-in-Err.ensures (schedule_refused c.args.topology.now.nodes c.args.bytes.now c.in-Err.fault c.in-Ok.ensures.cases.1
     (subst (λ (t : List ℕ). IsRefused c.in-Err.fault (schedule_of c.args.topology.now.nodes t)) c.in-Ok.ensures.cases.0 c.in-Err.ensures.reads)
     (λ e. subst (λ (t : List ℕ). IsSoundOrCrowded c.args.topology.now.nodes (lines t)) c.in-Ok.ensures.cases.0 (c.in-Err.ensures.memory (ap Err e))))
+
+pub returns-in-Ok-parse-clause-told : goal.returns-in-Ok-parse-clause-told
+returns-in-Ok-parse-clause-told c = ap (schedule_of c.args.topology.now.nodes) (sym c.in-Ok.ensures.cases.0) ∙ c.in-Ok-parse.ensures.reads

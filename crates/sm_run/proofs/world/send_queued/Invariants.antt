@@ -1,9 +1,15 @@
-use Rattle.std.proofs.Common.{length}
-use Rattle.sm_run.specs.Stops.{HasGrown}
+use Rattle.std.proofs.Common.{◌≡◌, length}
+use Rattle.sm_run.specs.World.{emptied, sent_from}
+use Rattle.sm_run.proofs.Printing.{IsUnderWay}
 use Rattle.sm_run.proofs.world.send_queued.Given as goal
 
+-- what is queued yet is what is left to be sent
 abbrev pub invariant-loop-outgoing : goal.invariant-loop-outgoing
-invariant-loop-outgoing g l = HasGrown g.W.Sink.written g.W.Sink.has_failed l.initial.sink l.sink
+invariant-loop-outgoing g l = record {
+  sends : IsUnderWay g.W.Sink.written g.W.Sink.has_failed l.initial.sink l.sink
+      (sent_from l.initial.fabric l.from l.initial.manager.outgoing) (sent_from l.fabric l.from l.manager.outgoing);
+  keeps : emptied l.manager ≡ emptied l.initial.manager;
+}
 
 abbrev pub decreases-loop-outgoing : goal.decreases-loop-outgoing
 decreases-loop-outgoing g l = length l.manager.outgoing

@@ -1,10 +1,13 @@
-use Rattle.std.proofs.Common.{◌≡◌, length}
-use Rattle.sm_run.specs.Stops.{HasGrown}
+use Rattle.std.proofs.Common.{◌≡◌, ◌-◌, length}
+use Rattle.sm_run.specs.Commands.{drain_run}
+use Rattle.sm_run.specs.World.{value_of}
+use Rattle.sm_run.proofs.Printing.{IsUnderWay}
 use Rattle.sm_run.proofs.world.World.drain.Given as goal
 
--- the managers are still there
-abbrev pub invariant-loop : goal.invariant-loop
-invariant-loop g l = record {
+-- the managers are still there, and the steps that are left are yet to be taken
+abbrev pub invariant-loop-step : goal.invariant-loop-step
+invariant-loop-step g l = record {
   managers : length l.self.managers.items ≡ length l.initial.self.managers.items;
-  grown : HasGrown g.W.Sink.written g.W.Sink.has_failed l.initial.sink l.sink;
+  drains : IsUnderWay g.W.Sink.written g.W.Sink.has_failed l.initial.sink l.sink (drain_run (value_of l.initial.self) l.most)
+      (drain_run (value_of l.self) (l.most - l._step));
 }

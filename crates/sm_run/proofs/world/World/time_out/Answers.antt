@@ -1,27 +1,66 @@
-use Rattle.std.proofs.Common.{◌∙◌, sym, subst}
-use Rattle.std.proofs.Math.ListN.{length-set}
+use Rattle.std.proofs.Common.{◌∙◌, ◌+◌, drop, get_or, sym, ap, subst}
 use Rattle.std.proofs.lemmas.Result.{err_from_is_err_and}
-use Rattle.sm_run.proofs.Growth.{fails_then, grown_then, stops_then}
-use Rattle.sm_run.specs.Stops.{HasGrown}
-use Rattle.sm_run.proofs.world.World.time_out.Goals.{in-Err+in_ok-refuse_manager, in_default}
+use Rattle.sm_run.specs.Commands.{gave_up_run, given_up}
+use Rattle.sm_run.specs.World.{Ran, WorldValue, sent, value_of}
+use Rattle.sm_run.proofs.Printing.{IsUnderWay, failed_with, goes_on, prints_same, stops_before, then_leaves, then_prints}
+use Rattle.sm_run.proofs.Seats.{leaves_same, timed_out}
+use Rattle.sm_run.proofs.Turns.{given_next, given_none}
 use Rattle.sm_run.proofs.world.World.time_out.Goals as goal
-
-pub returns-in_err-refuse_manager-clause-stops : goal.returns-in_err-refuse_manager-clause-stops
-returns-in_err-refuse_manager-clause-stops g c =
-    let p = err_from_is_err_and c.from_residual-in_err-refuse_manager.result c.from_residual-in_err-refuse_manager.ensures.1 in
-    rw (p.1, p.2) (fails_then g.W.Sink.written g.W.Sink.has_failed c.in_err-refuse_manager.field-0.0 _ _ _ c.loop-transaction.invariant.grown c.in_err-refuse_manager.ensures.stops)
 
 pub loop-transaction-preserved : goal.loop-transaction-preserved
 loop-transaction-preserved g c =
-    let Grown : g.row.W.Denot → Type 0 = λ x. HasGrown g.W.Sink.written g.W.Sink.has_failed c.args.sink.now x in
+    let items = c.deref-transaction-items.result.now in
+    let i = c.loop-transaction.transaction-index in
+    let seat = c.args.seat in
+    let w = value_of c.loop-transaction.self in
+    let whole = given_up (value_of c.args.self.now) seat items in
+    let Under : g.row.W.Denot → Ran WorldValue → Type 0 = λ now ran. IsUnderWay g.W.Sink.written g.W.Sink.has_failed c.args.sink.now now whole ran in
+    let gone = goes_on g.W.Sink.written g.W.Sink.has_failed c.args.sink.now c.loop-transaction.sink c.give_up.new.sink whole
+    (gave_up_run w seat (get_or items i 0)) (λ now. given_up now seat (drop (i + 1) items))
+    (subst (Under c.loop-transaction.sink) (given_next w seat items i c.loop-transaction-test.true) c.loop-transaction.invariant.gives_up)
+    c.in_ok-give_up.ensures.prints in
     record {
-      managers = length-set c.loop-transaction.self.managers.items c.args.seat _ ∙ c.loop-transaction.invariant.managers;
-      grown = (elim c.match-on_timeout.branch [
-        | in-Err+in_ok-refuse_manager w ↦
-            subst Grown (sym w.sink-is) (grown_then g.W.Sink.written g.W.Sink.has_failed _ _ _ c.loop-transaction.invariant.grown w.in_ok-refuse_manager.ensures.stops)
-        | in_default w ↦ subst Grown (sym w.sink-is) c.loop-transaction.invariant.grown
-      ]);
+      managers = c.in_ok-give_up.ensures.managers ∙ c.loop-transaction.invariant.managers;
+      gives_up = subst (λ v. Under c.give_up.new.sink (given_up v seat (drop (i + 1) items))) (sym c.in_ok-give_up.ensures.leaves) gone;
     }
 
-pub returns-clause-stops : goal.returns-clause-stops
-returns-clause-stops g c = stops_then g.W.Sink.written g.W.Sink.has_failed c.send.result _ _ _ c.loop-transaction.invariant.grown c.send.ensures.stops
+pub returns-in_err-give_up-clause-prints : goal.returns-in_err-give_up-clause-prints
+returns-in_err-give_up-clause-prints g c =
+    let p = err_from_is_err_and c.from_residual-in_err-give_up.result c.from_residual-in_err-give_up.ensures.1 in
+    let items = c.deref-transaction-items.result.now in
+    let i = c.loop-transaction.transaction-index in
+    let seat = c.args.seat in
+    let w = value_of c.loop-transaction.self in
+    let whole = given_up (value_of c.args.self.now) seat items in
+    let Under : Ran WorldValue → Type 0 = λ ran. IsUnderWay g.W.Sink.written g.W.Sink.has_failed c.args.sink.now c.loop-transaction.sink whole ran in
+    let run = timed_out c.args.self.now.fabric c.args.self.now.managers.items seat c.index.result.now c.requires c.index.ensures items
+    (c.deref-transaction-items.ensures.value ∙ c.in_ok-waiting.ensures) in
+    rw (p.1, p.2) (prints_same g.W.Sink.written g.W.Sink.has_failed (failed_with c.in_err-give_up.field-0.0) c.args.sink.now c.give_up.new.sink _ _
+    (ap (λ r. r.text) (sym run))
+    (stops_before g.W.Sink.written g.W.Sink.has_failed c.in_err-give_up.field-0.0 c.args.sink.now c.loop-transaction.sink c.give_up.new.sink whole
+    (gave_up_run w seat (get_or items i 0)) (λ now. given_up now seat (drop (i + 1) items)) (λ now. sent now seat)
+    (subst Under (given_next w seat items i c.loop-transaction-test.true) c.loop-transaction.invariant.gives_up) c.in_err-give_up.ensures.prints))
+
+pub returns-clause-leaves : goal.returns-clause-leaves
+returns-clause-leaves g c =
+    let items = c.deref-transaction-items.result.now in
+    let seat = c.args.seat in
+    let w = value_of c.loop-transaction.self in
+    let run = timed_out c.args.self.now.fabric c.args.self.now.managers.items seat c.index.result.now c.requires c.index.ensures items
+    (c.deref-transaction-items.ensures.value ∙ c.in_ok-waiting.ensures) in
+    leaves_same c.send.result (value_of c.send.new.self) _ _ (sym run)
+    (then_leaves g.W.Sink.written g.W.Sink.has_failed c.send.result c.args.sink.now c.loop-transaction.sink (value_of c.send.new.self)
+    (given_up (value_of c.args.self.now) seat items) _ w (λ now. sent now seat) c.loop-transaction.invariant.gives_up
+    (given_none w seat items c.loop-transaction.transaction-index c.loop-transaction-test.false) c.send.ensures.leaves)
+
+pub returns-clause-prints : goal.returns-clause-prints
+returns-clause-prints g c =
+    let items = c.deref-transaction-items.result.now in
+    let seat = c.args.seat in
+    let w = value_of c.loop-transaction.self in
+    let run = timed_out c.args.self.now.fabric c.args.self.now.managers.items seat c.index.result.now c.requires c.index.ensures items
+    (c.deref-transaction-items.ensures.value ∙ c.in_ok-waiting.ensures) in
+    prints_same g.W.Sink.written g.W.Sink.has_failed c.send.result c.args.sink.now c.send.new.sink _ _ (ap (λ r. r.text) (sym run))
+    (then_prints g.W.Sink.written g.W.Sink.has_failed c.send.result c.args.sink.now c.loop-transaction.sink c.send.new.sink
+    (given_up (value_of c.args.self.now) seat items) _ w (λ now. sent now seat) c.loop-transaction.invariant.gives_up
+    (given_none w seat items c.loop-transaction.transaction-index c.loop-transaction-test.false) c.send.ensures.prints)

@@ -1,0 +1,471 @@
+-- In each fabric that is seen, packets end as told.
+use Rattle.std.proofs.Common.{◌≡◌, ◌≢◌, ℕ, zero, suc, ◌<◌, ◌≤◌, Bool, true, false, cond, ◌||◌, List, [], ◌∷◌, length, Option, None, Some, refl, sym, ap, ◌∙◌, subst, arith, inl, inr, ◌⊎◌}
+use Rattle.std.specs.Prelude.{slice_get, slice_index_or, map, nat_lt, ◌==◌}
+use Rattle.std.specs.Option.{option_map_or}
+use Rattle.std.proofs.lemmas.Bool.{cases_lt, eqb-true, le-ltb, ltb-true, ltb-false}
+use Rattle.std.proofs.lemmas.Option.{same_Some}
+use Rattle.std.proofs.lemmas.List.FromFn.{get_or-map-range_with_len, length-map-range_with_len}
+use Rattle.smp_bytes.specs.declared.cable.NodePort.{NodePort}
+use Rattle.smp_bytes.specs.declared.course.Course.{Course}
+use Rattle.smp_bytes.specs.declared.course.Course.TheVariants.{Delivers, LeavesBy, Drops}
+use Rattle.smp_bytes.specs.Cables.{is_same_port}
+use Rattle.smp_bytes.specs.NodeType.{is_switch}
+use Rattle.smp_bytes.specs.Fabric.{Node, Fabric, IsNodeAt, IsEndPort, owns}
+use Rattle.smp_bytes.specs.FabricWalks.{vertex_of}
+use Rattle.smp_bytes.specs.Forwarding.{Standing, sent_from, arrived_at, course, adapter_course, entry_course, switch_course, Hop, Goes, IsLost}
+use Rattle.smp_bytes.proofs.Cabled.{same_port-is, same_port-refl}
+use Rattle.smp_bytes.proofs.FabricWalks.{port_at, EndNumber}
+use Rattle.smp_bytes.proofs.Forwarded.{packets_end_once}
+use Rattle.fact_store.specs.View.{Facts, cells_of}
+use Rattle.subnet_view.specs.declared.end_port.EndPort.{EndPort}
+use Rattle.subnet_view.specs.Reading.{Cells, switches}
+use Rattle.subnet_view.specs.Wires.{across}
+use Rattle.subnet_view.specs.Agreement.{IsPortNamed}
+use Rattle.plan_file.specs.Held.{HeldPlan}
+use Rattle.audit.specs.declared.end.End.{End}
+use Rattle.audit.specs.declared.end.End.TheVariants.{Taken, Lost}
+use Rattle.audit.specs.declared.far.Far.{Far}
+use Rattle.audit.specs.declared.far.Far.TheVariants.{Nothing}
+use Rattle.audit.specs.declared.step.Step.{Step}
+use Rattle.audit.specs.declared.step.Step.TheVariants.{To, Ends}
+use Rattle.audit.specs.Fabrics.{IsSeen, EndsAs, PacketsEndAsTold}
+use Rattle.audit.specs.Network.{index_in, far_at, far_to, far_of, row_of, source_of}
+use Rattle.audit.specs.Steps.{at_port, over, by_entry, steps_of, sent, first_step}
+use Rattle.audit.specs.Tables.{owners_of, is_owner, entry_for, top_of, entry_of}
+use Rattle.audit.specs.Walks.{onward, after, IsEndOf}
+use Rattle.audit.proofs.FabricParts.{InFabric, as_part, vertex_part, switch_end, listed, indexed, wire_told, told_wire}
+
+same_out : (p q : NodePort) → LeavesBy p ≡ LeavesBy q → p ≡ q
+same_out p q e = cc
+
+module _ (f : Fabric) (lid : ℕ) where
+  -- a packet that is delivered at a port, and one that never is
+  record Delivered (st : Standing) (e : EndPort) : Type 0 where
+    hops : List Hop
+    end : Standing
+    target : NodePort
+    goes : Goes f lid st hops end
+    delivers : course f lid end ≡ Delivers target
+    named : IsPortNamed f e.node e.port target
+
+  abbrev Never : Standing → Type 0
+  Never st = (hops : List Hop) (end : Standing) (target : NodePort) → Goes f lid st hops end → course f lid end ≡ Delivers target → ⊥
+
+  never_dropped : (st : Standing) → course f lid st ≡ Drops → Never st
+  never_dropped st drops [] end target g d = let same : course f lid st ≡ course f lid end = ap (course f lid) g in cc
+  never_dropped st drops (h ∷ hops) end target g d = let leaves = g.0 in cc
+
+  never_stuck : (st : Standing) (p : NodePort) → course f lid st ≡ LeavesBy p → f.across p ≡ None → Never st
+  never_stuck st p leaves none [] end target g d = let same : course f lid st ≡ course f lid end = ap (course f lid) g in cc
+  never_stuck st p leaves none (h ∷ hops) end target g d =
+      let out : p ≡ h.out = same_out p h.out (sym leaves ∙ g.0) in
+      let wire : f.across p ≡ Some h.into = ap f.across out ∙ g.1 in
+      cc
+
+  pub into_is : (st : Standing) (p q : NodePort) (h : Hop) → course f lid st ≡ LeavesBy p → f.across p ≡ Some q → course f lid st ≡ LeavesBy h.out
+      → f.across h.out ≡ Some h.into → h.into ≡ q
+  into_is st p q h leaves wire its there =
+      let out : p ≡ h.out = same_out p h.out (sym leaves ∙ its) in
+      same_Some h.into q (sym there ∙ sym (ap f.across out) ∙ wire)
+
+  never_on : (st : Standing) (p q : NodePort) → course f lid st ≡ LeavesBy p → f.across p ≡ Some q → Never (arrived_at q) → Never st
+  never_on st p q leaves wire never [] end target g d = let same : course f lid st ≡ course f lid end = ap (course f lid) g in cc
+  never_on st p q leaves wire never (h ∷ hops) end target g d =
+      let into = into_is st p q h leaves wire g.0 g.1 in
+      never hops end target (subst (λ (x : NodePort). Goes f lid (arrived_at x) hops end) into g.2) d
+
+  never_loops : (p : NodePort) → course f lid (arrived_at p) ≡ LeavesBy p → f.across p ≡ Some p → Never (arrived_at p)
+  never_loops p leaves wire [] end target g d = let same : course f lid (arrived_at p) ≡ course f lid end = ap (course f lid) g in cc
+  never_loops p leaves wire (h ∷ hops) end target g d =
+      let into = into_is (arrived_at p) p p h leaves wire g.0 g.1 in
+      never_loops p leaves wire hops end target (subst (λ (x : NodePort). Goes f lid (arrived_at x) hops end) into g.2) d
+
+  delivered_on : (st : Standing) (p q : NodePort) (e : EndPort) → course f lid st ≡ LeavesBy p → f.across p ≡ Some q → Delivered (arrived_at q) e → Delivered st e
+  delivered_on st p q e leaves wire d = record {
+    hops = record { out = p; into = q } ∷ d.hops;
+    end = d.end;
+    target = d.target;
+    goes = (leaves, wire, d.goes);
+    delivers = d.delivers;
+    named = d.named;
+  }
+
+  -- what a node does
+  abbrev node_does : Standing → Node → Course
+  node_does st n =
+      cond (is_switch n.kind) (switch_course n.ports st.place.node (f.top st.place.node) lid (f.entry st.place.node lid)) (adapter_course (owns f st.place lid) st)
+
+  course_at : (st : Standing) (node : Node) → IsNodeAt f st.place.node node → course f lid st ≡ node_does st node
+  course_at st node at = ap (λ o. option_map_or (node_does st) o Drops) at
+
+  adapter_is : (st : Standing) (node : Node) → IsNodeAt f st.place.node node → is_switch node.kind ≡ false → course f lid st ≡ adapter_course (owns f st.place lid) st
+  adapter_is st node at kind =
+      course_at st node at
+      ∙ ap (λ t. cond t (switch_course node.ports st.place.node (f.top st.place.node) lid (f.entry st.place.node lid)) (adapter_course (owns f st.place lid) st)) kind
+
+  takes_own : (q : NodePort) (node : Node) → IsNodeAt f q.node node → is_switch node.kind ≡ false → owns f q lid ≡ true → course f lid (arrived_at q) ≡ Delivers q
+  takes_own q node at kind own = adapter_is (arrived_at q) node at kind ∙ ap (λ t. cond t (Delivers q) Drops) own
+
+  drops_other : (q : NodePort) (node : Node) → IsNodeAt f q.node node → is_switch node.kind ≡ false → owns f q lid ≡ false → course f lid (arrived_at q) ≡ Drops
+  drops_other q node at kind other = adapter_is (arrived_at q) node at kind ∙ ap (λ t. cond t (Delivers q) Drops) other
+
+module _ (facts : Facts) (held : HeldPlan) (f : Fabric) (seen : IsSeen (cells_of facts) held f) (lid : ℕ) (some : 1 ≤ lid) where
+  abbrev cells : Cells
+  cells = cells_of facts
+
+  abbrev owners : List EndPort
+  owners = owners_of held lid
+
+  -- a packet stands at the switch of an index
+  record At (i : ℕ) (st : Standing) : Type 0 where
+    node : Node
+    at : IsNodeAt f st.place.node node
+    kind : is_switch node.kind ≡ true
+    index : slice_get (switches cells) i ≡ Some node.guid
+
+  -- it goes over a wire to the switch of an index
+  record Crosses (st : Standing) (j : ℕ) : Type 0 where
+    hop : Hop
+    leaves : course f lid st ≡ LeavesBy hop.out
+    wire : f.across hop.out ≡ Some hop.into
+    there : At j (arrived_at hop.into)
+
+  abbrev LeadsTo : Standing → End → Type 0
+  LeadsTo st (Taken e) = Delivered f lid st e
+  LeadsTo st (Lost g) = Never f lid st
+
+  -- what a step says becomes of the packet
+  abbrev Leads : Standing → Step → Type 0
+  Leads st (To j) = Crosses st j
+  Leads st (Ends x) = LeadsTo st x
+
+  -- there is no wire, as far as the facts know
+  no_far : (g p : ℕ) → across cells g p ≡ None → far_of cells g p ≡ Nothing
+  no_far g p e = ap (far_to (switches cells)) e
+
+  -- at an adapter port
+  at_adapter : (st : Standing) (p q : NodePort) (node : Node) → course f lid st ≡ LeavesBy p → f.across p ≡ Some q → IsNodeAt f q.node node → IsEndPort f q
+      → is_switch node.kind ≡ false → (b : Bool) → is_owner owners (record { node = node.guid; port = q.port }) ≡ b
+      → LeadsTo st (cond b (Taken (record { node = node.guid; port = q.port })) (Lost node.guid))
+  at_adapter st p q node leaves wire at is_end kind true e =
+      let own : owns f q lid ≡ true = seen.holds.lids q node lid at is_end some ∙ e in
+      delivered_on f lid st p q (record { node = node.guid; port = q.port }) leaves wire
+      (record {
+        hops = [];
+        end = arrived_at q;
+        target = q;
+        goes = refl;
+        delivers = takes_own f lid q node at kind own;
+        named = record { node = node; node_there = at; guid_is = refl; port_is = refl };
+      })
+  at_adapter st p q node leaves wire at is_end kind false e =
+      let other : owns f q lid ≡ false = seen.holds.lids q node lid at is_end some ∙ e in
+      never_on f lid st p q leaves wire (never_dropped f lid (arrived_at q) (drops_other f lid q node at kind other))
+
+  -- over a wire to another port
+  crossing : (g : ℕ) (st : Standing) (p q : NodePort) (node : Node) → course f lid st ≡ LeavesBy p → f.across p ≡ Some q → IsNodeAt f q.node node
+      → (found : Option ℕ) → index_in (switches cells) node.guid ≡ found → Leads st (over owners g (far_at (node.guid, q.port) found))
+  crossing g st p q node leaves wire at (Some j) e =
+      let back : f.across q ≡ Some p = seen.is_fabric.both_ways p q wire in
+      let here = indexed facts held f seen (vertex_of f q) node j (vertex_part facts held f seen q p node back at) e in
+      record { hop = record { out = p; into = q }; leaves = leaves; wire = wire; there = record { node = node; at = at; kind = here.0; index = here.1 } }
+  crossing g st p q node leaves wire at None e =
+      let back : f.across q ≡ Some p = seen.is_fabric.both_ways p q wire in
+      let (other, at_other, low, high) = seen.is_fabric.cabled q p back in
+      let same : other ≡ node = same_Some other node (sym at_other ∙ at) in
+      elim (is_switch node.kind) as (λ t. is_switch node.kind ≡ t → LeadsTo st (at_port owners (record { node = node.guid; port = q.port }))) [
+        | true ↦ λ k. absurd (listed facts held f seen q.node node at k e)
+        | false ↦ λ k.
+            let number : EndNumber node.ports q.port (is_switch node.kind) =
+            subst (EndNumber node.ports q.port) (sym k) (low, subst (λ (n : Node). q.port ≤ n.ports) same high) in
+            at_adapter st p q node leaves wire at (node, at, number) k (is_owner owners (record { node = node.guid; port = q.port })) refl
+      ] refl
+
+  -- by a port of a node whose vertex is v
+  module _ (st : Standing) (p v : NodePort) (node : Node) (here : InFabric facts held f seen v node) (place : v.node ≡ p.node)
+      (leaves : course f lid st ≡ LeavesBy p)
+      (again : (course f lid (arrived_at p) ≡ LeavesBy p) ⊎ (course f lid (arrived_at p) ≡ Drops)) where
+    abbrev g : ℕ
+    g = node.guid
+
+    -- without a wire the packet is lost
+    lost_there : Never f lid st → across cells g p.port ≡ None → Leads st (over owners g (far_of cells g p.port))
+    lost_there never e = subst (λ (far : Far). Leads st (over owners g far)) (sym (no_far g p.port e)) never
+
+    no_cable : f.across p ≡ None → Leads st (over owners g (far_of cells g p.port))
+    no_cable none =
+        elim (across cells g p.port) as (λ o. across cells g p.port ≡ o → Leads st (over owners g (far_of cells g p.port))) [
+          | None ↦ λ e. lost_there (never_stuck f lid st p leaves none) e
+          | Some x ↦ λ e. let w = told_wire facts held f seen p v node x.0 x.1 here place e in let wire = w.wire in absurd (cc)
+        ] refl
+
+    looped : (q : NodePort) → f.across p ≡ Some q → p ≡ q → Leads st (over owners g (far_of cells g p.port))
+    looped q wire same =
+        let loop : f.across p ≡ Some p = wire ∙ ap (λ x. Some x) (sym same) in
+        let never : Never f lid (arrived_at p) =
+        elim again [ inl on ↦ never_loops f lid p on loop | inr drops ↦ never_dropped f lid (arrived_at p) drops ] in
+        elim (across cells g p.port) as (λ o. across cells g p.port ≡ o → Leads st (over owners g (far_of cells g p.port))) [
+          | None ↦ λ e. lost_there (never_on f lid st p p leaves loop never) e
+          | Some x ↦ λ e. let w = told_wire facts held f seen p v node x.0 x.1 here place e in
+              absurd (w.apart (same_Some p w.to (sym loop ∙ w.wire)))
+        ] refl
+
+    wired : (q : NodePort) → f.across p ≡ Some q → p ≢ q → Leads st (over owners g (far_of cells g p.port))
+    wired q wire apart =
+        let (far, at_far, low, high) = seen.is_fabric.cabled q p (seen.is_fabric.both_ways p q wire) in
+        let at : IsNodeAt f p.node node = sym (ap (slice_get f.nodes) place) ∙ here.node_there in
+        let told : across cells g p.port ≡ Some (far.guid, q.port) = wire_told facts held f seen p q node far wire apart at at_far in
+        subst (λ (o : Option (ℕ × ℕ)). Leads st (over owners g (far_to (switches cells) o))) (sym told)
+        (crossing g st p q far leaves wire at_far (index_in (switches cells) far.guid) refl)
+
+    leaving : Leads st (over owners g (far_of cells g p.port))
+    leaving =
+        elim (f.across p) as (λ o. f.across p ≡ o → Leads st (over owners g (far_of cells g p.port))) [
+          | None ↦ no_cable
+          | Some q ↦ λ wire. (elim (is_same_port p q) as (λ t. is_same_port p q ≡ t → Leads st (over owners g (far_of cells g p.port))) [
+            | true ↦ λ e. looped q wire (same_port-is p q e)
+            | false ↦ λ e. wired q wire (λ same. let is : is_same_port p p ≡ true = same_port-refl p in let moved : is_same_port p p ≡ is_same_port p q = ap (is_same_port p) same in cc)
+          ] refl)
+        ] refl
+
+  -- a switch goes by the entry that counts
+  counts : (t : Bool) (ports k entry : ℕ) → cond t Drops (entry_course ports k entry) ≡ entry_course ports k (cond t 255 entry)
+  counts true ports k entry = refl
+  counts false ports k entry = refl
+
+  abbrev entry : Node → ℕ
+  entry node = entry_for held lid node.guid
+
+  switch_goes : (st : Standing) (node : Node) → IsNodeAt f st.place.node node → is_switch node.kind ≡ true
+      → course f lid st ≡ entry_course node.ports st.place.node (entry node)
+  switch_goes st node at kind =
+      let k = st.place.node in
+      course_at f lid st node at
+      ∙ ap (λ t. cond t (switch_course node.ports k (f.top k) lid (f.entry k lid)) (adapter_course (owns f st.place lid) st)) kind
+      ∙ ap (λ n. switch_course node.ports k n lid (f.entry k lid)) (seen.holds.tops k node at kind)
+      ∙ ap (λ n. switch_course node.ports k (top_of held node.guid) lid n) (seen.holds.entries k node lid at kind)
+      ∙ counts (lid == 0 || nat_lt (top_of held node.guid) lid) node.ports k (entry_of held node.guid lid)
+
+  -- a port that the switch lacks leads nowhere
+  past_row : (row : List Far) (n : ℕ) → length row ≤ n → slice_index_or row n Nothing ≡ Nothing
+  past_row [] n h = refl
+  past_row (x ∷ row) zero h = absurd (omega arith)
+  past_row (x ∷ row) (suc n) h = past_row row n (omega arith)
+
+  row_at : (h p : ℕ) → p < 256 → slice_index_or (row_of cells h) p Nothing ≡ far_of cells h p
+  row_at h p less = get_or-map-range_with_len (far_of cells h) 0 256 p p Nothing less (omega arith)
+
+  no_port : (k : ℕ) (node : Node) (p : ℕ) → IsNodeAt f k node → is_switch node.kind ≡ true → (p ≡ 255) ⊎ (node.ports < p)
+      → slice_index_or (row_of cells node.guid) p Nothing ≡ Nothing
+  no_port k node p at kind none =
+      elim (cases_lt p 256) [
+        | inr more ↦ past_row (row_of cells node.guid) p (omega (arith, length-map-range_with_len (far_of cells node.guid) 0 256))
+        | inl less ↦ row_at node.guid p less
+            ∙ (elim (across cells node.guid p) as (λ o. across cells node.guid p ≡ o → far_of cells node.guid p ≡ Nothing) [
+              | None ↦ λ e. no_far node.guid p e
+              | Some x ↦ λ e.
+                  let w = told_wire facts held f seen (port_at k p) (port_at k 0) node x.0 x.1 (switch_end facts held f seen k node at kind) refl e in
+                  let (other, at_other, low, high) = seen.is_fabric.cabled (port_at k p) w.to w.wire in
+                  let same : other ≡ node = same_Some other node (sym at_other ∙ at) in
+                  let within : p ≤ node.ports = subst (λ (n : Node). p ≤ n.ports) same high in
+                  let few = (seen.is_fabric.counts k node at).1 in
+                  elim none [ inl a ↦ absurd (omega arith) | inr b ↦ absurd (omega arith) ]
+            ] refl)
+      ]
+
+  lacks : (p ports : ℕ) → (p == 255 || nat_lt ports p) ≡ true → (p ≡ 255) ⊎ (ports < p)
+  lacks p ports e =
+      elim (p == 255) as (λ t. (p == 255) ≡ t → (t || nat_lt ports p) ≡ true → (p ≡ 255) ⊎ (ports < p)) [
+        | true ↦ λ q k. inl (eqb-true p 255 q)
+        | false ↦ λ q k. inr (ltb-true ports p k)
+      ] refl e
+
+  has : (p ports : ℕ) → (p == 255 || nat_lt ports p) ≡ false → p ≤ ports
+  has p ports e =
+      elim (p == 255) as (λ t. (t || nat_lt ports p) ≡ false → p ≤ ports) [
+        | true ↦ λ k. absurd (cc)
+        | false ↦ λ k. ltb-false ports p k
+      ] e
+
+  -- a switch does as its step says
+  switch_leads : (i : ℕ) (st : Standing) (a : At i st) → Leads st (by_entry owners a.node.guid (row_of cells a.node.guid) (entry a.node))
+  switch_leads i st a =
+      let node = a.node in
+      let k = st.place.node in
+      let n = entry node in
+      let goes = switch_goes st node a.at a.kind in
+      let few = (seen.is_fabric.counts k node a.at).1 in
+      let part = switch_end facts held f seen k node a.at a.kind in
+      elim (n == 0) as (λ t. (n == 0) ≡ t
+      → Leads st (cond t (Ends (Taken (record { node = node.guid; port = 0 }))) (over owners node.guid (slice_index_or (row_of cells node.guid) n Nothing)))) [
+        | true ↦ λ z.
+            let zero_is : n ≡ 0 = eqb-true n 0 z in
+            let takes : course f lid st ≡ Delivers (port_at k 0) =
+            goes ∙ ap (entry_course node.ports k) zero_is ∙ ap (λ t. cond t Drops (Delivers (port_at k 0))) (le-ltb node.ports 0 (omega arith)) in
+            record {
+              hops = [];
+              end = st;
+              target = port_at k 0;
+              goes = refl;
+              delivers = takes;
+              named = record { node = node; node_there = a.at; guid_is = refl; port_is = refl };
+            }
+        | false ↦ λ z. (elim (n == 255 || nat_lt node.ports n) as (λ t. (n == 255 || nat_lt node.ports n) ≡ t
+            → Leads st (over owners node.guid (slice_index_or (row_of cells node.guid) n Nothing))) [
+              | true ↦ λ e.
+                  let drops : course f lid st ≡ Drops = goes ∙ ap (λ t. cond t Drops (cond (n == 0) (Delivers (port_at k 0)) (LeavesBy (port_at k n)))) e in
+                  subst (λ (far : Far). Leads st (over owners node.guid far)) (sym (no_port k node n a.at a.kind (lacks n node.ports e)))
+                  (never_dropped f lid st drops)
+              | false ↦ λ e.
+                  let within = has n node.ports e in
+                  let leaves : (s : Standing) → s.place.node ≡ k → IsNodeAt f s.place.node node → course f lid s ≡ LeavesBy (port_at k n) =
+                  λ s same at. switch_goes s node at a.kind ∙ ap (λ m. entry_course node.ports m n) same
+                  ∙ ap (λ t. cond t Drops (cond (n == 0) (Delivers (port_at k 0)) (LeavesBy (port_at k n)))) e
+                  ∙ ap (λ t. cond t (Delivers (port_at k 0)) (LeavesBy (port_at k n))) z in
+                  subst (λ (far : Far). Leads st (over owners node.guid far)) (sym (row_at node.guid n (omega arith)))
+                  (leaving st (port_at k n) (port_at k 0) node part refl (leaves st refl a.at) (inl (leaves (arrived_at (port_at k n)) refl a.at)))
+            ] refl)
+      ] refl
+
+  -- step by step ------------------------------------------------------------------------
+
+  abbrev steps : List Step
+  steps = steps_of cells held lid
+
+  step_at : (guids : List ℕ) (F : ℕ → Step) (i h : ℕ) (d : Step) → slice_get guids i ≡ Some h → slice_index_or (map F guids) i d ≡ F h
+  step_at [] F i h d e = cc
+  step_at (x ∷ guids) F zero h d e = ap F (same_Some x h e)
+  step_at (x ∷ guids) F (suc i) h d e = step_at guids F i h d e
+
+  onward_leads : (i : ℕ) (st : Standing) → At i st → Leads st (onward steps (To i))
+  onward_leads i st a =
+      let F : ℕ → Step = λ h. by_entry owners h (row_of cells h) (entry_for held lid h) in
+      subst (Leads st) (sym (step_at (switches cells) F i a.node.guid (To i) a.index)) (switch_leads i st a)
+
+  after_end : (n : ℕ) (x : End) → after n steps (Ends x) ≡ Ends x
+  after_end zero x = refl
+  after_end (suc n) x = after_end n x
+
+  same_end : (x y : End) → Ends x ≡ Ends y → x ≡ y
+  same_end x y e = cc
+
+  on_taken : (st : Standing) (j : ℕ) (e : EndPort) (c : Crosses st j) → Delivered f lid (arrived_at c.hop.into) e → Delivered f lid st e
+  on_taken st j e c d = delivered_on f lid st c.hop.out c.hop.into e c.leaves c.wire d
+
+  on_never : (st : Standing) (j : ℕ) (c : Crosses st j) → Never f lid (arrived_at c.hop.into) → Never f lid st
+  on_never st j c never = never_on f lid st c.hop.out c.hop.into c.leaves c.wire never
+
+  carried : (st : Standing) (j : ℕ) (x : End) (c : Crosses st j) → LeadsTo (arrived_at c.hop.into) x → LeadsTo st x
+  carried st j (Taken e) c d = on_taken st j e c d
+  carried st j (Lost g) c never = on_never st j c never
+
+  -- a walk that ends
+  ends : (n i : ℕ) (st : Standing) (x : End) → At i st → after n steps (To i) ≡ Ends x → LeadsTo st x
+  ends zero i st x a e = absurd (cc)
+  ends (suc n) i st x a e =
+      elim (onward steps (To i)) as (λ r. Leads st r → after n steps r ≡ Ends x → LeadsTo st x) [
+        | To j ↦ λ c k. carried st j x c (ends n j (arrived_at c.hop.into) x c.there k)
+        | Ends y ↦ λ l k. subst (LeadsTo st) (same_end y x (sym (after_end n y) ∙ k)) l
+      ] (onward_leads i st a) e
+
+  -- a walk that goes on for ever
+  abbrev GoesOn : Step → Type 0
+  GoesOn s = (n : ℕ) → (i : ℕ) × (after n steps s ≡ To i)
+
+  not_leaving : (st : Standing) (s : Step) → Leads st s → GoesOn s → (p : NodePort) × (course f lid st ≡ LeavesBy p)
+  not_leaving st (To j) c on = (c.hop.out, c.leaves)
+  not_leaving st (Ends x) l on = let first = (on 0).1 in absurd (cc)
+
+  rounds : (hops : List Hop) (i : ℕ) (st end : Standing) (target : NodePort) → At i st → GoesOn (onward steps (To i)) → Goes f lid st hops end
+      → course f lid end ≡ Delivers target → ⊥
+  rounds [] i st end target a on g d =
+      let leaves = (not_leaving st (onward steps (To i)) (onward_leads i st a) on).1 in
+      let same : course f lid st ≡ course f lid end = ap (course f lid) g in
+      cc
+  rounds (h ∷ hops) i st end target a on g d =
+      elim (onward steps (To i)) as (λ r. Leads st r → GoesOn r → ⊥) [
+        | To j ↦ λ c k.
+            let into = into_is f lid st c.hop.out c.hop.into h c.leaves c.wire g.0 g.1 in
+            rounds hops j (arrived_at c.hop.into) end target c.there (λ n. k (suc n))
+            (subst (λ (x : NodePort). Goes f lid (arrived_at x) hops end) into g.2) d
+        | Ends y ↦ λ l k. let first = (k 0).1 in absurd (cc)
+      ] (onward_leads i st a) on
+
+  never_rounds : (i : ℕ) (st : Standing) → At i st → GoesOn (To i) → Never f lid st
+  never_rounds i st a on hops end target g d = rounds hops i st end target a (λ n. on (suc n)) g d
+
+  -- from the port that sends it ------------------------------------------------------------
+
+  abbrev Begins : Standing → Step → Type 0
+  Begins st (To i) = At i st ⊎ Crosses st i
+  Begins st (Ends x) = LeadsTo st x
+
+  as_begun : (st : Standing) (s : Step) → Leads st s → Begins st s
+  as_begun st (To i) c = inr c
+  as_begun st (Ends x) l = l
+
+  module _ (source : NodePort) (node : Node) (at : IsNodeAt f source.node node) (is_end : IsEndPort f source) where
+    abbrev this : EndPort
+    this = record { node = node.guid; port = source.port }
+
+    abbrev st : Standing
+    st = sent_from source
+
+    part : InFabric facts held f seen source node
+    part = as_part facts held f seen source node at is_end
+
+    sends : is_switch node.kind ≡ false → (b : Bool) → is_owner owners this ≡ b
+        → Begins st (cond b (Ends (Taken this)) (over owners node.guid (far_of cells node.guid source.port)))
+    sends kind true e =
+        let own : owns f source lid ≡ true = seen.holds.lids source node lid at is_end some ∙ e in
+        record {
+          hops = [];
+          end = st;
+          target = source;
+          goes = refl;
+          delivers = adapter_is f lid st node at kind ∙ ap (λ t. cond t (Delivers source) (LeavesBy source)) own;
+          named = record { node = node; node_there = at; guid_is = refl; port_is = refl };
+        }
+    sends kind false e =
+        let other : owns f source lid ≡ false = seen.holds.lids source node lid at is_end some ∙ e in
+        let leaves : course f lid st ≡ LeavesBy source = adapter_is f lid st node at kind ∙ ap (λ t. cond t (Delivers source) (LeavesBy source)) other in
+        as_begun st (over owners node.guid (far_of cells node.guid source.port))
+        (leaving st source source node part refl leaves (inr (drops_other f lid source node at kind other)))
+
+    begins : Begins st (first_step owners (source_of cells this))
+    begins =
+        elim (index_in (switches cells) node.guid) as
+        (λ o. index_in (switches cells) node.guid ≡ o → Begins st (sent owners this o (far_of cells node.guid source.port))) [
+          | Some i ↦ λ e. let here = indexed facts held f seen source node i part e in
+              inl (record { node = node; at = at; kind = here.0; index = here.1 })
+          | None ↦ λ e. (elim (is_switch node.kind) as
+              (λ t. is_switch node.kind ≡ t → Begins st (sent owners this None (far_of cells node.guid source.port))) [
+                | true ↦ λ k. absurd (listed facts held f seen source.node node at k e)
+                | false ↦ λ k. sends k (is_owner owners this) refl
+              ] refl)
+        ] refl
+
+    lost : Never f lid st → (hops : List Hop) × (place : ℕ) × IsLost f lid source hops place
+    lost never =
+        elim (packets_end_once f lid source).0 [
+          | inl d ↦ let (hops, target, delivered) = d in absurd (never hops delivered.0 target delivered.1 delivered.2)
+          | inr l ↦ l
+        ]
+
+    ended : (x : End) → LeadsTo st x → EndsAs f lid source (Some x)
+    ended (Taken e) d = (d.hops, d.target, d.named, (d.end, d.goes, d.delivers))
+    ended (Lost g) never = lost never
+
+    told : (s : Step) (end : Option End) → Begins st s → IsEndOf steps s end → EndsAs f lid source end
+    told (To i) (Some x) (inl a) w = ended x (ends w.0 i st x a w.1)
+    told (To i) (Some x) (inr c) w = ended x (carried st i x c (ends w.0 i (arrived_at c.hop.into) x c.there w.1))
+    told (To i) None (inl a) on = lost (never_rounds i st a on)
+    told (To i) None (inr c) on = lost (on_never st i c (never_rounds i (arrived_at c.hop.into) c.there on))
+    told (Ends x) (Some y) l w = ended y (subst (LeadsTo st) (same_end x y (sym (after_end w.0 x) ∙ w.1)) l)
+    told (Ends x) None l on = let first = (on 0).1 in absurd (cc)
+
+pub packets_end_as_told : PacketsEndAsTold
+packets_end_as_told facts held f seen source node lid end at is_end some brought =
+    told facts held f seen lid some source node at is_end
+    (first_step (owners_of held lid) (source_of (cells_of facts) (record { node = node.guid; port = source.port }))) end
+    (begins facts held f seen lid some source node at is_end) brought

@@ -1,0 +1,74 @@
+-- When a fabric is as the facts say and holds the tables, and what then becomes of packets there.
+-- InfiniBand Architecture Specification, Volume 1: subnet management, PortInfo (LID), SwitchInfo (LinearFDBTop) and LinearForwardingTable;
+-- switches, unicast forwarding by the linear forwarding table.
+use Rattle.std.specs.Prelude.{◌≡◌, ◌≤◌, ℕ, List, Contains, Option, None, Some, IsTrue}
+use Rattle.smp_bytes.specs.declared.cable.NodePort.{NodePort}
+use Rattle.smp_bytes.specs.NodeType.{is_switch}
+use Rattle.smp_bytes.specs.Fabric.{Node, Fabric, IsFabric, IsNodeAt, IsEndPort, owns}
+use Rattle.smp_bytes.specs.Forwarding.{Hop, IsDelivered, IsLost}
+use Rattle.fact_store.specs.View.{Facts, cells_of}
+use Rattle.subnet_view.specs.Reading.{Cells}
+use Rattle.subnet_view.specs.Agreement.{WholeFabric, IsPortNamed, AgreesOn}
+use Rattle.plan_file.specs.Held.{HeldPlan}
+use Rattle.audit.specs.declared.end.End.{End}
+use Rattle.audit.specs.declared.end.Failure.{Failure}
+use Rattle.audit.specs.declared.end.End.TheVariants.{Taken, Lost}
+use Rattle.plan_file.specs.declared.held.HeldLid.{HeldLid}
+use Rattle.audit.specs.Steps.{IsBrought, AllArrive, IsHeldFailure}
+use Rattle.audit.specs.Tables.{owners_of, is_owner, top_of, entry_of}
+
+-- an end port owns a LID where a line says that it holds it; a switch has the top and the entries of its lines, a top of 0 where it has none,
+-- and 255 at each LID of a block that it has no line for
+pub record HoldsTables (held : HeldPlan) (f : Fabric) : Type 0 where
+  pub lids : (port : NodePort) (node : Node) (lid : ℕ) → IsNodeAt f port.node node → IsEndPort f port → 1 ≤ lid
+      → owns f port lid ≡ is_owner (owners_of held lid) (record { node = node.guid; port = port.port })
+  pub tops : (place : ℕ) (node : Node) → IsNodeAt f place node → IsTrue (is_switch node.kind) → f.top place ≡ top_of held node.guid
+  pub entries : (place : ℕ) (node : Node) (lid : ℕ) → IsNodeAt f place node → IsTrue (is_switch node.kind) → f.entry place lid ≡ entry_of held node.guid lid
+
+-- a fabric that is as the facts say, and holds the tables
+pub record IsSeen (cells : Cells) (held : HeldPlan) (f : Fabric) : Type 0 where
+  pub is_fabric : IsFabric f
+  pub agrees : AgreesOn WholeFabric cells f
+  pub holds : HoldsTables held f
+
+-- a packet that ends at a port is delivered there, and any other is lost
+abbrev pub EndsAs : Fabric → ℕ → NodePort → Option End → Type 0
+EndsAs f lid source (Some (Taken e)) = (hops : List Hop) × (target : NodePort) × IsPortNamed f e.node e.port target × IsDelivered f lid source hops target
+EndsAs f lid source (Some (Lost g)) = (hops : List Hop) × (place : ℕ) × IsLost f lid source hops place
+EndsAs f lid source None = (hops : List Hop) × (place : ℕ) × IsLost f lid source hops place
+
+-- in each such fabric the packets of each end port end as the facts and the tables tell
+abbrev pub PacketsEndAsTold : Type 0
+PacketsEndAsTold = (facts : Facts) (held : HeldPlan) (f : Fabric) → IsSeen (cells_of facts) held f
+    → (source : NodePort) (node : Node) (lid : ℕ) (end : Option End) → IsNodeAt f source.node node → IsEndPort f source → 1 ≤ lid
+    → IsBrought (cells_of facts) held lid (record { node = node.guid; port = source.port }) end → EndsAs f lid source end
+
+-- a packet from the one end port to the LID of the other is delivered there
+pub record ArrivesAt (f : Fabric) (source target : NodePort) (lid : ℕ) : Type 0 where
+  pub hops : List Hop
+  pub delivered : IsDelivered f lid source hops target
+
+-- from each end port to each that has a LID
+abbrev pub EachArrives : Fabric → Type 0
+EachArrives f = (source target : NodePort) → IsEndPort f source → IsEndPort f target → 1 ≤ f.base_lid target → ArrivesAt f source target (f.base_lid target)
+
+-- from some end port to some that has a LID it is not
+pub record SomeMisses (f : Fabric) : Type 0 where
+  pub source : NodePort
+  pub target : NodePort
+  pub is_source : IsEndPort f source
+  pub is_target : IsEndPort f target
+  pub has_lid : 1 ≤ f.base_lid target
+  pub misses : ¬ (ArrivesAt f source target (f.base_lid target))
+
+-- no line tells of LID 0
+abbrev pub HoldsLids : HeldPlan → Type 0
+HoldsLids held = (line : HeldLid) → Contains held.lids line → 1 ≤ line.lid
+
+-- where all packets arrive by the facts and the tables, they do in each such fabric; and where one fails, one misses
+pub record JudgesFabrics (facts : Facts) (held : HeldPlan) (f : Fabric) : Type 0 where
+  pub arrive : AllArrive (cells_of facts) held → EachArrives f
+  pub miss : (failure : Failure) → IsHeldFailure (cells_of facts) held failure → SomeMisses f
+
+abbrev pub FabricsAreJudged : Type 0
+FabricsAreJudged = (facts : Facts) (held : HeldPlan) (f : Fabric) → HoldsLids held → IsSeen (cells_of facts) held f → JudgesFabrics facts held f

@@ -1,0 +1,5 @@
+pub mod Fabrics
+pub mod Network
+pub mod Steps
+pub mod Tables
+pub mod Walks

@@ -1,0 +1,60 @@
+-- The usable switches of a view and what their ports lead to, by index.
+use Rattle.std.specs.Prelude.{◌≡◌, ℕ, ◌==◌, List, Option, None, Some, map}
+use Rattle.std.specs.List.{position, range_with_len}
+use Rattle.subnet_view.specs.declared.end_port.EndPort.{EndPort}
+use Rattle.subnet_view.specs.Reading.{Cells, switches}
+use Rattle.subnet_view.specs.EndPorts.{end_ports}
+use Rattle.subnet_view.specs.Wires.{across}
+use Rattle.std.specs.Coded.{Coded, code_by, coded×}
+use Rattle.std.specs.Prelude.{refl}
+use Rattle.fact_store.specs.View.{Facts}
+use Rattle.fact_store.specs.Coded.{facts_code}
+use Rattle.plan_file.specs.contracts.held.Held as held
+use Rattle.plan_file.specs.Held.{HeldPlan}
+use Rattle.audit.specs.Tables.{place_of, top_of}
+use Rattle.audit.specs.declared.node.Node.{Node}
+use Rattle.audit.specs.declared.far.Far.{Far}
+use Rattle.audit.specs.declared.far.Far.TheVariants.{Nothing, Switch, Port}
+use Rattle.audit.specs.declared.far.Source.{Source}
+
+-- the index of a GUID
+abbrev pub index_in : List ℕ → ℕ → Option ℕ
+index_in guids guid = position (λ g. g == guid) guids
+
+abbrev pub far_at : ℕ × ℕ → Option ℕ → Far
+far_at q None = Port (record { node = q.0; port = q.1 })
+far_at q (Some index) = Switch index
+
+abbrev pub far_to : List ℕ → Option (ℕ × ℕ) → Far
+far_to guids None = Nothing
+far_to guids (Some q) = far_at q (index_in guids q.0)
+
+-- where the wire in a port leads: to a usable switch, or to another port
+abbrev pub far_of : Cells → ℕ → ℕ → Far
+far_of cells g p = far_to (switches cells) (across cells g p)
+
+-- where the wires in the ports from 0 to 255 of a node lead
+abbrev pub row_of : Cells → ℕ → List Far
+row_of cells g = map (far_of cells g) (range_with_len 0 256)
+
+-- an end port as a source: the index of its switch, where it is one's, and where its wire leads
+abbrev pub source_of : Cells → EndPort → Source
+source_of cells e = record { port = e; switch = index_in (switches cells) e.node; far = far_of cells e.node e.port }
+
+-- a usable switch: where the wires in its ports lead, its place among the switches that are held, and its top
+abbrev pub node_of : Cells → HeldPlan → ℕ → Node
+node_of cells held g = record { guid = g; row = row_of cells g; place = place_of held g; top = top_of held g }
+
+-- the facts of a subnet, and the tables that its switches hold
+pub record Seen : Type 0 where
+  pub facts : Facts
+  pub held : HeldPlan
+
+-- facts and tables are stored as a pair
+abbrev pub seen_code : Coded Seen
+seen_code = code_by (Facts × HeldPlan) (coded× facts_code (held.the_row).coded) (λ s. (s.facts, s.held)) (λ p. record { facts = p.0; held = p.1 }) (λ _. refl)
+
+-- the usable switches by rising GUID, and the end ports as sources, in their order
+pub record IsNetwork (cells : Cells) (held : HeldPlan) (nodes : List Node) (sources : List Source) : Type 0 where
+  pub nodes_are : nodes ≡ map (node_of cells held) (switches cells)
+  pub sources_are : sources ≡ map (source_of cells) (end_ports cells)

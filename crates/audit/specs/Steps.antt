@@ -1,0 +1,109 @@
+-- What becomes of a packet for a LID at each switch, and at the port that sends it.
+use Rattle.std.specs.Prelude.{◌≡◌, ◌≢◌, Bool, false, Contains, ℕ, ◌<◌, ◌%◌, ◌==◌, List, [], Option, None, Some, length, map, slice_get, slice_index_or, if◌then◌else◌}
+use Rattle.std.specs.Option.{option_map_or}
+use Rattle.subnet_view.specs.declared.end_port.EndPort.{EndPort}
+use Rattle.subnet_view.specs.Reading.{Cells, switches}
+use Rattle.plan_file.specs.declared.held.HeldLid.{HeldLid}
+use Rattle.plan_file.specs.Held.{HeldPlan}
+use Rattle.subnet_view.specs.EndPorts.{end_ports}
+use Rattle.audit.specs.declared.end.End.{End}
+use Rattle.audit.specs.declared.end.Failure.{Failure}
+use Rattle.audit.specs.declared.end.End.TheVariants.{Taken, Lost}
+use Rattle.audit.specs.declared.far.Far.{Far}
+use Rattle.audit.specs.declared.far.Far.TheVariants.{Nothing, Switch, Port}
+use Rattle.audit.specs.declared.far.Source.{Source}
+use Rattle.audit.specs.declared.node.Node.{Node}
+use Rattle.audit.specs.declared.step.Step.{Step}
+use Rattle.audit.specs.declared.step.Step.TheVariants.{To, Ends}
+use Rattle.audit.specs.Network.{row_of, source_of}
+use Rattle.audit.specs.Tables.{owners_of, is_owner, is_same_end, counted, entry_for, entry_in, block_at}
+use Rattle.audit.specs.Walks.{IsEndOf}
+
+-- an adapter port takes a packet for a LID that it holds
+abbrev pub at_port : List EndPort → EndPort → End
+at_port owners e = if is_owner owners e then Taken e else Lost e.node
+
+-- over a wire of the node g: to a switch; to a port, which takes it where it holds the LID; or nowhere
+abbrev pub over : List EndPort → ℕ → Far → Step
+over owners g Nothing = Ends (Lost g)
+over owners g (Switch index) = To index
+over owners g (Port e) = Ends (at_port owners e)
+
+-- by its entry: 0 is the switch itself, and the ports of its row lead on
+abbrev pub by_entry : List EndPort → ℕ → List Far → ℕ → Step
+by_entry owners g row entry =
+    if entry == 0 then Ends (Taken (record { node = g; port = 0 })) else over owners g (slice_index_or row entry Nothing)
+
+-- what each usable switch does with a packet for the LID
+abbrev pub steps_of : Cells → HeldPlan → ℕ → List Step
+steps_of cells held lid = map (λ g. by_entry (owners_of held lid) g (row_of cells g) (entry_for held lid g)) (switches cells)
+
+-- the same of a switch with its place, its top and its row, by the blocks of a number
+abbrev pub entry_among : List (List ℕ) → Option ℕ → ℕ → ℕ
+entry_among rows place lid = option_map_or (λ k. slice_index_or (slice_index_or rows k []) (lid % 64) 255) place 255
+
+abbrev pub step_of : List EndPort → List (List ℕ) → ℕ → Node → Step
+step_of owners rows lid node = by_entry owners node.guid node.row (counted lid node.top (entry_among rows node.place lid))
+
+-- a switch's own packet begins there; an adapter port takes its own LID, and sends any other out
+abbrev pub sent : List EndPort → EndPort → Option ℕ → Far → Step
+sent owners e (Some index) far = To index
+sent owners e None far = if is_owner owners e then Ends (Taken e) else over owners e.node far
+
+-- where a packet begins
+abbrev pub first_step : List EndPort → Source → Step
+first_step owners source = sent owners source.port source.switch source.far
+
+-- where forwarding brings a packet for the LID that an end port sends; None is that it goes round for ever
+abbrev pub IsBrought : Cells → HeldPlan → ℕ → EndPort → Option End → Type 0
+IsBrought cells held lid e end = IsEndOf (steps_of cells held lid) (first_step (owners_of held lid) (source_of cells e)) end
+
+-- and each end port, in its order
+pub record AreBrought (cells : Cells) (held : HeldPlan) (lid : ℕ) (ends : List (Option End)) : Type 0 where
+  pub as_many : length ends ≡ length (end_ports cells)
+  pub brought : (k : ℕ) (e : EndPort) (end : Option End) → slice_get (end_ports cells) k ≡ Some e → slice_get ends k ≡ Some end → IsBrought cells held lid e end
+
+-- so many blocks with no entry
+pub record AreBlank (count : ℕ) (rows : List (List ℕ)) : Type 0 where
+  pub as_many : length rows ≡ count
+  pub entry : (place i : ℕ) → slice_index_or (slice_index_or rows place []) i 255 ≡ 255
+
+-- the blocks of a number, by the places of their switches
+pub record AreBlocks (held : HeldPlan) (number : ℕ) (rows : List (List ℕ)) : Type 0 where
+  pub as_many : length rows ≡ length held.switches
+  pub entry : (place i : ℕ) → place < length rows → slice_index_or (slice_index_or rows place []) i 255 ≡ entry_in (block_at held place number) i
+
+-- the packets of every end port for a LID come to an end port that holds it
+abbrev pub LineArrives : Cells → HeldPlan → HeldLid → Type 0
+LineArrives cells held line = (e : EndPort) → Contains (end_ports cells) e → IsBrought cells held line.lid e (Some (Taken line.port))
+
+-- a packet ends at the port
+abbrev pub is_at : EndPort → Option End → Bool
+is_at e None = false
+is_at e (Some (Lost g)) = false
+is_at e (Some (Taken x)) = is_same_end e x
+
+-- those of an end port do not: they end elsewhere, or go round for ever
+pub record IsFailure (cells : Cells) (held : HeldPlan) (failure : Failure) : Type 0 where
+  pub is_source : Contains (end_ports cells) failure.source
+  pub is_end_port : Contains (end_ports cells) failure.line.port
+  pub brought : IsBrought cells held failure.line.lid failure.source failure.end
+  pub elsewhere : failure.end ≢ Some (Taken failure.line.port)
+
+-- a failure of the line
+pub record IsFailureOf (cells : Cells) (held : HeldPlan) (line : HeldLid) (failure : Failure) : Type 0 where
+  pub line_is : failure.line ≡ line
+  pub fails : IsFailure cells held failure
+
+-- they do, where the view has that end port
+abbrev pub LineIsRight : Cells → HeldPlan → HeldLid → Type 0
+LineIsRight cells held line = Contains (end_ports cells) line.port → LineArrives cells held line
+
+-- the packets of every end port for every LID that an end port holds come there
+abbrev pub AllArrive : Cells → HeldPlan → Type 0
+AllArrive cells held = (line : HeldLid) → Contains held.lids line → LineIsRight cells held line
+
+-- a failure of a line that is held
+pub record IsHeldFailure (cells : Cells) (held : HeldPlan) (failure : Failure) : Type 0 where
+  pub is_held : Contains held.lids failure.line
+  pub fails : IsFailure cells held failure

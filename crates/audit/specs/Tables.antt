@@ -1,0 +1,57 @@
+-- What the tables held say: who holds a LID, and by which port a switch sends a packet on.
+use Rattle.std.specs.Prelude.{ℕ, ◌/◌, ◌%◌, ◌==◌, ◌&&◌, ◌||◌, Bool, List, Option, map, filter, option_and_then, nat_lt, slice_get, slice_index_or, reverse, if◌then◌else◌}
+use Rattle.std.specs.Option.{option_map_or}
+use Rattle.std.specs.List.{find, list_any, position}
+use Rattle.subnet_view.specs.declared.end_port.EndPort.{EndPort}
+use Rattle.plan_file.specs.declared.held.HeldBlock.{HeldBlock}
+use Rattle.plan_file.specs.Held.{HeldPlan}
+
+-- the end ports that hold a LID
+abbrev pub owners_of : HeldPlan → ℕ → List EndPort
+owners_of held lid = map (λ x. x.port) (filter (λ x. x.lid == lid) held.lids)
+
+abbrev pub is_same_end : EndPort → EndPort → Bool
+is_same_end e x = x.node == e.node && x.port == e.port
+
+-- the end port is one of these
+abbrev pub is_owner : List EndPort → EndPort → Bool
+is_owner owners e = list_any (is_same_end e) owners
+
+-- the place of a switch among those that are held
+abbrev pub place_of : HeldPlan → ℕ → Option ℕ
+place_of held g = position (λ s. s.guid == g) held.switches
+
+-- the top of the switch at a place, and 0 where there is none
+abbrev pub top_at : HeldPlan → Option ℕ → ℕ
+top_at held place = option_map_or (λ s. s.top) (option_and_then (slice_get held.switches) place) 0
+
+-- the block of a number of the switch at a place
+abbrev pub is_block_of : ℕ → ℕ → HeldBlock → Bool
+is_block_of place number x = x.switch == place && x.number == number
+
+-- the last such block; a text that is read has no two
+abbrev pub block_at : HeldPlan → ℕ → ℕ → Option HeldBlock
+block_at held place number = find (is_block_of place number) (reverse held.blocks)
+
+-- the entry in a block, and 255 where the block is not held
+abbrev pub entry_in : Option HeldBlock → ℕ → ℕ
+entry_in block i = option_map_or (λ x. slice_index_or x.entries i 255) block 255
+
+-- the entry of the switch at a place for a LID, and 255 where it is not held
+abbrev pub entry_at : HeldPlan → Option ℕ → ℕ → ℕ
+entry_at held place lid = option_map_or (λ k. entry_in (block_at held k (lid / 64)) (lid % 64)) place 255
+
+-- the top of a switch, and 0 where it is not held
+abbrev pub top_of : HeldPlan → ℕ → ℕ
+top_of held g = top_at held (place_of held g)
+
+-- the entry of a switch for a LID, and 255 where it is not held
+abbrev pub entry_of : HeldPlan → ℕ → ℕ → ℕ
+entry_of held g lid = entry_at held (place_of held g) lid
+
+-- the entry that counts: none does for LID 0 and LIDs over the top
+abbrev pub counted : ℕ → ℕ → ℕ → ℕ
+counted lid top entry = if lid == 0 || nat_lt top lid then 255 else entry
+
+abbrev pub entry_for : HeldPlan → ℕ → ℕ → ℕ
+entry_for held lid g = counted lid (top_of held g) (entry_of held g lid)

@@ -1,0 +1,94 @@
+//! The first packet that does not come to the end port that holds its LID.
+ghost use Rattle.std.specs.Prelude.{◌≡◌, ◌/◌, IfOk, MatchOption, not, position};
+ghost use Rattle.fact_store.specs.View.{cells_of};
+ghost use Rattle.audit.specs.Steps.{AllArrive, AreBlocks, IsFailureOf, IsHeldFailure, LineIsRight, is_at};
+
+use crate::end::{End, Failure};
+use crate::network::{Blocks, Network};
+use plan_file::HeldLid;
+use smp_bytes::Lid;
+use std::alloc::{AllocError, Global};
+use subnet_view::EndPort;
+
+#[tactic(auto, using(crate::proofs::Judged::right_none))]
+/// The first packet, by the order of LIDs and then of end ports, that an end port of the view sends to a LID which
+/// an end port of it holds, and that is not delivered there; None where all are. So a LID that two end ports hold is
+/// a failure, and so are end ports that are not joined. Takes what `Network::ends` does for each LID, and a walk over
+/// all blocks for each 64.
+pub fn first_failure(alloc: Global, network: &Network) -> Result<Option<Failure>, AllocError>
+    ensures { IfOk result (λ failure. MatchOption failure
+        (AllArrive (cells_of network.now.facts) network.now.held)
+        (IsHeldFailure (cells_of network.now.facts) network.now.held)) }
+{
+    let mut blocks = network.blocks(alloc, 0)?;
+    for line in network.lids() {
+        blocks = blocks_of(alloc, network, blocks, line.lid)?;
+        match failure_of(alloc, network, &blocks, line)? {
+            Some(failure) => return Ok(Some(failure)),
+            None => {}
+        }
+    }
+    Ok(None)
+}
+
+/// The blocks of a LID's number, by those of another.
+fn blocks_of(
+    alloc: Global,
+    network: &Network,
+    blocks: Blocks,
+    lid: Lid,
+) -> Result<Blocks, AllocError>
+    requires { AreBlocks network.now.held blocks.number blocks.rows.items }
+    ensures { IfOk result (λ blocks. AreBlocks network.now.held blocks.number blocks.rows.items
+        × (blocks.number ≡ lid / 64)) }
+{
+    let number = lid.number() / 64;
+    if blocks.number == number {
+        return Ok(blocks);
+    }
+    network.blocks(alloc, number)
+}
+
+/// The first packet that does not come to the end port of a line, where the view has that.
+fn failure_of(
+    alloc: Global,
+    network: &Network,
+    blocks: &Blocks,
+    line: &HeldLid,
+) -> Result<Option<Failure>, AllocError>
+    requires held { AreBlocks network.now.held blocks.now.number blocks.now.rows.items }
+    requires number { blocks.now.number ≡ line.now.lid / 64 }
+    ensures { IfOk result (λ failure. MatchOption failure
+        (LineIsRight (cells_of network.now.facts) network.now.held line.now)
+        (IsFailureOf (cells_of network.now.facts) network.now.held line.now)) }
+{
+    if !network.has_end_port(&line.port) {
+        return Ok(None);
+    }
+    let ends = network.ends(alloc, blocks, line.lid)?;
+    match place_elsewhere(&ends, &line.port) {
+        None => Ok(None),
+        Some(place) => Ok(Some(Failure {
+            line: *line,
+            source: network.end_port(place),
+            end: ends[place],
+        })),
+    }
+}
+
+/// The place of the first packet that does not end at a port.
+fn place_elsewhere(ends: &[Option<End>], port: &EndPort) -> Option<usize>
+    ensures { result ≡ position (λ end. not (is_at port.now end)) ends.now }
+{
+    ends.iter().position(|end| !is_at(port, end))
+}
+
+/// Whether a packet ends at a port.
+fn is_at(port: &EndPort, end: &Option<End>) -> bool
+    ensures { result ≡ is_at port.now end.now }
+{
+    match end {
+        Some(End::Taken(at)) => at.node == port.node && at.port == port.port,
+        _ => false,
+    }
+}

@@ -1,0 +1,140 @@
+//! What becomes of packets for one LID at each switch.
+ghost use Rattle.std.specs.Prelude.{◌≡◌, IfOk, map};
+ghost use Rattle.audit.specs.Steps.{at_port, entry_among, first_step, over, step_of};
+ghost use Rattle.audit.specs.Tables.{counted, is_owner, owners_of};
+ghost use Rattle.audit.specs.Walks.{end_of, onward};
+
+use crate::end::End;
+use crate::far::{Far, Source};
+use crate::node::Node;
+use crate::step::Step;
+use crate::walks::{end_of, onward};
+use plan_file::Held;
+use smp_bytes::{Guid, Lid, PortNum};
+use std::alloc::{AllocError, Global};
+use subnet_view::EndPort;
+
+/// The end ports that hold a LID. Takes a walk over all that do.
+pub(crate) fn owners_of(alloc: Global, held: &Held, lid: Lid) -> Result<Vec<EndPort>, AllocError>
+    ensures { IfOk result (λ owners. owners.items ≡ owners_of held.now lid) }
+{
+    held.lids()
+        .iter()
+        .filter(|held| held.lid == lid)
+        .map(|held| held.port)
+        .collect(alloc)
+}
+
+/// Whether an end port is one of these.
+pub(crate) fn is_owner(owners: &[EndPort], port: &EndPort) -> bool
+    ensures { result ≡ is_owner owners.now port.now }
+{
+    owners
+        .iter()
+        .any(|owner| owner.node == port.node && owner.port == port.port)
+}
+
+/// What each switch does.
+pub(crate) fn steps(
+    alloc: Global,
+    nodes: &[Node],
+    owners: &[EndPort],
+    rows: &[[u8; 64]],
+    lid: Lid,
+) -> Result<Vec<Step>, AllocError>
+    ensures { IfOk result (λ steps. steps.items ≡ map (step_of owners.now rows.now lid) nodes.now) }
+{
+    nodes
+        .iter()
+        .map(|node| step_at(owners, rows, lid, node))
+        .collect(alloc)
+}
+
+/// What a switch does.
+fn step_at(owners: &[EndPort], rows: &[[u8; 64]], lid: Lid, node: &Node) -> Step
+    ensures { result ≡ step_of owners.now rows.now lid node.now }
+{
+    let entry = counted(lid, node.top, entry_among(rows, node.place, lid));
+    if entry == 0 {
+        return Step::Ends(End::Taken(EndPort {
+            node: node.guid,
+            port: PortNum::new(0),
+        }));
+    }
+    over(owners, node.guid, node.row.far(entry))
+}
+
+/// The entry of the switch at a place.
+fn entry_among(rows: &[[u8; 64]], place: Option<usize>, lid: Lid) -> u8
+    ensures { result ≡ entry_among rows.now place lid }
+{
+    let Some(place) = place else {
+        return 255;
+    };
+    match rows.get(place) {
+        Some(row) => row[usize::from(lid.number()) % 64],
+        None => 255,
+    }
+}
+
+/// The entry that counts.
+fn counted(lid: Lid, top: Lid, entry: u8) -> u8
+    ensures { result ≡ counted lid top entry }
+{
+    if lid.number() == 0 || top < lid {
+        255
+    } else {
+        entry
+    }
+}
+
+/// What becomes of a packet that leaves a node by a wire.
+fn over(owners: &[EndPort], node: Guid, far: Far) -> Step
+    ensures { result ≡ over owners.now node far }
+{
+    match far {
+        Far::Nothing => Step::Ends(End::Lost(node)),
+        Far::Switch(index) => Step::To(index),
+        Far::Port(port) => Step::Ends(at_port(owners, &port)),
+    }
+}
+
+/// What becomes of a packet that comes to an adapter port.
+fn at_port(owners: &[EndPort], port: &EndPort) -> End
+    ensures { result ≡ at_port owners.now port.now }
+{
+    if is_owner(owners, port) {
+        End::Taken(*port)
+    } else {
+        End::Lost(port.node)
+    }
+}
+
+/// Where the packets of each source end.
+pub(crate) fn brought(
+    alloc: Global,
+    sources: &[Source],
+    owners: &[EndPort],
+    ends: &[Step],
+) -> Result<Vec<Option<End>>, AllocError>
+    ensures { IfOk result (λ brought. brought.items
+        ≡ map (λ source. end_of (onward ends.now (first_step owners.now source))) sources.now) }
+{
+    sources
+        .iter()
+        .map(|source| end_of(onward(ends, first_step(owners, source))))
+        .collect(alloc)
+}
+
+/// Where a source's packet begins.
+fn first_step(owners: &[EndPort], source: &Source) -> Step
+    ensures { result ≡ first_step owners.now source.now }
+{
+    let Some(index) = source.switch else {
+        if is_owner(owners, &source.port) {
+            return Step::Ends(End::Taken(source.port));
+        }
+        return over(owners, source.port.node, source.far);
+    };
+    Step::To(index)
+}

@@ -1,0 +1,21 @@
+//! Where packets come to by the forwarding tables that a subnet's switches hold, whoever wrote them.
+#![tactic(auto)]
+
+mod arrival;
+mod blocks;
+mod column;
+mod end;
+mod far;
+pub mod laws;
+mod network;
+mod node;
+mod row;
+mod step;
+mod walks;
+
+pub use arrival::first_failure;
+pub use end::{End, Failure};
+pub use network::{Blocks, Network};
+
+#[cfg(test)]
+mod tests;

@@ -1,0 +1,129 @@
+ghost use Rattle.std.specs.Prelude.{◌≡◌, ◌↔◌, ◌<◌, ◌/◌, Contains, IfOk, IsTrue, length, slice_get};
+ghost use Rattle.std.specs.List.{list_any};
+ghost use Rattle.fact_store.specs.View.{cells_of};
+ghost use Rattle.subnet_view.specs.EndPorts.{end_ports};
+ghost use Rattle.audit.specs.Steps.{AreBlocks, AreBrought};
+ghost use Rattle.audit.specs.Tables.{is_same_end};
+
+use crate::blocks::blocks;
+use crate::column::{brought, owners_of, steps};
+use crate::end::End;
+use crate::far::{Source, sources};
+use crate::node::{Node, nodes};
+use crate::walks::ends;
+use fact_store::{Refused, Store};
+use plan_file::{Held, HeldLid};
+use smp_bytes::Lid;
+use std::alloc::{AllocError, Global};
+use std::marker::Model;
+use subnet_view::{EndPort, Wires, end_ports, switches};
+
+/// What a view says of a subnet, with the forwarding tables that its switches hold.
+#[derive(Drop)]
+pub struct Network<'a> {
+    store: &'a Store,
+    held: &'a Held,
+    /// The usable switches, by rising GUID.
+    nodes: Vec<Node>,
+    /// The end ports, in their order.
+    sources: Vec<Source>,
+}
+
+impl<'a> Model for Network<'a> {
+    ghost use Rattle.fact_store.specs.View.{cells_of};
+    ghost use Rattle.audit.specs.Network.{Seen, seen_code, IsNetwork};
+
+    ghost Value = { Seen };
+
+    ghost coded = { seen_code };
+
+    ghost view = { λ a. record { facts = a.store.now; held = a.held.now } };
+
+    ghost invariant = { λ a. IsNetwork (cells_of a.store.now) a.held.now a.nodes.items a.sources.items };
+}
+
+/// The blocks of a number that switches hold.
+#[derive(Drop)]
+pub struct Blocks {
+    pub(crate) number: u16,
+    /// By the places of their switches among those that are held.
+    pub(crate) rows: Vec<[u8; 64]>,
+}
+
+impl<'a> Network<'a> {
+    /// The usable switches and the end ports of the view, with these tables. Takes two searches for each port of
+    /// a switch and each end port, and a walk over the switches for each wire.
+    pub fn of(alloc: Global, store: &'a Store, held: &'a Held) -> Result<Self, Refused>
+        ensures facts { IfOk result (λ network. network.facts ≡ store.now) }
+        ensures held { IfOk result (λ network. network.held ≡ held.now) }
+    {
+        let guids = switches(alloc, store)?;
+        let wires = Wires::of(alloc, store)?;
+        let nodes = nodes(alloc, &wires, &guids, held)?;
+        let ports = end_ports(alloc, store)?;
+        let sources = sources(alloc, &wires, &guids, &ports)?;
+        Ok(Network {
+            store,
+            held,
+            nodes,
+            sources,
+        })
+    }
+
+    /// The blocks of a number: LIDs from 64 times the number on. Takes a walk over all blocks.
+    pub fn blocks(&self, alloc: Global, number: u16) -> Result<Blocks, AllocError>
+        ensures { IfOk result (λ blocks. AreBlocks self.now.held blocks.number blocks.rows.items
+            × (blocks.number ≡ number)) }
+    {
+        let rows = blocks(alloc, self.held, number)?;
+        Ok(Blocks { number, rows })
+    }
+
+    /// Where forwarding brings a packet for a LID, for each end port that sends it, in their order; None is that it
+    /// goes round for ever. Takes a walk over the LIDs that are held, and for each switch and each end port some
+    /// steps, by the number of digits of the longest way's length.
+    pub fn ends(
+        &self,
+        alloc: Global,
+        blocks: &Blocks,
+        lid: Lid,
+    ) -> Result<Vec<Option<End>>, AllocError>
+        requires held { AreBlocks self.now.held blocks.now.number blocks.now.rows.items }
+        requires number { blocks.now.number ≡ lid / 64 }
+        ensures { IfOk result (λ ends. AreBrought (cells_of self.now.facts) self.now.held lid ends.items) }
+    {
+        let owners = owners_of(alloc, self.held, lid)?;
+        let steps = steps(alloc, &self.nodes, &owners, &blocks.rows, lid)?;
+        let ends = ends(alloc, steps)?;
+        brought(alloc, &self.sources, &owners, &ends)
+    }
+
+    /// The LIDs that are held, with their end ports.
+    pub(crate) fn lids(&self) -> &[HeldLid]
+        ensures { result.now ≡ self.now.held.lids }
+    {
+        self.held.lids()
+    }
+
+    /// The end port at a place, in their order. Takes one step.
+    pub(crate) fn end_port(&self, place: usize) -> EndPort
+        requires { place < length (end_ports (cells_of self.now.facts)) }
+        ensures { slice_get (end_ports (cells_of self.now.facts)) place ≡ Some result }
+    {
+        self.sources[place].port
+    }
+
+    /// Whether the port is an end port of the view. Takes a walk over them.
+    pub(crate) fn has_end_port(&self, port: &EndPort) -> bool
+        ensures { IsTrue result ↔ Contains (end_ports (cells_of self.now.facts)) port.now }
+    {
+        has_port(&self.sources, port)
+    }
+}
+
+/// Whether a port is one of these sources.
+fn has_port(sources: &[Source], port: &EndPort) -> bool
+    ensures { result ≡ list_any (λ source. is_same_end port.now source.port) sources.now }
+{
+    sources.iter().any(|source| source.port.node == port.node && source.port.port == port.port)
+}

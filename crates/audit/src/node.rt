@@ -1,0 +1,84 @@
+ghost use Rattle.std.specs.Prelude.{◌≡◌, IfOk, map};
+ghost use Rattle.fact_store.specs.View.{cells_of};
+ghost use Rattle.subnet_view.specs.Reading.{switches};
+ghost use Rattle.audit.specs.Network.{node_of};
+ghost use Rattle.audit.specs.Tables.{place_of, top_at};
+
+use crate::row::{Row, row_of};
+use plan_file::Held;
+use smp_bytes::{Guid, Lid};
+use std::alloc::{AllocError, Global};
+use subnet_view::Wires;
+
+/// A usable switch.
+#[derive(Drop)]
+pub(crate) struct Node {
+    pub(crate) guid: Guid,
+    /// Where the wires in its ports lead.
+    pub(crate) row: Row,
+    /// Its place among the switches that are held.
+    pub(crate) place: Option<usize>,
+    /// The greatest LID that it forwards, and 0 where it is not held.
+    pub(crate) top: Lid,
+}
+
+/// The usable switches of the view, by rising GUID.
+pub(crate) fn nodes(
+    alloc: Global,
+    wires: &Wires,
+    guids: &[Guid],
+    held: &Held,
+) -> Result<Vec<Node>, AllocError>
+    requires { guids.now ≡ switches (cells_of wires.now) }
+    ensures { IfOk result (λ nodes. nodes.items ≡ map (node_of (cells_of wires.now) held.now) guids.now) }
+{
+    let mut nodes = Vec::with_capacity(alloc, guids.len())?;
+    for guid in guids {
+        nodes.push(node_at(alloc, wires, guids, held, *guid)?)?;
+    }
+    Ok(nodes)
+}
+
+/// A usable switch.
+fn node_at(
+    alloc: Global,
+    wires: &Wires,
+    guids: &[Guid],
+    held: &Held,
+    guid: Guid,
+) -> Result<Node, AllocError>
+    requires { guids.now ≡ switches (cells_of wires.now) }
+    ensures { IfOk result (λ node. node ≡ node_of (cells_of wires.now) held.now guid) }
+{
+    let row = row_of(alloc, wires, guids, guid)?;
+    let place = place_of(held, guid);
+    let top = top_at(held, place);
+    Ok(Node {
+        guid,
+        row,
+        place,
+        top,
+    })
+}
+
+/// The place of a switch among those that are held. Takes a walk.
+fn place_of(held: &Held, guid: Guid) -> Option<usize>
+    ensures { result ≡ place_of held.now guid }
+{
+    held.switches()
+        .iter()
+        .position(|switch| switch.guid == guid)
+}
+
+/// The top of the switch at a place, and 0 where there is none.
+fn top_at(held: &Held, place: Option<usize>) -> Lid
+    ensures { result ≡ top_at held.now place }
+{
+    let Some(place) = place else {
+        return Lid::new(0);
+    };
+    match held.switches().get(place) {
+        Some(switch) => switch.top,
+        None => Lid::new(0),
+    }
+}

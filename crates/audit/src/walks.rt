@@ -1,0 +1,68 @@
+//! Where walks from switch to switch end: each round doubles how far they have come.
+ghost use Rattle.std.specs.Prelude.{◌≡◌, ◌≤◌, map, length, count_by, IfOk};
+ghost use Rattle.audit.specs.Walks.{onward, is_to, end_of, IsEndOf, HaveEnded};
+
+use crate::end::End;
+use crate::step::Step;
+use std::alloc::{AllocError, Global};
+
+#[tactic(auto, using(crate::proofs::Ended::doubled_none, crate::proofs::Ended::doubled_more, crate::proofs::Ended::fewer_left, crate::proofs::Ended::all_ended, crate::proofs::Ended::same_ended))]
+/// What the walks from the switches come to, by what each switch does: those that have not ended then go on
+/// for ever. A round takes a step for each switch, and there are as many rounds as the longest walk's length
+/// has binary digits, and one more where some go round for ever.
+pub(crate) fn ends(alloc: Global, steps: Vec<Step>) -> Result<Vec<Step>, AllocError>
+    ensures { IfOk result (λ ends. HaveEnded steps.items ends.items) }
+{
+    let mut jumps = steps;
+    let mut left = count_onward(&jumps);
+    while left > 0 {
+        jumps = doubled(alloc, &jumps)?;
+        let now = count_onward(&jumps);
+        if now == left {
+            return Ok(jumps);
+        }
+        left = now;
+    }
+    Ok(jumps)
+}
+
+/// How many walks have not ended.
+fn count_onward(jumps: &[Step]) -> usize
+    ensures { result ≡ count_by is_to jumps.now }
+{
+    jumps.iter().filter(|step| is_to(step)).count()
+}
+
+/// Whether it comes to a switch.
+fn is_to(step: &Step) -> bool
+    ensures { result ≡ is_to step.now }
+{
+    matches!(step, Step::To(_))
+}
+
+/// Each walk as far again.
+fn doubled(alloc: Global, jumps: &[Step]) -> Result<Vec<Step>, AllocError>
+    ensures { IfOk result (λ further. further.items ≡ map (onward jumps.now) jumps.now) }
+{
+    jumps.iter().map(|step| onward(jumps, *step)).collect(alloc)
+}
+
+/// The next step, by those of the switches.
+pub(crate) fn onward(steps: &[Step], step: Step) -> Step
+    ensures { result ≡ onward steps.now step }
+{
+    match step {
+        Step::To(index) => steps.get(index).copied().unwrap_or(step),
+        Step::Ends(_) => step,
+    }
+}
+
+/// Where the walk ends that goes on from a step; None where it goes on for ever.
+pub(crate) fn end_of(step: Step) -> Option<End>
+    ensures { result ≡ end_of step }
+{
+    match step {
+        Step::To(_) => None,
+        Step::Ends(end) => Some(end),
+    }
+}

@@ -1,0 +1,7 @@
+pub mod BareGuids
+pub mod Folds
+pub mod LinesPrinted
+pub mod Passes
+pub mod PlanRanges
+pub mod Printed
+pub mod WordsPrinted

@@ -1,0 +1,130 @@
+-- The lines of a plan's text pass, and say what they were printed from.
+use Rattle.std.proofs.Common.{◌≡◌, ℕ, ◌+◌, ◌<◌, ◌≤◌, ◌^◌, true, false, ltb, List, [], ◌∷◌, ◌++◌, Option, None, Some, Ok, refl, sym, subst, arith, append_assoc}
+use Rattle.std.specs.Prelude.{codes, decimal}
+use Rattle.std.specs.List.{AllByRecursion}
+use Rattle.hex.specs.Hex.{encode_lower}
+use Rattle.smp_bytes.specs.Text.{guid_text, port_text}
+use Rattle.subnet_view.specs.declared.end_port.EndPort.{EndPort}
+use Rattle.lft_blocks.specs.PlanText.{lid_line, switch_line, block_line}
+use Rattle.text_words.specs.Printed.{line_text}
+use Rattle.text_words.proofs.Digits.{is_below}
+use Rattle.text_words.proofs.NumbersPrinted.{count_is_read, guid_is_read}
+use Rattle.text_words.proofs.Printed.{IsWord, decimal_word}
+use Rattle.std.proofs.lemmas.Bool.{ltb-true}
+use Rattle.plan_file.specs.declared.item.Item.TheVariants.{Lid, Switch, Block}
+use Rattle.plan_file.specs.declared.judge.Place.{Place}
+use Rattle.plan_file.specs.declared.held.HeldLid.{HeldLid}
+use Rattle.plan_file.specs.declared.held.HeldSwitch.{HeldSwitch}
+use Rattle.plan_file.specs.Line.{line_in}
+use Rattle.plan_file.specs.Printed.{IsBlock}
+use Rattle.plan_file.specs.Reading.{place_after, item_of, lid_after, switch_after, block_with}
+use Rattle.plan_file.proofs.Passes.{Passes, passes_line}
+use Rattle.plan_file.proofs.WordsPrinted.{guid_is_word, port_is_word, small_is_read, port_is_read, entries_are_word, entries_are_read}
+
+-- no LID so far, or a lesser one
+abbrev pub IsBelow : Option HeldLid → ℕ → Type 0
+IsBelow None lid = Unit {0}
+IsBelow (Some last) lid = last.lid < lid
+
+-- no switch so far, or a lesser one
+abbrev pub IsBeforeSwitch : Option ℕ → ℕ → Type 0
+IsBeforeSwitch None guid = Unit {0}
+IsBeforeSwitch (Some last) guid = last < guid
+
+not_below : (m n : ℕ) → n ≤ m → ltb m n ≡ false
+not_below m n h = elim (ltb m n) as (λ t. ltb m n ≡ t → ltb m n ≡ false) [ true ↦ λ e. absurd (omega (arith, ltb-true m n e)) | false ↦ λ e. e ] refl
+
+-- words with a blank between two
+joined : (a b c : List ℕ) → (((a ++ 32 ∷ []) ++ b) ++ 32 ∷ []) ++ c ++ 10 ∷ [] ≡ (a ++ 32 ∷ (b ++ 32 ∷ c)) ++ 10 ∷ []
+joined a b c = simp append_assoc
+
+joined_four : (a b c d : List ℕ) → (((a ++ 32 ∷ []) ++ b) ++ 32 ∷ (c ++ 32 ∷ [])) ++ d ++ 10 ∷ [] ≡ (a ++ 32 ∷ (b ++ 32 ∷ (c ++ 32 ∷ d))) ++ 10 ∷ []
+joined_four a b c d = simp append_assoc
+
+-- the line of a LID
+abbrev lid_words : ℕ → EndPort → List (List ℕ)
+lid_words lid e = codes "lid" ∷ decimal lid ∷ port_text e.node e.port ∷ []
+
+lid_words_are : (lid : ℕ) (e : EndPort) → lid ≤ 0xBFFF → e.port ≤ 254 → AllByRecursion IsWord (lid_words lid e)
+lid_words_are lid e most port =
+    (record { some = omega arith; on = refl; plain = refl }, (decimal_word lid (omega arith), (port_is_word e.node e.port port, tt)))
+
+lid_text : (lid : ℕ) (e : EndPort) → lid_line (lid, e) ≡ line_text (lid_words lid e) ++ 10 ∷ []
+lid_text lid e = joined (codes "lid") (decimal lid) (port_text e.node e.port)
+
+lid_follows : (number : ℕ) (last : Option HeldLid) (held : HeldLid) → IsBelow last held.lid → lid_after number last held ≡ Ok (Lid held)
+lid_follows number None held below = refl
+lid_follows number (Some last) held below = rw (not_below held.lid last.lid (omega arith), is_below last.lid held.lid below) refl
+
+lid_is_said : (number : ℕ) (place : Place) (lid : ℕ) (e : EndPort) → 1 ≤ lid → lid ≤ 0xBFFF → e.node < 2 ^ 64 → e.port ≤ 254 → IsBelow place.lid lid
+    → item_of number place (line_in (lid_words lid e)) ≡ Ok (Lid (record { lid = lid; port = e }))
+lid_is_said number place lid e some most node port below =
+    rw (count_is_read 0xBFFF lid (omega arith) some most, port_is_read e.node e.port node port) (lid_follows number place.lid (record { lid = lid; port = e }) below)
+
+pub lid_passes : (place : Place) (lid : ℕ) (e : EndPort) → 1 ≤ lid → lid ≤ 0xBFFF → e.node < 2 ^ 64 → e.port ≤ 254 → IsBelow place.lid lid
+    → Passes place (lid_line (lid, e)) (Lid (record { lid = lid; port = e }) ∷ []) (place_after place (Lid (record { lid = lid; port = e })))
+lid_passes place lid e some most node port below =
+    let held : HeldLid = record { lid = lid; port = e } in
+    let P : List ℕ → Type 0 = λ t. Passes place t (Lid held ∷ []) (place_after place (Lid held)) in
+    subst P (sym (lid_text lid e))
+    (passes_line place (lid_words lid e) (Lid held) (lid_words_are lid e most port) (λ number. lid_is_said number place lid e some most node port below))
+
+-- the line of a switch
+abbrev switch_words : ℕ → ℕ → List (List ℕ)
+switch_words top guid = codes "switch" ∷ guid_text guid ∷ codes "top" ∷ decimal top ∷ []
+
+switch_words_are : (top guid : ℕ) → top ≤ 0xBFFF → AllByRecursion IsWord (switch_words top guid)
+switch_words_are top guid most = (
+  record { some = omega arith; on = refl; plain = refl },
+  (guid_is_word guid, (record { some = omega arith; on = refl; plain = refl }, (decimal_word top (omega arith), tt))),
+)
+
+switch_text : (top guid : ℕ) → switch_line top guid ≡ line_text (switch_words top guid) ++ 10 ∷ []
+switch_text top guid = joined_four (codes "switch") (guid_text guid) (codes "top") (decimal top)
+
+switch_follows : (number : ℕ) (last : Option ℕ) (switch : HeldSwitch) → IsBeforeSwitch last switch.guid → switch_after number last switch ≡ Ok (Switch switch)
+switch_follows number None switch before = refl
+switch_follows number (Some last) switch before = rw (is_below last switch.guid before) refl
+
+switch_is_said : (number : ℕ) (place : Place) (top guid : ℕ) → top ≤ 0xBFFF → guid < 2 ^ 64 → IsBeforeSwitch place.switch guid
+    → item_of number place (line_in (switch_words top guid)) ≡ Ok (Switch (record { guid = guid; top = top }))
+switch_is_said number place top guid most small before =
+    rw (guid_is_read guid small, small_is_read 0xBFFF top (omega arith) most) (switch_follows number place.switch (record { guid = guid; top = top }) before)
+
+pub switch_passes : (place : Place) (top guid : ℕ) → top ≤ 0xBFFF → guid < 2 ^ 64 → IsBeforeSwitch place.switch guid
+    → Passes place (switch_line top guid) (Switch (record { guid = guid; top = top }) ∷ []) (place_after place (Switch (record { guid = guid; top = top })))
+switch_passes place top guid most small before =
+    let held : HeldSwitch = record { guid = guid; top = top } in
+    let P : List ℕ → Type 0 = λ t. Passes place t (Switch held ∷ []) (place_after place (Switch held)) in
+    subst P (sym (switch_text top guid))
+    (passes_line place (switch_words top guid) (Switch held) (switch_words_are top guid most) (λ number. switch_is_said number place top guid most small before))
+
+-- the line of a block
+abbrev block_words : ℕ → List ℕ → List (List ℕ)
+block_words number entries = codes "block" ∷ decimal number ∷ encode_lower entries ∷ []
+
+block_words_are : (number : ℕ) (entries : List ℕ) → number ≤ 767 → IsBlock entries → AllByRecursion IsWord (block_words number entries)
+block_words_are number entries most is =
+    (record { some = omega arith; on = refl; plain = refl }, (decimal_word number (omega arith), (entries_are_word entries is, tt)))
+
+block_text : (number : ℕ) (entries : List ℕ) → block_line (number, entries) ≡ line_text (block_words number entries) ++ 10 ∷ []
+block_text number entries = joined (codes "block") (decimal number) (encode_lower entries)
+
+block_follows : (line next number guid : ℕ) (lid : Option HeldLid) (entries : List ℕ) → next ≤ number
+    → block_with line (record { lid = lid; switch = Some guid; block = next }) (Some number) entries ≡ Ok (Block number entries)
+block_follows line next number guid lid entries h = rw (not_below number next h) refl
+
+block_is_said : (line next number guid : ℕ) (lid : Option HeldLid) (entries : List ℕ) → next ≤ number → number ≤ 767 → IsBlock entries
+    → item_of line (record { lid = lid; switch = Some guid; block = next }) (line_in (block_words number entries)) ≡ Ok (Block number entries)
+block_is_said line next number guid lid entries h most is =
+    rw (small_is_read 767 number (omega arith) most, entries_are_read entries is) (block_follows line next number guid lid entries h)
+
+pub block_passes : (next number guid : ℕ) (lid : Option HeldLid) (entries : List ℕ) → next ≤ number → number ≤ 767 → IsBlock entries
+    → Passes (record { lid = lid; switch = Some guid; block = next }) (block_line (number, entries)) (Block number entries ∷ [])
+    (record { lid = lid; switch = Some guid; block = number + 1 })
+block_passes next number guid lid entries h most is =
+    let place : Place = record { lid = lid; switch = Some guid; block = next } in
+    let P : List ℕ → Type 0 = λ t. Passes place t (Block number entries ∷ []) (place_after place (Block number entries)) in
+    subst P (sym (block_text number entries))
+    (passes_line place (block_words number entries) (Block number entries) (block_words_are number entries most is)
+    (λ line. block_is_said line next number guid lid entries h most is))

@@ -1,0 +1,268 @@
+-- The numbers of the plan of a view are in their ranges.
+use Rattle.std.proofs.Common.{◌≡◌, ℕ, zero, suc, ◌+◌, ◌*◌, ◌<◌, ◌≤◌, ◌^◌, Bool, true, false, cond, List, [], ◌∷◌, length, get_or, Option, None, Some, refl, sym, ap, ◌∙◌, subst, arith, inl, inr}
+use Rattle.std.specs.Prelude.{map, Contains, MatchOption, MatchBool, unwrap_or, option_and_then, slice_index, nat_le, ◌==◌, ◌&&◌, is_some}
+use Rattle.std.specs.Option.{option_map_or}
+use Rattle.std.specs.List.{AllByRecursion, range_with_len}
+use Rattle.std.specs.FinMap.{find}
+use Rattle.std.proofs.lemmas.Bool.{and_parts, cases_lt, ltb-true, leb-true}
+use Rattle.std.proofs.lemmas.List.FromFn.{length-map-range_with_len, get_or-map-range_with_len}
+use Rattle.fact_join.specs.declared.cell.Cell.{Cell}
+use Rattle.fact_join.specs.declared.cell.Cell.TheVariants.{Known, Disputed}
+use Rattle.fact_join.specs.Cell.{generation_of}
+use Rattle.fact_store.specs.declared.key.Key.{Key}
+use Rattle.fact_store.specs.declared.key.Key.TheVariants as key
+use Rattle.fact_store.specs.declared.value.Value.{Value}
+use Rattle.fact_store.specs.declared.value.Value.TheVariants.{Kind, Guid, Peer, Up, Lid, Count}
+use Rattle.fact_store.specs.Key.{key_cmp}
+use Rattle.fact_store.specs.Known.{value_in, kind_in}
+use Rattle.fact_store.specs.Sighting.{IsSighting, AreInRange, is_key, is_generation, is_cell_of}
+use Rattle.fact_store.specs.View.{Facts, cells_of}
+use Rattle.fact_store.proofs.Orders.{contained_get}
+use Rattle.smp_bytes.specs.NodeType.{is_switch}
+use Rattle.subnet_view.specs.declared.end_port.EndPort.{EndPort}
+use Rattle.subnet_view.specs.Reading.{Cells, node_of, port_count_of, switches}
+use Rattle.subnet_view.specs.Wires.{across, attached}
+use Rattle.subnet_view.proofs.Members.{contains_here, contains_later, contains-from_filter}
+use Rattle.subnet_view.proofs.Taken.{found_in}
+use Rattle.subnet_view.proofs.WireLaws.{wire_law}
+use Rattle.std.proofs.lemmas.Option.{same_Some}
+use Rattle.subnet_view.specs.Reading.{is_switch_node, is_usable}
+use Rattle.std.specs.List.{filter_map}
+use Rattle.std.specs.List.Sorted.{IsStrictlyIncreasing}
+use Rattle.lid_assign.specs.Lids.{lids, owner_of, top_of, rising_lids, room, AreLids, IsNoRoom}
+use Rattle.lid_assign.proofs.FreeLids.{at_most}
+use Rattle.lid_assign.proofs.LidLaws.{lids_law}
+use Rattle.lid_assign.proofs.Owners.{given-from_owner}
+use Rattle.lid_assign.proofs.RisingLids.{rising_lids_law}
+use Rattle.lid_assign.proofs.Tops.{top_below}
+use Rattle.subnet_view.specs.Reading.{cap_of}
+use Rattle.subnet_view.proofs.Apart.{contains_map}
+use Rattle.subnet_view.proofs.EndPortList.{end_ports_law}
+use Rattle.subnet_view.proofs.UsableSwitches.{switches_law}
+use Rattle.lft_blocks.specs.Plan.{tables_of, plan_of}
+use Rattle.port_graph.specs.declared.exit.Exit.{Exit}
+use Rattle.port_graph.specs.Routes.{IsNextPort}
+use Rattle.updown_routes.specs.Graph.{graph_of, guids_of, exits_at}
+use Rattle.updown_routes.specs.Ranks.{slopes_of, is_before}
+use Rattle.updown_routes.specs.Routing.{updown}
+use Rattle.updown_routes.proofs.Before.{ups_filter, downs_filter}
+use Rattle.updown_routes.proofs.Graphs.{exit_is_wire, graph_law}
+use Rattle.updown_routes.proofs.NextPorts.{next_port_law}
+use Rattle.updown_routes.proofs.Switches.{graph_guids, switches_rise}
+use Rattle.lft_blocks.specs.Entries.{home_of, home_of_lid, port_to, entry, block, block_count}
+use Rattle.plan_file.specs.Printed.{IsLidInRange, IsBlock, IsTableInRange, IsPlanInRange}
+
+-- of all elements
+all_of : {X : Type 0} (P : X → Type 0) (xs : List X) → ((x : X) → Contains xs x → P x) → AllByRecursion P xs
+all_of P [] h = tt
+all_of P (x ∷ xs) h = (h x (contains_here x xs), all_of P xs (λ y c. h y (contains_later x y xs c)))
+
+-- what a sighting of a node's type has
+guid_small : (g : ℕ) (c : Cell Value) → IsSighting (key.Node g, c) → g < 2 ^ 64
+guid_small g c is = ltb-true _ _ (and_parts (is_key (key.Node g)) (is_generation (generation_of c)) (and_parts _ (is_cell_of (key.Node g) c) is).0).0
+
+module _ (facts : Facts) (range : AreInRange facts) where
+  abbrev cells : Cells
+  cells = cells_of facts
+
+  sighted : (k : Key) (c : Cell Value) → find key_cmp k cells ≡ Some c → IsSighting (k, c)
+  sighted k c e = range k c (contained_get facts.found k c (found_in k cells c e))
+
+  few_ports : (g : ℕ) (o : Option (Cell Value)) → find key_cmp (key.Node g) cells ≡ o → option_map_or (λ n. n.1) (kind_in (value_in o)) 0 ≤ 254
+  few_ports g None e = omega arith
+  few_ports g (Some (Disputed n)) e = omega arith
+  few_ports g (Some (Known n (Kind kind ports))) e =
+      let is = sighted (key.Node g) (Known n (Kind kind ports)) e in
+      leb-true _ _ (and_parts (nat_le 1 ports) (nat_le ports 254) (and_parts (is_key (key.Node g) && is_generation n) _ is).1).1
+  few_ports g (Some (Known n (Guid x))) e = omega arith
+  few_ports g (Some (Known n (Peer x y))) e = omega arith
+  few_ports g (Some (Known n (Up x))) e = omega arith
+  few_ports g (Some (Known n (Lid x))) e = omega arith
+  few_ports g (Some (Known n (Count x))) e = omega arith
+
+  count_small : (g : ℕ) → port_count_of cells g ≤ 254
+  count_small g = few_ports g (find key_cmp (key.Node g) cells) refl
+
+  known_small : (g : ℕ) (o : Option (Cell Value)) → find key_cmp (key.Node g) cells ≡ o → is_some (kind_in (value_in o)) ≡ true → g < 2 ^ 64
+  known_small g None e h = cc
+  known_small g (Some c) e h = guid_small g c (sighted (key.Node g) c e)
+
+  node_small : (g : ℕ) → is_some (node_of cells g) ≡ true → g < 2 ^ 64
+  node_small g h = known_small g (find key_cmp (key.Node g) cells) refl h
+
+  -- both ends of a wire
+  wire_small : (g p h q : ℕ) → across cells g p ≡ Some (h, q) → (p ≤ 254) × (q ≤ 254)
+  wire_small g p h q e =
+      let w = (wire_law cells g p h q).0 e in
+      let (kind, ports, known, low, high, up, rest) = w.first in
+      let (other, others, its, from, to, is_up, more) = w.second in
+      let near : port_count_of cells g ≡ ports = ap (λ o. option_map_or (λ n. n.1) o 0) known in
+      let far : port_count_of cells h ≡ others = ap (λ o. option_map_or (λ n. n.1) o 0) its in
+      (omega (arith, count_small g, near, high), omega (arith, count_small h, far, to))
+
+  -- homes and next ports
+  attached_small : (g p : ℕ) (home : ℕ × ℕ) → attached cells g p ≡ Some home → home.1 ≤ 254
+  attached_small g p home e =
+      elim (is_switch_node cells g) as (λ t. cond t None (option_and_then (λ q. cond (is_switch_node cells q.0) (Some q) None) (across cells g p)) ≡ Some home → home.1 ≤ 254) [
+        | true ↦ λ k. absurd (cc)
+        | false ↦ λ k. (elim (across cells g p) as
+            (λ o. across cells g p ≡ o → option_and_then (λ q. cond (is_switch_node cells q.0) (Some q) None) o ≡ Some home → home.1 ≤ 254) [
+              | None ↦ λ w m. absurd (cc)
+              | Some q ↦ λ w m. by_kind q (is_switch_node cells q.0) w m
+            ] refl k)
+      ] e
+    where
+      by_kind : (q : ℕ × ℕ) (t : Bool) → across cells g p ≡ Some q → cond t (Some q) None ≡ Some home → home.1 ≤ 254
+      by_kind q true w m = let same : q ≡ home = same_Some q home m in let small = (wire_small g p q.0 q.1 w).1 in let port = ap (λ (x : ℕ × ℕ). x.1) same in omega arith
+      by_kind q false w m = cc
+
+  home_small : (e : EndPort) (home : ℕ × ℕ) → home_of cells e ≡ Some home → home.1 ≤ 254
+  home_small e home h =
+      elim (is_usable cells e.node) as (λ t. cond t (Some (e.node, 0)) (attached cells e.node e.port) ≡ Some home → home.1 ≤ 254) [
+        | true ↦ λ k. let own : ℕ × ℕ = (e.node, 0) in let same : own ≡ home = same_Some own home k in let port = ap (λ (x : ℕ × ℕ). x.1) same in omega arith
+        | false ↦ λ k. attached_small e.node e.port home k
+      ] h
+
+  exit_small : (s : ℕ) (x : Exit) → Contains (exits_at (graph_of cells) s) x → x.port ≤ 254
+  exit_small s x there = let is = exit_is_wire cells s x there in (wire_small s x.port x.to is.end_port is.wire).0
+
+  next_small : (lid s t p : ℕ) → Contains (switches cells) s → (updown (graph_of cells)).next lid s t ≡ Some p → p ≤ 254
+  next_small lid s t p there e =
+      let graph = graph_of cells in
+      let switch : Contains (guids_of graph) s = subst (λ (xs : List ℕ). Contains xs s) (sym (graph_guids cells)) there in
+      let law = next_port_law graph (graph_law facts) s t switch in
+      let is : IsNextPort (slopes_of graph) s t p =
+      subst (λ (o : Option ℕ). MatchOption o ((q : ℕ) → IsNextPort (slopes_of graph) s t q → ⊥) (IsNextPort (slopes_of graph) s t)) e law in
+      elim is.1 [
+        | inl down ↦
+            let x : Exit = record { port = p; to = down.to } in
+            exit_small s x (contains-from_filter (λ y. is_before graph s y.to) (exits_at graph s) x
+            (subst (λ (xs : List Exit). Contains xs x) (downs_filter graph graph s) down.wire)).0
+        | inr up ↦
+            let x : Exit = record { port = p; to = up.to } in
+            exit_small s x (contains-from_filter (λ y. is_before graph y.to s) (exits_at graph s) x
+            (subst (λ (xs : List Exit). Contains xs x) (ups_filter graph graph s) up.wire)).0
+      ]
+
+  -- entries
+  abbrev next : ℕ → ℕ → ℕ → Option ℕ
+  next = (updown (graph_of cells)).next
+
+  next_or : (lid s t : ℕ) → Contains (switches cells) s → unwrap_or (next lid s t) 255 < 256
+  next_or lid s t there =
+      elim (next lid s t) as (λ o. next lid s t ≡ o → unwrap_or o 255 < 256) [
+        | None ↦ λ e. omega arith
+        | Some p ↦ λ e. let small = next_small lid s t p there e in omega arith
+      ] refl
+
+  entry_small : (s lid : ℕ) → Contains (switches cells) s → entry (home_of_lid cells (lids cells)) next s lid < 256
+  entry_small s lid there =
+      elim (owner_of (lids cells) lid) as (λ o. option_map_or (port_to next lid s) (option_and_then (home_of cells) o) 255 < 256) [
+        | None ↦ omega arith
+        | Some e ↦ (elim (home_of cells e) as (λ o. home_of cells e ≡ o → option_map_or (port_to next lid s) o 255 < 256) [
+          | None ↦ λ k. omega arith
+          | Some home ↦ λ k. by_switch home (home.0 == s) (home_small e home k)
+        ] refl)
+      ]
+    where
+      by_switch : (home : ℕ × ℕ) (t : Bool) → home.1 ≤ 254 → cond t home.1 (unwrap_or (next lid s home.0) 255) < 256
+      by_switch home true small = omega arith
+      by_switch home false small = next_or lid s home.0 there
+
+  -- blocks
+  block_at_most : (s b i : ℕ) → Contains (switches cells) s → slice_index (block (home_of_lid cells (lids cells)) next s b) i < 256
+  block_at_most s b i there =
+      let f : ℕ → ℕ = λ j. entry (home_of_lid cells (lids cells)) next s (64 * b + j) in
+      elim (cases_lt i 64) [
+        | inl less ↦ let at : get_or (map f (range_with_len 0 64)) i 0 ≡ f i = get_or-map-range_with_len f 0 64 i i 0 less (omega arith) in
+            let small = entry_small s (64 * b + i) there in omega arith
+        | inr more ↦ let at : get_or (map f (range_with_len 0 64)) i 0 ≡ 0 = past (map f (range_with_len 0 64)) i (omega (arith, length-map-range_with_len f 0 64)) in
+            omega arith
+      ]
+    where
+      past : (xs : List ℕ) (n : ℕ) → length xs ≤ n → get_or xs n 0 ≡ 0
+      past [] n h = refl
+      past (x ∷ xs) zero h = absurd (omega arith)
+      past (x ∷ xs) (suc n) h = past xs n (omega arith)
+
+  is_block : (s b : ℕ) → Contains (switches cells) s → IsBlock (block (home_of_lid cells (lids cells)) next s b)
+  is_block s b there =
+      record { whole = length-map-range_with_len (λ j. entry (home_of_lid cells (lids cells)) next s (64 * b + j)) 0 64; bytes = λ i. block_at_most s b i there }
+
+  all_blocks : (s : ℕ) (bs : List ℕ) → Contains (switches cells) s → AllByRecursion IsBlock (map (block (home_of_lid cells (lids cells)) next s) bs)
+  all_blocks s [] there = tt
+  all_blocks s (b ∷ bs) there = (is_block s b there, all_blocks s bs there)
+
+  switch_small : (s : ℕ) → Contains (switches cells) s → s < 2 ^ 64
+  switch_small s there = let usable = ((switches_law facts).0 s).0 there in node_small s (ap is_some usable.1)
+
+  all_tables : (count : ℕ) (guids : List ℕ) → count ≤ 768 → ((s : ℕ) → Contains guids s → Contains (switches cells) s)
+      → AllByRecursion IsTableInRange (tables_of (home_of_lid cells (lids cells)) next count guids)
+  all_tables count [] few in_all = tt
+  all_tables count (s ∷ guids) few in_all =
+      let there = in_all s (contains_here s guids) in (
+        record {
+          guid = switch_small s there;
+          blocks = all_blocks s (range_with_len 0 count) there;
+          few = omega (arith, length-map-range_with_len (block (home_of_lid cells (lids cells)) next s) 0 count);
+        },
+        all_tables count guids few (λ x c. in_all x (contains_later s x guids c)),
+      )
+
+  guids_are : (count : ℕ) (guids : List ℕ) → map (λ t. t.guid) (tables_of (home_of_lid cells (lids cells)) next count guids) ≡ guids
+  guids_are count [] = refl
+  guids_are count (s ∷ guids) = ap (λ gs. s ∷ gs) (guids_are count guids)
+
+  -- LIDs
+  module _ (has_room : ¬ (IsNoRoom cells)) where
+    good : AreLids cells (lids cells)
+    good = lids_law facts has_room
+
+    room_most : room cells ≤ 0xC000
+    room_most = at_most (filter_map (cap_of cells) (switches cells))
+
+    end_small : (e : EndPort) (n : ℕ) → Contains (lids cells) (e, n) → (e.node < 2 ^ 64) × (e.port ≤ 254)
+    end_small e n there =
+        let listed = subst (λ (xs : List EndPort). Contains xs e) good.end_ports_in_order (contains_map (λ (x : EndPort × ℕ). x.0) (lids cells) (e, n) there) in
+        let (kind, ports, known, number, guid) = ((end_ports_law facts).0 e).0 listed in
+        let count : port_count_of cells e.node ≡ ports = ap (λ o. option_map_or (λ x. x.1) o 0) known in (
+          node_small e.node (ap is_some known),
+          (elim (is_switch kind) as (λ t. MatchBool t (e.port ≡ 0) ((1 ≤ e.port) × (e.port ≤ ports)) → e.port ≤ 254) [
+            | true ↦ λ z. omega arith
+            | false ↦ λ m. omega (arith, m.1, count, count_small e.node)
+          ] number),
+        )
+
+    lid_range : (n : ℕ) → Contains (rising_lids (lids cells)) n → IsLidInRange (lids cells) n
+    lid_range n there =
+        let given = ((rising_lids_law (lids cells)).0 n).0 there in
+        let within = good.in_range given.0 n given.1 in
+        let below = room_most in
+        record {
+          some = within.0;
+          most = omega (arith, within.1, below);
+          node = λ e owned. (end_small e n (given-from_owner (lids cells) e n owned)).0;
+          port = λ e owned. (end_small e n (given-from_owner (lids cells) e n owned)).1;
+        }
+
+    top_most : (top : ℕ) → top_of (lids cells) ≡ Some top → top ≤ 0xBFFF
+    top_most top e =
+        let less = top_below (lids cells) (room cells) top (λ x n there. (good.in_range x n there).1) e in let below = room_most in omega arith
+
+    few_blocks : block_count (top_of (lids cells)) ≤ 768
+    few_blocks =
+        elim (top_of (lids cells)) as (λ o. top_of (lids cells) ≡ o → block_count o ≤ 768) [
+          | None ↦ λ e. omega arith
+          | Some top ↦ λ e. let most = top_most top e in omega arith
+        ] refl
+
+    in_range : IsPlanInRange (plan_of cells)
+    in_range = record {
+      lids = all_of (IsLidInRange (lids cells)) (rising_lids (lids cells)) lid_range;
+      top = top_most;
+      rising = subst IsStrictlyIncreasing (graph_guids cells ∙ sym (guids_are (block_count (top_of (lids cells))) (switches cells))) (switches_rise facts);
+      tables = all_tables (block_count (top_of (lids cells))) (switches cells) few_blocks (λ s there. there);
+    }
+
+pub plans_in_range : (facts : Facts) → AreInRange facts → ¬ (IsNoRoom (cells_of facts)) → IsPlanInRange (plan_of (cells_of facts))
+plans_in_range facts range has_room = in_range facts range has_room

@@ -1,0 +1,79 @@
+-- What the text of a plan says.
+use Rattle.std.specs.Prelude.{◌≡◌, ℕ, suc, ◌<◌, ◌≤◌, ◌^◌, List, [], ◌∷◌, ◌++◌, map, length, Option, None, Some}
+use Rattle.std.specs.Option.{option_map_or}
+use Rattle.std.specs.List.{AllByRecursion, enumerate_from, filter_map}
+use Rattle.std.specs.List.Sorted.{IsStrictlyIncreasing}
+use Rattle.std.specs.Prelude.{option_map}
+use Rattle.hex.specs.Hex.{IsBytes}
+use Rattle.subnet_view.specs.declared.end_port.EndPort.{EndPort}
+use Rattle.fact_store.specs.Sighting.{AreInRange}
+use Rattle.fact_store.specs.View.{Facts, cells_of}
+use Rattle.lid_assign.specs.Lids.{IsNoRoom, owner_of, top_of, rising_lids}
+use Rattle.lft_blocks.specs.Plan.{SwitchTable, PlanValue, plan_of}
+use Rattle.lft_blocks.specs.PlanText.{plan_text}
+use Rattle.plan_file.specs.declared.held.HeldLid.{HeldLid}
+use Rattle.plan_file.specs.declared.held.HeldSwitch.{HeldSwitch}
+use Rattle.plan_file.specs.declared.held.HeldBlock.{HeldBlock}
+use Rattle.plan_file.specs.Held.{HeldPlan, nothing_held}
+use Rattle.plan_file.specs.Reading.{first_fault, held_of}
+
+-- the LID with the end port that has it
+abbrev pub owned_lid : List (EndPort × ℕ) → ℕ → Option HeldLid
+owned_lid given lid = option_map (λ port. record { lid = lid; port = port }) (owner_of given lid)
+
+-- the blocks of the switch at a place, that count from a number on
+abbrev pub blocks_from : ℕ → ℕ → List (List ℕ) → List HeldBlock
+blocks_from place number blocks = map (λ x. record { switch = place; number = x.0; entries = x.1 }) (enumerate_from number blocks)
+
+-- the blocks of switches, that count from a place on
+abbrev pub blocks_of : ℕ → List SwitchTable → List HeldBlock
+blocks_of place [] = []
+blocks_of place (table ∷ tables) = blocks_from place 0 table.blocks ++ blocks_of (suc place) tables
+
+-- a switch with the greatest LID
+abbrev pub with_top : ℕ → SwitchTable → HeldSwitch
+with_top top table = record { guid = table.guid; top = top }
+
+-- the LIDs with their owners, and where there are any the switches with the greatest as their top and with their blocks
+abbrev pub held_plan : PlanValue → HeldPlan
+held_plan plan =
+    option_map_or (λ top. record {
+      lids = filter_map (owned_lid plan.given) (rising_lids plan.given);
+      switches = map (with_top top) plan.tables;
+      blocks = blocks_of 0 plan.tables;
+    }) (top_of plan.given) nothing_held
+
+-- a LID and its end port
+pub record IsLidInRange (given : List (EndPort × ℕ)) (lid : ℕ) : Type 0 where
+  pub some : 1 ≤ lid
+  pub most : lid ≤ 0xBFFF
+  pub node : (e : EndPort) → owner_of given lid ≡ Some e → e.node < 2 ^ 64
+  pub port : (e : EndPort) → owner_of given lid ≡ Some e → e.port ≤ 254
+
+-- a block has 64 entries, each a byte
+pub record IsBlock (entries : List ℕ) : Type 0 where
+  pub whole : length entries ≡ 64
+  pub bytes : IsBytes entries
+
+pub record IsTableInRange (table : SwitchTable) : Type 0 where
+  pub guid : table.guid < 2 ^ 64
+  pub blocks : AllByRecursion IsBlock table.blocks
+  pub few : length table.blocks ≤ 768
+
+-- the numbers of a plan fit their types, and its switches rise
+pub record IsPlanInRange (plan : PlanValue) : Type 0 where
+  pub lids : AllByRecursion (IsLidInRange plan.given) (rising_lids plan.given)
+  pub top : (top : ℕ) → top_of plan.given ≡ Some top → top ≤ 0xBFFF
+  pub rising : IsStrictlyIncreasing (map (λ table. table.guid) plan.tables)
+  pub tables : AllByRecursion IsTableInRange plan.tables
+
+-- its text has no fault, and says what it holds
+abbrev pub IsRead : PlanValue → Type 0
+IsRead plan = (first_fault (plan_text plan) ≡ None) × (held_of (plan_text plan) ≡ held_plan plan)
+
+abbrev pub PrintedPlansAreRead : Type 0
+PrintedPlansAreRead = (plan : PlanValue) → IsPlanInRange plan → IsRead plan
+
+-- so is that of the plan of each view whose facts are in range, where there is room for its LIDs
+abbrev pub PlansAreRead : Type 0
+PlansAreRead = (facts : Facts) → AreInRange facts → ¬ (IsNoRoom (cells_of facts)) → IsRead (plan_of (cells_of facts))

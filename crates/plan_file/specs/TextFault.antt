@@ -1,0 +1,23 @@
+-- What is said of a fault: its line, and a word.
+use Rattle.std.specs.Prelude.{ℕ, List, Bool, true, false, ◌++◌, codes, decimal}
+use Rattle.plan_file.specs.declared.fault.Wrong.{Wrong}
+use Rattle.plan_file.specs.declared.fault.Wrong.TheVariants.{Syntax, Lid, Port, Switch, Block}
+use Rattle.plan_file.specs.declared.fault.TextFault.{TextFault}
+use Rattle.plan_file.specs.declared.fault.TextFault.TheVariants.{Line, Memory}
+
+abbrev pub is_memory : TextFault → Bool
+is_memory (Line fault) = false
+is_memory Memory = true
+
+-- the word for it
+abbrev pub wrong_word : Wrong → List ℕ
+wrong_word Syntax = codes "syntax"
+wrong_word Lid = codes "lid"
+wrong_word Port = codes "port"
+wrong_word Switch = codes "switch"
+wrong_word Block = codes "block"
+
+-- what `{}` writes
+abbrev pub fault_text : TextFault → List ℕ
+fault_text (Line fault) = codes "line " ++ decimal fault.line ++ codes ": " ++ wrong_word fault.wrong
+fault_text Memory = codes "out of memory"

@@ -1,0 +1,27 @@
+-- The numbers, ports and entries that words write.
+use Rattle.std.specs.Prelude.{ℕ, List, ◌++◌, Option, None, Some, codes, option_map, option_and_then, nat_le, if◌then◌else◌}
+use Rattle.std.specs.Result.{result_ok}
+use Rattle.hex.specs.Hex.{decode_sized}
+use Rattle.text_words.specs.Number.{number_of, guid_of}
+use Rattle.text_words.specs.Quoted.{until}
+
+-- the number, where it is not over the most
+abbrev pub at_most : ℕ → ℕ → Option ℕ
+at_most most n = if nat_le n most then Some n else None
+
+-- a number in decimal, and whether it is not over the most
+abbrev pub small_of : ℕ → List ℕ → Option (Option ℕ)
+small_of most word = option_map (at_most most) (number_of 10 word)
+
+-- a GUID: up to sixteen hex digits, without the '0x' that may stand in front elsewhere
+abbrev pub bare_guid_of : List ℕ → Option ℕ
+bare_guid_of word = guid_of (codes "0x" ++ word)
+
+-- a node's GUID, a slash, and a port of it, and whether that is not over 254
+abbrev pub port_of : List ℕ → Option (ℕ × Option ℕ)
+port_of word =
+    option_and_then (λ x. option_and_then (λ node. option_map (λ port. (node, port)) (small_of 254 x.1)) (bare_guid_of x.0)) (until 47 word)
+
+-- the entries of a block: two hex digits each
+abbrev pub entries_of : List ℕ → Option (List ℕ)
+entries_of word = result_ok (decode_sized word 64)

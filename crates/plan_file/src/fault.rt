@@ -1,0 +1,107 @@
+ghost use Rattle.std.specs.Prelude.{◌≡◌};
+
+use std::alloc::{AllocError, AllocFailed};
+use std::error::Error;
+use std::fmt;
+
+/// What is wrong with a line.
+#[derive(Clone, Copy, Debug, PartialEq, Eq)]
+pub enum Wrong {
+    /// It is none of the grammar's, or a block above all switches.
+    Syntax,
+    /// A LID outside 1 to 49,151, a top over that, or a LID below that of the line before.
+    Lid,
+    /// A port over 254, or one that does not come after that of the line before with the same LID.
+    Port,
+    /// A switch that does not come after the one before.
+    Switch,
+    /// A block over 767, or one that does not come after the one before of its switch.
+    Block,
+}
+
+impl Wrong {
+    ghost use Rattle.plan_file.specs.TextFault.{wrong_word};
+
+    /// The word for it.
+    pub fn word(self) -> &'static str
+        ensures { result.now ≡ wrong_word self }
+    {
+        match self {
+            Wrong::Syntax => "syntax",
+            Wrong::Lid => "lid",
+            Wrong::Port => "port",
+            Wrong::Switch => "switch",
+            Wrong::Block => "block",
+        }
+    }
+}
+
+/// The first faulty line of a text, from 1, and what is wrong with it.
+#[derive(Clone, Copy, Debug, PartialEq, Eq)]
+pub struct LineFault {
+    pub line: usize,
+    pub wrong: Wrong,
+}
+
+/// Why a text is not read.
+#[derive(Clone, Copy, Debug, PartialEq, Eq)]
+pub enum TextFault {
+    /// A line has a fault, and none above it.
+    Line(LineFault),
+    /// Memory was refused, and no line has a fault.
+    Memory,
+}
+
+/// The line and the word, as in `line 3: port`; or that memory is out.
+impl fmt::Display for TextFault {
+    ghost use Rattle.std.specs.Prelude.{Some};
+    ghost use Rattle.plan_file.specs.TextFault.{fault_text};
+
+    ghost output = { λ fault. Some (fault_text fault) };
+
+    fn fmt<W: fmt::Write>(&self, f: &mut fmt::Formatter<W>) -> fmt::Result {
+        match self {
+            TextFault::Line(fault) => {
+                let line = fault.line;
+                let word = fault.wrong.word();
+                write!(f, "line {line}: {word}")
+            }
+            TextFault::Memory => f.write_str("out of memory"),
+        }
+    }
+}
+
+impl Error for TextFault {}
+
+impl From<LineFault> for TextFault {
+    ghost use Rattle.std.specs.Prelude.{◌≡◌};
+    ghost use Rattle.plan_file.specs.declared.fault.TextFault.TheVariants.{Line};
+
+    ghost from_gives = { λ e fault. fault ≡ Line e };
+
+    fn from(fault: LineFault) -> Self {
+        TextFault::Line(fault)
+    }
+}
+
+impl From<AllocError> for TextFault {
+    ghost use Rattle.std.specs.Prelude.{◌≡◌};
+    ghost use Rattle.plan_file.specs.declared.fault.TextFault.TheVariants.{Memory};
+
+    ghost from_gives = { λ e fault. fault ≡ Memory };
+
+    fn from(_: AllocError) -> Self {
+        TextFault::Memory
+    }
+}
+
+impl<T: Drop> From<AllocFailed<T>> for TextFault {
+    ghost use Rattle.std.specs.Prelude.{◌≡◌};
+    ghost use Rattle.plan_file.specs.declared.fault.TextFault.TheVariants.{Memory};
+
+    ghost from_gives = { λ e fault. fault ≡ Memory };
+
+    fn from(_: AllocFailed<T>) -> Self {
+        TextFault::Memory
+    }
+}

@@ -1,0 +1,120 @@
+ghost use Rattle.std.specs.Prelude.{◌≡◌, IfOk};
+ghost use Rattle.plan_file.specs.Held.{nothing_held};
+ghost use Rattle.plan_file.specs.Reading.{held_with};
+
+use crate::item::Item;
+use smp_bytes::{Guid, Lid};
+use std::alloc::{AllocError, Global};
+use std::marker::Model;
+use subnet_view::EndPort;
+
+/// A LID and an end port that holds it.
+#[derive(Clone, Copy, Debug, PartialEq, Eq)]
+pub struct HeldLid {
+    /// From 1 to 49,151.
+    pub lid: Lid,
+    /// Its port's number is up to 254.
+    pub port: EndPort,
+}
+
+/// A switch with the top of its forwarding table: the greatest LID that it forwards.
+#[derive(Clone, Copy, Debug, PartialEq, Eq)]
+pub struct HeldSwitch {
+    pub guid: Guid,
+    /// Up to 49,151.
+    pub top: Lid,
+}
+
+/// A block of a switch's forwarding table.
+#[derive(Clone, Copy, Debug, PartialEq, Eq)]
+pub struct HeldBlock {
+    /// The place of its switch, from 0, among those that are held.
+    pub switch: usize,
+    /// Up to 767: the block has the entries from LID 64 times this number on.
+    pub number: u16,
+    /// The port by which packets for each LID leave.
+    pub entries: [u8; 64],
+}
+
+/// What a plan's text says: the LIDs that end ports hold, and the forwarding tables of switches.
+#[derive(Drop)]
+pub struct Held {
+    lids: Vec<HeldLid>,
+    switches: Vec<HeldSwitch>,
+    blocks: Vec<HeldBlock>,
+}
+
+impl Model for Held {
+    ghost use Rattle.plan_file.specs.Held.{HeldPlan};
+
+    ghost Value = { HeldPlan };
+
+    ghost view = { λ a. record {
+      lids = a.lids.items;
+      switches = a.switches.items;
+      blocks = a.blocks.items;
+    } };
+}
+
+impl Held {
+    /// Nothing is held.
+    pub(crate) fn new(alloc: Global) -> Self
+        ensures { result ≡ nothing_held }
+    {
+        Held {
+            lids: Vec::new(alloc),
+            switches: Vec::new(alloc),
+            blocks: Vec::new(alloc),
+        }
+    }
+
+    /// The LIDs, rising, each with an end port that holds it.
+    pub fn lids(&self) -> &[HeldLid]
+        ensures { result.now ≡ self.now.lids }
+    {
+        &self.lids
+    }
+
+    /// The switches, by rising GUID.
+    pub fn switches(&self) -> &[HeldSwitch]
+        ensures { result.now ≡ self.now.switches }
+    {
+        &self.switches
+    }
+
+    /// The blocks, by the places of their switches and then by their numbers.
+    pub fn blocks(&self) -> &[HeldBlock]
+        ensures { result.now ≡ self.now.blocks }
+    {
+        &self.blocks
+    }
+
+    /// This with what a line more says.
+    pub(crate) fn with(self, item: Item) -> Result<Self, AllocError>
+        ensures { IfOk result (λ held. held ≡ held_with self item) }
+    {
+        let Held {
+            mut lids,
+            mut switches,
+            mut blocks,
+        } = self;
+        match item {
+            Item::Nothing => {}
+            Item::Lid(lid) => lids.push(lid)?,
+            Item::Switch(switch) => switches.push(switch)?,
+            Item::Block(number, entries) => {
+                let switch = switches.len().saturating_sub(1);
+                blocks.push(HeldBlock {
+                    switch,
+                    number,
+                    entries,
+                })?
+            }
+        }
+        Ok(Held {
+            lids,
+            switches,
+            blocks,
+        })
+    }
+}

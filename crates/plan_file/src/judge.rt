@@ -1,0 +1,149 @@
+ghost use Rattle.std.specs.Prelude.{◌≡◌};
+ghost use Rattle.plan_file.specs.Line.{line_of};
+ghost use Rattle.plan_file.specs.Reading.{start, item_of, place_after};
+ghost use Rattle.plan_file.specs.Reading.{lid_with, lid_behind, is_behind, switch_with, block_with};
+
+use crate::fault::{LineFault, Wrong};
+use crate::held::{HeldLid, HeldSwitch};
+use crate::item::Item;
+use crate::line::{BlockLine, LidLine, Line, SwitchLine, read_line};
+use smp_bytes::{Guid, Lid};
+use subnet_view::EndPort;
+
+/// What the lines before leave for the order of those to come.
+#[derive(Clone, Copy)]
+pub(crate) struct Place {
+    /// The last line of a LID.
+    pub(crate) lid: Option<HeldLid>,
+    /// The last switch.
+    pub(crate) switch: Option<Guid>,
+    /// The least number that its next block may have.
+    pub(crate) block: u32,
+}
+
+impl Place {
+    /// Above all lines.
+    pub(crate) fn start() -> Self
+        ensures { result ≡ start }
+    {
+        Place {
+            lid: None,
+            switch: None,
+            block: 0,
+        }
+    }
+
+    /// What the line of a number says, or what is wrong with it.
+    pub(crate) fn item(&self, number: usize, line: &[u8]) -> Result<Item, LineFault>
+        ensures { result ≡ item_of number self.now (line_of line.now) }
+    {
+        match read_line(line) {
+            None => wrong(number, Wrong::Syntax),
+            Some(Line::Empty) => Ok(Item::Nothing),
+            Some(Line::Lid(line)) => lid(number, self.lid, line),
+            Some(Line::Switch(line)) => switch(number, self.switch, line),
+            Some(Line::Block(line)) => self.block(number, line),
+        }
+    }
+
+    /// What the line of a block says.
+    fn block(&self, number: usize, line: BlockLine) -> Result<Item, LineFault>
+        ensures { result ≡ block_with number self.now line.number line.entries }
+    {
+        if self.switch.is_none() {
+            return wrong(number, Wrong::Syntax);
+        }
+        match line.number {
+            Some(block) if u32::from(block) >= self.block => Ok(Item::Block(block, line.entries)),
+            _ => wrong(number, Wrong::Block),
+        }
+    }
+
+    /// What this line leaves.
+    pub(crate) fn after(&self, item: &Item) -> Self
+        ensures { result ≡ place_after self.now item.now }
+    {
+        match item {
+            Item::Nothing => *self,
+            Item::Lid(held) => Place {
+                lid: Some(*held),
+                ..*self
+            },
+            Item::Switch(held) => Place {
+                lid: self.lid,
+                switch: Some(held.guid),
+                block: 0,
+            },
+            Item::Block(number, _) => Place {
+                block: u32::from(*number) + 1,
+                ..*self
+            },
+        }
+    }
+}
+
+/// The fault of a line.
+fn wrong(line: usize, wrong: Wrong) -> Result<Item, LineFault>
+    ensures { result ≡ Err (record { line = line; wrong = wrong }) }
+{
+    Err(LineFault { line, wrong })
+}
+
+/// What the line of a LID says behind the last one.
+fn lid(number: usize, last: Option<HeldLid>, line: LidLine) -> Result<Item, LineFault>
+    ensures { result ≡ lid_with number last line.lid line.node line.port }
+{
+    let Some(lid) = line.lid else {
+        return wrong(number, Wrong::Lid);
+    };
+    let Some(port) = line.port else {
+        return wrong(number, Wrong::Port);
+    };
+    let node = line.node;
+    let held = HeldLid {
+        lid: Lid::new(lid),
+        port: EndPort { node, port },
+    };
+    match last {
+        Some(last) => lid_behind(number, last, held),
+        None => Ok(Item::Lid(held)),
+    }
+}
+
+/// What a line of a LID says behind another.
+fn lid_behind(number: usize, last: HeldLid, held: HeldLid) -> Result<Item, LineFault>
+    ensures { result ≡ lid_behind number last held }
+{
+    if held.lid < last.lid {
+        wrong(number, Wrong::Lid)
+    } else if is_behind(last, held) {
+        Ok(Item::Lid(held))
+    } else {
+        wrong(number, Wrong::Port)
+    }
+}
+
+/// Whether a LID that is not less, or else the end port, is greater.
+fn is_behind(last: HeldLid, held: HeldLid) -> bool
+    ensures { result ≡ is_behind last held }
+{
+    let is_same_node = last.port.node == held.port.node;
+    last.lid < held.lid
+        || last.port.node < held.port.node
+        || (is_same_node && last.port.port < held.port.port)
+}
+
+/// What the line of a switch says behind the last one.
+fn switch(number: usize, last: Option<Guid>, line: SwitchLine) -> Result<Item, LineFault>
+    ensures { result ≡ switch_with number last line.guid line.top }
+{
+    let Some(top) = line.top else {
+        return wrong(number, Wrong::Lid);
+    };
+    let guid = line.guid;
+    let top = Lid::new(top);
+    match last {
+        Some(last) if guid <= last => wrong(number, Wrong::Switch),
+        _ => Ok(Item::Switch(HeldSwitch { guid, top })),
+    }
+}

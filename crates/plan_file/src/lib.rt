@@ -1,0 +1,18 @@
+//! The text of a plan: the LIDs that end ports hold, and the forwarding tables of switches.
+#![tactic(auto)]
+
+mod fault;
+mod held;
+mod item;
+mod judge;
+pub mod laws;
+mod line;
+mod text;
+mod words;
+
+pub use fault::{LineFault, TextFault, Wrong};
+pub use held::{Held, HeldBlock, HeldLid, HeldSwitch};
+pub use text::parse;
+
+#[cfg(test)]
+mod tests;

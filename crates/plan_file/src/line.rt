@@ -1,0 +1,113 @@
+ghost use Rattle.std.specs.Prelude.{◌≡◌, ◌∷◌, option_map};
+ghost use Rattle.text_words.specs.Text.{words};
+ghost use Rattle.plan_file.specs.Line.{line_of, both, lid_line, switch_line, block_line};
+
+use crate::words::{bare_guid, entries, node_port, small};
+use smp_bytes::{Guid, Lid, PortNum};
+use text_words::{count, is_word, split_word};
+
+/// The greatest LID of an end port.
+const MAX_LID: u16 = 0xBFFF;
+
+/// The number of the last block that has a LID of an end port.
+const MAX_BLOCK: u16 = 767;
+
+/// What a line says.
+#[derive(Clone, Copy)]
+pub(crate) enum Line {
+    Empty,
+    Lid(LidLine),
+    Switch(SwitchLine),
+    Block(BlockLine),
+}
+
+/// A LID and who holds it, as its line tells it. A number is `None` where it is out of its range.
+#[derive(Clone, Copy)]
+pub(crate) struct LidLine {
+    /// From 1 to 49,151.
+    pub(crate) lid: Option<u16>,
+    pub(crate) node: Guid,
+    /// Up to 254.
+    pub(crate) port: Option<PortNum>,
+}
+
+/// A switch and its top, as its line tells it.
+#[derive(Clone, Copy)]
+pub(crate) struct SwitchLine {
+    pub(crate) guid: Guid,
+    /// Up to 49,151, and `None` where it is greater.
+    pub(crate) top: Option<u16>,
+}
+
+/// A block of a switch, as its line tells it.
+#[derive(Clone, Copy)]
+pub(crate) struct BlockLine {
+    /// Up to 767, and `None` where it is greater.
+    pub(crate) number: Option<u16>,
+    pub(crate) entries: [u8; 64],
+}
+
+#[tactic(auto, unfolding(crate::specs::Line::line_of))]
+/// What a line says; `None` is a line that is none of the grammar's.
+pub(crate) fn read_line(line: &[u8]) -> Option<Line>
+    ensures { result ≡ line_of line.now }
+{
+    let Some((word, rest)) = split_word(line) else {
+        return Some(Line::Empty);
+    };
+    if is_word(word, "lid") {
+        Some(Line::Lid(lid_line(rest)?))
+    } else if is_word(word, "switch") {
+        Some(Line::Switch(switch_line(rest)?))
+    } else if is_word(word, "block") {
+        Some(Line::Block(block_line(rest)?))
+    } else {
+        None
+    }
+}
+
+/// The two words of which a line has no more.
+fn two_words(line: &[u8]) -> Option<(&[u8], &[u8])>
+    ensures { option_map (λ x. (x.0.now, x.1.now)) result ≡ both (words line.now) }
+{
+    let (one, line) = split_word(line)?;
+    let (other, line) = split_word(line)?;
+    if split_word(line).is_some() {
+        return None;
+    }
+    Some((one, other))
+}
+
+/// The rest of the line of a LID.
+fn lid_line(line: &[u8]) -> Option<LidLine>
+    ensures { result ≡ lid_line (words line.now) }
+{
+    let (lid, port) = two_words(line)?;
+    let lid = count(lid, MAX_LID)?;
+    let (node, port) = node_port(port)?;
+    Some(LidLine { lid, node, port })
+}
+
+/// The rest of the line of a switch.
+fn switch_line(line: &[u8]) -> Option<SwitchLine>
+    ensures { result ≡ switch_line (words line.now) }
+{
+    let (guid, line) = split_word(line)?;
+    let (word, top) = two_words(line)?;
+    if !is_word(word, "top") {
+        return None;
+    }
+    let guid = bare_guid(guid)?;
+    let top = small(top, MAX_LID)?;
+    Some(SwitchLine { guid, top })
+}
+
+/// The rest of the line of a block.
+fn block_line(line: &[u8]) -> Option<BlockLine>
+    ensures { result ≡ block_line (words line.now) }
+{
+    let (number, word) = two_words(line)?;
+    let number = small(number, MAX_BLOCK)?;
+    let entries = entries(word)?;
+    Some(BlockLine { number, entries })
+}

@@ -1,0 +1,78 @@
+ghost use Rattle.std.specs.Prelude.{◌≡◌, IfOk, option_map};
+ghost use Rattle.smp_bytes.specs.Judges.{JudgesButFor};
+ghost use Rattle.plan_file.specs.Reading.{first_fault, held_of};
+ghost use Rattle.plan_file.specs.Reads.{IsReadAs};
+ghost use Rattle.plan_file.specs.TextFault.{is_memory};
+
+use crate::fault::{LineFault, TextFault};
+use crate::held::Held;
+use crate::judge::Place;
+use std::alloc::Global;
+use text_words::split_line;
+
+/// Reads a plan's text: a line for each LID, rising, with the end port that holds it, and of each switch, by
+/// rising GUID, its line and those of its blocks, by rising number. Lines end with LF or CR LF, empty ones
+/// are skipped, and `#` begins a comment:
+///
+/// ```text
+/// lid 1 0000000000000100/1
+/// switch 0000000000000010 top 1
+/// block 0 ff03ff..
+/// ```
+///
+/// Takes a step for each byte, and twice as many where memory is refused.
+///
+/// # Errors
+///
+/// The first fault of its lines, and `Memory` where they have none.
+pub fn parse(alloc: Global, text: &[u8]) -> Result<Held, TextFault>
+    ensures judged { JudgesButFor is_memory result (option_map TextFault.Line (first_fault text.now)) }
+    ensures held { IfOk result (λ held. held ≡ held_of text.now) }
+{
+    match read_lines(alloc, text) {
+        Ok(held) => Ok(held),
+        Err(TextFault::Line(fault)) => Err(TextFault::Line(fault)),
+        Err(TextFault::Memory) => match first_fault(text) {
+            Some(fault) => Err(TextFault::Line(fault)),
+            None => Err(TextFault::Memory),
+        },
+    }
+}
+
+#[tactic(auto, using(crate::proofs::Folds::read_more, crate::proofs::Folds::fault_here, crate::proofs::Folds::no_fault, crate::proofs::Folds::held_all))]
+/// What the lines of a text say.
+fn read_lines(alloc: Global, text: &[u8]) -> Result<Held, TextFault>
+    ensures { IsReadAs text.now result }
+{
+    let mut held = Held::new(alloc);
+    let mut place = Place::start();
+    let mut number = 0;
+    let mut rest = text;
+    while let Some((line, later)) = split_line(rest) {
+        number += 1;
+        let item = place.item(number, line)?;
+        place = place.after(&item);
+        held = held.with(item)?;
+        rest = later;
+    }
+    Ok(held)
+}
+
+#[tactic(auto, using(crate::proofs::Folds::judged_none, crate::proofs::Folds::judged_more, crate::proofs::Folds::fault_here, crate::proofs::Folds::no_fault))]
+/// The first fault of a text. Takes no memory.
+fn first_fault(text: &[u8]) -> Option<LineFault>
+    ensures { result ≡ first_fault text.now }
+{
+    let mut place = Place::start();
+    let mut number = 0;
+    let mut rest = text;
+    while let Some((line, later)) = split_line(rest) {
+        number += 1;
+        match place.item(number, line) {
+            Ok(item) => place = place.after(&item),
+            Err(fault) => return Some(fault),
+        }
+        rest = later;
+    }
+    None
+}

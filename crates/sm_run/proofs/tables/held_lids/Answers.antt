@@ -1,0 +1,21 @@
+use Rattle.std.proofs.Common.{◌∙◌, ◌≤◌, length, sym, ap, arith}
+use Rattle.std.specs.List.{flat_map}
+use Rattle.std.specs.Option.{option_copied}
+use Rattle.std.specs.Ordering.{is_lt}
+use Rattle.std.proofs.lemmas.List.{take_all}
+use Rattle.sm_run.specs.Tables.{held_by, held_cmp, in_order}
+use Rattle.sm_run.proofs.Held.{held_ranks, more_held}
+use Rattle.sm_run.proofs.Order.{sorted_is_in_order}
+use Rattle.sm_run.proofs.tables.held_lids.Goals as goal
+
+pub loop-place-preserved : goal.loop-place-preserved
+loop-place-preserved c =
+    more_held c.args.fabric.now.agents c.loop-place.place c.unwrap.result.now c.loop-place.held.items c.hold_lids.new.held.items
+    (sym c.agent.ensures ∙ ap option_copied c.unwrap.ensures) c.loop-place.invariant c.in_ok-hold_lids.ensures
+
+pub returns : goal.returns
+returns c =
+    let agents = c.args.fabric.now.agents in
+    let all : length agents ≤ c.loop-place.place = omega (arith, c.node_count-place-end.ensures) in
+    sorted_is_in_order (λ x y. is_lt (held_cmp x y)) held_ranks c.loop-place.held.items c.sort.new.self.items c.in_ok-sort.ensures.sorted c.in_ok-sort.ensures.stable
+    ∙ ap (in_order (λ x y. is_lt (held_cmp x y))) (c.loop-place.invariant ∙ ap (flat_map held_by) (take_all c.loop-place.place agents all))
