@@ -1,8 +1,8 @@
 -- Where a connected fabric holds the plan of its view, no packet fails.
-use Rattle.std.proofs.Common.{◌≡◌, ℕ, zero, suc, ◌+◌, ◌*◌, ◌/◌, ◌%◌, ◌<◌, ◌≤◌, Bool, true, false, cond, List, [], ◌∷◌, ◌++◌, length, get_or, Option, None, Some, refl, sym, ap, ◌∙◌, subst, arith, inl, inr, ◌⊎◌, add-zero}
-use Rattle.std.specs.Prelude.{slice_get, slice_index_or, map, Contains, reverse, option_and_then, option_map, ◌==◌}
+use Rattle.std.proofs.Common.{◌≡◌, ℕ, zero, suc, ◌+◌, ◌*◌, ◌/◌, ◌%◌, ◌<◌, ◌≤◌, Bool, true, false, List, [], ◌∷◌, ◌++◌, length, get_or, Option, None, Some, refl, sym, ap, ◌∙◌, subst, arith, inl, inr, ◌⊎◌, add-zero}
+use Rattle.std.specs.Prelude.{slice_get, map, Contains, reverse, option_and_then, option_map, ◌==◌}
 use Rattle.std.specs.Option.{option_map_or}
-use Rattle.std.specs.List.{find, position, position_or_len, enumerate_from, filter_map}
+use Rattle.std.specs.List.{find, position, position_or_len, filter_map}
 use Rattle.std.proofs.lemmas.Bool.{eqb-true, eq-eqb, ltb-false, and_parts}
 use Rattle.std.proofs.lemmas.Option.{same_Some, slice_get-get_or}
 use Rattle.std.proofs.lemmas.List.{reverse-append}
@@ -24,7 +24,7 @@ use Rattle.plan_file.specs.declared.held.HeldBlock.{HeldBlock}
 use Rattle.plan_file.specs.declared.held.HeldLid.{HeldLid}
 use Rattle.plan_file.specs.declared.held.HeldSwitch.{HeldSwitch}
 use Rattle.plan_file.specs.Held.{HeldPlan, nothing_held}
-use Rattle.plan_file.specs.Printed.{owned_lid, blocks_from, blocks_of, with_top, held_plan}
+use Rattle.plan_file.specs.Printed.{owned_lid, blocks_from, blocks_of, with_top}
 use Rattle.lid_assign.specs.Lids.{IsNoRoom, lids, lid_of, owner_of, rising_lids}
 use Rattle.lid_assign.specs.Lids.{top_of as lid_top}
 use Rattle.lid_assign.proofs.LidLaws.{lids_law, ports_apart}
@@ -39,7 +39,7 @@ use Rattle.std.specs.Prelude.{MatchOption, is_some}
 use Rattle.std.proofs.lemmas.List.FromFn.{length-map-range_with_len}
 use Rattle.smp_bytes.specs.Forwarding.{IsDelivered}
 use Rattle.lft_blocks.specs.Plan.{tables_of, block_at as plan_block}
-use Rattle.lft_blocks.specs.Arrival.{HoldsBlock, HoldsPlan, HoldsPlanAt, IsInForce}
+use Rattle.lft_blocks.specs.Arrival.{HoldsBlock, HoldsPlan}
 use Rattle.lft_blocks.specs.PlanLaws.{HasBlock, block_of}
 use Rattle.lft_blocks.proofs.BlockOwners.{blocks_are_of_switches}
 use Rattle.lft_blocks.proofs.WholeFabrics.{packets_arrive_if_connected}
