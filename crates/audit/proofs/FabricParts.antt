@@ -55,7 +55,7 @@ module _ (facts : Facts) (held : HeldPlan) (f : Fabric) (seen : IsSeen (cells_of
       as_part (port_at place 0) node at (node, at, subst (EndNumber node.ports 0) (sym kind) refl)
 
   -- a switch of the fabric is usable, and has an index
-  usable : (place : ℕ) (node : Node) → IsNodeAt f place node → is_switch node.kind ≡ true → is_usable cells node.guid ≡ true
+  pub usable : (place : ℕ) (node : Node) → IsNodeAt f place node → is_switch node.kind ≡ true → is_usable cells node.guid ≡ true
   usable place node at kind =
       let here = switch_end place node at kind in
       and_from (is_switch_node cells node.guid) (is_some (cap_of cells node.guid)) (known_type (port_at place 0) node here ∙ kind)

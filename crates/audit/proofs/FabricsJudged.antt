@@ -54,7 +54,7 @@ owner_line (x ∷ lids) lid e h =
       | false ↦ λ q k. later_line x lids lid e (owner_line lids lid e k)
     ] refl h
 
-line_owner : (lids : List HeldLid) (line : HeldLid) → Contains lids line → is_owner (owners_in lids line.lid) line.port ≡ true
+pub line_owner : (lids : List HeldLid) (line : HeldLid) → Contains lids line → is_owner (owners_in lids line.lid) line.port ≡ true
 line_owner [] line h = absurd (contains_none line h)
 line_owner (x ∷ lids) line h =
     elim (x.lid == line.lid) as (λ t. (x.lid == line.lid) ≡ t
@@ -85,7 +85,7 @@ same_target f lid (k ∷ hops) (m ∷ others) st end last p q g d h c =
     let into = into_is f lid st m.out m.into k h.0 h.1 g.0 g.1 in
     same_target f lid hops others (arrived_at m.into) end last p q (subst (λ (x : NodePort). Goes f lid (arrived_at x) hops end) into g.2) d h.2 c
 
-module _ (facts : Facts) (held : HeldPlan) (f : Fabric) (lids : HoldsLids held) (seen : IsSeen (cells_of facts) held f) where
+module _ (facts : Facts) (held : HeldPlan) (f : Fabric) (seen : IsSeen (cells_of facts) held f) where
   abbrev cells : Cells
   cells = cells_of facts
 
@@ -93,7 +93,7 @@ module _ (facts : Facts) (held : HeldPlan) (f : Fabric) (lids : HoldsLids held) 
   name p node = record { node = node.guid; port = p.port }
 
   -- the facts list the end ports
-  end_listed : (p : NodePort) (node : Node) → IsNodeAt f p.node node → IsEndPort f p → Contains (end_ports cells) (name p node)
+  pub end_listed : (p : NodePort) (node : Node) → IsNodeAt f p.node node → IsEndPort f p → Contains (end_ports cells) (name p node)
   end_listed p node at is_end =
       let told = seen.agrees.tells_end_ports p node (as_part facts held f seen p node at is_end) in
       let (other, at_other, number) = is_end in
@@ -115,7 +115,7 @@ module _ (facts : Facts) (held : HeldPlan) (f : Fabric) (lids : HoldsLids held) 
             (port_at place 1, refl, as_part facts held f seen (port_at place 1) node at (node, at, number))
       ] refl
 
-  one_port : (p q : NodePort) (node : Node) (e : EndPort) → IsPortNamed f e.node e.port p → IsNodeAt f q.node node → name q node ≡ e → p ≡ q
+  pub one_port : (p q : NodePort) (node : Node) (e : EndPort) → IsPortNamed f e.node e.port p → IsNodeAt f q.node node → name q node ≡ e → p ≡ q
   one_port p q node e named at is =
       let a = some_end p.node named.node named.node_there in
       let b = some_end q.node node at in
@@ -123,8 +123,8 @@ module _ (facts : Facts) (held : HeldPlan) (f : Fabric) (lids : HoldsLids held) 
       same_port p q (sym a.1 ∙ seen.agrees.guids_distinct a.0 b.0 named.node node a.2 b.2 guid ∙ b.1)
       (named.port_is ∙ sym (ap (λ (x : EndPort). x.port) is))
 
-  arrive : AllArrive cells held → EachArrives f
-  arrive all source target is_source is_target has =
+  arrive : HoldsLids held → AllArrive cells held → EachArrives f
+  arrive lids all source target is_source is_target has =
       let lid = f.base_lid target in
       let (t, at_t, number_t) = is_target in
       let (s, at_s, number_s) = is_source in
@@ -151,8 +151,8 @@ module _ (facts : Facts) (held : HeldPlan) (f : Fabric) (lids : HoldsLids held) 
   not_there source target lid e (Some (Lost g)) named (others, place, lost) apart hops d = (packets_end_once f lid source).1 hops others target place d lost
   not_there source target lid e None named (others, place, lost) apart hops d = (packets_end_once f lid source).1 hops others target place d lost
 
-  miss : (failure : Failure) → IsHeldFailure cells held failure → SomeMisses f
-  miss failure h =
+  pub miss : HoldsLids held → (failure : Failure) → IsHeldFailure cells held failure → SomeMisses f
+  miss lids failure h =
       let line = failure.line in
       let from = failure.source in
       let (target, named, is_target) = end_there line.port h.fails.is_end_port in
@@ -177,4 +177,4 @@ module _ (facts : Facts) (held : HeldPlan) (f : Fabric) (lids : HoldsLids held) 
       }
 
 pub fabrics_are_judged : FabricsAreJudged
-fabrics_are_judged facts held f lids seen = record { arrive = arrive facts held f lids seen; miss = miss facts held f lids seen }
+fabrics_are_judged facts held f lids seen = record { arrive = arrive facts held f seen lids; miss = miss facts held f seen lids }

@@ -5,4 +5,5 @@ pub mod FabricsJudged
 pub mod Gathered
 pub mod Judged
 pub mod Mapped
+pub mod PlansPass
 pub mod Told

@@ -9,6 +9,10 @@ use Rattle.smp_bytes.specs.Forwarding.{Hop, IsDelivered, IsLost}
 use Rattle.fact_store.specs.View.{Facts, cells_of}
 use Rattle.subnet_view.specs.Reading.{Cells}
 use Rattle.subnet_view.specs.Agreement.{WholeFabric, IsPortNamed, AgreesOn}
+use Rattle.smp_bytes.specs.FabricWalks.{IsConnected}
+use Rattle.lid_assign.specs.Lids.{IsNoRoom}
+use Rattle.lft_blocks.specs.Plan.{plan_of}
+use Rattle.plan_file.specs.Printed.{held_plan}
 use Rattle.plan_file.specs.Held.{HeldPlan}
 use Rattle.audit.specs.declared.end.End.{End}
 use Rattle.audit.specs.declared.end.Failure.{Failure}
@@ -72,3 +76,8 @@ pub record JudgesFabrics (facts : Facts) (held : HeldPlan) (f : Fabric) : Type 0
 
 abbrev pub FabricsAreJudged : Type 0
 FabricsAreJudged = (facts : Facts) (held : HeldPlan) (f : Fabric) → HoldsLids held → IsSeen (cells_of facts) held f → JudgesFabrics facts held f
+
+-- where a connected fabric is as a view with room says, and holds the text of the view's plan, no packet fails
+abbrev pub PlansPass : Type 0
+PlansPass = (facts : Facts) → ¬ (IsNoRoom (cells_of facts)) → (f : Fabric) → IsConnected f → IsSeen (cells_of facts) (held_plan (plan_of (cells_of facts))) f
+    → (failure : Failure) → ¬ (IsHeldFailure (cells_of facts) (held_plan (plan_of (cells_of facts))) failure)

@@ -6,7 +6,7 @@ use crate::end::End;
 use crate::step::Step;
 use std::alloc::{AllocError, Global};
 
-#[tactic(auto, using(crate::proofs::Ended::doubled_none, crate::proofs::Ended::doubled_more, crate::proofs::Ended::fewer_left, crate::proofs::Ended::all_ended, crate::proofs::Ended::same_ended))]
+#[tactic(auto, using(crate::proofs::Ended::doubled_none, crate::proofs::Ended::doubled_more))]
 /// What the walks from the switches come to, by what each switch does: those that have not ended then go on
 /// for ever. A round takes a step for each switch, and there are as many rounds as the longest walk's length
 /// has binary digits, and one more where some go round for ever.

@@ -74,3 +74,8 @@ no_fault text rest place number h e = sym h.fault ∙ ap (first_fault_from (numb
 
 pub held_all : (text rest : List ℕ) (place : Place) (held : HeldPlan) (number : ℕ) → HasRead text rest place held number → lines rest ≡ [] → held ≡ held_of text
 held_all text rest place held number h e = ap (λ ls. held_by held (items_from (number + 1) place ls)) (sym e) ∙ h.held_is
+
+-- what the loops over lines are proved by
+pub ruleset judging = (judged_none, judged_more, fault_here, no_fault)
+
+pub ruleset reading = (read_more, fault_here, no_fault, held_all)

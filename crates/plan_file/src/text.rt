@@ -39,7 +39,7 @@ pub fn parse(alloc: Global, text: &[u8]) -> Result<Held, TextFault>
     }
 }
 
-#[tactic(auto, using(crate::proofs::Folds::read_more, crate::proofs::Folds::fault_here, crate::proofs::Folds::no_fault, crate::proofs::Folds::held_all))]
+#[tactic(auto, using(crate::proofs::Folds::reading))]
 /// What the lines of a text say.
 fn read_lines(alloc: Global, text: &[u8]) -> Result<Held, TextFault>
     ensures { IsReadAs text.now result }
@@ -58,7 +58,7 @@ fn read_lines(alloc: Global, text: &[u8]) -> Result<Held, TextFault>
     Ok(held)
 }
 
-#[tactic(auto, using(crate::proofs::Folds::judged_none, crate::proofs::Folds::judged_more, crate::proofs::Folds::fault_here, crate::proofs::Folds::no_fault))]
+#[tactic(auto, using(crate::proofs::Folds::judging))]
 /// The first fault of a text. Takes no memory.
 fn first_fault(text: &[u8]) -> Option<LineFault>
     ensures { result ≡ first_fault text.now }
