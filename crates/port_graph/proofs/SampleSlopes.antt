@@ -28,7 +28,7 @@ rise_from n [] = true
 rise_from n (heads ∷ more) = list_all (λ b. nat_lt b n) heads && rise_from (suc n) more
 
 -- each of these leads back
-abbrev back_from : ℕ → List (List ℕ) → List (List ℕ) → Bool
+abbrev pub back_from : ℕ → List (List ℕ) → List (List ℕ) → Bool
 back_from n [] backs = true
 back_from n (heads ∷ more) backs = list_all (λ b. list_any (λ a. a == n) (slice_index_or backs b [])) heads && back_from (suc n) more backs
 
@@ -52,7 +52,7 @@ returned_first n heads backs e b h =
     let x = list_any_found (λ a. a == n) (slice_index_or backs b []) (list_all_at (λ c. list_any (λ a. a == n) (slice_index_or backs c [])) heads e b h) in
     subst (λ (a : ℕ). Contains (slice_index_or backs b []) a) (eqb-true x.0 n x.2) x.1
 
-returned : (n : ℕ) (all backs : List (List ℕ)) → back_from n all backs ≡ true → (k b m : ℕ) → Contains (slice_index_or all k []) b → n + k ≡ m → Contains (slice_index_or backs b []) m
+pub returned : (n : ℕ) (all backs : List (List ℕ)) → back_from n all backs ≡ true → (k b m : ℕ) → Contains (slice_index_or all k []) b → n + k ≡ m → Contains (slice_index_or backs b []) m
 returned n [] backs e k b m h is = absurd (contains_none b h)
 returned n (heads ∷ more) backs e zero b m h is =
     let first = (both (list_all (λ c. list_any (λ a. a == n) (slice_index_or backs c [])) heads) (back_from (suc n) more backs) e).0 in
@@ -62,7 +62,7 @@ returned n (heads ∷ more) backs e (suc k) b m h is =
     let rest = (both (list_all (λ c. list_any (λ a. a == n) (slice_index_or backs c [])) heads) (back_from (suc n) more backs) e).1 in
     returned (suc n) more backs rest k b m h (omega arith)
 
-heads_in : (exits : List (List Exit)) (a : ℕ) → heads exits a ≡ slice_index_or (all_heads exits) a []
+pub heads_in : (exits : List (List Exit)) (a : ℕ) → heads exits a ≡ slice_index_or (all_heads exits) a []
 heads_in [] a = refl
 heads_in (es ∷ exits) zero = refl
 heads_in (es ∷ exits) (suc a) = heads_in exits a

@@ -1,0 +1,10 @@
+pub mod Labels
+pub mod RoundMarks
+pub mod Candidates
+pub mod LabelLaws
+pub mod Ways
+pub mod Orders
+pub mod Keys
+pub mod Stages
+pub mod Sides
+pub mod EveryPair
