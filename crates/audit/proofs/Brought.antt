@@ -11,9 +11,10 @@ use Rattle.audit.specs.declared.end.End.{End}
 use Rattle.audit.specs.declared.far.Source.{Source}
 use Rattle.audit.specs.declared.node.Node.{Node}
 use Rattle.audit.specs.declared.step.Step.{Step}
+use Rattle.audit.specs.Exits.{exit_by, exit_of}
 use Rattle.audit.specs.Network.{row_of, node_of, source_of, IsNetwork}
 use Rattle.audit.specs.Steps.{by_entry, steps_of, entry_among, step_of, first_step, AreBrought, AreBlocks}
-use Rattle.audit.specs.Tables.{owners_of, place_of, top_of, block_at, entry_in, entry_at, counted}
+use Rattle.audit.specs.Tables.{owners_of, place_of, top_of, block_at, entry_in, entry_at, entry_for, counted}
 use Rattle.audit.specs.Walks.{onward, end_of, IsEndOf, HaveEnded}
 
 pub if_ok : {T E : Type 0} (P Q : T → Type 0) (r : Result T E) → IfOk r P → ((x : T) → P x → Q x) → IfOk r Q
@@ -70,3 +71,12 @@ module _ (cells : Cells) (held : HeldPlan) (lid number : ℕ) (rows : List (List
       let found : result ≡ map (end_by ends) (map (source_of cells) (end_ports cells)) =
       result_is ∙ ap (λ o. map (λ source. end_of (onward ends (first_step o source))) sources) own ∙ ap (map (end_by ends)) network.sources_are in
       subst (AreBrought cells held lid) (sym found) (are_brought ends (subst (λ (xs : List Step). HaveEnded xs ends) all ended))
+
+  -- the exits that are found are those of the tables
+  pub exits_are : (nodes : List Node) (guids : List ℕ) → nodes ≡ map (node_of cells held) guids
+      → map (exit_of rows lid) nodes ≡ map (λ g. exit_by (row_of cells g) (entry_for held lid g)) guids
+  exits_are nodes guids e = ap (map (exit_of rows lid)) e ∙ each_exit guids
+    where
+      each_exit : (gs : List ℕ) → map (exit_of rows lid) (map (node_of cells held) gs) ≡ map (λ g. exit_by (row_of cells g) (entry_for held lid g)) gs
+      each_exit [] = refl
+      each_exit (g ∷ gs) = λ i. exit_by (row_of cells g) (counted lid (top_of held g) (entry_is g (place_of held g) refl i)) ∷ each_exit gs i

@@ -1,3 +1,4 @@
+pub mod Exits
 pub mod Fabrics
 pub mod Network
 pub mod Steps

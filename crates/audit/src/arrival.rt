@@ -6,7 +6,6 @@ ghost use Rattle.audit.specs.Steps.{AllArrive, AreBlocks, IsFailureOf, IsHeldFai
 use crate::end::{End, Failure};
 use crate::network::{Blocks, Network};
 use plan_file::HeldLid;
-use smp_bytes::Lid;
 use std::alloc::{AllocError, Global};
 use subnet_view::EndPort;
 
@@ -22,31 +21,13 @@ pub fn first_failure(alloc: Global, network: &Network) -> Result<Option<Failure>
 {
     let mut blocks = network.blocks(alloc, 0)?;
     for line in network.lids() {
-        blocks = blocks_of(alloc, network, blocks, line.lid)?;
+        blocks = network.blocks_for(alloc, blocks, line.lid)?;
         match failure_of(alloc, network, &blocks, line)? {
             Some(failure) => return Ok(Some(failure)),
             None => {}
         }
     }
     Ok(None)
-}
-
-/// The blocks of a LID's number, by those of another.
-fn blocks_of(
-    alloc: Global,
-    network: &Network,
-    blocks: Blocks,
-    lid: Lid,
-) -> Result<Blocks, AllocError>
-    requires { AreBlocks network.now.held blocks.number blocks.rows.items }
-    ensures { IfOk result (λ blocks. AreBlocks network.now.held blocks.number blocks.rows.items
-        × (blocks.number ≡ lid / 64)) }
-{
-    let number = lid.number() / 64;
-    if blocks.number == number {
-        return Ok(blocks);
-    }
-    network.blocks(alloc, number)
 }
 
 /// The first packet that does not come to the end port of a line, where the view has that.

@@ -1,6 +1,7 @@
 //! What becomes of packets for one LID at each switch.
 ghost use Rattle.std.specs.Prelude.{◌≡◌, IfOk, map};
 ghost use Rattle.audit.specs.Steps.{at_port, entry_among, first_step, over, step_of};
+ghost use Rattle.audit.specs.Exits.{exit_of, exit_to};
 ghost use Rattle.audit.specs.Tables.{counted, is_owner, owners_of};
 ghost use Rattle.audit.specs.Walks.{end_of, onward};
 
@@ -10,6 +11,7 @@ use crate::node::Node;
 use crate::step::Step;
 use crate::walks::{end_of, onward};
 use plan_file::Held;
+use port_graph::Exit;
 use smp_bytes::{Guid, Lid, PortNum};
 use std::alloc::{AllocError, Global};
 use subnet_view::EndPort;
@@ -85,6 +87,45 @@ fn counted(lid: Lid, top: Lid, entry: u8) -> u8
         255
     } else {
         entry
+    }
+}
+
+/// By which port each switch sends packets on to another usable switch.
+pub(crate) fn exits(
+    alloc: Global,
+    nodes: &[Node],
+    rows: &[[u8; 64]],
+    lid: Lid,
+) -> Result<Vec<Option<Exit>>, AllocError>
+    ensures { IfOk result (λ exits. exits.items ≡ map (exit_of rows.now lid) nodes.now) }
+{
+    nodes
+        .iter()
+        .map(|node| exit_at(rows, lid, node))
+        .collect(alloc)
+}
+
+/// By which port a switch sends packets on to another usable switch.
+fn exit_at(rows: &[[u8; 64]], lid: Lid, node: &Node) -> Option<Exit>
+    ensures { result ≡ exit_of rows.now lid node.now }
+{
+    let entry = counted(lid, node.top, entry_among(rows, node.place, lid));
+    if entry == 0 {
+        return None;
+    }
+    exit_to(entry, node.row.far(entry))
+}
+
+/// The exit by a port whose wire leads to a usable switch.
+fn exit_to(port: u8, far: Far) -> Option<Exit>
+    ensures { result ≡ exit_to port far }
+{
+    match far {
+        Far::Switch(to) => Some(Exit {
+            port: PortNum::new(port),
+            to,
+        }),
+        _ => None,
     }
 }
 

@@ -2,18 +2,21 @@ ghost use Rattle.std.specs.Prelude.{◌≡◌, ◌↔◌, ◌<◌, ◌/◌, Cont
 ghost use Rattle.std.specs.List.{list_any};
 ghost use Rattle.fact_store.specs.View.{cells_of};
 ghost use Rattle.subnet_view.specs.EndPorts.{end_ports};
+ghost use Rattle.subnet_view.specs.Reading.{switches};
+ghost use Rattle.audit.specs.Exits.{exits_of};
 ghost use Rattle.audit.specs.Steps.{AreBlocks, AreBrought};
 ghost use Rattle.audit.specs.Tables.{is_same_end};
 
 use crate::blocks::blocks;
-use crate::column::{brought, owners_of, steps};
+use crate::column::{brought, exits, owners_of, steps};
 use crate::end::End;
 use crate::far::{Source, sources};
 use crate::node::{Node, nodes};
 use crate::walks::ends;
 use fact_store::{Refused, Store};
 use plan_file::{Held, HeldLid};
-use smp_bytes::Lid;
+use port_graph::Exit;
+use smp_bytes::{Guid, Lid};
 use std::alloc::{AllocError, Global};
 use std::marker::Model;
 use subnet_view::{EndPort, Wires, end_ports, switches};
@@ -79,6 +82,19 @@ impl<'a> Network<'a> {
         Ok(Blocks { number, rows })
     }
 
+    /// The blocks of a LID's number, by those of another or the same.
+    pub fn blocks_for(&self, alloc: Global, blocks: Blocks, lid: Lid) -> Result<Blocks, AllocError>
+        requires { AreBlocks self.now.held blocks.number blocks.rows.items }
+        ensures { IfOk result (λ blocks. AreBlocks self.now.held blocks.number blocks.rows.items
+            × (blocks.number ≡ lid / 64)) }
+    {
+        let number = lid.number() / 64;
+        if blocks.number == number {
+            return Ok(blocks);
+        }
+        self.blocks(alloc, number)
+    }
+
     /// Where forwarding brings a packet for a LID, for each end port that sends it, in their order; None is that it
     /// goes round for ever. Takes a walk over the LIDs that are held, and for each switch and each end port some
     /// steps, by the number of digits of the longest way's length.
@@ -98,8 +114,38 @@ impl<'a> Network<'a> {
         brought(alloc, &self.sources, &owners, &ends)
     }
 
+    /// For each usable switch, by rising GUID, the port by which it sends packets for a LID on to another usable
+    /// switch, with that one's index; None where it does not. Takes a step for each switch.
+    pub fn exits(
+        &self,
+        alloc: Global,
+        blocks: &Blocks,
+        lid: Lid,
+    ) -> Result<Vec<Option<Exit>>, AllocError>
+        requires held { AreBlocks self.now.held blocks.now.number blocks.now.rows.items }
+        requires number { blocks.now.number ≡ lid / 64 }
+        ensures { IfOk result (λ exits. exits.items ≡ exits_of (cells_of self.now.facts) self.now.held lid) }
+    {
+        exits(alloc, &self.nodes, &blocks.rows, lid)
+    }
+
+    /// How many usable switches there are.
+    pub fn switch_count(&self) -> usize
+        ensures { result ≡ length (switches (cells_of self.now.facts)) }
+    {
+        self.nodes.len()
+    }
+
+    /// The GUID of the usable switch at an index, by rising GUID. Takes one step.
+    pub fn switch(&self, index: usize) -> Option<Guid>
+        ensures { result ≡ slice_get (switches (cells_of self.now.facts)) index }
+    {
+        let node = self.nodes.get(index)?;
+        Some(node.guid)
+    }
+
     /// The LIDs that are held, with their end ports.
-    pub(crate) fn lids(&self) -> &[HeldLid]
+    pub fn lids(&self) -> &[HeldLid]
         ensures { result.now ≡ self.now.held.lids }
     {
         self.held.lids()

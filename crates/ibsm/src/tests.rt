@@ -155,17 +155,17 @@ fn file(rt: &HostRuntime, name: &str, bytes: &[u8]) -> Result<String, Fail> {
     Ok(path)
 }
 
-/// The store file of a node.
+/// The store file of a node, which tells no floor.
 const NODE: &[u8] =
     b"IBSMSTO1\x01\x01\x00\x00\x00\x00\x00\x01\x00\x00\x00\x00\x00\x00\x01\x00\x01\x01\0\0\0\0\0\0\0\0\0\0\0\0\0\0";
 
-/// The store file of the GUID of its port.
-const PORT_GUID: &[u8] =
-    b"IBSMSTO1\x02\x01\x01\x00\x00\x00\x00\x01\x00\x00\x00\x00\x00\x00\x01\x00\x00\x00\0\0\0\0\x01\x01\0\0\0\0\0\0\0\0";
+/// The store file of the GUID of its port, at floor 1.
+const PORT_GUID: &[u8] = b"IBSMSTO2\0\0\0\x01\0\0\0\0\
+    \x02\x01\x01\x00\x00\x00\x00\x01\x00\x00\x00\x00\x00\x00\x01\x00\x00\x00\0\0\0\0\x01\x01\0\0\0\0\0\0\0\0";
 
 /// Both of them in one.
-const BOTH: &[u8] =
-    b"IBSMSTO1\x01\x01\x00\x00\x00\x00\x00\x01\x00\x00\x00\x00\x00\x00\x01\x00\x01\x01\0\0\0\0\0\0\0\0\0\0\0\0\0\0\
+const BOTH: &[u8] = b"IBSMSTO2\0\0\0\x01\0\0\0\0\
+    \x01\x01\x00\x00\x00\x00\x00\x01\x00\x00\x00\x00\x00\x00\x01\x00\x01\x01\0\0\0\0\0\0\0\0\0\0\0\0\0\0\
     \x02\x01\x01\x00\x00\x00\x00\x01\x00\x00\x00\x00\x00\x00\x01\x00\x00\x00\0\0\0\0\x01\x01\0\0\0\0\0\0\0\0";
 
 /// How a run over the files of these names ends, and what it writes as its output and as its errors.

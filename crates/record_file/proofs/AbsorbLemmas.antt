@@ -1,30 +1,32 @@
 -- Lemmas on how absorbing a source ends.
 use Rattle.std.proofs.Common.{◌≡◌, ◌⊎◌, inl, inr, ℕ, ◌+◌, ◌<◌, ◌≤◌, ◌^◌, List, [], ◌∷◌, ◌++◌, Some, Option, Result, Ok, Err, length, take}
 use Rattle.std.proofs.Common.{refl, sym, ap, ◌∙◌, subst, arith, append_assoc, length-append}
-use Rattle.std.specs.List.{concat}
+use Rattle.std.specs.Prelude.{nat_eq}
+use Rattle.std.specs.List.{concat, starts_with}
 use Rattle.std.specs.Io.KnownBytes.{IsAtEnd}
 use Rattle.std.proofs.lemmas.List.{length-take-le}
-use Rattle.fact_store.specs.View.{Facts, view}
+use Rattle.fact_store.specs.View.{Facts}
 use Rattle.fact_store.specs.Merge.{merge}
 use Rattle.record_file.specs.declared.awaited.Awaited.{Awaited}
 use Rattle.record_file.specs.declared.awaited.Awaited.TheVariants as awaited
 use Rattle.record_file.specs.declared.file_fault.FileFault.{FileFault}
-use Rattle.record_file.specs.declared.file_fault.FileFault.TheVariants.{Magic, Truncated, BadReport, BadCell, CellOrder, Memory, Read, TooLong}
+use Rattle.record_file.specs.declared.file_fault.FileFault.TheVariants.{Magic, Truncated, BadReport, BadCell, CellOrder, Memory, Read, TooLong, BadFloor}
 use Rattle.record_file.specs.declared.format.Format.{Format}
 use Rattle.record_file.specs.declared.stream.reading.PieceFault.{PieceFault}
 use Rattle.record_file.specs.declared.stream.reading.PieceFault.TheVariants as piece
 use Rattle.record_file.specs.Absorbs.{AbsorbsFrom, AnswersOutcome, HasNoFaultYet, HoldsKept, IsBounded, IsDecided, WasInterruptedTooOften}
 use Rattle.record_file.specs.Feeding.{Absorbing, Awaits, FeedsPiece, Finishes, StopsWith, WasFed}
-use Rattle.record_file.specs.Laws.{IsBadRecord}
+use Rattle.record_file.specs.Laws.{IsBadPart}
 use Rattle.record_file.specs.PieceFault.{file_fault_of}
 use Rattle.record_file.specs.Reading.{GivesAt, GivesPiece, ReadingState}
-use Rattle.record_file.specs.RecordFile.{kept, magic, outcome, record_size}
-use Rattle.record_file.proofs.Pieces.{fault_in-behind, held-then, kept-short, length-awaits, outcome-cut, outcome-magic, outcome-whole, so_far-late, stays}
-use Rattle.record_file.proofs.Pieces.{takes-part}
+use Rattle.record_file.specs.RecordFile.{facts_in, outcome, record_size}
+use Rattle.record_file.specs.Head.{floored_magic, head_bytes}
+use Rattle.record_file.proofs.Pieces.{fault_in-behind, held-then, held-wanted, length-awaits, nothing-said, outcome-cut, outcome-header, outcome-magic}
+use Rattle.record_file.proofs.Pieces.{outcome-whole, so_far-late, stays}
+use Rattle.record_file.proofs.PieceSteps.{takes-part}
 use Rattle.record_file.proofs.Readings.{HasTaken, IsAnswered-trans, IsFresh, IsWithin, Takes-on, Takes-trans, EachCallTakes-trans, below, counted, most}
 use Rattle.record_file.proofs.Readings.{piece-taken}
 use Rattle.record_file.proofs.Records.{length-wanted, not_at_end}
-use Rattle.record_file.proofs.Stores.{merge-both, merge-nothing}
 
 abbrev pub AbsorbsAt : Result (Unit {0}) FileFault → Facts → Facts → ReadingState → ReadingState → Type 0
 AbsorbsAt answer old new p q = AbsorbsFrom p.left q.left p.interruptions q.interruptions answer old new
@@ -33,17 +35,19 @@ AbsorbsAt answer old new p q = AbsorbsFrom p.left q.left p.interruptions q.inter
 pub record Progress (p q : ReadingState) (a : Absorbing) (old new : Facts) (taken : List ℕ) : Type 0 where
   pub read : HasTaken p q taken
   pub fed : WasFed a taken
-  pub held : new ≡ merge old (view (kept taken))
+  pub held : new ≡ merge old (facts_in taken)
 
 pub nothing-read : (p : ReadingState) (a : Absorbing) (s : Facts) → IsFresh p → WasFed a [] → HasTaken p p [] → Progress p p a s s []
 nothing-read p a s fresh fed read = record {
   read = read;
   fed = fed;
-  held = sym (ap (λ l. merge s (view l)) (kept-short [] (omega arith)) ∙ merge-nothing s);
+  held = sym (nothing-said s);
 }
 
 awaits-no_fault : (w : Awaited) (part fed : List ℕ) → Awaits w part fed → length fed < 2 ^ 40 → HasNoFaultYet fed
-awaits-no_fault awaited.Magic part fed h short = inl (omega (arith, ap length h.0, h.1))
+awaits-no_fault awaited.Magic part fed h short = inl (inl (omega (arith, ap length h.0, h.1)))
+awaits-no_fault awaited.Header part fed h short =
+    inl (inr (ap (λ l. starts_with nat_eq l floored_magic) h.0, omega (arith, ap length h.0, h.1, length-append floored_magic part)))
 awaits-no_fault (awaited.Record format index last) part fed b short =
     let is = fault_in-behind format index last part fed b (omega arith) in inr (format, is.0, is.1)
 
@@ -53,6 +57,7 @@ awaits-no_fault (awaited.Record format index last) part fed b short =
 ends_as : (w : Awaited) (part fed : List ℕ) → Awaits w part fed → length fed < 2 ^ 40
     → (outcome fed ≡ Ok tt) ⊎ ((outcome fed ≡ Err Magic) ⊎ ((offset : ℕ) × (outcome fed ≡ Err (Truncated offset))))
 ends_as awaited.Magic part fed h short = inr (inl (outcome-magic part fed h))
+ends_as awaited.Header part fed h short = inr (inr (8, outcome-header part fed h))
 ends_as (awaited.Record format index last) [] fed b short = inl (outcome-whole format index last [] fed b short refl)
 ends_as (awaited.Record format index last) (x ∷ xs) fed b short = inr (inr (_, outcome-cut format index last (x ∷ xs) fed b short (omega arith)))
 
@@ -118,6 +123,8 @@ absorbs-stopped p q r a old new taken room piece.TooLong g fresh inside h =
 last_byte : (w : Awaited) (part fed bytes : List ℕ) (f : FileFault) (s t : Facts) → Awaits w part fed → length bytes ≡ 1 → length (fed ++ bytes) ≡ 2 ^ 40
     → StopsWith f fed bytes s t → f ≡ TooLong
 last_byte awaited.Magic part fed bytes f s t h one all stops = absurd (omega (arith, length-append fed bytes, ap length h.0, h.1))
+last_byte awaited.Header part fed bytes f s t h one all stops =
+    absurd (omega (arith, length-append fed bytes, ap length h.0, h.1, length-append floored_magic part))
 last_byte (awaited.Record format index last) part fed bytes f s t b one all (inl wants) =
     let m = wants.1 in
     let file_size = length-wanted m.format m.records m.r m.good in
@@ -140,7 +147,8 @@ short_piece a taken bytes f s t fed stops inside alone other =
     let not_full : length (taken ++ bytes) ≡ 2 ^ 40 → ⊥ =
     λ full. other (last_byte fed.awaited a.part taken bytes f s t fed.awaits (alone full) full stops) in omega (arith, not_full)
 
-answers-bad : (f : FileFault) (bytes : List ℕ) (spent : Type 0) → IsBadRecord f → outcome bytes ≡ Err f → AnswersOutcome (Err f) bytes spent
+answers-bad : (f : FileFault) (bytes : List ℕ) (spent : Type 0) → IsBadPart f → outcome bytes ≡ Err f → AnswersOutcome (Err f) bytes spent
+answers-bad BadFloor bytes spent bad h = h
 answers-bad (BadReport i g) bytes spent bad h = h
 answers-bad (BadCell i) bytes spent bad h = h
 answers-bad (CellOrder i) bytes spent bad h = h
@@ -151,7 +159,8 @@ answers-bad Memory bytes spent bad h = absurd bad
 answers-bad TooLong bytes spent bad h = absurd bad
 
 -- and it does not depend on what follows
-decided-bad : (f : FileFault) (bytes : List ℕ) (end : Type 0) → IsBadRecord f → IsDecided (Err f) bytes end
+decided-bad : (f : FileFault) (bytes : List ℕ) (end : Type 0) → IsBadPart f → IsDecided (Err f) bytes end
+decided-bad BadFloor bytes end bad = tt
 decided-bad (BadReport i g) bytes end bad = tt
 decided-bad (BadCell i) bytes end bad = tt
 decided-bad (CellOrder i) bytes end bad = tt
@@ -162,7 +171,8 @@ decided-bad Memory bytes end bad = absurd bad
 decided-bad TooLong bytes end bad = absurd bad
 
 -- nor does it keep what it would for want of memory
-held-bad : (f : FileFault) (old new : Facts) (bytes : List ℕ) → IsBadRecord f → new ≡ merge old (view (kept bytes)) → HoldsKept (Err f) old new bytes
+held-bad : (f : FileFault) (old new : Facts) (bytes : List ℕ) → IsBadPart f → new ≡ merge old (facts_in bytes) → HoldsKept (Err f) old new bytes
+held-bad BadFloor old new bytes bad h = h
 held-bad (BadReport i g) old new bytes bad h = h
 held-bad (BadCell i) old new bytes bad h = h
 held-bad (CellOrder i) old new bytes bad h = h
@@ -173,7 +183,8 @@ held-bad Memory old new bytes bad h = absurd bad
 held-bad TooLong old new bytes bad h = absurd bad
 
 -- and fewer bytes and interruptions came than may
-bounded-bad : (f : FileFault) (n i j : ℕ) → IsBadRecord f → n < 2 ^ 40 → j < 2 ^ 40 + i → IsBounded (Err f) n i j
+bounded-bad : (f : FileFault) (n i j : ℕ) → IsBadPart f → n < 2 ^ 40 → j < 2 ^ 40 + i → IsBounded (Err f) n i j
+bounded-bad BadFloor n k j bad h w = (h, w)
 bounded-bad (BadReport i g) n k j bad h w = (h, w)
 bounded-bad (BadCell i) n k j bad h w = (h, w)
 bounded-bad (CellOrder i) n k j bad h w = (h, w)
@@ -184,14 +195,14 @@ bounded-bad Memory n k j bad h w = absurd bad
 bounded-bad TooLong n k j bad h w = absurd bad
 
 -- it is neither of these
-other-bad : (f g : FileFault) → IsBadRecord f → (IsBadRecord g → ⊥) → f ≡ g → ⊥
-other-bad f g bad not same = let P : FileFault → Type 0 = IsBadRecord in not (subst P same bad)
+other-bad : (f g : FileFault) → IsBadPart f → (IsBadPart g → ⊥) → f ≡ g → ⊥
+other-bad f g bad not same = let P : FileFault → Type 0 = IsBadPart in not (subst P same bad)
 
 behind-length : (format : Format) (records : List (List ℕ)) (r behind : List ℕ)
-    → length (magic format ++ (concat records ++ (r ++ behind))) ≡ length (magic format ++ (concat records ++ r)) + length behind
+    → length (head_bytes format ++ (concat records ++ (r ++ behind))) ≡ length (head_bytes format ++ (concat records ++ r)) + length behind
 behind-length format records r behind =
-    ap length (sym (append_assoc (magic format) (concat records ++ r) behind ∙ ap (λ l. magic format ++ l) (append_assoc (concat records) r behind)))
-    ∙ length-append (magic format ++ (concat records ++ r)) behind
+    ap length (sym (append_assoc (head_bytes format) (concat records ++ r) behind ∙ ap (λ l. head_bytes format ++ l) (append_assoc (concat records) r behind)))
+    ∙ length-append (head_bytes format ++ (concat records ++ r)) behind
 
 -- the next piece is refused
 pub absorbs-refused : (p q r : ReadingState) (a : Absorbing) (old mid new : Facts) (taken : List ℕ) (n : ℕ) (room : List ℕ) (b : Absorbing) (f : FileFault)
@@ -221,11 +232,12 @@ absorbs-refused p q r a old mid new taken n room b f g fresh inside h some least
                 records = w.records;
                 last = w.r;
                 behind = w.behind;
+                sound = w.sound;
                 whole = w.whole;
                 good = w.good;
                 near = let done = w.completed in omega (arith, ap length w.whole, behind-length w.format w.records w.r w.behind, length-append taken bytes, long);
               },
-              w.held ∙ ap (λ x. merge x (view w.told)) g.held ∙ merge-both old (kept taken) w.told ∙ ap (λ l. merge old (view l)) (sym w.more),
+              held-wanted old mid new taken bytes g.held w,
             );
             answered = tt;
             decided = tt;

@@ -1,5 +1,5 @@
 -- What an absorber answers, from what it waits for.
-use Rattle.std.proofs.Common.{◌≡◌, ℕ, ◌+◌, ◌*◌, ◌<◌, ◌^◌, ◌==◌, false, cond, List, [], ◌∷◌, ◌++◌, Result, Ok, Err, length, refl, sym, ap, ◌∙◌, subst, arith}
+use Rattle.std.proofs.Common.{◌≡◌, ℕ, ◌+◌, ◌<◌, ◌^◌, ◌==◌, false, cond, List, [], ◌∷◌, ◌++◌, Result, Ok, Err, length, refl, sym, ap, ◌∙◌, subst, arith}
 use Rattle.std.proofs.lemmas.Bool.Decides.{nat_tests}
 use Rattle.fact_store.specs.View.{Facts}
 use Rattle.record_file.specs.declared.awaited.Awaited.{Awaited}
@@ -7,8 +7,9 @@ use Rattle.record_file.specs.declared.awaited.Awaited.TheVariants as awaited
 use Rattle.record_file.specs.declared.file_fault.FileFault.{FileFault}
 use Rattle.record_file.specs.declared.file_fault.FileFault.TheVariants.{Truncated}
 use Rattle.record_file.specs.Feeding.{Absorbing, Awaits, FeedsBehind, FeedsPiece, Finishes, IsInReach, TakesPiece, WasFed, ending_at}
-use Rattle.record_file.specs.RecordFile.{outcome, record_size}
-use Rattle.record_file.proofs.Pieces.{length-awaits, outcome-cut, outcome-magic, outcome-whole, so_far-none}
+use Rattle.record_file.specs.RecordFile.{outcome}
+use Rattle.record_file.proofs.Records.{bytes_of}
+use Rattle.record_file.proofs.Pieces.{length-awaits, outcome-cut, outcome-header, outcome-magic, outcome-whole, so_far-none}
 
 one_awaited : (a : Absorbing) (w v : Awaited) → a.awaited ≡ Ok w → a.awaited ≡ Ok v → v ≡ w
 one_awaited a w v h k = let e : ◌≡◌ {A = Result Awaited FileFault} (Ok v) (Ok w) = sym k ∙ h in cc
@@ -45,10 +46,11 @@ feeds a b w piece r s t is now reach takes = record {
 
 ends-as : (w : Awaited) (part fed : List ℕ) → Awaits w part fed → length fed < 2 ^ 40 → ending_at w (length part) ≡ outcome fed
 ends-as awaited.Magic part fed h short = sym (outcome-magic part fed h)
+ends-as awaited.Header part fed h short = sym (outcome-header part fed h)
 ends-as (awaited.Record format index last) [] fed b short = sym (outcome-whole format index last [] fed b short refl)
 ends-as (awaited.Record format index last) (x ∷ xs) fed b short =
     let some : length (x ∷ xs) == 0 ≡ false = grind (arith, nat_tests) in
-    ap (λ t. cond t (Ok tt) (Err (Truncated (8 + record_size format * index)))) some
+    ap (λ t. cond t (Ok tt) (Err (Truncated (bytes_of format index)))) some
     ∙ sym (outcome-cut format index last (x ∷ xs) fed b short (omega arith))
 
 pub finishes : (a : Absorbing) (w : Awaited) → a.awaited ≡ Ok w → Finishes a (ending_at w (length a.part))

@@ -1,5 +1,5 @@
--- Exactly the magic with good records behind it is accepted.
-use Rattle.std.proofs.Common.{◌≡◌, ℕ, zero, suc, ◌+◌, ◌-◌, ◌*◌, ◌/◌, ◌%◌, ◌<◌, ◌≤◌, ◌^◌, List, [], ◌∷◌, ◌++◌, Option, None, Some, Result, Ok, Err}
+-- Exactly a head with good records behind it is accepted.
+use Rattle.std.proofs.Common.{◌≡◌, ℕ, zero, suc, ◌+◌, ◌-◌, ◌*◌, ◌/◌, ◌%◌, ◌<◌, ◌≤◌, ◌^◌, List, [], ◌∷◌, ◌++◌, Option, None, Result, Ok, Err}
 use Rattle.std.proofs.Common.{IsOk, length, drop, refl, sym, ap, ◌∙◌, arith, append-nil, length-append, length-drop}
 use Rattle.std.specs.List.{AllByRecursion, concat}
 use Rattle.std.proofs.lemmas.List.{take_all}
@@ -11,11 +11,12 @@ use Rattle.record_file.specs.declared.format.Format.{Format}
 use Rattle.record_file.specs.declared.format.Format.TheVariants.{Reports}
 use Rattle.record_file.specs.Laws.{IsGoodReport, ReportFilesAreAccepted}
 use Rattle.record_file.specs.ReportRecord.{report_judged}
-use Rattle.record_file.specs.RecordFile.{fault_in, fault_or, first_fault, first_records, format_of, magic, of_report, outcome, record_size, records}
+use Rattle.record_file.specs.Head.{IsFormat, format_in, head_bytes, head_size}
+use Rattle.record_file.specs.RecordFile.{fault_in, fault_or, first_fault, first_records, of_report, outcome, record_size, records}
 use Rattle.record_file.specs.RecordFile.{records_in_reach}
 use Rattle.record_file.proofs.Beginnings.{first_records-whole, found, well_found}
-use Rattle.record_file.proofs.Formats.{whole_of}
-use Rattle.record_file.proofs.Records.{AreRecords, Sightings, bytes_of, ending-whole, file, format_of-magic, length-concat, length-file, outcome-part}
+use Rattle.record_file.proofs.Heads.{format_in-head, one_format, whole_drop, whole_of}
+use Rattle.record_file.proofs.Records.{AreRecords, Sightings, bytes_of, ending-whole, file, length-concat, length-file, outcome-part}
 use Rattle.record_file.proofs.Records.{size-positive}
 
 length-first_records : (size n : ℕ) (x : List ℕ) → length (first_records size n x) ≡ n
@@ -42,27 +43,31 @@ records-all size x h =
 
 -- good records and nothing else
 pub record IsFile (format : Format) (bytes : List ℕ) (rs : List (List ℕ)) : Type 0 where
-  pub whole : bytes ≡ magic format ++ concat rs
+  pub sound : IsFormat format
+  pub whole : bytes ≡ head_bytes format ++ concat rs
   pub records : AreRecords (record_size format) rs
   pub good : first_fault format None 0 rs ≡ None
   pub short : length bytes < 2 ^ 40
 
 -- what is accepted is a file of good records
-pub accepted_is_file : (format : Format) (bytes : List ℕ) → format_of bytes ≡ Some format → outcome bytes ≡ Ok tt
-    → (records_in_reach format bytes ≡ records (record_size format) (drop 8 bytes)) × IsFile format bytes (records (record_size format) (drop 8 bytes))
+pub accepted_is_file : (format : Format) (bytes : List ℕ) → format_in bytes ≡ Ok format → outcome bytes ≡ Ok tt
+    → (records_in_reach format bytes ≡ records (record_size format) (drop (head_size format) bytes))
+    × IsFile format bytes (records (record_size format) (drop (head_size format) bytes))
 accepted_is_file format bytes known ok =
     let was = well_found bytes (outcome bytes) (found bytes) ok in
     let w = record_size format in
-    let body = drop 8 bytes in
-    let one : was.0 ≡ format = let same : Some was.0 ≡ Some format = sym was.1 ∙ known in cc in
+    let body = drop (head_size format) bytes in
+    let one : was.0 ≡ format = one_format was.0 format (sym was.1 ∙ known) in
     let none : fault_in format bytes ≡ None = ap (λ f. fault_in f bytes) (sym one) ∙ was.2 in
-    let size : length body ≡ length bytes - 8 = length-drop 8 bytes in
-    let even : length body % w ≡ 0 = ap (λ n. n % w) size ∙ ap (λ f. (length bytes - 8) % record_size f) (sym one) ∙ was.4 in
+    let size : length body ≡ length bytes - head_size format = length-drop (head_size format) bytes in
+    let even : length body % w ≡ 0 = ap (λ n. n % w) size ∙ ap (λ f. (length bytes - head_size f) % record_size f) (sym one) ∙ was.4 in
     let all = records-all w body even in
-    let reach : records_in_reach format bytes ≡ records w body = ap (λ l. records w (drop 8 l)) (take_all (2 ^ 40) bytes (omega (arith, was.3))) in (
+    let reach : records_in_reach format bytes ≡ records w body =
+    ap (λ l. records w (drop (head_size format) l)) (take_all (2 ^ 40) bytes (omega (arith, was.3))) in (
       reach,
       record {
-        whole = whole_of bytes format known ∙ ap (λ l. magic format ++ l) all.1;
+        sound = (whole_of bytes format known).0;
+        whole = whole_drop bytes format known ∙ ap (λ l. head_bytes format ++ l) all.1;
         records = all.0;
         good = ap (first_fault format None 0) (sym reach) ∙ none;
         short = was.3;
@@ -71,17 +76,17 @@ accepted_is_file format bytes known ok =
 
 -- and a file of good records is accepted
 pub file_is_accepted : (format : Format) (bytes : List ℕ) (rs : List (List ℕ)) → IsFile format bytes rs
-    → (format_of bytes ≡ Some format) × (outcome bytes ≡ Ok tt)
+    → (format_in bytes ≡ Ok format) × (outcome bytes ≡ Ok tt)
 file_is_accepted format bytes rs is =
-    let same : bytes ≡ file format rs [] = is.whole ∙ ap (λ l. magic format ++ l) (sym (append-nil (concat rs))) in
+    let same : bytes ≡ file format rs [] = is.whole ∙ ap (λ l. head_bytes format ++ l) (sym (append-nil (concat rs))) in
     let size = length-file format rs [] is.records in
     let sized = ap length same in
     let short = is.short in
     let rest = 2 ^ 40 - bytes_of format (length rs) in (
-      ap format_of is.whole ∙ format_of-magic format (concat rs),
+      ap format_in is.whole ∙ format_in-head format (concat rs) is.sound,
       ap outcome same
-          ∙ outcome-part format rs [] [] is.records (omega arith) is.good (take_all rest [] (omega arith)) (size-positive format)
-          ∙ ending-whole (record_size format) (length rs) (length (file format rs [])) (size-positive format) (omega arith) (omega arith),
+          ∙ outcome-part format is.sound rs [] [] is.records (omega arith) is.good (take_all rest [] (omega arith)) (size-positive format)
+          ∙ ending-whole format (length rs) (length (file format rs [])) (omega arith) (omega arith),
     )
 
 -- reports ---------------------------------------------------------------------------
@@ -111,5 +116,5 @@ accepted bytes = (
       (_, record { whole = file.whole; each = good_reports None 0 _ file.records file.good; short = file.short })),
   (λ file_of.
       let good = faultless None 0 file_of.0 file_of.1.each in
-      file_is_accepted Reports bytes file_of.0 (record { whole = file_of.1.whole; records = good.0; good = good.1; short = file_of.1.short })),
+      file_is_accepted Reports bytes file_of.0 (record { sound = refl; whole = file_of.1.whole; records = good.0; good = good.1; short = file_of.1.short })),
 )

@@ -10,14 +10,17 @@ use Rattle.std.proofs.Math.Nat.{div-add-mod}
 use Rattle.fact_store.specs.View.{Facts}
 use Rattle.fact_store.specs.declared.key.Key.{Key}
 use Rattle.record_file.specs.declared.file_fault.FileFault.{FileFault}
-use Rattle.record_file.specs.declared.file_fault.FileFault.TheVariants.{Magic, Truncated, BadReport, BadCell, CellOrder, Memory, Read, TooLong}
+use Rattle.record_file.specs.declared.file_fault.FileFault.TheVariants.{Magic, Truncated, BadReport, BadCell, CellOrder, Memory, Read, TooLong, BadFloor}
 use Rattle.record_file.specs.declared.format.Format.{Format}
 use Rattle.record_file.specs.Absorbs.{AbsorbsFrom, AnswersOutcome, IsDecided, WasInterruptedTooOften}
-use Rattle.record_file.specs.Laws.{IsBadRecord}
-use Rattle.record_file.specs.RecordFile.{Judgement, ending, fault_first, fault_in, fault_or, first_fault, first_records, format_of, judged, kept}
-use Rattle.record_file.specs.RecordFile.{kept_as, key_in, magic, outcome, outcome_as, record_size, records, records_in_reach, told_by}
-use Rattle.record_file.proofs.Formats.{format-more, judged-bad, whole_of}
-use Rattle.record_file.proofs.Records.{AreRecords, ending-long, first_fault-bad, length-magic, records-concat, size-positive, told_by-bad}
+use Rattle.record_file.specs.Head.{floor_of, format_in, head_size}
+use Rattle.record_file.specs.Laws.{BadPartStays, IsBadPart}
+use Rattle.record_file.specs.RecordFile.{Judgement, ending, fault_first, fault_in, fault_or, first_fault, first_records, floor_as, floor_in, judged, kept}
+use Rattle.record_file.specs.RecordFile.{kept_as, key_in, outcome, outcome_as, record_size, records, records_in_reach, told_by}
+use Rattle.record_file.proofs.Formats.{judged-bad}
+use Rattle.record_file.proofs.Heads.{Begins, begins, format-long, format-more, format-stays, floor_positive, head-short, whole_of}
+use Rattle.record_file.proofs.Heads as head
+use Rattle.record_file.proofs.Records.{AreRecords, ending-long, first_fault-bad, records-concat, size-positive, told_by-bad}
 
 -- the first records, and what stands behind them
 pub first_records-whole : (size n : ℕ) (x : List ℕ) → size * n ≤ length x
@@ -55,148 +58,195 @@ drop-more zero x y h = refl
 drop-more (suc n) [] y h = absurd (omega arith)
 drop-more (suc n) (b ∷ x) y h = drop-more n x y (omega arith)
 
-pub records_in_reach-more : (format : Format) (a rest : List ℕ) → 8 ≤ length a
+pub records_in_reach-more : (format : Format) (a rest : List ℕ) → head_size format ≤ length a
     → (more : List (List ℕ)) × (records_in_reach format (a ++ rest) ≡ records_in_reach format a ++ more)
 records_in_reach-more format a rest long =
     let w = record_size format in
+    let n = head_size format in
+    let small = head-short format in
     let cut = take-more (2 ^ 40) a rest in
-    let fits : 8 ≤ length (take (2 ^ 40) a) = omega (arith, length-take (2 ^ 40) a) in
-    let dropped = drop-more 8 (take (2 ^ 40) a) cut.0 fits in
-    let both = records-more w (drop 8 (take (2 ^ 40) a)) cut.0 (size-positive format) in
-    (both.0, ap (λ l. records w (drop 8 l)) cut.1 ∙ ap (records w) dropped ∙ both.1)
+    let fits : n ≤ length (take (2 ^ 40) a) = omega (arith, small.1, length-take (2 ^ 40) a) in
+    let dropped = drop-more n (take (2 ^ 40) a) cut.0 fits in
+    let both = records-more w (drop n (take (2 ^ 40) a)) cut.0 (size-positive format) in
+    (both.0, ap (λ l. records w (drop n l)) cut.1 ∙ ap (records w) dropped ∙ both.1)
 
 -- the first fault of records is one of a bad record
 fault_or-bad : (v : Judgement) (i : ℕ) (later : Option FileFault) (e : FileFault) → fault_or i v later ≡ Some e
-    → ((f : ℕ → FileFault) → v ≡ Err f → IsBadRecord (f i)) → (later ≡ Some e → IsBadRecord e) → IsBadRecord e
+    → ((f : ℕ → FileFault) → v ≡ Err f → IsBadPart (f i)) → (later ≡ Some e → IsBadPart e) → IsBadPart e
 fault_or-bad (Ok told) i later e h bad k = k h
-fault_or-bad (Err f) i later e h bad k = let same : f i ≡ e = cc in let P : FileFault → Type 0 = IsBadRecord in subst P same (bad f refl)
+fault_or-bad (Err f) i later e h bad k = let same : f i ≡ e = cc in let P : FileFault → Type 0 = IsBadPart in subst P same (bad f refl)
 
-first_fault-is_bad : (format : Format) (last : Option Key) (i : ℕ) (rs : List (List ℕ)) (e : FileFault) → first_fault format last i rs ≡ Some e → IsBadRecord e
+first_fault-is_bad : (format : Format) (last : Option Key) (i : ℕ) (rs : List (List ℕ)) (e : FileFault) → first_fault format last i rs ≡ Some e → IsBadPart e
 first_fault-is_bad format last i [] e h = absurd (cc)
 first_fault-is_bad format last i (r ∷ rs) e h =
     fault_or-bad (judged format last r) i (first_fault format (key_in format r) (i + 1) rs) e h (λ f bad. judged-bad format last r f i bad)
     (λ later. first_fault-is_bad format (key_in format r) (i + 1) rs e later)
 
 -- good records end well, within a record, or too late
-pub data Ends (w size : ℕ) : Result (Unit {0}) FileFault → Type 0 where
-  well : size < 2 ^ 40 → (size - 8) % w ≡ 0 → Ends w size (Ok tt)
-  within : (offset : ℕ) → Ends w size (Err (Truncated offset))
-  late : 2 ^ 40 ≤ size → Ends w size (Err TooLong)
+pub data Ends (format : Format) (size : ℕ) : Result (Unit {0}) FileFault → Type 0 where
+  well : size < 2 ^ 40 → (size - head_size format) % record_size format ≡ 0 → Ends format size (Ok tt)
+  within : (offset : ℕ) → Ends format size (Err (Truncated offset))
+  late : 2 ^ 40 ≤ size → Ends format size (Err TooLong)
 
-ends_by : (w size : ℕ) (b c : Bool) (offset : ℕ) → (b ≡ true → 2 ^ 40 ≤ size) → (b ≡ false → size < 2 ^ 40) → (c ≡ true → (size - 8) % w ≡ 0)
-    → Ends w size (cond b (Err TooLong) (cond c (Ok tt) (Err (Truncated offset))))
-ends_by w size true c offset h k even = late (h refl)
-ends_by w size false true offset h k even = well (k refl) (even refl)
-ends_by w size false false offset h k even = within offset
+ends_by : (format : Format) (size : ℕ) (b c : Bool) (offset : ℕ) → (b ≡ true → 2 ^ 40 ≤ size) → (b ≡ false → size < 2 ^ 40)
+    → (c ≡ true → (size - head_size format) % record_size format ≡ 0)
+    → Ends format size (cond b (Err TooLong) (cond c (Ok tt) (Err (Truncated offset))))
+ends_by format size true c offset h k even = late (h refl)
+ends_by format size false true offset h k even = well (k refl) (even refl)
+ends_by format size false false offset h k even = within offset
 
-ends : (w size : ℕ) → Ends w size (ending w size)
+ends : (format : Format) (size : ℕ) → Ends format size (ending format size)
 unfolding ending
-ends w size =
-    ends_by w size (nat_le (2 ^ 40) size) ((size - 8) % w == 0) (8 + w * ((size - 8) / w))
+ends format size =
+    let behind = size - head_size format in
+    let w = record_size format in
+    ends_by format size (nat_le (2 ^ 40) size) (behind % w == 0) (head_size format + w * (behind / w))
     (λ h. grind (arith, nat_tests)) (λ h. grind (arith, nat_tests)) (λ h. grind (arith, nat_tests))
 
 -- what the outcome of bytes says of them
 pub data Found (a : List ℕ) : Result (Unit {0}) FileFault → Type 0 where
-  other : format_of a ≡ None → Found a (Err Magic)
-  bad : (format : Format) → format_of a ≡ Some format → (f : FileFault) → IsBadRecord f → fault_in format a ≡ Some f → Found a (Err f)
-  ended : (format : Format) → format_of a ≡ Some format → fault_in format a ≡ None → (e : Result (Unit {0}) FileFault) → Ends (record_size format) (length a) e
-      → Found a e
+  other : format_in a ≡ Err Magic → ((rest : List ℕ) → 8 ≤ length a → format_in (a ++ rest) ≡ Err Magic) → Found a (Err Magic)
+  cut : format_in a ≡ Err (Truncated 8) → Found a (Err (Truncated 8))
+  unfloored : format_in a ≡ Err BadFloor → 16 ≤ length a → Found a (Err BadFloor)
+  bad : (format : Format) → format_in a ≡ Ok format → (f : FileFault) → IsBadPart f → fault_in format a ≡ Some f → Found a (Err f)
+  ended : (format : Format) → format_in a ≡ Ok format → fault_in format a ≡ None → (e : Result (Unit {0}) FileFault) → Ends format (length a) e → Found a e
 
-pub outcome-other : (a : List ℕ) → format_of a ≡ None → outcome a ≡ Err Magic
+pub outcome-fault : (a : List ℕ) (f : FileFault) → format_in a ≡ Err f → outcome a ≡ Err f
 unfolding outcome
-outcome-other a h = ap (λ o. outcome_as o a) h
+outcome-fault a f h = ap (λ o. outcome_as o a) h
 
-pub outcome-some : (format : Format) (a : List ℕ) → format_of a ≡ Some format → outcome a ≡ fault_first (fault_in format a) (ending (record_size format) (length a))
+pub kept-fault : (a : List ℕ) (f : FileFault) → format_in a ≡ Err f → kept a ≡ []
+unfolding kept
+kept-fault a f h = ap (λ o. kept_as o a) h
+
+pub floor-fault : (a : List ℕ) (f : FileFault) → format_in a ≡ Err f → floor_in a ≡ 1
+unfolding floor_in
+floor-fault a f h = ap floor_as h
+
+pub outcome-some : (format : Format) (a : List ℕ) → format_in a ≡ Ok format → outcome a ≡ fault_first (fault_in format a) (ending format (length a))
 unfolding outcome
 outcome-some format a h = ap (λ o. outcome_as o a) h
 
-pub kept-some : (format : Format) (a : List ℕ) → format_of a ≡ Some format → kept a ≡ told_by format None (records_in_reach format a)
+pub kept-some : (format : Format) (a : List ℕ) → format_in a ≡ Ok format → kept a ≡ told_by format None (records_in_reach format a)
 unfolding kept
 kept-some format a h = ap (λ o. kept_as o a) h
 
-found_first : (format : Format) (a : List ℕ) → format_of a ≡ Some format → (o : Option FileFault) → fault_in format a ≡ o
-    → Found a (fault_first o (ending (record_size format) (length a)))
-found_first format a h None none = ended format h none (ending (record_size format) (length a)) (ends (record_size format) (length a))
+pub floor-some : (format : Format) (a : List ℕ) → format_in a ≡ Ok format → floor_in a ≡ floor_of format
+unfolding floor_in
+floor-some format a h = ap floor_as h
+
+-- so neither depends on what follows
+pub floor-known : (format : Format) (a rest : List ℕ) → format_in a ≡ Ok format → floor_in (a ++ rest) ≡ floor_in a
+floor-known format a rest h = floor-some format (a ++ rest) (format-stays a rest format h) ∙ sym (floor-some format a h)
+
+-- a floor that is not 1 was told, and stays
+pub floor-stays : (a rest : List ℕ) → (floor_in a ≡ 1 → ⊥) → floor_in (a ++ rest) ≡ floor_in a
+floor-stays a rest told =
+    elim (format_in a) as (λ o. format_in a ≡ o → floor_in (a ++ rest) ≡ floor_in a) [
+      | Ok format ↦ λ h. floor-known format a rest h
+      | Err f ↦ λ h. absurd (told (floor-fault a f h))
+    ] refl
+
+-- a floor is 1 at least
+pub floor-at_least_one : (a : List ℕ) → 1 ≤ floor_in a
+floor-at_least_one a =
+    elim (format_in a) as (λ o. format_in a ≡ o → 1 ≤ floor_in a) [
+      | Ok format ↦ λ h. omega (arith, floor-some format a h, floor_positive format (whole_of a format h).0)
+      | Err f ↦ λ h. omega (arith, floor-fault a f h)
+    ] refl
+
+found_first : (format : Format) (a : List ℕ) → format_in a ≡ Ok format → (o : Option FileFault) → fault_in format a ≡ o
+    → Found a (fault_first o (ending format (length a)))
+found_first format a h None none = ended format h none (ending format (length a)) (ends format (length a))
 found_first format a h (Some f) some = bad format h f (first_fault-is_bad format None 0 (records_in_reach format a) f some) some
 
-found_by : (a : List ℕ) (o : Option Format) → format_of a ≡ o → Found a (outcome a)
-found_by a (Some format) h =
+found_fault : (a : List ℕ) (f : FileFault) → format_in a ≡ Err f → Found a (Err f) → Found a (outcome a)
+found_fault a f h is = let P : Result (Unit {0}) FileFault → Type 0 = Found a in subst P (sym (outcome-fault a f h)) is
+
+found_by : (a : List ℕ) (o : Result Format FileFault) → format_in a ≡ o → Begins a o → Found a (outcome a)
+found_by a _ h (head.whole format sound rest is) =
     let P : Result (Unit {0}) FileFault → Type 0 = Found a in subst P (sym (outcome-some format a h)) (found_first format a h (fault_in format a) refl)
-found_by a None h = let P : Result (Unit {0}) FileFault → Type 0 = Found a in subst P (sym (outcome-other a h)) (other h)
+found_by a _ h (head.other more) = found_fault a Magic h (other h more)
+found_by a _ h (head.cut part is short) = found_fault a (Truncated 8) h (cut h)
+found_by a _ h (head.unfloored long) = found_fault a BadFloor h (unfloored h long)
 
 pub found : (a : List ℕ) → Found a (outcome a)
-found a = found_by a (format_of a) refl
+found a = found_by a (format_in a) refl (begins a)
 
--- a bad record's fault is no other
-not_bad : (f g : FileFault) → IsBadRecord f → f ≡ g → (IsBadRecord g → ⊥) → ⊥
-not_bad f g is same refused = let P : FileFault → Type 0 = IsBadRecord in refused (subst P same is)
+-- a bad part's fault is no other
+not_bad : (f g : FileFault) → IsBadPart f → f ≡ g → (IsBadPart g → ⊥) → ⊥
+not_bad f g is same refused = let P : FileFault → Type 0 = IsBadPart in refused (subst P same is)
 
-other_found : (a : List ℕ) (o : Result (Unit {0}) FileFault) → Found a o → o ≡ Err Magic → format_of a ≡ None
-other_found a _ (other h) e = h
+other_found : (a : List ℕ) (o : Result (Unit {0}) FileFault) → Found a o → o ≡ Err Magic → (rest : List ℕ) → 8 ≤ length a → format_in (a ++ rest) ≡ Err Magic
+other_found a _ (other h more) e = more
+other_found a _ (cut h) e = absurd (cc)
+other_found a _ (unfloored h long) e = absurd (cc)
 other_found a _ (bad format h f is_bad some) e = absurd (not_bad f Magic is_bad (cc) (λ no. no))
 other_found a _ (ended format h none _ (well short even)) e = absurd (cc)
 other_found a _ (ended format h none _ (within offset)) e = absurd (cc)
 other_found a _ (ended format h none _ (late long)) e = absurd (cc)
 
-bad_found : (a : List ℕ) (o : Result (Unit {0}) FileFault) (f : FileFault) → Found a o → o ≡ Err f → IsBadRecord f
-    → (format : Format) × (format_of a ≡ Some format) × (fault_in format a ≡ Some f)
-bad_found a _ f (other h) e is_bad = absurd (not_bad f Magic is_bad (cc) (λ no. no))
-bad_found a _ f (bad format h g g_bad some) e is_bad = (format, h, cc)
+-- a header that is none, or a bad record
+pub data Bad (a : List ℕ) (f : FileFault) : Type 0 where
+  of_header : f ≡ BadFloor → format_in a ≡ Err BadFloor → 16 ≤ length a → Bad a f
+  of_record : (format : Format) → format_in a ≡ Ok format → fault_in format a ≡ Some f → Bad a f
+
+bad_found : (a : List ℕ) (o : Result (Unit {0}) FileFault) (f : FileFault) → Found a o → o ≡ Err f → IsBadPart f → Bad a f
+bad_found a _ f (other h more) e is_bad = absurd (not_bad f Magic is_bad (cc) (λ no. no))
+bad_found a _ f (cut h) e is_bad = absurd (not_bad f (Truncated 8) is_bad (cc) (λ no. no))
+bad_found a _ f (unfloored h long) e is_bad = of_header (cc) h long
+bad_found a _ f (bad format h g g_bad some) e is_bad = of_record format h (cc)
 bad_found a _ f (ended format h none _ (well short even)) e is_bad = absurd (cc)
 bad_found a _ f (ended format h none _ (within offset)) e is_bad = absurd (not_bad f (Truncated offset) is_bad (cc) (λ no. no))
 bad_found a _ f (ended format h none _ (late long)) e is_bad = absurd (not_bad f TooLong is_bad (cc) (λ no. no))
 
 pub late_found : (a : List ℕ) (o : Result (Unit {0}) FileFault) → Found a o → o ≡ Err TooLong
-    → (format : Format) × (format_of a ≡ Some format) × (fault_in format a ≡ None) × (2 ^ 40 ≤ length a)
-late_found a _ (other h) e = absurd (cc)
+    → (format : Format) × (format_in a ≡ Ok format) × (fault_in format a ≡ None) × (2 ^ 40 ≤ length a)
+late_found a _ (other h more) e = absurd (cc)
+late_found a _ (cut h) e = absurd (cc)
+late_found a _ (unfloored h long) e = absurd (cc)
 late_found a _ (bad format h f is_bad some) e = absurd (not_bad f TooLong is_bad (cc) (λ no. no))
 late_found a _ (ended format h none _ (well short even)) e = absurd (cc)
 late_found a _ (ended format h none _ (within offset)) e = absurd (cc)
 late_found a _ (ended format h none _ (late long)) e = (format, h, none, long)
 
 pub well_found : (a : List ℕ) (o : Result (Unit {0}) FileFault) → Found a o → o ≡ Ok tt
-    → (format : Format) × (format_of a ≡ Some format) × (fault_in format a ≡ None) × (length a < 2 ^ 40) × ((length a - 8) % record_size format ≡ 0)
-well_found a _ (other h) e = absurd (cc)
+    → (format : Format) × (format_in a ≡ Ok format) × (fault_in format a ≡ None) × (length a < 2 ^ 40)
+    × ((length a - head_size format) % record_size format ≡ 0)
+well_found a _ (other h more) e = absurd (cc)
+well_found a _ (cut h) e = absurd (cc)
+well_found a _ (unfloored h long) e = absurd (cc)
 well_found a _ (bad format h f is_bad some) e = absurd (cc)
 well_found a _ (ended format h none _ (well short even)) e = (format, h, none, short, even)
 well_found a _ (ended format h none _ (within offset)) e = absurd (cc)
 well_found a _ (ended format h none _ (late long)) e = absurd (cc)
 
-pub kept-other : (a : List ℕ) → format_of a ≡ None → kept a ≡ []
-unfolding kept
-kept-other a h = ap (λ o. kept_as o a) h
-
-pub format-long : (format : Format) (a : List ℕ) → format_of a ≡ Some format → 8 ≤ length a
-format-long format a h =
-    let whole = whole_of a format h in
-    let size : length a ≡ 8 + length (drop 8 a) = ap length whole ∙ length-append (magic format) (drop 8 a)
-    ∙ ap (λ n. n + length (drop 8 a)) (length-magic format) in omega arith
-
 pub magic-stays : (a rest : List ℕ) → 8 ≤ length a → outcome a ≡ Err Magic → outcome (a ++ rest) ≡ Err Magic
-magic-stays a rest long h = outcome-other (a ++ rest) (format-more a rest long ∙ other_found a (outcome a) (found a) h)
+magic-stays a rest long h = outcome-fault (a ++ rest) Magic (other_found a (outcome a) (found a) h rest long)
 
-pub bad-stays : (a rest : List ℕ) (f : FileFault) → IsBadRecord f → outcome a ≡ Err f → outcome (a ++ rest) ≡ Err f
-bad-stays a rest f is_bad h =
-    let was = bad_found a (outcome a) f (found a) h is_bad in
-    let format = was.0 in
-    let long = format-long format a was.1 in
-    let more = records_in_reach-more format a rest long in
-    let e = ending (record_size format) (length (a ++ rest)) in
-    outcome-some format (a ++ rest) (format-more a rest long ∙ was.1)
+bad_stays_by : (a rest : List ℕ) (f : FileFault) → Bad a f → outcome (a ++ rest) ≡ Err f
+bad_stays_by a rest f (of_header is h long) = outcome-fault (a ++ rest) BadFloor (format-more a rest long ∙ h) ∙ ap (λ g. Err g) (sym is)
+bad_stays_by a rest f (of_record format h some) =
+    let more = records_in_reach-more format a rest (format-long a format h) in
+    let e = ending format (length (a ++ rest)) in
+    outcome-some format (a ++ rest) (format-stays a rest format h)
     ∙ ap (λ rs. fault_first (first_fault format None 0 rs) e) more.1
-    ∙ ap (λ o. fault_first o e) (first_fault-bad format None 0 (records_in_reach format a) more.0 f was.2)
+    ∙ ap (λ o. fault_first o e) (first_fault-bad format None 0 (records_in_reach format a) more.0 f some)
+
+pub bad-stays : (a rest : List ℕ) (f : FileFault) → IsBadPart f → outcome a ≡ Err f → outcome (a ++ rest) ≡ Err f
+bad-stays a rest f is_bad h = bad_stays_by a rest f (bad_found a (outcome a) f (found a) h is_bad)
 
 pub long-stays : (a rest : List ℕ) → outcome a ≡ Err TooLong → outcome (a ++ rest) ≡ Err TooLong
 long-stays a rest h =
     let was = late_found a (outcome a) (found a) h in
     let format = was.0 in
     let w = record_size format in
-    let cut = take-append-le (2 ^ 40) a rest was.3 in
-    let e = ending w (length (a ++ rest)) in
-    outcome-some format (a ++ rest) (format-more a rest (format-long format a was.1) ∙ was.1)
-    ∙ ap (λ l. fault_first (first_fault format None 0 (records w (drop 8 l))) e) cut
+    let cut_off = take-append-le (2 ^ 40) a rest was.3 in
+    let e = ending format (length (a ++ rest)) in
+    outcome-some format (a ++ rest) (format-stays a rest format was.1)
+    ∙ ap (λ l. fault_first (first_fault format None 0 (records w (drop (head_size format) l))) e) cut_off
     ∙ ap (λ o. fault_first o e) was.2
-    ∙ ending-long w (length (a ++ rest)) (omega (arith, length-append a rest, was.3))
+    ∙ ending-long format (length (a ++ rest)) (omega (arith, length-append a rest, was.3))
 
 magic_answers : (taken rest : List ℕ) → (length taken < 8 → rest ≡ []) → outcome taken ≡ Err Magic → (length taken < 8) ⊎ (8 ≤ length taken)
     → outcome (taken ++ rest) ≡ Err Magic
@@ -213,6 +263,7 @@ answers_all (Err (Truncated offset)) taken rest spent h end = ap outcome (ap (λ
 answers_all (Err (BadReport i f)) taken rest spent h end = bad-stays taken rest (BadReport i f) tt h
 answers_all (Err (BadCell i)) taken rest spent h end = bad-stays taken rest (BadCell i) tt h
 answers_all (Err (CellOrder i)) taken rest spent h end = bad-stays taken rest (CellOrder i) tt h
+answers_all (Err BadFloor) taken rest spent h end = bad-stays taken rest BadFloor tt h
 answers_all (Err Read) taken rest spent h end = tt
 answers_all (Err Memory) taken rest spent h end = tt
 answers_all (Err TooLong) taken rest spent h end = elim h [ inl long ↦ inl (long-stays taken rest long) | inr calls ↦ inr calls ]
@@ -225,6 +276,7 @@ answers-weaker (Err (Truncated offset)) bytes p q f h = h
 answers-weaker (Err (BadReport i g)) bytes p q f h = h
 answers-weaker (Err (BadCell i)) bytes p q f h = h
 answers-weaker (Err (CellOrder i)) bytes p q f h = h
+answers-weaker (Err BadFloor) bytes p q f h = h
 answers-weaker (Err Read) bytes p q f h = h
 answers-weaker (Err Memory) bytes p q f h = h
 answers-weaker (Err TooLong) bytes p q f h = elim h [ inl long ↦ inl long | inr calls ↦ inr (f calls) ]
@@ -242,21 +294,31 @@ answers-known answer old new (Some bytes) (Some rest) n m h =
     (λ e. omega (arith, length-append taken rest))
     (answers_all answer taken rest (WasInterruptedTooOften taken [] n m) h.answered h.decided))
 
-pub kept-stays : (a rest : List ℕ) (f : FileFault) → IsBadRecord f → outcome a ≡ Err f → kept (a ++ rest) ≡ kept a
-kept-stays a rest f is_bad h =
-    let was = bad_found a (outcome a) f (found a) h is_bad in
-    let format = was.0 in
-    let long = format-long format a was.1 in
-    let more = records_in_reach-more format a rest long in
-    kept-some format (a ++ rest) (format-more a rest long ∙ was.1)
+kept_stays_by : (a rest : List ℕ) (f : FileFault) → Bad a f → kept (a ++ rest) ≡ kept a
+kept_stays_by a rest f (of_header is h long) = kept-fault (a ++ rest) BadFloor (format-more a rest long ∙ h) ∙ sym (kept-fault a BadFloor h)
+kept_stays_by a rest f (of_record format h some) =
+    let more = records_in_reach-more format a rest (format-long a format h) in
+    kept-some format (a ++ rest) (format-stays a rest format h)
     ∙ ap (told_by format None) more.1
-    ∙ told_by-bad format None 0 (records_in_reach format a) more.0 f was.2
-    ∙ sym (kept-some format a was.1)
+    ∙ told_by-bad format None 0 (records_in_reach format a) more.0 f some
+    ∙ sym (kept-some format a h)
+
+floor_stays_by : (a rest : List ℕ) (f : FileFault) → Bad a f → floor_in (a ++ rest) ≡ floor_in a
+floor_stays_by a rest f (of_header is h long) = floor-fault (a ++ rest) BadFloor (format-more a rest long ∙ h) ∙ sym (floor-fault a BadFloor h)
+floor_stays_by a rest f (of_record format h some) = floor-known format a rest h
+
+pub bad_part_stays : BadPartStays
+bad_part_stays a rest f is_bad h =
+    let was = bad_found a (outcome a) f (found a) h is_bad in
+    record { outcome_stays = bad_stays_by a rest f was; kept_stays = kept_stays_by a rest f was; floor_stays = floor_stays_by a rest f was }
 
 pub kept-long : (a rest : List ℕ) → outcome a ≡ Err TooLong → kept (a ++ rest) ≡ kept a
 kept-long a rest h =
     let was = late_found a (outcome a) (found a) h in
     let format = was.0 in
-    kept-some format (a ++ rest) (format-more a rest (format-long format a was.1) ∙ was.1)
-    ∙ ap (λ l. told_by format None (records (record_size format) (drop 8 l))) (take-append-le (2 ^ 40) a rest was.3)
+    kept-some format (a ++ rest) (format-stays a rest format was.1)
+    ∙ ap (λ l. told_by format None (records (record_size format) (drop (head_size format) l))) (take-append-le (2 ^ 40) a rest was.3)
     ∙ sym (kept-some format a was.1)
+
+pub floor-long : (a rest : List ℕ) → outcome a ≡ Err TooLong → floor_in (a ++ rest) ≡ floor_in a
+floor-long a rest h = let was = late_found a (outcome a) (found a) h in floor-known was.0 a rest was.1

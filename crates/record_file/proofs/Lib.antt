@@ -6,8 +6,10 @@ pub mod Bytes
 pub mod Cells
 pub mod Faults
 pub mod Formats
+pub mod Heads
 pub mod ReadWhole
 pub mod PieceLaws
+pub mod PieceSteps
 pub mod Pieces
 pub mod Readings
 pub mod Records

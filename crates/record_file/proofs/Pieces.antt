@@ -1,67 +1,75 @@
 -- What pieces of a file do, one after the other.
-use Rattle.std.proofs.Common.{◌≡◌, ◌⊎◌, inl, inr, ℕ, ◌+◌, ◌-◌, ◌*◌, ◌<◌, ◌≤◌, ◌^◌, ◌==◌, nat_lt, cond, Bool, true, false, List, [], ◌∷◌, ◌++◌, Option, None, Some}
-use Rattle.std.proofs.Common.{Result, Ok, Err, IfOk, length, take, drop, refl, sym, ap, ◌∙◌, subst, arith, append_assoc, append-nil, length-append, length-drop, take-append-drop}
+use Rattle.std.proofs.Common.{◌≡◌, ◌⊎◌, inl, inr, max, ℕ, ◌+◌, ◌-◌, ◌<◌, ◌≤◌, ◌^◌, ◌==◌, nat_lt, cond, Bool, true, false, List, [], ◌∷◌, ◌++◌, Option, None, Some}
+use Rattle.std.proofs.Common.{Result, Ok, Err, length, refl, sym, ap, ◌∙◌, subst, arith, append_assoc, length-append}
 use Rattle.std.specs.List.{concat}
-use Rattle.std.proofs.lemmas.List.{length-take-le, take_all, take_rest}
+use Rattle.std.proofs.lemmas.List.{take_all}
 use Rattle.std.proofs.lemmas.Bool.Decides.{nat_tests}
-use Rattle.fact_store.specs.View.{Facts, view}
+use Rattle.fact_store.specs.View.{Facts, view_at}
 use Rattle.fact_store.specs.Merge.{merge}
 use Rattle.fact_store.specs.declared.key.Key.{Key}
 use Rattle.record_file.specs.declared.awaited.Awaited.{Awaited}
 use Rattle.record_file.specs.declared.awaited.Awaited.TheVariants as awaited
 use Rattle.record_file.specs.declared.file_fault.FileFault.{FileFault}
-use Rattle.record_file.specs.declared.file_fault.FileFault.TheVariants.{Magic, Truncated, BadReport, BadCell, CellOrder, Read, Memory, TooLong}
+use Rattle.record_file.specs.declared.file_fault.FileFault.TheVariants.{Magic, Truncated, BadReport, BadCell, CellOrder, Read, Memory, TooLong, BadFloor}
 use Rattle.record_file.specs.declared.format.Format.{Format}
-use Rattle.record_file.specs.Absorbs.{AbsorbsJudged, HasNoFaultYet}
-use Rattle.record_file.specs.Feeding.{AddsTold, Awaits, IsBehindRecords, StopsWith, TakesAwaited, TakesPiece, TakesSome, TakesTo, WantsMemory}
-use Rattle.record_file.specs.Feeding.{awaited_size, behind_magic, fault_so_far, place_of, staying}
-use Rattle.record_file.specs.Laws.{IsBadRecord}
-use Rattle.record_file.specs.RecordFile.{Judgement, ending, fault_in, fault_or, first_fault, format_of, judged, kept, key_in, last_key, magic, outcome, record_size}
-use Rattle.record_file.specs.RecordFile.{told_by, told_then}
-use Rattle.record_file.proofs.Beginnings.{Ends, Found, bad-stays, format-long, found, kept-long, kept-other, kept-stays, late, long-stays, magic-stays, outcome-other}
-use Rattle.record_file.proofs.Beginnings.{well, within}
+use Rattle.record_file.specs.Absorbs.{HasNoFaultYet}
+use Rattle.record_file.specs.Feeding.{AddsTold, Awaits, IsBehindRecords, StopsWith, TakesTo, WantsMemory}
+use Rattle.record_file.specs.Feeding.{fault_so_far, floor_behind, place_of, staying}
+use Rattle.record_file.specs.Head.{floor_of, floored_magic, format_in, head_bytes}
+use Rattle.record_file.specs.Laws.{IsBadPart}
+use Rattle.record_file.specs.RecordFile.{ending, facts_in, fault_in, floor_in, kept, outcome}
+use Rattle.record_file.specs.RecordFile.{told_by}
+use Rattle.record_file.proofs.Beginnings.{Found, bad_part_stays, floor-at_least_one, floor-fault, floor-known, floor-long, floor-some, floor-stays, found}
+use Rattle.record_file.proofs.Beginnings.{kept-fault, kept-long, late, long-stays, outcome-fault, well, within}
 use Rattle.record_file.proofs.Beginnings as first
-use Rattle.record_file.proofs.Formats.{format-more, front-magic, format_found, judged-bad}
-use Rattle.record_file.proofs.Records.{AreRecords-more, Sightings, bytes-more, bytes_of, ending-long, ending-part, ending-whole, fault_in-part, file, file-record}
-use Rattle.record_file.proofs.Records.{format_of-magic}
-use Rattle.record_file.proofs.Records.{first_fault-good, good-more, good_records, kept-bad, kept-part, last_key-more, length-file, length-more}
-use Rattle.record_file.proofs.Records.{outcome-bad, outcome-part, size-positive, told_by-good}
-use Rattle.record_file.proofs.Stores.{merge-both, merge-nothing}
+use Rattle.record_file.proofs.Heads.{begins, format_in-head, head-cut, head-early}
+use Rattle.record_file.proofs.Heads as head
+use Rattle.record_file.proofs.Records.{bytes_of, ending-long, ending-part, ending-whole, fault_in-part}
+use Rattle.record_file.proofs.Records.{good_records, kept-part, length-file}
+use Rattle.record_file.proofs.Records.{outcome-part}
+use Rattle.record_file.proofs.Stores.{merge-floors, merge-nothing}
 
 -- bytes without a fault ----------------------------------------------------------------
 
-format-short : (bytes : List ℕ) → length bytes < 8 → format_of bytes ≡ None
-format-short bytes short =
-    elim (format_of bytes) as (λ o. format_of bytes ≡ o → o ≡ None) [
-      | None ↦ λ h. refl
-      | Some format ↦ λ h. let long = format-long format bytes h in absurd (omega arith)
-    ] refl
-
 pub kept-short : (bytes : List ℕ) → length bytes < 8 → kept bytes ≡ []
-kept-short bytes short = kept-other bytes (format-short bytes short)
+kept-short bytes short = kept-fault bytes Magic (head-early bytes short)
+
+pub floor-short : (bytes : List ℕ) → length bytes < 8 → floor_in bytes ≡ 1
+floor-short bytes short = floor-fault bytes Magic (head-early bytes short)
+
+-- no bytes say nothing
+pub nothing-said : (s : Facts) → merge s (facts_in []) ≡ s
+nothing-said s =
+    ap (λ l. merge s (view_at (floor_in []) l)) (kept-short [] (omega arith)) ∙ ap (λ n. merge s (view_at n [])) (floor-short [] (omega arith)) ∙ merge-nothing s
 
 module _ (format : Format) (index : ℕ) (last : Option Key) (part fed : List ℕ) (b : IsBehindRecords format index last part fed) where
   pub length-behind : length fed ≡ bytes_of format (length b.records) + length part
   length-behind = ap length b.whole ∙ length-file format b.records part (good_records format None 0 b.records b.good).0
 
-  kept-behind : length fed ≤ 2 ^ 40 → kept fed ≡ told_by format None b.records
+  pub kept-behind : length fed ≤ 2 ^ 40 → kept fed ≡ told_by format None b.records
   kept-behind fits =
       let size = length-behind in
-      ap kept b.whole ∙ kept-part format b.records part part (good_records format None 0 b.records b.good).0 (omega arith)
+      ap kept b.whole ∙ kept-part format b.sound b.records part part (good_records format None 0 b.records b.good).0 (omega arith)
       (take_all (2 ^ 40 - bytes_of format (length b.records)) part (omega arith)) b.short
 
-  outcome-behind : length fed ≤ 2 ^ 40 → outcome fed ≡ ending (record_size format) (length fed)
+  pub outcome-behind : length fed ≤ 2 ^ 40 → outcome fed ≡ ending format (length fed)
   outcome-behind fits =
       let size = length-behind in
       let good = good_records format None 0 b.records b.good in
-      ap outcome b.whole ∙ outcome-part format b.records part part good.0 (omega arith) good.1
-      (take_all (2 ^ 40 - bytes_of format (length b.records)) part (omega arith)) b.short ∙ ap (λ l. ending (record_size format) (length l)) (sym b.whole)
+      ap outcome b.whole ∙ outcome-part format b.sound b.records part part good.0 (omega arith) good.1
+      (take_all (2 ^ 40 - bytes_of format (length b.records)) part (omega arith)) b.short ∙ ap (λ l. ending format (length l)) (sym b.whole)
 
-  pub fault_in-behind : length fed ≤ 2 ^ 40 → (format_of fed ≡ Some format) × (fault_in format fed ≡ None)
+  pub format-behind : format_in fed ≡ Ok format
+  format-behind = ap format_in b.whole ∙ format_in-head format (concat b.records ++ part) b.sound
+
+  floor-of_behind : floor_in fed ≡ floor_of format
+  floor-of_behind = floor-some format fed format-behind
+
+  pub fault_in-behind : length fed ≤ 2 ^ 40 → (format_in fed ≡ Ok format) × (fault_in format fed ≡ None)
   fault_in-behind fits =
       let size = length-behind in
       let good = good_records format None 0 b.records b.good in (
-        ap format_of b.whole ∙ format_of-magic format (concat b.records ++ part),
+        format-behind,
         ap (fault_in format) b.whole ∙ fault_in-part format b.records part part good.0 (omega arith) good.1
             (take_all (2 ^ 40 - bytes_of format (length b.records)) part (omega arith)) b.short,
       )
@@ -69,27 +77,31 @@ module _ (format : Format) (index : ℕ) (last : Option Key) (part fed : List �
 -- what is awaited begins behind the bytes, but for the part of it that came
 pub length-awaits : (w : Awaited) (part fed : List ℕ) → Awaits w part fed → length fed ≡ place_of w + length part
 length-awaits awaited.Magic part fed h = let same = ap length h.0 in omega arith
+length-awaits awaited.Header part fed h = omega (arith, ap length h.0, length-append floored_magic part)
 length-awaits (awaited.Record format index last) part fed b =
     length-behind format index last part fed b ∙ ap (λ n. bytes_of format n + length part) (sym b.count)
 
 -- how they end if nothing follows
 pub outcome-magic : (part fed : List ℕ) → Awaits awaited.Magic part fed → outcome fed ≡ Err Magic
-outcome-magic part fed h = outcome-other fed (format-short fed (omega (arith, ap length h.0, h.1)))
+outcome-magic part fed h = outcome-fault fed Magic (head-early fed (omega (arith, ap length h.0, h.1)))
+
+pub outcome-header : (part fed : List ℕ) → Awaits awaited.Header part fed → outcome fed ≡ Err (Truncated 8)
+outcome-header part fed h = outcome-fault fed (Truncated 8) (head-cut fed part h.0 h.1)
 
 pub outcome-whole : (format : Format) (index : ℕ) (last : Option Key) (part fed : List ℕ) → IsBehindRecords format index last part fed
     → length fed < 2 ^ 40 → length part ≡ 0 → outcome fed ≡ Ok tt
 outcome-whole format index last part fed b short none =
     let size = length-behind format index last part fed b in
     outcome-behind format index last part fed b (omega arith)
-    ∙ ending-whole (record_size format) (length b.records) (length fed) (size-positive format) (omega arith) short
+    ∙ ending-whole format (length b.records) (length fed) (omega arith) short
 
 pub outcome-cut : (format : Format) (index : ℕ) (last : Option Key) (part fed : List ℕ) → IsBehindRecords format index last part fed
-    → length fed < 2 ^ 40 → 0 < length part → outcome fed ≡ Err (Truncated (8 + record_size format * index))
+    → length fed < 2 ^ 40 → 0 < length part → outcome fed ≡ Err (Truncated (bytes_of format index))
 outcome-cut format index last part fed b short some =
     let size = length-behind format index last part fed b in
     outcome-behind format index last part fed b (omega arith)
-    ∙ ending-part (record_size format) (length b.records) (length part) (length fed) (omega arith) some b.short short
-    ∙ ap (λ n. Err (Truncated (8 + record_size format * n))) (sym b.count)
+    ∙ ending-part format (length b.records) (length part) (length fed) (omega arith) some b.short short
+    ∙ ap (λ n. Err (Truncated (bytes_of format n))) (sym b.count)
 
 so_far-magic : (fed : List ℕ) → length fed < 8 → outcome fed ≡ Err Magic → fault_so_far fed ≡ None
 so_far-magic fed short h =
@@ -99,6 +111,7 @@ so_far-magic fed short h =
 -- and nothing is decided yet
 pub so_far-none : (w : Awaited) (part fed : List ℕ) → Awaits w part fed → length fed < 2 ^ 40 → fault_so_far fed ≡ None
 so_far-none awaited.Magic part fed h short = so_far-magic fed (omega (arith, ap length h.0, h.1)) (outcome-magic part fed h)
+so_far-none awaited.Header part fed h short = ap (staying (length fed)) (outcome-header part fed h)
 so_far-none (awaited.Record format index last) [] fed b short = ap (staying (length fed)) (outcome-whole format index last [] fed b short refl)
 so_far-none (awaited.Record format index last) (x ∷ xs) fed b short =
     ap (staying (length fed)) (outcome-cut format index last (x ∷ xs) fed b short (omega arith))
@@ -106,24 +119,26 @@ so_far-none (awaited.Record format index last) (x ∷ xs) fed b short =
 -- but that they are too many
 pub so_far-late : (w : Awaited) (part fed : List ℕ) → Awaits w part fed → length fed ≡ 2 ^ 40 → fault_so_far fed ≡ Some TooLong
 so_far-late awaited.Magic part fed h long = absurd (omega (arith, ap length h.0, h.1))
+so_far-late awaited.Header part fed h long = absurd (omega (arith, ap length h.0, h.1, length-append floored_magic part))
 so_far-late (awaited.Record format index last) part fed b long =
-    ap (staying (length fed)) (outcome-behind format index last part fed b (omega arith) ∙ ending-long (record_size format) (length fed) (omega arith))
+    ap (staying (length fed)) (outcome-behind format index last part fed b (omega arith) ∙ ending-long format (length fed) (omega arith))
 
 -- a fault that came stays ----------------------------------------------------------------
 
-staying-bad : (n : ℕ) (f : FileFault) → IsBadRecord f → staying n (Err f) ≡ Some f
+pub staying-bad : (n : ℕ) (f : FileFault) → IsBadPart f → staying n (Err f) ≡ Some f
 staying-bad n (BadReport i g) bad = refl
 staying-bad n (BadCell i) bad = refl
 staying-bad n (CellOrder i) bad = refl
+staying-bad n BadFloor bad = refl
 staying-bad n Magic bad = absurd bad
 staying-bad n (Truncated offset) bad = absurd bad
 staying-bad n Read bad = absurd bad
 staying-bad n Memory bad = absurd bad
 staying-bad n TooLong bad = absurd bad
 
--- eight bytes that are no magic, a bad record, or too many bytes without a fault
+-- eight bytes that are no magic, a bad header or record, or too many bytes without a fault
 abbrev pub IsStaying : List ℕ → FileFault → Type 0
-IsStaying a f = ((f ≡ Magic) × (8 ≤ length a)) ⊎ (IsBadRecord f ⊎ ((f ≡ TooLong) × HasNoFaultYet a))
+IsStaying a f = ((f ≡ Magic) × (8 ≤ length a)) ⊎ (IsBadPart f ⊎ ((f ≡ TooLong) × HasNoFaultYet a))
 
 -- it is what the bytes answer, and what follows them changes nothing
 pub record Stays (a rest : List ℕ) (f : FileFault) : Type 0 where
@@ -131,36 +146,45 @@ pub record Stays (a rest : List ℕ) (f : FileFault) : Type 0 where
   pub now : outcome a ≡ Err f
   pub later : fault_so_far (a ++ rest) ≡ Some f
   pub keeps : kept (a ++ rest) ≡ kept a
+  pub floors : floor_in (a ++ rest) ≡ floor_in a
 
 magic_by : (n : ℕ) (b : Bool) (f : FileFault) → nat_lt n 8 ≡ b → cond b None (Some Magic) ≡ Some f → (8 ≤ n) × (f ≡ Magic)
 magic_by n true f is h = absurd (cc)
 magic_by n false f is h = (grind (arith, nat_tests), cc)
 
-so_far-other : (a : List ℕ) → 8 ≤ length a → format_of a ≡ None → fault_so_far a ≡ Some Magic
+pub so_far-other : (a : List ℕ) → 8 ≤ length a → format_in a ≡ Err Magic → fault_so_far a ≡ Some Magic
 so_far-other a long none =
     let many : nat_lt (length a) 8 ≡ false = grind (arith, nat_tests) in
-    ap (staying (length a)) (outcome-other a none) ∙ ap (λ b. cond b None (Some Magic)) many
+    ap (staying (length a)) (outcome-fault a Magic none) ∙ ap (λ b. cond b None (Some Magic)) many
+
+stays_bad : (a rest : List ℕ) (g f : FileFault) → IsBadPart g → outcome a ≡ Err g → staying (length a) (Err g) ≡ Some f → Stays a rest f
+stays_bad a rest g f is_bad is h =
+    let same : g ≡ f = let e : Some g ≡ Some f = sym (staying-bad (length a) g is_bad) ∙ h in cc in
+    let later = bad_part_stays a rest g is_bad is in
+    let P : FileFault → Type 0 = Stays a rest in
+    subst P same (record {
+      kind = inr (inl is_bad);
+      now = is;
+      later = ap (staying (length (a ++ rest))) later.outcome_stays ∙ staying-bad (length (a ++ rest)) g is_bad;
+      keeps = later.kept_stays;
+      floors = later.floor_stays;
+    })
 
 stays_by : (a rest : List ℕ) (o : Result (Unit {0}) FileFault) (f : FileFault) → Found a o → outcome a ≡ o → staying (length a) o ≡ Some f → Stays a rest f
-stays_by a rest _ f (first.other none) is h =
+stays_by a rest _ f (first.other none others) is h =
     let m = magic_by (length a) (nat_lt (length a) 8) f refl h in
-    let more : format_of (a ++ rest) ≡ None = format-more a rest m.0 ∙ none in
+    let more = others rest m.0 in
     let P : FileFault → Type 0 = Stays a rest in
     subst P (sym m.1) (record {
       kind = inl (refl, m.0);
       now = is;
       later = so_far-other (a ++ rest) (omega (arith, length-append a rest, m.0)) more;
-      keeps = kept-other (a ++ rest) more ∙ sym (kept-other a none);
+      keeps = kept-fault (a ++ rest) Magic more ∙ sym (kept-fault a Magic none);
+      floors = floor-fault (a ++ rest) Magic more ∙ sym (floor-fault a Magic none);
     })
-stays_by a rest _ f (first.bad format some g is_bad there) is h =
-    let same : g ≡ f = let e : Some g ≡ Some f = sym (staying-bad (length a) g is_bad) ∙ h in cc in
-    let P : FileFault → Type 0 = Stays a rest in
-    subst P same (record {
-      kind = inr (inl is_bad);
-      now = is;
-      later = ap (staying (length (a ++ rest))) (bad-stays a rest g is_bad is) ∙ staying-bad (length (a ++ rest)) g is_bad;
-      keeps = kept-stays a rest g is_bad is;
-    })
+stays_by a rest _ f (first.cut some) is h = absurd (cc)
+stays_by a rest _ f (first.unfloored some long) is h = stays_bad a rest BadFloor f tt is h
+stays_by a rest _ f (first.bad format some g is_bad there) is h = stays_bad a rest g f is_bad is h
 stays_by a rest _ f (first.ended format some none _ (well short even)) is h = absurd (cc)
 stays_by a rest _ f (first.ended format some none _ (within offset)) is h = absurd (cc)
 stays_by a rest _ f (first.ended format some none _ (late long)) is h =
@@ -171,6 +195,7 @@ stays_by a rest _ f (first.ended format some none _ (late long)) is h =
       now = is;
       later = ap (staying (length (a ++ rest))) (long-stays a rest is);
       keeps = kept-long a rest is;
+      floors = floor-long a rest is;
     })
 
 pub stays : (a rest : List ℕ) (f : FileFault) → fault_so_far a ≡ Some f → Stays a rest f
@@ -178,18 +203,72 @@ stays a rest f h = stays_by a rest (outcome a) f (found a) refl h
 
 -- one piece behind another ------------------------------------------------------------------
 
+floors_by : (f g h : ℕ) (b c : Bool) → f == 1 ≡ b → g == 1 ≡ c → 1 ≤ h → ((f ≡ 1 → ⊥) → g ≡ f) → ((g ≡ 1 → ⊥) → h ≡ g)
+    → max (cond b g 1) (cond c h 1) ≡ cond b h 1
+floors_by f g h true true is other some stays_f stays_g = let one : g ≡ 1 = grind (arith, nat_tests) in omega arith
+floors_by f g h true false is other some stays_f stays_g =
+    let not_one : g ≡ 1 → ⊥ = λ one. let yes : g == 1 ≡ true = grind (arith, nat_tests) in absurd (cc) in omega (arith, stays_g not_one)
+floors_by f g h false true is other some stays_f stays_g =
+    let not_one : f ≡ 1 → ⊥ = λ one. let yes : f == 1 ≡ true = grind (arith, nat_tests) in absurd (cc) in
+    let one : g ≡ 1 = grind (arith, nat_tests) in absurd (not_one (sym (stays_f not_one) ∙ one))
+floors_by f g h false false is other some stays_f stays_g = omega arith
+
+-- a floor that is told behind these bytes, and one behind both
+floors-then : (fed p q : List ℕ) → max (floor_behind fed p) (floor_behind (fed ++ p) q) ≡ floor_behind fed (p ++ q)
+floors-then fed p q =
+    floors_by (floor_in fed) (floor_in (fed ++ p)) (floor_in ((fed ++ p) ++ q)) (floor_in fed == 1) (floor_in (fed ++ p) == 1) refl refl
+    (floor-at_least_one ((fed ++ p) ++ q)) (floor-stays fed p) (floor-stays (fed ++ p) q)
+    ∙ ap (λ l. cond (floor_in fed == 1) (floor_in l) 1) (append_assoc fed p q)
+
+floor_all_by : (f g : ℕ) (b : Bool) → f == 1 ≡ b → 1 ≤ f → 1 ≤ g → ((f ≡ 1 → ⊥) → g ≡ f) → max f (cond b g 1) ≡ g
+floor_all_by f g true is some also stays_f = let one : f ≡ 1 = grind (arith, nat_tests) in omega arith
+floor_all_by f g false is some also stays_f =
+    let not_one : f ≡ 1 → ⊥ = λ one. let yes : f == 1 ≡ true = grind (arith, nat_tests) in absurd (cc) in omega (arith, stays_f not_one)
+
+-- the floor of these bytes, and what is told behind them, is that of all
+floors-all : (fed p : List ℕ) → max (floor_in fed) (floor_behind fed p) ≡ floor_in (fed ++ p)
+floors-all fed p =
+    floor_all_by (floor_in fed) (floor_in (fed ++ p)) (floor_in fed == 1) refl (floor-at_least_one fed) (floor-at_least_one (fed ++ p)) (floor-stays fed p)
+
+floor_same_by : (f g : ℕ) (b : Bool) → f == 1 ≡ b → g ≡ f → cond b g 1 ≡ 1
+floor_same_by f g true is same = let one : f ≡ 1 = grind (arith, nat_tests) in same ∙ one
+floor_same_by f g false is same = refl
+
+-- none is told where the floor stays
+pub floor-same : (fed q : List ℕ) → floor_in (fed ++ q) ≡ floor_in fed → floor_behind fed q ≡ 1
+floor-same fed q same = floor_same_by (floor_in fed) (floor_in (fed ++ q)) (floor_in fed == 1) refl same
+
 told-then : (fed p q : List ℕ) (s m t : Facts) → AddsTold fed p s m → AddsTold (fed ++ p) q m t → AddsTold fed (p ++ q) s t
 told-then fed p q s m t a b = record {
   told = a.told ++ b.told;
   more = ap kept (sym (append_assoc fed p q)) ∙ b.more ∙ ap (λ l. l ++ b.told) a.more ∙ append_assoc (kept fed) a.told b.told;
-  held = b.held ∙ ap (λ x. merge x (view b.told)) a.held ∙ merge-both s a.told b.told;
+  held = b.held ∙ ap (λ x. merge x (view_at (floor_behind (fed ++ p) q) b.told)) a.held
+      ∙ merge-floors s (floor_behind fed p) (floor_behind (fed ++ p) q) a.told b.told
+      ∙ ap (λ n. merge s (view_at n (a.told ++ b.told))) (floors-then fed p q);
 }
 
--- the store holds what all bytes keep
-pub held-then : (old mid new : Facts) (taken bytes : List ℕ) → mid ≡ merge old (view (kept taken)) → AddsTold taken bytes mid new
-    → new ≡ merge old (view (kept (taken ++ bytes)))
+-- the store holds what all bytes say
+pub held-then : (old mid new : Facts) (taken bytes : List ℕ) → mid ≡ merge old (facts_in taken) → AddsTold taken bytes mid new
+    → new ≡ merge old (facts_in (taken ++ bytes))
 held-then old mid new taken bytes held h =
-    h.held ∙ ap (λ x. merge x (view h.told)) held ∙ merge-both old (kept taken) h.told ∙ ap (λ l. merge old (view l)) (sym h.more)
+    h.held ∙ ap (λ x. merge x (view_at (floor_behind taken bytes) h.told)) held
+    ∙ merge-floors old (floor_in taken) (floor_behind taken bytes) (kept taken) h.told
+    ∙ ap (λ n. merge old (view_at n (kept taken ++ h.told))) (floors-all taken bytes)
+    ∙ ap (λ l. merge old (view_at (floor_in (taken ++ bytes)) l)) (sym h.more)
+
+-- and where a record wanted memory, what stands before it says
+pub held-wanted : (old mid new : Facts) (taken bytes : List ℕ) → mid ≡ merge old (facts_in taken) → (w : WantsMemory taken bytes mid new)
+    → new ≡ merge old (facts_in (head_bytes w.format ++ concat w.records))
+held-wanted old mid new taken bytes held w =
+    let all : format_in (taken ++ bytes) ≡ Ok w.format =
+    ap format_in w.whole ∙ format_in-head w.format (concat w.records ++ (w.r ++ w.behind)) w.sound in
+    let floor : floor_in (taken ++ bytes) ≡ floor_in (head_bytes w.format ++ concat w.records) =
+    floor-some w.format (taken ++ bytes) all
+    ∙ sym (floor-some w.format (head_bytes w.format ++ concat w.records) (format_in-head w.format (concat w.records) w.sound)) in
+    w.held ∙ ap (λ x. merge x (view_at (floor_behind taken bytes) w.told)) held
+    ∙ merge-floors old (floor_in taken) (floor_behind taken bytes) (kept taken) w.told
+    ∙ ap (λ n. merge old (view_at n (kept taken ++ w.told))) (floors-all taken bytes ∙ floor)
+    ∙ ap (λ l. merge old (view_at (floor_in (head_bytes w.format ++ concat w.records)) l)) (sym w.more)
 
 wants-then : (fed p q : List ℕ) (s m t : Facts) → AddsTold fed p s m → WantsMemory (fed ++ p) q m t → WantsMemory fed (p ++ q) s t
 wants-then fed p q s m t a b = record {
@@ -197,13 +276,16 @@ wants-then fed p q s m t a b = record {
   records = b.records;
   r = b.r;
   behind = b.behind;
+  sound = b.sound;
   whole = sym (append_assoc fed p q) ∙ b.whole;
   good = b.good;
   completed = let far = b.completed in omega (arith, length-append fed p);
   in_reach = b.in_reach;
   told = a.told ++ b.told;
   more = b.more ∙ ap (λ l. l ++ b.told) a.more ∙ append_assoc (kept fed) a.told b.told;
-  held = b.held ∙ ap (λ x. merge x (view b.told)) a.held ∙ merge-both s a.told b.told;
+  held = b.held ∙ ap (λ x. merge x (view_at (floor_behind (fed ++ p) q) b.told)) a.held
+      ∙ merge-floors s (floor_behind fed p) (floor_behind (fed ++ p) q) a.told b.told
+      ∙ ap (λ n. merge s (view_at n (a.told ++ b.told))) (floors-then fed p q);
 }
 
 stops-then : (f : FileFault) (fed p q : List ℕ) (s m t : Facts) → AddsTold fed p s m → StopsWith f (fed ++ p) q m t → StopsWith f fed (p ++ q) s t
@@ -216,14 +298,18 @@ takes-then fed p q mid (Ok next) part part' s m t a b =
     let P : List ℕ → Type 0 = Awaits next part' in (subst P (append_assoc fed p q) b.0, told-then fed p q s m t a.1 b.1)
 takes-then fed p q mid (Err f) part part' s m t a b = stops-then f fed p q s m t a.1 b
 
+floor-more : (fed p more : List ℕ) → floor_in ((fed ++ p) ++ more) ≡ floor_in (fed ++ p) → floor_behind fed p ≡ floor_behind fed (p ++ more)
+floor-more fed p more same = ap (λ n. cond (floor_in fed == 1) n 1) (sym same ∙ ap floor_in (append_assoc fed p more))
+
 -- what follows a fault changes nothing
 pub stops-more : (f : FileFault) (fed p more : List ℕ) (s t : Facts) → StopsWith f fed p s t → StopsWith f fed (p ++ more) s t
 stops-more f fed p more s t (inl h) =
     let w = h.1 in
-    let m = magic w.format in
+    let m = head_bytes w.format in
     let tail : (m ++ (concat w.records ++ (w.r ++ w.behind))) ++ more ≡ m ++ (concat w.records ++ (w.r ++ (w.behind ++ more))) =
     append_assoc m (concat w.records ++ (w.r ++ w.behind)) more
     ∙ ap (λ l. m ++ l) (append_assoc (concat w.records) (w.r ++ w.behind) more ∙ ap (λ l. concat w.records ++ l) (append_assoc w.r w.behind more)) in
+    let all : format_in (fed ++ p) ≡ Ok w.format = ap format_in w.whole ∙ format_in-head w.format (concat w.records ++ (w.r ++ w.behind)) w.sound in
     inl (
       h.0,
       record {
@@ -231,292 +317,23 @@ stops-more f fed p more s t (inl h) =
         records = w.records;
         r = w.r;
         behind = w.behind ++ more;
+        sound = w.sound;
         whole = sym (append_assoc fed p more) ∙ ap (λ l. l ++ more) w.whole ∙ tail;
         good = w.good;
         completed = w.completed;
         in_reach = w.in_reach;
         told = w.told;
         more = w.more;
-        held = w.held;
+        held = w.held ∙ ap (λ n. merge s (view_at n w.told)) (floor-more fed p more (floor-known w.format (fed ++ p) more all));
       },
     )
 stops-more f fed p more s t (inr h) =
     let is = stays (fed ++ p) more f h.0 in
     inr (
       ap fault_so_far (sym (append_assoc fed p more)) ∙ is.later,
-      record { told = h.1.told; more = ap kept (sym (append_assoc fed p more)) ∙ is.keeps ∙ h.1.more; held = h.1.held },
+      record {
+        told = h.1.told;
+        more = ap kept (sym (append_assoc fed p more)) ∙ is.keeps ∙ h.1.more;
+        held = h.1.held ∙ ap (λ n. merge s (view_at n h.1.told)) (floor-more fed p more is.floors);
+      },
     )
-
--- the steps of a piece ------------------------------------------------------------------------
-
-nothing-told : (fed q : List ℕ) (s : Facts) → kept (fed ++ q) ≡ kept fed → AddsTold fed q s s
-nothing-told fed q s h = record { told = []; more = h ∙ sym (append-nil (kept fed)); held = sym (merge-nothing s) }
-
--- nothing was taken yet
-pub takes-none : (w : Awaited) (part fed : List ℕ) (s : Facts) → Awaits w part fed → TakesTo fed [] (Ok w) part s s
-takes-none w part fed s h =
-    let P : List ℕ → Type 0 = Awaits w part in (subst P (sym (append-nil fed)) h, nothing-told fed [] s (ap kept (append-nil fed)))
-
--- a part of what is awaited
-pub takes-part : (w : Awaited) (part q fed : List ℕ) (s : Facts) → Awaits w part fed → length (part ++ q) < awaited_size w → length (fed ++ q) ≤ 2 ^ 40
-    → TakesTo fed q (Ok w) (part ++ q) s s
-takes-part awaited.Magic part q fed s h short fits =
-    let whole : fed ++ q ≡ part ++ q = ap (λ l. l ++ q) h.0 in
-    ((whole, short), nothing-told fed q s (kept-short (fed ++ q) (omega (arith, ap length whole, short)) ∙ sym (kept-short fed (omega (arith, ap length h.0, h.1)))))
-takes-part (awaited.Record format index last) part q fed s b short fits =
-    let whole : fed ++ q ≡ file format b.records (part ++ q) =
-    ap (λ l. l ++ q) b.whole ∙ append_assoc (magic format) (concat b.records ++ part) q
-    ∙ ap (λ l. magic format ++ l) (append_assoc (concat b.records) part q) in
-    let next : IsBehindRecords format index last (part ++ q) (fed ++ q) =
-    record { records = b.records; whole = whole; good = b.good; count = b.count; key = b.key; short = short } in (
-      next,
-      nothing-told fed q s
-          (kept-behind format index last (part ++ q) (fed ++ q) next fits
-          ∙ sym (kept-behind format index last part fed b (omega (arith, length-append fed q)))),
-    )
-
--- the whole magic
-takes-magic : (part q fed : List ℕ) (s : Facts) → fed ≡ part → length part < 8 → length (part ++ q) ≡ 8
-    → (o : Option Format) → format_of (part ++ q) ≡ o → TakesTo fed q (behind_magic o) [] s s
-takes-magic part q fed s same short long None none =
-    let whole : fed ++ q ≡ part ++ q = ap (λ l. l ++ q) same in
-    let other = ap format_of whole ∙ none in
-    inr (
-      so_far-other (fed ++ q) (omega (arith, ap length whole)) other,
-      nothing-told fed q s (kept-other (fed ++ q) other ∙ sym (kept-short fed (omega (arith, ap length same)))),
-    )
-takes-magic part q fed s same short long (Some format) some =
-    let whole : fed ++ q ≡ part ++ q = ap (λ l. l ++ q) same in
-    let is : fed ++ q ≡ magic format = whole ∙ front-magic (part ++ q) format (omega arith) (format_found (part ++ q) format (sym some)) in
-    let next : IsBehindRecords format 0 None [] (fed ++ q) =
-    record { records = []; whole = is ∙ sym (append-nil (magic format)); good = tt; count = refl; key = refl; short = size-positive format } in (
-      next,
-      nothing-told fed q s
-          (kept-behind format 0 None [] (fed ++ q) next (omega (arith, ap length whole)) ∙ sym (kept-short fed (omega (arith, ap length same)))),
-    )
-
--- a whole record
-module _ (format : Format) (index : ℕ) (last : Option Key) (part q fed : List ℕ) (s : Facts) (b : IsBehindRecords format index last part fed)
-    (long : length (part ++ q) ≡ record_size format) (fits : length (fed ++ q) ≤ 2 ^ 40) where
-  whole-record : fed ++ q ≡ file format b.records (part ++ q)
-  whole-record =
-      ap (λ l. l ++ q) b.whole ∙ append_assoc (magic format) (concat b.records ++ part) q
-      ∙ ap (λ l. magic format ++ l) (append_assoc (concat b.records) part q)
-
-  last-record : judged format (last_key format None b.records) (part ++ q) ≡ judged format last (part ++ q)
-  last-record = ap (λ k. judged format k (part ++ q)) (sym b.key)
-
-  within-reach : bytes_of format (length (b.records ++ (part ++ q) ∷ [])) ≤ 2 ^ 40
-  within-reach =
-      let size = ap length whole-record in
-      omega (arith, bytes-more format b.records (part ++ q), length-file format b.records (part ++ q) (good_records format None 0 b.records b.good).0)
-
-  kept-before : kept fed ≡ told_by format None b.records
-  kept-before = kept-behind format index last part fed b (omega (arith, length-append fed q))
-
-  takes-good : (told : Sightings) → judged format last (part ++ q) ≡ Ok told
-      → (next : Awaited) → next ≡ awaited.Record format (index + 1) (key_in format (part ++ q))
-      → (t : Facts) → t ≡ merge s (view told) → TakesTo fed q (Ok next) [] s t
-  takes-good told good next is t merged =
-      let rs = b.records in
-      let r = part ++ q in
-      let known = good_records format None 0 rs b.good in
-      let behind : IsBehindRecords format (index + 1) (key_in format r) [] (fed ++ q) = record {
-        records = rs ++ r ∷ [];
-        whole = whole-record ∙ sym (file-record format rs r);
-        good = good-more format None rs r told b.good long (last-record ∙ good);
-        count = let count = b.count in omega (arith, length-more rs r);
-        key = sym (last_key-more format None rs r);
-        short = size-positive format;
-      } in
-      let one : told_by format (last_key format None rs) (r ∷ []) ≡ told = ap (λ v. told_then v []) (last-record ∙ good) ∙ append-nil told in
-      let more : kept (fed ++ q) ≡ kept fed ++ told =
-      kept-behind format (index + 1) (key_in format r) [] (fed ++ q) behind fits ∙ told_by-good format None 0 rs (r ∷ []) known.1
-      ∙ ap (λ l. told_by format None rs ++ l) one ∙ ap (λ l. l ++ told) (sym kept-before) in
-      let P : Awaited → Type 0 = λ w. Awaits w [] (fed ++ q) in (subst P (sym is) behind, record { told = told; more = more; held = merged })
-
-  takes-memory : (told : Sightings) → judged format last (part ++ q) ≡ Ok told → WantsMemory fed q s s
-  takes-memory told good =
-      let rs = b.records in
-      let r = part ++ q in
-      let known = good_records format None 0 rs b.good in
-      let size = length-behind format index last part fed b in
-      let in_reach = within-reach in
-      let same : length (magic format ++ (concat rs ++ r)) ≡ bytes_of format (length rs) + length r = length-file format rs r known.0 in
-      let more = bytes-more format rs r in
-      let part_short = b.short in record {
-        format = format;
-        records = rs;
-        r = r;
-        behind = [];
-        whole = whole-record ∙ ap (λ l. magic format ++ (concat rs ++ l)) (sym (append-nil r));
-        good = good-more format None rs r told b.good long (last-record ∙ good);
-        completed = omega arith;
-        in_reach = omega arith;
-        told = [];
-        more = ap (λ l. kept (magic format ++ l)) (sym (append-nil (concat rs)))
-            ∙ kept-part format rs [] [] known.0 (omega arith) (take_all (2 ^ 40 - bytes_of format (length rs)) [] (omega arith)) (size-positive format)
-            ∙ sym kept-before ∙ sym (append-nil (kept fed));
-        held = sym (merge-nothing s);
-      }
-
-  takes-bad : (f : ℕ → FileFault) → judged format last (part ++ q) ≡ Err f → StopsWith (f index) fed q s s
-  takes-bad f bad =
-      let rs = b.records in
-      let r = part ++ q in
-      let known = good_records format None 0 rs b.good in
-      let all = AreRecords-more (record_size format) rs r known.0 long in
-      let at : 0 + length rs ≡ index = let count = b.count in omega arith in
-      let found_ : first_fault format None 0 (rs ++ r ∷ []) ≡ Some (f index) =
-      first_fault-good format None 0 rs (r ∷ []) known.1 ∙ ap (λ v. fault_or (0 + length rs) v None) (last-record ∙ bad)
-      ∙ ap (λ n. Some (f n)) at in
-      let is : fed ++ q ≡ file format (rs ++ r ∷ []) [] = whole-record ∙ sym (file-record format rs r) in
-      let one : told_by format (last_key format None rs) (r ∷ []) ≡ [] = ap (λ v. told_then v []) (last-record ∙ bad) in
-      inr (
-        ap (staying (length (fed ++ q))) (ap outcome is ∙ outcome-bad format (rs ++ r ∷ []) [] (f index) all within-reach found_)
-            ∙ staying-bad (length (fed ++ q)) (f index) (judged-bad format last r f index bad),
-        nothing-told fed q s
-            (ap kept is ∙ kept-bad format (rs ++ r ∷ []) [] (f index) all within-reach found_ ∙ told_by-good format None 0 rs (r ∷ []) known.1
-            ∙ ap (λ l. told_by format None rs ++ l) one ∙ append-nil (told_by format None rs) ∙ sym kept-before),
-      )
-
-  takes-judged : (r : Result Awaited FileFault) (t : Facts) (v : Judgement) → judged format last (part ++ q) ≡ v → AbsorbsJudged v index r s t
-      → IfOk r (λ next. next ≡ awaited.Record format (index + 1) (key_in format (part ++ q))) → TakesTo fed q r [] s t
-  takes-judged (Ok next) t (Ok told) is h key = takes-good told is next key t h
-  takes-judged (Err f) t (Ok told) is h key =
-      let P : Facts → Type 0 = StopsWith f fed q s in subst P (sym h.1) (inl (h.0, takes-memory told is))
-  takes-judged (Ok next) t (Err fault) is h key = let e : ◌≡◌ {A = Result Awaited FileFault} (Ok next) (Err (fault index)) = h.0 in absurd (cc)
-  takes-judged (Err f) t (Err fault) is h key =
-      let same : f ≡ fault index = let e : ◌≡◌ {A = Result Awaited FileFault} (Err f) (Err (fault index)) = h.0 in cc in
-      let P : FileFault → Facts → Type 0 = λ g x. StopsWith g fed q s x in
-      subst (λ (x : Facts). P f x) (sym h.1) (subst (λ (g : FileFault). P g s) (sym same) (takes-bad fault is))
-
--- all of what is awaited
-pub takes-whole : (w : Awaited) (part q fed : List ℕ) (r : Result Awaited FileFault) (s t : Facts) → Awaits w part fed
-    → length (part ++ q) ≡ awaited_size w → length (fed ++ q) ≤ 2 ^ 40 → TakesAwaited w (part ++ q) r s t → TakesTo fed q r [] s t
-takes-whole awaited.Magic part q fed r s t h long fits takes =
-    let P : Result Awaited FileFault → Facts → Type 0 = λ o x. TakesTo fed q o [] s x in
-    subst (λ (x : Facts). P r x) (sym takes.1)
-    (subst (λ (o : Result Awaited FileFault). P o s) (sym takes.0) (takes-magic part q fed s h.0 h.1 long (format_of (part ++ q)) refl))
-takes-whole (awaited.Record format index last) part q fed r s t b long fits takes =
-    takes-judged format index last part q fed s b long fits r t (judged format last (part ++ q)) refl takes.0 takes.1
-
--- the front of bytes --------------------------------------------------------------------------
-
-no_items : (items : List ℕ) → length items ≡ 0 → items ≡ []
-no_items [] h = refl
-no_items (x ∷ xs) h = absurd (omega arith)
-
-pub empty_items : (items : List ℕ) → true ≡ (length items == 0) → items ≡ []
-empty_items [] h = refl
-empty_items (x ∷ xs) h = absurd (grind (arith, nat_tests))
-
-size-some : (w : Awaited) → 0 < awaited_size w
-size-some awaited.Magic = omega arith
-size-some (awaited.Record format index last) = size-positive format
-
-place-magic : (o : Option Format) (next : Awaited) → Ok next ≡ behind_magic o → place_of next ≡ 8
-place-magic None next h = let e : ◌≡◌ {A = Result Awaited FileFault} (Ok next) (Err Magic) = h in absurd (cc)
-place-magic (Some format) next h =
-    let same : next ≡ awaited.Record format 0 None = let e : ◌≡◌ {A = Result Awaited FileFault} (Ok next) (Ok (awaited.Record format 0 None)) = h in cc in
-    ap place_of same ∙ omega arith
-
--- what comes behind the awaited begins at its end
-place-next : (w : Awaited) (bytes : List ℕ) (next : Awaited) (s t : Facts) → TakesAwaited w bytes (Ok next) s t → place_of next ≡ place_of w + awaited_size w
-place-next awaited.Magic bytes next s t h = place-magic (format_of bytes) next h.0 ∙ omega arith
-place-next (awaited.Record format index last) bytes next s t h = ap place_of h.1 ∙ omega arith
-
--- all of what is awaited stands in the front
-pub front-whole : (w : Awaited) (part bytes : List ℕ) (n : ℕ) (next : Awaited) (part' : List ℕ) (s t : Facts) → length part + n ≡ awaited_size w
-    → 0 < n → n ≤ length bytes → (place_of w + length part) + length bytes ≤ 2 ^ 40 → part' ≡ []
-    → TakesAwaited w (part ++ take n bytes) (Ok next) s t → TakesSome w part bytes next n part' s t
-front-whole w part bytes n next part' s t whole some inside fits empty takes =
-    let long = length-take-le n bytes inside in
-    let none = ap length empty in record {
-      some = some;
-      within = inside;
-      short = omega (arith, none, size-some next);
-      place = omega (arith, place-next w (part ++ take n bytes) next s t takes, none);
-      takes = λ fed h.
-          let P : List ℕ → Type 0 = λ l. TakesTo fed (take n bytes) (Ok next) l s t in
-          subst P (sym empty)
-          (takes-whole w part (take n bytes) fed (Ok next) s t h (omega (arith, length-append part (take n bytes), long))
-          (omega (arith, length-append fed (take n bytes), length-awaits w part fed h, long)) takes);
-    }
-
--- and stops there
-pub front-stops : (w : Awaited) (part bytes : List ℕ) (n : ℕ) (f : FileFault) (part' : List ℕ) (s t : Facts) → length part + n ≡ awaited_size w
-    → n ≤ length bytes → (place_of w + length part) + length bytes ≤ 2 ^ 40
-    → TakesAwaited w (part ++ take n bytes) (Err f) s t → TakesPiece w part bytes (Err f) part' s t
-front-stops w part bytes n f part' s t whole inside fits takes fed h =
-    let long = length-take-le n bytes inside in
-    let P : List ℕ → Type 0 = λ l. StopsWith f fed l s t in
-    subst P (take-append-drop n bytes)
-    (stops-more f fed (take n bytes) (drop n bytes) s t
-    (takes-whole w part (take n bytes) fed (Err f) s t h (omega (arith, length-append part (take n bytes), long))
-    (omega (arith, length-append fed (take n bytes), length-awaits w part fed h, long)) takes))
-
--- only a part of what is awaited stands there
-pub front-part : (w : Awaited) (part bytes : List ℕ) (n : ℕ) (part' : List ℕ) (s : Facts) → 0 < n → n ≤ length bytes
-    → (place_of w + length part) + length bytes ≤ 2 ^ 40 → part' ≡ part ++ take n bytes → length part' < awaited_size w → TakesSome w part bytes w n part' s s
-front-part w part bytes n part' s some inside fits joined short =
-    let long = length-take-le n bytes inside in
-    let size = ap length joined in record {
-      some = some;
-      within = inside;
-      short = short;
-      place = omega (arith, length-append part (take n bytes));
-      takes = λ fed h.
-          let P : List ℕ → Type 0 = λ l. TakesTo fed (take n bytes) (Ok w) l s s in
-          subst P (sym joined)
-          (takes-part w part (take n bytes) fed s h (omega arith) (omega (arith, length-append fed (take n bytes), length-awaits w part fed h, long)));
-    }
-
--- a piece from its front to its end -----------------------------------------------------------
-
-pub piece-step : (w : Awaited) (part front : List ℕ) (mid : Awaited) (part' bytes : List ℕ) (r : Result Awaited FileFault) (last : List ℕ) (s m t : Facts)
-    → TakesPiece w part front (Ok mid) part' s m → TakesPiece mid part' bytes r last m t → TakesPiece w part (front ++ bytes) r last s t
-piece-step w part front mid part' bytes r last s m t a b fed h =
-    let first = a fed h in takes-then fed front bytes mid r part' last s m t first (b (fed ++ front) first.0)
-
--- the bytes up to this one are refused, and so is the piece
-pub piece-stops : (w : Awaited) (part piece : List ℕ) (k : ℕ) (front rest : List ℕ) (mid : Awaited) (part' : List ℕ) (f : FileFault) (last : List ℕ)
-    (s m t : Facts) → TakesPiece w part front (Ok mid) part' s m → TakesPiece mid part' rest (Err f) last m t → take k piece ≡ front ++ rest
-    → TakesPiece w part piece (Err f) last s t
-piece-stops w part piece k front rest mid part' f last s m t a b split fed h =
-    let P : List ℕ → Type 0 = λ l. StopsWith f fed l s t in
-    subst P (ap (λ l. l ++ drop k piece) (sym split) ∙ take-append-drop k piece)
-    (stops-more f fed (front ++ rest) (drop k piece) s t (piece-step w part front mid part' rest (Err f) last s m t a b fed h))
-
--- the 2^40th byte is there
-pub piece-late : (w : Awaited) (part piece : List ℕ) (k : ℕ) (front rest : List ℕ) (next : Awaited) (part' last : List ℕ) (s t : Facts)
-    → TakesPiece w part front (Ok next) part' s t → take k piece ≡ front ++ rest → length rest ≡ 0 → k ≤ length piece
-    → (place_of w + length part) + k ≡ 2 ^ 40 → TakesPiece w part piece (Err TooLong) last s t
-piece-late w part piece k front rest next part' last s t a split none inside full fed h =
-    let P : List ℕ → Type 0 = λ l. StopsWith TooLong fed l s t in
-    let is : front ≡ take k piece = sym (append-nil front) ∙ ap (λ l. front ++ l) (sym (no_items rest none)) ∙ sym split in
-    let size = ap length is in
-    let cut = length-take-le k piece inside in
-    let here = a fed h in
-    subst P (ap (λ l. l ++ drop k piece) is ∙ take-append-drop k piece)
-    (stops-more TooLong fed front (drop k piece) s t
-    (inr (so_far-late next part' (fed ++ front) here.0 (omega (arith, length-append fed front, length-awaits w part fed h)), here.1)))
-
--- some more of its bytes were taken
-pub piece-next : (w : Awaited) (part piece : List ℕ) (k : ℕ) (rest : List ℕ) (mid : Awaited) (part' : List ℕ) (next : Awaited) (n : ℕ) (part'' : List ℕ)
-    (s m t : Facts) → ((front : List ℕ) × (take k piece ≡ front ++ rest) × TakesPiece w part front (Ok mid) part' s m)
-    → TakesSome mid part' rest next n part'' m t
-    → (front : List ℕ) × (take k piece ≡ front ++ take (length rest - n) (drop n rest)) × TakesPiece w part front (Ok next) part'' s t
-piece-next w part piece k rest mid part' next n part'' s m t (front, split, a) b =
-    let P : List ℕ → Type 0 = λ l. TakesPiece w part l (Ok next) part'' s t in (
-      front ++ take n rest,
-      split ∙ ap (λ l. front ++ l) (sym (take-append-drop n rest)) ∙ sym (append_assoc front (take n rest) (drop n rest))
-          ∙ ap (λ l. (front ++ take n rest) ++ l) (sym (take_rest rest n)),
-      piece-step w part front mid part' (take n rest) (Ok next) part'' s m t a b.takes,
-    )
-
-pub piece-place : (mid : Awaited) (part' rest : List ℕ) (next : Awaited) (n : ℕ) (part'' : List ℕ) (m t : Facts) (all : ℕ)
-    → TakesSome mid part' rest next n part'' m t → (place_of mid + length part') + length rest ≡ all
-    → (place_of next + length part'') + length (take (length rest - n) (drop n rest)) ≡ all
-piece-place mid part' rest next n part'' m t all b whole =
-    let fits = b.within in let place = b.place in let behind = ap length (take_rest rest n) ∙ length-drop n rest in omega arith

@@ -14,8 +14,10 @@ use Rattle.record_file.specs.declared.file_fault.FileFault.{FileFault}
 use Rattle.record_file.specs.declared.file_fault.FileFault.TheVariants.{Truncated, TooLong}
 use Rattle.record_file.specs.declared.format.Format.{Format}
 use Rattle.record_file.specs.declared.format.Format.TheVariants.{Reports, Cells}
-use Rattle.record_file.specs.RecordFile.{AreGoodRecords, Judgement, ending, fault_first, fault_in, fault_or, first_fault, first_records, format_of, judged, kept}
-use Rattle.record_file.specs.RecordFile.{key_in, last_key, magic, outcome, record_size, records, records_in_reach, told_by, told_then}
+use Rattle.record_file.specs.Head.{IsFormat, head_bytes, head_size}
+use Rattle.record_file.proofs.Heads.{format_in-head, length-head}
+use Rattle.record_file.specs.RecordFile.{AreGoodRecords, Judgement, ending, fault_first, fault_in, fault_or, first_fault, first_records, judged, kept}
+use Rattle.record_file.specs.RecordFile.{kept_as, key_in, last_key, outcome, outcome_as, record_size, records, records_in_reach, told_by, told_then}
 
 abbrev pub Sightings : Type 0
 Sightings = List (Key × Cell Value)
@@ -26,15 +28,7 @@ AreRecords size = AllByRecursion (λ r. length r ≡ size)
 
 pub size-positive : (format : Format) → 0 < record_size format
 size-positive Reports = omega arith
-size-positive Cells = omega arith
-
-pub length-magic : (format : Format) → length (magic format) ≡ 8
-length-magic Reports = refl
-length-magic Cells = refl
-
-pub format_of-magic : (format : Format) (x : List ℕ) → format_of (magic format ++ x) ≡ Some format
-format_of-magic Reports x = refl
-format_of-magic Cells x = refl
+size-positive (Cells told) = omega arith
 
 pub length-concat : (size : ℕ) (rs : List (List ℕ)) → AreRecords size rs → length (concat rs) ≡ size * length rs
 length-concat size [] h = omega arith
@@ -120,57 +114,56 @@ told_by-bad format last i (r ∷ rs) more f h =
 
 -- whole files ---------------------------------------------------------------------
 
--- the magic, records, and what follows
+-- the head, records, and what follows
 abbrev pub file : Format → List (List ℕ) → List ℕ → List ℕ
-file format rs x = magic format ++ (concat rs ++ x)
+file format rs x = head_bytes format ++ (concat rs ++ x)
 
--- the bytes of the magic and of so many records
+-- the bytes of the head and of so many records
 abbrev pub bytes_of : Format → ℕ → ℕ
-bytes_of format n = 8 + record_size format * n
+bytes_of format n = head_size format + record_size format * n
 
 pub length-file : (format : Format) (rs : List (List ℕ)) (x : List ℕ) → AreRecords (record_size format) rs
     → length (file format rs x) ≡ bytes_of format (length rs) + length x
 length-file format rs x h =
-    omega (arith, length-append (magic format) (concat rs ++ x), length-append (concat rs) x, length-concat (record_size format) rs h, length-magic format)
+    omega (arith, length-append (head_bytes format) (concat rs ++ x), length-append (concat rs) x, length-concat (record_size format) rs h, length-head format)
 
 pub records_in_reach-file : (format : Format) (rs : List (List ℕ)) (x : List ℕ) → AreRecords (record_size format) rs → bytes_of format (length rs) ≤ 2 ^ 40
     → records_in_reach format (file format rs x) ≡ rs ++ records (record_size format) (take (2 ^ 40 - bytes_of format (length rs)) x)
 records_in_reach-file format rs x h fits =
     let w = record_size format in
-    let m = magic format in
+    let m = head_bytes format in
     let back = take (2 ^ 40 - bytes_of format (length rs)) x in
-    let size : length (m ++ concat rs) ≡ bytes_of format (length rs) = omega (arith, length-append m (concat rs), length-concat w rs h, length-magic format) in
+    let size : length (m ++ concat rs) ≡ bytes_of format (length rs) = omega (arith, length-append m (concat rs), length-concat w rs h, length-head format) in
     let most : 2 ^ 40 ≡ length (m ++ concat rs) + (2 ^ 40 - bytes_of format (length rs)) = omega arith in
     let cut : take (2 ^ 40) (file format rs x) ≡ m ++ (concat rs ++ back) =
     ap (λ l. take (2 ^ 40) l) (sym (append_assoc m (concat rs) x))
     ∙ ap (λ n. take n ((m ++ concat rs) ++ x)) most
     ∙ take-append-add (m ++ concat rs) x (2 ^ 40 - bytes_of format (length rs))
     ∙ append_assoc m (concat rs) back in
-    ap (λ l. records w (drop 8 l)) cut ∙ ap (records w) (drop_at m (concat rs ++ back) 8 (length-magic format))
+    ap (λ l. records w (drop (head_size format) l)) cut ∙ ap (records w) (drop_at m (concat rs ++ back) (head_size format) (length-head format))
     ∙ records-concat w rs back (size-positive format) h
 
-pub outcome-magic : (format : Format) (x : List ℕ)
-    → outcome (magic format ++ x) ≡ fault_first (fault_in format (magic format ++ x)) (ending (record_size format) (length (magic format ++ x)))
+pub outcome-head : (format : Format) → IsFormat format → (x : List ℕ)
+    → outcome (head_bytes format ++ x) ≡ fault_first (fault_in format (head_bytes format ++ x)) (ending format (length (head_bytes format ++ x)))
 unfolding outcome
-outcome-magic Reports x = refl
-outcome-magic Cells x = refl
+outcome-head format sound x = ap (λ o. outcome_as o (head_bytes format ++ x)) (format_in-head format x sound)
 
-pub kept-magic : (format : Format) (x : List ℕ) → kept (magic format ++ x) ≡ told_by format None (records_in_reach format (magic format ++ x))
+pub kept-head : (format : Format) → IsFormat format → (x : List ℕ)
+    → kept (head_bytes format ++ x) ≡ told_by format None (records_in_reach format (head_bytes format ++ x))
 unfolding kept
-kept-magic Reports x = refl
-kept-magic Cells x = refl
+kept-head format sound x = ap (λ o. kept_as o (head_bytes format ++ x)) (format_in-head format x sound)
 
-pub outcome-file : (format : Format) (rs : List (List ℕ)) (x : List ℕ) → AreRecords (record_size format) rs → bytes_of format (length rs) ≤ 2 ^ 40
+pub outcome-file : (format : Format) → IsFormat format → (rs : List (List ℕ)) (x : List ℕ) → AreRecords (record_size format) rs → bytes_of format (length rs) ≤ 2 ^ 40
     → outcome (file format rs x) ≡ fault_first (first_fault format None 0 (rs ++ records (record_size format) (take (2 ^ 40 - bytes_of format (length rs)) x)))
-    (ending (record_size format) (length (file format rs x)))
-outcome-file format rs x h fits =
-    outcome-magic format (concat rs ++ x)
-    ∙ ap (λ r. fault_first (first_fault format None 0 r) (ending (record_size format) (length (file format rs x))))
+    (ending format (length (file format rs x)))
+outcome-file format sound rs x h fits =
+    outcome-head format sound (concat rs ++ x)
+    ∙ ap (λ r. fault_first (first_fault format None 0 r) (ending format (length (file format rs x))))
     (records_in_reach-file format rs x h fits)
 
-pub kept-file : (format : Format) (rs : List (List ℕ)) (x : List ℕ) → AreRecords (record_size format) rs → bytes_of format (length rs) ≤ 2 ^ 40
+pub kept-file : (format : Format) → IsFormat format → (rs : List (List ℕ)) (x : List ℕ) → AreRecords (record_size format) rs → bytes_of format (length rs) ≤ 2 ^ 40
     → kept (file format rs x) ≡ told_by format None (rs ++ records (record_size format) (take (2 ^ 40 - bytes_of format (length rs)) x))
-kept-file format rs x h fits = kept-magic format (concat rs ++ x) ∙ ap (told_by format None) (records_in_reach-file format rs x h fits)
+kept-file format sound rs x h fits = kept-head format sound (concat rs ++ x) ∙ ap (told_by format None) (records_in_reach-file format rs x h fits)
 
 -- good records, and less than a whole one behind them, have no fault
 pub fault_in-part : (format : Format) (rs : List (List ℕ)) (x part : List ℕ) → AreRecords (record_size format) rs → bytes_of format (length rs) ≤ 2 ^ 40
@@ -187,36 +180,36 @@ fault_in-file format rs h fits good =
     fault_in-part format rs [] [] h fits good (take_all (2 ^ 40 - bytes_of format (length rs)) [] (omega arith)) (size-positive format)
 
 -- what stands behind good records is less than a whole record
-pub outcome-part : (format : Format) (rs : List (List ℕ)) (x part : List ℕ) → AreRecords (record_size format) rs → bytes_of format (length rs) ≤ 2 ^ 40
+pub outcome-part : (format : Format) → IsFormat format → (rs : List (List ℕ)) (x part : List ℕ) → AreRecords (record_size format) rs → bytes_of format (length rs) ≤ 2 ^ 40
     → first_fault format None 0 rs ≡ None
     → take (2 ^ 40 - bytes_of format (length rs)) x ≡ part → length part < record_size format
-    → outcome (file format rs x) ≡ ending (record_size format) (length (file format rs x))
-outcome-part format rs x part h fits good cut short =
+    → outcome (file format rs x) ≡ ending format (length (file format rs x))
+outcome-part format sound rs x part h fits good cut short =
     let w = record_size format in
     let none : records w (take (2 ^ 40 - bytes_of format (length rs)) x) ≡ [] = ap (records w) cut ∙ records-short w part short in
-    outcome-file format rs x h fits
-    ∙ ap (λ l. fault_first (first_fault format None 0 (rs ++ l)) (ending w (length (file format rs x)))) none
-    ∙ ap (λ f. fault_first f (ending w (length (file format rs x)))) (ap (first_fault format None 0) (append-nil rs) ∙ good)
+    outcome-file format sound rs x h fits
+    ∙ ap (λ l. fault_first (first_fault format None 0 (rs ++ l)) (ending format (length (file format rs x)))) none
+    ∙ ap (λ f. fault_first f (ending format (length (file format rs x)))) (ap (first_fault format None 0) (append-nil rs) ∙ good)
 
-pub kept-part : (format : Format) (rs : List (List ℕ)) (x part : List ℕ) → AreRecords (record_size format) rs → bytes_of format (length rs) ≤ 2 ^ 40
+pub kept-part : (format : Format) → IsFormat format → (rs : List (List ℕ)) (x part : List ℕ) → AreRecords (record_size format) rs → bytes_of format (length rs) ≤ 2 ^ 40
     → take (2 ^ 40 - bytes_of format (length rs)) x ≡ part → length part < record_size format → kept (file format rs x) ≡ told_by format None rs
-kept-part format rs x part h fits cut short =
+kept-part format sound rs x part h fits cut short =
     let w = record_size format in
     let none : records w (take (2 ^ 40 - bytes_of format (length rs)) x) ≡ [] = ap (records w) cut ∙ records-short w part short in
-    kept-file format rs x h fits ∙ ap (λ l. told_by format None (rs ++ l)) none ∙ ap (told_by format None) (append-nil rs)
+    kept-file format sound rs x h fits ∙ ap (λ l. told_by format None (rs ++ l)) none ∙ ap (told_by format None) (append-nil rs)
 
 -- a bad record decides, whatever follows it
-pub outcome-bad : (format : Format) (rs : List (List ℕ)) (x : List ℕ) (f : FileFault) → AreRecords (record_size format) rs
+pub outcome-bad : (format : Format) → IsFormat format → (rs : List (List ℕ)) (x : List ℕ) (f : FileFault) → AreRecords (record_size format) rs
     → bytes_of format (length rs) ≤ 2 ^ 40 → first_fault format None 0 rs ≡ Some f → outcome (file format rs x) ≡ Err f
-outcome-bad format rs x f h fits bad =
+outcome-bad format sound rs x f h fits bad =
     let more = records (record_size format) (take (2 ^ 40 - bytes_of format (length rs)) x) in
-    outcome-file format rs x h fits
-    ∙ ap (λ o. fault_first o (ending (record_size format) (length (file format rs x)))) (first_fault-bad format None 0 rs more f bad)
+    outcome-file format sound rs x h fits
+    ∙ ap (λ o. fault_first o (ending format (length (file format rs x)))) (first_fault-bad format None 0 rs more f bad)
 
-pub kept-bad : (format : Format) (rs : List (List ℕ)) (x : List ℕ) (f : FileFault) → AreRecords (record_size format) rs → bytes_of format (length rs) ≤ 2 ^ 40
+pub kept-bad : (format : Format) → IsFormat format → (rs : List (List ℕ)) (x : List ℕ) (f : FileFault) → AreRecords (record_size format) rs → bytes_of format (length rs) ≤ 2 ^ 40
     → first_fault format None 0 rs ≡ Some f → kept (file format rs x) ≡ told_by format None rs
-kept-bad format rs x f h fits bad =
-    kept-file format rs x h fits ∙ told_by-bad format None 0 rs (records (record_size format) (take (2 ^ 40 - bytes_of format (length rs)) x)) f bad
+kept-bad format sound rs x f h fits bad =
+    kept-file format sound rs x h fits ∙ told_by-bad format None 0 rs (records (record_size format) (take (2 ^ 40 - bytes_of format (length rs)) x)) f bad
 
 -- good records ------------------------------------------------------------------------
 
@@ -243,7 +236,7 @@ good-more format last (s ∷ rs) r told h long good = (h.0, h.1, good-more forma
 
 -- a record more
 pub file-record : (format : Format) (rs : List (List ℕ)) (r : List ℕ) → file format (rs ++ r ∷ []) [] ≡ file format rs r
-file-record format rs r = ap (λ l. magic format ++ l) (append-nil (concat (rs ++ r ∷ [])) ∙ concat-append rs (r ∷ []) ∙ ap (λ l. concat rs ++ l) (append-nil r))
+file-record format rs r = ap (λ l. head_bytes format ++ l) (append-nil (concat (rs ++ r ∷ [])) ∙ concat-append rs (r ∷ []) ∙ ap (λ l. concat rs ++ l) (append-nil r))
 
 pub AreRecords-more : (size : ℕ) (rs : List (List ℕ)) (r : List ℕ) → AreRecords size rs → length r ≡ size → AreRecords size (rs ++ r ∷ [])
 AreRecords-more size [] r h long = (long, tt)
@@ -259,7 +252,7 @@ bytes-more format rs r = ap (bytes_of format) (length-more rs r) ∙ omega arith
 
 -- the size of a file of good records, the last of which stands by itself
 pub length-wanted : (format : Format) (rs : List (List ℕ)) (r : List ℕ) → AreGoodRecords format None (rs ++ r ∷ [])
-    → length (magic format ++ (concat rs ++ r)) ≡ bytes_of format (length (rs ++ r ∷ []))
+    → length (head_bytes format ++ (concat rs ++ r)) ≡ bytes_of format (length (rs ++ r ∷ []))
 length-wanted format rs r good =
     let is = ap length (sym (file-record format rs r)) in
     let size = length-file format (rs ++ r ∷ []) [] (good_records format None 0 (rs ++ r ∷ []) good).0 in omega arith
@@ -267,31 +260,34 @@ length-wanted format rs r good =
 -- records never end at the last byte that is read
 pub not_at_end : (format : Format) (n : ℕ) → bytes_of format n ≡ 2 ^ 40 → ⊥
 not_at_end Reports n h = omega arith
-not_at_end Cells n h = omega arith
+not_at_end (Cells None) n h = omega arith
+not_at_end (Cells (Some floor)) n h = omega arith
 
 -- how good records end --------------------------------------------------------------
 
-pub ending-whole : (w n size : ℕ) → 0 < w → size ≡ 8 + w * n → size < 2 ^ 40 → ending w size ≡ Ok tt
+pub ending-whole : (format : Format) (n size : ℕ) → size ≡ bytes_of format n → size < 2 ^ 40 → ending format size ≡ Ok tt
 unfolding ending
-ending-whole w n size some e fits =
+ending-whole format n size e fits =
+    let w = record_size format in
     let short : nat_le (2 ^ 40) size ≡ false = grind (arith, nat_tests) in
-    let behind : size - 8 ≡ w * n + 0 = omega arith in
-    let none : (size - 8) % w ≡ 0 = ap (λ k. k % w) behind ∙ mul-add-mod_self_left w n 0 ∙ mod-eq_of_lt some in
-    let even : (size - 8) % w == 0 ≡ true = grind (arith, nat_tests) in
+    let behind : size - head_size format ≡ w * n + 0 = omega arith in
+    let none : (size - head_size format) % w ≡ 0 = ap (λ k. k % w) behind ∙ mul-add-mod_self_left w n 0 ∙ mod-eq_of_lt (size-positive format) in
+    let even : (size - head_size format) % w == 0 ≡ true = grind (arith, nat_tests) in
     rw (short, even) refl
 
-pub ending-part : (w n p size : ℕ) → size ≡ 8 + w * n + p → 0 < p → p < w → size < 2 ^ 40 → ending w size ≡ Err (Truncated (8 + w * n))
+pub ending-part : (format : Format) (n p size : ℕ) → size ≡ bytes_of format n + p → 0 < p → p < record_size format → size < 2 ^ 40
+    → ending format size ≡ Err (Truncated (bytes_of format n))
 unfolding ending
-ending-part w n p size e some short fits =
+ending-part format n p size e some short fits =
+    let w = record_size format in
     let below : nat_le (2 ^ 40) size ≡ false = grind (arith, nat_tests) in
-    let behind : size - 8 ≡ w * n + p = omega arith in
-    let part : (size - 8) % w ≡ p = ap (λ k. k % w) behind ∙ mul-add-mod_self_left w n p ∙ mod-eq_of_lt short in
-    let odd : (size - 8) % w == 0 ≡ false = grind (arith, nat_tests) in
-    let positive : 0 < w = omega arith in
+    let behind : size - head_size format ≡ w * n + p = omega arith in
+    let part : (size - head_size format) % w ≡ p = ap (λ k. k % w) behind ∙ mul-add-mod_self_left w n p ∙ mod-eq_of_lt short in
+    let odd : (size - head_size format) % w == 0 ≡ false = grind (arith, nat_tests) in
     let none : p / w ≡ 0 = div-eq_of_lt short in
-    let count : (size - 8) / w ≡ n = ap (λ k. k / w) behind ∙ mul-add-div positive n p ∙ ap (λ k. n + k) none ∙ omega arith in
+    let count : (size - head_size format) / w ≡ n = ap (λ k. k / w) behind ∙ mul-add-div (size-positive format) n p ∙ ap (λ k. n + k) none ∙ omega arith in
     rw (below, odd, count) refl
 
-pub ending-long : (w size : ℕ) → 2 ^ 40 ≤ size → ending w size ≡ Err TooLong
+pub ending-long : (format : Format) (size : ℕ) → 2 ^ 40 ≤ size → ending format size ≡ Err TooLong
 unfolding ending
-ending-long w size h = let long : nat_le (2 ^ 40) size ≡ true = grind (arith, nat_tests) in rw long refl
+ending-long format size h = let long : nat_le (2 ^ 40) size ≡ true = grind (arith, nat_tests) in rw long refl

@@ -11,24 +11,26 @@ use Rattle.fact_store.specs.View.{Facts, cells_of}
 use Rattle.fact_store.proofs.Entries.{cells_in_order}
 use Rattle.record_file.specs.declared.format.Format.TheVariants.{Cells, Reports}
 use Rattle.record_file.specs.Laws.{AreParts, IsGoodReport, IsReportFile, report_file}
-use Rattle.record_file.specs.RecordFile.{kept, last_key, magic, outcome, records, told_by}
+use Rattle.record_file.specs.Head.{IsFormat, floor_of, head_bytes}
+use Rattle.record_file.specs.RecordFile.{floor_in, kept, last_key, outcome, records, told_by}
 use Rattle.record_file.specs.CellRecord.{record_bytes}
-use Rattle.record_file.specs.StoreFile.{store_bytes}
+use Rattle.record_file.specs.StoreFile.{cells_file}
 use Rattle.record_file.specs.StoreLaws.{IsStoreFile}
 use Rattle.record_file.proofs.Accepted.{accepted, faultless}
-use Rattle.record_file.proofs.StoreFiles.{AllSightings, Rise, facts_with, in_range_sightings, read_back, sorted_rise}
+use Rattle.record_file.proofs.StoreFiles.{AllAtTold, AllSightings, Rise, cells_at, facts_with, in_range_sightings, read_back, sorted_rise, store_files_are_accepted}
+use Rattle.record_file.proofs.Beginnings.{floor-some}
 use Rattle.record_file.proofs.Records.{Sightings, bytes_of, file, kept-file, length-file, records-short, told_by-good}
 
 kept-whole : (bytes : List ℕ) (rs : List (List ℕ)) → IsReportFile bytes rs → kept bytes ≡ told_by Reports None rs
 kept-whole bytes rs is =
     let good = faultless None 0 rs is.each in
-    let same : bytes ≡ file Reports rs [] = is.whole ∙ ap (λ l. magic Reports ++ l) (sym (append-nil (concat rs))) in
+    let same : bytes ≡ file Reports rs [] = is.whole ∙ ap (λ l. head_bytes Reports ++ l) (sym (append-nil (concat rs))) in
     let size = length-file Reports rs [] good.0 in
     let sized = ap length same in
     let short = is.short in
     let rest = 2 ^ 40 - bytes_of Reports (length rs) in
     let none : records 272 (take rest []) ≡ [] = ap (records 272) (take_all rest [] (omega arith)) ∙ records-short 272 [] (omega arith) in
-    ap kept same ∙ kept-file Reports rs [] good.0 (omega arith) ∙ ap (λ l. told_by Reports None (rs ++ l)) none ∙ ap (told_by Reports None) (append-nil rs)
+    ap kept same ∙ kept-file Reports refl rs [] good.0 (omega arith) ∙ ap (λ l. told_by Reports None (rs ++ l)) none ∙ ap (told_by Reports None) (append-nil rs)
 
 -- the records of a report file stand in no order
 no_key : (rs : List (List ℕ)) → last_key Reports None rs ≡ None
@@ -62,17 +64,21 @@ shorter begin front back h =
 pub split_reports : (whole front back : List ℕ) (first second : List (List ℕ)) → IsReportFile whole (first ++ second) → front ≡ report_file first
     → back ≡ report_file second → AreParts whole front back
 split_reports whole front back first second w f b =
-    let joined : whole ≡ magic Reports ++ (concat first ++ concat second) = w.whole ∙ ap (λ l. magic Reports ++ l) (concat-append first second) in
+    let joined : whole ≡ head_bytes Reports ++ (concat first ++ concat second) = w.whole ∙ ap (λ l. head_bytes Reports ++ l) (concat-append first second) in
     let sized = ap length joined in let long = w.short in
-    let short = shorter (magic Reports) (concat first) (concat second) (omega arith) in
+    let short = shorter (head_bytes Reports) (concat first) (concat second) (omega arith) in
     let front_sized = ap length f in let back_sized = ap length b in
     let is_front : IsReportFile front first = record { whole = f; each = all_front IsGoodReport first second w.each; short = let s = short.0 in omega arith } in
     let is_back : IsReportFile back second = record { whole = b; each = all_back IsGoodReport first second w.each; short = let s = short.1 in omega arith } in
+    let front_ok = (accepted front).1 (first, is_front) in
+    let back_ok = (accepted back).1 (second, is_back) in
+    let floor = sym (floor-some Reports whole ((accepted whole).1 (first ++ second, w)).0) in
     record {
-      front_accepted = ((accepted front).1 (first, is_front)).1;
-      back_accepted =
-          ((accepted back).1 (second, is_back)).1;
+      front_accepted = front_ok.1;
+      back_accepted = back_ok.1;
       together = kept-split whole front back first second w is_front is_back;
+      front_floor = floor-some Reports front front_ok.0 ∙ floor;
+      back_floor = floor-some Reports back back_ok.0 ∙ floor;
     }
 
 -- the same of a store file -----------------------------------------------------------------
@@ -94,28 +100,49 @@ sightings_back : (first second : Sightings) → AllSightings (first ++ second) �
 sightings_back [] second h = h
 sightings_back (e ∷ first) second h = sightings_back first second h.1
 
-part_of_store : (part : List ℕ) (es : Sightings) → Rise None es → AllSightings es → part ≡ store_bytes es → length part < 2 ^ 40
-    → (outcome part ≡ Ok tt) × (kept part ≡ es)
-part_of_store part es rise all is short =
-    let facts = facts_with es rise all in
-    let read = read_back part facts.0 (record { whole = is ∙ ap store_bytes (sym facts.1); floor = facts.3; in_range = facts.2; short = short }) in
-    (read.0, read.1 ∙ facts.1)
+above_front : (told : Option ℕ) (first second : Sightings) → AllAtTold told (first ++ second) → AllAtTold told first
+above_front told [] second h = tt
+above_front told (e ∷ first) second h = (h.0, above_front told first second h.1)
 
-pub split_store : (whole front back : List ℕ) (facts : Facts) (first second : Sightings) → IsStoreFile whole facts → cells_of facts ≡ first ++ second
-    → front ≡ store_bytes first → back ≡ store_bytes second → AreParts whole front back
-split_store whole front back facts first second w split f b =
+above_back : (told : Option ℕ) (first second : Sightings) → AllAtTold told (first ++ second) → AllAtTold told second
+above_back told [] second h = h
+above_back told (e ∷ first) second h = above_back told first second h.1
+
+-- a file of some of the cells, with the same floor
+record IsPart (told : Option ℕ) (part : List ℕ) (es : Sightings) : Type 0 where
+  accepted : outcome part ≡ Ok tt
+  cells : kept part ≡ es
+  floor : floor_in part ≡ floor_of (Cells told)
+
+part_of_store : (told : Option ℕ) (part : List ℕ) (es : Sightings) → IsFormat (Cells told) → Rise None es → AllSightings es → AllAtTold told es
+    → part ≡ cells_file told es → length part < 2 ^ 40 → IsPart told part es
+part_of_store told part es sound rise all above is short =
+    let f = facts_with told es sound rise all above in
+    let file : IsStoreFile told part f.facts =
+    record { whole = is ∙ ap (cells_file told) (sym f.cells); sound = sound; floor = f.floor; in_range = f.in_range; short = short } in
+    let ok = (store_files_are_accepted told part).1 (f.facts, file) in
+    record { accepted = ok.1; cells = (read_back told part f.facts file).cells ∙ f.cells; floor = floor-some (Cells told) part ok.0 }
+
+pub split_store : (told : Option ℕ) (whole front back : List ℕ) (facts : Facts) (first second : Sightings) → IsStoreFile told whole facts
+    → cells_of facts ≡ first ++ second → front ≡ cells_file told first → back ≡ cells_file told second → AreParts whole front back
+split_store told whole front back facts first second w split f b =
     let rise : Rise None (first ++ second) = subst (λ (es : Sightings). Rise None es) split (sorted_rise (cells_of facts) (cells_in_order facts)) in
     let all : AllSightings (first ++ second) = subst (λ (es : Sightings). AllSightings es) split (in_range_sightings facts w.in_range) in
-    let joined : whole ≡ magic Cells ++ (flat_map record_bytes first ++ flat_map record_bytes second) = w.whole ∙ ap store_bytes split
-    ∙ ap (λ l. magic Cells ++ l) (flat_map-append record_bytes first second) in
+    let above : AllAtTold told (first ++ second) = subst (λ (es : Sightings). AllAtTold told es) split (cells_at told facts w.floor) in
+    let joined : whole ≡ head_bytes (Cells told) ++ (flat_map record_bytes first ++ flat_map record_bytes second) = w.whole ∙ ap (cells_file told) split
+    ∙ ap (λ l. head_bytes (Cells told) ++ l) (flat_map-append record_bytes first second) in
     let sized = ap length joined in let long = w.short in
-    let short = shorter (magic Cells) (flat_map record_bytes first) (flat_map record_bytes second) (omega arith) in
+    let short = shorter (head_bytes (Cells told)) (flat_map record_bytes first) (flat_map record_bytes second) (omega arith) in
     let front_sized = ap length f in let back_sized = ap length b in
-    let is_front = part_of_store front first (rise_front None first second rise) (sightings_front first second all) f (let s = short.0 in omega arith) in
-    let is_back = part_of_store back second (rise_back None first second rise) (sightings_back first second all) b (let s = short.1 in omega arith) in
+    let is_front = part_of_store told front first w.sound (rise_front None first second rise) (sightings_front first second all)
+    (above_front told first second above) f (let s = short.0 in omega arith) in
+    let is_back = part_of_store told back second w.sound (rise_back None first second rise) (sightings_back first second all)
+    (above_back told first second above) b (let s = short.1 in omega arith) in
+    let floor = sym (floor-some (Cells told) whole ((store_files_are_accepted told whole).1 (facts, w)).0) in
     record {
-      front_accepted = is_front.0;
-      back_accepted = is_back.0;
-      together = (read_back whole facts w).1 ∙ split ∙ ap (λ x. x ++ second)
-          (sym is_front.1) ∙ ap (λ x. kept front ++ x) (sym is_back.1);
+      front_accepted = is_front.accepted;
+      back_accepted = is_back.accepted;
+      together = (read_back told whole facts w).cells ∙ split ∙ ap (λ x. x ++ second) (sym is_front.cells) ∙ ap (λ x. kept front ++ x) (sym is_back.cells);
+      front_floor = is_front.floor ∙ floor;
+      back_floor = is_back.floor ∙ floor;
     }

@@ -1,37 +1,47 @@
 -- Exactly the store files of facts in range are accepted, and they are read back.
-use Rattle.std.proofs.Common.{inl, inr, ◌≡◌, ℕ, ◌+◌, Bool, true, false, ◌&&◌, List, [], ◌∷◌, ◌++◌, Option, None, Some, Ok, Err, map, drop, cond, refl}
+use Rattle.std.proofs.Common.{inl, inr, ◌≡◌, ℕ, max, ◌+◌, Bool, true, false, ◌&&◌, List, [], ◌∷◌, ◌++◌, Option, None, Some, Result, Ok, Err, map, drop, cond, nat_eq, nat_le, refl}
 use Rattle.std.proofs.Common.{sym, ap, ◌∙◌, subst, arith, append-nil}
 use Rattle.std.specs.Prelude.{T, Contains, option_map}
 use Rattle.std.specs.declared.cmp.Ordering.TheVariants.{Less}
 use Rattle.std.specs.Ordering.{is_lt}
-use Rattle.std.specs.List.{concat, flat_map}
+use Rattle.std.specs.List.{concat, flat_map, list_all, starts_with}
+use Rattle.std.proofs.lemmas.Bool.{le-leb}
+use Rattle.std.proofs.lemmas.List.{drop_at}
 use Rattle.std.specs.FinMap.{entries}
 use Rattle.std.specs.FinMap.Entries.{below_all, is_sorted}
 use Rattle.fact_join.specs.declared.cell.Cell.{Cell}
+use Rattle.fact_join.specs.Cell.{generation_of}
 use Rattle.fact_store.specs.declared.key.Key.{Key}
 use Rattle.fact_store.specs.declared.value.Value.{Value}
 use Rattle.fact_store.specs.Key.{is_above, key_cmp}
 use Rattle.fact_store.specs.Sighting.{AreInRange, IsSighting}
-use Rattle.fact_store.specs.View.{Facts, view, view_at, cells_of, no_facts}
+use Rattle.fact_store.specs.Floor.{dropped, entries-dropped, has_floor, is_kept, kept as kept_cells}
+use Rattle.fact_store.specs.Seen.{seen}
+use Rattle.fact_store.specs.View.{Facts, view_at, cells_of, no_facts}
 use Rattle.fact_store.proofs.Entries.{cells_in_order}
 use Rattle.fact_store.proofs.Keys.{key_total}
 use Rattle.fact_store.proofs.Merges.{merge_empty}
 use Rattle.smp_bytes.proofs.Members.{contains_cases, contains_here, contains_later, contains_none}
 use Rattle.fact_store.proofs.Orders.{contained_get, get_contained, less_from_test}
-use Rattle.fact_store.proofs.Views.{found_of_view, view_of_its_cells}
+use Rattle.fact_store.proofs.Views.{view_of_its_cells}
 use Rattle.fact_store.proofs.CellOrder.{entries-rising}
 use Rattle.record_file.specs.declared.file_fault.FileFault.{FileFault}
-use Rattle.record_file.specs.declared.file_fault.FileFault.TheVariants.{CellOrder}
+use Rattle.record_file.specs.declared.file_fault.FileFault.TheVariants.{BadCell, CellOrder}
+use Rattle.record_file.specs.declared.format.Format.{Format}
 use Rattle.record_file.specs.declared.format.Format.TheVariants.{Cells}
 use Rattle.std.specs.Io.KnownBytes.{Consumes, IsAtEnd}
 use Rattle.record_file.specs.Absorbs.{AbsorbsFrom}
 use Rattle.record_file.specs.CellRecord.{cell_of, record_bytes}
-use Rattle.record_file.specs.RecordFile.{fault_or, first_fault, key_in, kept, magic, of_cell, records, records_in_reach, told_by, told_then}
-use Rattle.record_file.specs.StoreFile.{store_bytes}
-use Rattle.record_file.specs.StoreLaws.{AbsorbingReadsBack, FactsAreReadBack, FactsHaveOneSpelling, IsStoreFile, StoreFilesAreAccepted}
+use Rattle.record_file.specs.Head.{IsFormat, floor_of, floored_magic, head_bytes, head_size}
+use Rattle.record_file.specs.RecordFile.{Judgement, facts_in, fault_or, first_fault, floor_in, is_at_told, key_in, kept, of_cell, records, records_in_reach, told_by}
+use Rattle.record_file.specs.RecordFile.{outcome, told_then}
+use Rattle.record_file.specs.StoreFile.{cells_file}
+use Rattle.record_file.specs.StoreLaws.{AbsorbingReadsBack, FactsAreReadBack, FactsHaveOneSpelling, IsFlooredFile, IsStoreFile, StoreFilesAreAccepted}
 use Rattle.record_file.proofs.Accepted.{IsFile, accepted_is_file, file_is_accepted}
 use Rattle.record_file.proofs.Cells.{cell_of-is, cell_of-record, length-record}
-use Rattle.record_file.proofs.Records.{AreRecords, Sightings, kept-magic, records-concat, records-short}
+use Rattle.record_file.proofs.Beginnings.{floor-some, found, well_found}
+use Rattle.record_file.proofs.Heads.{floor_positive, floored_format, length-head, whole_of}
+use Rattle.record_file.proofs.Records.{AreRecords, Sightings, kept-head, records-concat, records-short}
 
 -- keys that rise, and lists in their order -------------------------------------------------
 
@@ -113,59 +123,112 @@ sighting_there (x ∷ es) h e there =
     let P : Key × Cell Value → Type 0 = IsSighting in
     elim (contains_cases x e es there) [ inl same ↦ subst P same h.0 | inr later ↦ sighting_there es h.1 e later ]
 
--- good records are the spellings of sightings whose keys rise, and tell them
-pub record Spelled (last : Option Key) (i : ℕ) (es : Sightings) : Type 0 where
-  pub records : AreRecords 32 (map record_bytes es)
-  pub good : first_fault Cells last i (map record_bytes es) ≡ None
-  pub told : told_by Cells last (map record_bytes es) ≡ es
+-- each is at the floor that is told, or above it
+abbrev pub AllAtTold : Option ℕ → Sightings → Type 0
+AllAtTold told [] = Unit {0}
+AllAtTold told (e ∷ es) = (is_at_told told e.1 ≡ true) × AllAtTold told es
 
-pub spelled : (last : Option Key) (i : ℕ) (es : Sightings) → Rise last es → AllSightings es → Spelled last i es
-spelled last i [] rise all = record { records = tt; good = refl; told = refl }
-spelled last i (e ∷ es) rise all =
-    let later = spelled (Some e.0) (i + 1) es rise.1 all.1 in
+-- good records are the spellings of sightings whose keys rise, none below the floor, and tell them
+pub record Spelled (told : Option ℕ) (last : Option Key) (i : ℕ) (es : Sightings) : Type 0 where
+  pub records : AreRecords 32 (map record_bytes es)
+  pub good : first_fault (Cells told) last i (map record_bytes es) ≡ None
+  pub tells : told_by (Cells told) last (map record_bytes es) ≡ es
+
+pub spelled : (told : Option ℕ) (last : Option Key) (i : ℕ) (es : Sightings) → Rise last es → AllSightings es → AllAtTold told es → Spelled told last i es
+spelled told last i [] rise all above = record { records = tt; good = refl; tells = refl }
+spelled told last i (e ∷ es) rise all above =
+    let later = spelled told (Some e.0) (i + 1) es rise.1 all.1 above.1 in
     let is = cell_of-record e all.0 in
-    let judgement : of_cell last (cell_of (record_bytes e)) ≡ Ok (e ∷ []) = ap (of_cell last) is ∙ ap (λ b. cond b (Ok (e ∷ [])) (Err CellOrder)) rise.0 in
-    let key : key_in Cells (record_bytes e) ≡ Some e.0 = ap (option_map (λ e. e.0)) is in
+    let judgement : of_cell told last (cell_of (record_bytes e)) ≡ Ok (e ∷ []) = ap (of_cell told last) is
+    ∙ ap (λ (b : Bool). let j : Judgement = cond b (cond (is_above last e.0) (Ok (e ∷ [])) (Err CellOrder)) (Err BadCell) in j) above.0
+    ∙ ap (λ (b : Bool). let j : Judgement = cond b (Ok (e ∷ [])) (Err CellOrder) in j) rise.0 in
+    let key : key_in (Cells told) (record_bytes e) ≡ Some e.0 = ap (option_map (λ e. e.0)) is in
     record {
       records = (length-record e, later.records);
-      good = ap (λ v. fault_or i v (first_fault Cells (key_in Cells (record_bytes e)) (i + 1) (map record_bytes es))) judgement
-          ∙ ap (λ k. first_fault Cells k (i + 1) (map record_bytes es)) key ∙ later.good;
-      told = ap (λ v. told_then v (told_by Cells (key_in Cells (record_bytes e)) (map record_bytes es))) judgement
-          ∙ ap (λ k. e ∷ told_by Cells k (map record_bytes es)) key ∙ ap (λ l. e ∷ l) later.told;
+      good = ap (λ v. fault_or i v (first_fault (Cells told) (key_in (Cells told) (record_bytes e)) (i + 1) (map record_bytes es))) judgement
+          ∙ ap (λ k. first_fault (Cells told) k (i + 1) (map record_bytes es)) key ∙ later.good;
+      tells = ap (λ v. told_then v (told_by (Cells told) (key_in (Cells told) (record_bytes e)) (map record_bytes es))) judgement
+          ∙ ap (λ k. e ∷ told_by (Cells told) k (map record_bytes es)) key ∙ ap (λ l. e ∷ l) later.tells;
     }
 
 -- sightings of which records are the spellings
-pub record Spells (last : Option Key) (rs : List (List ℕ)) (es : Sightings) : Type 0 where
+pub record Spells (told : Option ℕ) (last : Option Key) (rs : List (List ℕ)) (es : Sightings) : Type 0 where
   pub records : rs ≡ map record_bytes es
   pub rise : Rise last es
   pub sightings : AllSightings es
+  pub above : AllAtTold told es
 
-good_cell_is : (last : Option Key) (i : ℕ) (o : Option (Key × Cell Value)) (later : Option FileFault) → fault_or i (of_cell last o) later ≡ None
-    → (e : Key × Cell Value) × (o ≡ Some e) × (is_above last e.0 ≡ true) × (later ≡ None)
-good_cell_is last i None later h = absurd (cc)
-good_cell_is last i (Some e) later h =
-    elim (is_above last e.0) as (λ b. is_above last e.0 ≡ b → fault_or i (cond b (Ok (e ∷ [])) (Err CellOrder)) later ≡ None → (f : Key × Cell Value) ×
-    (Some e ≡ Some f) × (is_above last f.0 ≡ true) × (later ≡ None)) [
-      | true ↦ λ t k. (e, refl, t, k)
-      | false ↦ λ t k. absurd (cc)
-    ] refl h
+-- a good cell
+pub record GoodCell (told : Option ℕ) (last : Option Key) (o : Option (Key × Cell Value)) (later : Option FileFault) : Type 0 where
+  pub e : Key × Cell Value
+  pub is : o ≡ Some e
+  pub at : is_at_told told e.1 ≡ true
+  pub after : is_above last e.0 ≡ true
+  pub none : later ≡ None
 
-pub good_spells : (last : Option Key) (i : ℕ) (rs : List (List ℕ)) → first_fault Cells last i rs ≡ None → (es : Sightings) × Spells last rs es
-good_spells last i [] h = ([], record { records = refl; rise = tt; sightings = tt })
-good_spells last i (r ∷ rs) h =
-    let first = good_cell_is last i (cell_of r) (first_fault Cells (key_in Cells r) (i + 1) rs) h in
-    let e = first.0 in
-    let is = cell_of-is r e first.1 in
-    let key : key_in Cells r ≡ Some e.0 = ap (option_map (λ e. e.0)) first.1 in
-    let later = good_spells (Some e.0) (i + 1) rs (ap (λ k. first_fault Cells k (i + 1) rs) (sym key) ∙ first.3) in (
+good_cell_by : (told : Option ℕ) (last : Option Key) (i : ℕ) (e : Key × Cell Value) (later : Option FileFault) (a b : Bool) → is_at_told told e.1 ≡ a
+    → is_above last e.0 ≡ b → fault_or i (cond a (cond b (Ok (e ∷ [])) (Err CellOrder)) (Err BadCell)) later ≡ None → GoodCell told last (Some e) later
+good_cell_by told last i e later true true at after h = record { e = e; is = refl; at = at; after = after; none = h }
+good_cell_by told last i e later true false at after h = absurd (cc)
+good_cell_by told last i e later false b at after h = absurd (cc)
+
+good_cell_is : (told : Option ℕ) (last : Option Key) (i : ℕ) (o : Option (Key × Cell Value)) (later : Option FileFault)
+    → fault_or i (of_cell told last o) later ≡ None → GoodCell told last o later
+good_cell_is told last i None later h = absurd (cc)
+good_cell_is told last i (Some e) later h = good_cell_by told last i e later (is_at_told told e.1) (is_above last e.0) refl refl h
+
+pub good_spells : (told : Option ℕ) (last : Option Key) (i : ℕ) (rs : List (List ℕ)) → first_fault (Cells told) last i rs ≡ None
+    → (es : Sightings) × Spells told last rs es
+good_spells told last i [] h = ([], record { records = refl; rise = tt; sightings = tt; above = tt })
+good_spells told last i (r ∷ rs) h =
+    let first = good_cell_is told last i (cell_of r) (first_fault (Cells told) (key_in (Cells told) r) (i + 1) rs) h in
+    let e = first.e in
+    let is = cell_of-is r e first.is in
+    let key : key_in (Cells told) r ≡ Some e.0 = ap (option_map (λ e. e.0)) first.is in
+    let later = good_spells told (Some e.0) (i + 1) rs (ap (λ k. first_fault (Cells told) k (i + 1) rs) (sym key) ∙ first.none) in (
       e ∷ later.0,
       record {
         records = ap (λ x. x ∷ rs) is.1 ∙ ap (λ l. record_bytes e ∷ l) later.1.records;
-        rise = (first.2, later.1.rise);
-        sightings =
-            (is.0, later.1.sightings);
+        rise = (first.after, later.1.rise);
+        sightings = (is.0, later.1.sightings);
+        above = (first.at, later.1.above);
       },
     )
+
+-- floors ----------------------------------------------------------------------------------
+
+all_at : (floor : ℕ) (es : Sightings) → T (list_all (λ e. is_kept floor e.1) es) → AllAtTold (Some floor) es
+all_at floor [] h = tt
+all_at floor (e ∷ es) h = (
+  true_is (is_kept floor e.1) (first_of (is_kept floor e.1) (list_all (λ x. is_kept floor x.1) es) h),
+  all_at floor es (second_of (is_kept floor e.1) (list_all (λ x. is_kept floor x.1) es) h),
+)
+
+all_untold : (es : Sightings) → AllAtTold None es
+all_untold [] = tt
+all_untold (e ∷ es) = (refl, all_untold es)
+
+-- the cells of facts are at their floor
+pub cells_at : (told : Option ℕ) (facts : Facts) → facts.floor ≡ floor_of (Cells told) → AllAtTold told (cells_of facts)
+cells_at None facts same = all_untold (cells_of facts)
+cells_at (Some floor) facts same =
+    let P : ℕ → Type 0 = λ f. T (has_floor f facts.found) in
+    let above : T (has_floor floor facts.found) = subst P same facts.above in
+    all_at floor (cells_of facts) (second_of (nat_le 1 floor) (list_all (λ e. is_kept floor e.1) (entries facts.found)) above)
+
+at_one : (c : Cell Value) → is_kept 1 c ≡ true
+at_one c = le-leb 1 (max 1 (generation_of c)) (omega arith)
+
+-- what is at the floor that is told is kept there
+told_kept : (told : Option ℕ) (c : Cell Value) → is_at_told told c ≡ true → is_kept (floor_of (Cells told)) c ≡ true
+told_kept None c h = at_one c
+told_kept (Some floor) c h = h
+
+all_kept : (told : Option ℕ) (es : Sightings) → AllAtTold told es → kept_cells (floor_of (Cells told)) es ≡ es
+all_kept told [] h = refl
+all_kept told (e ∷ es) h =
+    ap (λ b. cond b (e ∷ kept_cells (floor_of (Cells told)) es) (kept_cells (floor_of (Cells told)) es)) (told_kept told e.1 h.0)
+    ∙ ap (λ l. e ∷ l) (all_kept told es h.1)
 
 -- whole files ---------------------------------------------------------------------------
 
@@ -176,67 +239,102 @@ flat (e ∷ es) = ap (λ l. record_bytes e ++ l) (flat es)
 pub in_range_sightings : (facts : Facts) → AreInRange facts → AllSightings (cells_of facts)
 in_range_sightings facts h = all_sightings (cells_of facts) (λ e there. h e.0 e.1 (contained_get facts.found e.0 e.1 there))
 
-facts_spelled : (facts : Facts) → AreInRange facts → Spelled None 0 (cells_of facts)
-facts_spelled facts h = spelled None 0 (cells_of facts) (sorted_rise (cells_of facts) (cells_in_order facts)) (in_range_sightings facts h)
+facts_spelled : (told : Option ℕ) (facts : Facts) → AreInRange facts → facts.floor ≡ floor_of (Cells told) → Spelled told None 0 (cells_of facts)
+facts_spelled told facts h floor =
+    spelled told None 0 (cells_of facts) (sorted_rise (cells_of facts) (cells_in_order facts)) (in_range_sightings facts h) (cells_at told facts floor)
 
-whole_file : (facts : Facts) → store_bytes (cells_of facts) ≡ magic Cells ++ concat (map record_bytes (cells_of facts))
-whole_file facts = ap (λ l. magic Cells ++ l) (flat (cells_of facts))
+whole_file : (told : Option ℕ) (facts : Facts) → cells_file told (cells_of facts) ≡ head_bytes (Cells told) ++ concat (map record_bytes (cells_of facts))
+whole_file told facts = ap (λ l. head_bytes (Cells told) ++ l) (flat (cells_of facts))
 
-store_is_file : (bytes : List ℕ) (facts : Facts) → IsStoreFile bytes facts → IsFile Cells bytes (map record_bytes (cells_of facts))
-store_is_file bytes facts is =
-    let spells = facts_spelled facts is.in_range in
-    record { whole = is.whole ∙ whole_file facts; records = spells.records; good = spells.good; short = is.short }
+store_is_file : (told : Option ℕ) (bytes : List ℕ) (facts : Facts) → IsStoreFile told bytes facts → IsFile (Cells told) bytes (map record_bytes (cells_of facts))
+store_is_file told bytes facts is =
+    let spells = facts_spelled told facts is.in_range is.floor in
+    record { sound = is.sound; whole = is.whole ∙ whole_file told facts; records = spells.records; good = spells.good; short = is.short }
 
 -- the records of a store file
-records-file : (facts : Facts) → AreInRange facts → records 32 (drop 8 (store_bytes (cells_of facts))) ≡ map record_bytes (cells_of facts)
-records-file facts h =
+records-file : (told : Option ℕ) (bytes : List ℕ) (facts : Facts) → IsStoreFile told bytes facts
+    → records 32 (drop (head_size (Cells told)) bytes) ≡ map record_bytes (cells_of facts)
+records-file told bytes facts is =
     let rs = map record_bytes (cells_of facts) in
-    ap (λ l. records 32 (drop 8 l)) (whole_file facts) ∙ ap (records 32) (sym (append-nil (concat rs)))
-    ∙ records-concat 32 rs [] (omega arith) (facts_spelled facts h).records
+    ap (λ l. records 32 (drop (head_size (Cells told)) l)) (is.whole ∙ whole_file told facts)
+    ∙ ap (records 32) (drop_at (head_bytes (Cells told)) (concat rs) (head_size (Cells told)) (length-head (Cells told)) ∙ sym (append-nil (concat rs)))
+    ∙ records-concat 32 rs [] (omega arith) (facts_spelled told facts is.in_range is.floor).records
     ∙ ap (λ l. rs ++ l) (records-short 32 [] (omega arith)) ∙ append-nil rs
 
 pub read_back : FactsAreReadBack
-read_back bytes facts is =
-    let ok = file_is_accepted Cells bytes (map record_bytes (cells_of facts)) (store_is_file bytes facts is) in
-    let reach = (accepted_is_file Cells bytes ok.0 ok.1).0 in
-    let rs = reach ∙ ap (λ l. records 32 (drop 8 l)) is.whole ∙ records-file facts is.in_range in
+read_back told bytes facts is =
+    let ok = file_is_accepted (Cells told) bytes (map record_bytes (cells_of facts)) (store_is_file told bytes facts is) in
+    let reach = (accepted_is_file (Cells told) bytes ok.0 ok.1).0 in
+    let rs = reach ∙ records-file told bytes facts is in
+    let whole = is.whole ∙ whole_file told facts in
     let keeps : kept bytes ≡ cells_of facts =
-    ap kept (is.whole ∙ whole_file facts) ∙ kept-magic Cells (concat (map record_bytes (cells_of facts)))
-    ∙ ap (λ b. told_by Cells None (records_in_reach Cells b)) (sym (is.whole ∙ whole_file facts))
-    ∙ ap (told_by Cells None) rs ∙ (facts_spelled facts is.in_range).told in
-    (ok.1, keeps, ap view keeps ∙ ap (λ f. view_at f (cells_of facts)) (sym is.floor) ∙ view_of_its_cells facts)
+    ap kept whole ∙ kept-head (Cells told) is.sound (concat (map record_bytes (cells_of facts)))
+    ∙ ap (λ b. told_by (Cells told) None (records_in_reach (Cells told) b)) (sym whole)
+    ∙ ap (told_by (Cells told) None) rs ∙ (facts_spelled told facts is.in_range is.floor).tells in
+    record {
+      accepted = ok.1;
+      cells = keeps;
+      says = ap (λ l. view_at (floor_in bytes) l) keeps
+          ∙ ap (λ f. view_at f (cells_of facts)) (floor-some (Cells told) bytes ok.0 ∙ sym is.floor) ∙ view_of_its_cells facts;
+    }
 
 -- the facts whose entries these are
-pub facts_with : (es : Sightings) → Rise None es → AllSightings es → (facts : Facts) × (cells_of facts ≡ es) × AreInRange facts × (facts.floor ≡ 1)
-facts_with es rise sightings =
-    let facts : Facts = view es in
-    let same : cells_of facts ≡ es = ap entries (found_of_view es) ∙ entries-rising es (rising_sorted es rise) in
+pub record FactsWith (told : Option ℕ) (es : Sightings) : Type 0 where
+  pub facts : Facts
+  pub cells : cells_of facts ≡ es
+  pub in_range : AreInRange facts
+  pub floor : facts.floor ≡ floor_of (Cells told)
+
+pub facts_with : (told : Option ℕ) (es : Sightings) → IsFormat (Cells told) → Rise None es → AllSightings es → AllAtTold told es → FactsWith told es
+facts_with told es sound rise sightings above =
+    let floor = floor_of (Cells told) in
+    let facts : Facts = view_at floor es in
+    let least : max 1 floor ≡ floor = omega (arith, floor_positive (Cells told) sound) in
+    let same : cells_of facts ≡ es = ap (λ f. entries (dropped f (seen es))) least ∙ entries-dropped floor (seen es)
+    ∙ ap (kept_cells floor) (entries-rising es (rising_sorted es rise)) ∙ all_kept told es above in
     let P : Sightings → Type 0 = AllSightings in
     let all = subst P (sym same) sightings in
-    (facts, same, (λ key c there. sighting_there (cells_of facts) all (key, c) (get_contained facts.found key c there)), refl)
+    record {
+      facts = facts;
+      cells = same;
+      in_range = λ key c there. sighting_there (cells_of facts) all (key, c) (get_contained facts.found key c there);
+      floor = least;
+    }
 
 pub store_files_are_accepted : StoreFilesAreAccepted
-store_files_are_accepted bytes = (
+store_files_are_accepted told bytes = (
   (λ ok.
-      let is = (accepted_is_file Cells bytes ok.0 ok.1).1 in
-      let found = good_spells None 0 (records 32 (drop 8 bytes)) is.good in
-      let facts = facts_with found.0 found.1.rise found.1.sightings in (
-        facts.0,
+      let is = (accepted_is_file (Cells told) bytes ok.0 ok.1).1 in
+      let spells = good_spells told None 0 (records 32 (drop (head_size (Cells told)) bytes)) is.good in
+      let f = facts_with told spells.0 is.sound spells.1.rise spells.1.sightings spells.1.above in (
+        f.facts,
         record {
-          whole = is.whole ∙ ap (λ rs. magic Cells ++ concat rs) (found.1.records ∙ ap (map record_bytes) (sym facts.1)) ∙ sym (whole_file facts.0);
-          floor = facts.3;
-          in_range = facts.2;
+          whole = is.whole ∙ ap (λ rs. head_bytes (Cells told) ++ concat rs) (spells.1.records ∙ ap (map record_bytes) (sym f.cells)) ∙ sym (whole_file told f.facts);
+          sound = is.sound;
+          floor = f.floor;
+          in_range = f.in_range;
           short = is.short;
         },
       )),
-  (λ file. file_is_accepted Cells bytes (map record_bytes (cells_of file.0)) (store_is_file bytes file.0 file.1)),
+  (λ file. file_is_accepted (Cells told) bytes (map record_bytes (cells_of file.0)) (store_is_file told bytes file.0 file.1)),
 )
 
+-- a file that tells its floor is the store file of what it says
+floored_is : (bytes : List ℕ) → IsFlooredFile bytes → (floor : ℕ) × (facts : Facts) × IsStoreFile (Some floor) bytes facts
+floored_is bytes is =
+    let was = well_found bytes (outcome bytes) (found bytes) is.accepted in
+    let begins = (whole_of bytes was.0 was.1).1 in
+    let floored = floored_format was.0 begins.0 (ap (λ l. starts_with nat_eq l floored_magic) (sym begins.1) ∙ is.begins) in
+    let f = (store_files_are_accepted (Some floored.0) bytes).0 (was.1 ∙ ap (λ (f : Format). let r : Result Format FileFault = Ok f in r) floored.1, is.accepted) in
+    (floored.0, f.0, f.1)
+
 pub one_spelling : FactsHaveOneSpelling
-one_spelling x y floors in_x in_y same =
-    let rs = sym (records-file x in_x) ∙ ap (λ l. records 32 (drop 8 l)) same ∙ records-file y in_y in
-    let es = sym (facts_spelled x in_x).told ∙ ap (told_by Cells None) rs ∙ (facts_spelled y in_y).told in
-    sym (view_of_its_cells x) ∙ (λ i. view_at (floors i) (es i)) ∙ view_of_its_cells y
+one_spelling bytes others one other same =
+    let a = floored_is bytes one in
+    let b = floored_is others other in
+    let facts : a.1 ≡ b.1 = sym (read_back (Some a.0) bytes a.1 a.2).says ∙ same ∙ (read_back (Some b.0) others b.1 b.2).says in
+    let floors : a.0 ≡ b.0 = sym a.2.floor ∙ ap (λ (x : Facts). x.floor) facts ∙ b.2.floor in
+    a.2.whole ∙ ap (λ n. cells_file (Some n) (cells_of a.1)) floors ∙ ap (λ (x : Facts). cells_file (Some b.0) (cells_of x)) facts ∙ sym b.2.whole
 
 -- what was taken of a known source that ended is all of it
 taken_whole : (left left' : Option (List ℕ)) (n m : ℕ) (bytes rest : List ℕ) (old new : Facts) → left ≡ Some bytes → left' ≡ Some rest
@@ -248,6 +346,6 @@ taken_whole left left' n m bytes rest old new before after h =
     sym (ends.0 ∙ ap (λ r. h.taken ++ r) ends.1 ∙ append-nil h.taken)
 
 pub absorbing_reads_back : {S : Type 0} (left : S → Option (List ℕ)) (interruptions : S → ℕ) → AbsorbingReadsBack left interruptions
-absorbing_reads_back left interruptions source source' bytes rest facts new before after is absorbed =
+absorbing_reads_back left interruptions source source' told bytes rest facts new before after is absorbed =
     let whole = taken_whole (left source) (left source') (interruptions source) (interruptions source') bytes rest no_facts new before after absorbed in
-    absorbed.held ∙ merge_empty (view (kept absorbed.taken)) ∙ ap (λ b. view (kept b)) whole ∙ (read_back bytes facts is).2
+    absorbed.held ∙ merge_empty (facts_in absorbed.taken) ∙ ap facts_in whole ∙ (read_back told bytes facts is).says

@@ -1,13 +1,14 @@
 -- What absorbing a source leaves of it and of the store, and what it answers.
-use Rattle.std.specs.Prelude.{◌≡◌, ◌⊎◌, ℕ, ◌+◌, ◌<◌, ◌≤◌, ◌^◌, List, [], ◌∷◌, ◌++◌, Option, None, Some, Result, Ok, Err, IfSome, length}
-use Rattle.std.specs.List.{concat}
+use Rattle.std.specs.Prelude.{◌≡◌, ◌⊎◌, ℕ, true, nat_eq, ◌+◌, ◌<◌, ◌≤◌, ◌^◌, List, [], ◌∷◌, ◌++◌, Option, None, Result, Ok, Err, IfSome, length}
+use Rattle.std.specs.List.{concat, starts_with}
 use Rattle.std.specs.Io.KnownBytes.{Consumes, IsAtEnd}
 use Rattle.fact_store.specs.View.{Facts, view}
 use Rattle.fact_store.specs.Merge.{merge}
 use Rattle.record_file.specs.declared.file_fault.FileFault.{FileFault}
 use Rattle.record_file.specs.declared.file_fault.FileFault.TheVariants.{Magic, Truncated, Read, Memory, TooLong}
 use Rattle.record_file.specs.declared.format.Format.{Format}
-use Rattle.record_file.specs.RecordFile.{AreGoodRecords, Judgement, fault_in, format_of, kept, magic, outcome}
+use Rattle.record_file.specs.Head.{IsFormat, floored_magic, format_in, head_bytes}
+use Rattle.record_file.specs.RecordFile.{AreGoodRecords, Judgement, facts_in, fault_in, outcome}
 
 -- what a record is judged to tell is in the store, unless there was no memory for it; or it is bad, and that is the answer
 abbrev pub AbsorbsJudged : {K : Type 0} → Judgement → ℕ → Result K FileFault → Facts → Facts → Type 0
@@ -21,15 +22,16 @@ pub record EndsBehindRecord (taken : List ℕ) : Type 0 where
   pub records : List (List ℕ)
   pub last : List ℕ
   pub behind : List ℕ
-  pub whole : taken ≡ magic format ++ (concat records ++ (last ++ behind))
+  pub sound : IsFormat format
+  pub whole : taken ≡ head_bytes format ++ (concat records ++ (last ++ behind))
   pub good : AreGoodRecords format None (records ++ last ∷ [])
   pub near : length behind < 4096
 
--- what the taken bytes keep was merged into the store; for want of memory what the records before the one that wanted it keep
+-- what the taken bytes say was merged into the store; for want of memory what those before the record say that wanted it
 abbrev pub HoldsKept : Result (Unit {0}) FileFault → Facts → Facts → List ℕ → Type 0
 HoldsKept (Err Memory) old new taken =
-    (wanted : EndsBehindRecord taken) × (new ≡ merge old (view (kept (magic wanted.format ++ concat wanted.records))))
-HoldsKept _ old new taken = new ≡ merge old (view (kept taken))
+    (wanted : EndsBehindRecord taken) × (new ≡ merge old (facts_in (head_bytes wanted.format ++ concat wanted.records)))
+HoldsKept _ old new taken = new ≡ merge old (facts_in taken)
 
 -- the answer is what reading these bytes answers, unless a read or a growth failed, or too many calls were interrupted
 abbrev pub AnswersOutcome : Result (Unit {0}) FileFault → List ℕ → Type 0 → Type 0
@@ -39,9 +41,13 @@ AnswersOutcome (Err Memory) bytes interrupted = Unit {0}
 AnswersOutcome (Err TooLong) bytes interrupted = (outcome bytes ≡ Err TooLong) ⊎ interrupted
 AnswersOutcome (Err f) bytes interrupted = outcome bytes ≡ Err f
 
--- a magic is still to come, or there is one with nothing but good records behind it so far
+-- the magic is still to come, or the header behind it
+abbrev pub HasNoHeadYet : List ℕ → Type 0
+HasNoHeadYet taken = (length taken < 8) ⊎ ((starts_with nat_eq taken floored_magic ≡ true) × (length taken < 16))
+
+-- a head is still to come, or there is one with nothing but good records behind it so far
 abbrev pub HasNoFaultYet : List ℕ → Type 0
-HasNoFaultYet taken = (length taken < 8) ⊎ ((format : Format) × (format_of taken ≡ Some format) × (fault_in format taken ≡ None))
+HasNoFaultYet taken = HasNoHeadYet taken ⊎ ((format : Format) × (format_in taken ≡ Ok format) × (fault_in format taken ≡ None))
 
 -- no fault is in the bytes, or they end a piece behind a good record, with good ones alone before it
 abbrev pub HasNoFaultBefore : List ℕ → Type 0
@@ -65,7 +71,7 @@ abbrev pub IsBounded : Result (Unit {0}) FileFault → ℕ → ℕ → ℕ → T
 IsBounded (Err TooLong) bytes interruptions interruptions' = (bytes ≤ 2 ^ 40) × (interruptions' ≤ 2 ^ 40 + interruptions)
 IsBounded _ bytes interruptions interruptions' = (bytes < 2 ^ 40) × (interruptions' < 2 ^ 40 + interruptions)
 
--- bytes were taken, the store holds what they keep, and the answer is theirs
+-- bytes were taken, the store holds what they say, and the answer is theirs
 pub record AbsorbsFrom (left left' : Option (List ℕ)) (interruptions interruptions' : ℕ) (answer : Result (Unit {0}) FileFault) (old new : Facts) : Type 0 where
   pub taken : List ℕ
   pub consumed : Consumes left left' taken

@@ -5,15 +5,17 @@ use Rattle.std.specs.List.{concat}
 use Rattle.fact_join.specs.declared.cell.Cell.{Cell}
 use Rattle.fact_store.specs.declared.key.Key.{Key}
 use Rattle.fact_store.specs.declared.value.Value.{Value}
-use Rattle.fact_store.specs.View.{Facts, view}
+use Rattle.fact_store.specs.View.{Facts, raised, view_at}
 use Rattle.fact_store.specs.Merge.{merge}
 use Rattle.record_file.specs.declared.awaited.Awaited.{Awaited}
 use Rattle.record_file.specs.declared.awaited.Awaited.TheVariants as awaited
 use Rattle.record_file.specs.declared.file_fault.FileFault.{FileFault}
-use Rattle.record_file.specs.declared.file_fault.FileFault.TheVariants.{Magic, Truncated, Memory}
+use Rattle.record_file.specs.declared.file_fault.FileFault.TheVariants.{Magic, Truncated, BadFloor, Memory}
 use Rattle.record_file.specs.declared.format.Format.{Format}
+use Rattle.record_file.specs.declared.format.Format.TheVariants.{Cells}
 use Rattle.record_file.specs.Absorbs.{AbsorbsJudged}
-use Rattle.record_file.specs.RecordFile.{AreGoodRecords, format_of, judged, kept, key_in, last_key, magic, outcome, record_size}
+use Rattle.record_file.specs.Head.{IsFormat, floor_told, floored_magic, format_in, head_bytes, head_size}
+use Rattle.record_file.specs.RecordFile.{AreGoodRecords, floor_in, judged, kept, key_in, last_key, outcome, record_size}
 
 -- what an absorber waits for, or the fault that it stopped with; and the bytes of the awaited that came
 pub record Absorbing : Type 0 where
@@ -23,12 +25,14 @@ pub record Absorbing : Type 0 where
 -- the bytes of what is awaited
 abbrev pub awaited_size : Awaited → ℕ
 awaited_size awaited.Magic = 8
+awaited_size awaited.Header = 8
 awaited_size (awaited.Record format index last) = record_size format
 
 -- the bytes before it
 abbrev pub place_of : Awaited → ℕ
 place_of awaited.Magic = 0
-place_of (awaited.Record format index last) = 8 + record_size format * index
+place_of awaited.Header = 8
+place_of (awaited.Record format index last) = head_size format + record_size format * index
 
 -- not all of its bytes came
 abbrev pub IsShortOf : Awaited → List ℕ → Type 0
@@ -39,10 +43,11 @@ abbrev pub IsInReach : Result Awaited FileFault → List ℕ → Type 0
 IsInReach (Ok awaited) part = IsShortOf awaited part × (place_of awaited + length part < 2 ^ 40)
 IsInReach (Err fault) part = Unit {0}
 
--- these bytes are the magic, good records, and a part of the next one, which is this one
+-- these bytes are the head, good records, and a part of the next one, which is this one
 pub record IsBehindRecords (format : Format) (index : ℕ) (last : Option Key) (part fed : List ℕ) : Type 0 where
   pub records : List (List ℕ)
-  pub whole : fed ≡ magic format ++ (concat records ++ part)
+  pub sound : IsFormat format
+  pub whole : fed ≡ head_bytes format ++ (concat records ++ part)
   pub good : AreGoodRecords format None records
   pub count : index ≡ length records
   pub key : last ≡ last_key format None records
@@ -51,6 +56,7 @@ pub record IsBehindRecords (format : Format) (index : ℕ) (last : Option Key) (
 -- after these bytes that is awaited, and that part of it came
 abbrev pub Awaits : Awaited → List ℕ → List ℕ → Type 0
 Awaits awaited.Magic part fed = (fed ≡ part) × (length part < 8)
+Awaits awaited.Header part fed = (fed ≡ floored_magic ++ part) × (length part < 8)
 Awaits (awaited.Record format index last) part fed = IsBehindRecords format index last part fed
 
 -- the absorber was fed these bytes, and none of them had a fault
@@ -75,25 +81,30 @@ staying n (Err fault) = Some fault
 abbrev pub fault_so_far : List ℕ → Option FileFault
 fault_so_far bytes = staying (length bytes) (outcome bytes)
 
--- what the records tell that this piece completes was merged into the store
+-- the floor that a piece tells behind these bytes: that of all of them, unless it was told before
+abbrev pub floor_behind : List ℕ → List ℕ → ℕ
+floor_behind fed piece = if floor_in fed == 1 then floor_in (fed ++ piece) else 1
+
+-- what the head and the records tell that this piece completes was merged into the store
 pub record AddsTold (fed piece : List ℕ) (old new : Facts) : Type 0 where
   pub told : List (Key × Cell Value)
   pub more : kept (fed ++ piece) ≡ kept fed ++ told
-  pub held : new ≡ merge old (view told)
+  pub held : new ≡ merge old (view_at (floor_behind fed piece) told)
 
--- a good record that this piece completes wanted memory; what those before it tell was merged into the store
+-- a good record that this piece completes wanted memory; what the head and the records before it tell was merged into the store
 pub record WantsMemory (fed piece : List ℕ) (old new : Facts) : Type 0 where
   pub format : Format
   pub records : List (List ℕ)
   pub r : List ℕ
   pub behind : List ℕ
-  pub whole : fed ++ piece ≡ magic format ++ (concat records ++ (r ++ behind))
+  pub sound : IsFormat format
+  pub whole : fed ++ piece ≡ head_bytes format ++ (concat records ++ (r ++ behind))
   pub good : AreGoodRecords format None (records ++ r ∷ [])
-  pub completed : length fed < length (magic format ++ (concat records ++ r))
-  pub in_reach : length (magic format ++ (concat records ++ r)) ≤ 2 ^ 40
+  pub completed : length fed < length (head_bytes format ++ (concat records ++ r))
+  pub in_reach : length (head_bytes format ++ (concat records ++ r)) ≤ 2 ^ 40
   pub told : List (Key × Cell Value)
-  pub more : kept (magic format ++ concat records) ≡ kept fed ++ told
-  pub held : new ≡ merge old (view told)
+  pub more : kept (head_bytes format ++ concat records) ≡ kept fed ++ told
+  pub held : new ≡ merge old (view_at (floor_behind fed piece) told)
 
 -- a record of the piece wanted memory, or the bytes have this fault now, and the store what came before it
 abbrev pub StopsWith : FileFault → List ℕ → List ℕ → Facts → Facts → Type 0
@@ -117,19 +128,32 @@ pub record Finishes (a : Absorbing) (answer : Result (Unit {0}) FileFault) : Typ
 
 -- the steps of a piece -----------------------------------------------------------------
 
--- what is awaited behind eight bytes
-abbrev pub behind_magic : Option Format → Result Awaited FileFault
-behind_magic None = Err Magic
-behind_magic (Some format) = Ok (awaited.Record format 0 None)
+-- what is awaited behind eight bytes: where their head isn't whole, its header
+abbrev pub behind_magic : Result Format FileFault → Result Awaited FileFault
+behind_magic (Ok format) = Ok (awaited.Record format 0 None)
+behind_magic (Err (Truncated offset)) = Ok awaited.Header
+behind_magic (Err fault) = Err fault
+
+-- what is awaited behind a header
+abbrev pub behind_header : Option ℕ → Result Awaited FileFault
+behind_header None = Err BadFloor
+behind_header (Some floor) = Ok (awaited.Record (Cells (Some floor)) 0 None)
+
+-- the floor that is told is raised
+abbrev pub raised_to : Option ℕ → Facts → Facts
+raised_to None facts = facts
+raised_to (Some floor) facts = raised facts floor
 
 -- how a file ends where so many bytes of the awaited came
 abbrev pub ending_at : Awaited → ℕ → Result (Unit {0}) FileFault
 ending_at awaited.Magic n = Err Magic
+ending_at awaited.Header n = Err (Truncated (place_of awaited.Header))
 ending_at (awaited.Record format index last) n = if n == 0 then Ok tt else Err (Truncated (place_of (awaited.Record format index last)))
 
 -- what taking the awaited whole answers, and does to the store
 abbrev pub TakesAwaited : Awaited → List ℕ → Result Awaited FileFault → Facts → Facts → Type 0
-TakesAwaited awaited.Magic bytes answer old new = (answer ≡ behind_magic (format_of bytes)) × (new ≡ old)
+TakesAwaited awaited.Magic bytes answer old new = (answer ≡ behind_magic (format_in bytes)) × (new ≡ old)
+TakesAwaited awaited.Header bytes answer old new = (answer ≡ behind_header (floor_told bytes)) × (new ≡ raised_to (floor_told bytes) old)
 TakesAwaited (awaited.Record format index last) bytes answer old new =
     AbsorbsJudged (judged format last bytes) index answer old new
     × IfOk answer (λ next. next ≡ awaited.Record format (index + 1) (key_in format bytes))

@@ -2,7 +2,7 @@
 use Rattle.std.specs.Prelude.{ℕ, Bool, true, false, List, Option, None, Some, codes}
 use Rattle.fact_store.specs.declared.report_fault.ReportFault.{ReportFault}
 use Rattle.record_file.specs.declared.file_fault.FileFault.{FileFault}
-use Rattle.record_file.specs.declared.file_fault.FileFault.TheVariants.{Magic, Truncated, BadReport, BadCell, CellOrder, Read, Memory, TooLong}
+use Rattle.record_file.specs.declared.file_fault.FileFault.TheVariants.{Magic, Truncated, BadReport, BadCell, CellOrder, Read, Memory, TooLong, BadFloor}
 
 abbrev pub fault_words : FileFault → List ℕ
 fault_words Magic = codes "bad magic"
@@ -13,6 +13,7 @@ fault_words (CellOrder index) = codes "cell out of order "
 fault_words Read = codes "read failed"
 fault_words Memory = codes "out of memory"
 fault_words TooLong = codes "too long"
+fault_words BadFloor = codes "bad floor"
 
 -- the offset, or the index of the record
 abbrev pub fault_number : FileFault → Option ℕ

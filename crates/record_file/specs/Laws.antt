@@ -3,23 +3,29 @@ use Rattle.std.specs.Prelude.{◌≡◌, ◌↔◌, ℕ, ◌+◌, ◌*◌, ◌<�
 use Rattle.std.specs.List.{AllByRecursion, concat}
 use Rattle.fact_store.specs.declared.report.Report.{Report}
 use Rattle.record_file.specs.declared.file_fault.FileFault.{FileFault}
-use Rattle.record_file.specs.declared.file_fault.FileFault.TheVariants.{Truncated, BadReport, BadCell, CellOrder}
+use Rattle.record_file.specs.declared.file_fault.FileFault.TheVariants.{Truncated, BadReport, BadCell, CellOrder, BadFloor}
 use Rattle.record_file.specs.declared.format.Format.{Format}
 use Rattle.record_file.specs.declared.format.Format.TheVariants.{Reports}
-use Rattle.record_file.specs.RecordFile.{AreGoodRecords, format_of, judged, kept, last_key, magic, outcome, record_size}
+use Rattle.record_file.specs.Head.{IsFormat, format_in, head_bytes, head_size}
+use Rattle.record_file.specs.RecordFile.{AreGoodRecords, floor_in, judged, kept, last_key, outcome, record_size}
 use Rattle.record_file.specs.ReportRecord.{context_guid, report_bytes, report_judged, report_of}
 
--- the fault of a bad record
-abbrev pub IsBadRecord : FileFault → Type 0
-IsBadRecord (BadReport index f) = Unit {0}
-IsBadRecord (BadCell index) = Unit {0}
-IsBadRecord (CellOrder index) = Unit {0}
-IsBadRecord _ = ⊥
+-- the fault of a bad header or a bad record
+abbrev pub IsBadPart : FileFault → Type 0
+IsBadPart BadFloor = Unit {0}
+IsBadPart (BadReport index f) = Unit {0}
+IsBadPart (BadCell index) = Unit {0}
+IsBadPart (CellOrder index) = Unit {0}
+IsBadPart _ = ⊥
 
--- neither the fault of a bad record nor what is kept depends on what follows it
-abbrev pub BadRecordStays : Type 0
-BadRecordStays =
-    (bytes rest : List ℕ) (f : FileFault) → IsBadRecord f → outcome bytes ≡ Err f → (outcome (bytes ++ rest) ≡ Err f) × (kept (bytes ++ rest) ≡ kept bytes)
+-- on what follows it depend neither the fault of a bad part nor what is kept nor the floor
+pub record StaysBad (bytes rest : List ℕ) (f : FileFault) : Type 0 where
+  pub outcome_stays : outcome (bytes ++ rest) ≡ Err f
+  pub kept_stays : kept (bytes ++ rest) ≡ kept bytes
+  pub floor_stays : floor_in (bytes ++ rest) ≡ floor_in bytes
+
+abbrev pub BadPartStays : Type 0
+BadPartStays = (bytes rest : List ℕ) (f : FileFault) → IsBadPart f → outcome bytes ≡ Err f → StaysBad bytes rest f
 
 -- a record that spells a report without a fault
 abbrev pub IsGoodReport : List ℕ → Type 0
@@ -43,20 +49,20 @@ ReportsHaveOneSpelling =
 -- good records and a part of one end within the record that begins behind them
 abbrev pub TruncationIsTold : Type 0
 TruncationIsTold =
-    (format : Format) (rs : List (List ℕ)) (part : List ℕ) → AreGoodRecords format None rs → 0 < length part → length part < record_size format
-    → length (magic format ++ (concat rs ++ part)) < 2 ^ 40
-    → outcome (magic format ++ (concat rs ++ part)) ≡ Err (Truncated (8 + record_size format * length rs))
+    (format : Format) (rs : List (List ℕ)) (part : List ℕ) → IsFormat format → AreGoodRecords format None rs → 0 < length part
+    → length part < record_size format → length (head_bytes format ++ (concat rs ++ part)) < 2 ^ 40
+    → outcome (head_bytes format ++ (concat rs ++ part)) ≡ Err (Truncated (head_size format + record_size format * length rs))
 
 -- of good records and a bad one the bad one's fault is told, with its index, whatever follows it
 abbrev pub FirstBadRecordIsTold : Type 0
 FirstBadRecordIsTold =
-    (format : Format) (rs : List (List ℕ)) (r rest : List ℕ) (f : ℕ → FileFault) → AreGoodRecords format None rs → length r ≡ record_size format
-    → judged format (last_key format None rs) r ≡ Err f
-    → length (magic format ++ (concat rs ++ r)) ≤ 2 ^ 40 → outcome (magic format ++ (concat rs ++ (r ++ rest))) ≡ Err (f (length rs))
+    (format : Format) (rs : List (List ℕ)) (r rest : List ℕ) (f : ℕ → FileFault) → IsFormat format → AreGoodRecords format None rs
+    → length r ≡ record_size format → judged format (last_key format None rs) r ≡ Err f
+    → length (head_bytes format ++ (concat rs ++ r)) ≤ 2 ^ 40 → outcome (head_bytes format ++ (concat rs ++ (r ++ rest))) ≡ Err (f (length rs))
 
 -- the file of these records
 abbrev pub report_file : List (List ℕ) → List ℕ
-report_file rs = magic Reports ++ concat rs
+report_file rs = head_bytes Reports ++ concat rs
 
 -- the file of these good reports, in fewer than 2^40 bytes
 pub record IsReportFile (bytes : List ℕ) (rs : List (List ℕ)) : Type 0 where
@@ -66,10 +72,12 @@ pub record IsReportFile (bytes : List ℕ) (rs : List (List ℕ)) : Type 0 where
 
 -- a file of reports is accepted exactly where it is that
 abbrev pub ReportFilesAreAccepted : Type 0
-ReportFilesAreAccepted = (bytes : List ℕ) → ((format_of bytes ≡ Some Reports) × (outcome bytes ≡ Ok tt)) ↔ ((rs : List (List ℕ)) × IsReportFile bytes rs)
+ReportFilesAreAccepted = (bytes : List ℕ) → ((format_in bytes ≡ Ok Reports) × (outcome bytes ≡ Ok tt)) ↔ ((rs : List (List ℕ)) × IsReportFile bytes rs)
 
--- both of these are accepted, and keep together what the whole file keeps
+-- both of these are accepted, have the whole file's floor, and keep together what it keeps
 pub record AreParts (whole front back : List ℕ) : Type 0 where
   pub front_accepted : outcome front ≡ Ok tt
   pub back_accepted : outcome back ≡ Ok tt
   pub together : kept whole ≡ kept front ++ kept back
+  pub front_floor : floor_in front ≡ floor_in whole
+  pub back_floor : floor_in back ≡ floor_in whole

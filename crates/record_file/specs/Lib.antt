@@ -4,6 +4,7 @@ pub mod CellRecord
 pub mod Feeding
 pub mod FileFault
 pub mod Filling
+pub mod Head
 pub mod Laws
 pub mod PieceFault
 pub mod PieceLaws

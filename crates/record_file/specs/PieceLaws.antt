@@ -1,12 +1,12 @@
 -- Laws of files that come in pieces.
 use Rattle.std.specs.Prelude.{◌≡◌, ℕ, List, [], ◌∷◌, ◌++◌, Some, Result, Err}
 use Rattle.std.specs.List.{concat}
-use Rattle.fact_store.specs.View.{Facts, view}
+use Rattle.fact_store.specs.View.{Facts}
 use Rattle.fact_store.specs.Merge.{merge}
 use Rattle.record_file.specs.declared.file_fault.FileFault.{FileFault}
 use Rattle.record_file.specs.declared.file_fault.FileFault.TheVariants.{Memory}
 use Rattle.record_file.specs.Feeding.{Absorbing, FeedsPiece, Finishes, WasFed, fault_so_far}
-use Rattle.record_file.specs.RecordFile.{kept, outcome}
+use Rattle.record_file.specs.RecordFile.{facts_in, floor_in, kept, outcome}
 
 -- these pieces are fed one after the other, and none wants memory
 abbrev pub FeedsEach : List (List ℕ) → Absorbing → Absorbing → Facts → Facts → Type 0
@@ -27,7 +27,7 @@ pub record ReadsPieces (pieces : List (List ℕ)) (answer : Result (Unit {0}) Fi
 abbrev pub PiecesAreRead : Type 0
 PiecesAreRead =
     (pieces : List (List ℕ)) (answer : Result (Unit {0}) FileFault) (old new : Facts) → ReadsPieces pieces answer old new
-    → (answer ≡ outcome (concat pieces)) × (new ≡ merge old (view (kept (concat pieces))))
+    → (answer ≡ outcome (concat pieces)) × (new ≡ merge old (facts_in (concat pieces)))
 
 -- they give what all of their bytes give at once
 abbrev pub CutsChangeNothing : Type 0
@@ -35,8 +35,8 @@ CutsChangeNothing =
     (pieces : List (List ℕ)) (answer whole_answer : Result (Unit {0}) FileFault) (old new whole_new : Facts) → ReadsPieces pieces answer old new
     → ReadsPieces (concat pieces ∷ []) whole_answer old whole_new → (answer ≡ whole_answer) × (new ≡ whole_new)
 
--- the fault that bytes have stays, whatever follows them, and nothing more is kept
+-- the fault that bytes have stays, whatever follows them, and nothing more is kept, nor a greater floor told
 abbrev pub FaultsStay : Type 0
 FaultsStay =
     (bytes rest : List ℕ) (fault : FileFault) → fault_so_far bytes ≡ Some fault
-    → (fault_so_far (bytes ++ rest) ≡ Some fault) × (kept (bytes ++ rest) ≡ kept bytes)
+    → (fault_so_far (bytes ++ rest) ≡ Some fault) × (kept (bytes ++ rest) ≡ kept bytes) × (floor_in (bytes ++ rest) ≡ floor_in bytes)

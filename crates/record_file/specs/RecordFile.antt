@@ -1,30 +1,24 @@
--- A file: its magic, and records of one size behind it; and what reading any bytes gives.
+-- A file: its head, and records of one size behind it; and what reading any bytes gives.
 use Rattle.std.specs.Prelude.{◌≡◌, ℕ, zero, suc, ◌+◌, ◌-◌, ◌*◌, ◌/◌, ◌%◌, ◌^◌, ◌==◌, List, [], ◌∷◌, ◌++◌, Option, None, Some, Result, Ok, Err, IsOk, length}
-use Rattle.std.specs.Prelude.{take, drop, codes, nat_eq, nat_le, option_map, if◌then◌else◌}
-use Rattle.std.specs.List.{starts_with}
+use Rattle.std.specs.Prelude.{Bool, true, take, drop, nat_le, option_map, if◌then◌else◌}
 use Rattle.fact_join.specs.declared.cell.Cell.{Cell}
 use Rattle.fact_store.specs.declared.key.Key.{Key}
 use Rattle.fact_store.specs.declared.value.Value.{Value}
 use Rattle.fact_store.specs.declared.report_fault.ReportFault.{ReportFault}
+use Rattle.fact_store.specs.Floor.{is_kept}
 use Rattle.fact_store.specs.Key.{is_above}
+use Rattle.fact_store.specs.View.{Facts, view_at}
 use Rattle.record_file.specs.declared.file_fault.FileFault.{FileFault}
-use Rattle.record_file.specs.declared.file_fault.FileFault.TheVariants.{Magic, Truncated, BadReport, BadCell, CellOrder, TooLong}
+use Rattle.record_file.specs.declared.file_fault.FileFault.TheVariants.{Truncated, BadReport, BadCell, CellOrder, TooLong}
 use Rattle.record_file.specs.declared.format.Format.{Format}
 use Rattle.record_file.specs.declared.format.Format.TheVariants.{Reports, Cells}
 use Rattle.record_file.specs.CellRecord.{cell_of}
+use Rattle.record_file.specs.Head.{floor_of, format_in, head_size}
 use Rattle.record_file.specs.ReportRecord.{report_judged}
-
-abbrev pub magic : Format → List ℕ
-magic Reports = codes "IBSMREP1"
-magic Cells = codes "IBSMSTO1"
-
--- the format whose magic the bytes begin with
-abbrev pub format_of : List ℕ → Option Format
-format_of bytes = if starts_with nat_eq bytes (magic Reports) then Some Reports else (if starts_with nat_eq bytes (magic Cells) then Some Cells else None)
 
 abbrev pub record_size : Format → ℕ
 record_size Reports = 272
-record_size Cells = 32
+record_size (Cells told) = 32
 
 -- why a record is bad, but for its index; or what it tells
 abbrev pub Judgement : Type 0
@@ -35,20 +29,25 @@ abbrev pub of_report : Result (List (Key × Cell Value)) ReportFault → Judgeme
 of_report (Ok told) = Ok told
 of_report (Err f) = Err (λ index. BadReport index f)
 
--- a cell tells itself, if its key comes after the last one's
-abbrev pub of_cell : Option Key → Option (Key × Cell Value) → Judgement
-of_cell last None = Err BadCell
-of_cell last (Some e) = if is_above last e.0 then Ok (e ∷ []) else Err CellOrder
+-- whether a cell is at the floor that is told, or above it
+abbrev pub is_at_told : Option ℕ → Cell Value → Bool
+is_at_told None cell = true
+is_at_told (Some floor) cell = is_kept floor cell
+
+-- a cell tells itself, if it is not below the file's floor and its key comes after the last one's
+abbrev pub of_cell : Option ℕ → Option Key → Option (Key × Cell Value) → Judgement
+of_cell told last None = Err BadCell
+of_cell told last (Some e) = if is_at_told told e.1 then (if is_above last e.0 then Ok (e ∷ []) else Err CellOrder) else Err BadCell
 
 -- what a record tells where that key was the last one's, or why it is bad
 abbrev pub judged : Format → Option Key → List ℕ → Judgement
 judged Reports last bytes = of_report (report_judged bytes)
-judged Cells last bytes = of_cell last (cell_of bytes)
+judged (Cells told) last bytes = of_cell told last (cell_of bytes)
 
 -- the key of a record, where records stand in the order of their keys
 abbrev pub key_in : Format → List ℕ → Option Key
 key_in Reports bytes = None
-key_in Cells bytes = option_map (λ e. e.0) (cell_of bytes)
+key_in (Cells told) bytes = option_map (λ e. e.0) (cell_of bytes)
 
 -- the key of the last of the records, or the one before them
 abbrev pub last_key : Format → Option Key → List (List ℕ) → Option Key
@@ -89,10 +88,12 @@ abbrev pub AreGoodRecords : Format → Option Key → List (List ℕ) → Type 0
 AreGoodRecords format last [] = Unit {0}
 AreGoodRecords format last (r ∷ rs) = (length r ≡ record_size format) × IsOk (judged format last r) × AreGoodRecords format (key_in format r) rs
 
--- how a file of good records of this size ends that has so many bytes
-unfoldable pub ending : ℕ → ℕ → Result (Unit {0}) FileFault
-ending size bytes =
-    if nat_le (2 ^ 40) bytes then Err TooLong else (if (bytes - 8) % size == 0 then Ok tt else Err (Truncated (8 + size * ((bytes - 8) / size))))
+-- how a file of this format ends that has so many bytes and no bad record
+unfoldable pub ending : Format → ℕ → Result (Unit {0}) FileFault
+ending format bytes =
+    let behind = bytes - head_size format in
+    let size = record_size format in
+    if nat_le (2 ^ 40) bytes then Err TooLong else (if behind % size == 0 then Ok tt else Err (Truncated (head_size format + size * (behind / size))))
 
 abbrev pub fault_first : Option FileFault → Result (Unit {0}) FileFault → Result (Unit {0}) FileFault
 fault_first None otherwise = otherwise
@@ -100,24 +101,36 @@ fault_first (Some f) otherwise = Err f
 
 -- the records that end within the first 2^40 bytes
 abbrev pub records_in_reach : Format → List ℕ → List (List ℕ)
-records_in_reach format bytes = records (record_size format) (drop 8 (take (2 ^ 40) bytes))
+records_in_reach format bytes = records (record_size format) (drop (head_size format) (take (2 ^ 40) bytes))
 
 -- the fault of the first bad record of a file of this format
 abbrev pub fault_in : Format → List ℕ → Option FileFault
 fault_in format bytes = first_fault format None 0 (records_in_reach format bytes)
 
-abbrev pub outcome_as : Option Format → List ℕ → Result (Unit {0}) FileFault
-outcome_as None bytes = Err Magic
-outcome_as (Some format) bytes = fault_first (fault_in format bytes) (ending (record_size format) (length bytes))
+abbrev pub outcome_as : Result Format FileFault → List ℕ → Result (Unit {0}) FileFault
+outcome_as (Err fault) bytes = Err fault
+outcome_as (Ok format) bytes = fault_first (fault_in format bytes) (ending format (length bytes))
 
 -- what reading the bytes answers
 unfoldable pub outcome : List ℕ → Result (Unit {0}) FileFault
-outcome bytes = outcome_as (format_of bytes) bytes
+outcome bytes = outcome_as (format_in bytes) bytes
 
-abbrev pub kept_as : Option Format → List ℕ → List (Key × Cell Value)
-kept_as None bytes = []
-kept_as (Some format) bytes = told_by format None (records_in_reach format bytes)
+abbrev pub kept_as : Result Format FileFault → List ℕ → List (Key × Cell Value)
+kept_as (Err fault) bytes = []
+kept_as (Ok format) bytes = told_by format None (records_in_reach format bytes)
 
 -- what reading the bytes keeps: what the good records before the first fault tell
 unfoldable pub kept : List ℕ → List (Key × Cell Value)
-kept bytes = kept_as (format_of bytes) bytes
+kept bytes = kept_as (format_in bytes) bytes
+
+abbrev pub floor_as : Result Format FileFault → ℕ
+floor_as (Err fault) = 1
+floor_as (Ok format) = floor_of format
+
+-- the floor that reading the bytes raises: that of their header, or 1
+unfoldable pub floor_in : List ℕ → ℕ
+floor_in bytes = floor_as (format_in bytes)
+
+-- what the bytes say: what is kept of them, at their floor
+abbrev pub facts_in : List ℕ → Facts
+facts_in bytes = view_at (floor_in bytes) (kept bytes)

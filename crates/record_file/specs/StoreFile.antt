@@ -1,12 +1,17 @@
--- A store file: its magic, and a record for each cell in the order of the keys.
-use Rattle.std.specs.Prelude.{ℕ, List, ◌++◌}
+-- A store file: its head, and a record for each cell in the order of the keys.
+use Rattle.std.specs.Prelude.{ℕ, List, ◌++◌, Option, Some}
 use Rattle.std.specs.List.{flat_map}
 use Rattle.fact_join.specs.declared.cell.Cell.{Cell}
 use Rattle.fact_store.specs.declared.key.Key.{Key}
 use Rattle.fact_store.specs.declared.value.Value.{Value}
 use Rattle.record_file.specs.declared.format.Format.TheVariants.{Cells}
 use Rattle.record_file.specs.CellRecord.{record_bytes}
-use Rattle.record_file.specs.RecordFile.{magic}
+use Rattle.record_file.specs.Head.{head_bytes}
 
-abbrev pub store_bytes : List (Key × Cell Value) → List ℕ
-store_bytes cells = magic Cells ++ flat_map record_bytes cells
+-- with the floor in its head, where one is told
+abbrev pub cells_file : Option ℕ → List (Key × Cell Value) → List ℕ
+cells_file told cells = head_bytes (Cells told) ++ flat_map record_bytes cells
+
+-- the one that is written
+abbrev pub store_bytes : ℕ → List (Key × Cell Value) → List ℕ
+store_bytes floor cells = cells_file (Some floor) cells

@@ -1,42 +1,56 @@
 -- Laws of store files.
-use Rattle.std.specs.Prelude.{◌≡◌, ◌↔◌, ℕ, ◌<◌, ◌^◌, List, Option, Some, Ok, length}
+use Rattle.std.specs.Prelude.{◌≡◌, ◌↔◌, ℕ, ◌<◌, ◌^◌, true, nat_eq, List, Option, Some, Ok, length}
+use Rattle.std.specs.List.{starts_with}
 use Rattle.fact_join.specs.declared.cell.Cell.{Cell}
 use Rattle.fact_store.specs.declared.key.Key.{Key}
 use Rattle.fact_store.specs.declared.value.Value.{Value}
 use Rattle.fact_store.specs.Sighting.{AreInRange, IsSighting}
-use Rattle.fact_store.specs.View.{Facts, view, cells_of, no_facts}
+use Rattle.fact_store.specs.View.{Facts, cells_of, no_facts}
 use Rattle.record_file.specs.declared.format.Format.TheVariants.{Cells}
 use Rattle.record_file.specs.Absorbs.{Absorbs}
 use Rattle.record_file.specs.CellRecord.{cell_of, record_bytes}
-use Rattle.record_file.specs.RecordFile.{format_of, kept, outcome}
-use Rattle.record_file.specs.StoreFile.{store_bytes}
+use Rattle.record_file.specs.Head.{IsFormat, floor_of, floored_magic, format_in}
+use Rattle.record_file.specs.RecordFile.{facts_in, kept, outcome}
+use Rattle.record_file.specs.StoreFile.{cells_file}
 
 -- bytes spell exactly the sighting that is written as they are
 abbrev pub RecordsAreSpellings : Type 0
 RecordsAreSpellings = (bytes : List ℕ) (e : Key × Cell Value) → (cell_of bytes ≡ Some e) ↔ (IsSighting e × (bytes ≡ record_bytes e))
 
--- the store file of facts in range at floor 1, in fewer than 2^40 bytes
-pub record IsStoreFile (bytes : List ℕ) (facts : Facts) : Type 0 where
-  pub whole : bytes ≡ store_bytes (cells_of facts)
-  pub floor : facts.floor ≡ 1
+-- the store file of facts in range, which tells their floor or, where that is 1, may tell none, in fewer than 2^40 bytes
+pub record IsStoreFile (told : Option ℕ) (bytes : List ℕ) (facts : Facts) : Type 0 where
+  pub whole : bytes ≡ cells_file told (cells_of facts)
+  pub sound : IsFormat (Cells told)
+  pub floor : facts.floor ≡ floor_of (Cells told)
   pub in_range : AreInRange facts
   pub short : length bytes < 2 ^ 40
 
--- bytes with the magic of a store file are accepted exactly where they are the store file of some facts
+-- bytes with the head of a store file are accepted exactly where they are the store file of some facts
 abbrev pub StoreFilesAreAccepted : Type 0
-StoreFilesAreAccepted = (bytes : List ℕ) → ((format_of bytes ≡ Some Cells) × (outcome bytes ≡ Ok tt)) ↔ ((facts : Facts) × IsStoreFile bytes facts)
+StoreFilesAreAccepted =
+    (told : Option ℕ) (bytes : List ℕ) → ((format_in bytes ≡ Ok (Cells told)) × (outcome bytes ≡ Ok tt)) ↔ ((facts : Facts) × IsStoreFile told bytes facts)
 
--- and what is kept of them is the cells of these facts, so it says what they say
+-- what is kept of a file is the cells of its facts, and what it says is these facts
+pub record IsReadBack (bytes : List ℕ) (facts : Facts) : Type 0 where
+  pub accepted : outcome bytes ≡ Ok tt
+  pub cells : kept bytes ≡ cells_of facts
+  pub says : facts_in bytes ≡ facts
+
+-- each store file is
 abbrev pub FactsAreReadBack : Type 0
-FactsAreReadBack =
-    (bytes : List ℕ) (facts : Facts) → IsStoreFile bytes facts → (outcome bytes ≡ Ok tt) × (kept bytes ≡ cells_of facts) × (view (kept bytes) ≡ facts)
+FactsAreReadBack = (told : Option ℕ) (bytes : List ℕ) (facts : Facts) → IsStoreFile told bytes facts → IsReadBack bytes facts
 
--- different facts at one floor have different store files
+-- a file that is accepted, and tells its floor
+pub record IsFlooredFile (bytes : List ℕ) : Type 0 where
+  pub accepted : outcome bytes ≡ Ok tt
+  pub begins : starts_with nat_eq bytes floored_magic ≡ true
+
+-- two of them that say the same are equal: facts have one spelling
 abbrev pub FactsHaveOneSpelling : Type 0
-FactsHaveOneSpelling = (x y : Facts) → x.floor ≡ y.floor → AreInRange x → AreInRange y → store_bytes (cells_of x) ≡ store_bytes (cells_of y) → x ≡ y
+FactsHaveOneSpelling = (bytes others : List ℕ) → IsFlooredFile bytes → IsFlooredFile others → facts_in bytes ≡ facts_in others → bytes ≡ others
 
 -- and whoever absorbs the whole file of some facts into an empty store holds these facts
 abbrev pub AbsorbingReadsBack : {S : Type 0} → (S → Option (List ℕ)) → (S → ℕ) → Type 0
 AbsorbingReadsBack {S} left interruptions =
-    (source source' : S) (bytes rest : List ℕ) (facts new : Facts) → left source ≡ Some bytes → left source' ≡ Some rest → IsStoreFile bytes facts
-    → Absorbs left interruptions (Ok tt) source source' no_facts new → new ≡ facts
+    (source source' : S) (told : Option ℕ) (bytes rest : List ℕ) (facts new : Facts) → left source ≡ Some bytes → left source' ≡ Some rest
+    → IsStoreFile told bytes facts → Absorbs left interruptions (Ok tt) source source' no_facts new → new ≡ facts

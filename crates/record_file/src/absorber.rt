@@ -40,13 +40,13 @@ impl Absorber {
         }
     }
 
-    /// Puts what the records tell that this piece completes into the store.
+    /// Puts what the header and the records tell that this piece completes into the store.
     ///
     /// # Errors
     ///
-    /// `Magic` as soon as 8 bytes are there, `BadReport`, `BadCell`, `CellOrder` and `Memory`, of
-    /// the first record that has one, and behind the records `TooLong` with the 2^40th byte. The
-    /// store then holds the records before it. From then on each call answers the same and changes
+    /// `Magic` as soon as 8 bytes are there, `BadFloor` behind the header, `BadReport`, `BadCell`, `CellOrder` and
+    /// `Memory`, of the first record that has one, and behind the records `TooLong` with the 2^40th byte. The
+    /// store then holds the floor and the records before it. From then on each call answers the same and changes
     /// nothing.
     pub fn feed(&mut self, piece: &[u8], store: &mut Store) -> Result<(), FileFault>
         ensures feeds { FeedsPiece self.old piece.now result self.new store.old store.new }
@@ -67,7 +67,7 @@ impl Absorber {
     /// # Errors
     ///
     /// The fault that `feed` answered, `Magic` for fewer than 8 bytes, and `Truncated` within a
-    /// record.
+    /// header or a record.
     pub fn finish(self) -> Result<(), FileFault>
         ensures finishes { Finishes self result }
     {

@@ -1,6 +1,11 @@
 //! What an absorber waits for.
+ghost use Rattle.std.specs.Prelude.{◌≡◌, length, None};
+ghost use Rattle.record_file.specs.Feeding.{TakesAwaited, behind_magic as behind_magic_of};
+ghost use Rattle.record_file.specs.Head.{format_in};
+
 use crate::file_fault::FileFault;
-use crate::format::{Format, MAGIC_LEN};
+use crate::format::Format;
+use crate::head::{HEADER_LEN, MAGIC_LEN, floor_told};
 use crate::record::absorb_record;
 use fact_store::{Key, Store};
 
@@ -8,6 +13,8 @@ use fact_store::{Key, Store};
 #[derive(Clone, Copy)]
 pub(crate) enum Awaited {
     Magic,
+    /// The header behind the magic of a store file that tells its floor.
+    Header,
     /// The record of this index; the key is that of the cell before it.
     Record {
         format: Format,
@@ -26,6 +33,7 @@ impl Awaited {
     {
         match self {
             Awaited::Magic => MAGIC_LEN,
+            Awaited::Header => HEADER_LEN,
             Awaited::Record { format, .. } => format.record_len(),
         }
     }
@@ -37,7 +45,9 @@ impl Awaited {
     {
         match self {
             Awaited::Magic => 0,
-            Awaited::Record { format, index, .. } => 8 + format.record_len() as u64 * index,
+            Awaited::Header => MAGIC_LEN as u64,
+            Awaited::Record { format, index, .. } => format.head_len() as u64
+                + format.record_len() as u64 * index,
         }
     }
 
@@ -49,7 +59,7 @@ impl Awaited {
         match self {
             Awaited::Magic => Err(FileFault::Magic),
             Awaited::Record { .. } if count == 0 => Ok(()),
-            Awaited::Record { .. } => Err(FileFault::Truncated {
+            Awaited::Header | Awaited::Record { .. } => Err(FileFault::Truncated {
                 offset: self.place(),
             }),
         }
@@ -62,26 +72,60 @@ impl Awaited {
         ensures takes { TakesAwaited self bytes.now result store.old store.new }
     {
         match self {
-            Awaited::Magic => match Format::of(bytes) {
-                Some(format) => Ok(Awaited::Record {
-                    format,
-                    index: 0,
-                    last: None,
-                }),
-                None => Err(FileFault::Magic),
-            },
+            Awaited::Magic => behind_magic(bytes),
+            Awaited::Header => absorb_header(bytes, store),
             Awaited::Record {
                 format,
                 index,
                 last,
             } => {
+                let behind = format;
                 let last = absorb_record(format, last, bytes, index, store)?;
                 Ok(Awaited::Record {
-                    format,
+                    format: behind,
                     index: index + 1,
                     last,
                 })
             }
         }
+    }
+}
+
+/// What comes behind these eight bytes.
+fn behind_magic(front: &[u8]) -> Result<Awaited, FileFault>
+    requires { length front.now ≡ 8 }
+    ensures { result ≡ behind_magic_of (format_in front.now) }
+{
+    if front == b"IBSMREP1".as_slice() {
+        Ok(first_record(Format::Reports))
+    } else if front == b"IBSMSTO1".as_slice() {
+        Ok(first_record(Format::Cells { floor: None }))
+    } else if front == b"IBSMSTO2".as_slice() {
+        Ok(Awaited::Header)
+    } else {
+        Err(FileFault::Magic)
+    }
+}
+
+/// Raises the floor that a header tells, and says what comes behind it.
+fn absorb_header(bytes: &[u8], store: &mut Store) -> Result<Awaited, FileFault>
+    requires { length bytes.now ≡ 8 }
+    ensures takes { TakesAwaited Awaited.Header bytes.now result store.old store.new }
+{
+    let Some(floor) = floor_told(bytes) else {
+        return Err(FileFault::BadFloor);
+    };
+    store.raise_floor(floor);
+    Ok(first_record(Format::Cells { floor: Some(floor) }))
+}
+
+/// The first record of a file.
+fn first_record(format: Format) -> Awaited
+    ensures { result ≡ Awaited.Record format 0 None }
+{
+    Awaited::Record {
+        format,
+        index: 0,
+        last: None,
     }
 }

@@ -10,7 +10,7 @@ pub enum FileFault {
     /// Fewer than 8 bytes, or another magic.
     #[error("bad magic")]
     Magic,
-    /// The input ends within the record that begins at this offset.
+    /// The input ends within the header or the record that begins at this offset.
     #[error("truncated at {offset}")]
     Truncated { offset: u64 },
     #[error("bad report {index}: {fault}")]
@@ -27,6 +27,9 @@ pub enum FileFault {
     /// 2^40 bytes were read without an end, or 2^40 calls made that gave bytes or were interrupted.
     #[error("too long")]
     TooLong,
+    /// The header of a store file tells floor 0, or has another byte than 0 behind its floor.
+    #[error("bad floor")]
+    BadFloor,
 }
 
 impl From<PieceFault> for FileFault {
@@ -58,6 +61,7 @@ impl FileFault {
             FileFault::Read => "read failed",
             FileFault::Memory => "out of memory",
             FileFault::TooLong => "too long",
+            FileFault::BadFloor => "bad floor",
         }
     }
 

@@ -1,33 +1,29 @@
-//! What files hold, told apart by their magic.
+//! What files hold, told apart by their heads.
+use crate::head::{HEADER_LEN, MAGIC_LEN};
 use crate::{report_record, store_file};
-
-/// The bytes of a file's magic.
-pub(crate) const MAGIC_LEN: usize = 8;
+use smp_bytes::Generation;
 
 /// What the records of a file are.
 #[derive(Clone, Copy)]
 pub(crate) enum Format {
     /// Reports, in the order in which they came.
     Reports,
-    /// The cells of a store, in the order of their keys.
-    Cells,
+    /// The cells of a store, in the order of their keys, none of them below the floor that a header tells.
+    Cells { floor: Option<Generation> },
 }
 
 impl Format {
-    ghost use Rattle.std.specs.Prelude.{◌≡◌, ◌≤◌, ◌<◌, length};
-    ghost use Rattle.record_file.specs.RecordFile.{format_of, record_size};
+    ghost use Rattle.std.specs.Prelude.{◌≡◌};
+    ghost use Rattle.record_file.specs.Head.{head_size};
+    ghost use Rattle.record_file.specs.RecordFile.{record_size};
 
-    /// The format whose magic a file begins with.
-    pub(crate) fn of(front: &[u8]) -> Option<Format>
-        requires { length front.now ≤ 8 }
-        ensures { result ≡ format_of front.now }
+    /// The bytes before the records.
+    pub(crate) fn head_len(self) -> usize
+        ensures { result ≡ head_size self }
     {
-        if front == b"IBSMREP1".as_slice() {
-            Some(Format::Reports)
-        } else if front == b"IBSMSTO1".as_slice() {
-            Some(Format::Cells)
-        } else {
-            None
+        match self {
+            Format::Reports | Format::Cells { floor: None } => MAGIC_LEN,
+            Format::Cells { floor: Some(_) } => MAGIC_LEN + HEADER_LEN,
         }
     }
 
@@ -37,7 +33,7 @@ impl Format {
     {
         match self {
             Format::Reports => report_record::RECORD_LEN,
-            Format::Cells => store_file::RECORD_LEN,
+            Format::Cells { .. } => store_file::RECORD_LEN,
         }
     }
 }

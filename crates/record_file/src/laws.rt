@@ -1,14 +1,14 @@
 //! Laws of reading files. There is nothing to call: the contracts are what counts.
 
 ghost use Rattle.record_file.specs.StoreLaws.{AbsorbingReadsBack, FactsAreReadBack, FactsHaveOneSpelling, RecordsAreSpellings, StoreFilesAreAccepted};
-ghost use Rattle.record_file.specs.Laws.{BadRecordStays, FirstBadRecordIsTold, ReportFilesAreAccepted, ReportsHaveOneSpelling, TruncationIsTold};
+ghost use Rattle.record_file.specs.Laws.{BadPartStays, FirstBadRecordIsTold, ReportFilesAreAccepted, ReportsHaveOneSpelling, TruncationIsTold};
 ghost use Rattle.record_file.specs.PieceLaws.{CutsChangeNothing, FaultsStay, PiecesAreRead};
 
 use crate::stream::Source;
 
-/// Neither the fault of a bad record nor what is kept depends on what follows it.
-pub fn bad_record_stays()
-    ensures { BadRecordStays }
+/// Neither the fault of a bad header or record nor the floor nor what is kept depends on what follows it.
+pub fn bad_part_stays()
+    ensures { BadPartStays }
 {}
 
 /// A file that ends within a record is refused with that record's offset.
@@ -36,17 +36,17 @@ pub fn records_are_spellings()
     ensures { RecordsAreSpellings }
 {}
 
-/// A store file is accepted exactly where it is what is written of some facts in their ranges.
+/// A store file, of either head, is accepted exactly where it has a record for each cell of some facts in their ranges.
 pub fn store_files_are_accepted()
     ensures { StoreFilesAreAccepted }
 {}
 
-/// What is written of facts is read back as these facts.
+/// What is written of facts is read back as these facts, with their floor; a file that tells no floor, as facts at floor 1.
 pub fn facts_are_read_back()
     ensures { FactsAreReadBack }
 {}
 
-/// Different facts are written differently.
+/// Files that are accepted, tell their floor and say the same are equal.
 pub fn facts_have_one_spelling()
     ensures { FactsHaveOneSpelling }
 {}

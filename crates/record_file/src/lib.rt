@@ -6,6 +6,7 @@ mod awaited;
 mod file;
 mod file_fault;
 mod format;
+mod head;
 pub mod laws;
 mod numbers;
 mod record;

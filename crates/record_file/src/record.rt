@@ -2,14 +2,15 @@
 ghost use Rattle.std.specs.Prelude.{◌≡◌, length, IfOk};
 ghost use Rattle.fact_store.specs.Key.{is_above};
 ghost use Rattle.record_file.specs.Absorbs.{AbsorbsJudged};
-ghost use Rattle.record_file.specs.RecordFile.{judged, key_in, record_size};
+ghost use Rattle.record_file.specs.RecordFile.{is_at_told as is_at_floor_told, judged, key_in, record_size};
 ghost use Rattle.record_file.specs.declared.format.Format.TheVariants.{Reports, Cells};
 
 use crate::file_fault::FileFault;
 use crate::format::Format;
 use crate::report_record::report_of;
 use crate::store_file::cell_of;
-use fact_store::{IngestFault, Key, ReportFault, Store};
+use fact_store::{Cell, IngestFault, Key, ReportFault, Store, Value};
+use smp_bytes::Generation;
 
 /// Adds what the record of this index tells. The key is that of a cell.
 pub(crate) fn absorb_record(
@@ -29,10 +30,7 @@ pub(crate) fn absorb_record(
             absorb_report(bytes, index, store)?;
             Ok(None)
         }
-        Format::Cells => {
-            let key = absorb_cell(last, bytes, index, store)?;
-            Ok(Some(key))
-        }
+        Format::Cells { floor } => absorb_cell(floor, last, bytes, index, store),
     }
 }
 
@@ -55,27 +53,31 @@ fn absorb_report(bytes: &[u8], index: u64, store: &mut Store) -> Result<(), File
     }
 }
 
-/// Adds the cell of a record, if its key comes after the last one's.
+/// Adds the cell of a record, if it is not below the floor that is told and its key comes after the last one's.
 fn absorb_cell(
+    floor: Option<Generation>,
     last: Option<Key>,
     bytes: &[u8],
     index: u64,
     store: &mut Store,
-) -> Result<Key, FileFault>
+) -> Result<Option<Key>, FileFault>
     requires { length bytes.now ≡ 32 }
-    ensures key { IfOk result (λ key. Some key ≡ key_in Cells bytes.now) }
-    ensures judged { AbsorbsJudged (judged Cells last bytes.now) index result
+    ensures key { IfOk result (λ key. key ≡ key_in (Cells floor) bytes.now) }
+    ensures judged { AbsorbsJudged (judged (Cells floor) last bytes.now) index result
         store.old store.new }
 {
     let Some(sighting) = cell_of(bytes) else {
         return Err(FileFault::BadCell { index });
     };
+    if !is_at_told(floor, &sighting.cell()) {
+        return Err(FileFault::BadCell { index });
+    }
     let key = sighting.key();
     if !is_after(&key, &last) {
         return Err(FileFault::CellOrder { index });
     }
     match store.add(sighting) {
-        Ok(()) => Ok(key),
+        Ok(()) => Ok(Some(key)),
         Err(_) => Err(FileFault::Memory),
     }
 }
@@ -86,5 +88,15 @@ fn is_after(key: &Key, last: &Option<Key>) -> bool
     match last {
         None => true,
         Some(last) => last < key,
+    }
+}
+
+/// Whether a cell is at the floor that is told, or above it.
+fn is_at_told(floor: Option<Generation>, cell: &Cell<Value>) -> bool
+    ensures { result ≡ is_at_floor_told floor cell.now }
+{
+    match floor {
+        None => true,
+        Some(floor) => floor <= cell.generation(),
     }
 }

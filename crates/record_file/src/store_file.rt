@@ -1,11 +1,12 @@
-//! Store files: a record of 32 bytes for each cell in the order of the keys, behind their magic.
-ghost use Rattle.std.specs.Prelude.{◌≡◌, length, IsTrue, OnOk, option_and_then};
+//! Store files: a record of 32 bytes for each cell in the order of the keys, behind their head.
+ghost use Rattle.std.specs.Prelude.{◌≡◌, ◌<◌, ◌^◌, length, IsTrue, OnOk, option_and_then};
 ghost use Rattle.fact_store.specs.View.{cells_of};
 ghost use Rattle.fact_store.specs.Sighting.{AreInRange};
 ghost use Rattle.record_file.specs.CellRecord.{candidate, cell_of as cell_in, cell_value_bytes, filled_up, if_sighting, key_guid, key_of as key_with, key_port, kind_byte, record_bytes, state_byte, value_bytes, value_of as value_in};
 ghost use Rattle.record_file.specs.StoreFile.{store_bytes};
 ghost use Rattle.record_file.specs.Writes.{Writes};
 
+use crate::head::head_of;
 use crate::numbers::{u16_of, u32_of, u64_of};
 use crate::stream::{Sink, WriteFault};
 use attr_codec::NodeTypeNumber;
@@ -18,15 +19,16 @@ pub(crate) const RECORD_LEN: usize = 32;
 /// The bytes of a record that hold the value; behind a value, and of a disputed cell all, are 0.
 const VALUE_LEN: usize = 16;
 
-/// Writes a store file of all that the store holds, a record for each cell in the order of the
+/// Writes a store file of all that the store holds, its floor and then a record for each cell in the order of the
 /// keys, and flushes. It takes no memory of its own. How much went out before a failure isn't said.
 pub fn write_store<W: Sink>(sink: &mut W, store: &Store) -> Result<(), WriteFault>
     ensures writes { Writes W.written W.has_failed result sink.old sink.new
-        (store_bytes (cells_of store.now)) }
+        (store_bytes store.now.floor (cells_of store.now)) }
+    ensures floor { store.now.floor < 2 ^ 32 }
     ensures in_range { OnOk result (AreInRange store.now) }
     ensures flushed { OnOk result (IsTrue (W.is_flushed sink.new)) }
 {
-    sink.write(b"IBSMSTO1")?;
+    sink.write(&head_of(store.floor()))?;
     for cell in store.cells() {
         sink.write(&record_of(&cell))?;
     }

@@ -136,7 +136,7 @@ fn writing_of(
 
 #[test]
 fn interrupted_writes_are_asked_again_and_failures_stay(rt: HostRuntime) {
-    let whole = b"IBSMSTO1".as_slice();
+    let whole = b"IBSMSTO2\0\0\0\x01\0\0\0\0".as_slice();
     let none = b"".as_slice();
     let failed = Err(WriteFault::Write);
     for (kind, most, fails, wanted, out) in [
@@ -160,7 +160,7 @@ fn interrupted_writes_are_asked_again_and_failures_stay(rt: HostRuntime) {
         (ErrorKind::Other, 3, [2].as_slice(), failed, none),
         (ErrorKind::WouldBlock, 3, [1].as_slice(), failed, none),
         (ErrorKind::Other, 8, [2].as_slice(), failed, none),
-        (ErrorKind::TimedOut, 8, [2].as_slice(), failed, none),
+        (ErrorKind::TimedOut, 8, [3].as_slice(), failed, none),
     ] {
         let (answer, again, went) = writing_of(rt.alloc(), most, fails, kind);
         let is_right = answer == wanted && again == wanted && went.as_slice() == out;
@@ -229,29 +229,40 @@ fn first_report(alloc: Global) -> Result<Vec<u8>, AllocError> {
 }
 
 /// The store file of what that report tells.
-const FIRST_STORE: [u8; 72] = [
-    0x49, 0x42, 0x53, 0x4d, 0x53, 0x54, 0x4f, 0x31, //
+const FIRST_STORE: [u8; 80] = [
+    0x49, 0x42, 0x53, 0x4d, 0x53, 0x54, 0x4f, 0x32, 0, 0, 0, 1, 0, 0, 0, 0, //
     1, 1, 0, 0, 0, 0, 0, 1, 0, 0, 0, 0, 0, 0, 1, 0, 1, 1, 0, 0, 0, 0, 0, 0, 0, 0, 0, 0, 0, 0, 0, 0,
     2, 1, 1, 0, 0, 0, 0, 1, 0, 0, 0, 0, 0, 0, 1, 0, 0, 0, 0, 0, 0, 0, 1, 1, 0, 0, 0, 0, 0, 0, 0, 0,
 ];
 
 /// The same cells in the other order.
-fn swapped_store() -> [u8; 72] {
+fn swapped_store() -> [u8; 80] {
     let mut bytes = FIRST_STORE;
-    bytes[8..40].copy_from_slice(&FIRST_STORE[40..]);
-    bytes[40..].copy_from_slice(&FIRST_STORE[8..40]);
+    bytes[16..48].copy_from_slice(&FIRST_STORE[48..]);
+    bytes[48..].copy_from_slice(&FIRST_STORE[16..48]);
     bytes
 }
 
-/// What absorbing the file answers, and how many cells the store then has.
-fn absorbed(alloc: Global, file: &[u8]) -> (Result<(), FileFault>, usize) {
+/// The same cells in a file that tells no floor.
+fn older_store() -> [u8; 72] {
+    let mut bytes = [0; 72];
+    bytes[..8].copy_from_slice(b"IBSMSTO1");
+    bytes[8..].copy_from_slice(&FIRST_STORE[16..]);
+    bytes
+}
+
+/// The store file of floor 2 without a cell.
+const FORGETTING: [u8; 16] = *b"IBSMSTO2\0\0\0\x02\0\0\0\0";
+
+/// What absorbing the file answers, and how many cells and which floor the store then has.
+fn absorbed(alloc: Global, file: &[u8]) -> (Result<(), FileFault>, usize, u32) {
     let mut store = Store::new(alloc);
     let answer = absorb(&mut FromBytes::new(file), &mut store);
-    (answer, store.count())
+    (answer, store.count(), store.floor().number())
 }
 
 /// The same where the file is fed in pieces of this size, and after each of its faults once more.
-fn fed(alloc: Global, file: &[u8], size: usize) -> (Result<(), FileFault>, usize)
+fn fed(alloc: Global, file: &[u8], size: usize) -> (Result<(), FileFault>, usize, u32)
     requires { 0 < size }
 {
     let mut store = Store::new(alloc);
@@ -261,53 +272,78 @@ fn fed(alloc: Global, file: &[u8], size: usize) -> (Result<(), FileFault>, usize
             let _ = absorber.feed(file, &mut store);
         }
     }
-    (absorber.finish(), store.count())
+    (absorber.finish(), store.count(), store.floor().number())
 }
 
-/// The store file of what the file tells.
-fn joined(alloc: Global, file: &[u8]) -> Result<ToRoom, Fail> {
+/// The store file of what both files tell.
+fn joined(alloc: Global, file: &[u8], other: &[u8]) -> Result<ToRoom, Fail> {
     let mut store = Store::new(alloc);
     absorb(&mut FromBytes::new(file), &mut store)?;
-    let mut sink = ToRoom::new(alloc, 72)?;
+    absorb(&mut FromBytes::new(other), &mut store)?;
+    let mut sink = ToRoom::new(alloc, 80)?;
     write_store(&mut sink, &store)?;
     Ok(sink)
 }
 
+/// Two files, and the store file that they are joined into.
+type Row<'a> = (&'a [u8], &'a [u8], &'a [u8]);
+
 #[test]
-fn a_report_becomes_its_store_file_which_is_read_back(rt: HostRuntime) -> Result<(), Fail> {
-    let file = first_report(rt.alloc())?;
-    for bytes in [file.as_slice(), FIRST_STORE.as_slice()] {
-        let sink = joined(rt.alloc(), bytes)?;
-        assert!(rt; sink.bytes() == FIRST_STORE.as_slice());
+fn files_become_a_store_file_which_is_read_back(rt: HostRuntime) -> Result<(), Fail> {
+    let report = first_report(rt.alloc())?;
+    let (older, store, forgetting) = (older_store(), FIRST_STORE, FORGETTING);
+    let rows: [Row<'_>; 7] = [
+        (&report, &report, &store),
+        (&store, &store, &store),
+        (&older, &store, &store),
+        (&report, &older, &store),
+        (&store, &forgetting, &forgetting),
+        (&forgetting, &report, &forgetting),
+        (&older, &forgetting, &forgetting),
+    ];
+    for (first, second, wanted) in &rows {
+        let sink = joined(rt.alloc(), first, second)?;
+        assert!(rt; sink.bytes() == *wanted);
     }
     Ok(())
 }
 
-/// What a file of one or two records of this size answers where it is cut to this length.
-fn cut_answer(length: usize, size: u16) -> Result<(), FileFault> {
-    let second = 8 + usize::from(size);
+/// What a file with a head and two records of these sizes answers where it is cut to this length.
+fn cut_answer(length: usize, head: u16, size: u16) -> Result<(), FileFault> {
+    let first = usize::from(head);
+    let second = first + usize::from(size);
     let end = second + usize::from(size);
+    let offset = if length < first {
+        8
+    } else if length < second {
+        first
+    } else {
+        second
+    };
     if length < 8 {
         Err(FileFault::Magic)
-    } else if length == 8 || length == second || length == end {
+    } else if length == first || length == second || length == end {
         Ok(())
-    } else if length < second {
-        Err(FileFault::Truncated { offset: 8 })
     } else {
         Err(FileFault::Truncated {
-            offset: second as u64,
+            offset: offset as u64,
         })
     }
 }
 
 #[test]
-fn every_cut_of_both_files_is_told(rt: HostRuntime) -> Result<(), Fail> {
+fn every_cut_of_each_file_is_told(rt: HostRuntime) -> Result<(), Fail> {
     let file = first_report(rt.alloc())?;
-    for (bytes, size) in [(file.as_slice(), 272), (FIRST_STORE.as_slice(), 32)] {
+    let older = older_store();
+    for (bytes, head, size) in [
+        (file.as_slice(), 8, 272),
+        (older.as_slice(), 8, 32),
+        (FIRST_STORE.as_slice(), 16, 32),
+    ] {
         for length in 0..=bytes.len() {
             let cut = bytes.get(..length).ok_or("shorter")?;
             let whole = absorbed(rt.alloc(), cut);
-            let is_right = whole.0 == cut_answer(length, size)
+            let is_right = whole.0 == cut_answer(length, head, size)
                 && fed(rt.alloc(), cut, 1) == whole
                 && fed(rt.alloc(), cut, 31) == whole;
             assert!(rt; is_right, "at {length}");
@@ -331,42 +367,78 @@ fn each_damage_is_told(rt: HostRuntime) -> Result<(), Fail> {
     reports.extend_from_slice(&[0; 272])?;
     let cells = FIRST_STORE.as_slice();
     let swapped = swapped_store();
+    let older = older_store();
     let bad_cell = FileFault::BadCell { index: 0 };
     let bad = |index, fault| FileFault::BadReport { index, fault };
-    // Of the first cell: the state of a dispute with the value kept, and then kind, state, generation,
-    // node type, ports, the key's port, the fourth byte and the last value byte.
-    for (file, place, byte, wanted, count) in [
-        (cells, 9, 2, bad_cell, 0),
-        (cells, 8, 7, bad_cell, 0),
-        (cells, 9, 3, bad_cell, 0),
-        (cells, 15, 0, bad_cell, 0),
-        (cells, 24, 4, bad_cell, 0),
-        (cells, 25, 0, bad_cell, 0),
-        (cells, 10, 1, bad_cell, 0),
-        (cells, 11, 1, bad_cell, 0),
-        (cells, 39, 1, bad_cell, 0),
-        (cells, 40, 7, FileFault::BadCell { index: 1 }, 1),
+    // The floor's low byte, its high ones, and the zero bytes behind it; of the first cell: the state of a dispute with
+    // the value kept, and then kind, state, generation, node type, ports, the key's port, the fourth byte and the last
+    // value byte.
+    for (file, place, byte, wanted, count, floor) in [
+        (cells, 11, 0, FileFault::BadFloor, 0, 1),
+        (cells, 11, 2, bad_cell, 0, 2),
+        (cells, 8, 1, bad_cell, 0, 0x0100_0001),
+        (cells, 9, 1, bad_cell, 0, 0x0001_0001),
+        (cells, 10, 255, bad_cell, 0, 0xff01),
+        (cells, 12, 1, FileFault::BadFloor, 0, 1),
+        (cells, 13, 1, FileFault::BadFloor, 0, 1),
+        (cells, 14, 128, FileFault::BadFloor, 0, 1),
+        (cells, 15, 1, FileFault::BadFloor, 0, 1),
+        (older.as_slice(), 7, 0x32, FileFault::BadFloor, 0, 1),
+        (cells, 7, 0x31, bad_cell, 0, 1),
+        (cells, 17, 2, bad_cell, 0, 1),
+        (cells, 16, 7, bad_cell, 0, 1),
+        (cells, 17, 3, bad_cell, 0, 1),
+        (cells, 23, 0, bad_cell, 0, 1),
+        (cells, 32, 4, bad_cell, 0, 1),
+        (cells, 33, 0, bad_cell, 0, 1),
+        (cells, 18, 1, bad_cell, 0, 1),
+        (cells, 19, 1, bad_cell, 0, 1),
+        (cells, 47, 1, bad_cell, 0, 1),
+        (cells, 48, 7, FileFault::BadCell { index: 1 }, 1, 1),
         (
             swapped.as_slice(),
-            8,
+            16,
             2,
             FileFault::CellOrder { index: 1 },
             1,
+            1,
         ),
-        (cells, 7, 0x32, FileFault::Magic, 0),
+        (cells, 7, 0x33, FileFault::Magic, 0, 1),
         (
             reports.as_slice(),
             11,
             0,
             bad(0, ReportFault::Generation),
             0,
+            1,
         ),
-        (reports.as_slice(), 14, 1, bad(0, ReportFault::Context), 0),
-        (reports.as_slice(), 12, 3, bad(0, ReportFault::Context), 0),
-        (reports.as_slice(), 8, 0, bad(1, ReportFault::Generation), 2),
+        (
+            reports.as_slice(),
+            14,
+            1,
+            bad(0, ReportFault::Context),
+            0,
+            1,
+        ),
+        (
+            reports.as_slice(),
+            12,
+            3,
+            bad(0, ReportFault::Context),
+            0,
+            1,
+        ),
+        (
+            reports.as_slice(),
+            8,
+            0,
+            bad(1, ReportFault::Generation),
+            2,
+            1,
+        ),
     ] {
         let bytes = damaged(rt.alloc(), file, place, byte)?;
-        let answer = (Err(wanted), count);
+        let answer = (Err(wanted), count, floor);
         let is_right = absorbed(rt.alloc(), bytes.as_slice()) == answer
             && fed(rt.alloc(), bytes.as_slice(), 7) == answer;
         assert!(rt; is_right, "at {place}");

@@ -1,48 +1,64 @@
 -- A joined file stands for the files that it was made of, and the parts of a split one for the whole.
-use Rattle.std.proofs.Common.{◌≡◌, ℕ, List, ◌++◌, ap, sym, ◌∙◌, append_assoc, arith}
-use Rattle.std.specs.Prelude.{max}
+use Rattle.std.proofs.Common.{◌≡◌, ℕ, max, List, [], ◌∷◌, ◌++◌, Option, refl, ap, sym, ◌∙◌, append_assoc, arith}
 use Rattle.std.proofs.lemmas.List.Concat.{flat_map-append}
 use Rattle.std.specs.List.{flat_map}
-use Rattle.fact_store.specs.Report.{Told}
-use Rattle.fact_store.specs.Seen.{seen}
-use Rattle.fact_store.specs.View.{raised, view, view_at}
+use Rattle.fact_store.specs.View.{view_at}
 use Rattle.fact_store.specs.Merge.{merge}
-use Rattle.fact_store.proofs.Merges.{at_same_floor}
-use Rattle.fact_store.proofs.Views.{raising_forgets, view_of_both}
+use Rattle.fact_store.proofs.Views.{view_of_both}
 use Rattle.record_file.specs.Laws.{AreParts}
-use Rattle.record_file.specs.RecordFile.{kept}
+use Rattle.record_file.specs.RecordFile.{floor_in, kept}
 use Rattle.sm_cli.specs.declared.run.Command.{Command}
 use Rattle.record_file.proofs.SplitFiles.{split_reports, split_store}
 use Rattle.record_file.proofs.StoreFiles.{read_back}
-use Rattle.sm_cli.specs.Run.{answer_to, facts_of}
+use Rattle.sm_cli.specs.Run.{answer_to, facts_of, floor_among}
 use Rattle.sm_cli.specs.RunLaws.{JoinedFileStands, SplitFileStands, SplitStoreStands, StandFor}
 
--- what says the same at floor 1 says the same at each floor
-seen_from : (floor : ℕ) (s t : Told) → view s ≡ view t → view_at floor s ≡ view_at floor t
-seen_from floor s t same =
-    at_same_floor floor (max 1 floor) (seen s) (omega arith) ∙ sym (raising_forgets 1 floor s) ∙ ap (λ x. raised x floor) same
-    ∙ raising_forgets 1 floor t ∙ at_same_floor (max 1 floor) floor (seen t) (omega arith)
+-- the greatest floor, where one of two was given
+floor_among-max : (a b : ℕ) (files : List (List ℕ)) → floor_among (max a b) files ≡ max a (floor_among b files)
+floor_among-max a b [] = refl
+floor_among-max a b (f ∷ files) =
+    ap (λ n. floor_among n files) (omega arith) ∙ floor_among-max a (max b (floor_in f)) files
+
+-- of files and others
+floor_among-both : (floor : ℕ) (files others : List (List ℕ)) → floor_among floor (files ++ others) ≡ floor_among (floor_among floor files) others
+floor_among-both floor [] others = refl
+floor_among-both floor (f ∷ files) others = floor_among-both (max floor (floor_in f)) files others
 
 pub joined_file_stands : JoinedFileStands
-joined_file_stands command files others joined is =
-    let read = read_back joined (facts_of 1 files) is in
-    let same : view (kept joined ++ flat_map kept others) ≡ view (flat_map kept (files ++ others)) =
-    view_of_both 1 1 (kept joined) (flat_map kept others)
-    ∙ ap (λ x. merge x (view (flat_map kept others))) read.2
-    ∙ sym (view_of_both 1 1 (flat_map kept files) (flat_map kept others))
-    ∙ ap view (sym (flat_map-append kept files others)) in
-    (read.0, ap (answer_to command.output) (seen_from command.floor (kept joined ++ flat_map kept others) (flat_map kept (files ++ others)) same))
+joined_file_stands command floor told files others joined is =
+    let read = read_back told joined (facts_of floor files) is in
+    let given = command.floor in
+    let mine = floor_among floor files in
+    let theirs = floor_among given others in
+    let before : floor_among (max given (floor_in joined)) others ≡ max (floor_in joined) theirs =
+    ap (λ n. floor_among n others) (omega arith) ∙ floor_among-max (floor_in joined) given others in
+    let after : floor_among (max given floor) (files ++ others) ≡ max mine theirs =
+    floor_among-both (max given floor) files others ∙ ap (λ n. floor_among n others) (floor_among-max given floor files ∙ omega arith)
+    ∙ floor_among-max mine given others in
+    let same : facts_of given (joined ∷ others) ≡ facts_of (max given floor) (files ++ others) =
+    ap (λ n. view_at n (kept joined ++ flat_map kept others)) before
+    ∙ view_of_both (floor_in joined) theirs (kept joined) (flat_map kept others)
+    ∙ ap (λ x. merge x (view_at theirs (flat_map kept others))) read.says
+    ∙ sym (view_of_both mine theirs (flat_map kept files) (flat_map kept others))
+    ∙ ap (view_at (max mine theirs)) (sym (flat_map-append kept files others))
+    ∙ ap (λ n. view_at n (flat_map kept (files ++ others))) (sym after) in
+    (read.accepted, ap (answer_to command.output) same)
 
 stand_for : (command : Command) (whole front back : List ℕ) (others : List (List ℕ)) → AreParts whole front back → StandFor command whole front back others
-stand_for command whole front back others parts = record {
-  front_accepted = parts.front_accepted;
-  back_accepted = parts.back_accepted;
-  same = ap (λ told. answer_to command.output (view_at command.floor (told ++ flat_map kept others))) parts.together
-      ∙ ap (λ told. answer_to command.output (view_at command.floor told)) (append_assoc (kept front) (kept back) (flat_map kept others));
-}
+stand_for command whole front back others parts =
+    let both : max command.floor (floor_in whole) ≡ max (max command.floor (floor_in front)) (floor_in back) =
+    omega (arith, parts.front_floor, parts.back_floor) in record {
+      front_accepted = parts.front_accepted;
+      back_accepted = parts.back_accepted;
+      same = ap (λ n. answer_to command.output (view_at (floor_among n others) (kept whole ++ flat_map kept others))) both
+          ∙ ap (λ told. answer_to command.output (view_at (floor_among (max (max command.floor (floor_in front)) (floor_in back)) others) (told ++ flat_map kept others))) parts.together
+          ∙ ap (λ told. answer_to command.output (view_at (floor_among (max (max command.floor (floor_in front)) (floor_in back)) others) told))
+          (append_assoc (kept front) (kept back) (flat_map kept others));
+    }
 
 pub split_file_stands : SplitFileStands
 split_file_stands command whole front back first second others w f b = stand_for command whole front back others (split_reports whole front back first second w f b)
 
 pub split_store_stands : SplitStoreStands
-split_store_stands command whole front back facts first second others w split f b = stand_for command whole front back others (split_store whole front back facts first second w split f b)
+split_store_stands command told whole front back facts first second others w split f b =
+    stand_for command whole front back others (split_store told whole front back facts first second w split f b)

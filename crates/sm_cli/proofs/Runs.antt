@@ -7,15 +7,16 @@ use Rattle.std.proofs.lemmas.Option.{slice_get-get_or}
 use Rattle.std.specs.Prelude.{max, nat_lt, IfSome, slice_get}
 use Rattle.std.specs.List.{flat_map}
 use Rattle.fact_store.specs.Seen.{seen}
-use Rattle.fact_store.specs.View.{Facts, raised, view, view_at, no_facts}
+use Rattle.fact_store.specs.View.{Facts, raised, view_at, no_facts}
 use Rattle.fact_store.specs.Merge.{merge}
 use Rattle.fact_store.proofs.Merges.{at_same_floor, merge_empty}
 use Rattle.fact_store.proofs.Views.{raising_forgets, view_of_both}
 use Rattle.record_file.specs.Absorbs.{Absorbs, AnswersKnown, HasNoFaultYet, HoldsKept}
-use Rattle.record_file.specs.RecordFile.{ending, fault_first, fault_in, format_of, kept, outcome, outcome_as, record_size}
+use Rattle.record_file.specs.RecordFile.{ending, facts_in, fault_first, fault_in, floor_in, kept, outcome, outcome_as}
+use Rattle.record_file.specs.Head.{format_in}
 use Rattle.record_file.specs.declared.file_fault.FileFault.{FileFault}
 use Rattle.record_file.specs.declared.file_fault.FileFault.TheVariants.{Memory, Read}
-use Rattle.sm_cli.specs.Run.{AreReadAs, IsReadAs, IsReadAt, ReadsInto, Refuses, facts_of}
+use Rattle.sm_cli.specs.Run.{AreReadAs, IsReadAs, IsReadAt, ReadsInto, Refuses, facts_of, floor_among}
 
 -- a source is replaced by what is left of it
 pub there_after : {S : Type 0} (sources : List S) (place : ℕ) (after : S) → place < length sources → slice_get (set sources place after) place ≡ Some after
@@ -52,9 +53,9 @@ last_of_more (y ∷ xs) last (suc k) h x e = let i = last_of_more xs last k (ome
 accepted_has_no_fault : (bytes : List ℕ) → outcome bytes ≡ Ok tt → HasNoFaultYet bytes
 unfolding outcome
 accepted_has_no_fault bytes h =
-    elim (format_of bytes) as (λ o. format_of bytes ≡ o → outcome_as o bytes ≡ Ok tt → HasNoFaultYet bytes) [
-      | None ↦ λ e k. absurd (cc)
-      | Some format ↦ λ e k. (elim (fault_in format bytes) as (λ f. fault_in format bytes ≡ f → fault_first f (ending (record_size format) (length bytes)) ≡ Ok tt → HasNoFaultYet bytes) [
+    elim (format_in bytes) as (λ o. format_in bytes ≡ o → outcome_as o bytes ≡ Ok tt → HasNoFaultYet bytes) [
+      | Err f ↦ λ e k. absurd (cc)
+      | Ok format ↦ λ e k. (elim (fault_in format bytes) as (λ f. fault_in format bytes ≡ f → fault_first f (ending format (length bytes)) ≡ Ok tt → HasNoFaultYet bytes) [
         | None ↦ λ d l. inr (format, e, d)
         | Some f ↦ λ d l. absurd (cc)
       ] refl k)
@@ -114,7 +115,7 @@ module _ {S : Type 0} (left : S → Option (List ℕ)) (has_failed : S → Bool)
   reads_into interruptions u old new fresh store all sum is_fresh a works e = record {
     file = a.taken;
     read = record { consumed = a.consumed; at_end = a.decided; accepted = a.answered; works = works };
-    merged = e ∙ ap (merge all) (a.held ∙ ap (λ x. merge x (view (kept a.taken))) is_fresh ∙ merge_empty (view (kept a.taken)));
+    merged = e ∙ ap (merge all) (a.held ∙ ap (λ x. merge x (facts_in a.taken)) is_fresh ∙ merge_empty (facts_in a.taken));
   }
 
   -- or there was no memory for that
@@ -150,13 +151,17 @@ module _ {S : Type 0} (left : S → Option (List ℕ)) (has_failed : S → Bool)
     known = known;
   }
 
+floor_among-more : (floor : ℕ) (files : List (List ℕ)) (file : List ℕ) → floor_among floor (files ++ file ∷ []) ≡ max (floor_among floor files) (floor_in file)
+floor_among-more floor [] file = refl
+floor_among-more floor (f ∷ files) file = floor_among-more (max floor (floor_in f)) files file
+
 -- what one more file says is merged into what all before say
-pub facts-more : (floor : ℕ) (files : List (List ℕ)) (file : List ℕ) (facts facts' : Facts) → facts ≡ facts_of floor files → facts' ≡ merge facts (view (kept file))
+pub facts-more : (floor : ℕ) (files : List (List ℕ)) (file : List ℕ) (facts facts' : Facts) → facts ≡ facts_of floor files → facts' ≡ merge facts (facts_in file)
     → facts' ≡ facts_of floor (files ++ file ∷ [])
 facts-more floor files file facts facts' e more =
-    more ∙ ap (λ x. merge x (view (kept file))) e ∙ sym (view_of_both floor 1 (flat_map kept files) (kept file))
-    ∙ at_same_floor (max floor 1) floor (seen (flat_map kept files ++ kept file)) (omega arith)
-    ∙ ap (view_at floor) (flat_map_more kept [] files file)
+    more ∙ ap (λ x. merge x (facts_in file)) e ∙ sym (view_of_both (floor_among floor files) (floor_in file) (flat_map kept files) (kept file))
+    ∙ ap (λ n. view_at n (flat_map kept files ++ kept file)) (sym (floor_among-more floor files file))
+    ∙ ap (view_at (floor_among floor (files ++ file ∷ []))) (flat_map_more kept [] files file)
 
 -- before the first
 pub facts-none : (floor : ℕ) (facts facts' : Facts) → facts ≡ no_facts → facts' ≡ raised facts floor → facts' ≡ facts_of floor []

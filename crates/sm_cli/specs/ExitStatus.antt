@@ -1,7 +1,7 @@
 -- The exit status of a run.
 use Rattle.std.specs.Prelude.{ℕ, if◌then◌else◌}
 use Rattle.record_file.specs.declared.file_fault.FileFault.{FileFault}
-use Rattle.record_file.specs.declared.file_fault.FileFault.TheVariants.{Magic, Truncated, BadReport, BadCell, CellOrder, Read, Memory as NoMemoryForFile, TooLong}
+use Rattle.record_file.specs.declared.file_fault.FileFault.TheVariants.{Magic, Truncated, BadReport, BadCell, CellOrder, Read, Memory as NoMemoryForFile, TooLong, BadFloor}
 use Rattle.sm_cli.specs.declared.fault.Fault.{Fault}
 use Rattle.sm_cli.specs.declared.fault.Fault.TheVariants.{Open, File, Text, NoRoom, Write, Memory as NoMemory}
 use Rattle.sm_cli.specs.TextFault.{is_of_text}
@@ -26,6 +26,7 @@ file_status (CellOrder index) = Refused
 file_status Read = InputOutput
 file_status NoMemoryForFile = Memory
 file_status TooLong = Refused
+file_status BadFloor = Refused
 
 -- what a fault ends the program with
 abbrev pub status_of : Fault → ExitStatus

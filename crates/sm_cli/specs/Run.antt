@@ -1,12 +1,12 @@
 -- What a run over files does: it reads all of them, and writes what they say together, or says which one it refuses.
-use Rattle.std.specs.Prelude.{◌≡◌, ◌↔◌, ℕ, Bool, false, List, [], Option, None, Some, Ok, Err, IsTrue, length, slice_get}
+use Rattle.std.specs.Prelude.{◌≡◌, ◌↔◌, ℕ, max, map, fold, Bool, false, List, [], Option, None, Some, Ok, Err, IsTrue, length, slice_get}
 use Rattle.std.specs.List.{flat_map}
 use Rattle.std.specs.Io.KnownBytes.{Appends, Consumes, IsAtEnd}
 use Rattle.fact_store.specs.Sighting.{AreInRange}
 use Rattle.fact_store.specs.Merge.{merge}
-use Rattle.fact_store.specs.View.{Facts, view, view_at, cells_of}
+use Rattle.fact_store.specs.View.{Facts, view_at, cells_of}
 use Rattle.record_file.specs.Absorbs.{AnswersKnown, AnswersOutcome, HasNoFaultBefore, IsBounded, IsDecided, WasInterruptedTooOften}
-use Rattle.record_file.specs.RecordFile.{kept, outcome}
+use Rattle.record_file.specs.RecordFile.{facts_in, floor_in, kept, outcome}
 use Rattle.record_file.specs.StoreFile.{store_bytes}
 use Rattle.record_file.specs.declared.file_fault.FileFault.{FileFault}
 use Rattle.record_file.specs.declared.file_fault.FileFault.TheVariants.{Read, Memory as NoMemory}
@@ -20,14 +20,18 @@ use Rattle.sm_cli.specs.declared.run.Output.{Output}
 use Rattle.sm_cli.specs.declared.run.Output.TheVariants as output
 use Rattle.sm_cli.specs.FactsText.{facts_text}
 
--- what all records of all files say together at a floor
+-- the greatest of a floor and those that the files tell
+abbrev pub floor_among : ℕ → List (List ℕ) → ℕ
+floor_among floor files = fold max floor (map floor_in files)
+
+-- what all records of all files say together at the greatest of a floor and theirs
 abbrev pub facts_of : ℕ → List (List ℕ) → Facts
-facts_of floor files = view_at floor (flat_map kept files)
+facts_of floor files = view_at (floor_among floor files) (flat_map kept files)
 
 -- what is written of the facts
 abbrev pub answer_to : Output → Facts → List ℕ
 answer_to output.Facts facts = facts_text facts
-answer_to output.Join facts = store_bytes (cells_of facts)
+answer_to output.Join facts = store_bytes facts.floor (cells_of facts)
 answer_to output.Plan facts = plan_text (plan_of (cells_of facts))
 
 -- what is so of facts that are answered: they are in range, and a plan has room for their LIDs
@@ -56,7 +60,7 @@ pub record IsReadAs {S : Type 0} (left : S → Option (List ℕ)) (has_failed : 
 pub record ReadsInto {S : Type 0} (left : S → Option (List ℕ)) (has_failed : S → Bool) (old new : S) (facts facts' : Facts) : Type 0 where
   pub file : List ℕ
   pub read : IsReadAs left has_failed old new file
-  pub merged : facts' ≡ merge facts (view (kept file))
+  pub merged : facts' ≡ merge facts (facts_in file)
 
 -- the one of the sources at a place was read
 pub record IsReadAt {S : Type 0} (left : S → Option (List ℕ)) (has_failed : S → Bool) (olds news : List S) (place : ℕ) (file : List ℕ) : Type 0 where

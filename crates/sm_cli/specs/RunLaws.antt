@@ -1,5 +1,5 @@
 -- What the answer of a run depends on.
-use Rattle.std.specs.Prelude.{◌≡◌, ℕ, List, ◌∷◌, ◌++◌, Ok, Contains}
+use Rattle.std.specs.Prelude.{◌≡◌, ℕ, max, List, ◌∷◌, ◌++◌, Option, Ok, Contains}
 use Rattle.std.specs.List.{flat_map}
 use Rattle.fact_join.specs.declared.cell.Cell.{Cell}
 use Rattle.fact_store.specs.declared.key.Key.{Key}
@@ -8,14 +8,19 @@ use Rattle.fact_store.specs.Seen.{HaveSameMembers}
 use Rattle.fact_store.specs.View.{Facts, cells_of}
 use Rattle.record_file.specs.Laws.{IsReportFile, report_file}
 use Rattle.record_file.specs.RecordFile.{kept, outcome}
-use Rattle.record_file.specs.StoreFile.{store_bytes}
+use Rattle.record_file.specs.StoreFile.{cells_file}
 use Rattle.record_file.specs.StoreLaws.{IsStoreFile}
 use Rattle.sm_cli.specs.declared.run.Command.{Command}
-use Rattle.sm_cli.specs.Run.{answer_to, facts_of}
+use Rattle.sm_cli.specs.Run.{answer_to, facts_of, floor_among}
 
--- on which sightings the files keep, and neither on their order nor on how often they are there
+-- two lists of files keep the same sightings, in whatever order and however often, and their greatest floor is the same
+pub record SayTheSame (floor : ℕ) (files others : List (List ℕ)) : Type 0 where
+  pub sightings : HaveSameMembers (flat_map kept files) (flat_map kept others)
+  pub floors : floor_among floor files ≡ floor_among floor others
+
+-- that decides the answer
 abbrev pub SightingsDecideAnswer : Type 0
-SightingsDecideAnswer = (command : Command) (files others : List (List ℕ)) → HaveSameMembers (flat_map kept files) (flat_map kept others) → answer_to command.output (facts_of command.floor files) ≡ answer_to command.output (facts_of command.floor others)
+SightingsDecideAnswer = (command : Command) (files others : List (List ℕ)) → SayTheSame command.floor files others → answer_to command.output (facts_of command.floor files) ≡ answer_to command.output (facts_of command.floor others)
 
 -- two lists have the same files, in whatever order and however often
 pub record AreSameFiles (files others : List (List ℕ)) : Type 0 where
@@ -26,9 +31,9 @@ pub record AreSameFiles (files others : List (List ℕ)) : Type 0 where
 abbrev pub FilesDecideAnswer : Type 0
 FilesDecideAnswer = (command : Command) (files others : List (List ℕ)) → AreSameFiles files others → answer_to command.output (facts_of command.floor files) ≡ answer_to command.output (facts_of command.floor others)
 
--- a store file that files were joined into at floor 1 stands for them, alone or among others
+-- a store file that files were joined into at a floor is accepted, and stands for them at that floor, alone or among others
 abbrev pub JoinedFileStands : Type 0
-JoinedFileStands = (command : Command) (files others : List (List ℕ)) (joined : List ℕ) → IsStoreFile joined (facts_of 1 files) → (outcome joined ≡ Ok tt) × (answer_to command.output (facts_of command.floor (joined ∷ others)) ≡ answer_to command.output (facts_of command.floor (files ++ others)))
+JoinedFileStands = (command : Command) (floor : ℕ) (told : Option ℕ) (files others : List (List ℕ)) (joined : List ℕ) → IsStoreFile told joined (facts_of floor files) → (outcome joined ≡ Ok tt) × (answer_to command.output (facts_of command.floor (joined ∷ others)) ≡ answer_to command.output (facts_of (max command.floor floor) (files ++ others)))
 
 -- two files are accepted, and stand for a whole one, alone or among others
 pub record StandFor (command : Command) (whole front back : List ℕ) (others : List (List ℕ)) : Type 0 where
@@ -40,6 +45,6 @@ pub record StandFor (command : Command) (whole front back : List ℕ) (others : 
 abbrev pub SplitFileStands : Type 0
 SplitFileStands = (command : Command) (whole front back : List ℕ) (first second : List (List ℕ)) (others : List (List ℕ)) → IsReportFile whole (first ++ second) → front ≡ report_file first → back ≡ report_file second → StandFor command whole front back others
 
--- and the parts of a store file
+-- and the parts of a store file, each with the whole one's floor
 abbrev pub SplitStoreStands : Type 0
-SplitStoreStands = (command : Command) (whole front back : List ℕ) (facts : Facts) (first second : List (Key × Cell Value)) (others : List (List ℕ)) → IsStoreFile whole facts → cells_of facts ≡ first ++ second → front ≡ store_bytes first → back ≡ store_bytes second → StandFor command whole front back others
+SplitStoreStands = (command : Command) (told : Option ℕ) (whole front back : List ℕ) (facts : Facts) (first second : List (Key × Cell Value)) (others : List (List ℕ)) → IsStoreFile told whole facts → cells_of facts ≡ first ++ second → front ≡ cells_file told first → back ≡ cells_file told second → StandFor command whole front back others

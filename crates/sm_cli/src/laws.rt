@@ -1,7 +1,8 @@
 //! What the answer of a run depends on.
 ghost use Rattle.sm_cli.specs.RunLaws.{FilesDecideAnswer, JoinedFileStands, SightingsDecideAnswer, SplitFileStands, SplitStoreStands};
 
-/// Files that keep the same sightings, in whatever order and however often, give equal answers.
+/// Files that keep the same sightings, in whatever order and however often, and have the same greatest floor give equal
+/// answers.
 pub fn sightings_decide_answer()
     ensures { SightingsDecideAnswer }
 {}
@@ -11,7 +12,7 @@ pub fn files_decide_answer()
     ensures { FilesDecideAnswer }
 {}
 
-/// A store file that files were joined into is accepted and stands for them, alone or among other files.
+/// A store file that files were joined into is accepted and stands for them at its floor, alone or among other files.
 pub fn joined_file_stands()
     ensures { JoinedFileStands }
 {}

@@ -44,13 +44,28 @@ portguid 0000000000000100/1 0000000000000101 @1
 ";
 
 /// The store file of what it tells.
-fn adapter_store() -> [u8; 72] {
+fn adapter_store() -> [u8; 80] {
+    let mut file = [0; 80];
+    file[..16].copy_from_slice(b"IBSMSTO2\0\0\0\x01\0\0\0\0");
+    file[16..32].copy_from_slice(&[1, 1, 0, 0, 0, 0, 0, 1, 0, 0, 0, 0, 0, 0, 1, 0]);
+    file[32..34].copy_from_slice(&[1, 1]);
+    file[48..64].copy_from_slice(&[2, 1, 1, 0, 0, 0, 0, 1, 0, 0, 0, 0, 0, 0, 1, 0]);
+    file[64..72].copy_from_slice(&[0, 0, 0, 0, 0, 0, 1, 1]);
+    file
+}
+
+/// The same in a file that tells no floor.
+fn older_store() -> [u8; 72] {
     let mut file = [0; 72];
     file[..8].copy_from_slice(b"IBSMSTO1");
-    file[8..24].copy_from_slice(&[1, 1, 0, 0, 0, 0, 0, 1, 0, 0, 0, 0, 0, 0, 1, 0]);
-    file[24..26].copy_from_slice(&[1, 1]);
-    file[40..56].copy_from_slice(&[2, 1, 1, 0, 0, 0, 0, 1, 0, 0, 0, 0, 0, 0, 1, 0]);
-    file[56..64].copy_from_slice(&[0, 0, 0, 0, 0, 0, 1, 1]);
+    file[8..].copy_from_slice(&adapter_store()[16..]);
+    file
+}
+
+/// A store file of this floor without a cell.
+fn forgetting(floor: u32) -> [u8; 16] {
+    let mut file = *b"IBSMSTO2\0\0\0\0\0\0\0\0";
+    file[8..12].copy_from_slice(&floor.to_be_bytes());
     file
 }
 
@@ -81,11 +96,12 @@ fn exchanged_store() -> [u8; 72] {
     file
 }
 
-/// A store of one claim, each of its numbers the greatest that there is.
-fn greatest_store() -> [u8; 40] {
-    let mut file = [0; 40];
-    file[..12].copy_from_slice(b"IBSMSTO1\x05\x01\xFE\x00");
-    file[12..26].copy_from_slice(&[0xFF; 14]);
+/// A store of one claim at a floor, each of its numbers the greatest that there is.
+fn greatest_store(floor: u32) -> [u8; 48] {
+    let mut file = [0; 48];
+    file[16..20].copy_from_slice(&[5, 1, 0xFE, 0]);
+    file[20..34].copy_from_slice(&[0xFF; 14]);
+    file[..16].copy_from_slice(&forgetting(floor));
     file
 }
 
@@ -167,23 +183,36 @@ fn check_rows(
 #[test]
 fn files_are_taken(rt: HostRuntime) -> Result<(), Fail> {
     let (adapter, doubled, store) = (adapter_file(), doubled_file(), adapter_store());
-    let greatest = greatest_store();
-    let rows: [Row<'_>; 5] = [
+    let (greatest, older) = (greatest_store(1), older_store());
+    let (forgetting, raised) = (forgetting(2), greatest_store(2));
+    let rows: [Row<'_>; 9] = [
         (b"IBSMREP1", b"IBSMREP1", b""),
         (&adapter, b"IBSMREP1", ADAPTER_FACTS),
         (b"IBSMSTO1", &doubled, ADAPTER_FACTS),
         (&store, &doubled, ADAPTER_FACTS),
+        (&older, &store, ADAPTER_FACTS),
+        (&older, b"IBSMREP1", ADAPTER_FACTS),
         (
             b"IBSMREP1",
             &greatest,
             b"claim ffffffffffffffff/254 65535 @4294967295\n",
         ),
+        (&older, &forgetting, b"floor 2\n"),
+        (
+            &raised,
+            &adapter,
+            b"floor 2\nclaim ffffffffffffffff/254 65535 @4294967295\n",
+        ),
     ];
     check_rows(&rt, rt.alloc(), Output::Facts, &rows)?;
-    let joined: [Row<'_>; 3] = [
+    let joined: [Row<'_>; 7] = [
         (&store, &store, &store),
         (&adapter, b"IBSMSTO1", &store),
+        (&older, &older, &store),
         (&greatest, &greatest, &greatest),
+        (&raised, &store, &raised),
+        (&older, &raised, &raised),
+        (&adapter, &forgetting, &forgetting),
     ];
     check_rows(&rt, rt.alloc(), Output::Join, &joined)
 }
@@ -192,7 +221,7 @@ fn files_are_taken(rt: HostRuntime) -> Result<(), Fail> {
 fn the_first_refused_file_is_named(rt: HostRuntime) -> Result<(), Fail> {
     let (good, doubled, bad) = (adapter_file(), doubled_file(), half_bad_file());
     let (cut, exchanged) = (first_of(&doubled, 551), exchanged_store());
-    let rows: [Row<'_>; 9] = [
+    let rows: [Row<'_>; 11] = [
         (b"", &good, b"3 ibsm: FILE: bad magic\n"),
         (&good, b"IBSM", b"3 ibsm: OTHER: bad magic\n"),
         (cut, &good, b"3 ibsm: FILE: truncated at 280\n"),
@@ -202,6 +231,12 @@ fn the_first_refused_file_is_named(rt: HostRuntime) -> Result<(), Fail> {
         (&exchanged, b"", b"3 ibsm: FILE: cell out of order 1\n"),
         (&good, &exchanged, b"3 ibsm: OTHER: cell out of order 1\n"),
         (&good, b"IBSMSTO1\x01", b"3 ibsm: OTHER: truncated at 8\n"),
+        (&good, b"IBSMSTO2", b"3 ibsm: OTHER: truncated at 8\n"),
+        (
+            b"IBSMSTO2\0\0\0\0\0\0\0\0",
+            &bad,
+            b"3 ibsm: FILE: bad floor\n",
+        ),
     ];
     check_rows(&rt, rt.alloc(), Output::Facts, &rows)?;
     check_rows(&rt, rt.alloc(), Output::Join, &rows)
@@ -217,8 +252,8 @@ fn cut_report(length: usize) -> &'static [u8] {
     }
 }
 
-/// How a run ends over the first bytes of the adapter's store file.
-fn cut_store(length: usize) -> &'static [u8] {
+/// How a run ends over the first bytes of the adapter's older store file.
+fn cut_older(length: usize) -> &'static [u8] {
     match length {
         40 => b"node 0000000000000100 ca 1 @1\n",
         41..=71 => b"3 ibsm: FILE: truncated at 40\n",
@@ -227,14 +262,31 @@ fn cut_store(length: usize) -> &'static [u8] {
     }
 }
 
+/// How a run ends over the first bytes of the adapter's store file.
+fn cut_store(length: usize) -> &'static [u8] {
+    match length {
+        0..=7 => b"3 ibsm: FILE: bad magic\n",
+        8..=15 => b"3 ibsm: FILE: truncated at 8\n",
+        16 => b"",
+        17..=47 => b"3 ibsm: FILE: truncated at 16\n",
+        48 => b"node 0000000000000100 ca 1 @1\n",
+        49..=79 => b"3 ibsm: FILE: truncated at 48\n",
+        _ => ADAPTER_FACTS,
+    }
+}
+
 #[test]
 fn each_cut_is_told(rt: HostRuntime) -> Result<(), Fail> {
-    let (reports, store) = (adapter_file(), adapter_store());
+    let (reports, older, store) = (adapter_file(), older_store(), adapter_store());
     for length in 0..=280 {
         let cut = [first_of(&reports, length)];
         check(&rt, rt.alloc(), Output::Facts, &cut, cut_report(length))?;
     }
     for length in 0..=72 {
+        let cut = [first_of(&older, length)];
+        check(&rt, rt.alloc(), Output::Facts, &cut, cut_older(length))?;
+    }
+    for length in 0..=80 {
         let cut = [first_of(&store, length)];
         check(&rt, rt.alloc(), Output::Facts, &cut, cut_store(length))?;
     }
@@ -242,7 +294,7 @@ fn each_cut_is_told(rt: HostRuntime) -> Result<(), Fail> {
 }
 
 /// The adapter's store file with another byte at a place.
-fn damaged_store(place: usize, byte: u8) -> [u8; 72] {
+fn damaged_store(place: usize, byte: u8) -> [u8; 80] {
     let mut store = adapter_store();
     if let Some(damaged) = store.get_mut(place) {
         *damaged = byte;
@@ -252,19 +304,30 @@ fn damaged_store(place: usize, byte: u8) -> [u8; 72] {
 
 #[test]
 fn each_damage_is_told(rt: HostRuntime) -> Result<(), Fail> {
-    let wanted = b"3 ibsm: FILE: bad cell 0\n";
-    // State 2 with the value kept, and then kind, state, generation, node type, ports, the key's port, the fourth byte and
-    // the last value byte.
-    for (place, byte) in [
-        (9, 2),
-        (8, 7),
-        (9, 3),
-        (15, 0),
-        (24, 4),
-        (25, 0),
-        (10, 1),
-        (11, 1),
-        (39, 1),
+    let bad_cell = b"3 ibsm: FILE: bad cell 0\n".as_slice();
+    let bad_floor = b"3 ibsm: FILE: bad floor\n".as_slice();
+    // The header: a floor that the cells are below, none, and each zero byte behind it. Of the first cell: state 2 with the
+    // value kept, and then kind, state, generation, node type, ports, the key's port, the fourth byte and the last value
+    // byte.
+    for (place, byte, wanted) in [
+        (8, 255, bad_cell),
+        (9, 1, bad_cell),
+        (10, 1, bad_cell),
+        (11, 2, bad_cell),
+        (11, 0, bad_floor),
+        (12, 1, bad_floor),
+        (13, 1, bad_floor),
+        (14, 1, bad_floor),
+        (15, 255, bad_floor),
+        (17, 2, bad_cell),
+        (16, 7, bad_cell),
+        (17, 3, bad_cell),
+        (23, 0, bad_cell),
+        (32, 4, bad_cell),
+        (33, 0, bad_cell),
+        (18, 1, bad_cell),
+        (19, 1, bad_cell),
+        (47, 1, bad_cell),
     ] {
         let store = damaged_store(place, byte);
         check(&rt, rt.alloc(), Output::Facts, &[&store], wanted)?;
@@ -323,7 +386,7 @@ fn each_byte_may_be_overwritten(rt: HostRuntime) -> Result<(), Fail> {
 }
 
 /// The lines of faults of a file, or of none, with the exit status.
-fn fault_lines() -> [(Fault, &'static str); 18] {
+fn fault_lines() -> [(Fault, &'static str); 19] {
     let file = |fault| Fault::File { place: 0, fault };
     let text = |fault| Fault::Text { place: 1, fault };
     [
@@ -350,6 +413,7 @@ fn fault_lines() -> [(Fault, &'static str); 18] {
             "3 ibsm: FILE: cell out of order 12\n",
         ),
         (file(FileFault::TooLong), "3 ibsm: FILE: too long\n"),
+        (file(FileFault::BadFloor), "3 ibsm: FILE: bad floor\n"),
         (file(FileFault::Read), "4 ibsm: FILE: read failed\n"),
         (file(FileFault::Memory), "5 ibsm: out of memory\n"),
         (
@@ -401,25 +465,53 @@ fn each_fault_has_its_line_and_status(rt: HostRuntime) -> Result<(), Fail> {
     Ok(())
 }
 
+/// What the sample fabric says from generation 2 on, once another adapter is in the place of the first.
+const RENEWED_FACTS: &[u8] = b"\
+floor 2
+node 0000000000000300 ca 1 @2
+portguid 0000000000000300/1 0000000000000301 @2
+link 0000000000000020/3 0000000000000300/1 @2
+link 0000000000000300/1 0000000000000020/3 @2
+port 0000000000000300/1 up @2
+claim 0000000000000300/1 0 @2
+";
+
 #[test]
 fn what_is_below_a_floor_does_not_count(rt: HostRuntime) -> Result<(), Fail> {
-    let (adapter, greatest) = (adapter_file(), greatest_store());
+    let (adapter, greatest) = (adapter_file(), greatest_store(1));
+    let (fabric, renewed) = (
+        fabric::fabric_files(rt.alloc())?,
+        fabric::renewed_file(rt.alloc())?,
+    );
+    let (raised, late) = (greatest_store(2), greatest_store(u32::MAX));
     let both = [adapter.as_slice(), &greatest];
-    for (floor, output, text) in [
+    let floored = [late.as_slice(), &greatest];
+    let fabrics = [fabric.0.as_slice(), &renewed];
+    let joined = ended_within(rt.alloc(), 4096, from(2, Output::Join)?, &fabrics)?;
+    assert!(rt; joined.bytes().len() == 208);
+    let again = [joined.bytes(), &fabric.0];
+    let above: &[u8] = b"floor 4294967295\nclaim ffffffffffffffff/254 65535 @4294967295\n";
+    let plan: &[u8] = b"lid 1 0000000000000300/1\n";
+    for (floor, output, files, text) in [
         (
             2,
             Output::Facts,
+            both,
             b"floor 2\nclaim ffffffffffffffff/254 65535 @4294967295\n".as_slice(),
         ),
-        (2, Output::Join, &greatest),
-        (2, Output::Plan, b""),
-        (
-            u32::MAX,
-            Output::Facts,
-            b"floor 4294967295\nclaim ffffffffffffffff/254 65535 @4294967295\n",
-        ),
+        (2, Output::Join, both, &raised),
+        (2, Output::Plan, both, b""),
+        (u32::MAX, Output::Facts, both, above),
+        (2, Output::Facts, floored, above),
+        (1, Output::Join, floored, &late),
+        (2, Output::Facts, fabrics, RENEWED_FACTS),
+        (1, Output::Facts, again, RENEWED_FACTS),
+        (1, Output::Join, again, joined.bytes()),
+        (2, Output::Plan, fabrics, plan),
+        (1, Output::Plan, again, plan),
+        (3, Output::Facts, again, b"floor 3\n"),
     ] {
-        let wrote = ended_within(rt.alloc(), 4096, from(floor, output)?, &both)?;
+        let wrote = ended_within(rt.alloc(), 4096, from(floor, output)?, &files)?;
         assert!(rt; wrote.bytes() == text, "{floor} {output:?}");
     }
     Ok(())

@@ -107,7 +107,7 @@ module _ (m : Manager) where
   request_timeout_keeps None = refl
   request_timeout_keeps (Some p) = ending_keeps p None p.purpose
 
-  timeout_keeps : (transaction : ℕ) → (gave_up m transaction).manager.store ≡ m.store
+  pub timeout_keeps : (transaction : ℕ) → (gave_up m transaction).manager.store ≡ m.store
   timeout_keeps transaction =
       cond_both (nat_le (2 ^ 32) transaction) (sweep_gave_up m transaction m.sweep) (request_gave_up m (with_number transaction m.pending)) (λ (x : Called). x.manager.store ≡ m.store)
       (λ _. sweep_timeout_keeps transaction m.sweep) (λ _. request_timeout_keeps (with_number transaction m.pending))
@@ -116,11 +116,11 @@ module _ (m : Manager) where
   taking_keeps [] = refl
   taking_keeps (packet ∷ packets) = refl
 
-  handing_keeps : (lid : Option ℕ) → (handed_to m lid).store ≡ m.store
+  pub handing_keeps : (lid : Option ℕ) → (handed_to m lid).store ≡ m.store
   handing_keeps None = refl
   handing_keeps (Some lid) = refl
 
-  takes_call : (call : Call) → (after_call m call).store ≡ merge m.store (view_at (floor_in call) (told_in m call))
+  pub takes_call : (call : Call) → (after_call m call).store ≡ merge m.store (view_at (floor_in call) (told_in m call))
   unfolding Takes
   takes_call BeginSweep =
       nothing_taken m _ (cond_both (is_none (begin_fault m)) (sweep_begun m) m (λ (x : Manager). x.store ≡ m.store) (λ _. refl) (λ _. refl))

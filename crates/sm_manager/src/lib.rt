@@ -22,6 +22,3 @@ pub use manager::Manager;
 pub use outgoing::Outgoing;
 pub use pending::{Pending, Purpose};
 pub use progress::Progress;
-
-#[cfg(test)]
-mod tests;

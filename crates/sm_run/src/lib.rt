@@ -14,6 +14,3 @@ mod texts;
 mod world;
 
 pub use run::run_schedule;
-
-#[cfg(test)]
-mod tests;

@@ -5,7 +5,7 @@ use Rattle.spread_routes.specs.declared.ordering.Stage.{Stage}
 use Rattle.spread_routes.specs.Orders.{earliest, numbers_from}
 use Rattle.spread_routes.specs.Stages.{earlier_of, earliest_at, earliest_of, is_stage, stage_at}
 
-numbers_more : (k n : ℕ) → numbers_from k (suc n) ≡ numbers_from k n ++ (k + n) ∷ []
+pub numbers_more : (k n : ℕ) → numbers_from k (suc n) ≡ numbers_from k n ++ (k + n) ∷ []
 numbers_more k zero = let is : k ≡ k + 0 = omega arith in ap (λ x. x ∷ []) is
 numbers_more k (suc n) =
     let is : suc k + n ≡ k + suc n = omega arith in

@@ -1,6 +1,7 @@
 pub mod Bounds
 pub mod Marking
 pub mod Rounds
+pub mod Tallies
 pub mod RoundSteps
 pub mod Nearer
 pub mod Unique

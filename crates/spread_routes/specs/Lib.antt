@@ -5,6 +5,7 @@ pub mod LabelLaws
 pub mod Ways
 pub mod Orders
 pub mod Keys
+pub mod Classes
 pub mod Stages
 pub mod Sides
 pub mod EveryPair

@@ -2,6 +2,7 @@
 #![tactic(auto)]
 
 mod choice;
+mod class;
 mod key;
 mod labelling;
 pub mod laws;
@@ -9,6 +10,7 @@ mod mark;
 mod ordering;
 
 pub use choice::candidate;
+pub use class::classes;
 pub use key::Key;
 pub use labelling::marks;
 pub use mark::{Label, Mark};

@@ -1,5 +1,5 @@
 //! Marks and candidates of six vertices, of which the last has no exit.
-ghost use Rattle.std.specs.Prelude.{◌≡◌, ◌<◌, map, length, IfOk};
+ghost use Rattle.std.specs.Prelude.{◌≡◌, ◌<◌, All, map, length, true, IfOk};
 ghost use Rattle.port_graph.specs.Heads.{LeadToVertices};
 ghost use Rattle.port_graph.specs.Sample.{exit_of};
 ghost use Rattle.spread_routes.specs.LabelLaws.{IsSymmetric};
@@ -34,6 +34,14 @@ const UNPLACED: [&[(u8, usize)]; 6] = [
 const CLASSES: [(usize, usize); 6] = [(1, 0), (2, 1), (0, 1), (1, 1), (0, 0), (2, 0)];
 
 const ORDER: [usize; 6] = [4, 0, 3, 1, 2, 5];
+
+/// Vertices that bear adapters, roots, and the classes of the six vertices then.
+const CLASSES_BY: [(&[usize], &[usize], [u128; 6]); 4] = [
+    (&[], &[], [0, 0, 0, 0, 0, 0]),
+    (&[2, 3, 4], &[], [5, 5, 6, 4, 5, 0]),
+    (&[2, 3, 4], &[5], [5, 5, 6, 4, 5, 0]),
+    (&[2, 3, 4], &[4, 2], [1, 1, 0, 1, 0, 0]),
+];
 
 /// What the mark of each vertex towards each target is: its label and cost, in two letters.
 const MARKS: [&[u8; 12]; 6] = [
@@ -151,5 +159,23 @@ fn orders_grow(rt: HostRuntime) -> Result<(), Fail> {
     let keys = CLASSES.map(|(class, distance)| Key { class, distance });
     let order = grown_order(rt.alloc(), &exits, &keys)?;
     assert!(rt; order.as_slice() == ORDER.as_slice());
+    Ok(())
+}
+
+/// Whether these are vertices.
+fn are_vertices(some: &[usize]) -> bool
+    ensures { result ≡ true → All (λ a. a < 6) some.now }
+{
+    some.iter().all(|vertex| *vertex < 6)
+}
+
+#[test]
+fn classes_by_distances(rt: HostRuntime) -> Result<(), Fail> {
+    let exits = unplaced(rt.alloc())?;
+    for (bearing, roots, wanted) in &CLASSES_BY {
+        assert!(rt; are_vertices(bearing) && are_vertices(roots));
+        let classes = classes(rt.alloc(), &exits, bearing, roots)?;
+        assert!(rt; classes.as_slice() == wanted.as_slice());
+    }
     Ok(())
 }

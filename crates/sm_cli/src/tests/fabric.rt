@@ -4,8 +4,9 @@ ghost use Rattle.std.specs.Prelude.{◌<◌, ◌≤◌};
 use super::devices::Pouring;
 use super::sample_fabric::reports;
 use super::*;
-use fact_store::{Context, Report, Store};
-use record_file::{Source, absorb_by};
+use fact_store::{Context, Key, Report, Store};
+use record_file::{Source, absorb, absorb_by};
+use smp_bytes::{Guid, PortNum};
 
 const FABRIC_FACTS: &[u8] = b"\
 node 0000000000000010 switch 4 @1
@@ -98,6 +99,22 @@ pub(super) fn fabric_files(alloc: Global) -> Result<(Vec<u8>, Vec<u8>), AllocErr
     let in_order = file_of(alloc, &reports)?;
     reports.reverse();
     Ok((in_order, file_of(alloc, &reports)?))
+}
+
+/// The file of two answers at generation 2: NodeInfo of the adapter 0x300 at the port of the switch 0x20 where the first
+/// adapter was, and PortInfo of its port.
+pub(super) fn renewed_file(alloc: Global) -> Result<Vec<u8>, Fail> {
+    let reports = reports(alloc)?;
+    let mut node = *reports.get(6).ok_or("no NodeInfo")?;
+    node.generation = 2;
+    node.context = Context::Via(Guid::new(0x20), PortNum::new(3));
+    node.bytes[68..92].copy_from_slice(&[
+        0, 0, 0, 0, 0, 0, 3, 0, 0, 0, 0, 0, 0, 0, 3, 0, 0, 0, 0, 0, 0, 0, 3, 1,
+    ]);
+    let mut port = *reports.get(26).ok_or("no PortInfo")?;
+    port.generation = 2;
+    port.context = Context::About(Guid::new(0x300));
+    Ok(file_of(alloc, &[node, port])?)
 }
 
 #[test]
@@ -201,7 +218,7 @@ fn piece(alloc: Global, first: usize, last: usize) -> Result<Vec<u8>, Fail> {
 #[test]
 fn files_are_joined_in_any_grouping(rt: HostRuntime) -> Result<(), Fail> {
     let whole = whole(rt.alloc())?;
-    assert!(rt; whole.len() == 1832);
+    assert!(rt; whole.len() == 1840);
     for [(first, last), (other_first, other_last)] in [
         [(0, 1), (2, 2)],
         [(0, 0), (1, 2)],
@@ -258,5 +275,25 @@ fn a_newer_generation_settles_a_dispute(rt: HostRuntime) -> Result<(), Fail> {
         let files = [files[0].as_slice(), &files[1], &files[2]];
         check(&rt, rt.alloc(), Output::Facts, &files, text)?;
     }
+    Ok(())
+}
+
+/// How many cells the fabric's facts have, how many keys a search for the room of switch 0x30 compares, and how many a merge
+/// of them with themselves.
+fn steps(alloc: Global) -> Result<(usize, u32, u128), Fail> {
+    let file = fabric_files(alloc)?.0;
+    let mut store = Store::new(alloc);
+    absorb(&mut FromBytes::new(&file), &mut store)?;
+    let (cell, searched) = store.get_steps(Key::Cap(Guid::new(0x30)));
+    cell.ok_or("no room is known")?;
+    let copy = store.try_clone()?;
+    let merged = store.merge_steps(&copy)?;
+    Ok((store.count(), searched, merged))
+}
+
+#[test]
+fn searches_halve_and_merges_walk(rt: HostRuntime) -> Result<(), Fail> {
+    let (cells, searched, merged) = steps(rt.alloc())?;
+    assert!(rt; cells == 57 && searched <= 6 && merged <= 228);
     Ok(())
 }

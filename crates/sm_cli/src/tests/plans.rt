@@ -385,7 +385,7 @@ fn the_sample_fabric_is_planned(rt: HostRuntime) -> Result<(), Fail> {
         let plan = ended(rt.alloc(), Output::Plan, &pair)?;
         assert!(rt; is_plan(plan.bytes(), LIDS, &TABLES));
     }
-    for file in [b"IBSMREP1".as_slice(), &greatest_store()] {
+    for file in [b"IBSMREP1".as_slice(), &greatest_store(1)] {
         check(&rt, rt.alloc(), Output::Plan, &[file], b"")?;
     }
     Ok(())

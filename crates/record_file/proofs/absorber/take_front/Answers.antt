@@ -2,7 +2,7 @@ use Rattle.std.proofs.Common.{◌≡◌, ◌+◌, List, [], ◌++◌, Ok, Err, �
 use Rattle.std.proofs.lemmas.List.{length-take-le}
 use Rattle.std.proofs.lemmas.Result.{err_from_is_err_and}
 use Rattle.record_file.specs.Feeding.{TakesAwaited, awaited_size}
-use Rattle.record_file.proofs.Pieces.{empty_items, front-part, front-stops, front-whole}
+use Rattle.record_file.proofs.PieceSteps.{empty_items, front-part, front-stops, front-whole}
 use Rattle.record_file.proofs.absorber.take_front.Goals as goal
 
 pub returns-in_err-behind : goal.returns-in_err-behind

@@ -2,7 +2,7 @@ use Rattle.std.proofs.Common.{[], Err, length, refl, ap, arith}
 use Rattle.std.proofs.lemmas.List.{length-take-le}
 use Rattle.std.proofs.lemmas.Result.{err_from_is_err_and}
 use Rattle.record_file.specs.Feeding.{TakesPiece}
-use Rattle.record_file.proofs.Pieces.{empty_items, piece-late, piece-next, piece-place, piece-stops, takes-none}
+use Rattle.record_file.proofs.PieceSteps.{empty_items, piece-late, piece-next, piece-place, piece-stops, takes-none}
 use Rattle.record_file.proofs.absorber.take_piece.Goals as goal
 
 pub loop-rest-init : goal.loop-rest-init

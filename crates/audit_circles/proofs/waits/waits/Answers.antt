@@ -1,0 +1,40 @@
+-- A LID more, and all of them.
+use Rattle.std.proofs.Common.{◌≡◌, ◌*◌, List, length, ap, ◌∙◌, subst, arith}
+use Rattle.std.specs.Prelude.{Option, slice_index_or}
+use Rattle.port_graph.specs.declared.exit.Exit.{Exit}
+use Rattle.fact_store.specs.View.{cells_of}
+use Rattle.subnet_view.specs.Reading.{switches}
+use Rattle.channel_order.specs.Columns.{IsWithColumn}
+use Rattle.audit_circles.proofs.Waiting.{some_is, none_so_far, more, all}
+use Rattle.audit_circles.proofs.waits.waits.Goals as goal
+
+pub loop-line-init : goal.loop-line-init
+loop-line-init c =
+    let cells = cells_of c.args.network.now.facts in
+    let product = some_is _ c.checked_mul.result c.in_ok-count.count _ c.checked_mul.ensures c.in_ok-count.ensures.ok_part in
+    let all_switches = c.switch_count.ensures in
+    let count : c.in_ok-count.count ≡ 256 * length (switches cells) = omega arith in
+    none_so_far cells c.args.network.now.held c.in_ok-blocks.blocks.number c.in_ok-blocks.blocks.rows.items
+    c.in_ok-count.count c.in_ok-waits.waits c.in_ok-blocks.ensures.0
+    c.in_ok-waits.ensures count
+
+pub loop-line-preserved : goal.loop-line-preserved
+loop-line-preserved c =
+    let cells = cells_of c.args.network.now.facts in
+    let held = c.args.network.now.held in
+    let line = c.line-item.result in
+    let with_it = subst (λ (xs : List (Option Exit)). IsWithColumn c.loop-line.waits xs c.add_column.new.waits)
+    c.deref.ensures.value c.in_ok-add_column.ensures in
+    more cells held c.loop-line.blocks.number c.in_ok-blocks-2.blocks.number c.loop-line.line-index c.loop-line.blocks.rows.items
+    c.in_ok-blocks-2.blocks.rows.items c.loop-line.waits
+    c.add_column.new.waits line c.in_ok-column.column.items c.loop-line.invariant c.in_ok-blocks-2.ensures.0
+    (c.line-item.is ∙ ap (λ ls. slice_index_or ls c.loop-line.line-index line) c.lids-line-items.ensures)
+    (let less = c.loop-line-test.true in let e = ap length c.lids-line-items.ensures in omega arith)
+    c.in_ok-column.ensures with_it
+
+pub returns : goal.returns
+returns c =
+    let e = ap length c.lids-line-items.ensures in
+    let past = c.loop-line-test.false in
+    all (cells_of c.args.network.now.facts) c.args.network.now.held c.loop-line.blocks.number c.loop-line.line-index c.loop-line.blocks.rows.items
+    c.loop-line.waits c.loop-line.invariant (omega arith)

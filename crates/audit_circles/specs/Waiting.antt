@@ -1,0 +1,47 @@
+-- Channels that packets take in turn by the tables held, and the order of channels.
+-- InfiniBand Architecture Specification, Volume 1: switches, unicast forwarding by the linear forwarding table; link layer, flow control by credits.
+use Rattle.std.specs.Prelude.{◌≡◌, ◌↔◌, ◌<◌, ◌*◌, ℕ, List, [], ◌∷◌, Contains, length, slice_index_or}
+use Rattle.channel_order.specs.Orders.{Follows}
+use Rattle.channel_order.specs.Columns.{TakesInTurn}
+use Rattle.channel_order.specs.declared.order.ChannelOrder.{ChannelOrder}
+use Rattle.channel_order.specs.declared.order.ChannelOrder.TheVariants.{Rises, Circle}
+use Rattle.subnet_view.specs.Reading.{Cells, switches}
+use Rattle.plan_file.specs.declared.held.HeldLid.{HeldLid}
+use Rattle.plan_file.specs.Held.{HeldPlan}
+use Rattle.audit.specs.Exits.{exits_of}
+
+-- a packet for a LID that an end port holds leaves a switch by one channel, and the next switch by another
+pub record WaitsFor (cells : Cells) (held : HeldPlan) (channel next : ℕ) : Type 0 where
+  pub line : HeldLid
+  pub is_held : Contains held.lids line
+  pub switch : ℕ
+  pub takes : TakesInTurn (exits_of cells held line.lid) switch channel next
+
+-- of each channel of each switch, those that packets take next
+pub record AreWaits (cells : Cells) (held : HeldPlan) (waits : List (List ℕ)) : Type 0 where
+  pub as_many : length waits ≡ 256 * length (switches cells)
+  pub follows : (a b : ℕ) → Follows waits a b ↔ WaitsFor cells held a b
+
+-- each channel of each switch has a number, and those that packets take next have greater ones
+pub record RiseOnWays (cells : Cells) (held : HeldPlan) (numbers : List ℕ) : Type 0 where
+  pub as_many : length numbers ≡ 256 * length (switches cells)
+  pub rises : (a b : ℕ) → WaitsFor cells held a b → slice_index_or numbers a 0 < slice_index_or numbers b 0
+
+-- each of some channels waits for the next, and the last for another
+abbrev pub WaitOn : Cells → HeldPlan → ℕ → List ℕ → ℕ → Type 0
+WaitOn cells held channel [] last = WaitsFor cells held channel last
+WaitOn cells held channel (next ∷ later) last = WaitsFor cells held channel next × WaitOn cells held next later last
+
+-- channels of which each waits for the next, and the last for the first
+abbrev pub WaitInCircle : Cells → HeldPlan → List ℕ → Type 0
+WaitInCircle cells held [] = ⊥
+WaitInCircle cells held (channel ∷ later) = WaitOn cells held channel later channel
+
+-- numbers that rise, or a circle
+abbrev pub IsOrderOf : Cells → HeldPlan → ChannelOrder → Type 0
+IsOrderOf cells held (Rises numbers) = RiseOnWays cells held numbers.items
+IsOrderOf cells held (Circle channels) = WaitInCircle cells held channels.items
+
+-- where numbers rise there is no circle
+abbrev pub NeverBoth : Type 0
+NeverBoth = (cells : Cells) (held : HeldPlan) (numbers circle : List ℕ) → RiseOnWays cells held numbers → ¬ (WaitInCircle cells held circle)

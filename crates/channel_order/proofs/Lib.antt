@@ -1,0 +1,6 @@
+pub mod Columns
+pub mod Given
+pub mod Made
+pub mod Passing
+pub mod Rising
+pub mod Ways

@@ -1,0 +1,54 @@
+ghost use Rattle.std.specs.Prelude.{◌≡◌, ◌<◌, IfOk, ◌==◌, position, true};
+ghost use Rattle.std.specs.List.{find, list_any};
+ghost use Rattle.channel_order.specs.Orders.{IsCircle};
+ghost use Rattle.channel_order.specs.Numbers.{AreGiven, has_none};
+
+use crate::numbers::has_none;
+use crate::waits::Waits;
+use std::alloc::{AllocError, Global};
+
+/// The circle to which a way over channels without a number leads.
+pub(crate) fn circle_from(
+    alloc: Global,
+    waits: &Waits,
+    numbers: &[usize],
+    first: usize,
+) -> Result<Vec<usize>, AllocError>
+    requires given { AreGiven waits.now numbers.now }
+    requires first { has_none numbers.now first ≡ true }
+    ensures { IfOk result (λ circle. IsCircle waits.now circle.items) }
+{
+    let mut way = Vec::new(alloc);
+    let mut at = first;
+    while !is_on(&way, at) {
+        way.push(at)?;
+        at = first_held_up(waits.at(at), numbers).unwrap_or(at);
+    }
+    let place = place_of(&way, at).unwrap_or(0);
+    let circle = Vec::from_slice(alloc, &way[place..])?;
+    Ok(circle)
+}
+
+/// The first of these channels that has no number.
+fn first_held_up(following: &[usize], numbers: &[usize]) -> Option<usize>
+    ensures { result ≡ find (has_none numbers.now) following.now }
+{
+    following
+        .iter()
+        .copied()
+        .find(|next| has_none(numbers, *next))
+}
+
+/// Whether a channel is on a way.
+fn is_on(way: &[usize], channel: usize) -> bool
+    ensures { result ≡ list_any (λ c. channel == c) way.now }
+{
+    way.iter().any(|c| channel == *c)
+}
+
+/// The place of a channel on a way.
+fn place_of(way: &[usize], channel: usize) -> Option<usize>
+    ensures { result ≡ position (λ c. channel == c) way.now }
+{
+    way.iter().position(|c| channel == *c)
+}

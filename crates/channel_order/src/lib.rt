@@ -1,0 +1,16 @@
+//! Numbers that rise along each way over channels, or a circle of channels that wait for each other.
+#![tactic(auto)]
+
+mod circle;
+mod column;
+pub mod laws;
+mod numbers;
+mod order;
+mod waits;
+
+pub use column::add_column;
+pub use order::{ChannelOrder, order_channels};
+pub use waits::Waits;
+
+#[cfg(test)]
+mod tests;

@@ -1,0 +1,29 @@
+ghost use Rattle.std.specs.Prelude.{IfOk};
+ghost use Rattle.channel_order.specs.Orders.{IsOrder};
+
+use crate::circle::circle_from;
+use crate::numbers::{first_without, numbers};
+use crate::waits::Waits;
+use std::alloc::{AllocError, Global};
+
+/// Whether packets can wait for each other in a circle.
+#[derive(Debug, Drop)]
+pub enum ChannelOrder {
+    /// The number of each channel: those of the channels that follow it are greater.
+    Rises(Vec<usize>),
+    /// Channels of which each follows the one before, and the first follows the last; none comes twice.
+    Circle(Vec<usize>),
+}
+
+/// Numbers that rise, where the channels have such, or else a circle of channels: there is never both. Takes a
+/// step for each channel and each that follows it, as often as channels follow each other in the longest way; where
+/// there is a circle also the square of the channels that are walked until one comes again.
+pub fn order_channels(alloc: Global, waits: &Waits) -> Result<ChannelOrder, AllocError>
+    ensures { IfOk result (λ found. IsOrder waits.now found) }
+{
+    let numbers = numbers(alloc, waits)?;
+    match first_without(&numbers) {
+        None => Ok(ChannelOrder::Rises(numbers)),
+        Some(first) => Ok(ChannelOrder::Circle(circle_from(alloc, waits, &numbers, first)?)),
+    }
+}

@@ -1,0 +1,209 @@
+-- Managers that took in the same print the same.
+use Rattle.std.proofs.Common.{◌≡◌, ◌≢◌, ◌<◌, ◌⊎◌, inl, inr, ℕ, zero, suc, List, [], ◌∷◌, ◌++◌, length, refl, sym, ap, ◌∙◌, subst, arith}
+use Rattle.std.proofs.lemmas.Bool.Decides.{eqb_tells}
+use Rattle.std.proofs.lemmas.List.{append_assoc, append-nil}
+use Rattle.std.proofs.lemmas.List.Elements.{Contains-append_cases, Contains-append_right}
+use Rattle.std.specs.Prelude.{Option, Some, None, slice_get}
+use Rattle.std.specs.Option.{option_map_or}
+use Rattle.topo_file.specs.Topology.{Layout}
+use Rattle.topo_file.specs.declared.node.Node.{Node}
+use Rattle.schedule_file.specs.Schedule.{Script}
+use Rattle.schedule_file.specs.declared.command.Command.{Command}
+use Rattle.schedule_file.specs.declared.command.Command.TheVariants.{Merge, Plan}
+use Rattle.fact_store.specs.Report.{Told}
+use Rattle.fact_store.specs.Seen.{HaveSameMembers}
+use Rattle.fact_store.specs.View.{Facts, cells_of, view_at}
+use Rattle.fact_store.proofs.Views.{members_decide_view}
+use Rattle.sm_cli.specs.FactsText.{facts_text}
+use Rattle.sm_manager.specs.Plans.{plan_fault}
+use Rattle.sm_run.specs.Commands.{command_run, commands_run, facts_shown, plan_or_refusal, plan_shown, script_text, world_of}
+use Rattle.sm_run.specs.World.{SeatedValue, WorldValue}
+use Rattle.run_laws.specs.Accounts.{Account, Accounts, account_after, joined, opened, told_by_command, told_by_commands, with_more, world_after}
+use Rattle.run_laws.specs.Lines.{LaterLinesComeBehind, MergedManagersPlanAlike, PrintsPlansAlike, SameTakenInPlansAlike, SameTakenInSameLines}
+use Rattle.run_laws.specs.Lines.{TellTheSame, and_lines}
+use Rattle.run_laws.proofs.Known.{all_known, command_known}
+use Rattle.run_laws.proofs.Seats.{AreKnown, more_here, more_there}
+
+-- lines behind others ------------------------------------------------------------------------------------
+
+now_behind : (nodes : List Node) (w : WorldValue) (commands lines : List Command)
+    → (commands_run nodes w (commands ++ lines)).now ≡ (commands_run nodes (commands_run nodes w commands).now lines).now
+now_behind nodes w [] lines = refl
+now_behind nodes w (command ∷ later) lines = now_behind nodes (command_run nodes w command).now later lines
+
+text_behind : (nodes : List Node) (w : WorldValue) (commands lines : List Command)
+    → (commands_run nodes w (commands ++ lines)).text
+    ≡ (commands_run nodes w commands).text ++ (commands_run nodes (commands_run nodes w commands).now lines).text
+text_behind nodes w [] lines = refl
+text_behind nodes w (command ∷ later) lines =
+    let next = (command_run nodes w command).now in
+    ap (λ text. (command_run nodes w command).text ++ text) (text_behind nodes next later lines)
+    ∙ sym (append_assoc (command_run nodes w command).text (commands_run nodes next later).text (commands_run nodes
+    (commands_run nodes next later).now lines).text)
+
+told_behind : (nodes : List Node) (w : WorldValue) (accounts : Accounts) (commands lines : List Command)
+    → told_by_commands nodes w accounts (commands ++ lines)
+    ≡ told_by_commands nodes (commands_run nodes w commands).now (told_by_commands nodes w accounts commands) lines
+told_behind nodes w accounts [] lines = refl
+told_behind nodes w accounts (command ∷ later) lines = told_behind nodes (command_run nodes w command).now (told_by_command w accounts command) later lines
+
+pub later_lines_come_behind : LaterLinesComeBehind
+unfolding script_text
+later_lines_come_behind topology script lines = text_behind topology.nodes (world_of topology script.seats) script.commands lines
+
+-- managers that know the same ----------------------------------------------------------------------------
+
+-- of managers in their seats
+module _ (one other : WorldValue) (seat seat' : ℕ) (s s' : SeatedValue) (there : slice_get one.managers seat ≡ Some s)
+    (there' : slice_get other.managers seat' ≡ Some s') (facts : s.manager.store ≡ s'.manager.store) where
+  told_alike : (text : Facts → List ℕ)
+      → option_map_or (λ (x : SeatedValue). text x.manager.store) (slice_get one.managers seat) []
+      ≡ option_map_or (λ (x : SeatedValue). text x.manager.store) (slice_get other.managers seat') []
+  told_alike text =
+      ap (λ o. option_map_or (λ (x : SeatedValue). text x.manager.store) o []) there ∙ ap text facts
+      ∙ ap (λ o. option_map_or (λ (x : SeatedValue). text x.manager.store) o []) (sym there')
+
+  know_alike : TellTheSame one other seat seat'
+  unfolding facts_shown plan_shown
+  know_alike =
+      record {
+        facts = told_alike facts_text;
+        plan = told_alike (λ x. plan_or_refusal (cells_of x) (plan_fault (cells_of x)));
+      }
+
+-- who is in a seat
+none_within : (xs : List SeatedValue) (i : ℕ) → i < length xs → slice_get xs i ≡ None → ⊥
+none_within [] i h e = omega (arith, h)
+none_within (x ∷ xs) zero h e = cc
+none_within (x ∷ xs) (suc i) h e = none_within xs i (omega (arith, h)) e
+
+seated : (count : ℕ) (managers : List SeatedValue) (accounts : Accounts) (seat : ℕ) → AreKnown count managers accounts → seat < count
+    → (s : SeatedValue) × (slice_get managers seat ≡ Some s)
+seated count managers accounts seat known within = by_seat (slice_get managers seat) refl
+  where
+    by_seat : (o : Option SeatedValue) → slice_get managers seat ≡ o → (s : SeatedValue) × (slice_get managers seat ≡ Some s)
+    by_seat None e = absurd (none_within managers seat (omega (arith, within, known.many)) e)
+    by_seat (Some s) e = (s, e)
+
+tell_alike : (topology topology' : Layout) (script script' : Script) (seat seat' : ℕ) → seat < length script.seats → seat' < length script'.seats
+    → view_at (account_after topology script seat).floor (account_after topology script seat).told
+    ≡ view_at (account_after topology' script' seat').floor (account_after topology' script' seat').told
+    → TellTheSame (world_after topology script) (world_after topology' script') seat seat'
+tell_alike topology topology' script script' seat seat' within within' same =
+    let known = all_known topology script in
+    let known' = all_known topology' script' in
+    let s = seated (length script.seats) (world_after topology script).managers (account_after topology script) seat known within in
+    let s' = seated (length script'.seats) (world_after topology' script').managers (account_after topology' script') seat' known' within' in
+    know_alike (world_after topology script) (world_after topology' script') seat seat' s.0 s'.0 s.1 s'.1
+    (known.knows seat s.0 s.1 ∙ same ∙ sym (known'.knows seat' s'.0 s'.1))
+
+views_alike : (one other : Account) → HaveSameMembers one.told other.told → one.floor ≡ other.floor
+    → view_at one.floor one.told ≡ view_at other.floor other.told
+views_alike one other same floors = members_decide_view one.floor one.told other.told same ∙ ap (λ floor. view_at floor other.told) floors
+
+pub same_taken_in_same_lines : SameTakenInSameLines
+same_taken_in_same_lines topology topology' script script' seat seat' within within' same floors =
+    tell_alike topology topology' script script' seat seat' within within'
+    (views_alike (account_after topology script seat) (account_after topology' script' seat') same floors)
+
+-- plans behind a schedule ---------------------------------------------------------------------------------
+
+plans_twice : (topology : Layout) (script : Script) (seat other : ℕ) → TellTheSame (world_after topology script) (world_after topology script) seat other
+    → PrintsPlansAlike topology script seat other
+plans_twice topology script seat other alike =
+    let w = world_after topology script in
+    let plan = plan_shown w seat in
+    record {
+      plan = plan;
+      twice = later_lines_come_behind topology script (Plan seat ∷ Plan other ∷ [])
+          ∙ ap (λ text. script_text topology script ++ (plan ++ text)) (append-nil (plan_shown w other) ∙ sym alike.plan);
+    }
+
+pub same_taken_in_plans_alike : SameTakenInPlansAlike
+same_taken_in_plans_alike topology script seat other within within' same floors =
+    plans_twice topology script seat other (same_taken_in_same_lines topology topology script script seat other within within' same floors)
+
+-- managers that merged ------------------------------------------------------------------------------------
+
+module _ (topology : Layout) (script : Script) (seat other : ℕ) (within : seat < length script.seats) (within' : other < length script.seats) where
+  abbrev count : ℕ
+  count = length script.seats
+
+  abbrev after : Accounts
+  after = account_after topology script
+
+  abbrev w : WorldValue
+  w = world_after topology script
+
+  -- the first has merged
+  abbrev first : Accounts
+  first = with_more after seat (after other)
+
+  abbrev merged_once : WorldValue
+  merged_once = (command_run topology.nodes w (Merge seat other)).now
+
+  -- and then the other
+  abbrev second : Accounts
+  second = with_more first other (first seat)
+
+  by_first : told_by_command w after (Merge seat other) ≡ first
+  by_first =
+      let o = seated count w.managers after other (all_known topology script) within' in
+      ap (λ m. option_map_or (λ (o : SeatedValue). with_more after seat (after other)) m after) o.1
+
+  known_once : AreKnown count merged_once.managers first
+  known_once =
+      subst (λ accounts. AreKnown count merged_once.managers accounts) by_first
+      (command_known count topology.nodes w after (Merge seat other) (all_known topology script))
+
+  by_second : told_by_command merged_once first (Merge other seat) ≡ second
+  by_second =
+      let s = seated count merged_once.managers first seat known_once within in
+      ap (λ m. option_map_or (λ (o : SeatedValue). with_more first other (first seat)) m first) s.1
+
+  accounts_then : account_after topology (and_lines script (Merge seat other ∷ Merge other seat ∷ [])) ≡ second
+  accounts_then =
+      told_behind topology.nodes (world_of topology script.seats) opened script.commands (Merge seat other ∷ Merge other seat ∷ [])
+      ∙ ap (λ accounts. told_by_command merged_once accounts (Merge other seat)) by_first ∙ by_second
+
+  -- each has what both took in
+  same_members : (xs ys : Told) → HaveSameMembers (xs ++ ys) (ys ++ (xs ++ ys))
+  same_members xs ys = (
+    λ x there. Contains-append_right ys (xs ++ ys) x there,
+    λ x there. elim (Contains-append_cases ys (xs ++ ys) x there) [ inl h ↦ Contains-append_right xs ys x h | inr h ↦ h ],
+  )
+
+  seconds_alike : seat ≢ other → view_at (second seat).floor (second seat).told ≡ view_at (second other).floor (second other).told
+  seconds_alike apart =
+      let one = after seat in
+      let two = after other in
+      let here : second seat ≡ joined one two = more_there first other seat (first seat) apart ∙ more_here after seat two in
+      let there : second other ≡ joined two (joined one two) =
+      more_here first other (first seat)
+      ∙ ap (λ a. joined a (first seat)) (more_there after seat other two (λ e. apart (sym e))) ∙ ap (joined two) (more_here after seat two) in
+      ap (λ (a : Account). view_at a.floor a.told) here
+      ∙ members_decide_view (joined one two).floor (joined one two).told (joined two (joined one two)).told (same_members one.told two.told)
+      ∙ ap (λ floor. view_at floor (joined two (joined one two)).told) (omega arith)
+      ∙ ap (λ (a : Account). view_at a.floor a.told) (sym there)
+
+  merged_alike : (seat ≡ other) ⊎ (seat ≢ other)
+      → view_at (account_after topology (and_lines script (Merge seat other ∷ Merge other seat ∷ [])) seat).floor
+      (account_after topology (and_lines script (Merge seat other ∷ Merge other seat ∷ [])) seat).told
+      ≡ view_at (account_after topology (and_lines script (Merge seat other ∷ Merge other seat ∷ [])) other).floor
+      (account_after topology (and_lines script (Merge seat other ∷ Merge other seat ∷ [])) other).told
+  merged_alike (inl same) =
+      ap (λ k. view_at (account_after topology (and_lines script (Merge seat other ∷ Merge other seat ∷ [])) k).floor
+      (account_after topology (and_lines script (Merge seat other ∷ Merge other seat ∷ [])) k).told) same
+  merged_alike (inr apart) =
+      subst (λ (accounts : Accounts). view_at (accounts seat).floor (accounts seat).told ≡ view_at (accounts other).floor (accounts other).told)
+      (sym accounts_then) (seconds_alike apart)
+
+  merged_plan_alike : PrintsPlansAlike topology (and_lines script (Merge seat other ∷ Merge other seat ∷ [])) seat other
+  merged_plan_alike =
+      let after_both = and_lines script (Merge seat other ∷ Merge other seat ∷ []) in
+      plans_twice topology after_both seat other
+      (tell_alike topology topology after_both after_both seat other within within'
+      (merged_alike (elim (eqb_tells seat other) [ inl same ↦ inl same.1 | inr h ↦ inr h.1 ])))
+
+pub merged_managers_plan_alike : MergedManagersPlanAlike
+merged_managers_plan_alike = merged_plan_alike

@@ -1,0 +1,298 @@
+-- After every run each manager knows the view of what it took in.
+use Rattle.std.proofs.Common.{◌≡◌, ℕ, zero, suc, List, [], ◌∷◌, length, refl, sym, ap, ◌∙◌, subst}
+use Rattle.std.proofs.lemmas.Bool.{cond_both}
+use Rattle.std.specs.Prelude.{Option, Some, None, Result, Ok, Err, slice_get}
+use Rattle.std.specs.Option.{option_map_or}
+use Rattle.smp_bytes.specs.Packet.{fault_of, status}
+use Rattle.smp_bytes.specs.declared.cable.NodePort.{NodePort}
+use Rattle.smp_bytes.specs.declared.smp_fault.SmpFault.{SmpFault}
+use Rattle.topo_file.specs.Topology.{Layout}
+use Rattle.topo_file.specs.declared.node.Node.{Node}
+use Rattle.schedule_file.specs.Schedule.{Script}
+use Rattle.schedule_file.specs.declared.command.Command.{Command}
+use Rattle.schedule_file.specs.declared.command.Command.TheVariants as command
+use Rattle.schedule_file.specs.declared.command.Which.{Which}
+use Rattle.fabric_sim.specs.FabricFault.{fabric_fault_name}
+use Rattle.fabric_sim.specs.Delivery.{delivered}
+use Rattle.fabric_sim.specs.declared.delivered.Delivered.{Delivered}
+use Rattle.fabric_sim.specs.declared.delivered.Delivered.TheVariants as delivered_is
+use Rattle.fabric_sim.specs.declared.fault.FabricFault.{FabricFault}
+use Rattle.fabric_sim.specs.declared.fault.FabricFault.TheVariants.{NoSuchPacket}
+use Rattle.fabric_sim.specs.declared.flight.Flight.{Flight}
+use Rattle.fabric_sim.specs.declared.packet.Packet.{Packet}
+use Rattle.fact_store.specs.Merge.{merge}
+use Rattle.fact_store.specs.View.{view_at}
+use Rattle.fact_store.proofs.Views.{raised_is_merge}
+use Rattle.sweep.specs.declared.answer.Answer.{Answer}
+use Rattle.sweep.specs.declared.fault.SweepFault.{SweepFault}
+use Rattle.sweep.specs.Replies.{judged}
+use Rattle.sweep.specs.Sweep.{Sweep}
+use Rattle.sm_manager.specs.declared.fault.ManagerFault.{ManagerFault}
+use Rattle.sm_manager.specs.declared.fault.ManagerFault.TheVariants.{SequenceSpent}
+use Rattle.sm_manager.specs.declared.pending.Pending.{Pending}
+use Rattle.sm_manager.specs.declared.pending.Purpose.{Purpose}
+use Rattle.sm_manager.specs.declared.pending.Purpose.TheVariants as purpose
+use Rattle.sm_manager.specs.Calls as calls
+use Rattle.sm_manager.specs.Calls.{told_in}
+use Rattle.sm_manager.specs.Election.{handed_over, handover_fault, heir_lid, poll_fault, poll_sent}
+use Rattle.sm_manager.specs.Manager.{Manager, begin_fault, floor_raised, merged, outstanding, sweep_begun}
+use Rattle.sm_manager.specs.Packets as manager
+use Rattle.sm_manager.specs.Packets.{Called, took, answered_by, done, is_for_sweep, is_info_request, packet_taken, pending_for, refused}
+use Rattle.sm_manager.specs.Packets.{request_answered, request_over, sweep_answered, unless_spent}
+use Rattle.sm_manager.specs.Plans.{writing_fault}
+use Rattle.sm_manager.specs.Served.{served}
+use Rattle.sm_manager.specs.Writing.{is_spent, writing_begun}
+use Rattle.sm_manager.proofs.Lives.{handing_keeps, takes_call, timeout_keeps}
+use Rattle.sm_run.specs.Commands.{came_up, command_run, commands_run, cut_run, deliver_run, drain_run, floor_run, gave_up_run, given_up, handed_up}
+use Rattle.sm_run.specs.Commands.{handover_run}
+use Rattle.sm_run.specs.Commands.{lose_run, merge_run, plug_run, poll_run, repeat_run, seat_at, seat_run, step_run, sweep_run, taken_by, timeout_run}
+use Rattle.sm_run.specs.Commands.{took_run, with_packet, world_of, write_run}
+use Rattle.sm_run.specs.Flights.{serial_of}
+use Rattle.sm_run.specs.Refusals.{refusal_line}
+use Rattle.sm_run.specs.World.{Ran, SeatedValue, WorldValue, and_then, asked_run, at_seat, called_run, fabric_run, quiet, sent, sent_by, shows, with_manager}
+use Rattle.run_laws.specs.Accounts.{Account, Accounts, RunsAreAccountedFor, account_after, world_after, opened, told_at, told_by_command}
+use Rattle.run_laws.specs.Accounts.{told_by_commands, told_by_deliver, told_by_delivery, told_by_drain, told_by_merge, told_by_packet, told_by_step}
+use Rattle.run_laws.specs.Accounts.{with_more}
+use Rattle.run_laws.proofs.Seats.{AreKnown, all_new, at_seat_is, called_is, grown, kept, nobody, repeated}
+
+-- a packet that is refused leaves the manager ----------------------------------------------------------
+
+-- a refusal leaves this manager
+abbrev RefusalLeaves : Manager → Called → Type 0
+RefusalLeaves m called = (why : ManagerFault) → called.fault ≡ Some why → called.manager ≡ m
+
+done_leaves : (m after : Manager) → RefusalLeaves m (done after)
+done_leaves m after why e = absurd (cc)
+
+unless_leaves : (m after : Manager) → RefusalLeaves m (unless_spent m after)
+unless_leaves m after = cond_both (is_spent after) (refused m SequenceSpent) (done after) (RefusalLeaves m) (λ _ why e. refl) (λ _. done_leaves m after)
+
+module _ (m : Manager) (bytes : List ℕ) where
+  answer_leaves : (s : Sweep) (r : Result Answer SweepFault) → RefusalLeaves m (answered_by m s bytes r)
+  answer_leaves s (Ok answer) why e = absurd (cc)
+  answer_leaves s (Err fault) why e = refl
+
+  reply_leaves : (s : Option Sweep) → RefusalLeaves m (sweep_answered m bytes s)
+  reply_leaves None = λ why e. refl
+  reply_leaves (Some s) = answer_leaves s (judged s bytes)
+
+  over_leaves : (p : Pending) (answer : Option ℕ) (of : Purpose) → RefusalLeaves m (request_over m p answer of)
+  over_leaves p answer purpose.Poll = done_leaves m _
+  over_leaves p answer purpose.Control = done_leaves m _
+  over_leaves p answer (purpose.Step counts) = unless_leaves m _
+
+  request_leaves : (p : Option Pending) → RefusalLeaves m (request_answered m bytes p)
+  request_leaves None = λ why e. refl
+  request_leaves (Some p) = over_leaves p (Some (status bytes)) p.purpose
+
+  packet_leaves : (from : Option ℕ) (fault : Option SmpFault) → RefusalLeaves m (packet_taken m bytes from fault)
+  packet_leaves from (Some fault) = λ why e. refl
+  packet_leaves from None =
+      cond_both (is_info_request bytes) _ _ (RefusalLeaves m) (λ _. unless_leaves m (served m bytes from))
+      (λ _. cond_both (is_for_sweep bytes) _ _ (RefusalLeaves m) (λ _. reply_leaves m.sweep) (λ _. request_leaves (pending_for m bytes)))
+
+-- what managers are asked for ----------------------------------------------------------------------------
+
+module _ (count : ℕ) where
+  sent_known : (w : WorldValue) (accounts : Accounts) (seat : ℕ) → AreKnown count w.managers accounts → AreKnown count (sent w seat).now.managers accounts
+  unfolding sent
+  sent_known w accounts seat known =
+      at_seat_is w seat (sent_by w seat) (λ x. AreKnown count x.managers accounts) (λ _. known)
+      (λ s there. kept count w accounts known seat s _ there refl)
+
+  asked_known : (next : WorldValue → Ran WorldValue) (w : WorldValue) (accounts : Accounts) (seat : ℕ) (fault : Manager → Option ManagerFault)
+      (after : Manager → Manager) → ((x : WorldValue) → AreKnown count x.managers accounts → AreKnown count (next x).now.managers accounts)
+      → ((m : Manager) → (after m).store ≡ m.store) → AreKnown count w.managers accounts
+      → AreKnown count (asked_run next w seat fault after).now.managers accounts
+  asked_known next w accounts seat fault after goes keeps known =
+      at_seat_is w seat _ (λ x. AreKnown count x.managers accounts) (λ _. known)
+      (λ s there. called_is next w seat s (fault s.manager) (after s.manager) (λ x. AreKnown count x.managers accounts) (λ why e. known)
+      (goes (with_manager w seat s (after s.manager)) (kept count w accounts known seat s (after s.manager) there (keeps s.manager))))
+
+  sending_known : (w : WorldValue) (accounts : Accounts) (seat : ℕ) (fault : Manager → Option ManagerFault) (after : Manager → Manager)
+      → ((m : Manager) → (after m).store ≡ m.store) → AreKnown count w.managers accounts
+      → AreKnown count (asked_run (λ now. sent now seat) w seat fault after).now.managers accounts
+  sending_known w accounts seat fault after keeps known =
+      asked_known (λ now. sent now seat) w accounts seat fault after (λ x h. sent_known x accounts seat h) keeps known
+
+  gave_up_known : (w : WorldValue) (accounts : Accounts) (seat transaction : ℕ) → AreKnown count w.managers accounts
+      → AreKnown count (gave_up_run w seat transaction).now.managers accounts
+  unfolding gave_up_run
+  gave_up_known w accounts seat transaction known =
+      asked_known quiet w accounts seat (λ m. (manager.gave_up m transaction).fault) (λ m. (manager.gave_up m transaction).manager) (λ x h. h)
+      (λ m. timeout_keeps m transaction) known
+
+  all_given_known : (w : WorldValue) (accounts : Accounts) (seat : ℕ) (transactions : List ℕ) → AreKnown count w.managers accounts
+      → AreKnown count (given_up w seat transactions).now.managers accounts
+  all_given_known w accounts seat [] known = known
+  all_given_known w accounts seat (transaction ∷ later) known =
+      all_given_known (gave_up_run w seat transaction).now accounts seat later (gave_up_known w accounts seat transaction known)
+
+  timeout_known : (w : WorldValue) (accounts : Accounts) (seat : ℕ) → AreKnown count w.managers accounts
+      → AreKnown count (timeout_run w seat).now.managers accounts
+  unfolding timeout_run
+  timeout_known w accounts seat known =
+      at_seat_is w seat _ (λ x. AreKnown count x.managers accounts) (λ _. known)
+      (λ s there. sent_known (given_up w seat (outstanding s.manager)).now accounts seat (all_given_known w accounts seat (outstanding s.manager) known))
+
+  merge_known : (w : WorldValue) (accounts : Accounts) (seat other : ℕ) → AreKnown count w.managers accounts
+      → AreKnown count (merge_run w seat other).now.managers (told_by_merge w accounts seat other)
+  unfolding merge_run
+  merge_known w accounts seat other known = by_other (slice_get w.managers other) (λ o e. known.knows other o e)
+    where
+      by_other : (o : Option SeatedValue) → ((x : SeatedValue) → o ≡ Some x → x.manager.store ≡ view_at (accounts other).floor (accounts other).told)
+          → AreKnown count
+          (at_seat w seat (λ s. option_map_or (λ o. quiet (with_manager w seat s (merged s.manager o.manager.store))) o (quiet w))).now.managers
+          (option_map_or (λ o. with_more accounts seat (accounts other)) o accounts)
+      by_other None h = at_seat_is w seat _ (λ x. AreKnown count x.managers accounts) (λ _. known) (λ s there. known)
+      by_other (Some o) h =
+          at_seat_is w seat _ (λ x. AreKnown count x.managers (with_more accounts seat (accounts other)))
+          (nobody count w.managers accounts seat (accounts other) known)
+          (λ s there. grown count w accounts known seat s (merged s.manager o.manager.store) (accounts other) there (ap (merge s.manager.store) (h o refl)))
+
+  floor_known : (w : WorldValue) (accounts : Accounts) (seat floor : ℕ) → AreKnown count w.managers accounts
+      → AreKnown count (floor_run w seat floor).now.managers (with_more accounts seat (record { told = []; floor = floor }))
+  unfolding floor_run
+  floor_known w accounts seat floor known =
+      let more : Account = record { told = []; floor = floor } in
+      at_seat_is w seat _ (λ x. AreKnown count x.managers (with_more accounts seat more)) (nobody count w.managers accounts seat more known)
+      (λ s there. grown count w accounts known seat s (floor_raised s.manager floor) more there (raised_is_merge s.manager.store floor))
+
+  -- packets ------------------------------------------------------------------------------------------------
+
+  taken_known : (w : WorldValue) (accounts : Accounts) (seat : ℕ) (packet : Packet) → AreKnown count w.managers accounts
+      → AreKnown count (taken_by w seat packet).now.managers (told_by_packet w accounts packet seat)
+  taken_known w accounts seat packet known = by_seat (slice_get w.managers seat) (λ s e. e)
+    where
+      by_call : (s : SeatedValue) → slice_get w.managers seat ≡ Some s
+          → AreKnown count
+          (called_run quiet w seat s (took s.manager packet.bytes (Some packet.slid)).fault (took s.manager packet.bytes
+          (Some packet.slid)).manager).now.managers
+          (with_more accounts seat (record { told = told_in s.manager (calls.Packet packet.bytes (Some packet.slid)); floor = 1 }))
+      by_call s there =
+          let after = took s.manager packet.bytes (Some packet.slid) in
+          let told : Account = record { told = told_in s.manager (calls.Packet packet.bytes (Some packet.slid)); floor = 1 } in
+          let takes = takes_call s.manager (calls.Packet packet.bytes (Some packet.slid)) in
+          called_is quiet w seat s after.fault after.manager (λ x. AreKnown count x.managers (with_more accounts seat told))
+          (λ why e. repeated count w accounts known seat s told there
+          (ap (λ (m : Manager). m.store) (sym (packet_leaves s.manager packet.bytes (Some packet.slid) (fault_of packet.bytes) why e)) ∙ takes))
+          (grown count w accounts known seat s after.manager told there takes)
+
+      by_seat : (o : Option SeatedValue) → ((s : SeatedValue) → o ≡ Some s → slice_get w.managers seat ≡ Some s)
+          → AreKnown count
+          (option_map_or
+          (λ s. called_run quiet w seat s (took s.manager packet.bytes (Some packet.slid)).fault (took s.manager packet.bytes (Some packet.slid)).manager)
+          o (quiet w)).now.managers
+          (option_map_or (λ s. with_more accounts seat (record {
+            told = told_in s.manager (calls.Packet packet.bytes
+                (Some packet.slid));
+            floor = 1;
+          })) o accounts)
+      by_seat None there = known
+      by_seat (Some s) there = by_call s (there s refl)
+
+  took_known : (w : WorldValue) (accounts : Accounts) (seat : ℕ) (packet : Packet) → AreKnown count w.managers accounts
+      → AreKnown count (took_run w seat packet).now.managers (told_by_packet w accounts packet seat)
+  unfolding took_run
+  took_known w accounts seat packet known =
+      sent_known (taken_by w seat packet).now (told_by_packet w accounts packet seat) seat (taken_known w accounts seat packet known)
+
+  handed_known : (w : WorldValue) (accounts : Accounts) (p : NodePort) (packet : Packet) → AreKnown count w.managers accounts
+      → AreKnown count (handed_up w p packet).now.managers (told_at w accounts p packet)
+  unfolding handed_up
+  handed_known w accounts p packet known = by_seat (seat_at w p)
+    where
+      by_seat : (o : Option ℕ) → AreKnown count (option_map_or (λ seat. took_run w seat packet) o (quiet w)).now.managers
+          (option_map_or (told_by_packet w accounts packet) o accounts)
+      by_seat None = known
+      by_seat (Some seat) = took_known w accounts seat packet known
+
+  came_known : (w : WorldValue) (accounts : Accounts) (result : Result Delivered FabricFault) → AreKnown count w.managers accounts
+      → AreKnown count (came_up w result).now.managers (told_by_delivery w accounts result)
+  came_known w accounts (Ok (delivered_is.ToManager p packet)) known = handed_known w accounts p packet known
+  came_known w accounts (Ok (delivered_is.Moved serial)) known = known
+  came_known w accounts (Ok (delivered_is.Answered serial)) known = known
+  came_known w accounts (Ok (delivered_is.Discarded reason)) known = known
+  came_known w accounts (Err fault) known = known
+
+  step_known : (w : WorldValue) (accounts : Accounts) (serial : ℕ) → AreKnown count w.managers accounts
+      → AreKnown count (step_run w serial).now.managers (told_by_step w accounts serial)
+  unfolding step_run
+  step_known w accounts serial known =
+      let called = delivered w.fabric serial in
+      came_known (fabric_run w called).now accounts called.result (record { many = known.many; knows = known.knows })
+
+  deliver_known : (w : WorldValue) (accounts : Accounts) (which : Which) → AreKnown count w.managers accounts
+      → AreKnown count (deliver_run w which).now.managers (told_by_deliver w accounts which)
+  unfolding deliver_run
+  deliver_known w accounts which known = by_serial (serial_of w.fabric.flights which)
+    where
+      by_serial : (o : Option ℕ) → AreKnown count (option_map_or (step_run w) o (shows (refusal_line (fabric_fault_name NoSuchPacket)) w)).now.managers
+          (option_map_or (told_by_step w accounts) o accounts)
+      by_serial None = known
+      by_serial (Some serial) = step_known w accounts serial known
+
+  drain_known : (most : ℕ) (w : WorldValue) (accounts : Accounts) → AreKnown count w.managers accounts
+      → AreKnown count (drain_run w most).now.managers (told_by_drain w accounts most)
+  drain_known zero w accounts known = known
+  drain_known (suc most) w accounts known = by_flight (slice_get w.fabric.flights 0) (drain_known most)
+    where
+      by_flight : (o : Option Flight)
+          → ((x : WorldValue) (accounts' : Accounts) → AreKnown count x.managers accounts'
+          → AreKnown count (drain_run x most).now.managers (told_by_drain x accounts' most))
+          → AreKnown count (option_map_or (λ flight. and_then (step_run w flight.serial) (λ now. drain_run now most)) o (quiet w)).now.managers
+          (option_map_or (λ flight. told_by_drain (step_run w flight.serial).now (told_by_step w accounts flight.serial) most) o accounts)
+      by_flight None later = known
+      by_flight (Some flight) later =
+          later (step_run w flight.serial).now (told_by_step w accounts flight.serial) (step_known w accounts flight.serial known)
+
+  -- a packet that is meant, of which managers learn nothing
+  which_known : (w : WorldValue) (accounts : Accounts) (which : Which) (run : ℕ → Ran WorldValue) → AreKnown count w.managers accounts
+      → ((serial : ℕ) → (run serial).now.managers ≡ w.managers) → AreKnown count (with_packet w which run).now.managers accounts
+  which_known w accounts which run known same = by_serial (serial_of w.fabric.flights which)
+    where
+      by_serial : (o : Option ℕ) → AreKnown count (option_map_or run o (shows (refusal_line (fabric_fault_name NoSuchPacket)) w)).now.managers accounts
+      by_serial None = known
+      by_serial (Some serial) = subst (λ managers. AreKnown count managers accounts) (sym (same serial)) known
+
+  -- all lines ----------------------------------------------------------------------------------------------
+
+  pub command_known : (nodes : List Node) (w : WorldValue) (accounts : Accounts) (command : Command) → AreKnown count w.managers accounts
+      → AreKnown count (command_run nodes w command).now.managers (told_by_command w accounts command)
+  unfolding seat_run sweep_run write_run handover_run poll_run lose_run repeat_run cut_run plug_run
+  command_known nodes w accounts (command.Manager seat) known =
+      at_seat_is w seat _ (λ x. AreKnown count x.managers accounts) (λ _. known) (λ s there. known)
+  command_known nodes w accounts (command.Sweep seat) known = sending_known w accounts seat begin_fault sweep_begun (λ m. refl) known
+  command_known nodes w accounts (command.Write seat) known = sending_known w accounts seat writing_fault writing_begun (λ m. refl) known
+  command_known nodes w accounts (command.Handover seat) known =
+      sending_known w accounts seat handover_fault handed_over (λ m. handing_keeps m (heir_lid m)) known
+  command_known nodes w accounts (command.Poll seat lid) known = sending_known w accounts seat poll_fault (λ m. poll_sent m lid) (λ m. refl) known
+  command_known nodes w accounts (command.Merge seat other) known = merge_known w accounts seat other known
+  command_known nodes w accounts (command.Floor seat floor) known = floor_known w accounts seat floor known
+  command_known nodes w accounts (command.Deliver which) known = deliver_known w accounts which known
+  command_known nodes w accounts (command.Lose which) known = which_known w accounts which _ known (λ serial. refl)
+  command_known nodes w accounts (command.Repeat which) known = which_known w accounts which _ known (λ serial. refl)
+  command_known nodes w accounts (command.Drain most) known = drain_known most w accounts known
+  command_known nodes w accounts (command.Timeout seat) known = timeout_known w accounts seat known
+  command_known nodes w accounts (command.Cut p) known = known
+  command_known nodes w accounts (command.Plug p q) known = known
+  command_known nodes w accounts (command.Ping p lid) known = known
+  command_known nodes w accounts (command.Facts seat) known = known
+  command_known nodes w accounts (command.Plan seat) known = known
+  command_known nodes w accounts (command.Progress seat) known = known
+  command_known nodes w accounts (command.State seat) known = known
+  command_known nodes w accounts command.Tables known = known
+  command_known nodes w accounts command.Flight known = known
+
+  commands_known : (nodes : List Node) (w : WorldValue) (accounts : Accounts) (commands : List Command) → AreKnown count w.managers accounts
+      → AreKnown count (commands_run nodes w commands).now.managers (told_by_commands nodes w accounts commands)
+  commands_known nodes w accounts [] known = known
+  commands_known nodes w accounts (command ∷ later) known =
+      commands_known nodes (command_run nodes w command).now (told_by_command w accounts command) later (command_known nodes w accounts command known)
+
+pub all_known : (topology : Layout) (script : Script) → AreKnown (length script.seats) (world_after topology script).managers (account_after topology script)
+all_known topology script =
+    commands_known (length script.seats) topology.nodes (world_of topology script.seats) opened script.commands (all_new topology.nodes script.seats)
+
+pub runs_are_accounted_for : RunsAreAccountedFor
+runs_are_accounted_for topology script = (all_known topology script).knows

@@ -1,0 +1,7 @@
+pub mod Alike
+pub mod Bringing
+pub mod Known
+pub mod Lived
+pub mod Printed
+pub mod Repeated
+pub mod Seats

@@ -1,0 +1,378 @@
+-- What the lines of a schedule do to the one manager of a world is a list of events that may happen to it.
+use Rattle.std.proofs.Common.{◌≡◌, ℕ, zero, suc, Bool, true, false, cond, List, [], ◌∷◌, ◌++◌, length, refl, sym, ap, ◌∙◌, subst}
+use Rattle.std.proofs.lemmas.List.{append_assoc, append-nil}
+use Rattle.std.proofs.lemmas.List.Elements.{All-append, All-cons, All-nil}
+use Rattle.std.specs.Prelude.{All, Option, Some, None, Result, Ok, Err, is_none, not, nat_lt, position, slice_get}
+use Rattle.std.specs.Option.{option_map_or}
+use Rattle.smp_bytes.specs.Cables.{is_same_port}
+use Rattle.smp_bytes.specs.declared.cable.NodePort.{NodePort}
+use Rattle.smp_bytes.proofs.Cabled.{same_port-is, same_port-refl}
+use Rattle.topo_file.specs.declared.node.Node.{Node}
+use Rattle.schedule_file.specs.declared.command.Command.{Command}
+use Rattle.schedule_file.specs.declared.command.Command.TheVariants as command
+use Rattle.schedule_file.specs.declared.command.Which.{Which}
+use Rattle.fabric_sim.specs.Changes.{lost, repeated}
+use Rattle.fabric_sim.specs.Delivery.{delivered}
+use Rattle.fabric_sim.specs.FabricFault.{fabric_fault_name}
+use Rattle.fabric_sim.specs.Simulation.{Simulation, is_seat_at}
+use Rattle.fabric_sim.specs.declared.delivered.Delivered.{Delivered}
+use Rattle.fabric_sim.specs.declared.delivered.Delivered.TheVariants as delivered_is
+use Rattle.fabric_sim.specs.declared.fault.FabricFault.{FabricFault}
+use Rattle.fabric_sim.specs.declared.fault.FabricFault.TheVariants.{NoSuchPacket}
+use Rattle.fabric_sim.specs.declared.flight.Flight.{Flight}
+use Rattle.lft_blocks.specs.Plan.{PlanValue}
+use Rattle.sm_manager.specs.Election.{handed_over, handover_fault, poll_fault, poll_sent}
+use Rattle.sm_manager.specs.Manager.{Manager, outstanding}
+use Rattle.sm_manager.specs.Packets.{gave_up, took}
+use Rattle.sm_manager.specs.declared.fault.ManagerFault.{ManagerFault}
+use Rattle.sm_manager.specs.declared.outgoing.Outgoing.{Outgoing}
+use Rattle.sm_laws.specs.Scene as around
+use Rattle.sm_laws.specs.Scene.{Handed, Scene, handed_by}
+use Rattle.sm_manager.specs.Calls as calls
+use Rattle.written_laws.specs.Managing.{Around, calling, hearing, sending, CanBe, HandOver, Hear, Managing, ManagerEvent, Poll, Send, Take, TimeOut}
+use Rattle.written_laws.specs.Managing.{after_manager_event, after_manager_events, packet_of}
+use Rattle.written_laws.specs.Pings.{AreNoSweeps, BeginsNoSweep}
+use Rattle.written_laws.specs.Sets.{OwnSets}
+use Rattle.written_laws.specs.Written.{AllKeep, Keeps}
+use Rattle.sm_run.specs.Commands.{came_up, command_run, commands_run, deliver_run, drain_run, gave_up_run, given_up, handed_up, handover_run}
+use Rattle.sm_run.specs.Commands.{lose_run, poll_run, repeat_run, seat_at, step_run, timeout_run, took_run}
+use Rattle.sm_run.specs.Flights.{packet_out, serial_of}
+use Rattle.sm_run.specs.Refusals.{refusal_line}
+use Rattle.sm_run.specs.World.{SeatedValue, WorldValue, and_then, asked_run, called_run, fabric_run, quiet, sent, sent_from, shows}
+use Rattle.run_laws.specs.Alone.{AreLines, IsLine, KeepsLine, KeepsLines, KeepsStep, KeepsSteps}
+
+abbrev pub managing_of : Scene → NodePort → Manager → List Outgoing → Managing
+managing_of scene seat manager out = record { scene = scene; seat = seat; manager = manager; out = out }
+
+-- lists ----------------------------------------------------------------------------------------------------
+
+last_is : {X : Type 0} (xs : List X) (x : X) → slice_get (xs ++ x ∷ []) (length xs) ≡ Some x
+last_is [] x = refl
+last_is (y ∷ xs) x = last_is xs x
+
+one_more : {X : Type 0} (xs : List X) (x : X) → length (xs ++ x ∷ []) ≡ suc (length xs)
+one_more [] x = refl
+one_more (y ∷ xs) x = ap suc (one_more xs x)
+
+-- the place in a list of one
+place_in_one : {X : Type 0} (p : X → Bool) (x : X) (b : Bool) → p x ≡ b → position p (x ∷ []) ≡ cond b (Some 0) None
+place_in_one p x true e = ap (λ t. cond (nat_lt (cond (not t) 1 0) 1) (Some (cond (not t) 1 0)) None) e
+place_in_one p x false e = ap (λ t. cond (nat_lt (cond (not t) 1 0) 1) (Some (cond (not t) 1 0)) None) e
+
+-- worlds of one manager --------------------------------------------------------------------------------------
+
+-- what is around a manager of this name, with nobody else
+abbrev pub seated_as : List ℕ → Managing → SeatedValue
+seated_as name m = record { name = name; at = m.seat; manager = m.manager }
+
+abbrev pub as_world : List ℕ → Managing → WorldValue
+as_world name m = record { fabric = m.scene.fabric; managers = seated_as name m ∷ [] }
+
+events_append : (xs ys : List ManagerEvent) (m : Managing) → after_manager_events (xs ++ ys) m ≡ after_manager_events ys (after_manager_events xs m)
+events_append [] ys m = refl
+events_append (x ∷ xs) ys m = events_append xs ys (after_manager_event m x)
+
+no_sweeps_append : (xs ys : List ManagerEvent) (m : Managing) → AreNoSweeps xs m → AreNoSweeps ys (after_manager_events xs m) → AreNoSweeps (xs ++ ys) m
+no_sweeps_append [] ys m a b = b
+no_sweeps_append (x ∷ xs) ys m a b = (a.0, no_sweeps_append xs ys (after_manager_event m x) a.1 b)
+
+packets_alike : (o : Outgoing) (to : Option ℕ) → o.to ≡ to → packet_of o ≡ packet_out o
+packets_alike o None e = ap (λ (to : Option ℕ). packet_of (record o { to = to })) e ∙ ap (λ (to : Option ℕ). packet_out (record o { to = to })) (sym e)
+packets_alike o (Some lid) e = ap (λ (to : Option ℕ). packet_of (record o { to = to })) e ∙ ap (λ (to : Option ℕ). packet_out (record o { to = to })) (sym e)
+
+module _ (plan : PlanValue) (own : OwnSets) (name : List ℕ) where
+  keep_append : (xs ys : List ManagerEvent) (m : Managing) → AllKeep plan own xs m → AllKeep plan own ys (after_manager_events xs m)
+      → AllKeep plan own (xs ++ ys) m
+  keep_append [] ys m a b = b
+  keep_append (x ∷ xs) ys m a b = (a.0, keep_append xs ys (after_manager_event m x) a.1 b)
+
+  -- events that lead from one world to another, keep the plan's values under a premise, and begin no sweep
+  pub record Lives (m : Managing) (premise : Type 0) (w : WorldValue) : Type 0 where
+    pub events : List ManagerEvent
+    pub ends : as_world name (after_manager_events events m) ≡ w
+    pub seat : (after_manager_events events m).seat ≡ m.seat
+    pub can : All (CanBe m.seat) events
+    pub no_sweeps : AreNoSweeps events m
+    pub keep : premise → AllKeep plan own events m
+
+  rests : (m : Managing) (premise : Type 0) → Lives m premise (as_world name m)
+  rests m premise =
+      record { events = []; ends = refl; seat = refl; can = All-nil (CanBe m.seat); no_sweeps = tt; keep = λ _. tt }
+
+  abbrev happens : (m : Managing) (premise : Type 0) (event : ManagerEvent) (after : Managing) → after_manager_event m event ≡ after → after.seat ≡ m.seat
+      → CanBe m.seat event → BeginsNoSweep m event → (premise → Keeps plan own m event) → Lives m premise (as_world name after)
+  happens m premise event after now seat can no_sweep keep =
+      record {
+        events = event ∷ [];
+        ends = ap (as_world name) now;
+        seat = ap (λ (x : Managing). x.seat) now ∙ seat;
+        can = All-cons (CanBe m.seat) event [] can (All-nil (CanBe m.seat));
+        no_sweeps = (no_sweep, tt);
+        keep = λ h. (keep h, tt);
+      }
+
+  pub goes_on : (m : Managing) (first second premise : Type 0) (w w' : WorldValue) (l : Lives m first w)
+      → Lives (after_manager_events l.events m) second w' → (premise → first) → (premise → second) → Lives m premise w'
+  goes_on m first second premise w w' l l' of_first of_second =
+      let then = after_manager_events l.events m in
+      record {
+        events = l.events ++ l'.events;
+        ends = ap (as_world name) (events_append l.events l'.events m) ∙ l'.ends;
+        seat = ap (λ (x : Managing). x.seat) (events_append l.events l'.events m) ∙ l'.seat ∙ l.seat;
+        can = All-append (CanBe m.seat) l.events l'.events l.can (subst (λ seat. All (CanBe seat) l'.events) l.seat l'.can);
+        no_sweeps = no_sweeps_append l.events l'.events m l.no_sweeps l'.no_sweeps;
+        keep = λ h. keep_append l.events l'.events m (l.keep (of_first h)) (l'.keep (of_second h));
+      }
+
+  -- what is queued goes out ------------------------------------------------------------------------------------
+
+  abbrev sends : ℕ → List Outgoing → List ManagerEvent
+  sends n [] = []
+  sends n (o ∷ later) = Take ∷ Send n ∷ sends (suc n) later
+
+  sent_then : (scene : Scene) (seat : NodePort) (manager : Manager) (out : List Outgoing) (n : ℕ) (outs : List Outgoing) → n ≡ length out
+      → ◌≡◌ {A = Managing}
+      (after_manager_events (sends n outs) (record { scene = scene; seat = seat; manager = record manager { outgoing = outs }; out = out }))
+      (record {
+        scene = record scene {
+          fabric =
+              (sent_from scene.fabric seat outs).now;
+        };
+        seat = seat;
+        manager = record manager { outgoing = [] };
+        out = out ++ outs;
+      })
+  sent_then scene seat manager out n [] e =
+      ap (λ xs. managing_of scene seat (record manager { outgoing = [] }) xs) (sym (append-nil out))
+  sent_then scene seat manager out n (o ∷ later) e =
+      let taken = managing_of scene seat (record manager { outgoing = later }) (out ++ o ∷ []) in
+      ap (λ x. after_manager_events (sends (suc n) later) (sending taken x)) (ap (slice_get (out ++ o ∷ [])) e ∙ last_is out o)
+      ∙ ap (λ p. after_manager_events (sends (suc n) later) (record taken { scene = around.sent_from scene seat p })) (packets_alike o o.to refl)
+      ∙ sent_then (around.sent_from scene seat (packet_out o)) seat manager (out ++ o ∷ []) (suc n) later (ap suc e ∙ sym (one_more out o))
+      ∙ ap (λ xs. managing_of (record scene { fabric = (sent_from scene.fabric seat (o ∷ later)).now }) seat (record manager { outgoing = [] }) xs)
+      (append_assoc out (o ∷ []) later)
+
+  sends_can : (seat : NodePort) (n : ℕ) (outs : List Outgoing) → All (CanBe seat) (sends n outs)
+  sends_can seat n [] = All-nil (CanBe seat)
+  sends_can seat n (o ∷ later) =
+      All-cons (CanBe seat) Take (Send n ∷ sends (suc n) later) tt (All-cons (CanBe seat) (Send n) (sends (suc n) later) tt (sends_can seat (suc n) later))
+
+  sends_no_sweeps : (n : ℕ) (outs : List Outgoing) (m : Managing) → AreNoSweeps (sends n outs) m
+  sends_no_sweeps n [] m = tt
+  sends_no_sweeps n (o ∷ later) m = (tt, (tt, sends_no_sweeps (suc n) later (after_manager_event (after_manager_event m Take) (Send n))))
+
+  sends_keep : (n : ℕ) (outs : List Outgoing) (m : Managing) → AllKeep plan own (sends n outs) m
+  sends_keep n [] m = tt
+  sends_keep n (o ∷ later) m = (tt, (tt, sends_keep (suc n) later (after_manager_event (after_manager_event m Take) (Send n))))
+
+  pub sends_live : (m : Managing) (premise : Type 0) → Lives m premise (sent (as_world name m) 0).now
+  unfolding sent
+  sends_live m premise =
+      let outs = m.manager.outgoing in
+      let same = sent_then m.scene m.seat m.manager m.out (length m.out) outs refl in
+      record {
+        events = sends (length m.out) outs;
+        ends = ap (as_world name) same;
+        seat = ap (λ (x : Managing). x.seat) same;
+        can = sends_can m.seat (length m.out) outs;
+        no_sweeps = sends_no_sweeps (length m.out) outs m;
+        keep = λ _. sends_keep (length m.out) outs m;
+      }
+
+  -- what the manager is asked for ----------------------------------------------------------------------------
+
+  asked_lives : (m : Managing) (premise : Type 0) (event : ManagerEvent) (fault : Manager → Option ManagerFault) (after : Manager → Manager)
+      → after_manager_event m event ≡ record m { manager = cond (is_none (fault m.manager)) (after m.manager) m.manager }
+      → CanBe m.seat event → BeginsNoSweep m event → Keeps plan own m event
+      → Lives m premise (asked_run (λ now. sent now 0) (as_world name m) 0 fault after).now
+  asked_lives m premise event fault after calls can no_sweep keep = by_fault (fault m.manager) refl
+    where
+      by_fault : (o : Option ManagerFault) → fault m.manager ≡ o
+          → Lives m premise (called_run (λ now. sent now 0) (as_world name m) 0 (seated_as name m) o (after m.manager)).now
+      by_fault (Some why) e = rests m premise
+      by_fault None e =
+          let then : Managing = record m { manager = after m.manager } in
+          let now : after_manager_event m event ≡ then =
+          calls ∙ ap (λ (f : Option ManagerFault). managing_of m.scene m.seat (cond (is_none f) (after m.manager) m.manager) m.out) e in
+          goes_on m premise premise premise (as_world name then) (sent (as_world name then) 0).now
+          (happens m premise event then now refl can no_sweep (λ _. keep))
+          (subst (λ (x : Managing). Lives (after_manager_event m event) premise (sent (as_world name x) 0).now) now
+          (sends_live (after_manager_event m event) premise))
+          (λ h. h) (λ h. h)
+
+  gave_up_lives : (m : Managing) (premise : Type 0) (transaction : ℕ) → Lives m premise (gave_up_run (as_world name m) 0 transaction).now
+  unfolding gave_up_run
+  gave_up_lives m premise transaction = by_fault (gave_up m.manager transaction).fault
+    where
+      by_fault : (o : Option ManagerFault)
+          → Lives m premise (called_run quiet (as_world name m) 0 (seated_as name m) o (gave_up m.manager transaction).manager).now
+      by_fault (Some why) = rests m premise
+      by_fault None = happens m premise (TimeOut transaction) (record m { manager = (gave_up m.manager transaction).manager }) refl refl tt tt (λ _. tt)
+
+  all_given_live : (m : Managing) (premise : Type 0) (transactions : List ℕ) → Lives m premise (given_up (as_world name m) 0 transactions).now
+  all_given_live m premise [] = rests m premise
+  all_given_live m premise (transaction ∷ later) =
+      let l = gave_up_lives m premise transaction in
+      let then = after_manager_events l.events m in
+      goes_on m premise premise premise (gave_up_run (as_world name m) 0 transaction).now _ l
+      (subst (λ (x : WorldValue). Lives then premise (given_up x 0 later).now) l.ends (all_given_live then premise later)) (λ h. h) (λ h. h)
+
+  timeout_lives : (m : Managing) (premise : Type 0) (seat : ℕ) → Lives m premise (timeout_run (as_world name m) seat).now
+  unfolding timeout_run
+  timeout_lives m premise zero =
+      let l = all_given_live m premise (outstanding m.manager) in
+      let then = after_manager_events l.events m in
+      goes_on m premise premise premise (given_up (as_world name m) 0 (outstanding m.manager)).now _ l
+      (subst (λ (x : WorldValue). Lives then premise (sent x 0).now) l.ends (sends_live then premise)) (λ h. h) (λ h. h)
+  timeout_lives m premise (suc seat) = rests m premise
+
+  -- packets ----------------------------------------------------------------------------------------------------
+
+  took_lives : (m : Managing) (premise : Type 0) (which : ℕ) (h : Handed) → slice_get m.scene.handed which ≡ Some h → is_same_port h.at m.seat ≡ true
+      → Lives m premise (took_run (as_world name m) 0 h.packet).now
+  unfolding took_run
+  took_lives m premise which h there same =
+      let l = by_fault (took m.manager h.packet.bytes (Some h.packet.slid)).fault in
+      let then = after_manager_events l.events m in
+      goes_on m premise premise premise _ _ l (subst (λ (x : WorldValue). Lives then premise (sent x 0).now) l.ends (sends_live then premise)) (λ h. h) (λ h. h)
+    where
+      heard : after_manager_event m (Hear which) ≡ record m { manager = (took m.manager h.packet.bytes (Some h.packet.slid)).manager }
+      heard =
+          ap (hearing m) there
+          ∙ ap (λ b. cond b (calling m (calls.Packet h.packet.bytes (Some h.packet.slid))) m) same
+
+      by_fault : (o : Option ManagerFault)
+          → Lives m premise
+          (called_run quiet (as_world name m) 0 (seated_as name m) o (took m.manager h.packet.bytes (Some h.packet.slid)).manager).now
+      by_fault (Some why) = rests m premise
+      by_fault None = happens m premise (Hear which) (record m {
+        manager = (took m.manager h.packet.bytes
+            (Some h.packet.slid)).manager;
+      }) heard refl tt tt (λ _. tt)
+
+  -- a packet was handed up at a port
+  handed_lives : (m : Managing) (premise : Type 0) (before : List Handed) (h : Handed) → m.scene.handed ≡ before ++ h ∷ []
+      → Lives m premise (handed_up (as_world name m) h.at h.packet).now
+  unfolding handed_up
+  handed_lives m premise before h handed = by_tests (is_seat_at m.scene.fabric h.at) (is_same_port m.seat h.at) refl refl
+    where
+      by_seat : (b c : Bool) → is_same_port m.seat h.at ≡ c
+          → Lives m premise (option_map_or (λ seat. took_run (as_world name m) seat h.packet) (cond b (cond c (Some 0) None) None) (quiet
+          (as_world name m))).now
+      by_seat true true same =
+          took_lives m premise (length before) h (ap (λ xs. slice_get xs (length before)) handed ∙ last_is before h)
+          (subst (λ x. is_same_port h.at x ≡ true) (sym (same_port-is m.seat h.at same)) (same_port-refl h.at))
+      by_seat true false same = rests m premise
+      by_seat false c same = rests m premise
+
+      by_tests : (b c : Bool) → is_seat_at m.scene.fabric h.at ≡ b → is_same_port m.seat h.at ≡ c
+          → Lives m premise (option_map_or (λ seat. took_run (as_world name m) seat h.packet) (seat_at (as_world name m) h.at) (quiet (as_world name m))).now
+      by_tests b c sits same =
+          let at : seat_at (as_world name m) h.at ≡ cond b (cond c (Some 0) None) None =
+          ap (λ t. cond t (position (λ (s : SeatedValue). is_same_port s.at h.at) (seated_as name m ∷ [])) None) sits
+          ∙ ap (λ o. cond b o None) (place_in_one (λ (s : SeatedValue). is_same_port s.at h.at) (seated_as name m) c same) in
+          subst (λ (o : Option ℕ). Lives m premise (option_map_or (λ seat. took_run (as_world name m) seat h.packet) o (quiet (as_world name m))).now)
+          (sym at) (by_seat b c same)
+
+  step_lives : (m : Managing) (premise : Type 0) (serial : ℕ) → (premise → KeepsStep plan own m.scene.fabric (Some serial))
+      → Lives m premise (step_run (as_world name m) serial).now
+  unfolding step_run
+  step_lives m premise serial keeps =
+      let called = delivered m.scene.fabric serial in
+      let then = after_manager_event m (Around (around.Deliver serial)) in
+      goes_on m premise premise premise (as_world name then) (came_up (as_world name then) called.result).now
+      (happens m premise (Around (around.Deliver serial)) then refl refl (tt, tt) tt keeps)
+      (came called.result called.fabric) (λ h. h) (λ h. h)
+    where
+      came : (r : Result Delivered FabricFault) (fabric : Simulation)
+          → Lives (record m { scene = record { fabric = fabric; handed = m.scene.handed ++ handed_by r } }) premise
+          (came_up (as_world name (record m { scene = record { fabric = fabric; handed = m.scene.handed ++ handed_by r } })) r).now
+      came (Ok (delivered_is.ToManager p packet)) fabric =
+          handed_lives
+          (record m { scene = record { fabric = fabric; handed = m.scene.handed ++ record { at = p; packet = packet } ∷ [] } }) premise m.scene.handed
+          (record { at = p; packet = packet }) refl
+      came (Ok (delivered_is.Moved s)) fabric = rests _ premise
+      came (Ok (delivered_is.Answered s)) fabric = rests _ premise
+      came (Ok (delivered_is.Discarded reason)) fabric = rests _ premise
+      came (Err fault) fabric = rests _ premise
+
+  deliver_lives : (m : Managing) (which : Which)
+      → Lives m (KeepsStep plan own m.scene.fabric (serial_of m.scene.fabric.flights which)) (deliver_run (as_world name m) which).now
+  unfolding deliver_run
+  deliver_lives m which = by_serial (serial_of m.scene.fabric.flights which)
+    where
+      by_serial : (o : Option ℕ) → Lives m (KeepsStep plan own m.scene.fabric o)
+          (option_map_or (step_run (as_world name m)) o (shows (refusal_line (fabric_fault_name NoSuchPacket)) (as_world name m))).now
+      by_serial None = rests m _
+      by_serial (Some serial) = step_lives m _ serial (λ h. h)
+
+  drain_lives : (most : ℕ) (m : Managing) → Lives m (KeepsSteps plan own (as_world name m) most) (drain_run (as_world name m) most).now
+  drain_lives zero m = rests m _
+  drain_lives (suc most) m = by_flight (slice_get m.scene.fabric.flights 0) (drain_lives most)
+    where
+      by_flight : (o : Option Flight)
+          → ((x : Managing) → Lives x (KeepsSteps plan own (as_world name x) most) (drain_run (as_world name x) most).now)
+          → Lives m
+          (KeepsStep plan own m.scene.fabric (option_map_or (λ flight. Some flight.serial) o None)
+          × KeepsSteps plan own (option_map_or (λ flight. (step_run (as_world name m) flight.serial).now) o (as_world name m)) most)
+          (option_map_or (λ flight. and_then (step_run (as_world name m) flight.serial) (λ now. drain_run now most)) o (quiet (as_world name m))).now
+      by_flight None later = rests m _
+      by_flight (Some flight) later =
+          let l = step_lives m (KeepsStep plan own m.scene.fabric (Some flight.serial)) flight.serial (λ h. h) in
+          let then = after_manager_events l.events m in
+          goes_on m (KeepsStep plan own m.scene.fabric (Some flight.serial)) (KeepsSteps plan own (step_run (as_world name m) flight.serial).now most) _
+          (step_run (as_world name m) flight.serial).now _ l
+          (subst (λ (x : WorldValue). Lives then (KeepsSteps plan own x most) (drain_run x most).now) l.ends (later then)) (λ h. h.0) (λ h. h.1)
+
+  -- all lines --------------------------------------------------------------------------------------------------
+
+  pub command_lives : (nodes : List Node) (m : Managing) (command : Command) → IsLine command
+      → Lives m (KeepsLine plan own (as_world name m) command) (command_run nodes (as_world name m) command).now
+  unfolding handover_run poll_run lose_run repeat_run
+  command_lives nodes m (command.Handover zero) is = asked_lives m _ HandOver handover_fault handed_over refl tt tt tt
+  command_lives nodes m (command.Handover (suc seat)) is = rests m _
+  command_lives nodes m (command.Poll zero lid) is = asked_lives m _ (Poll lid) poll_fault (λ x. poll_sent x lid) refl tt tt tt
+  command_lives nodes m (command.Poll (suc seat) lid) is = rests m _
+  command_lives nodes m (command.Deliver which) is = deliver_lives m which
+  command_lives nodes m (command.Lose which) is = by_serial (serial_of m.scene.fabric.flights which)
+    where
+      by_serial : (o : Option ℕ) → Lives m (Unit {0})
+          (option_map_or (λ serial. fabric_run (as_world name m) (lost m.scene.fabric serial)) o
+          (shows (refusal_line (fabric_fault_name NoSuchPacket)) (as_world name m))).now
+      by_serial None = rests m _
+      by_serial (Some serial) = happens m _ (Around (around.Lose serial)) _ refl refl (tt, tt) tt (λ _. tt)
+  command_lives nodes m (command.Repeat which) is = by_serial (serial_of m.scene.fabric.flights which)
+    where
+      by_serial : (o : Option ℕ) → Lives m (Unit {0})
+          (option_map_or (λ serial. fabric_run (as_world name m) (repeated m.scene.fabric serial)) o
+          (shows (refusal_line (fabric_fault_name NoSuchPacket)) (as_world name m))).now
+      by_serial None = rests m _
+      by_serial (Some serial) = happens m _ (Around (around.Repeat serial)) _ refl refl (tt, tt) tt (λ _. tt)
+  command_lives nodes m (command.Drain most) is = drain_lives most m
+  command_lives nodes m (command.Timeout seat) is = timeout_lives m _ seat
+  command_lives nodes m (command.Ping p lid) is = rests m _
+  command_lives nodes m (command.Facts seat) is = rests m _
+  command_lives nodes m (command.Plan seat) is = rests m _
+  command_lives nodes m (command.Progress seat) is = rests m _
+  command_lives nodes m (command.State seat) is = rests m _
+  command_lives nodes m command.Tables is = rests m _
+  command_lives nodes m command.Flight is = rests m _
+  command_lives nodes m (command.Manager seat) is = absurd is
+  command_lives nodes m (command.Sweep seat) is = absurd is
+  command_lives nodes m (command.Write seat) is = absurd is
+  command_lives nodes m (command.Merge seat other) is = absurd is
+  command_lives nodes m (command.Floor seat floor) is = absurd is
+  command_lives nodes m (command.Cut p) is = absurd is
+  command_lives nodes m (command.Plug p q) is = absurd is
+
+  pub commands_live : (nodes : List Node) (m : Managing) (commands : List Command) → AreLines commands
+      → Lives m (KeepsLines plan own nodes (as_world name m) commands) (commands_run nodes (as_world name m) commands).now
+  commands_live nodes m [] are = rests m _
+  commands_live nodes m (command ∷ later) are =
+      let l = command_lives nodes m command are.0 in
+      let then = after_manager_events l.events m in
+      goes_on m (KeepsLine plan own (as_world name m) command) (KeepsLines plan own nodes (command_run nodes (as_world name m) command).now later) _
+      (command_run nodes (as_world name m) command).now _ l
+      (subst (λ (x : WorldValue). Lives then (KeepsLines plan own nodes x later) (commands_run nodes x later).now) l.ends
+      (commands_live nodes then later are.1))
+      (λ h. h.0) (λ h. h.1)

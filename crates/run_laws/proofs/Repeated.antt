@@ -1,0 +1,22 @@
+-- What was written is `run_text` of what the sources held.
+use Rattle.std.proofs.Common.{◌≡◌, ℕ, Bool, List, ◌++◌, sym, ap, ◌∙◌, subst}
+use Rattle.std.proofs.lemmas.List.{append-nil}
+use Rattle.std.specs.Prelude.{Option, Some, None}
+use Rattle.std.specs.Io.KnownBytes.{Appends, Consumes, IsAtEnd}
+use Rattle.sm_run.specs.Commands.{run_text}
+use Rattle.run_laws.specs.Repeats.{TextsDecideOutput}
+
+-- what was taken to the end is all that there was
+all_taken : (left left' : Option (List ℕ)) (taken held : List ℕ) → Consumes left left' taken → IsAtEnd left' → left ≡ Some held → taken ≡ held
+all_taken None left' taken held consumed end e = absurd (cc)
+all_taken (Some xs) None taken held consumed end e = absurd consumed
+all_taken (Some xs) (Some ys) taken held consumed end e =
+    let whole : xs ≡ held = cc in sym (append-nil taken) ∙ ap (λ rest. taken ++ rest) (sym end) ∙ sym consumed ∙ whole
+
+pub texts_decide_output : {T S W : Type 0} (left : T → Option (List ℕ)) (has_failed : T → Bool) (left' : S → Option (List ℕ)) (has_failed' : S → Bool)
+    (written : W → Option (List ℕ)) (failed : W → Bool) → TextsDecideOutput left has_failed left' has_failed' written failed
+texts_decide_output left has_failed left' has_failed' written failed old new old' new' sink sink' topology schedule held held' run =
+    let read = run.texts.read in
+    let one = all_taken (left old) (left new) run.texts.topology topology read.topology_read.consumed read.topology_read.at_end held in
+    let other = all_taken (left' old') (left' new') run.texts.schedule schedule read.schedule_read.consumed read.schedule_read.at_end held' in
+    subst (Appends (written sink) (written sink')) (ap (λ t. run_text t run.texts.schedule) one ∙ ap (run_text topology) other) run.printed.grown

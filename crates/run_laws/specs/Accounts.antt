@@ -1,0 +1,133 @@
+-- What the managers of a world take in as a schedule is run: each what it is told, and what those whose facts it merges were.
+use Rattle.std.specs.Prelude.{◌≡◌, ℕ, zero, suc, max, List, [], ◌∷◌, ◌++◌, slice_get, ◌==◌, if◌then◌else◌, Some, Result, Ok, Err}
+use Rattle.std.specs.Option.{option_map_or}
+use Rattle.smp_bytes.specs.declared.cable.NodePort.{NodePort}
+use Rattle.topo_file.specs.Topology.{Layout}
+use Rattle.topo_file.specs.declared.node.Node.{Node}
+use Rattle.schedule_file.specs.Schedule.{Script}
+use Rattle.schedule_file.specs.declared.command.Command.{Command}
+use Rattle.schedule_file.specs.declared.command.Command.TheVariants as command
+use Rattle.schedule_file.specs.declared.command.Which.{Which}
+use Rattle.fabric_sim.specs.Delivery.{delivered}
+use Rattle.fabric_sim.specs.declared.delivered.Delivered.{Delivered}
+use Rattle.fabric_sim.specs.declared.delivered.Delivered.TheVariants as delivered_is
+use Rattle.fabric_sim.specs.declared.fault.FabricFault.{FabricFault}
+use Rattle.fabric_sim.specs.declared.packet.Packet.{Packet}
+use Rattle.fact_store.specs.Report.{Told}
+use Rattle.fact_store.specs.View.{view_at}
+use Rattle.sm_manager.specs.Calls as calls
+use Rattle.sm_manager.specs.Calls.{told_in}
+use Rattle.sm_run.specs.Commands.{command_run, commands_run, seat_at, step_run, world_of}
+use Rattle.sm_run.specs.Flights.{serial_of}
+use Rattle.sm_run.specs.World.{SeatedValue, WorldValue, fabric_run}
+
+-- of a manager: the sightings that it took in, and the greatest floor that it was given, or 1
+pub record Account : Type 0 where
+  pub told : Told
+  pub floor : ℕ
+
+-- by the seats of the managers
+abbrev pub Accounts : Type 0
+Accounts = ℕ → Account
+
+-- as a run begins
+abbrev pub opened : Accounts
+opened seat = record { told = []; floor = 1 }
+
+-- what is told behind what was, at the greater floor
+abbrev pub joined : Account → Account → Account
+joined before more = record { told = before.told ++ more.told; floor = max before.floor more.floor }
+
+-- the manager of a seat takes in more
+abbrev pub with_more : Accounts → ℕ → Account → Accounts
+with_more accounts seat more other = if other == seat then joined (accounts other) more else accounts other
+
+-- packets ----------------------------------------------------------------------------------------
+
+-- what a packet tells the manager of a seat: the sightings of a report that it accepts, and nothing else
+abbrev pub told_by_packet : WorldValue → Accounts → Packet → ℕ → Accounts
+told_by_packet w accounts packet seat =
+    option_map_or (λ s. with_more accounts seat (record { told = told_in s.manager (calls.Packet packet.bytes (Some packet.slid)); floor = 1 }))
+    (slice_get w.managers seat) accounts
+
+-- a packet that comes to a port is taken in by the manager there
+abbrev pub told_at : WorldValue → Accounts → NodePort → Packet → Accounts
+told_at w accounts p packet = option_map_or (told_by_packet w accounts packet) (seat_at w p) accounts
+
+abbrev pub told_by_delivery : WorldValue → Accounts → Result Delivered FabricFault → Accounts
+told_by_delivery w accounts (Ok (delivered_is.ToManager p packet)) = told_at w accounts p packet
+told_by_delivery w accounts (Ok (delivered_is.Moved serial)) = accounts
+told_by_delivery w accounts (Ok (delivered_is.Answered serial)) = accounts
+told_by_delivery w accounts (Ok (delivered_is.Discarded reason)) = accounts
+told_by_delivery w accounts (Err fault) = accounts
+
+-- the packet of a serial number takes one step
+abbrev pub told_by_step : WorldValue → Accounts → ℕ → Accounts
+told_by_step w accounts serial = let called = delivered w.fabric serial in told_by_delivery (fabric_run w called).now accounts called.result
+
+-- the packet that is meant does
+abbrev pub told_by_deliver : WorldValue → Accounts → Which → Accounts
+told_by_deliver w accounts which = option_map_or (told_by_step w accounts) (serial_of w.fabric.flights which) accounts
+
+-- the packet of the least serial number does, at most so many times
+abbrev pub told_by_drain : WorldValue → Accounts → ℕ → Accounts
+told_by_drain w accounts zero = accounts
+told_by_drain w accounts (suc most) =
+    option_map_or (λ flight. told_by_drain (step_run w flight.serial).now (told_by_step w accounts flight.serial) most) (slice_get w.fabric.flights 0) accounts
+
+-- managers ---------------------------------------------------------------------------------------
+
+-- the manager of a seat takes in all that another took in
+abbrev pub told_by_merge : WorldValue → Accounts → ℕ → ℕ → Accounts
+told_by_merge w accounts seat other = option_map_or (λ o. with_more accounts seat (accounts other)) (slice_get w.managers other) accounts
+
+-- all of them ------------------------------------------------------------------------------------
+
+-- what the managers took in by a line
+abbrev pub told_by_command : WorldValue → Accounts → Command → Accounts
+told_by_command w accounts (command.Merge seat other) = told_by_merge w accounts seat other
+told_by_command w accounts (command.Floor seat floor) = with_more accounts seat (record { told = []; floor = floor })
+told_by_command w accounts (command.Deliver which) = told_by_deliver w accounts which
+told_by_command w accounts (command.Drain most) = told_by_drain w accounts most
+told_by_command w accounts (command.Manager seat) = accounts
+told_by_command w accounts (command.Sweep seat) = accounts
+told_by_command w accounts (command.Write seat) = accounts
+told_by_command w accounts (command.Handover seat) = accounts
+told_by_command w accounts (command.Poll seat lid) = accounts
+told_by_command w accounts (command.Lose which) = accounts
+told_by_command w accounts (command.Repeat which) = accounts
+told_by_command w accounts (command.Timeout seat) = accounts
+told_by_command w accounts (command.Cut p) = accounts
+told_by_command w accounts (command.Plug p q) = accounts
+told_by_command w accounts (command.Ping p lid) = accounts
+told_by_command w accounts (command.Facts seat) = accounts
+told_by_command w accounts (command.Plan seat) = accounts
+told_by_command w accounts (command.Progress seat) = accounts
+told_by_command w accounts (command.State seat) = accounts
+told_by_command w accounts command.Tables = accounts
+told_by_command w accounts command.Flight = accounts
+
+-- by one line after the other
+abbrev pub told_by_commands : List Node → WorldValue → Accounts → List Command → Accounts
+told_by_commands nodes w accounts [] = accounts
+told_by_commands nodes w accounts (command ∷ later) =
+    told_by_commands nodes (command_run nodes w command).now (told_by_command w accounts command) later
+
+-- runs -------------------------------------------------------------------------------------------
+
+-- the world once a schedule was run
+abbrev pub world_after : Layout → Script → WorldValue
+world_after topology script = (commands_run topology.nodes (world_of topology script.seats) script.commands).now
+
+-- and what the manager of a seat has taken in by then
+abbrev pub account_after : Layout → Script → ℕ → Account
+account_after topology script = told_by_commands topology.nodes (world_of topology script.seats) opened script.commands
+
+-- each manager knows the view of what it took in, at its greatest floor
+abbrev pub KnowWhatTheyTookIn : WorldValue → Accounts → Type 0
+KnowWhatTheyTookIn w accounts =
+    (seat : ℕ) (s : SeatedValue) → slice_get w.managers seat ≡ Some s → s.manager.store ≡ view_at (accounts seat).floor (accounts seat).told
+
+-- so it is after every run
+abbrev pub RunsAreAccountedFor : Type 0
+RunsAreAccountedFor = (topology : Layout) (script : Script) → KnowWhatTheyTookIn (world_after topology script) (account_after topology script)

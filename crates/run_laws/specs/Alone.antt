@@ -1,0 +1,112 @@
+-- A run with one manager: it sweeps, and then writes its plan; and what pings print behind it.
+use Rattle.std.specs.Prelude.{◌≡◌, ℕ, zero, suc, true, List, [], ◌∷◌, slice_get, Option, Some, None}
+use Rattle.std.specs.Option.{option_map_or}
+use Rattle.topo_file.specs.declared.node.Node.{Node}
+use Rattle.schedule_file.specs.declared.command.Command.{Command}
+use Rattle.schedule_file.specs.declared.command.Command.TheVariants as command
+use Rattle.fabric_sim.specs.Simulation.{IsSimulation, Simulation, fabric_of, is_seat_at}
+use Rattle.fact_store.specs.View.{cells_of}
+use Rattle.lft_blocks.specs.Plan.{PlanValue, plan_of}
+use Rattle.sweep.specs.Sweep.{Sweep}
+use Rattle.sm_manager.specs.Manager.{Manager, new_manager}
+use Rattle.sm_manager.specs.Plans.{writing_fault}
+use Rattle.sm_manager.specs.Writing.{is_written, phases_by}
+use Rattle.sm_laws.specs.Scene as around
+use Rattle.sm_laws.specs.Truth.{AreGuidsDistinct}
+use Rattle.sweep_complete.specs.Complete.{IsWhole}
+use Rattle.written_laws.specs.Sets.{IsOwnSet, KeepsPlan, OwnSets}
+use Rattle.sm_run.specs.Commands.{command_run, commands_run, step_run}
+use Rattle.sm_run.specs.Flights.{serial_of}
+use Rattle.sm_run.specs.World.{SeatedValue, WorldValue}
+use Rattle.run_laws.specs.Reached.{EachPingSaysReached}
+
+-- lines by which no sweep and no writing begins, no cable moves, no manager comes to sit, and none is given facts or a floor
+abbrev pub IsLine : Command → Type 0
+IsLine (command.Manager seat) = ⊥
+IsLine (command.Sweep seat) = ⊥
+IsLine (command.Write seat) = ⊥
+IsLine (command.Merge seat other) = ⊥
+IsLine (command.Floor seat floor) = ⊥
+IsLine (command.Cut p) = ⊥
+IsLine (command.Plug p q) = ⊥
+IsLine command = Unit {0}
+
+abbrev pub AreLines : List Command → Type 0
+AreLines [] = Unit {0}
+AreLines (command ∷ later) = IsLine command × AreLines later
+
+-- what agents take -------------------------------------------------------------------------------------
+
+-- the packet of the least serial number, and the world once it took its step
+abbrev pub first_serial : WorldValue → Option ℕ
+first_serial w = option_map_or (λ flight. Some flight.serial) (slice_get w.fabric.flights 0) None
+
+abbrev pub after_first : WorldValue → WorldValue
+after_first w = option_map_or (λ flight. (step_run w flight.serial).now) (slice_get w.fabric.flights 0) w
+
+module _ (plan : PlanValue) (own : OwnSets) where
+  -- a Set that an agent takes by this delivery is one of the own, or carries the plan's values
+  abbrev pub KeepsStep : Simulation → Option ℕ → Type 0
+  KeepsStep fabric None = Unit {0}
+  KeepsStep fabric (Some serial) = KeepsPlan plan own fabric (around.Deliver serial)
+
+  abbrev pub KeepsSteps : WorldValue → ℕ → Type 0
+  KeepsSteps w zero = Unit {0}
+  KeepsSteps w (suc most) = KeepsStep w.fabric (first_serial w) × KeepsSteps (after_first w) most
+
+  abbrev pub KeepsLine : WorldValue → Command → Type 0
+  KeepsLine w (command.Deliver which) = KeepsStep w.fabric (serial_of w.fabric.flights which)
+  KeepsLine w (command.Drain most) = KeepsSteps w most
+  KeepsLine w command = Unit {0}
+
+  abbrev pub KeepsLines : List Node → WorldValue → List Command → Type 0
+  KeepsLines nodes w [] = Unit {0}
+  KeepsLines nodes w (command ∷ later) = KeepsLine w command × KeepsLines nodes (command_run nodes w command).now later
+
+-- runs -------------------------------------------------------------------------------------------------
+
+-- the world after a sweep was begun and these lines, after a writing was begun, and after more lines
+abbrev pub at_writing : List Node → WorldValue → List Command → WorldValue
+at_writing nodes w between = (commands_run nodes (command_run nodes w (command.Sweep 0)).now between).now
+
+abbrev pub at_first_steps : List Node → WorldValue → List Command → WorldValue
+at_first_steps nodes w between = (command_run nodes (at_writing nodes w between) (command.Write 0)).now
+
+abbrev pub at_end : List Node → WorldValue → List Command → List Command → WorldValue
+at_end nodes w between after = (commands_run nodes (at_first_steps nodes w between) after).now
+
+-- this manager is the only one, in its seat
+abbrev pub IsOnly : WorldValue → SeatedValue → Manager → Type 0
+IsOnly w s manager = w.managers ≡ record s { manager = manager } ∷ []
+
+-- One new manager sits on a fabric where nothing is on its way; it is told to sweep, and some time later to write.
+pub record BringsUpAlone (nodes : List Node) (w : WorldValue) (s : SeatedValue) (between after : List Command) : Type 0 where
+  pub port_guid : ℕ
+  pub priority : ℕ
+  pub only : IsOnly w s (new_manager port_guid s.at.port priority)
+  pub fabric : IsSimulation w.fabric
+  pub no_packets : w.fabric.flights ≡ []
+  pub distinct : AreGuidsDistinct (fabric_of w.fabric)
+  pub seat : is_seat_at w.fabric s.at ≡ true
+  pub between_lines : AreLines between
+  pub after_lines : AreLines after
+  -- the sweep has every answer when the writing begins, which is not refused
+  pub swept : Manager
+  pub only_then : IsOnly (at_writing nodes w between) s swept
+  pub sweep : Sweep
+  pub is_last : swept.sweep ≡ Some sweep
+  pub whole : IsWhole sweep
+  pub begins : writing_fault swept ≡ None
+  -- each Set that an agent takes from then on, unless it is one of the writing's own, carries the plan's values
+  pub keeps : KeepsLines (plan_of (cells_of swept.store)) (IsOwnSet (fabric_of w.fabric) s.at (phases_by swept swept.sweep)) nodes
+      (at_first_steps nodes w between) after
+  -- and it is finished in the end
+  pub writer : Manager
+  pub only_at_end : IsOnly (at_end nodes w between after) s writer
+  pub written : is_written writer ≡ true
+
+-- then each `ping` from an end port of what its port is joined to, for each LID of the plan, says that it reached the owner
+abbrev pub RunsOfOneAreReached : Type 0
+RunsOfOneAreReached = (nodes : List Node) (w : WorldValue) (s : SeatedValue) (between after : List Command)
+    → (b : BringsUpAlone nodes w s between after)
+    → EachPingSaysReached (plan_of (cells_of b.swept.store)) (at_end nodes w between after) s.at

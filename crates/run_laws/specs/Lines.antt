@@ -1,0 +1,53 @@
+-- What managers that took in the same print.
+use Rattle.std.specs.Prelude.{◌≡◌, ◌<◌, ℕ, List, [], ◌∷◌, ◌++◌, length}
+use Rattle.topo_file.specs.Topology.{Layout}
+use Rattle.schedule_file.specs.Schedule.{Script}
+use Rattle.schedule_file.specs.declared.command.Command.{Command}
+use Rattle.schedule_file.specs.declared.command.Command.TheVariants.{Merge, Plan}
+use Rattle.fact_store.specs.Seen.{HaveSameMembers}
+use Rattle.sm_run.specs.Commands.{commands_run, facts_shown, plan_shown, script_text}
+use Rattle.sm_run.specs.World.{WorldValue}
+use Rattle.run_laws.specs.Accounts.{account_after, world_after}
+
+-- these lines stand behind a schedule
+abbrev pub and_lines : Script → List Command → Script
+and_lines script lines = record script { commands = script.commands ++ lines }
+
+-- what stands behind a schedule changes nothing of what it prints, and prints what it does in the world then
+abbrev pub LaterLinesComeBehind : Type 0
+LaterLinesComeBehind =
+    (topology : Layout) (script : Script) (lines : List Command)
+    → script_text topology (and_lines script lines)
+    ≡ script_text topology script ++ (commands_run topology.nodes (world_after topology script) lines).text
+
+-- a manager of one world and a manager of another print the same of what they know, and the same plan
+pub record TellTheSame (one other : WorldValue) (seat seat' : ℕ) : Type 0 where
+  pub facts : facts_shown one seat ≡ facts_shown other seat'
+  pub plan : plan_shown one seat ≡ plan_shown other seat'
+
+-- two managers, of one run or of two, that took in the same, in whatever order and however often, and have one greatest floor
+abbrev pub SameTakenInSameLines : Type 0
+SameTakenInSameLines =
+    (topology topology' : Layout) (script script' : Script) (seat seat' : ℕ) → seat < length script.seats → seat' < length script'.seats
+    → HaveSameMembers (account_after topology script seat).told (account_after topology' script' seat').told
+    → (account_after topology script seat).floor ≡ (account_after topology' script' seat').floor
+    → TellTheSame (world_after topology script) (world_after topology' script') seat seat'
+
+-- behind a schedule the plans of two managers are printed alike
+pub record PrintsPlansAlike (topology : Layout) (script : Script) (seat other : ℕ) : Type 0 where
+  pub plan : List ℕ
+  pub twice : script_text topology (and_lines script (Plan seat ∷ Plan other ∷ [])) ≡ script_text topology script ++ (plan ++ plan)
+
+-- where they took in the same, and have one greatest floor
+abbrev pub SameTakenInPlansAlike : Type 0
+SameTakenInPlansAlike =
+    (topology : Layout) (script : Script) (seat other : ℕ) → seat < length script.seats → other < length script.seats
+    → HaveSameMembers (account_after topology script seat).told (account_after topology script other).told
+    → (account_after topology script seat).floor ≡ (account_after topology script other).floor
+    → PrintsPlansAlike topology script seat other
+
+-- and whenever each has merged what the other knows
+abbrev pub MergedManagersPlanAlike : Type 0
+MergedManagersPlanAlike =
+    (topology : Layout) (script : Script) (seat other : ℕ) → seat < length script.seats → other < length script.seats
+    → PrintsPlansAlike topology (and_lines script (Merge seat other ∷ Merge other seat ∷ [])) seat other

@@ -1,0 +1,47 @@
+-- What `ping` prints where a plan is held, and once it is written.
+use Rattle.std.specs.Prelude.{◌≡◌, ℕ, List, Some}
+use Rattle.smp_bytes.specs.declared.cable.NodePort.{NodePort}
+use Rattle.smp_bytes.specs.Fabric.{IsEndPort}
+use Rattle.smp_bytes.specs.FabricWalks.{IsJoinedTo}
+use Rattle.topo_file.specs.declared.node.Node.{Node}
+use Rattle.fabric_sim.specs.Simulation.{fabric_of, IsSimulation}
+use Rattle.fabric_sim.specs.declared.ping.Ping.TheVariants.{Reached}
+use Rattle.fact_store.specs.View.{Facts, cells_of}
+use Rattle.subnet_view.specs.declared.end_port.EndPort.{EndPort}
+use Rattle.subnet_view.specs.Agreement.{AgreesOn, IsPortNamed}
+use Rattle.lid_assign.specs.Lids.{IsNoRoom, owner_of}
+use Rattle.lft_blocks.specs.Plan.{PlanValue, plan_of}
+use Rattle.lft_blocks.specs.Arrival.{HoldsPlan}
+use Rattle.written_laws.specs.Managing.{Managing, ManagerEvent}
+use Rattle.written_laws.specs.Pings.{BringsUp}
+use Rattle.written_laws.specs.Written.{at_end, at_writing, plan_at}
+use Rattle.sm_run.specs.Commands.{ping_shown}
+use Rattle.sm_run.specs.Lines.{ping_line}
+use Rattle.sm_run.specs.World.{WorldValue}
+
+-- the line says that the packet reaches the port of that end port, over so many wires
+pub record SaysReached (nodes : List Node) (w : WorldValue) (source : NodePort) (lid : ℕ) (owner : EndPort) : Type 0 where
+  pub target : NodePort
+  pub is_owner : IsPortNamed (fabric_of w.fabric) owner.node owner.port target
+  pub hops : ℕ
+  pub line : ping_shown nodes w source lid ≡ ping_line nodes source lid (Reached target hops)
+
+-- each `ping` from an end port of what the origin is joined to, for each LID of the plan, says so of its owner
+abbrev pub EachPingSaysReached : PlanValue → WorldValue → NodePort → Type 0
+EachPingSaysReached plan w origin = (nodes : List Node) (source : NodePort) → IsEndPort (fabric_of w.fabric) source
+    → IsJoinedTo (fabric_of w.fabric) origin source
+    → (lid : ℕ) (owner : EndPort) → owner_of plan.given lid ≡ Some owner → SaysReached nodes w source lid owner
+
+-- so it is where facts agree with what an end port of a world's fabric is joined to, and their plan is held there
+abbrev pub HeldPlansAreReached : Type 0
+HeldPlansAreReached = (facts : Facts) (w : WorldValue) (origin : NodePort) → ¬ (IsNoRoom (cells_of facts)) → IsSimulation w.fabric
+    → IsEndPort (fabric_of w.fabric) origin
+    → AgreesOn (IsJoinedTo (fabric_of w.fabric) origin) (cells_of facts) (fabric_of w.fabric)
+    → HoldsPlan (IsJoinedTo (fabric_of w.fabric) origin) (plan_of (cells_of facts)) (fabric_of w.fabric)
+    → EachPingSaysReached (plan_of (cells_of facts)) w origin
+
+-- and where the fabric is as it is once a manager has brought its subnet up: after a sweep with every answer, a writing that is
+-- finished, and nothing else that writes other values
+abbrev pub WrittenPlansAreReached : Type 0
+WrittenPlansAreReached = (m : Managing) (before between after : List ManagerEvent) → BringsUp m before between after
+    → (w : WorldValue) → w.fabric ≡ (at_end m before between after).scene.fabric → EachPingSaysReached (plan_at (at_writing m before between)) w m.seat

@@ -1,0 +1,4 @@
+//! Laws of what a run prints.
+#![tactic(auto)]
+
+pub mod laws;
