@@ -20,7 +20,12 @@ pub(crate) struct Tally {
 /// The class of each vertex: its distance from the nearest root, where its component has one, else four times its mean distance
 /// from the bearing vertices of its component, cut off, and 0 where there are none. Takes a search in breadth from each root and each
 /// bearing vertex.
-pub fn classes(alloc: Global, exits: &Exits, bearing: &[usize], roots: &[usize]) -> Result<Vec<u128>, AllocError>
+pub fn classes(
+    alloc: Global,
+    exits: &Exits,
+    bearing: &[usize],
+    roots: &[usize],
+) -> Result<Vec<u128>, AllocError>
     requires lead { LeadToVertices exits.now }
     requires bearing { All (λ a. a < length exits.now) bearing.now }
     requires roots { All (λ a. a < length exits.now) roots.now }
@@ -59,13 +64,21 @@ fn quarters(sum: u128, count: usize) -> u128
 }
 
 /// The distances of each vertex from these.
-pub(crate) fn tallies(alloc: Global, exits: &Exits, some: &[usize]) -> Result<Vec<Tally>, AllocError>
+pub(crate) fn tallies(
+    alloc: Global,
+    exits: &Exits,
+    some: &[usize],
+) -> Result<Vec<Tally>, AllocError>
     requires lead { LeadToVertices exits.now }
     requires some { All (λ a. a < length exits.now) some.now }
     ensures tallies { IfOk result (λ tallies. AreTallies exits.now some.now tallies.items) }
     ensures bounded { IfOk result (λ tallies. All (IsTallyOf (length some.now)) tallies.items) }
 {
-    let mut tallies = vec![in alloc; Tally { near: None, sum: 0, count: 0 }; exits.len()]?;
+    let mut tallies = vec![in alloc; Tally {
+        near: None,
+        sum: 0,
+        count: 0
+    }; exits.len()]?;
     for from in some {
         let distances = distances(alloc, exits, *from)?;
         tell(&mut tallies, &distances);
