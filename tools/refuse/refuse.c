@@ -1,9 +1,11 @@
 /*
  * A library to be loaded before a program (LD_PRELOAD): it refuses one of the program's calls, or cuts it short.
  *
- * REFUSE names what, and REFUSE_AT the number of the call, from 1: `alloc` has an allocation answer that there is no
- * memory, `read`, `write` and `open` fail, `short-read` and `short-write` move one byte. At the end the number of calls of
- * that kind is written to the file REFUSE_COUNT. Threads are not looked after.
+ * REFUSE names what, and REFUSE_AT the number of the call, from 1, or `every`: `alloc` has an allocation answer that there
+ * is no memory, `read`, `write` and `open` fail, `interrupted-read` and `interrupted-write` are interrupted before a byte is
+ * moved, `empty-write` takes none, `short-read` and `short-write` move one byte. What is written is standard output; `say`,
+ * `interrupted-say`, `empty-say` and `short-say` are the same of standard error. At the end the number of calls of that
+ * kind is written to the file REFUSE_COUNT. Threads are not looked after.
  */
 #define _GNU_SOURCE
 #include <dlfcn.h>
@@ -40,7 +42,7 @@ static int is_now(const char *wanted)
 	if (strcmp(kind(), wanted) != 0)
 		return 0;
 	calls++;
-	return at && strtoul(at, NULL, 10) == calls;
+	return at && (strcmp(at, "every") == 0 || strtoul(at, NULL, 10) == calls);
 }
 
 static void *no_memory(void)
@@ -92,38 +94,62 @@ ssize_t read(int fd, void *into, size_t count)
 		errno = EIO;
 		return -1;
 	}
+	if (is_now("interrupted-read")) {
+		errno = EINTR;
+		return -1;
+	}
 	if (count > 1 && is_now("short-read"))
 		count = 1;
 	return real(fd, into, count);
 }
 
+enum answer { AS_ASKED, FAILS, INTERRUPTED, TAKES_NONE, TAKES_ONE };
+
+static enum answer answer_to_write(int fd, size_t count)
+{
+	static const char *const kinds[2][4] = {
+		{ "write", "interrupted-write", "empty-write", "short-write" },
+		{ "say", "interrupted-say", "empty-say", "short-say" },
+	};
+	int i;
+
+	if (fd != 1 && fd != 2)
+		return AS_ASKED;
+	for (i = 0; i < (count > 1 ? 4 : 3); i++)
+		if (is_now(kinds[fd - 1][i]))
+			return FAILS + i;
+	return AS_ASKED;
+}
+
+static ssize_t not_written(enum answer answer)
+{
+	if (answer == TAKES_NONE)
+		return 0;
+	errno = answer == INTERRUPTED ? EINTR : EIO;
+	return -1;
+}
+
 ssize_t write(int fd, const void *from, size_t count)
 {
 	ssize_t (*real)(int, const void *, size_t) = dlsym(RTLD_NEXT, "write");
+	enum answer answer = answer_to_write(fd, count);
 
-	if (fd == 1 && is_now("write")) {
-		errno = EIO;
-		return -1;
-	}
-	if (fd == 1 && count > 1 && is_now("short-write"))
-		count = 1;
-	return real(fd, from, count);
+	if (answer == AS_ASKED || answer == TAKES_ONE)
+		return real(fd, from, answer == TAKES_ONE ? 1 : count);
+	return not_written(answer);
 }
 
 ssize_t writev(int fd, const struct iovec *from, int count)
 {
 	ssize_t (*real)(int, const struct iovec *, int) = dlsym(RTLD_NEXT, "writev");
+	enum answer answer = answer_to_write(fd, count > 0 ? from[0].iov_len : 0);
 
-	if (fd == 1 && is_now("write")) {
-		errno = EIO;
-		return -1;
-	}
-	if (fd == 1 && count > 0 && from[0].iov_len > 0 && is_now("short-write")) {
+	if (answer == TAKES_ONE) {
 		struct iovec one = { from[0].iov_base, 1 };
 
 		return real(fd, &one, 1);
 	}
-	return real(fd, from, count);
+	return answer == AS_ASKED ? real(fd, from, count) : not_written(answer);
 }
 
 static int refused_open(void)

@@ -12,6 +12,3 @@ fn main(rt: HostRuntime) -> ExitCode {
     let status = run::run(&rt, rt.stdout(), rt.stderr());
     ExitCode::from(status.code())
 }
-
-#[cfg(test)]
-mod tests;

@@ -25,6 +25,3 @@ pub use stream::{
 };
 pub use text::{write_guid, write_number, write_port};
 pub use whole::read_whole;
-
-#[cfg(test)]
-mod tests;

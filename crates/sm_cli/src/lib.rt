@@ -15,6 +15,3 @@ pub use fault::Fault;
 pub use fault_text::write_fault;
 pub use run::{Command, Output, run_files};
 pub use text_fault::TextFault;
-
-#[cfg(test)]
-mod tests;

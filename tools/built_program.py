@@ -1,0 +1,133 @@
+"""The built program, run in a folder of its own, and the texts that its tests compare.
+
+A test ends with 1 at the first thing that is not as it should be, and says what that is.
+"""
+import collections
+import pathlib
+import subprocess
+import sys
+
+ROOT = pathlib.Path(__file__).resolve().parent.parent
+TEST = pathlib.Path(sys.argv[0]).name
+# A block of a plan's text: how many entries it has, their digits, and the entry that says that no way leads.
+ENTRIES, DIGITS, NO_WAY = 64, 128, 255
+
+# How a run ends: its exit status, what it says on standard error and what it prints on standard output, in bytes.
+Ended = collections.namedtuple("Ended", "status said printed")
+
+
+def prints(text):
+    """A run ends well, and prints this."""
+    return Ended(0, b"", text if isinstance(text, bytes) else text.encode())
+
+
+def says(status, line):
+    """A run prints nothing, and says this line."""
+    return Ended(status, f"ibsm: {line}\n".encode(), b"")
+
+
+def refused(line):
+    """A run is refused a file or a text, and says this of it."""
+    return says(3, line)
+
+
+def check(holds, what):
+    if not holds:
+        print(f"{TEST}: FAILED: {what}")
+        sys.exit(1)
+
+
+def check_end(ended, wanted, what):
+    """A run ends as it should, byte for byte."""
+    for part, there, should in zip(Ended._fields, ended, wanted):
+        check(there == should, f"{what}: {part} is {shown(there)}\nand should be {shown(should)}")
+
+
+def shown(part):
+    return part.decode(errors="backslashreplace")[:4000] if isinstance(part, bytes) else part
+
+
+def the_program():
+    """The program that the command line names, or that was built here."""
+    program = pathlib.Path(sys.argv[1] if len(sys.argv) > 1 else ROOT / "crates/ibsm/out/ibsm").resolve()
+    if not program.exists():
+        print(f"{TEST}: there is no program {program}", file=sys.stderr)
+        sys.exit(1)
+    return program
+
+
+class Runs:
+    """A folder to run the program in, and how many runs there were."""
+
+    def __init__(self, program, folder):
+        self.program, self.folder, self.count = program, pathlib.Path(folder), 0
+
+    def put(self, name, data):
+        (self.folder / name).write_bytes(data)
+
+    def run(self, words, **streams):
+        self.count += 1
+        streams = {"stdin": subprocess.DEVNULL, "stdout": subprocess.PIPE, "stderr": subprocess.PIPE} | streams
+        done = subprocess.run([self.program, *words], cwd=self.folder, **streams)
+        return Ended(done.returncode, done.stderr or b"", done.stdout or b"")
+
+
+class Row:
+    """A schedule in a topology, and how its run ends."""
+
+    def __init__(self, place, title):
+        self.place, self.title, self.parts = place, title, {}
+        self.numbers, self.ends = range(1), None
+
+
+def read_rows(folder=ROOT / "tools" / "runs"):
+    """The rows of all files, and the texts that they name. `tools/test-runs` says what is in the files."""
+    rows, texts = [], {}
+    for file in sorted(folder.glob("*.rows")):
+        lines = None
+        for number, line in enumerate(file.read_text().splitlines(), 1):
+            head, _, rest = line.partition(" ")
+            if head == "::":
+                lines = texts.setdefault(rest, [])
+            elif head == "==":
+                rows.append(Row(f"{file.name}:{number}", rest))
+                lines = []
+            elif head == "--":
+                word, _, rest = rest.partition(" ")
+                lines = rows[-1].parts.setdefault(word, [])
+                if word == "for":
+                    first, last = map(int, rest.split()[1:])
+                    rows[-1].numbers = range(first, last + 1)
+                elif word == "ends":
+                    status, _, rows[-1].ends = rest.partition(" ")
+                    rows[-1].status = int(status)
+            elif lines is not None:
+                lines.append(line)
+    for lines in [*texts.values(), *(it for row in rows for it in row.parts.values())]:
+        # Rows and texts stand apart by empty lines.
+        while lines and not lines[-1]:
+            lines.pop()
+    return rows, texts
+
+
+def whole_blocks(lines):
+    """A text of these lines, with the entries that `..` stands for in a block."""
+    out = []
+    for line in lines:
+        if line.startswith("block ") and line.endswith(".."):
+            head, number, entries = line[:-2].split(" ")
+            line = f"{head} {number} {entries.ljust(DIGITS, 'f')}"
+        out.append(f"{line}\n")
+    return "".join(out).encode()
+
+
+def plan_lines(lids, tables):
+    """The lines of a plan: the end port of each LID, a GUID and a port, and by each switch's GUID its port for LIDs."""
+    top = max(lids)
+    lines = [f"lid {lid} {guid:016x}/{port}" for lid, (guid, port) in sorted(lids.items())]
+    for switch, ports in sorted(tables.items()):
+        lines.append(f"switch {switch:016x} top {top}")
+        for block in range(top // ENTRIES + 1):
+            entries = bytes(ports.get(lid, NO_WAY) for lid in range(ENTRIES * block, ENTRIES * (block + 1)))
+            lines.append(f"block {block} {entries.hex()}")
+    return lines

@@ -1,0 +1,104 @@
+"""Report and store files, made record by record by docs/FORMATS.md."""
+import struct
+
+NO_REPORTS, NO_CELLS = b"IBSMREP1", b"IBSMSTO1"
+# The attributes that tell facts, the types of nodes, the states of ports, and the kinds of facts.
+NODE_INFO, SWITCH_INFO, PORT_INFO = 0x0011, 0x0012, 0x0015
+ADAPTER, SWITCH, ROUTER = 1, 2, 3
+DOWN, INITIALIZE, ARMED, ACTIVE = 1, 2, 3, 4
+NODE, PORT_GUID, LINK, PORT, CLAIM, CAP = 1, 2, 3, 4, 5, 6
+KINDS = {"node": NODE, "portguid": PORT_GUID, "link": LINK, "port": PORT, "claim": CLAIM, "cap": CAP}
+TYPES = {"ca": ADAPTER, "switch": SWITCH, "router": ROUTER}
+KNOWN, DISPUTED = 1, 2
+
+# What is known of a reply beside its bytes: the number of the context, its port and its GUID.
+START = 0, 0, 0
+
+
+def via(guid, port):
+    return 1, port, guid
+
+
+def about(guid):
+    return 2, 0, guid
+
+
+def report(context, attribute, modifier, value, generation=1, hops=None):
+    """The record of a reply with status 0 that is back at who asked, over no hop or one."""
+    kind, port, guid = context
+    if hops is None:
+        hops = 0 if context == START else 1
+    packet = bytearray(256)
+    packet[0:8] = bytes([1, 0x81, 1, 0x81, 0x80, 0, 0, hops])
+    packet[8:18] = struct.pack(">QH", 0x0000000100000001, attribute)
+    packet[20:24] = struct.pack(">I", modifier)
+    packet[32:36] = b"\xff\xff\xff\xff"
+    packet[64 : 64 + len(value)] = value
+    return struct.pack(">IBBHQ", generation, kind, port, 0, guid) + packet
+
+
+def node_info(context, kind, ports, guid, port_guid, local_port, generation=1, hops=None):
+    """What a node says of itself to a request that came by its local port."""
+    value = struct.pack(">BBBBQQQHHIB", 1, 1, kind, ports, guid, guid, port_guid, 1, 0, 0, local_port)
+    return report(context, NODE_INFO, 0, value, generation, hops)
+
+
+def switch_info(guid, room, generation=1):
+    """How many LIDs a switch's table has room for."""
+    return report(about(guid), SWITCH_INFO, 0, struct.pack(">H", room), generation)
+
+
+def port_info(guid, port, state, lid=0, generation=1):
+    """A port's state and the LID that it claims."""
+    value = bytearray(64)
+    value[16:18] = struct.pack(">H", lid)
+    value[32] = state
+    return report(about(guid), PORT_INFO, port, value, generation)
+
+
+def reports(*records):
+    return NO_REPORTS + b"".join(records)
+
+
+def cell(kind, guid, port, value, generation=1, state=KNOWN):
+    """The record of what is held of one key."""
+    return struct.pack(">BBBBIQ16s", kind, state, port, 0, generation, guid, value)
+
+
+def cell_of(line):
+    """The record of a line of facts."""
+    word, place, *value, at = line.split()
+    guid, _, port = place.partition("/")
+    key = KINDS[word], int(guid, 16), int(port or 0)
+    return cell(*key, b"", int(at[1:]), DISPUTED) if value == ["disputed"] else cell(*key, spelled(word, *value), int(at[1:]))
+
+
+def spelled(word, first, second=None):
+    """The bytes of a value: the words that stand for it in a line of facts."""
+    if word == "node":
+        return struct.pack(">BB", TYPES[first], int(second))
+    if word == "portguid":
+        return struct.pack(">Q", int(first, 16))
+    if word == "link":
+        guid, port = first.split("/")
+        return struct.pack(">QB", int(guid, 16), int(port))
+    if word == "port":
+        return struct.pack(">B", first == "up")
+    return struct.pack(">H", int(first))
+
+
+def store(*cells, floor=1):
+    """A store file of these cells, which have to stand in order."""
+    return b"IBSMSTO2" + struct.pack(">II", floor, 0) + b"".join(cells)
+
+
+def store_of(facts):
+    """The store file of what a text of facts says."""
+    lines = facts.splitlines()
+    floor = int(lines.pop(0).split()[1]) if facts.startswith("floor ") else 1
+    return store(*map(cell_of, lines), floor=floor)
+
+
+def older(stored):
+    """The same cells in a file that tells no floor."""
+    return NO_CELLS + stored[16:]
