@@ -3,7 +3,6 @@ pub mod Budget
 pub mod CellRecord
 pub mod Feeding
 pub mod FileFault
-pub mod Filling
 pub mod Head
 pub mod Laws
 pub mod PieceFault

@@ -24,18 +24,6 @@ impl<R: Read> FromRead<R> {
             interruptions: 0,
         }
     }
-
-    /// The reader, which stands behind what was read.
-    pub fn into_inner(self) -> R
-        ensures { R.remaining result ≡ ⟦<FromRead<R> as Source>⟧.left self }
-    {
-        let FromRead {
-            reader,
-            has_failed: _,
-            interruptions: _,
-        } = self;
-        reader
-    }
 }
 
 impl<R: Read> Source for FromRead<R> {

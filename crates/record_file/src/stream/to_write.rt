@@ -29,18 +29,6 @@ impl<W: Write> ToWrite<W> {
             is_flushed: false,
         }
     }
-
-    /// The writer, which may hold back what wasn't flushed.
-    pub fn into_inner(self) -> W
-        ensures { W.contents result ≡ ⟦<ToWrite<W> as Sink>⟧.written self }
-    {
-        let ToWrite {
-            writer,
-            has_failed: _,
-            is_flushed: _,
-        } = self;
-        writer
-    }
 }
 
 impl<W: Write> Sink for ToWrite<W> {
