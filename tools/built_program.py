@@ -68,7 +68,8 @@ class Runs:
     def run(self, words, **streams):
         self.count += 1
         streams = {"stdin": subprocess.DEVNULL, "stdout": subprocess.PIPE, "stderr": subprocess.PIPE} | streams
-        done = subprocess.run([self.program, *words], cwd=self.folder, timeout=60, **streams)
+        # Help calls the program by the name that it was run by.
+        done = subprocess.run(["ibsm", *words], executable=self.program, cwd=self.folder, timeout=60, **streams)
         return Ended(done.returncode, done.stderr or b"", done.stdout or b"")
 
 
