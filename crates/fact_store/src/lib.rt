@@ -25,6 +25,3 @@ pub use store::{Refused, Store};
 pub use told::{answer_fault, is_up, sightings, sightings_in};
 pub use value::Value;
 pub use walk::Cells;
-
-#[cfg(test)]
-mod tests;
