@@ -122,10 +122,12 @@ def whole_blocks(lines):
     return "".join(out).encode()
 
 
-def plan_lines(lids, tables):
-    """The lines of a plan: the end port of each LID, a GUID and a port, and by each switch's GUID its port for LIDs."""
-    top = max(lids)
-    lines = [f"lid {lid} {guid:016x}/{port}" for lid, (guid, port) in sorted(lids.items())]
+def plan_lines(lids, tables, lmc=0):
+    """The lines of a plan: the end port of each LID, a GUID and a port, and by each switch's GUID its port for LIDs. Under
+    an LMC the port of an adapter has 2^LMC numbers from its LID on."""
+    top = max(lid + (2**lmc - 1 if port else 0) for lid, (_, port) in lids.items())
+    told = f" lmc {lmc}" if lmc else ""
+    lines = [f"lid {lid} {guid:016x}/{port}{told if port else ''}" for lid, (guid, port) in sorted(lids.items())]
     for switch, ports in sorted(tables.items()):
         lines.append(f"switch {switch:016x} top {top}")
         for block in range(top // ENTRIES + 1):

@@ -133,7 +133,8 @@ class Plan:
     """The text of `ibsm plan`, or what a fabric holds in the same form: LIDs, and each switch's top and entries."""
 
     def __init__(self, path):
-        self.owners = {}  # LID: end
+        self.owners = {}  # LID: end, with each LID of a range
+        self.ranges = {}  # end: its first LID, and the last
         self.shared = []  # LIDs that a second end has, with that end
         self.tops = {}
         self.tables = {}  # GUID: entries from LID 0 on, in whole blocks
@@ -147,10 +148,13 @@ class Plan:
                 raise Refused(f"{path}: switch {guid:016x} has {blocks} blocks for top {self.tops[guid]}: is it cut?")
 
     def take(self, line):
-        if form := re.fullmatch(f"lid {NUMBER} {END}", line):
-            end = int(form[2], 16), int(form[3])
-            if self.owners.setdefault(int(form[1]), end) != end:
-                self.shared.append((int(form[1]), end))
+        if form := re.fullmatch(f"lid {NUMBER} {END}(?: lmc ([1-7]))?", line):
+            first, end = int(form[1]), (int(form[2], 16), int(form[3]))
+            last = first + 2 ** int(form[4] or 0) - 1
+            self.ranges.setdefault(end, (first, last))
+            for lid in range(first, last + 1):
+                if self.owners.setdefault(lid, end) != end:
+                    self.shared.append((lid, end))
         elif form := re.fullmatch(f"switch {GUID} top {NUMBER}", line):
             self.last = int(form[1], 16)
             if self.last in self.tables:

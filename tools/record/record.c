@@ -207,9 +207,6 @@ static void summary(double seconds)
 	if (counts.pointers)
 		fprintf(stderr, "; hop pointer of %lu replies of this machine set to 0", counts.pointers);
 	fprintf(stderr, "\n");
-	if (counts.several_lids)
-		fprintf(stderr, "record: %lu ports have several LIDs (LMC over 0), and a plan has the first alone\n",
-			counts.several_lids);
 }
 
 static int record(struct whole_file *report, struct whole_file *tables)

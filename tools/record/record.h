@@ -35,7 +35,7 @@ struct options {
 };
 
 struct counts {
-	unsigned long sent, again, kept, silent, left_out, too_far, pointers, several_lids;
+	unsigned long sent, again, kept, silent, left_out, too_far, pointers;
 };
 
 extern struct options options;

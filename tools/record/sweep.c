@@ -17,7 +17,7 @@ struct node {
 struct lid {
 	uint16_t lid;
 	uint64_t guid;
-	uint8_t port;
+	uint8_t port, lmc;	/* it has 2^lmc LIDs, from lid on */
 };
 
 static struct node *nodes;
@@ -113,8 +113,7 @@ static void note_lid(const struct request *request, const uint8_t *info)
 		lid_room = lid_room ? 2 * lid_room : 256;
 		lids = more(lids, lid_room, sizeof *lids);
 	}
-	lids[lid_count++] = (struct lid) { get(info + 16, 2), request->guid, request->modifier };
-	counts.several_lids += (info[34] & 7) != 0;
+	lids[lid_count++] = (struct lid) { get(info + 16, 2), request->guid, request->modifier, info[34] & 7 };
 }
 
 static void on_port_info(const struct request *request, const uint8_t *info)
@@ -253,8 +252,12 @@ void print_tables(FILE *file)
 	qsort(lids, lid_count, sizeof *lids, by_lid);
 	qsort(nodes, node_count, sizeof *nodes, by_guid);
 	for (i = 0; i < lid_count; i++)
-		if (lids[i].lid)
-			fprintf(file, "lid %u %016llx/%u\n", lids[i].lid, (unsigned long long) lids[i].guid, lids[i].port);
+		if (lids[i].lid) {
+			fprintf(file, "lid %u %016llx/%u", lids[i].lid, (unsigned long long) lids[i].guid, lids[i].port);
+			if (lids[i].lmc)
+				fprintf(file, " lmc %u", lids[i].lmc);
+			fprintf(file, "\n");
+		}
 	for (i = 0; i < node_count; i++)
 		if (nodes[i].type == SWITCH)
 			print_switch(file, &nodes[i]);

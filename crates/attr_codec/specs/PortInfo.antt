@@ -1,7 +1,7 @@
 -- Port information: the places of its fields.
 -- InfiniBand Architecture Specification, Volume 1: subnet management, PortInfo.
-use Rattle.std.specs.Prelude.{ℕ, Option, [], ◌∷◌, find, ◌==◌}
-use Rattle.smp_bytes.specs.Field.{Field, Bits}
+use Rattle.std.specs.Prelude.{ℕ, List, Option, [], ◌∷◌, find, ◌==◌}
+use Rattle.smp_bytes.specs.Field.{Field, Bits, number_in, bits_in}
 use Rattle.attr_codec.specs.declared.port_state.PortState.{PortState}
 use Rattle.attr_codec.specs.declared.port_state.PortState.TheVariants.{NoChange, Down, Initialize, Armed, Active}
 
@@ -37,6 +37,10 @@ m_key_protect_bits = record { at = 34; shift = 6; width = 2 }
 
 abbrev pub lmc : Bits
 lmc = record { at = 34; shift = 0; width = 3 }
+
+-- the LID and the LMC that a payload spells
+abbrev pub range_in : List ℕ → ℕ × ℕ
+range_in payload = (number_in base_lid payload, bits_in lmc payload)
 
 abbrev pub port_state : Bits
 port_state = record { at = 32; shift = 0; width = 4 }

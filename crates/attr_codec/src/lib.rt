@@ -6,6 +6,7 @@ pub mod bits;
 mod field_type;
 pub mod laws;
 mod lft_block;
+mod lmc;
 mod macros;
 mod node_description;
 mod node_info;
@@ -22,6 +23,7 @@ mod vendor_id;
 
 pub use attribute::Attribute;
 pub use lft_block::LftBlock;
+pub use lmc::Lmc;
 pub use node_description::NodeDescription;
 pub use node_info::NodeInfo;
 pub use node_type_number::NodeTypeNumber;

@@ -6,6 +6,7 @@ ghost use Rattle.attr_codec.specs.PortInfo.{m_key, gid_prefix, base_lid, master_
 use crate::attribute::Attribute;
 use crate::bits::{bits, with_bits};
 use crate::field_type;
+use crate::lmc::Lmc;
 use crate::port_state::PortState;
 use smp_bytes::{AttributeId, Lid, PortNum};
 use std::marker::Model;
@@ -209,19 +210,17 @@ impl PortInfo {
         port_info!(with_bits m_key_protect_bits (&mut self.bytes, to));
     }
 
-    /// LMC: the port has 2^LMC LIDs, 3 bits.
-    pub fn lmc(&self) -> u8
-        ensures number { result ≡ bits_in lmc self.now }
-        ensures fits { result < 2 ^ 3 }
+    /// LMC: the port has 2^LMC LIDs, from BaseLID on.
+    pub fn lmc(&self) -> Lmc
+        ensures { result ≡ bits_in lmc self.now }
     {
-        port_info!(bits lmc (&self.bytes))
+        Lmc::from_bits(port_info!(bits lmc (&self.bytes)))
     }
 
-    pub fn set_lmc(&mut self, to: u8)
-        requires { to < 2 ^ 3 }
+    pub fn set_lmc(&mut self, to: Lmc)
         ensures { self.new ≡ with_bits lmc to self.old }
     {
-        port_info!(with_bits lmc (&mut self.bytes, to));
+        port_info!(with_bits lmc (&mut self.bytes, to.number()));
     }
 
     /// PortState, or None where its number is reserved.

@@ -60,7 +60,7 @@ fn port_info(rt: HostRuntime) {
         u64::from(info.port_physical_state()),
         u64::from(info.link_down_default_state()),
         u64::from(info.m_key_protect_bits()),
-        u64::from(info.lmc()),
+        u64::from(info.lmc().number()),
     ];
     let (m_key, gid_prefix) = (0x0102_0304_0506_0708, 0x1112_1314_1516_1718);
     let wanted = [

@@ -9,13 +9,13 @@ use Rattle.audit.specs.declared.step.Step.TheVariants.{To, Ends}
 use Rattle.audit.specs.Walks.{onward, after, IsEndOf, is_to, end_of, HaveEnded, AreAfter}
 
 -- steps in turn
-after_add : (m n : ℕ) (steps : List Step) (s : Step) → after (m + n) steps s ≡ after n steps (after m steps s)
+pub after_add : (m n : ℕ) (steps : List Step) (s : Step) → after (m + n) steps s ≡ after n steps (after m steps s)
 after_add zero n steps s = let e : 0 + n ≡ n = omega arith in ap (λ k. after k steps s) e
 after_add (suc m) n steps s =
     let e : suc m + n ≡ suc (m + n) = omega arith in
     ap (λ k. after k steps s) e ∙ after_add m n steps (onward steps s)
 
-after_ended : (n : ℕ) (steps : List Step) (e : End) → after n steps (Ends e) ≡ Ends e
+pub after_ended : (n : ℕ) (steps : List Step) (e : End) → after n steps (Ends e) ≡ Ends e
 after_ended zero steps e = refl
 after_ended (suc n) steps e = after_ended n steps e
 
@@ -24,17 +24,17 @@ pub after_one : (steps : List Step) → AreAfter steps steps 1
 after_one steps = record { as_many = refl; onward_is = λ s. refl }
 
 -- what a list has at a place, and what a mapped one
-within : (f : Step → Step) (xs : List Step) (i : ℕ) (d : Step) → i < length xs → slice_index_or (map f xs) i d ≡ f (slice_index_or xs i d)
+pub within : (f : Step → Step) (xs : List Step) (i : ℕ) (d : Step) → i < length xs → slice_index_or (map f xs) i d ≡ f (slice_index_or xs i d)
 within f [] i d h = absurd (omega arith)
 within f (x ∷ xs) zero d h = refl
 within f (x ∷ xs) (suc i) d h = within f xs i d (omega arith)
 
-past : (xs : List Step) (i : ℕ) (d : Step) → length xs ≤ i → slice_index_or xs i d ≡ d
+pub past : (xs : List Step) (i : ℕ) (d : Step) → length xs ≤ i → slice_index_or xs i d ≡ d
 past [] i d h = refl
 past (x ∷ xs) zero d h = absurd (omega arith)
 past (x ∷ xs) (suc i) d h = past xs i d (omega arith)
 
-long : (f : Step → Step) (xs : List Step) → length (map f xs) ≡ length xs
+pub long : (f : Step → Step) (xs : List Step) → length (map f xs) ≡ length xs
 long f [] = refl
 long f (x ∷ xs) = ap suc (long f xs)
 
@@ -55,7 +55,7 @@ after_twice steps jumps m h = record {
 }
 
 -- counting those that have not ended
-abbrev one : Step → ℕ
+abbrev pub one : Step → ℕ
 one (To i) = 1
 one (Ends e) = 0
 
@@ -67,7 +67,7 @@ one_most : (x : Step) → one x ≤ 1
 one_most (To i) = omega arith
 one_most (Ends e) = omega arith
 
-abbrev tos : List Step → ℕ
+abbrev pub tos : List Step → ℕ
 tos [] = 0
 tos (x ∷ xs) = one x + tos xs
 
@@ -77,7 +77,7 @@ tos_count (x ∷ xs) =
     ap (λ n. one x + n) (tos_count xs) ∙ ap (λ n. n + count_by is_to xs) (one_is x) ∙ sym (sum_by-cons (λ (y : Step). cond (is_to y) 1 0) x xs)
 
 -- what has ended stays so
-stays_ended : (jumps : List Step) (x : Step) → is_to (onward jumps x) ≡ true → is_to x ≡ true
+pub stays_ended : (jumps : List Step) (x : Step) → is_to (onward jumps x) ≡ true → is_to x ≡ true
 stays_ended jumps (To i) h = refl
 stays_ended jumps (Ends e) h = cc
 
@@ -86,7 +86,7 @@ head_less (To i) y h = one_most y
 head_less (Ends e) (To j) h = let over : false ≡ true = h refl in cc
 head_less (Ends e) (Ends k) h = omega arith
 
-tos_less : (f : Step → Step) (xs : List Step) → ((x : Step) → is_to (f x) ≡ true → is_to x ≡ true) → tos (map f xs) ≤ tos xs
+pub tos_less : (f : Step → Step) (xs : List Step) → ((x : Step) → is_to (f x) ≡ true → is_to x ≡ true) → tos (map f xs) ≤ tos xs
 tos_less f [] h = omega arith
 tos_less f (x ∷ xs) h = omega (arith, head_less x (f x) (h x), tos_less f xs h)
 
@@ -96,7 +96,7 @@ head_same (To i) (Ends k) e h = absurd (omega arith)
 head_same (Ends m) (Ends k) e h = cc
 
 -- where as many have not ended, they are the same
-same_left : (f : Step → Step) (xs : List Step) (i : ℕ) (d : Step) → ((x : Step) → is_to (f x) ≡ true → is_to x ≡ true) → tos (map f xs) ≡ tos xs
+pub same_left : (f : Step → Step) (xs : List Step) (i : ℕ) (d : Step) → ((x : Step) → is_to (f x) ≡ true → is_to x ≡ true) → tos (map f xs) ≡ tos xs
     → i < length xs → is_to (slice_index_or xs i d) ≡ true → is_to (f (slice_index_or xs i d)) ≡ true
 same_left f [] i d h e less on = absurd (omega arith)
 same_left f (x ∷ xs) zero d h e less on = head_same x (f x) (omega (arith, e, head_less x (f x) (h x), tos_less f xs h)) on
@@ -119,13 +119,13 @@ earlier m n steps s h =
     ] refl
 
 -- those that go on do so from the next switch on too
-abbrev GoOn : List Step → List Step → Type 0
+abbrev pub GoOn : List Step → List Step → Type 0
 GoOn steps jumps = (s : Step) → is_to (onward jumps s) ≡ true → is_to (onward jumps (onward steps s)) ≡ true
 
 to_itself : (steps jumps : List Step) (i : ℕ) → length jumps ≡ length steps → length jumps ≤ i → onward steps (To i) ≡ To i
 to_itself steps jumps i e h = past steps i (To i) (omega (arith, e))
 
-over_none : (steps jumps : List Step) → length jumps ≡ length steps → tos jumps ≡ 0 → GoOn steps jumps
+pub over_none : (steps jumps : List Step) → length jumps ≡ length steps → tos jumps ≡ 0 → GoOn steps jumps
 over_none steps jumps as_many e (Ends x) h = cc
 over_none steps jumps as_many e (To i) h =
     elim (cases_lt i (length jumps)) [
@@ -160,7 +160,7 @@ for_ever steps jumps on zero (To i) h = (i, refl)
 for_ever steps jumps on zero (Ends x) h = absurd (cc)
 for_ever steps jumps on (suc n) s h = for_ever steps jumps on n (onward steps s) (on s h)
 
-have_ended : (steps jumps : List Step) (m : ℕ) → AreAfter steps jumps m → GoOn steps jumps → HaveEnded steps jumps
+pub have_ended : (steps jumps : List Step) (m : ℕ) → AreAfter steps jumps m → GoOn steps jumps → HaveEnded steps jumps
 have_ended steps jumps m are on = record {
   as_many = are.as_many;
   ended = λ s. (elim (onward jumps s) as (λ r. onward jumps s ≡ r → IsEndOf steps s (end_of r)) [

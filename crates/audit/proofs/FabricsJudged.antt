@@ -30,11 +30,11 @@ use Rattle.audit.proofs.Judged.{same_ends, same_itself}
 use Rattle.audit.proofs.Told.{into_is, packets_end_as_told}
 
 -- the line of an owner, and the owner of a line
-record LineOf (lids : List HeldLid) (lid : ℕ) (e : EndPort) : Type 0 where
-  line : HeldLid
-  is_held : Contains lids line
-  lid_is : line.lid ≡ lid
-  port_is : line.port ≡ e
+pub record LineOf (lids : List HeldLid) (lid : ℕ) (e : EndPort) : Type 0 where
+  pub line : HeldLid
+  pub is_held : Contains lids line
+  pub lid_is : line.lid ≡ lid
+  pub port_is : line.port ≡ e
 
 abbrev owners_in : List HeldLid → ℕ → List EndPort
 owners_in lids lid = map (λ x. x.port) (filter (λ x. x.lid == lid) lids)
@@ -42,7 +42,7 @@ owners_in lids lid = map (λ x. x.port) (filter (λ x. x.lid == lid) lids)
 later_line : (x : HeldLid) (lids : List HeldLid) (lid : ℕ) (e : EndPort) → LineOf lids lid e → LineOf (x ∷ lids) lid e
 later_line x lids lid e l = record { line = l.line; is_held = contains_later x l.line lids l.is_held; lid_is = l.lid_is; port_is = l.port_is }
 
-owner_line : (lids : List HeldLid) (lid : ℕ) (e : EndPort) → is_owner (owners_in lids lid) e ≡ true → LineOf lids lid e
+pub owner_line : (lids : List HeldLid) (lid : ℕ) (e : EndPort) → is_owner (owners_in lids lid) e ≡ true → LineOf lids lid e
 owner_line [] lid e h = cc
 owner_line (x ∷ lids) lid e h =
     elim (x.lid == lid) as (λ t. (x.lid == lid) ≡ t
@@ -124,11 +124,9 @@ module _ (facts : Facts) (held : HeldPlan) (f : Fabric) (seen : IsSeen (cells_of
       (named.port_is ∙ sym (ap (λ (x : EndPort). x.port) is))
 
   arrive : HoldsLids held → AllArrive cells held → EachArrives f
-  arrive lids all source target is_source is_target has =
-      let lid = f.base_lid target in
+  arrive lids all source target lid is_source is_target has own =
       let (t, at_t, number_t) = is_target in
       let (s, at_s, number_s) = is_source in
-      let own : owns f target lid ≡ true = eq-eqb lid lid refl in
       let l = owner_line held.lids lid (name target t) (sym (seen.holds.lids target t lid at_t is_target has) ∙ own) in
       let listed = subst (λ (x : EndPort). Contains (end_ports cells) x) (sym l.port_is) (end_listed target t at_t is_target) in
       let brought = all l.line l.is_held listed (name source s) (end_listed source s at_s is_source) in
@@ -163,7 +161,6 @@ module _ (facts : Facts) (held : HeldPlan) (f : Fabric) (seen : IsSeen (cells_of
       let own : owns f target line.lid ≡ true =
       seen.holds.lids target named.node line.lid named.node_there is_target some ∙ ap (is_owner (owners_of held line.lid)) this
       ∙ line_owner held.lids line h.is_held in
-      let lid_is : f.base_lid target ≡ line.lid = eqb-true (f.base_lid target) line.lid own in
       let told = packets_end_as_told facts held f seen source its.node line.lid failure.end its.node_there is_source some
       (subst (λ (e : EndPort). IsBrought cells held line.lid e failure.end) (sym that) h.fails.brought) in
       record {
@@ -171,9 +168,10 @@ module _ (facts : Facts) (held : HeldPlan) (f : Fabric) (seen : IsSeen (cells_of
         target = target;
         is_source = is_source;
         is_target = is_target;
-        has_lid = omega arith;
-        misses = λ a. not_there source target line.lid line.port failure.end named told h.fails.elsewhere a.hops
-            (subst (λ (n : ℕ). IsDelivered f n source a.hops target) lid_is a.delivered);
+        lid = line.lid;
+        is_lid = some;
+        owned = own;
+        misses = λ a. not_there source target line.lid line.port failure.end named told h.fails.elsewhere a.hops a.delivered;
       }
 
 pub fabrics_are_judged : FabricsAreJudged

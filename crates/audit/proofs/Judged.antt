@@ -53,7 +53,7 @@ is_listed cells e sources b are is =
     )
 
 -- where packets end that all end at a port
-at_is : (e : EndPort) (end : Option End) → is_at e end ≡ true → end ≡ Some (Taken e)
+pub at_is : (e : EndPort) (end : Option End) → is_at e end ≡ true → end ≡ Some (Taken e)
 at_is e None h = cc
 at_is e (Some (Lost g)) h = cc
 at_is e (Some (Taken x)) h = ap (λ y. Some (Taken y)) (same_ends e x h)

@@ -3,6 +3,7 @@ pub mod Ended
 pub mod FabricParts
 pub mod FabricsJudged
 pub mod Gathered
+pub mod InTime
 pub mod Judged
 pub mod Mapped
 pub mod PlansPass

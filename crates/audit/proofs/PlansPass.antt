@@ -3,7 +3,7 @@ use Rattle.std.proofs.Common.{◌≡◌, ℕ, zero, suc, ◌+◌, ◌*◌, ◌/�
 use Rattle.std.specs.Prelude.{slice_get, map, Contains, reverse, option_and_then, option_map, ◌==◌}
 use Rattle.std.specs.Option.{option_map_or}
 use Rattle.std.specs.List.{find, position, position_or_len, filter_map}
-use Rattle.std.proofs.lemmas.Bool.{eqb-true, eq-eqb, ltb-false, and_parts}
+use Rattle.std.proofs.lemmas.Bool.{cond_both, eqb-true, eq-eqb, ltb-false, and_parts}
 use Rattle.std.proofs.lemmas.Option.{same_Some, slice_get-get_or}
 use Rattle.std.proofs.lemmas.List.{reverse-append}
 use Rattle.std.specs.Prelude.{◌&&◌}
@@ -12,8 +12,10 @@ use Rattle.std.proofs.lemmas.List.Quantifiers.{position-Some}
 use Rattle.text_words.proofs.Splits.{unfound}
 use Rattle.smp_bytes.specs.declared.cable.NodePort.{NodePort}
 use Rattle.smp_bytes.specs.NodeType.{is_switch}
-use Rattle.smp_bytes.specs.Fabric.{Node, Fabric, IsNodeAt, IsEndPort, owns}
+use Rattle.smp_bytes.specs.Fabric.{Node, Fabric, IsNodeAt, IsEndPort, range_at, owns}
 use Rattle.smp_bytes.specs.FabricWalks.{IsConnected}
+use Rattle.smp_bytes.specs.LidRange.{has_lid}
+use Rattle.smp_bytes.proofs.LidRanges.{has_one_lid, one_lid}
 use Rattle.fact_store.specs.View.{Facts, cells_of}
 use Rattle.subnet_view.specs.declared.end_port.EndPort.{EndPort}
 use Rattle.subnet_view.specs.Reading.{Cells, switches, is_usable, is_switch_node, cap_of}
@@ -25,7 +27,7 @@ use Rattle.plan_file.specs.declared.held.HeldLid.{HeldLid}
 use Rattle.plan_file.specs.declared.held.HeldSwitch.{HeldSwitch}
 use Rattle.plan_file.specs.Held.{HeldPlan, nothing_held}
 use Rattle.plan_file.specs.Printed.{owned_lid, blocks_from, blocks_of, with_top}
-use Rattle.lid_assign.specs.Lids.{IsNoRoom, lids, lid_of, owner_of, rising_lids}
+use Rattle.lid_assign.specs.Lids.{Given, IsNoRoom, lids, lid_of, lmc_of, range_of, owner_of, rising_lids}
 use Rattle.lid_assign.specs.Lids.{top_of as lid_top}
 use Rattle.lid_assign.proofs.LidLaws.{lids_law, ports_apart}
 use Rattle.lid_assign.proofs.Owners.{owners_are_inverse, lid-from_given}
@@ -51,7 +53,7 @@ use Rattle.audit.specs.Tables.{is_block_of, top_at, entry_in, entry_at}
 use Rattle.audit.specs.Tables.{block_at as held_block}
 use Rattle.audit.proofs.FabricParts.{usable, known_type}
 use Rattle.subnet_view.proofs.UsableSwitches.{switches_law, usable_law}
-use Rattle.audit.proofs.FabricsJudged.{end_listed, line_owner, miss, one_port}
+use Rattle.audit.proofs.FabricsJudged.{end_listed, owner_line, line_owner, miss, one_port}
 
 -- the blocks of tables, and where each is from
 from_list : (place number : ℕ) (blocks : List (List ℕ)) (y : HeldBlock) → Contains (blocks_from place number blocks) y
@@ -268,42 +270,91 @@ module _ (top : ℕ) (tables : List SwitchTable) (g : ℕ) where
 
 abbrev made : Cells → ℕ → HeldPlan
 made cells top = record {
-  lids = filter_map (owned_lid (lids cells)) (rising_lids (lids cells));
-  switches = map (with_top top) (plan_of cells).tables;
-  blocks = blocks_of 0 (plan_of cells).tables;
+  lids = filter_map (owned_lid (lids 0 cells)) (rising_lids (lids 0 cells));
+  switches = map (with_top top) (plan_of 0 cells).tables;
+  blocks = blocks_of 0 (plan_of 0 cells).tables;
 }
 
-module _ (facts : Facts) (has_room : ¬ (IsNoRoom (cells_of facts))) (f : Fabric) (top : ℕ) (top_is : lid_top (lids (cells_of facts)) ≡ Some top)
+module _ (facts : Facts) (has_room : ¬ (IsNoRoom 0 (cells_of facts))) (f : Fabric) (top : ℕ) (top_is : lid_top (lids 0 (cells_of facts)) ≡ Some top)
     (seen : IsSeen (cells_of facts) (made (cells_of facts) top) f) where
   abbrev cells : Cells
   cells = cells_of facts
 
-  abbrev given : List (EndPort × ℕ)
-  given = lids cells
+  abbrev given : Given
+  given = lids 0 cells
 
   abbrev held : HeldPlan
   held = made cells top
 
   abbrev plan : PlanValue
-  plan = plan_of cells
+  plan = plan_of 0 cells
 
-  -- an end port has its LID of the plan
-  lid_held : (port : NodePort) (node : Node) → IsNodeAt f port.node node → IsEndPort f port
-      → lid_of given (record { node = node.guid; port = port.port }) ≡ Some (f.base_lid port)
+  line_lid : (n : ℕ) (line : HeldLid) (o : Option EndPort) → option_map (λ port. record { lid = n; port = port }) o ≡ Some line → line.lid ≡ n
+  line_lid n line None e = absurd (cc)
+  line_lid n line (Some x) e =
+      let told : HeldLid = record { lid = n; port = x } in let same : told ≡ line = same_Some told line e in sym (ap (λ (z : HeldLid). z.lid) same)
+
+  line_port : (n : ℕ) (line : HeldLid) (o : Option EndPort) → option_map (λ port. record { lid = n; port = port }) o ≡ Some line → o ≡ Some line.port
+  line_port n line None e = absurd (cc)
+  line_port n line (Some x) e =
+      let told : HeldLid = record { lid = n; port = x } in let same : told ≡ line = same_Some told line e in ap (λ (z : HeldLid). Some z.port) same
+
+  -- with LMC 0 an end port owns its LID alone
+  lmc_0 : (e : EndPort) → lmc_of given e ≡ 0
+  lmc_0 e = cond_both (e.port == 0) 0 0 (λ n. n ≡ 0) (λ _. refl) (λ _. refl)
+
+  owner_is : (e : EndPort) (n : ℕ) → lid_of given e ≡ Some n → owner_of given n ≡ Some e
+  owner_is e n h =
+      (owners_are_inverse 0 facts has_room e n).1 (n, h, ap (λ m. has_lid n m n) (lmc_0 e) ∙ has_one_lid n n ∙ eq-eqb n n refl)
+
+  lid_of_owner : (e : EndPort) (n : ℕ) → owner_of given n ≡ Some e → lid_of given e ≡ Some n
+  lid_of_owner e n h =
+      let (lid, is, has) = (owners_are_inverse 0 facts has_room e n).0 h in
+      is ∙ ap (λ m. Some m) (eqb-true lid n (sym (has_one_lid lid n) ∙ ap (λ m. has_lid lid m n) (sym (lmc_0 e)) ∙ has))
+
+  -- the LID of an end port, and that it owns this one and no other
+  record HasLid (port : NodePort) (e : EndPort) : Type 0 where
+    pub lid : ℕ
+    pub some : 1 ≤ lid
+    pub lid_is : lid_of given e ≡ Some lid
+    pub own : owns f port lid ≡ true
+    pub only : (n : ℕ) → 1 ≤ n → owns f port n ≡ true → n ≡ lid
+
+  lid_held : (port : NodePort) (node : Node) → IsNodeAt f port.node node → IsEndPort f port → HasLid port (record { node = node.guid; port = port.port })
   lid_held port node at is_end =
       let e : EndPort = record { node = node.guid; port = port.port } in
       let listed = end_listed facts held f seen port node at is_end in
-      let good = lids_law facts has_room in
-      let (x, there, same) = contains-from_map (λ (y : EndPort × ℕ). y.0) given e (subst (λ (xs : List EndPort). Contains xs e) (sym good.end_ports_in_order) listed) in
+      let good = lids_law 0 facts has_room in
+      let (x, there, same) = contains-from_map (λ (y : EndPort × ℕ). y.0) given.ports e (subst (λ (xs : List EndPort). Contains xs e) (sym good.end_ports_in_order) listed) in
       let n = x.1 in
-      let is_given : Contains given (e, n) = subst (λ (z : EndPort). Contains given (z, n)) same there in
-      let lid_is : lid_of given e ≡ Some n = lid-from_given given (ports_apart facts has_room) e n is_given in
-      let owner : owner_of given n ≡ Some e = (owners_are_inverse facts has_room e n).1 lid_is in
+      let is_given : Contains given.ports (e, n) = subst (λ (z : EndPort). Contains given.ports (z, n)) same there in
+      let lid_is : lid_of given e ≡ Some n = lid-from_given given (ports_apart 0 facts has_room) e n is_given in
+      let owner : owner_of given n ≡ Some e = owner_is e n lid_is in
       let rising : Contains (rising_lids given) n = ((rising_lids_law given).0 n).1 (e, is_given) in
       let line : HeldLid = record { lid = n; port = e } in
       let told : Contains held.lids line = is_taken (owned_lid given) (rising_lids given) n line rising (ap (option_map (λ port. record { lid = n; port = port })) owner) in
-      let own : owns f port n ≡ true = seen.holds.lids port node n at is_end (good.in_range e n is_given).0 ∙ line_owner held.lids line told in
-      lid_is ∙ ap (λ m. Some m) (sym (eqb-true (f.base_lid port) n own))
+      let own : owns f port n ≡ true = seen.holds.lids port node n at is_end (good.each_fits e n is_given).not_0 ∙ line_owner held.lids line told in
+      record {
+        lid = n;
+        some = (good.each_fits e n is_given).not_0;
+        lid_is = lid_is;
+        own = own;
+        only = λ m from owned.
+            let l = owner_line held.lids m e (sym (seen.holds.lids port node m at is_end from) ∙ owned) in
+            let (k, _, is) = taken_from (owned_lid given) (rising_lids given) l.line l.is_held in
+            let number : m ≡ k = sym l.lid_is ∙ line_lid k l.line (owner_of given k) is in
+            let its : owner_of given m ≡ Some e = ap (owner_of given) number ∙ line_port k l.line (owner_of given k) is ∙ ap (λ x. Some x) l.port_is in
+            same_Some m n (sym (lid_of_owner e m its) ∙ lid_is);
+      }
+
+  -- so it holds its LID and its LMC
+  range_held : (port : NodePort) (node : Node) → IsNodeAt f port.node node → IsEndPort f port
+      → range_of given (record { node = node.guid; port = port.port }) ≡ Some (range_at f port)
+  range_held port node at is_end =
+      let has = lid_held port node at is_end in
+      let (base_is, lmc_is) = one_lid (f.base_lid port) (f.lmc port) has.lid has.some has.own has.only in
+      ap (option_map (λ n. (n, lmc_of given (record { node = node.guid; port = port.port })))) has.lid_is
+      ∙ (λ i. Some (sym base_is i, (lmc_0 (record { node = node.guid; port = port.port }) ∙ sym lmc_is) i))
 
   -- a switch has its table of the plan, and the greatest LID as its top
   table_there : (guids : List ℕ) (homes : ℕ → Option (ℕ × ℕ)) (next : Next) (count g : ℕ) → Contains guids g
@@ -351,8 +402,8 @@ module _ (facts : Facts) (has_room : ¬ (IsNoRoom (cells_of facts))) (f : Fabric
   blocks_held port node here b block there =
       let g = node.guid in
       let rule = updown (graph_of cells) in
-      let of = subst (λ (o : Option (List ℕ)). MatchOption o (¬ (HasBlock cells g b)) (λ x. HasBlock cells g b × (x ≡ block_of rule cells g b))) there
-      (blocks_are_of_switches rule facts g b) in
+      let of = subst (λ (o : Option (List ℕ)). MatchOption o (¬ (HasBlock 0 cells g b)) (λ x. HasBlock 0 cells g b × (x ≡ block_of rule 0 cells g b))) there
+      (blocks_are_of_switches rule 0 facts g b) in
       let test : is_usable cells g ≡ true = (usable_law cells g).1 of.0.0 in
       let kind : is_switch node.kind ≡ true =
       sym (known_type facts held f seen port node here) ∙ (and_parts (is_switch_node cells g) (is_some (cap_of cells g)) test).0 in
@@ -362,7 +413,7 @@ module _ (facts : Facts) (has_room : ¬ (IsNoRoom (cells_of facts))) (f : Fabric
 
   plan_held : HoldsPlan WholeFabric plan f
   plan_held port node here = record {
-    lid = lid_held port node here.node_there here.end_port;
+    lids = range_held port node here.node_there here.end_port;
     top = λ kind t e.
         let same : t ≡ top = same_Some t top (sym e ∙ top_is) in
         let its : f.top port.node ≡ top = top_held port.node node here.node_there kind in
@@ -370,17 +421,12 @@ module _ (facts : Facts) (has_room : ¬ (IsNoRoom (cells_of facts))) (f : Fabric
     blocks = blocks_held port node here;
   }
 
-  line_lid : (n : ℕ) (line : HeldLid) (o : Option EndPort) → option_map (λ port. record { lid = n; port = port }) o ≡ Some line → line.lid ≡ n
-  line_lid n line None e = absurd (cc)
-  line_lid n line (Some x) e =
-      let told : HeldLid = record { lid = n; port = x } in let same : told ≡ line = same_Some told line e in sym (ap (λ (z : HeldLid). z.lid) same)
-
   has_lids : HoldsLids held
   has_lids line h =
       let (n, there, is) = taken_from (owned_lid given) (rising_lids given) line h in
       let lid = line_lid n line (owner_of given n) is in
       let (e, given_there) = ((rising_lids_law given).0 n).0 there in
-      let some = ((lids_law facts has_room).in_range e n given_there).0 in
+      let some = ((lids_law 0 facts has_room).each_fits e n given_there).not_0 in
       omega arith
 
   no_failure : IsConnected f → (failure : Failure) → ¬ (IsHeldFailure cells held failure)
@@ -388,9 +434,11 @@ module _ (facts : Facts) (has_room : ¬ (IsNoRoom (cells_of facts))) (f : Fabric
       let missed = miss facts held f seen has_lids failure h in
       let (t, at, number) = missed.is_target in
       let e : EndPort = record { node = t.guid; port = missed.target.port } in
-      let lid = f.base_lid missed.target in
-      let owner = (owners_are_inverse facts has_room e lid).1 (lid_held missed.target t at missed.is_target) in
-      let arrives = packets_arrive_if_connected facts has_room f connected
+      let lid = missed.lid in
+      let has = lid_held missed.target t at missed.is_target in
+      let owner : owner_of given lid ≡ Some e =
+      owner_is e lid (has.lid_is ∙ ap (λ n. Some n) (sym (has.only lid missed.is_lid missed.owned))) in
+      let arrives = packets_arrive_if_connected 0 facts has_room f connected
       (record { is_fabric = seen.is_fabric; agrees = seen.agrees; holds = plan_held }) missed.source missed.is_source lid e owner in
       let same : arrives.target ≡ missed.target = one_port facts held f seen arrives.target missed.target t e arrives.is_owner at refl in
       missed.misses (record { hops = arrives.hops; delivered = subst (IsDelivered f lid missed.source arrives.hops) same arrives.delivered })
@@ -400,7 +448,7 @@ plans_pass facts has_room f connected seen failure h =
     let cells = cells_of facts in
     let told : Option ℕ → HeldPlan = λ o.
     option_map_or (λ top. made cells top) o nothing_held in
-    elim (lid_top (lids cells)) as (λ o. lid_top (lids cells) ≡ o → IsSeen cells (told o) f → IsHeldFailure cells (told o) failure → ⊥) [
+    elim (lid_top (lids 0 cells)) as (λ o. lid_top (lids 0 cells) ≡ o → IsSeen cells (told o) f → IsHeldFailure cells (told o) failure → ⊥) [
       | None ↦ λ e s g. contains_none failure.line g.is_held
       | Some top ↦ λ e s g. no_failure facts has_room f top e s connected failure g
     ] refl seen h

@@ -52,18 +52,21 @@ pub record ArrivesAt (f : Fabric) (source target : NodePort) (lid : ℕ) : Type 
   pub hops : List Hop
   pub delivered : IsDelivered f lid source hops target
 
--- from each end port to each that has a LID
+-- from each end port to each LID of each
 abbrev pub EachArrives : Fabric → Type 0
-EachArrives f = (source target : NodePort) → IsEndPort f source → IsEndPort f target → 1 ≤ f.base_lid target → ArrivesAt f source target (f.base_lid target)
+EachArrives f = (source target : NodePort) (lid : ℕ) → IsEndPort f source → IsEndPort f target → 1 ≤ lid → IsTrue (owns f target lid)
+    → ArrivesAt f source target lid
 
--- from some end port to some that has a LID it is not
+-- from some end port to a LID of some it is not
 pub record SomeMisses (f : Fabric) : Type 0 where
   pub source : NodePort
   pub target : NodePort
   pub is_source : IsEndPort f source
   pub is_target : IsEndPort f target
-  pub has_lid : 1 ≤ f.base_lid target
-  pub misses : ¬ (ArrivesAt f source target (f.base_lid target))
+  pub lid : ℕ
+  pub is_lid : 1 ≤ lid
+  pub owned : IsTrue (owns f target lid)
+  pub misses : ¬ (ArrivesAt f source target lid)
 
 -- no line tells of LID 0
 abbrev pub HoldsLids : HeldPlan → Type 0
@@ -77,7 +80,7 @@ pub record JudgesFabrics (facts : Facts) (held : HeldPlan) (f : Fabric) : Type 0
 abbrev pub FabricsAreJudged : Type 0
 FabricsAreJudged = (facts : Facts) (held : HeldPlan) (f : Fabric) → HoldsLids held → IsSeen (cells_of facts) held f → JudgesFabrics facts held f
 
--- where a connected fabric is as a view with room says, and holds the text of the view's plan, no packet fails
+-- where a connected fabric is as a view with room says, and holds the text of the view's plan under LMC 0, no packet fails
 abbrev pub PlansPass : Type 0
-PlansPass = (facts : Facts) → ¬ (IsNoRoom (cells_of facts)) → (f : Fabric) → IsConnected f → IsSeen (cells_of facts) (held_plan (plan_of (cells_of facts))) f
-    → (failure : Failure) → ¬ (IsHeldFailure (cells_of facts) (held_plan (plan_of (cells_of facts))) failure)
+PlansPass = (facts : Facts) → ¬ (IsNoRoom 0 (cells_of facts)) → (f : Fabric) → IsConnected f → IsSeen (cells_of facts) (held_plan (plan_of 0 (cells_of facts))) f
+    → (failure : Failure) → ¬ (IsHeldFailure (cells_of facts) (held_plan (plan_of 0 (cells_of facts))) failure)

@@ -1,8 +1,8 @@
 -- What becomes of a packet for a LID at each switch, and at the port that sends it.
-use Rattle.std.specs.Prelude.{◌≡◌, ◌≢◌, Bool, false, Contains, ℕ, ◌<◌, ◌%◌, ◌==◌, List, [], Option, None, Some, length, map, slice_get, slice_index_or, if◌then◌else◌}
+use Rattle.std.specs.Prelude.{◌≡◌, ◌≢◌, ◌↔◌, Bool, false, Contains, ℕ, ◌<◌, ◌%◌, ◌==◌, List, [], Option, None, Some, length, map, slice_get, slice_index_or, if◌then◌else◌}
 use Rattle.std.specs.Option.{option_map_or}
 use Rattle.subnet_view.specs.declared.end_port.EndPort.{EndPort}
-use Rattle.subnet_view.specs.Reading.{Cells, switches}
+use Rattle.subnet_view.specs.Reading.{Cells, is_usable, switches}
 use Rattle.plan_file.specs.declared.held.HeldLid.{HeldLid}
 use Rattle.plan_file.specs.Held.{HeldPlan}
 use Rattle.subnet_view.specs.EndPorts.{end_ports}
@@ -17,7 +17,7 @@ use Rattle.audit.specs.declared.step.Step.{Step}
 use Rattle.audit.specs.declared.step.Step.TheVariants.{To, Ends}
 use Rattle.audit.specs.Network.{row_of, source_of}
 use Rattle.audit.specs.Tables.{owners_of, is_owner, is_same_end, counted, entry_for, entry_in, block_at}
-use Rattle.audit.specs.Walks.{IsEndOf}
+use Rattle.audit.specs.Walks.{IsEndOf, after, end_of}
 
 -- an adapter port takes a packet for a LID that it holds
 abbrev pub at_port : List EndPort → EndPort → End
@@ -57,6 +57,18 @@ first_step owners source = sent owners source.port source.switch source.far
 -- where forwarding brings a packet for the LID that an end port sends; None is that it goes round for ever
 abbrev pub IsBrought : Cells → HeldPlan → ℕ → EndPort → Option End → Type 0
 IsBrought cells held lid e end = IsEndOf (steps_of cells held lid) (first_step (owners_of held lid) (source_of cells e)) end
+
+-- after as many steps as there are switches a packet has ended, or goes round for ever
+abbrev pub end_for : Cells → HeldPlan → ℕ → EndPort → Option End
+end_for cells held lid e = end_of (after (length (switches cells)) (steps_of cells held lid) (first_step (owners_of held lid) (source_of cells e)))
+
+-- that is where forwarding brings it, and nowhere else
+abbrev pub EndsAreFound : Type 0
+EndsAreFound = (cells : Cells) (held : HeldPlan) (lid : ℕ) (e : EndPort) (end : Option End) → IsBrought cells held lid e end ↔ (end ≡ end_for cells held lid e)
+
+-- the entry by which a usable switch forwards packets for the LID
+abbrev pub entry_by : Cells → HeldPlan → ℕ → ℕ → Option ℕ
+entry_by cells held g lid = if is_usable cells g then Some (entry_for held lid g) else None
 
 -- and each end port, in its order
 pub record AreBrought (cells : Cells) (held : HeldPlan) (lid : ℕ) (ends : List (Option End)) : Type 0 where

@@ -80,7 +80,7 @@ fn entry_among(rows: &[[u8; 64]], place: Option<usize>, lid: Lid) -> u8
 }
 
 /// The entry that counts.
-fn counted(lid: Lid, top: Lid, entry: u8) -> u8
+pub(crate) fn counted(lid: Lid, top: Lid, entry: u8) -> u8
     ensures { result ≡ counted lid top entry }
 {
     if lid.number() == 0 || top < lid {

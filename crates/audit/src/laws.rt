@@ -1,5 +1,12 @@
 //! The laws of what tables do.
 ghost use Rattle.audit.specs.Fabrics.{FabricsAreJudged, PacketsEndAsTold, PlansPass};
+ghost use Rattle.audit.specs.Steps.{EndsAreFound};
+
+/// After as many steps as there are usable switches a packet has ended, or goes round for ever: it has one end, and that
+/// is where it is then.
+pub fn ends_are_found()
+    ensures law { EndsAreFound }
+{}
 
 /// In each fabric that is as the facts say and holds the tables, a packet for a LID that an end port sends is
 /// delivered at the port where `Network::ends` says that it ends, and lost where it says that it ends at none.

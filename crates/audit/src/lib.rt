@@ -5,6 +5,7 @@ mod arrival;
 mod blocks;
 mod column;
 mod end;
+mod entry;
 mod far;
 pub mod laws;
 mod network;

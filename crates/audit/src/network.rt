@@ -4,12 +4,13 @@ ghost use Rattle.fact_store.specs.View.{cells_of};
 ghost use Rattle.subnet_view.specs.EndPorts.{end_ports};
 ghost use Rattle.subnet_view.specs.Reading.{switches};
 ghost use Rattle.audit.specs.Exits.{exits_of};
-ghost use Rattle.audit.specs.Steps.{AreBlocks, AreBrought};
+ghost use Rattle.audit.specs.Steps.{AreBlocks, AreBrought, entry_by};
 ghost use Rattle.audit.specs.Tables.{is_same_end};
 
 use crate::blocks::blocks;
 use crate::column::{brought, exits, owners_of, steps};
 use crate::end::End;
+use crate::entry::entry_for;
 use crate::far::{Source, sources};
 use crate::node::{Node, nodes};
 use crate::walks::ends;
@@ -19,7 +20,7 @@ use port_graph::Exit;
 use smp_bytes::{Guid, Lid};
 use std::alloc::{AllocError, Global};
 use std::marker::Model;
-use subnet_view::{EndPort, Wires, end_ports, switches};
+use subnet_view::{EndPort, Wires, end_ports, is_usable, switches};
 
 /// What a view says of a subnet, with the forwarding tables that its switches hold.
 #[derive(Drop)]
@@ -149,6 +150,17 @@ impl<'a> Network<'a> {
         ensures { result.now ≡ self.now.held.lids }
     {
         self.held.lids()
+    }
+
+    /// The entry by which a usable switch forwards packets for a LID, where 255 is none; None for another node. Takes
+    /// two searches, a walk over the switches that are held and one over their blocks.
+    pub fn entry(&self, node: Guid, lid: Lid) -> Option<u8>
+        ensures { result ≡ entry_by (cells_of self.now.facts) self.now.held node lid }
+    {
+        if !is_usable(self.store, node) {
+            return None;
+        }
+        Some(entry_for(self.held, node, lid))
     }
 
     /// The end port at a place, in their order. Takes one step.

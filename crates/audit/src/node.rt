@@ -62,7 +62,7 @@ fn node_at(
 }
 
 /// The place of a switch among those that are held. Takes a walk.
-fn place_of(held: &Held, guid: Guid) -> Option<usize>
+pub(crate) fn place_of(held: &Held, guid: Guid) -> Option<usize>
     ensures { result ≡ place_of held.now guid }
 {
     held.switches()
@@ -71,7 +71,7 @@ fn place_of(held: &Held, guid: Guid) -> Option<usize>
 }
 
 /// The top of the switch at a place, and 0 where there is none.
-fn top_at(held: &Held, place: Option<usize>) -> Lid
+pub(crate) fn top_at(held: &Held, place: Option<usize>) -> Lid
     ensures { result ≡ top_at held.now place }
 {
     let Some(place) = place else {

@@ -4,7 +4,7 @@ use Rattle.std.specs.Option.{option_map_or}
 use Rattle.smp_bytes.specs.declared.cable.NodePort.{NodePort}
 use Rattle.smp_bytes.specs.Fabric.{Fabric, is_switch_at}
 use Rattle.attr_codec.specs.declared.port_state.PortState.TheVariants.{Down}
-use Rattle.node_agents.specs.Agent.{Agent, IsAgent, node_of, state_at, base_lid_at, entry_at, has_seat}
+use Rattle.node_agents.specs.Agent.{Agent, IsAgent, node_of, state_at, base_lid_at, lmc_at, entry_at, has_seat}
 use Rattle.fabric_sim.specs.declared.flight.Place.{Place}
 use Rattle.fabric_sim.specs.declared.flight.Place.TheVariants.{Seat, Arrived, Made}
 use Rattle.fabric_sim.specs.declared.flight.Flight.{Flight}
@@ -54,6 +54,7 @@ fabric_of s =
       nodes = map node_of s.agents;
       across = across s.peers;
       base_lid = λ p. option_map_or (λ a. base_lid_at a p.port) (agent_at s p.node) 0;
+      lmc = λ p. option_map_or (λ a. lmc_at a p.port) (agent_at s p.node) 0;
       entry = λ place lid. option_map_or (λ a. entry_at a lid) (agent_at s place) 255;
       top = λ place. option_map_or (λ a. a.top) (agent_at s place) 0;
     }

@@ -10,14 +10,17 @@ use Rattle.clap.specs.declared.parser.matches.ArgMatches.{ArgMatches}
 use Rattle.sm_cli.specs.declared.run.Command.{Command}
 use Rattle.sm_cli.specs.declared.run.Output.{Output}
 use Rattle.sm_cli.specs.declared.run.Output.TheVariants.{Facts, Join, Plan}
+use Rattle.sm_cli.specs.declared.run.RuleKind.{RuleKind}
+use Rattle.sm_cli.specs.declared.run.RuleKind.TheVariants.{UpDown, Spread}
 use Rattle.ibsm.specs.declared.opener.OpenFault.{OpenFault}
+use Rattle.ibsm.specs.Audits.{AuditsFiles}
 use Rattle.ibsm.specs.Ending.{AnswersFiles, RunsFiles}
 
 -- the subcommand that asks for an output
 abbrev pub word_of : Output → List ℕ
 word_of Facts = codes "facts"
 word_of Join = codes "join"
-word_of Plan = codes "plan"
+word_of (Plan lmc kind) = codes "plan"
 
 -- the values of the argument with this name
 abbrev pub values_in : List ℕ → List Row → Option (List (List ℕ))
@@ -36,12 +39,41 @@ abbrev pub IsFloor : Option (List ℕ) → ℕ → Type 0
 IsFloor None floor = floor ≡ 1
 IsFloor (Some word) floor = floor ≡ digits_value 10 (without_leading_plus word)
 
+-- the LMC is the number that the word writes in decimal; without a word it is 0
+abbrev pub IsLmc : Option (List ℕ) → ℕ → Type 0
+IsLmc None lmc = lmc ≡ 0
+IsLmc (Some word) lmc = lmc ≡ digits_value 10 (without_leading_plus word)
+
+-- so is that of a plan
+abbrev pub HasLmc : Option (List ℕ) → Output → Type 0
+HasLmc word Facts = Unit {0}
+HasLmc word Join = Unit {0}
+HasLmc word (Plan lmc kind) = IsLmc word lmc
+
+-- the word that names a rule of routing
+abbrev pub rule_word : RuleKind → List ℕ
+rule_word UpDown = codes "updown"
+rule_word Spread = codes "spread"
+
+-- the rule is the one that the word names; without a word it is up and down
+abbrev pub IsRule : Option (List ℕ) → RuleKind → Type 0
+IsRule None kind = kind ≡ UpDown
+IsRule (Some word) kind = word ≡ rule_word kind
+
+-- a plan goes by that rule
+abbrev pub HasRule : Option (List ℕ) → Output → Type 0
+HasRule word Facts = Unit {0}
+HasRule word Join = Unit {0}
+HasRule word (Plan lmc kind) = IsRule word kind
+
 -- the words ask for a command, and the files that they name were read and answered
 pub record AnswersWords {S : Type 0} (answers : List ℕ → Result S OpenFault → Type 0) (left : S → Option (List ℕ)) (has_failed : S → Bool)
     (matches : ArgMatches) (written written' : Option (List ℕ)) : Type 0 where
   pub command : Command
   pub asked : subcommand_name_of matches ≡ Some (word_of command.output)
   pub floor : IsFloor (word_named (codes "floor") matches) command.floor
+  pub lmc : HasLmc (word_named (codes "lmc") matches) command.output
+  pub rule : HasRule (word_named (codes "routing") matches) command.output
   pub names : List (Bor (List ℕ))
   pub named : files_named matches ≡ Some (map (λ name. name.now) names)
   pub answered : AnswersFiles answers left has_failed command names written written'
@@ -54,4 +86,18 @@ pub record RunsWords {S : Type 0} (answers : List ℕ → Result S OpenFault →
   pub schedule : Bor (List ℕ)
   pub topology_named : word_named (codes "TOPOLOGY") matches ≡ Some topology.now
   pub schedule_named : word_named (codes "SCHEDULE") matches ≡ Some schedule.now
-  pub run : RunsFiles answers left has_failed (topology ∷ schedule ∷ []) prints
+  pub lmc : ℕ
+  pub lmc_asked : IsLmc (word_named (codes "lmc") matches) lmc
+  pub run : RunsFiles answers left has_failed (topology ∷ schedule ∷ []) lmc prints
+
+-- the words ask for an audit, and the tables and the files that they name were read, and how packets fare was written
+pub record AuditsWords {S : Type 0} (answers : List ℕ → Result S OpenFault → Type 0) (left : S → Option (List ℕ)) (has_failed : S → Bool)
+    (matches : ArgMatches) (written written' : Option (List ℕ)) (passed : Bool) : Type 0 where
+  pub asked : subcommand_name_of matches ≡ Some (codes "audit")
+  pub floor : ℕ
+  pub floor_asked : IsFloor (word_named (codes "floor") matches) floor
+  pub tables : Bor (List ℕ)
+  pub tables_named : word_named (codes "TABLES") matches ≡ Some tables.now
+  pub names : List (Bor (List ℕ))
+  pub named : files_named matches ≡ Some (map (λ name. name.now) names)
+  pub audited : AuditsFiles answers left has_failed floor tables names written written' passed

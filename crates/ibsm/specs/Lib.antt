@@ -1,3 +1,4 @@
 pub mod Asked
+pub mod Audits
 pub mod Ending
 pub mod Opening

@@ -11,14 +11,28 @@ pub(crate) const JOIN: &str = "join";
 /// The subcommand that prints the plan.
 pub(crate) const PLAN: &str = "plan";
 
+/// The subcommand that audits tables.
+pub(crate) const AUDIT: &str = "audit";
+
 /// The subcommand that runs a schedule.
 pub(crate) const RUN: &str = "run";
 
 /// The files of a subcommand.
 pub(crate) const FILE: &str = "FILE";
 
+/// The text of tables.
+pub(crate) const TABLES: &str = "TABLES";
+
 /// The generation before which nothing counts.
 pub(crate) const FLOOR: &str = "floor";
+
+/// The LMC of the plans.
+pub(crate) const LMC: &str = "lmc";
+
+/// The rule of routing that a plan goes by.
+pub(crate) const ROUTING: &str = "routing";
+
+const RULES: [&str; 2] = ["updown", "spread"];
 
 /// The text of a fabric, and the text of what is run in it.
 pub(crate) const TOPOLOGY: &str = "TOPOLOGY";
@@ -33,6 +47,7 @@ pub(crate) fn command_line<'a>(alloc: Global) -> Result<Command<'a>, AllocError>
         .subcommand(facts(alloc)?)?
         .subcommand(join(alloc)?)?
         .subcommand(plan(alloc)?)?
+        .subcommand(audit(alloc)?)?
         .subcommand(run(alloc)?)
 }
 
@@ -66,6 +81,22 @@ fn plan<'a>(alloc: Global) -> Result<Command<'a>, AllocError> {
             "Prints the LIDs and the forwarding blocks that follow from the facts of all the files",
         )
         .arg(files(alloc))?
+        .arg(floor(alloc))?
+        .arg(lmc(alloc))?
+        .arg(routing(alloc))
+}
+
+fn audit<'a>(alloc: Global) -> Result<Command<'a>, AllocError> {
+    Command::new(alloc, AUDIT)
+        .about(
+            "Prints how packets fare by the tables that switches hold, in the subnet of the facts of all the files",
+        )
+        .arg(text(
+            alloc,
+            TABLES,
+            "The LIDs that ports hold and the forwarding tables of switches, as plan prints them",
+        ))?
+        .arg(files(alloc))?
         .arg(floor(alloc))
 }
 
@@ -83,7 +114,8 @@ fn run<'a>(alloc: Global) -> Result<Command<'a>, AllocError> {
             alloc,
             SCHEDULE,
             "The managers and the commands that are run",
-        ))
+        ))?
+        .arg(lmc(alloc))
 }
 
 /// A file of its own.
@@ -101,6 +133,28 @@ fn floor<'a>(alloc: Global) -> Arg<'a> {
         .value_name("G")
         .help("Forgets what is older than generation G, 1 to 4294967295")
         .value_parser(value_parser!(u32).range(1..))
+        .action(ArgAction::Set)
+}
+
+/// An LMC.
+fn lmc<'a>(alloc: Global) -> Arg<'a> {
+    Arg::new(alloc, LMC)
+        .long(LMC)
+        .value_name("N")
+        .help("Plans 2^N LIDs for each adapter port, N from 0, the default, to 7")
+        .value_parser(value_parser!(u8).range(0..=7))
+        .action(ArgAction::Set)
+}
+
+/// A rule of routing.
+fn routing<'a>(alloc: Global) -> Arg<'a> {
+    Arg::new(alloc, ROUTING)
+        .long(ROUTING)
+        .value_name("RULE")
+        .help(
+            "updown leads packets by one root of each component, and is what is taken where none is named; spread leads them over all wires, so that none is much busier than others",
+        )
+        .value_parser(RULES.as_slice())
         .action(ArgAction::Set)
 }
 

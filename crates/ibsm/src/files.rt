@@ -7,6 +7,7 @@ ghost use Rattle.ibsm.specs.Ending.{fault_line, name_of};
 ghost use Rattle.ibsm.specs.Opening.{AreOpened, IsOpenFault};
 
 use crate::opener::{OpenFault, Opener};
+use attr_codec::Lmc;
 use record_file::{Sink, ToWrite};
 use sm_cli::{Command, ExitStatus, Fault, run_files, write_fault};
 use sm_run::run_schedule;
@@ -44,11 +45,12 @@ where
     }
 }
 
-/// Runs a schedule in the fabric of a topology, and says on `errors` why it cannot. The names are those of the topology and
+/// Runs a schedule in the fabric of a topology, and says on `errors` why it cannot. Managers plan by the LMC. The names are those of the topology and
 /// of the schedule.
 pub(crate) fn run_or_explain<R, O, E>(
     rt: &R,
     names: &[&str],
+    lmc: Lmc,
     output: &mut ToWrite<O>,
     errors: &mut ToWrite<E>,
 ) -> ExitStatus
@@ -58,44 +60,44 @@ where
     E: Write,
     requires { length names.now ≡ 2 }
     ensures done { result ≡ ExitStatus.Done → RunsFiles (R.answers rt.now)
-        R.Opened.left R.Opened.has_failed names.now
+        R.Opened.left R.Opened.has_failed names.now lmc
         (Prints ⟦<ToWrite<O> as Sink>⟧.written ⟦<ToWrite<O> as Sink>⟧.has_failed output.old output.new) }
     ensures flushed { result ≡ ExitStatus.Done → IsTrue (⟦<ToWrite<O> as Sink>⟧.is_flushed output.new) }
     ensures silent { result ≡ ExitStatus.Done → errors.new ≡ errors.old }
     ensures says_why { (result ≡ ExitStatus.Done) ⊎ SaysWhy names.now
         (IsRunsFault (R.answers rt.now) R.Opened.left R.Opened.has_failed R.Opened.interruptions
-        names.now (PrintsSome ⟦<ToWrite<O> as Sink>⟧.written ⟦<ToWrite<O> as Sink>⟧.has_failed output.old output.new)
+        names.now lmc (PrintsSome ⟦<ToWrite<O> as Sink>⟧.written ⟦<ToWrite<O> as Sink>⟧.has_failed output.old output.new)
         (⟦<ToWrite<O> as Sink>⟧.has_failed output.new))
         result (⟦<ToWrite<E> as Sink>⟧.written errors.old)
         (⟦<ToWrite<E> as Sink>⟧.written errors.new) (⟦<ToWrite<E> as Sink>⟧.has_failed errors.new) }
     ensures nothing_written { (result ≡ ExitStatus.Refused) → (output.new ≡ output.old) }
 {
-    if let Err(fault) = run(rt, names, output) {
+    if let Err(fault) = run(rt, names, lmc, output) {
         return say(errors, names, &fault);
     }
     ExitStatus::Done
 }
 
 /// Runs the schedule of the second file in the fabric of the first one.
-fn run<R, O>(rt: &R, names: &[&str], output: &mut ToWrite<O>) -> Result<(), Fault>
+fn run<R, O>(rt: &R, names: &[&str], lmc: Lmc, output: &mut ToWrite<O>) -> Result<(), Fault>
 where
     R: Opener + AllocGlobal,
     O: Write,
     requires { length names.now ≡ 2 }
     ensures done { OnOk result (RunsFiles (R.answers rt.now)
-        R.Opened.left R.Opened.has_failed names.now
+        R.Opened.left R.Opened.has_failed names.now lmc
         (Prints ⟦<ToWrite<O> as Sink>⟧.written ⟦<ToWrite<O> as Sink>⟧.has_failed output.old output.new)) }
     ensures flushed { OnOk result (IsTrue (⟦<ToWrite<O> as Sink>⟧.is_flushed output.new)) }
     ensures refused { IfErr result (IsRunsFault (R.answers rt.now)
         R.Opened.left R.Opened.has_failed R.Opened.interruptions
-        names.now (PrintsSome ⟦<ToWrite<O> as Sink>⟧.written ⟦<ToWrite<O> as Sink>⟧.has_failed output.old output.new)
+        names.now lmc (PrintsSome ⟦<ToWrite<O> as Sink>⟧.written ⟦<ToWrite<O> as Sink>⟧.has_failed output.old output.new)
         (⟦<ToWrite<O> as Sink>⟧.has_failed output.new)) }
     ensures nothing_written { OnErr result ((result ≡ Err Fault.Write) ⊎ (result ≡ Err Fault.Memory) ⊎ (output.new ≡ output.old)) }
 {
     match open_all(rt, names) {
         Ok(mut files) => {
             let (topology, schedule) = files.split_at_mut(1);
-            run_schedule(rt.alloc(), &mut topology[0], &mut schedule[0], output)
+            run_schedule(rt.alloc(), &mut topology[0], &mut schedule[0], lmc, output)
         }
         Err(fault) => Err(fault),
     }
@@ -138,7 +140,7 @@ where
 
 /// Opens the files with these names, in their order. Where memory is wanting the names behind are
 /// still asked for: one that is missing counts first.
-fn open_all<R>(rt: &R, names: &[&str]) -> Result<Vec<R::Opened>, Fault>
+pub(crate) fn open_all<R>(rt: &R, names: &[&str]) -> Result<Vec<R::Opened>, Fault>
 where
     R: Opener + AllocGlobal,
     ensures opened { IfOk result (λ files. AreOpened (R.answers rt.now) names.now files.items) }

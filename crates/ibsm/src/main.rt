@@ -2,6 +2,7 @@
 #![tactic(auto)]
 
 mod arguments;
+mod audits;
 mod files;
 mod opener;
 mod run;

@@ -1,17 +1,22 @@
 //! One run of the program.
-ghost use Rattle.std.specs.Prelude.{◌≡◌, ◌⊎◌, Some, IfSome, IsSome, codes, map, length, slice_get};
+ghost use Rattle.std.specs.Prelude.{◌≡◌, ◌⊎◌, Some, IfSome, IsSome, codes, map, length, slice_get, false, true};
 ghost use Rattle.clap.specs.Matches.{subcommand_name_of};
 ghost use Rattle.clap.specs.Matches.{first_value, found_of};
 ghost use Rattle.sm_run.specs.Prints.{Prints};
-ghost use Rattle.ibsm.specs.Asked.{AnswersWords, IsFloor, RunsWords, files_named, word_named, word_of};
+ghost use Rattle.ibsm.specs.Asked.{AnswersWords, AuditsWords, HasLmc, HasRule, IsFloor, IsLmc, IsRule, RunsWords, files_named, word_named, word_of};
 
-use crate::arguments::{FACTS, FILE, FLOOR, JOIN, PLAN, RUN, SCHEDULE, TOPOLOGY, command_line};
+use crate::arguments::{
+    AUDIT, FACTS, FILE, FLOOR, JOIN, LMC, PLAN, ROUTING, RUN, SCHEDULE, TABLES, TOPOLOGY,
+    command_line,
+};
+use crate::audits::audit_or_explain;
 use crate::files::{answer_or_explain, run_or_explain, say};
 use crate::opener::Opener;
+use attr_codec::Lmc;
 use clap::error::ErrorKind;
 use clap::{ArgMatches, Error};
 use record_file::{Sink, ToWrite};
-use sm_cli::{Command, ExitStatus, Fault, Output};
+use sm_cli::{Command, ExitStatus, Fault, Output, RuleKind};
 use smp_bytes::Generation;
 use std::alloc::AllocError;
 use std::io::{BufWriter, Write};
@@ -76,10 +81,18 @@ where
         → RunsWords (R.answers rt.now) R.Opened.left R.Opened.has_failed matches.now
         (Prints ⟦<ToWrite<O> as Sink>⟧.written ⟦<ToWrite<O> as Sink>⟧.has_failed output.old output.new)
         ⊎ AnswersWords (R.answers rt.now) R.Opened.left R.Opened.has_failed matches.now
-        (⟦<ToWrite<O> as Sink>⟧.written output.old) (⟦<ToWrite<O> as Sink>⟧.written output.new) }
+        (⟦<ToWrite<O> as Sink>⟧.written output.old) (⟦<ToWrite<O> as Sink>⟧.written output.new)
+        ⊎ AuditsWords (R.answers rt.now) R.Opened.left R.Opened.has_failed matches.now
+        (⟦<ToWrite<O> as Sink>⟧.written output.old) (⟦<ToWrite<O> as Sink>⟧.written output.new) true }
+    ensures failed { result ≡ ExitStatus.Failed
+        → AuditsWords (R.answers rt.now) R.Opened.left R.Opened.has_failed matches.now
+        (⟦<ToWrite<O> as Sink>⟧.written output.old) (⟦<ToWrite<O> as Sink>⟧.written output.new) false }
 {
-    if let Some((topology, schedule)) = run_asked(matches) {
-        return run_or_explain(rt, &[topology, schedule], output, errors);
+    if let Some((topology, schedule, lmc)) = run_asked(matches) {
+        return run_or_explain(rt, &[topology, schedule], lmc, output, errors);
+    }
+    if let Some((tables, floor, names)) = audit_asked(matches) {
+        return audit_or_explain(rt, floor, tables, names, output, errors);
     }
     match asked(matches) {
         Some((command, names)) => answer_or_explain(rt, command, names, output, errors),
@@ -91,17 +104,28 @@ where
 pub(crate) fn asked<'m, 'a>(matches: &'m ArgMatches<'a>) -> Option<(Command, &'m [&'a str])>
     ensures command { IfSome result (λ asked. subcommand_name_of matches.now ≡ Some (word_of asked.0.output)) }
     ensures floor { IfSome result (λ asked. IsFloor (word_named (codes "floor") matches.now) asked.0.floor) }
+    ensures lmc { IfSome result (λ asked. HasLmc (word_named (codes "lmc") matches.now) asked.0.output) }
+    ensures rule { IfSome result (λ asked. HasRule (word_named (codes "routing") matches.now) asked.0.output) }
     ensures files { IfSome result (λ asked. files_named matches.now ≡ Some (map (λ n. n.now) asked.1.now)) }
 {
     let (name, words) = matches.subcommand()?;
-    let output = match name {
-        FACTS => Output::Facts,
-        JOIN => Output::Join,
-        PLAN => Output::Plan,
-        _ => return None,
-    };
+    let output = output_of(name, words)?;
     let floor = floor_of(words)?;
     Some((Command { output, floor }, words.get_strs(FILE)?))
+}
+
+/// What the subcommand of a name, with these words behind it, is to write.
+fn output_of(name: &str, words: &ArgMatches<'_>) -> Option<Output>
+    ensures name { IfSome result (λ output. name.now ≡ word_of output) }
+    ensures lmc { IfSome result (HasLmc (first_value (found_of words.now) (codes "lmc"))) }
+    ensures rule { IfSome result (HasRule (first_value (found_of words.now) (codes "routing"))) }
+{
+    match name {
+        FACTS => Some(Output::Facts),
+        JOIN => Some(Output::Join),
+        PLAN => Some(Output::Plan(lmc_of(words)?, rule_of(words)?)),
+        _ => None,
+    }
 }
 
 /// The floor that the words behind a subcommand ask for, 1 where they ask for none.
@@ -115,18 +139,61 @@ fn floor_of(words: &ArgMatches<'_>) -> Option<Generation>
     Generation::new(number)
 }
 
-/// The names of the topology and of the schedule that the words of the command line ask to be run.
-pub(crate) fn run_asked<'a>(matches: &ArgMatches<'a>) -> Option<(&'a str, &'a str)>
+/// The LMC that the words behind a subcommand ask for, 0 where they ask for none.
+fn lmc_of(words: &ArgMatches<'_>) -> Option<Lmc>
+    ensures { IfSome result (IsLmc (first_value (found_of words.now) (codes "lmc"))) }
+{
+    let number = match words.get_str(LMC) {
+        Some(text) => text.parse::<u8>().ok()?,
+        None => 0,
+    };
+    Lmc::new(number)
+}
+
+/// The rule of routing that the words behind a subcommand ask for, up and down where they ask for none.
+fn rule_of(words: &ArgMatches<'_>) -> Option<RuleKind>
+    ensures { IfSome result (IsRule (first_value (found_of words.now) (codes "routing"))) }
+{
+    match words.get_str(ROUTING) {
+        None => Some(RuleKind::UpDown),
+        Some("updown") => Some(RuleKind::UpDown),
+        Some("spread") => Some(RuleKind::Spread),
+        Some(_) => None,
+    }
+}
+
+/// The names of the topology and of the schedule that the words of the command line ask to be run, and the LMC.
+pub(crate) fn run_asked<'a>(matches: &ArgMatches<'a>) -> Option<(&'a str, &'a str, Lmc)>
     ensures command { IsSome result → subcommand_name_of matches.now ≡ Some (codes "run") }
     ensures topology { IfSome result (λ names. word_named (codes "TOPOLOGY") matches.now ≡ Some names.0.now) }
     ensures schedule { IfSome result (λ names. word_named (codes "SCHEDULE") matches.now ≡ Some names.1.now) }
+    ensures lmc { IfSome result (λ names. IsLmc (word_named (codes "lmc") matches.now) names.2) }
 {
     let (name, words) = matches.subcommand()?;
-    if name == RUN {
-        Some((words.get_str(TOPOLOGY)?, words.get_str(SCHEDULE)?))
-    } else {
-        None
+    if name != RUN {
+        return None;
     }
+    let topology = words.get_str(TOPOLOGY)?;
+    let lmc = lmc_of(words)?;
+    Some((topology, words.get_str(SCHEDULE)?, lmc))
+}
+
+/// The tables, the floor and the files that the words of the command line ask to be audited.
+pub(crate) fn audit_asked<'m, 'a>(
+    matches: &'m ArgMatches<'a>,
+) -> Option<(&'a str, Generation, &'m [&'a str])>
+    ensures command { IsSome result → subcommand_name_of matches.now ≡ Some (codes "audit") }
+    ensures tables { IfSome result (λ asked. word_named (codes "TABLES") matches.now ≡ Some asked.0.now) }
+    ensures floor { IfSome result (λ asked. IsFloor (word_named (codes "floor") matches.now) asked.1) }
+    ensures files { IfSome result (λ asked. files_named matches.now ≡ Some (map (λ n. n.now) asked.2.now)) }
+{
+    let (name, words) = matches.subcommand()?;
+    if name != AUDIT {
+        return None;
+    }
+    let tables = words.get_str(TABLES)?;
+    let floor = floor_of(words)?;
+    Some((tables, floor, words.get_strs(FILE)?))
 }
 
 /// Prints help on standard output, and what is wrong with the command line on standard error.

@@ -47,15 +47,15 @@ module _ (homes : ℕ → Option (ℕ × ℕ)) (next : Next) (count g : ℕ) whe
 
 -- there is a block exactly of a usable switch, up to that of the greatest LID
 pub blocks_are_of_switches : BlocksAreOfSwitches
-blocks_are_of_switches rule facts g b =
+blocks_are_of_switches rule lmc facts g b =
     let cells = cells_of facts in
-    let homes = home_of_lid cells (lids cells) in
+    let homes = home_of_lid cells (lids lmc cells) in
     let next = rule.next in
-    let count = block_count (top_of (lids cells)) in
+    let count = block_count (top_of (lids lmc cells)) in
     let at = option_and_then (λ (table : SwitchTable). slice_get table.blocks b) in
-    let P : Option (List ℕ) → Type 0 = λ o. MatchOption o (¬ (HasBlock cells g b)) (λ x. HasBlock cells g b × (x ≡ block_of rule cells g b)) in
+    let P : Option (List ℕ) → Type 0 = λ o. MatchOption o (¬ (HasBlock lmc cells g b)) (λ x. HasBlock lmc cells g b × (x ≡ block_of rule lmc cells g b)) in
     let switch = (switches_law facts).0 g in
-    elim (is_usable cells g) as (λ t. is_usable cells g ≡ t → P (block_at (plan_by rule cells) g b)) [
+    elim (is_usable cells g) as (λ t. is_usable cells g ≡ t → P (block_at (plan_by rule lmc cells) g b)) [
       | true ↦ λ u.
           let usable = (usable_law cells g).0 u in
           let it = ap at (table_of_switch homes next count g (switches cells) (switch.1 usable)) in

@@ -78,19 +78,19 @@ module _ (f : Fabric) (lid : ℕ) where
       ∙ ap (λ t. cond t (switch_goes f lid node p.node) (adapter_course (owns f p lid) (sent_from p))) kind
       ∙ ap (λ t. cond t (Delivers p) (LeavesBy p)) other
 
-module _ {rule : Routing} {cells : Cells} {f : Fabric} {origin : NodePort} {lid : ℕ} {owner : EndPort} (told : IsTold cells f origin)
-    (planned : IsPlanned rule cells f origin lid owner) where
+module _ {rule : Routing} {lmc : ℕ} {cells : Cells} {f : Fabric} {origin : NodePort} {lid : ℕ} {owner : EndPort} (told : IsTold cells f origin)
+    (planned : IsPlanned rule lmc cells f origin lid owner) where
   -- a switch of the part goes by the plan's entry
-  by_entry : {place g : ℕ} (p : ℕ) (start : Standing) → SwitchIn f origin place g → start.place.node ≡ place → entry_of rule cells g lid ≡ p
+  by_entry : {place g : ℕ} (p : ℕ) (start : Standing) → SwitchIn f origin place g → start.place.node ≡ place → entry_of rule lmc cells g lid ≡ p
       → (node : Node) × (slice_get f.nodes place ≡ Some node) × (course f lid start ≡ entry_course node.ports place p)
   by_entry {place = place} {g = g} p start s here entry =
-      let (top, top_is, below) = owned_to_top (lids cells) owner lid planned.owned in
+      let (top, top_is, below) = owned_to_top (lids lmc cells) owner lid planned.owned in
       let low : lid ≤ f.top place = omega (arith, below, (planned.held (port_at place 0) s.node (switch_in_part s)).top s.is_switch top top_is) in
-      let from_one = owned_from_one cells planned.are_lids lid owner planned.owned in
+      let from_one = owned_from_one lmc cells planned.are_lids lid owner planned.owned in
       let usable : is_usable cells s.node.guid ≡ true = ap (is_usable cells) s.guid ∙ switch_usable told s in
       let its_entry : f.entry place lid ≡ p =
-      held_entry rule (IsJoinedTo f origin) cells f planned.blocks planned.held (port_at place 0) s.node (switch_in_part s) usable lid top top_is below
-      ∙ ap (λ x. entry_of rule cells x lid) s.guid
+      held_entry rule (IsJoinedTo f origin) lmc cells f planned.blocks planned.held (port_at place 0) s.node (switch_in_part s) usable lid top top_is below
+      ∙ ap (λ x. entry_of rule lmc cells x lid) s.guid
       ∙ entry in
       let inside : (lid == 0 || nat_lt (f.top place) lid) ≡ false =
       or_from (lid == 0) (nat_lt (f.top place) lid) (ne_eqb lid 0 (λ e. omega (arith, e, from_one))) (le-ltb (f.top place) lid low) in (
@@ -104,7 +104,7 @@ module _ {rule : Routing} {cells : Cells} {f : Fabric} {origin : NodePort} {lid 
       )
 
   -- by entry 0 it is the packet's end
-  pub switch_takes : {place g : ℕ} (start : Standing) → SwitchIn f origin place g → start.place.node ≡ place → entry_of rule cells g lid ≡ 0
+  pub switch_takes : {place g : ℕ} (start : Standing) → SwitchIn f origin place g → start.place.node ≡ place → entry_of rule lmc cells g lid ≡ 0
       → course f lid start ≡ Delivers (port_at place 0)
   switch_takes {place = place} start s here entry =
       let (node, at, takes) = by_entry 0 start s here entry in
@@ -112,7 +112,7 @@ module _ {rule : Routing} {cells : Cells} {f : Fabric} {origin : NodePort} {lid 
 
   -- by the port of a wire the packet leaves
   pub switch_sends : {place g : ℕ} (p : ℕ) (start : Standing) (into : NodePort) → SwitchIn f origin place g → start.place.node ≡ place
-      → entry_of rule cells g lid ≡ p → f.across (port_at place p) ≡ Some into → course f lid start ≡ LeavesBy (port_at place p)
+      → entry_of rule lmc cells g lid ≡ p → f.across (port_at place p) ≡ Some into → course f lid start ≡ LeavesBy (port_at place p)
   switch_sends {place = place} p start into s here entry wire =
       let (node, at, goes) = by_entry p start s here entry in
       let (other, at_other, from_one, in_count) = told.is_fabric.cabled (port_at place p) into wire in
@@ -127,17 +127,17 @@ module _ {rule : Routing} {cells : Cells} {f : Fabric} {origin : NodePort} {lid 
   -- the owner's home is port q of switch t
   module _ {t q : ℕ} (home : home_of cells owner ≡ Some (t, q)) where
     -- elsewhere the entry is the next port
-    entry_on_way : (s p : ℕ) → (s == t) ≡ false → rule.next lid s t ≡ Some p → entry_of rule cells s lid ≡ p
+    entry_on_way : (s p : ℕ) → (s == t) ≡ false → rule.next lid s t ≡ Some p → entry_of rule lmc cells s lid ≡ p
     entry_on_way s p apart next =
-        entry_by_home rule cells s lid owner (t, q) planned.owned home
+        entry_by_home rule lmc cells s lid owner (t, q) planned.owned home
         ∙ ap (λ b. cond b q (unwrap_or (rule.next lid s t) 255))
         (false_from_ne_true (t == s) (λ e. cc (apart, eq-eqb s t (sym (eqb-true t s e)))))
         ∙ ap (λ o. unwrap_or o 255) next
 
     -- and there it is the home's port
-    pub entry_at_home : entry_of rule cells t lid ≡ q
+    pub entry_at_home : entry_of rule lmc cells t lid ≡ q
     entry_at_home =
-        entry_by_home rule cells t lid owner (t, q) planned.owned home
+        entry_by_home rule lmc cells t lid owner (t, q) planned.owned home
         ∙ ap (λ b. cond b q (unwrap_or (rule.next lid t t) 255)) (eq-eqb t t refl)
 
     -- along next ports the packet goes over the wires of the way

@@ -9,7 +9,7 @@ use Rattle.smp_bytes.specs.declared.cable.NodePort.{NodePort}
 use Rattle.smp_bytes.specs.declared.cable.Cable.{Cable}
 use Rattle.smp_bytes.specs.NodeType.{is_switch}
 use Rattle.smp_bytes.specs.Cables.{is_same_port, other_end}
-use Rattle.smp_bytes.specs.Fabric.{Node, Fabric, IsNodeAt, IsEndPortNumber}
+use Rattle.smp_bytes.specs.Fabric.{Node, Fabric, IsNodeAt, IsEndPortNumber, range_at}
 use Rattle.smp_bytes.proofs.FabricWalks.{port_at, same_port}
 use Rattle.fact_join.specs.declared.cell.Cell.{Cell}
 use Rattle.fact_join.specs.declared.cell.Cell.TheVariants.{Known, Disputed}
@@ -27,7 +27,7 @@ use Rattle.subnet_view.specs.Agreement.{Part, IsEndPortIn, HasEndPort, HasWire, 
 use Rattle.subnet_view.proofs.Members.{contains_cases, contains_none}
 use Rattle.subnet_view.proofs.Taken.{found_in}
 use Rattle.subnet_view.proofs.WireLaws.{wire_law}
-use Rattle.lid_assign.specs.Lids.{lids, lid_of, top_of}
+use Rattle.lid_assign.specs.Lids.{lids, range_of, top_of}
 use Rattle.updown_routes.specs.Graph.{graph_of}
 use Rattle.updown_routes.specs.Routing.{updown}
 use Rattle.lft_blocks.specs.Plan.{plan_of, block_at}
@@ -201,37 +201,37 @@ module _ (part : Part) (cells : Cells) (f : Fabric) (one : EachPlace (λ k n. Ha
 -- holding a plan, switch by switch -----------------------------------------------------------
 
 -- the entries of the plan that goes up and then down
-abbrev pub planned_entry : Cells → ℕ → ℕ → ℕ
-planned_entry cells g lid = entry_of (updown (graph_of cells)) cells g lid
+abbrev pub planned_entry : ℕ → Cells → ℕ → ℕ → ℕ
+planned_entry lmc cells g lid = entry_of (updown (graph_of cells)) lmc cells g lid
 
 -- a table whose entries are the plan's holds the plan's blocks
-blocks_held : (facts : Facts) (f : Fabric) (place g : ℕ) → ((lid : ℕ) → planned_entry (cells_of facts) g lid ≡ f.entry place lid)
-    → (b : ℕ) (block : List ℕ) → block_at (plan_of (cells_of facts)) g b ≡ Some block → HoldsBlock f place b block
-blocks_held facts f place g same b block there i h =
+blocks_held : (lmc : ℕ) (facts : Facts) (f : Fabric) (place g : ℕ) → ((lid : ℕ) → planned_entry lmc (cells_of facts) g lid ≡ f.entry place lid)
+    → (b : ℕ) (block : List ℕ) → block_at (plan_of lmc (cells_of facts)) g b ≡ Some block → HoldsBlock f place b block
+blocks_held lmc facts f place g same b block there i h =
     let cells = cells_of facts in
     let rule = updown (graph_of cells) in
-    let is : block ≡ block_of rule cells g b =
-    (subst (λ (o : Option (List ℕ)). MatchOption o (¬ (HasBlock cells g b)) (λ x. HasBlock cells g b × (x ≡ block_of rule cells g b))) there
-    (blocks_are_of_switches rule facts g b)).1 in
+    let is : block ≡ block_of rule lmc cells g b =
+    (subst (λ (o : Option (List ℕ)). MatchOption o (¬ (HasBlock lmc cells g b)) (λ x. HasBlock lmc cells g b × (x ≡ block_of rule lmc cells g b))) there
+    (blocks_are_of_switches rule lmc facts g b)).1 in
     ap (λ (xs : List ℕ). slice_get xs i) is
-    ∙ made_at (λ j. planned_entry cells g (64 * b + j)) 0 64 i h
+    ∙ made_at (λ j. planned_entry lmc cells g (64 * b + j)) 0 64 i h
     ∙ ap (λ (n : ℕ). Some n) (same (64 * b + (0 + i)) ∙ ap (f.entry place) (shift b i))
   where
     shift : (b i : ℕ) → 64 * b + (0 + i) ≡ 64 * b + i
     shift b i = omega arith
 
 -- the node at a place holds what the plan gives it
-pub record HasPlanned (cells : Cells) (f : Fabric) (k : ℕ) (n : Node) (p : ℕ) : Type 0 where
-  pub lid : lid_of (lids cells) (record { node = n.guid; port = p }) ≡ Some (f.base_lid (port_at k p))
-  pub top : is_switch n.kind ≡ true → top_of (lids cells) ≡ Some (f.top k)
-  pub table : (l : ℕ) → planned_entry cells n.guid l ≡ f.entry k l
+pub record HasPlanned (lmc : ℕ) (cells : Cells) (f : Fabric) (k : ℕ) (n : Node) (p : ℕ) : Type 0 where
+  pub range : range_of (lids lmc cells) (record { node = n.guid; port = p }) ≡ Some (range_at f (port_at k p))
+  pub top : is_switch n.kind ≡ true → top_of (lids lmc cells) ≡ Some (f.top k)
+  pub table : (l : ℕ) → planned_entry lmc cells n.guid l ≡ f.entry k l
 
-pub holding : (part : Part) (facts : Facts) (f : Fabric) → EachPlace (λ k n. HasOneEnd n) f.nodes
-    → EachPlace (λ k n. HasPlanned (cells_of facts) f k n (end_of n)) f.nodes → HoldsPlan part (plan_of (cells_of facts)) f
-holding part facts f one rows =
-    let row = end_cases part f one (HasPlanned (cells_of facts) f) rows in
+pub holding : (part : Part) (lmc : ℕ) (facts : Facts) (f : Fabric) → EachPlace (λ k n. HasOneEnd n) f.nodes
+    → EachPlace (λ k n. HasPlanned lmc (cells_of facts) f k n (end_of n)) f.nodes → HoldsPlan part (plan_of lmc (cells_of facts)) f
+holding part lmc facts f one rows =
+    let row = end_cases part f one (HasPlanned lmc (cells_of facts) f) rows in
     λ port node here. record {
-      lid = (row port node here).lid;
+      lids = (row port node here).range;
       top = λ e top is. let same : top ≡ f.top port.node = same_Some top (f.top port.node) (sym is ∙ (row port node here).top e) in omega (arith, same);
-      blocks = blocks_held facts f port.node node.guid (row port node here).table;
+      blocks = blocks_held lmc facts f port.node node.guid (row port node here).table;
     }

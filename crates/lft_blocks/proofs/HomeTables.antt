@@ -27,7 +27,7 @@ module _ (graph : List Crossing) (guids : List ℕ) (theirs : guids ≡ guids_of
   next = (updown graph).next
 
   -- places are told apart by their GUIDs
-  same_test : (i j : ℕ) → i < length guids → j < length guids → (i == j) ≡ (slice_index guids i == slice_index guids j)
+  pub same_test : (i j : ℕ) → i < length guids → j < length guids → (i == j) ≡ (slice_index guids i == slice_index guids j)
   same_test i j h k =
       both_ways (i == j) (slice_index guids i == slice_index guids j)
       (λ e. eq-eqb (slice_index guids i) (slice_index guids j) (ap (λ n. slice_index guids n) (eqb-true i j e)))

@@ -4,11 +4,13 @@ pub mod HomeSwitches
 pub mod PlacedHomes
 pub mod TableLookups
 pub mod HomeTables
+pub mod RowSteps
 pub mod Enumerated
 pub mod BlockOwners
 pub mod HeldEntries
 pub mod OwnerPorts
 pub mod Courses
+pub mod Rooms
 pub mod Routed
 pub mod Reached
 pub mod WholeFabrics

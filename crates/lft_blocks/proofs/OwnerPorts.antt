@@ -1,11 +1,12 @@
 -- The owner of a LID is a port of the part that has it; who has it is the owner; and facts know where it lies.
 use Rattle.std.proofs.Common.{◌≡◌, ◌≢◌, ◌↔◌, ℕ, List, sym, ap, ◌∙◌, subst, true, false, cond}
-use Rattle.std.proofs.lemmas.Bool.{and_left, eq-eqb, eqb-true}
+use Rattle.std.proofs.lemmas.Bool.{and_left}
 use Rattle.std.proofs.lemmas.Option.{same_Some}
-use Rattle.std.specs.Prelude.{None, Some, Contains, is_some, option_and_then, slice_get}
+use Rattle.std.specs.Prelude.{IsTrue, Option, None, Some, Contains, is_some, option_map, option_and_then, slice_get}
 use Rattle.smp_bytes.specs.declared.cable.NodePort.{NodePort}
-use Rattle.smp_bytes.specs.Fabric.{Node, Fabric, IsEndPort, is_switch_at, owns}
+use Rattle.smp_bytes.specs.Fabric.{Node, Fabric, IsEndPort, is_switch_at, range_at, owns}
 use Rattle.smp_bytes.specs.FabricWalks.{IsJoinedTo}
+use Rattle.smp_bytes.specs.LidRange.{has_lid}
 use Rattle.smp_bytes.proofs.FabricWalks.{same_port, type_at, adapter_vertex}
 use Rattle.subnet_view.specs.declared.end_port.EndPort.{EndPort}
 use Rattle.subnet_view.specs.Reading.{Cells, cap_of, is_switch_node, is_usable}
@@ -14,7 +15,7 @@ use Rattle.subnet_view.specs.Wires.{across, attached}
 use Rattle.subnet_view.specs.Agreement.{IsEndPortIn, IsPortNamed}
 use Rattle.subnet_view.proofs.Apart.{contains_map}
 use Rattle.subnet_view.proofs.WireLaws.{wire_law}
-use Rattle.lid_assign.specs.Lids.{lids, lid_of, owner_of, AreLids}
+use Rattle.lid_assign.specs.Lids.{lids, lid_of, lmc_of, owner_of, AreLids}
 use Rattle.lid_assign.proofs.Owners.{given-from_owner}
 use Rattle.updown_routes.specs.Routing.{Routing}
 use Rattle.updown_routes.proofs.PartWires.{IsTold, switch_at_place, switch_port, switch_known, switch_usable, known_type}
@@ -25,13 +26,14 @@ use Rattle.lft_blocks.specs.Arrival.{HoldsPlan}
 use Rattle.lft_blocks.proofs.HeldEntries.{HasBlocks}
 
 -- the LID has this owner in the plan, and the part holds the plan
-pub record IsPlanned (rule : Routing) (cells : Cells) (f : Fabric) (origin : NodePort) (lid : ℕ) (owner : EndPort) : Type 0 where
-  pub are_lids : AreLids cells (lids cells)
-  pub inverse : (e : EndPort) (n : ℕ) → (owner_of (lids cells) n ≡ Some e) ↔ (lid_of (lids cells) e ≡ Some n)
+pub record IsPlanned (rule : Routing) (lmc : ℕ) (cells : Cells) (f : Fabric) (origin : NodePort) (lid : ℕ) (owner : EndPort) : Type 0 where
+  pub are_lids : AreLids lmc cells (lids lmc cells).ports
+  pub inverse : (e : EndPort) (n : ℕ) → (owner_of (lids lmc cells) n ≡ Some e)
+      ↔ ((base : ℕ) × (lid_of (lids lmc cells) e ≡ Some base) × IsTrue (has_lid base (lmc_of (lids lmc cells) e) n))
   pub end_ports_listed : HasEndPorts cells (end_ports cells)
-  pub blocks : HasBlocks rule cells
-  pub held : HoldsPlan (IsJoinedTo f origin) (plan_by rule cells) f
-  pub owned : owner_of (lids cells) lid ≡ Some owner
+  pub blocks : HasBlocks rule lmc cells
+  pub held : HoldsPlan (IsJoinedTo f origin) (plan_by rule lmc cells) f
+  pub owned : owner_of (lids lmc cells) lid ≡ Some owner
 
 -- the port of the part that facts name so, and that has the LID
 pub record OwnerPort (f : Fabric) (origin : NodePort) (lid : ℕ) (owner : EndPort) : Type 0 where
@@ -40,6 +42,13 @@ pub record OwnerPort (f : Fabric) (origin : NodePort) (lid : ℕ) (owner : EndPo
   pub is_end : IsEndPort f port
   pub joined : IsJoinedTo f origin port
   pub own_lid : owns f port lid ≡ true
+
+-- a LID and an LMC that are given
+given_parts : (m : Option ℕ) (of base lmc : ℕ) → option_map {U = ℕ × ℕ} (λ lid. (lid, of)) m ≡ Some (base, lmc) → (m ≡ Some base) × (lmc ≡ of)
+given_parts None of base lmc e = absurd (cc)
+given_parts (Some lid) of base lmc e =
+    let same : (lid, of) ≡ (base, lmc) = same_Some (lid, of) (base, lmc) e in
+    (ap (λ (x : ℕ × ℕ). Some x.0) same, ap (λ (x : ℕ × ℕ). x.1) (sym same))
 
 name_is : (node : Node) (port : NodePort) (e : EndPort) → node.guid ≡ e.node → port.port ≡ e.port
     → ◌≡◌ {A = EndPort} (record { node = node.guid; port = port.port }) e
@@ -50,27 +59,33 @@ pub owner_in_part : {f : Fabric} {origin : NodePort} {lid : ℕ} {owner : EndPor
     → IsEndPortIn (IsJoinedTo f origin) f target.port target.named.node
 owner_in_part target = record { node_there = target.named.node_there; end_port = target.is_end; in_part = target.joined }
 
-module _ {rule : Routing} {cells : Cells} {f : Fabric} {origin : NodePort} {lid : ℕ} {owner : EndPort} (told : IsTold cells f origin)
-    (planned : IsPlanned rule cells f origin lid owner) where
+module _ {rule : Routing} {lmc : ℕ} {cells : Cells} {f : Fabric} {origin : NodePort} {lid : ℕ} {owner : EndPort} (told : IsTold cells f origin)
+    (planned : IsPlanned rule lmc cells f origin lid owner) where
   pub owner_port : OwnerPort f origin lid owner
   owner_port =
-      let given = contains_map (λ (x : EndPort × ℕ). x.0) (lids cells) (owner, lid) (given-from_owner (lids cells) owner lid planned.owned) in
+      let its = given-from_owner (lids lmc cells) owner lid planned.owned in
+      let given = contains_map (λ (x : EndPort × ℕ). x.0) (lids lmc cells).ports (owner, its.0) its.1 in
       let listed = subst (λ (es : List EndPort). Contains es owner) planned.are_lids.end_ports_in_order given in
       let it = told.agrees.end_ports_exist owner.node owner.port ((planned.end_ports_listed owner).0 listed) in
       let here : IsEndPortIn (IsJoinedTo f origin) f it.port it.named.node =
       record { node_there = it.named.node_there; end_port = it.end_port; in_part = it.in_part } in
-      let held_lid : Some lid ≡ Some (f.base_lid it.port) =
-      sym ((planned.inverse owner lid).0 planned.owned) ∙ ap (lid_of (lids cells)) (sym (name_is it.named.node it.port owner it.named.guid_is it.named.port_is))
-      ∙ (planned.held it.port it.named.node here).lid in
-      record { port = it.port; named = it.named; is_end = it.end_port; joined = it.in_part; own_lid = eq-eqb (f.base_lid it.port) lid (same_Some (f.base_lid it.port) lid (sym held_lid)) }
+      let name : EndPort = record { node = it.named.node.guid; port = it.port.port } in
+      let same : name ≡ owner = name_is it.named.node it.port owner it.named.guid_is it.named.port_is in
+      let parts = given_parts (lid_of (lids lmc cells) name) (lmc_of (lids lmc cells) name) (f.base_lid it.port) (f.lmc it.port)
+      (planned.held it.port it.named.node here).lids in
+      let has = (planned.inverse owner lid).0 planned.owned in
+      let base : has.0 ≡ f.base_lid it.port = same_Some has.0 (f.base_lid it.port) (sym has.1 ∙ ap (lid_of (lids lmc cells)) (sym same) ∙ parts.0) in
+      let lmc_is : lmc_of (lids lmc cells) owner ≡ f.lmc it.port = ap (lmc_of (lids lmc cells)) (sym same) ∙ sym parts.1 in
+      record { port = it.port; named = it.named; is_end = it.end_port; joined = it.in_part; own_lid = (λ i. has_lid (sym base i) (sym lmc_is i) lid) ∙ has.2 }
 
   -- an end port of the part that has the LID is the owner's
   pub lid_is_owners : (target : OwnerPort f origin lid owner) (v : NodePort) (node : Node) → IsEndPortIn (IsJoinedTo f origin) f v node
       → owns f v lid ≡ true → v ≡ target.port
   lid_is_owners target v node here own =
       let name : EndPort = record { node = node.guid; port = v.port } in
-      let owned_by_v : owner_of (lids cells) lid ≡ Some name = (planned.inverse name lid).1
-      ((planned.held v node here).lid ∙ ap (λ (n : ℕ). Some n) (eqb-true (f.base_lid v) lid own)) in
+      let parts = given_parts (lid_of (lids lmc cells) name) (lmc_of (lids lmc cells) name) (f.base_lid v) (f.lmc v) (planned.held v node here).lids in
+      let owned_by_v : owner_of (lids lmc cells) lid ≡ Some name = (planned.inverse name lid).1
+      (f.base_lid v, parts.0, ap (λ m. has_lid (f.base_lid v) m lid) (sym parts.1) ∙ own) in
       let same : name ≡ owner = same_Some name owner (sym owned_by_v ∙ planned.owned) in
       let guid : node.guid ≡ target.named.node.guid = ap (λ (e : EndPort). e.node) same ∙ sym target.named.guid_is in
       same_port v target.port (told.agrees.guids_distinct v target.port node target.named.node here (owner_in_part target) guid)

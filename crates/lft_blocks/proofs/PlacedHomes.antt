@@ -6,7 +6,7 @@ use Rattle.std.proofs.Math.Seq.{get_or-append_seam}
 use Rattle.std.specs.Prelude.{Option, None, Some, option_and_then, slice_index_or}
 use Rattle.subnet_view.specs.declared.end_port.EndPort.{EndPort}
 use Rattle.subnet_view.specs.Reading.{Cells}
-use Rattle.lid_assign.specs.Lids.{owner_of, top_of}
+use Rattle.lid_assign.specs.Lids.{Given, owner_of, top_of}
 use Rattle.lid_assign.proofs.Owners.{given-from_owner}
 use Rattle.lid_assign.proofs.Tops.{at_most_top}
 use Rattle.lft_blocks.specs.declared.home.Home.{Home}
@@ -14,12 +14,13 @@ use Rattle.lft_blocks.specs.Entries.{home_of, home_of_lid, block_count}
 use Rattle.lft_blocks.specs.Homes.{IsPlaced, ArePlaced}
 
 -- no LID behind the last block has an owner
-owner_past : (given : List (EndPort × ℕ)) (lid : ℕ) → 64 * block_count (top_of given) ≤ lid → owner_of given lid ≡ None
+owner_past : (given : Given) (lid : ℕ) → 64 * block_count (top_of given) ≤ lid → owner_of given lid ≡ None
 owner_past given lid h =
     elim (owner_of given lid) as (λ o. owner_of given lid ≡ o → o ≡ None) [
       | None ↦ λ e. refl
       | Some port ↦ λ e.
-          let t = at_most_top given port lid (given-from_owner given port lid e) in
+          let its = given-from_owner given port lid e in
+          let t = at_most_top given port its.0 lid its.1 its.2 in
           let count : block_count (top_of given) ≡ suc (t.0 / 64) = ap block_count t.1 in
           absurd (omega (arith, count, t.2))
     ] refl
@@ -44,7 +45,7 @@ placed_more guids homes n placed home below next =
     )
 
 -- and all
-pub placed_all : (cells : Cells) (guids : List ℕ) (given : List (EndPort × ℕ)) (count : ℕ) (placed : List (Option Home)) → count ≡ block_count (top_of given)
+pub placed_all : (cells : Cells) (guids : List ℕ) (given : Given) (count : ℕ) (placed : List (Option Home)) → count ≡ block_count (top_of given)
     → ArePlacedBelow guids (home_of_lid cells given) (64 * count) placed → ArePlaced guids (home_of_lid cells given) placed
 placed_all cells guids given count placed is below lid =
     elim (cases_lt lid (64 * count)) [

@@ -57,8 +57,8 @@ one_more : (t : Bool) (h : Hop) (hops : List Hop) → length (cond t (h ∷ hops
 one_more true h hops = omega arith
 one_more false h hops = omega arith
 
-module _ {rule : Routing} {cells : Cells} {f : Fabric} {origin : NodePort} {lid : ℕ} {owner : EndPort} (routing : IsRouting (graph_of cells) rule)
-    (told : IsTold cells f origin) (planned : IsPlanned rule cells f origin lid owner) (target : OwnerPort f origin lid owner) where
+module _ {rule : Routing} {lmc : ℕ} {cells : Cells} {f : Fabric} {origin : NodePort} {lid : ℕ} {owner : EndPort} (routing : IsRouting (graph_of cells) rule)
+    (told : IsTold cells f origin) (planned : IsPlanned rule lmc cells f origin lid owner) (target : OwnerPort f origin lid owner) where
   abbrev Delivery : NodePort → Type 0
   Delivery source = (hops : List Hop) × IsDelivered f lid source hops target.port × IsRoutedWay rule f source hops
 
@@ -104,7 +104,7 @@ module _ {rule : Routing} {cells : Cells} {f : Fabric} {origin : NodePort} {lid 
       place_is : last.place.node ≡ k.node
       place_is = one_place told there home.there
 
-      entry : entry_of rule cells b lid ≡ k.port
+      entry : entry_of rule lmc cells b lid ≡ k.port
       entry = entry_at_home told planned (owner_home told planned target home)
 
       to_port : LiesAt f target.port k → Ended f lid last target.port
@@ -222,16 +222,16 @@ module _ {rule : Routing} {cells : Cells} {f : Fabric} {origin : NodePort} {lid 
 
 -- where the plan by a rule of routing is in force, every packet arrives
 pub packets_arrive_by_each_routing : PacketsArriveByEachRouting
-packets_arrive_by_each_routing facts rule routing has_room f origin is_origin in_force source is_end j lid owner owned =
+packets_arrive_by_each_routing lmc facts rule routing has_room f origin is_origin in_force source is_end j lid owner owned =
     let cells = cells_of facts in
     let told : IsTold cells f origin =
     record { is_fabric = in_force.is_fabric; agrees = in_force.agrees; is_graph = graph_law facts; listed = usable_switch facts } in
-    let planned : IsPlanned rule cells f origin lid owner =
+    let planned : IsPlanned rule lmc cells f origin lid owner =
     record {
-      are_lids = lids_law facts has_room;
-      inverse = owners_are_inverse facts has_room;
+      are_lids = lids_law lmc facts has_room;
+      inverse = owners_are_inverse lmc facts has_room;
       end_ports_listed = (end_ports_law facts).0;
-      blocks = planned_block rule facts;
+      blocks = planned_block rule lmc facts;
       held = in_force.holds;
       owned = owned;
     } in
@@ -240,7 +240,7 @@ packets_arrive_by_each_routing facts rule routing has_room f origin is_origin in
     record { target = target.port; is_owner = target.named; in_part = target.joined; hops = d.0; delivered = d.1; way = d.2 }
 
 -- so it does up and down
-pub every_packet_arrives : (facts : Facts) → ¬ (IsNoRoom (cells_of facts)) → EveryPacketArrives (cells_of facts) (plan_of (cells_of facts))
-every_packet_arrives facts has_room =
+pub every_packet_arrives : (lmc : ℕ) (facts : Facts) → ¬ (IsNoRoom lmc (cells_of facts)) → EveryPacketArrives (cells_of facts) (plan_of lmc (cells_of facts))
+every_packet_arrives lmc facts has_room =
     let graph = graph_of (cells_of facts) in
-    packets_arrive_by_each_routing facts (updown graph) (updown_is_routing graph (graph_law facts)) has_room
+    packets_arrive_by_each_routing lmc facts (updown graph) (updown_is_routing graph (graph_law facts)) has_room

@@ -24,8 +24,8 @@ module _ (x y : Facts) (same : (key : Key) → is_claim key ≡ false → cell_f
   home_same : (e : EndPort) → home_of (cells_of x) e ≡ home_of (cells_of y) e
   home_same e = λ i. cond (usable_same x y same e.node i) (Some (e.node, 0)) (attached_same x y same e.node e.port i)
 
-  plan_same : lids (cells_of x) ≡ lids (cells_of y) → plan_of (cells_of x) ≡ plan_of (cells_of y)
-  plan_same given =
+  plan_same : (lmc : ℕ) → lids lmc (cells_of x) ≡ lids lmc (cells_of y) → plan_of lmc (cells_of x) ≡ plan_of lmc (cells_of y)
+  plan_same lmc given =
       λ i. record {
         given = given i;
         tables = tables_of (λ lid. option_and_then (λ e. home_same e i) (owner_of (given i) lid)) (updown (graph_same i)).next (block_count (top_of (given i))) (switches_same x y same i);
@@ -33,6 +33,6 @@ module _ (x y : Facts) (same : (key : Key) → is_claim key ≡ false → cell_f
 
 -- once the LIDs of a view are claimed, its plan stays
 pub plans_stay : PlansStay
-plans_stay x y room claims =
-    let l = lids_settle x y room claims in
-    (l.0, sym (plan_same x y (same_but_claims x y claims.same) (sym l.1)))
+plans_stay lmc x y room claims =
+    let l = lids_settle lmc x y room claims in
+    (l.0, sym (plan_same x y (same_but_claims x y claims.same) lmc (sym l.1)))

@@ -1,4 +1,4 @@
--- A small fabric that holds the plan of the facts that tell of it: three switches in a triangle, with an adapter on the second and on the third.
+-- A small fabric that holds the plan of the facts that tell of it, with LMC 1: three switches in a triangle, with an adapter on the second and on the third.
 use Rattle.std.proofs.Common.{◌≡◌, ℕ, suc, true, List, [], ◌∷◌, ◌++◌, map}
 use Rattle.std.specs.Prelude.{slice_index_or}
 use Rattle.smp_bytes.specs.declared.cable.Cable.{Cable}
@@ -30,12 +30,12 @@ cable n p m q = record { one = port_at n p; other = port_at m q }
 abbrev pub cables : List Cable
 cables = cable 0 1 1 1 ∷ cable 0 2 2 1 ∷ cable 1 2 2 2 ∷ cable 1 3 3 1 ∷ cable 2 3 4 1 ∷ []
 
--- what each switch's table has for the LIDs from 0 to 5; it has 255 for all others
+-- what each switch's table has for the LIDs from 0 to 7, of which each adapter has two; it has 255 for all others
 abbrev pub tables : List (List ℕ)
 tables =
-    (255 ∷ 0 ∷ 1 ∷ 2 ∷ 1 ∷ 2 ∷ [])
-    ∷ (255 ∷ 1 ∷ 0 ∷ 2 ∷ 3 ∷ 2 ∷ [])
-    ∷ (255 ∷ 1 ∷ 2 ∷ 0 ∷ 2 ∷ 3 ∷ [])
+    (255 ∷ 0 ∷ 1 ∷ 2 ∷ 1 ∷ 1 ∷ 2 ∷ 2 ∷ [])
+    ∷ (255 ∷ 1 ∷ 0 ∷ 2 ∷ 3 ∷ 3 ∷ 2 ∷ 2 ∷ [])
+    ∷ (255 ∷ 1 ∷ 2 ∷ 0 ∷ 2 ∷ 2 ∷ 3 ∷ 3 ∷ [])
     ∷ []
 
 abbrev pub triangle : Fabric
@@ -43,9 +43,10 @@ triangle =
     record {
       nodes = switch 16 ∷ switch 32 ∷ switch 48 ∷ adapter 256 ∷ adapter 512 ∷ [];
       across = other_end cables;
-      base_lid = λ p. suc p.node;
+      base_lid = λ p. slice_index_or (1 ∷ 2 ∷ 3 ∷ 4 ∷ 6 ∷ []) p.node 0;
+      lmc = λ p. slice_index_or (0 ∷ 0 ∷ 0 ∷ 1 ∷ 1 ∷ []) p.node 0;
       entry = λ n lid. slice_index_or (slice_index_or tables n []) lid 255;
-      top = λ n. 5;
+      top = λ n. 7;
     }
 
 -- the facts -------------------------------------------------------------------------------------

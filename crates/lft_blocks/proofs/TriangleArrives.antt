@@ -206,67 +206,70 @@ module _ (part : Part) (all : (v : NodePort) → IsEndPort triangle v → part v
 
 -- the plan is held ------------------------------------------------------------------------------
 
--- nobody has a LID above 5
-entry_past : (g lid : ℕ) → 6 ≤ lid → planned_entry cells g lid ≡ 255
+-- nobody has a LID above 7
+entry_past : (g lid : ℕ) → 8 ≤ lid → planned_entry 1 cells g lid ≡ 255
 entry_past g lid past =
-    elim (owner_of (lids cells) lid) as
-    (λ o. owner_of (lids cells) lid ≡ o → option_map_or (port_to (updown (graph_of cells)).next lid g) (option_and_then (home_of cells) o) 255 ≡ 255) [
+    elim (owner_of (lids 1 cells) lid) as
+    (λ o. owner_of (lids 1 cells) lid ≡ o → option_map_or (port_to (updown (graph_of cells)).next lid g) (option_and_then (home_of cells) o) 255 ≡ 255) [
       | None ↦ λ e. refl
-      | Some owner ↦ λ e. let (top, is, low) = owned_to_top (lids cells) owner lid e in absurd (omega (arith, low, same_Some top 5 (sym is)))
+      | Some owner ↦ λ e. let (top, is, low) = owned_to_top (lids 1 cells) owner lid e in absurd (omega (arith, low, same_Some top 7 (sym is)))
     ] refl
 
--- up to LID 5 by computing, and 255 from there on
-entries_are : (k g : ℕ) → planned_entry cells g 0 ≡ triangle.entry k 0 → planned_entry cells g 1 ≡ triangle.entry k 1 → planned_entry cells g 2 ≡ triangle.entry k 2
-    → planned_entry cells g 3 ≡ triangle.entry k 3 → planned_entry cells g 4 ≡ triangle.entry k 4 → planned_entry cells g 5 ≡ triangle.entry k 5
-    → length (slice_index_or tables k []) ≤ 6
-    → (lid : ℕ) → planned_entry cells g lid ≡ triangle.entry k lid
-entries_are k g a b c d e f short zero = a
-entries_are k g a b c d e f short (suc zero) = b
-entries_are k g a b c d e f short (suc (suc zero)) = c
-entries_are k g a b c d e f short (suc (suc (suc zero))) = d
-entries_are k g a b c d e f short (suc (suc (suc (suc zero)))) = e
-entries_are k g a b c d e f short (suc (suc (suc (suc (suc zero))))) = f
-entries_are k g a b c d e f short (suc (suc (suc (suc (suc (suc n)))))) =
-    let lid = suc (suc (suc (suc (suc (suc n))))) in
+-- up to LID 7 by computing, and 255 from there on
+entries_are : (k g : ℕ) → planned_entry 1 cells g 0 ≡ triangle.entry k 0 → planned_entry 1 cells g 1 ≡ triangle.entry k 1 → planned_entry 1 cells g 2 ≡ triangle.entry k 2
+    → planned_entry 1 cells g 3 ≡ triangle.entry k 3 → planned_entry 1 cells g 4 ≡ triangle.entry k 4 → planned_entry 1 cells g 5 ≡ triangle.entry k 5
+    → planned_entry 1 cells g 6 ≡ triangle.entry k 6 → planned_entry 1 cells g 7 ≡ triangle.entry k 7
+    → length (slice_index_or tables k []) ≤ 8
+    → (lid : ℕ) → planned_entry 1 cells g lid ≡ triangle.entry k lid
+entries_are k g a b c d e f x y short zero = a
+entries_are k g a b c d e f x y short (suc zero) = b
+entries_are k g a b c d e f x y short (suc (suc zero)) = c
+entries_are k g a b c d e f x y short (suc (suc (suc zero))) = d
+entries_are k g a b c d e f x y short (suc (suc (suc (suc zero)))) = e
+entries_are k g a b c d e f x y short (suc (suc (suc (suc (suc zero))))) = f
+entries_are k g a b c d e f x y short (suc (suc (suc (suc (suc (suc zero)))))) = x
+entries_are k g a b c d e f x y short (suc (suc (suc (suc (suc (suc (suc zero))))))) = y
+entries_are k g a b c d e f x y short (suc (suc (suc (suc (suc (suc (suc (suc n)))))))) =
+    let lid = suc (suc (suc (suc (suc (suc (suc (suc n))))))) in
     entry_past g lid (omega arith) ∙ sym (get_or_past (slice_index_or tables k []) lid 255 (omega (arith, short)))
 
 -- each node's LID, top and table
-rows : EachPlace (λ k n. HasPlanned cells triangle k n (end_of n)) triangle.nodes
+rows : EachPlace (λ k n. HasPlanned 1 cells triangle k n (end_of n)) triangle.nodes
 rows =
-    next (record { lid = refl; top = λ e. refl; table = entries_are 0 16 refl refl refl refl refl refl (omega arith) })
-    (next (record { lid = refl; top = λ e. refl; table = entries_are 1 32 refl refl refl refl refl refl (omega arith) })
-    (next (record { lid = refl; top = λ e. refl; table = entries_are 2 48 refl refl refl refl refl refl (omega arith) })
-    (next (record { lid = refl; top = λ e. absurd (cc); table = entries_are 3 256 refl refl refl refl refl refl (omega arith) })
-    (next (record { lid = refl; top = λ e. absurd (cc); table = entries_are 4 512 refl refl refl refl refl refl (omega arith) }) tt))))
+    next (record { range = refl; top = λ e. refl; table = entries_are 0 16 refl refl refl refl refl refl refl refl (omega arith) })
+    (next (record { range = refl; top = λ e. refl; table = entries_are 1 32 refl refl refl refl refl refl refl refl (omega arith) })
+    (next (record { range = refl; top = λ e. refl; table = entries_are 2 48 refl refl refl refl refl refl refl refl (omega arith) })
+    (next (record { range = refl; top = λ e. absurd (cc); table = entries_are 3 256 refl refl refl refl refl refl refl refl (omega arith) })
+    (next (record { range = refl; top = λ e. absurd (cc); table = entries_are 4 512 refl refl refl refl refl refl refl refl (omega arith) }) tt))))
 
-has_room : ¬ (IsNoRoom cells)
-has_room (some, none) = let k : 1024 ≤ 5 = none in omega (arith, k)
+has_room : ¬ (IsNoRoom 1 cells)
+has_room none = cc
 
 module _ (part : Part) (all : (v : NodePort) → IsEndPort triangle v → part v) where
-  in_force : IsInForce part (cells_of facts) (plan_of (cells_of facts)) triangle
+  in_force : IsInForce part (cells_of facts) (plan_of 1 (cells_of facts)) triangle
   in_force =
       record {
         is_fabric = is_fabric;
         agrees = subst (λ (c : Cells). AgreesOn part c triangle) (sym facts_have) (agrees part all);
-        holds = holding part facts triangle one_end
-            (subst (λ (c : Cells). EachPlace (λ k n. HasPlanned c triangle k n (end_of n)) triangle.nodes) (sym facts_have) rows);
+        holds = holding part 1 facts triangle one_end
+            (subst (λ (c : Cells). EachPlace (λ k n. HasPlanned 1 c triangle k n (end_of n)) triangle.nodes) (sym facts_have) rows);
       }
 
-facts_have_room : ¬ (IsNoRoom (cells_of facts))
-facts_have_room = subst (λ (c : Cells). ¬ (IsNoRoom c)) (sym facts_have) has_room
+facts_have_room : ¬ (IsNoRoom 1 (cells_of facts))
+facts_have_room = subst (λ (c : Cells). ¬ (IsNoRoom 1 c)) (sym facts_have) has_room
 
-second_owns : owner_of (plan_of (cells_of facts)).given 5 ≡ Some (record { node = 512; port = 1 })
-second_owns = subst (λ (c : Cells). owner_of (lids c) 5 ≡ Some (record { node = 512; port = 1 })) (sym facts_have) refl
+second_owns : owner_of (plan_of 1 (cells_of facts)).given 7 ≡ Some (record { node = 512; port = 1 })
+second_owns = subst (λ (c : Cells). owner_of (lids 1 c) 7 ≡ Some (record { node = 512; port = 1 })) (sym facts_have) refl
 
--- the packet for LID 5 from the first adapter arrives at the second, in what the first is joined to
-pub arrives : Arrives (IsJoinedTo triangle (port_at 3 1)) (cells_of facts) triangle 5 (port_at 3 1) (record { node = 512; port = 1 })
+-- the packet for LID 7, its second one, from the first adapter arrives at the second, in what the first is joined to
+pub arrives : Arrives (IsJoinedTo triangle (port_at 3 1)) (cells_of facts) triangle 7 (port_at 3 1) (record { node = 512; port = 1 })
 arrives =
-    every_packet_arrives facts facts_have_room triangle (port_at 3 1) of_first
+    every_packet_arrives 1 facts facts_have_room triangle (port_at 3 1) of_first
     (in_force (IsJoinedTo triangle (port_at 3 1)) (λ v end. is_connected (port_at 3 1) v of_first end))
-    (port_at 3 1) of_first (0, refl) 5 (record { node = 512; port = 1 }) second_owns
+    (port_at 3 1) of_first (0, refl) 7 (record { node = 512; port = 1 }) second_owns
 
 -- and in the whole, since it is connected
-pub arrives_in_whole : Arrives WholeFabric (cells_of facts) triangle 5 (port_at 3 1) (record { node = 512; port = 1 })
+pub arrives_in_whole : Arrives WholeFabric (cells_of facts) triangle 7 (port_at 3 1) (record { node = 512; port = 1 })
 arrives_in_whole =
-    packets_arrive_if_connected facts facts_have_room triangle is_connected (in_force WholeFabric (λ v end. tt))
-    (port_at 3 1) of_first 5 (record { node = 512; port = 1 }) second_owns
+    packets_arrive_if_connected 1 facts facts_have_room triangle is_connected (in_force WholeFabric (λ v end. tt))
+    (port_at 3 1) of_first 7 (record { node = 512; port = 1 }) second_owns

@@ -6,14 +6,14 @@ use Rattle.std.specs.Option.{option_map_or}
 use Rattle.std.specs.List.Sorted.{IsStrictlyIncreasing}
 use Rattle.smp_bytes.specs.declared.cable.NodePort.{NodePort}
 use Rattle.smp_bytes.specs.NodeType.{is_switch}
-use Rattle.smp_bytes.specs.Fabric.{Node, Fabric, IsFabric, IsEndPort, is_switch_at}
+use Rattle.smp_bytes.specs.Fabric.{Node, Fabric, IsFabric, IsEndPort, is_switch_at, range_at}
 use Rattle.smp_bytes.specs.FabricWalks.{IsJoinedTo, IsConnected}
 use Rattle.smp_bytes.specs.Forwarding.{Hop, IsDelivered}
 use Rattle.fact_store.specs.View.{Facts, cells_of}
 use Rattle.subnet_view.specs.declared.end_port.EndPort.{EndPort}
 use Rattle.subnet_view.specs.Reading.{Cells}
 use Rattle.subnet_view.specs.Agreement.{Part, WholeFabric, IsEndPortIn, IsPortNamed, AgreesOn}
-use Rattle.lid_assign.specs.Lids.{IsNoRoom, lid_of, owner_of, top_of}
+use Rattle.lid_assign.specs.Lids.{IsNoRoom, range_of, owner_of, top_of}
 use Rattle.updown_routes.specs.Graph.{graph_of}
 use Rattle.updown_routes.specs.Routing.{Routing, IsRouting, updown}
 use Rattle.lft_blocks.specs.Plan.{PlanValue, plan_by, plan_of, block_at}
@@ -22,9 +22,9 @@ use Rattle.lft_blocks.specs.Plan.{PlanValue, plan_by, plan_of, block_at}
 abbrev pub HoldsBlock : Fabric → ℕ → ℕ → List ℕ → Type 0
 HoldsBlock f place b block = (i : ℕ) → i < 64 → slice_get block i ≡ Some (f.entry place (64 * b + i))
 
--- an end port has its LID of the plan; a switch has the plan's greatest LID or a greater one as its top, and its blocks of the plan
+-- an end port has its LID and its LMC of the plan; a switch has the plan's greatest LID or a greater one as its top, and its blocks of the plan
 pub record HoldsPlanAt (plan : PlanValue) (f : Fabric) (port : NodePort) (node : Node) : Type 0 where
-  pub lid : lid_of plan.given (record { node = node.guid; port = port.port }) ≡ Some (f.base_lid port)
+  pub lids : range_of plan.given (record { node = node.guid; port = port.port }) ≡ Some (range_at f port)
   pub top : IsTrue (is_switch node.kind) → (top : ℕ) → top_of plan.given ≡ Some top → top ≤ f.top port.node
   pub blocks : (b : ℕ) (block : List ℕ) → block_at plan node.guid b ≡ Some block → HoldsBlock f port.node b block
 
@@ -97,8 +97,8 @@ EveryPacketArrivesBy rule cells plan = (f : Fabric) (origin : NodePort) → IsEn
 
 -- so it is with the plan of each view that has one, by whatever rule of routing
 abbrev pub PacketsArriveByEachRouting : Type 0
-PacketsArriveByEachRouting = (facts : Facts) (rule : Routing) → IsRouting (graph_of (cells_of facts)) rule → ¬ (IsNoRoom (cells_of facts))
-    → EveryPacketArrivesBy rule (cells_of facts) (plan_by rule (cells_of facts))
+PacketsArriveByEachRouting = (lmc : ℕ) (facts : Facts) (rule : Routing) → IsRouting (graph_of (cells_of facts)) rule → ¬ (IsNoRoom lmc (cells_of facts))
+    → EveryPacketArrivesBy rule (cells_of facts) (plan_by rule lmc (cells_of facts))
 
 -- by ways that go up and then down
 abbrev pub EveryPacketArrives : Cells → PlanValue → Type 0
@@ -112,4 +112,4 @@ EveryPacketArrivesIfConnected cells plan = (f : Fabric) → IsConnected f → Is
 
 -- so it is with the plan of each view that has one
 abbrev pub PacketsArriveIfConnected : Type 0
-PacketsArriveIfConnected = (facts : Facts) → ¬ (IsNoRoom (cells_of facts)) → EveryPacketArrivesIfConnected (cells_of facts) (plan_of (cells_of facts))
+PacketsArriveIfConnected = (lmc : ℕ) (facts : Facts) → ¬ (IsNoRoom lmc (cells_of facts)) → EveryPacketArrivesIfConnected (cells_of facts) (plan_of lmc (cells_of facts))

@@ -5,14 +5,14 @@ use Rattle.std.specs.List.{range_with_len}
 use Rattle.subnet_view.specs.declared.end_port.EndPort.{EndPort}
 use Rattle.subnet_view.specs.Reading.{Cells, is_usable}
 use Rattle.subnet_view.specs.Wires.{attached}
-use Rattle.lid_assign.specs.Lids.{owner_of}
+use Rattle.lid_assign.specs.Lids.{Given, owner_of}
 
 -- the usable switch and the port of it at which an end port lies: a switch's own port 0, or the port that an adapter port is wired to
 abbrev pub home_of : Cells → EndPort → Option (ℕ × ℕ)
 home_of cells e = if is_usable cells e.node then Some (e.node, 0) else attached cells e.node e.port
 
 -- the home of the end port that has a LID
-abbrev pub home_of_lid : Cells → List (EndPort × ℕ) → ℕ → Option (ℕ × ℕ)
+abbrev pub home_of_lid : Cells → Given → ℕ → Option (ℕ × ℕ)
 home_of_lid cells given lid = option_and_then (home_of cells) (owner_of given lid)
 
 -- the port by which a packet for a LID leaves a switch for another, where there is a way

@@ -4,4 +4,5 @@ pub mod PlanText
 pub mod PlanLaws
 pub mod Arrival
 pub mod Homes
+pub mod Rows
 pub mod WritesPart

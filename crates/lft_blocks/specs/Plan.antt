@@ -2,9 +2,8 @@
 use Rattle.std.specs.Prelude.{◌≡◌, ℕ, List, map, Option, ◌==◌, option_and_then, slice_get}
 use Rattle.std.specs.List.{find}
 use Rattle.std.specs.List.Sorted.{IsStrictlyIncreasing}
-use Rattle.subnet_view.specs.declared.end_port.EndPort.{EndPort}
 use Rattle.subnet_view.specs.Reading.{Cells, switches}
-use Rattle.lid_assign.specs.Lids.{lids, top_of}
+use Rattle.lid_assign.specs.Lids.{Given, lids, top_of}
 use Rattle.updown_routes.specs.Graph.{graph_of}
 use Rattle.updown_routes.specs.Routing.{Routing, updown}
 use Rattle.lft_blocks.specs.Entries.{Next, home_of_lid, block_count, blocks}
@@ -16,22 +15,22 @@ pub record SwitchTable : Type 0 where
 
 -- the end ports in their order with their LIDs, and the usable switches by rising GUID
 pub record PlanValue : Type 0 where
-  pub given : List (EndPort × ℕ)
+  pub given : Given
   pub tables : List SwitchTable
 
 -- the table of each of these switches
 abbrev pub tables_of : (ℕ → Option (ℕ × ℕ)) → Next → ℕ → List ℕ → List SwitchTable
 tables_of homes next count guids = map (λ s. record { guid = s; blocks = blocks homes next count s }) guids
 
--- the plan of a view by a rule of routing
-abbrev pub plan_by : Routing → Cells → PlanValue
-plan_by rule cells =
-    let given = lids cells in
+-- the plan of a view by a rule of routing and under an LMC
+abbrev pub plan_by : Routing → ℕ → Cells → PlanValue
+plan_by rule lmc cells =
+    let given = lids lmc cells in
     record { given = given; tables = tables_of (home_of_lid cells given) rule.next (block_count (top_of given)) (switches cells) }
 
 -- the plan of a view: up and then down
-abbrev pub plan_of : Cells → PlanValue
-plan_of cells = plan_by (updown (graph_of cells)) cells
+abbrev pub plan_of : ℕ → Cells → PlanValue
+plan_of lmc cells = plan_by (updown (graph_of cells)) lmc cells
 
 -- a block of a switch; none where the GUID is no usable switch's, or there is no such block
 abbrev pub block_at : PlanValue → ℕ → ℕ → Option (List ℕ)

@@ -11,12 +11,12 @@ use Rattle.lft_blocks.specs.Plan.{plan_by, plan_of, block_at}
 
 -- once the LIDs of a view are claimed, its plan stays
 abbrev pub PlansStay : Type 0
-PlansStay = (x y : Facts) → ¬ (IsNoRoom (cells_of x)) → IsClaimed x y → ¬ (IsNoRoom (cells_of y)) × (plan_of (cells_of y) ≡ plan_of (cells_of x))
+PlansStay = (lmc : ℕ) (x y : Facts) → ¬ (IsNoRoom lmc (cells_of x)) → IsClaimed lmc x y → ¬ (IsNoRoom lmc (cells_of y)) × (plan_of lmc (cells_of y) ≡ plan_of lmc (cells_of x))
 
 -- LIDs that are claimed stay in plans, whatever end ports come
 abbrev pub LidsStayInPlans : Type 0
-LidsStayInPlans = (x z : Facts) → ¬ (IsNoRoom (cells_of x)) → ¬ (IsNoRoom (cells_of z)) → GrowsFrom (cells_of x) (cells_of z)
-    → (e : EndPort) (lid : ℕ) → lid_of (plan_of (cells_of x)).given e ≡ Some lid → lid_of (plan_of (cells_of z)).given e ≡ Some lid
+LidsStayInPlans = (lmc : ℕ) (x z : Facts) → ¬ (IsNoRoom lmc (cells_of x)) → ¬ (IsNoRoom lmc (cells_of z)) → GrowsFrom lmc (cells_of x) (cells_of z)
+    → (e : EndPort) (lid : ℕ) → lid_of (plan_of lmc (cells_of x)).given e ≡ Some lid → lid_of (plan_of lmc (cells_of z)).given e ≡ Some lid
 
 -- block b has the entry for the LID 64 b + i at the place i
 abbrev pub BlocksHoldEntries : Type 0
@@ -24,15 +24,15 @@ BlocksHoldEntries = (homes : ℕ → Option (ℕ × ℕ)) (next : Next) (count s
     → slice_get (blocks homes next count s) b ≡ Some ports → i < 64 → slice_get ports i ≡ Some (entry homes next s (64 * b + i))
 
 -- the GUID is a usable switch's, and the greatest LID is in this block or a later one
-abbrev pub HasBlock : Cells → ℕ → ℕ → Type 0
-HasBlock cells g b = IsUsable cells g × (b < block_count (top_of (lids cells)))
+abbrev pub HasBlock : ℕ → Cells → ℕ → ℕ → Type 0
+HasBlock lmc cells g b = IsUsable cells g × (b < block_count (top_of (lids lmc cells)))
 
 -- block b of the switch g
-abbrev pub block_of : Routing → Cells → ℕ → ℕ → List ℕ
-block_of rule cells g b = block (home_of_lid cells (lids cells)) rule.next g b
+abbrev pub block_of : Routing → ℕ → Cells → ℕ → ℕ → List ℕ
+block_of rule lmc cells g b = block (home_of_lid cells (lids lmc cells)) rule.next g b
 
 -- a plan has just these blocks, by whatever rule
 abbrev pub BlocksAreOfSwitches : Type 0
-BlocksAreOfSwitches = (rule : Routing) (facts : Facts) (g b : ℕ)
-    → MatchOption (block_at (plan_by rule (cells_of facts)) g b) (¬ (HasBlock (cells_of facts) g b))
-    (λ x. HasBlock (cells_of facts) g b × (x ≡ block_of rule (cells_of facts) g b))
+BlocksAreOfSwitches = (rule : Routing) (lmc : ℕ) (facts : Facts) (g b : ℕ)
+    → MatchOption (block_at (plan_by rule lmc (cells_of facts)) g b) (¬ (HasBlock lmc (cells_of facts) g b))
+    (λ x. HasBlock lmc (cells_of facts) g b × (x ≡ block_of rule lmc (cells_of facts) g b))

@@ -1,23 +1,27 @@
 -- A plan as text.
-use Rattle.std.specs.Prelude.{ℕ, List, [], ◌++◌, codes, decimal}
+use Rattle.std.specs.Prelude.{ℕ, List, [], ◌++◌, ◌==◌, codes, decimal, if◌then◌else◌}
 use Rattle.std.specs.Option.{option_map_or}
 use Rattle.std.specs.List.{flat_map, enumerate_from}
 use Rattle.hex.specs.Hex.{encode_lower}
 use Rattle.smp_bytes.specs.Text.{guid_text, port_text}
 use Rattle.subnet_view.specs.declared.end_port.EndPort.{EndPort}
-use Rattle.lid_assign.specs.Lids.{owner_of, top_of, rising_lids}
+use Rattle.lid_assign.specs.Lids.{Given, owner_of, lmc_of, top_of, rising_lids}
 use Rattle.lft_blocks.specs.Plan.{SwitchTable, PlanValue}
 
--- the line of a LID
-abbrev pub lid_line : ℕ × EndPort → List ℕ
-lid_line x = codes "lid " ++ decimal x.0 ++ codes " " ++ port_text x.1.node x.1.port ++ codes "\n"
+-- what is said of an LMC: nothing of 0
+abbrev pub lmc_text : ℕ → List ℕ
+lmc_text lmc = if lmc == 0 then [] else codes " lmc " ++ decimal lmc
+
+-- the line of a LID, which an end port has with an LMC
+abbrev pub lid_line : ℕ × ℕ × EndPort → List ℕ
+lid_line x = codes "lid " ++ decimal x.0 ++ codes " " ++ port_text x.2.node x.2.port ++ lmc_text x.1 ++ codes "\n"
 
 -- the line of a LID, where an end port has it
-abbrev pub owner_line : List (EndPort × ℕ) → ℕ → List ℕ
-owner_line given lid = option_map_or (λ port. lid_line (lid, port)) (owner_of given lid) []
+abbrev pub owner_line : Given → ℕ → List ℕ
+owner_line given lid = option_map_or (λ port. lid_line (lid, lmc_of given port, port)) (owner_of given lid) []
 
 -- a line for each LID, rising
-abbrev pub lids_text : List (EndPort × ℕ) → List ℕ
+abbrev pub lids_text : Given → List ℕ
 lids_text given = flat_map (owner_line given) (rising_lids given)
 
 -- the line of a switch

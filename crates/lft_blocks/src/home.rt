@@ -1,4 +1,4 @@
-ghost use Rattle.std.specs.Prelude.{◌≡◌, ◌*◌, ◌≤◌, IfOk};
+ghost use Rattle.std.specs.Prelude.{◌≡◌, ◌*◌, ◌≤◌, IfOk, length};
 ghost use Rattle.fact_store.specs.View.{cells_of};
 ghost use Rattle.std.specs.List.Sorted.{IsStrictlyIncreasing};
 ghost use Rattle.subnet_view.specs.Reading.{switches};
@@ -32,8 +32,9 @@ pub(crate) fn homes(
     requires switches { guids.now ≡ switches (cells_of wires.now) }
     requires count { count ≡ block_count (top_of lids.now) }
     requires few { count ≤ 1024 }
-    ensures { IfOk result (λ homes.
+    ensures placed { IfOk result (λ homes.
         ArePlaced guids.now (home_of_lid (cells_of wires.now) lids.now) homes.items) }
+    ensures all { IfOk result (λ homes. length homes.items ≡ 64 * count) }
 {
     let mut homes = Vec::with_capacity(alloc, 64 * count)?;
     for lid in 0..64 * count {

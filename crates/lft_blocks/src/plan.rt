@@ -1,5 +1,6 @@
-ghost use Rattle.std.specs.Prelude.{◌≡◌, IfOk};
+ghost use Rattle.std.specs.Prelude.{◌≡◌, ◌≤◌, IfOk, length};
 ghost use Rattle.std.specs.Option.{option_copied};
+ghost use Rattle.std.specs.List.Sorted.{IsStrictlyIncreasing};
 ghost use Rattle.fact_store.specs.View.{cells_of};
 ghost use Rattle.smp_bytes.specs.Judges.{JudgesButFor};
 ghost use Rattle.lid_assign.specs.LidFault.{is_memory, lid_fault, no_room};
@@ -7,15 +8,21 @@ ghost use Rattle.lid_assign.specs.Lids.{top_of};
 ghost use Rattle.updown_routes.specs.Graph.{graph_of, guids_of};
 ghost use Rattle.updown_routes.specs.Routing.{updown};
 ghost use Rattle.lft_blocks.specs.Entries.{home_of_lid, block_count};
-ghost use Rattle.lft_blocks.specs.Arrival.{EveryPacketArrives};
-ghost use Rattle.lft_blocks.specs.Plan.{tables_of, plan_of, block_at, switches_of};
+ghost use Rattle.spread_rule.specs.Rules.{rule_of};
+ghost use Rattle.lft_blocks.specs.Arrival.{EveryPacketArrivesBy};
+ghost use Rattle.lft_blocks.specs.Homes.{AreWithin};
+ghost use Rattle.lft_blocks.specs.Rows.{placed_home};
+ghost use Rattle.lft_blocks.specs.Plan.{tables_of, plan_by, block_at, switches_of};
 
 use crate::block::block_count;
-use crate::home::{homes, index_of};
+use crate::home::{Home, homes, index_of};
+use crate::spread_table::spread_tables;
 use crate::table::{Table, tables};
+use attr_codec::Lmc;
 use fact_store::{Refused, Store};
 use lid_assign::{LidFault as PlanFault, LidMap, assign};
 use smp_bytes::{Guid, Lid};
+use spread_rule::Rule;
 use std::alloc::Global;
 use std::marker::Model;
 use subnet_view::Wires;
@@ -42,22 +49,24 @@ impl Model for Plan {
 }
 
 impl Plan {
-    /// The plan of a view. It is refused where there is no room for the LIDs. Takes what LIDs and routes take,
+    /// The plan of a view by a rule of routing, with 2^LMC LIDs for each adapter port. It is refused where there is no room for the LIDs. Takes what LIDs and routes take,
     /// some six searches for each LID, and two steps for each entry. It holds 64 bytes for each block of
     /// each switch, and beside them while it is made 2 for each two switches.
     ///
     /// # Errors
     ///
     /// `NoRoom`, and `Memory` where there is room.
-    pub fn of(alloc: Global, store: &Store) -> Result<Self, PlanFault>
-        ensures judged { JudgesButFor is_memory result (lid_fault (no_room (cells_of store.now))) }
-        ensures plan { IfOk result (λ plan. plan ≡ plan_of (cells_of store.now)) }
-        ensures arrives { IfOk result (λ plan. EveryPacketArrives (cells_of store.now) plan) }
+    pub fn of(alloc: Global, store: &Store, lmc: Lmc, rule: &Rule) -> Result<Self, PlanFault>
+        ensures judged { JudgesButFor is_memory result (lid_fault (no_room lmc (cells_of store.now))) }
+        ensures plan { IfOk result (λ plan.
+            plan ≡ plan_by (rule_of rule.now (cells_of store.now)) lmc (cells_of store.now)) }
+        ensures arrives { IfOk result (λ plan. EveryPacketArrivesBy
+            (rule_of rule.now (cells_of store.now)) (cells_of store.now) plan) }
     {
-        let lids = assign(alloc, store)?;
+        let lids = assign(alloc, store, lmc)?;
         let wires = Wires::of(alloc, store)?;
         let graph = Graph::of(alloc, &wires)?;
-        let tables = tables_of(alloc, &wires, &graph, &lids)?;
+        let tables = tables_of(alloc, &wires, &graph, &lids, rule)?;
         Ok(Plan {
             lids,
             switches: graph.into_switches(),
@@ -111,15 +120,37 @@ fn tables_of(
     wires: &Wires,
     graph: &Graph,
     lids: &LidMap,
+    rule: &Rule,
 ) -> Result<Vec<Table>, Refused>
     requires { graph.now ≡ graph_of (cells_of wires.now) }
     ensures { IfOk result (λ tables. tables.items
-        ≡ tables_of (home_of_lid (cells_of wires.now) lids.now) (updown graph.now).next
+        ≡ tables_of (home_of_lid (cells_of wires.now) lids.now)
+        (rule_of rule.now (cells_of wires.now)).next
         (block_count (top_of lids.now)) (guids_of graph.now)) }
 {
-    let routes = Routes::of(alloc, graph)?;
     let guids = graph.switches();
     let count = block_count(lids.top());
     let homes = homes(alloc, wires, guids, lids, count)?;
-    Ok(tables(alloc, &routes, &homes, guids, count)?)
+    match rule {
+        Rule::UpDown => Ok(updown_tables(alloc, graph, &homes, count)?),
+        Rule::Spread { roots } => Ok(spread_tables(alloc, wires, graph, &homes, roots, count)?),
+    }
+}
+
+/// The same by routes that go up and then down.
+fn updown_tables(
+    alloc: Global,
+    graph: &Graph,
+    homes: &[Option<Home>],
+    count: usize,
+) -> Result<Vec<Table>, Refused>
+    requires rising { IsStrictlyIncreasing (guids_of graph.now) }
+    requires within { AreWithin (length (guids_of graph.now)) homes.now }
+    requires few { count ≤ 1024 }
+    ensures { IfOk result (λ tables. tables.items
+        ≡ tables_of (placed_home (guids_of graph.now) homes.now) (updown graph.now).next
+        count (guids_of graph.now)) }
+{
+    let routes = Routes::of(alloc, graph)?;
+    Ok(tables(alloc, &routes, homes, graph.switches(), count)?)
 }

@@ -5,11 +5,12 @@ ghost use Rattle.std.specs.List.{flat_map};
 ghost use Rattle.hex.specs.Hex.{encode_lower};
 ghost use Rattle.record_file.specs.Writes.{Writes};
 ghost use Rattle.lft_blocks.specs.WritesPart.{WritesPart};
-ghost use Rattle.lft_blocks.specs.PlanText.{lid_line, owner_line, lids_text, switch_line};
+ghost use Rattle.lft_blocks.specs.PlanText.{lmc_text, lid_line, owner_line, lids_text, switch_line};
 ghost use Rattle.lft_blocks.specs.PlanText.{block_line, blocks_text, table_text, tables_text, plan_text};
 
 use crate::plan::Plan;
 use crate::table::Table;
+use attr_codec::Lmc;
 use lid_assign::LidMap;
 use record_file::{Sink, WriteFault, write_guid, write_number, write_port};
 use smp_bytes::{Guid, Lid};
@@ -42,20 +43,35 @@ fn write_owner<W: Sink>(sink: &mut W, lids: &LidMap, lid: Lid) -> Result<(), Wri
     ensures { WritesPart W.written W.has_failed result sink.old sink.new (owner_line lids.now lid) }
 {
     match lids.owner(lid) {
-        Some(port) => write_lid(sink, lid, port),
+        Some(port) => {
+            let lmc = lids.lmc_of(&port);
+            write_lid(sink, lid, lmc, port)
+        }
         None => Ok(()),
     }
 }
 
-/// Writes the line of a LID: `lid`, the LID, and the end port that has it.
-pub fn write_lid<W: Sink>(sink: &mut W, lid: Lid, port: EndPort) -> Result<(), WriteFault>
-    ensures { Writes W.written W.has_failed result sink.old sink.new (lid_line (lid, port)) }
+/// Writes the line of a LID: `lid`, the LID, the end port that has it, and its LMC, unless that is 0.
+pub fn write_lid<W: Sink>(sink: &mut W, lid: Lid, lmc: Lmc, port: EndPort) -> Result<(), WriteFault>
+    ensures { Writes W.written W.has_failed result sink.old sink.new (lid_line (lid, lmc, port)) }
 {
     sink.write(b"lid ")?;
     write_number(sink, u64::from(lid.number()))?;
     sink.write(b" ")?;
     write_port(sink, port.node, port.port)?;
+    write_lmc(sink, lmc)?;
     sink.write(b"\n")
+}
+
+/// Writes an LMC, unless it is 0.
+fn write_lmc<W: Sink>(sink: &mut W, lmc: Lmc) -> Result<(), WriteFault>
+    ensures { WritesPart W.written W.has_failed result sink.old sink.new (lmc_text lmc) }
+{
+    if lmc.number() == 0 {
+        return Ok(());
+    }
+    sink.write(b" lmc ")?;
+    write_number(sink, u64::from(lmc.number()))
 }
 
 /// Writes the switches, where a LID is given.

@@ -27,6 +27,13 @@ impl Model for Table {
 }
 
 impl Table {
+    /// The table of a switch with these blocks.
+    pub(crate) fn new(guid: Guid, blocks: Vec<[u8; 64]>) -> Self
+        ensures { result ≡ record { guid = guid; blocks = blocks.items } }
+    {
+        Table { guid, blocks }
+    }
+
     /// The GUID of the switch.
     pub(crate) fn guid(&self) -> Guid
         ensures { result ≡ self.now.guid }

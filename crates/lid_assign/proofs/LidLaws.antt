@@ -1,130 +1,139 @@
 -- The LIDs of facts with room are as `AreLids` says.
-use Rattle.std.proofs.Common.{◌≡◌, ◌<◌, ◌≤◌, ◌-◌, ◌+◌, ℕ, zero, suc, List, [], ◌∷◌, ◌⊎◌, inl, inr, refl, sym, ap, ◌∙◌}
-use Rattle.std.proofs.Common.{subst, arith, Bool, true, not, map, length}
-use Rattle.std.proofs.lemmas.Bool.{eqb-true, eq-eqb, not-true, not_from_false, both_ways, cases_Bool, cases_lt}
-use Rattle.std.specs.Prelude.{Contains, Option, None, Some}
-use Rattle.std.specs.List.{list_any}
+use Rattle.std.proofs.Common.{◌≡◌, ◌<◌, ◌≤◌, ◌+◌, ℕ, List, [], ◌∷◌, ◌++◌, ◌⊎◌, inl, inr, refl, sym, ap, ◌∙◌, subst, true, not, map}
+use Rattle.std.proofs.lemmas.List.Elements.{Contains-append_left}
+use Rattle.std.specs.Prelude.{Contains, None, Some, is_some, unwrap_or, option_map}
+use Rattle.std.specs.List.{filter_map}
 use Rattle.subnet_view.specs.declared.end_port.EndPort.{EndPort}
 use Rattle.fact_store.specs.View.{Facts, cells_of}
 use Rattle.subnet_view.specs.Reading.{Cells}
 use Rattle.subnet_view.specs.EndPorts.{end_ports}
-use Rattle.lid_assign.specs.Lids.{count_up}
-use Rattle.subnet_view.proofs.Apart.{Apart, same_from_apart}
+use Rattle.subnet_view.proofs.Apart.{Apart}
 use Rattle.subnet_view.proofs.EndPorts.{end_ports_apart}
-use Rattle.subnet_view.proofs.Members.{contains_filter, contains-from_filter, list_any_true, list_any_at, contains_as}
-use Rattle.lid_assign.proofs.Rising.{Rising, apart-from_rising, rising-filter, within-count_up, contains-count_up, rising-count_up, length-count_up}
-use Rattle.lid_assign.specs.Lids.{room, with_kept, kept, keeps, free_lids, lids, IsNoRoom, Keeps, KeepsNothing, AreLids, LidsLaw}
-use Rattle.lid_assign.proofs.KeptClaims.{numbers, contains_numbers, kept_numbers_apart, kept_in_range, kept_from_keeps, keeps_from_kept}
-use Rattle.lid_assign.proofs.HandOut.{IsOther, given_from, kept_given, given_apart, given_rise, lesser_given}
-use Rattle.lid_assign.specs.Marks.{others}
-use Rattle.lid_assign.proofs.HandOut.{given_to_all, others_and_keepers, length-left}
+use Rattle.subnet_view.proofs.Members.{contains_in}
+use Rattle.subnet_view.proofs.Taken.{taken_from, is_taken}
+use Rattle.lid_assign.specs.Ranges.{width_of, Range, range_at, IsIn, Fits}
+use Rattle.lid_assign.specs.Lids.{room, kept, kept_range, handed_out, lids, IsNoRoom, Keeps, KeepsNothing, WasTaken, AreLids, LidsLaw}
+use Rattle.lid_assign.proofs.Ranges.{some_width, meets_at, common_number}
+use Rattle.lid_assign.proofs.KeptClaims.{Ports, kept_apart, kept_fits, kept_from_keeps, keeps_from_kept, ports-with_kept}
+use Rattle.lid_assign.proofs.HandOut.{Placed, numbers_of, IsOther, Hands, hands_from, hands_ports, given_from, kept_given, PairsApart, given_apart, same_from_pairs, lesser_met}
 
-keeps_is : (n : ℕ) (x : EndPort × Option ℕ) → keeps n x ≡ true → x.1 ≡ Some n
-keeps_is n (e, None) h = absurd (cc)
-keeps_is n (e, Some c) h = ap (λ m. Some m) (eqb-true c n h)
+-- ranges of claims that are kept ---------------------------------------------------------
 
--- the LIDs that nobody keeps -----------------------------------------------------------
+-- the ranges that these end ports keep
+abbrev pub ranges_of : ℕ → Ports → List Range
+ranges_of lmc ports = filter_map (kept_range lmc) ports
 
-abbrev is_free : Cells → ℕ → Bool
-is_free cells n = not (list_any (keeps n) (kept cells))
+module _ (lmc : ℕ) (ports : Ports) where
+  pub range_among : (e : EndPort) (c : ℕ) → Contains ports (e, Some c) → Contains (ranges_of lmc ports) (range_at lmc e c)
+  range_among e c h = is_taken (kept_range lmc) ports (e, Some c) (range_at lmc e c) h refl
 
-module _ (cells : Cells) where
-  pub not_kept-from_free : (n : ℕ) → Contains (free_lids cells) n → (e : EndPort) → Contains (kept cells) (e, Some n) → ⊥
-  not_kept-from_free n h e k =
-      let f = contains-from_filter (is_free cells) (count_up 1 (room cells - 1)) n h in
-      both_ways _ (not-true _ f.1) (list_any_true (keeps n) (kept cells) (e, Some n) k (eq-eqb n n refl))
-
-  pub in_range-from_free : (n : ℕ) → Contains (free_lids cells) n → (1 ≤ n) × (n < room cells)
-  in_range-from_free n h =
-      let f = contains-from_filter (is_free cells) (count_up 1 (room cells - 1)) n h in
-      let w = within-count_up 1 (room cells - 1) n f.0 in (w.0, omega arith)
-
-  pub kept_or_free : (n : ℕ) → 1 ≤ n → n < room cells → ((e : EndPort) × Contains (kept cells) (e, Some n)) ⊎ Contains (free_lids cells) n
-  kept_or_free n h k =
-      elim (cases_Bool (list_any (keeps n) (kept cells))) [
-        | inl a ↦
-            let x = list_any_at (keeps n) (kept cells) a in
-            inl (x.0.0, contains_as (kept cells) (λ l. (x.0.0, keeps_is n x.0 x.2 l)) x.1)
-        | inr a ↦
-            let all = count_up 1 (room cells - 1) in
-            inr (contains_filter (is_free cells) all n (contains-count_up 1 (room cells - 1) n h (omega arith)) (not_from_false _ a))
-      ]
-
-  pub free_rise : Rising (free_lids cells)
-  free_rise = rising-filter (is_free cells) (count_up 1 (room cells - 1)) (rising-count_up 1 (room cells - 1))
-
--- enough of them -------------------------------------------------------------------------
-
-pub ports-with_kept : (cells : Cells) (prior es : List EndPort) → map (λ x. x.0) (with_kept cells prior es) ≡ es
-ports-with_kept cells prior [] = refl
-ports-with_kept cells prior (e ∷ es) = ap (λ zs. e ∷ zs) (ports-with_kept cells (e ∷ prior) es)
-
-length-with_kept : (cells : Cells) (prior es : List EndPort) → length (with_kept cells prior es) ≡ length es
-length-with_kept cells prior [] = refl
-length-with_kept cells prior (e ∷ es) = ap suc (length-with_kept cells (e ∷ prior) es)
-
-fits : (os ks ports top free left : ℕ) → os + ks ≡ ports → (0 < ports → top ≤ ports → ⊥) → left ≡ top - 1 → left ≤ free + ks → os ≤ free
-fits os ks zero top free left e h k l = omega arith
-fits os ks (suc ports) top free left e h k l = elim (cases_lt (suc ports) top) [ inl m ↦ omega arith | inr m ↦ absurd (h (omega arith) m) ]
-
-module _ (cells : Cells) where
-  pub enough_free : ¬ (IsNoRoom cells) → others (kept cells) ≤ length (free_lids cells)
-  enough_free room_for_all =
-      let all = count_up 1 (room cells - 1) in
-      fits (others (kept cells)) (length (numbers (kept cells))) (length (end_ports cells)) (room cells) (length (free_lids cells)) (length all)
-      (others_and_keepers (kept cells) ∙ length-with_kept cells [] (end_ports cells)) (λ a b. room_for_all (a, b)) (length-count_up 1 (room cells - 1))
-      (length-left (kept cells) all (apart-from_rising all (rising-count_up 1 (room cells - 1))))
-
-  pub ports-lids : ¬ (IsNoRoom cells) → map (λ x. x.0) (lids cells) ≡ end_ports cells
-  ports-lids room_for_all = given_to_all (kept cells) (free_lids cells) (enough_free room_for_all) ∙ ports-with_kept cells [] (end_ports cells)
+  pub among_ranges : (r : Range) → Contains (ranges_of lmc ports) r → (e : EndPort) × (c : ℕ) × Contains ports (e, Some c) × (r ≡ range_at lmc e c)
+  among_ranges r h =
+      let x = taken_from (kept_range lmc) ports r h in
+      elim x.0.1 as (λ o. Contains ports (x.0.0, o) → option_map (range_at lmc x.0.0) o ≡ Some r → (e : EndPort) × (c : ℕ) × Contains ports (e, Some c) × (r ≡ range_at lmc e c)) [
+        | None ↦ λ k e. absurd (cc)
+        | Some c ↦ λ k e. (x.0.0, c, k, one (range_at lmc x.0.0 c) r e)
+      ] x.1 x.2
+    where
+      one : (a b : Range) → Some a ≡ Some b → b ≡ a
+      one a b e = cc
 
 -- the law --------------------------------------------------------------------------------
 
-module _ (cells : Cells) where
-  pub lids_apart : Apart (map (λ x. x.1) (lids cells))
-  lids_apart =
-      given_apart (kept cells) (free_lids cells) (kept_numbers_apart cells) (apart-from_rising (free_lids cells) (free_rise cells))
-      (λ n h k. let e = contains_numbers (kept cells) n h in not_kept-from_free cells n k e.0 e.1)
+module _ (lmc : ℕ) (cells : Cells) where
+  pub found_lids : ¬ (IsNoRoom lmc cells) → handed_out lmc cells ≡ Some (lids lmc cells).ports
+  found_lids room_for_all =
+      elim (handed_out lmc cells) as (λ o. (not (is_some o) ≡ true → ⊥) → o ≡ Some (unwrap_or o [])) [
+        | None ↦ λ h. absurd (h refl)
+        | Some given ↦ λ h. refl
+      ] room_for_all
 
-  pub in_range : (e : EndPort) (n : ℕ) → Contains (lids cells) (e, n) → (1 ≤ n) × (n < room cells)
-  in_range e n h = elim (given_from (kept cells) (free_lids cells) e n h) [ inl k ↦ kept_in_range cells e n k | inr k ↦ in_range-from_free cells n k.1 ]
+  pub handed : ¬ (IsNoRoom lmc cells) → Hands (room cells) lmc (ranges_of lmc (kept lmc cells)) (kept lmc cells) (lids lmc cells).ports
+  handed room_for_all = hands_from (room cells) lmc (ranges_of lmc (kept lmc cells)) (kept lmc cells) (lids lmc cells).ports (found_lids room_for_all)
 
-  pub distinct : (e f : EndPort) (n : ℕ) → Contains (lids cells) (e, n) → Contains (lids cells) (f, n) → e ≡ f
-  distinct e f n h k = ap (λ x. x.0) (same_from_apart (λ (x : EndPort × ℕ). x.1) (lids cells) (e, n) (f, n) lids_apart h k refl)
+  module _ (given : Placed) (hands : Hands (room cells) lmc (ranges_of lmc (kept lmc cells)) (kept lmc cells) given) where
+    pub ports-given : map (λ x. x.0) given ≡ end_ports cells
+    ports-given = hands_ports (room cells) lmc (ranges_of lmc (kept lmc cells)) (kept lmc cells) given hands ∙ ports-with_kept lmc cells [] (end_ports cells)
 
-  pub kept_stay : (e : EndPort) (n c : ℕ) → Contains (lids cells) (e, n) → Keeps cells e c → n ≡ c
-  kept_stay e n c h k =
-      elim (given_from (kept cells) (free_lids cells) e n h) [
-        | inl l ↦ let o = kept_from_keeps cells e (Some n) c l k in cc
-        | inr l ↦ let o = kept_from_keeps cells e None c l.0 k in absurd (cc)
-      ]
+    pub each_fits : (e : EndPort) (n : ℕ) → Contains given (e, n) → Fits (room cells) (range_at lmc e n)
+    each_fits e n h =
+        elim (given_from (room cells) lmc (ranges_of lmc (kept lmc cells)) (kept lmc cells) given hands e n h) [ inl k ↦ kept_fits lmc cells e n k | inr k ↦ k.it_fits ]
 
-  none_skipped : (e : EndPort) (n m : ℕ) → Contains (lids cells) (e, n) → IsOther (kept cells) e → 1 ≤ m → m < n → (f : EndPort) × Contains (lids cells) (f, m)
-  none_skipped e n m h o low high =
-      elim (kept_or_free cells m low (omega (arith, in_range e n h))) [
-        | inl k ↦ (k.0, kept_given (kept cells) (free_lids cells) k.0 m k.1)
-        | inr k ↦ lesser_given (kept cells) (free_lids cells) (free_rise cells) e n m h o k high
-      ]
+    pub pairs : PairsApart lmc given
+    pairs = given_apart (room cells) lmc (ranges_of lmc (kept lmc cells)) (kept lmc cells) given hands (kept_apart lmc cells) (range_among lmc (kept lmc cells))
 
-module _ (cells : Cells) (apart : Apart (end_ports cells)) where
-  pub is_other : (e : EndPort) → KeepsNothing cells e → IsOther (kept cells) e
-  is_other e nothing c h = nothing c (keeps_from_kept cells apart e c h)
+    pub apart : (e f : EndPort) (n m k : ℕ) → Contains given (e, n) → Contains given (f, m) → IsIn (range_at lmc e n) k → IsIn (range_at lmc f m) k
+        → ◌≡◌ {A = EndPort × ℕ} (e, n) (f, m)
+    apart e f n m k h l a b = same_from_pairs (room cells) lmc given pairs (e, n) (f, m) h l (meets_at (range_at lmc e n) (range_at lmc f m) k a b)
 
-  pub lids_law_of : ¬ (IsNoRoom cells) → AreLids cells (lids cells)
-  lids_law_of room_for_all =
-      record {
-        end_ports_in_order = ports-lids cells room_for_all;
-        in_range = in_range cells;
-        distinct = distinct cells;
-        kept_stay = kept_stay cells;
-        others_rise = λ earlier middle later e f n m q a b.
-            given_rise (kept cells) (free_lids cells) (free_rise cells) earlier middle later e f n m q (is_other e a) (is_other f b);
-        none_skipped = λ e n m h a low high. none_skipped cells e n m h (is_other e a) low high;
-      }
+    pub kept_stay : (e : EndPort) (n c : ℕ) → Contains given (e, n) → Keeps lmc cells e c → n ≡ c
+    kept_stay e n c h k =
+        elim (given_from (room cells) lmc (ranges_of lmc (kept lmc cells)) (kept lmc cells) given hands e n h) [
+          | inl l ↦ let o = kept_from_keeps lmc cells e (Some n) c l k in cc
+          | inr l ↦ let o = kept_from_keeps lmc cells e None c l.is_other k in absurd (cc)
+        ]
+
+    module _ (distinct : Apart (end_ports cells)) where
+      pub is_other : (e : EndPort) → KeepsNothing lmc cells e → IsOther (kept lmc cells) e
+      is_other e nothing c h = nothing c (keeps_from_kept lmc cells distinct e c h)
+
+      was_taken : (earlier later : Placed) (e : EndPort) (n k : ℕ) → given ≡ earlier ++ (e, n) ∷ later → (t : Range) → IsIn t k
+          → Contains (ranges_of lmc (kept lmc cells)) t ⊎ ((x : EndPort × ℕ) × Contains earlier x × (t ≡ numbers_of lmc x)) → WasTaken lmc cells earlier given k
+      was_taken earlier later e n k stands t there (inl h) =
+          let x = among_ranges lmc (kept lmc cells) t h in
+          record {
+            by = x.0;
+            lid = x.1;
+            is_given = kept_given (room cells) lmc (ranges_of lmc (kept lmc cells)) (kept lmc cells) given hands x.0 x.1 x.2;
+            is_before = inr (keeps_from_kept lmc cells distinct x.0 x.1 x.2);
+            is_its = subst (λ (r : Range). IsIn r k) x.3 there;
+          }
+      was_taken earlier later e n k stands t there (inr x) =
+          record {
+            by = x.0.0;
+            lid = x.0.1;
+            is_given = contains_in (x.0.0, x.0.1) (sym stands) (Contains-append_left earlier ((e, n) ∷ later) (x.0.0, x.0.1) x.1);
+            is_before = inl x.1;
+            is_its = subst (λ (r : Range). IsIn r k) x.2 there;
+          }
+
+      some_there : (r : Range) → Contains (ranges_of lmc (kept lmc cells)) r → 1 ≤ r.width
+      some_there r h = let x = among_ranges lmc (kept lmc cells) r h in subst (λ (s : Range). 1 ≤ s.width) (sym x.3) (some_width lmc x.0)
+
+      pub none_skipped : (earlier later : Placed) (e : EndPort) (n m : ℕ) → given ≡ earlier ++ (e, n) ∷ later → KeepsNothing lmc cells e
+          → Fits (room cells) (range_at lmc e m) → m < n → (k : ℕ) × IsIn (range_at lmc e m) k × WasTaken lmc cells earlier given k
+      none_skipped earlier later e n m stands nothing f l =
+          let met = lesser_met (room cells) lmc (ranges_of lmc (kept lmc cells)) (kept lmc cells) given hands earlier later e n m stands (is_other e nothing) f l in
+          let some : 1 ≤ met.0.width = elim met.2 [
+            | inl h ↦ some_there met.0 h
+            | inr x ↦ subst (λ (r : Range). 1 ≤ r.width) (sym x.2) (some_width lmc x.0.0)
+          ] in
+          let k = common_number (range_at lmc e m) met.0 (some_width lmc e) some met.1 in
+          (k.0, k.1.0, was_taken earlier later e n k.0 stands met.0 k.1.1 met.2)
+
+      pub are_lids : AreLids lmc cells given
+      are_lids =
+          record {
+            end_ports_in_order = ports-given;
+            each_fits = each_fits;
+            apart = λ e f n m k h l b. ap (λ x. x.0) (apart e f n m k h l b.0 b.1);
+            kept_stay = kept_stay;
+            none_skipped = none_skipped;
+          }
+
+-- what was found is below the room
+pub found_in_room : (lmc : ℕ) (cells : Cells) (given : Placed) → Some given ≡ handed_out lmc cells → (e : EndPort) (n : ℕ) → Contains given (e, n) → n + width_of lmc e ≤ room cells
+found_in_room lmc cells given found e n h =
+    (each_fits lmc cells given (hands_from (room cells) lmc (ranges_of lmc (kept lmc cells)) (kept lmc cells) given (sym found)) e n h).in_room
 
 -- no end port has two LIDs
-pub ports_apart : (x : Facts) → ¬ (IsNoRoom (cells_of x)) → Apart (map (λ g. g.0) (lids (cells_of x)))
-ports_apart x room_for_all = subst (λ (es : List EndPort). Apart es) (sym (ports-lids (cells_of x) room_for_all)) (end_ports_apart x)
+pub ports_apart : (lmc : ℕ) (x : Facts) → ¬ (IsNoRoom lmc (cells_of x)) → Apart (map (λ g. g.0) (lids lmc (cells_of x)).ports)
+ports_apart lmc x room_for_all =
+    subst (λ (es : List EndPort). Apart es) (sym (ports-given lmc (cells_of x) (lids lmc (cells_of x)).ports (handed lmc (cells_of x) room_for_all))) (end_ports_apart x)
+
+pub ports-lids : (lmc : ℕ) (cells : Cells) → ¬ (IsNoRoom lmc cells) → map (λ x. x.0) (lids lmc cells).ports ≡ end_ports cells
+ports-lids lmc cells room_for_all = ports-given lmc cells (lids lmc cells).ports (handed lmc cells room_for_all)
 
 pub lids_law : LidsLaw
-lids_law facts = lids_law_of (cells_of facts) (end_ports_apart facts)
+lids_law lmc facts room_for_all =
+    are_lids lmc (cells_of facts) (lids lmc (cells_of facts)).ports (handed lmc (cells_of facts) room_for_all) (end_ports_apart facts)

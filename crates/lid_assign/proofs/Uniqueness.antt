@@ -1,170 +1,199 @@
--- `AreLids` has one answer: each other end port in turn has the least number that is left.
-use Rattle.std.proofs.Common.{◌≡◌, ◌<◌, ℕ, List, [], ◌∷◌, ◌++◌, ◌⊎◌, inl, inr, refl, sym, ap, ◌∙◌, subst, arith, map}
-use Rattle.std.proofs.lemmas.List.{append_assoc}
-use Rattle.std.proofs.lemmas.List.Elements.{Contains-append_left, Contains-append_cases, Contains-push, Contains-push_cases}
-use Rattle.std.specs.Prelude.{Contains, Option, None, Some}
+-- `AreLids` has one answer: each other end port in turn has the least number whose range is open.
+use Rattle.std.proofs.Common.{◌≡◌, ◌<◌, ℕ, List, [], ◌∷◌, ◌++◌, ◌⊎◌, inl, inr, refl, sym, ap, ◌∙◌, subst, arith, true, false, not, map}
+use Rattle.std.proofs.lemmas.Bool.{both_ways, false_from_ne_true, cases_Bool, cases_order}
+use Rattle.std.proofs.lemmas.List.{append_assoc, map-append}
+use Rattle.std.proofs.lemmas.List.Elements.{Contains-append_left, Contains-push, Contains-push_cases}
+use Rattle.std.specs.Prelude.{Contains, Option, None, Some, is_some, unwrap_or}
 use Rattle.fact_store.specs.View.{cells_of}
 use Rattle.subnet_view.specs.declared.end_port.EndPort.{EndPort}
 use Rattle.subnet_view.specs.Reading.{Cells}
 use Rattle.subnet_view.specs.EndPorts.{end_ports}
-use Rattle.subnet_view.proofs.Apart.{Apart, contains_at, split_at, contains_map, contains-from_map}
+use Rattle.subnet_view.proofs.Apart.{Apart, contains_at, contains_map, contains-from_map, before_apart}
 use Rattle.subnet_view.proofs.EndPorts.{end_ports_apart}
 use Rattle.subnet_view.proofs.Members.{contains_here, contains_later, contains_cases, contains_none, contains_as, contains_in}
-use Rattle.lid_assign.proofs.Rising.{Rising}
-use Rattle.lid_assign.specs.Lids.{kept, free_lids, hand_out, lids, KeepsNothing, AreLids, LidsAreUnique}
-use Rattle.lid_assign.proofs.HandOut.{Ports}
-use Rattle.lid_assign.proofs.KeptClaims.{kept_from_keeps, keeps_from_kept, with_kept_has}
-use Rattle.lid_assign.proofs.LidLaws.{not_kept-from_free, in_range-from_free, kept_or_free, free_rise, ports-with_kept}
+use Rattle.lid_assign.specs.Ranges.{width_of, Range, range_at, meets, IsIn, IsInBoth, Fits}
+use Rattle.lid_assign.specs.Lids.{room, kept, least_open, handed_out, lids, is_no_room, Keeps, KeepsNothing, AreLids, LidsAreUnique, NoRoomLaw, OthersRise}
+use Rattle.lid_assign.proofs.Ranges.{some_width, meets_at, common_number}
+use Rattle.lid_assign.proofs.KeptClaims.{Ports, kept_from_keeps, keeps_from_kept, with_kept_has, ports-with_kept}
+use Rattle.lid_assign.proofs.HandOut.{Placed, numbers_of, IsBlocked, Hands, hands_to, is_least_open}
+use Rattle.lid_assign.proofs.LidLaws.{ranges_of, range_among, among_ranges, lids_law}
 
-abbrev Given : Type 0
-Given = List (EndPort × ℕ)
+-- an element and what comes before it are different, also by what a function makes of them
+once : {X Y : Type 0} (f : X → Y) (before after : List X) (x y : X) → Apart (map f (before ++ x ∷ after)) → Contains before y → f y ≡ f x → ⊥
+once {X} {Y} f before after x y a h e =
+    before_apart (map f before) (map f after) (f x) (subst (λ (ys : List Y). Apart ys) (map-append f before (x ∷ after)) a) (contains_as (map f before) e (contains_map f before y h))
 
--- the free numbers that are left where those before are given
-record IsLeft (cells : Cells) (before : Given) (free : List ℕ) : Type 0 where
-  rise : Rising free
-  are_free : (n : ℕ) → Contains free n → Contains (free_lids cells) n
-  not_given : (n : ℕ) (f : EndPort) → Contains free n → Contains before (f, n) → ⊥
-  all : (n : ℕ) → Contains (free_lids cells) n → Contains free n ⊎ ((f : EndPort) × Contains before (f, n))
+module _ (lmc : ℕ) (cells : Cells) (distinct : Apart (end_ports cells)) (given : Placed) (law : AreLids lmc cells given) where
+  kept_of : (e : EndPort) (n : ℕ) → Contains given (e, n) → (o : Option ℕ) × Contains (kept lmc cells) (e, o)
+  kept_of e n h = with_kept_has lmc cells [] (end_ports cells) e (contains_in e law.end_ports_in_order (contains_map (λ (x : EndPort × ℕ). x.0) given (e, n) h))
 
-module _ (cells : Cells) (apart : Apart (end_ports cells)) (given : Given) (law : AreLids cells given) where
-  kept_of : (e : EndPort) (n : ℕ) → Contains given (e, n) → (o : Option ℕ) × Contains (kept cells) (e, o)
-  kept_of e n h = with_kept_has cells [] (end_ports cells) e (contains_in e law.end_ports_in_order (contains_map (λ (x : EndPort × ℕ). x.0) given (e, n) h))
-
-  given_to : (e : EndPort) (o : Option ℕ) → Contains (kept cells) (e, o) → (n : ℕ) × Contains given (e, n)
+  given_to : (e : EndPort) (o : Option ℕ) → Contains (kept lmc cells) (e, o) → (n : ℕ) × Contains given (e, n)
   given_to e o h =
-      let port = contains_map (λ (x : EndPort × Option ℕ). x.0) (kept cells) (e, o) h in
-      let there : Contains (end_ports cells) e = contains_in e (ports-with_kept cells [] (end_ports cells)) port in
+      let port = contains_map (λ (x : EndPort × Option ℕ). x.0) (kept lmc cells) (e, o) h in
+      let there : Contains (end_ports cells) e = contains_in e (ports-with_kept lmc cells [] (end_ports cells)) port in
       let x = contains-from_map (λ (x : EndPort × ℕ). x.0) given e (contains_in e (sym law.end_ports_in_order) there) in
       (x.0.1, contains_as given (λ l. (x.2 l, x.0.1)) x.1)
 
-  number_kept : (e : EndPort) (n c : ℕ) → Contains given (e, n) → Contains (kept cells) (e, Some c) → n ≡ c
-  number_kept e n c h k = law.kept_stay e n c h (keeps_from_kept cells apart e c k)
+  number_kept : (e : EndPort) (n c : ℕ) → Contains given (e, n) → Contains (kept lmc cells) (e, Some c) → n ≡ c
+  number_kept e n c h k = law.kept_stay e n c h (keeps_from_kept lmc cells distinct e c k)
 
-  nothing_kept : (e : EndPort) → Contains (kept cells) (e, None) → KeepsNothing cells e
-  nothing_kept e h c k = let o = kept_from_keeps cells e None c h k in cc
+  nothing_kept : (e : EndPort) → Contains (kept lmc cells) (e, None) → KeepsNothing lmc cells e
+  nothing_kept e h c k = let o = kept_from_keeps lmc cells e None c h k in cc
 
-  other-from_free : (e : EndPort) (n : ℕ) → Contains given (e, n) → Contains (free_lids cells) n → KeepsNothing cells e
-  other-from_free e n h free c k =
-      let o = kept_of e n h in
-      let s : o.0 ≡ Some n = kept_from_keeps cells e o.0 c o.1 k ∙ ap (λ m. Some m) (sym (law.kept_stay e n c h k)) in
-      not_kept-from_free cells n free e (contains_as (kept cells) (λ l. (e, s l)) o.1)
+  once_given : Apart (map (λ x. x.0) given)
+  once_given = subst (λ (es : List EndPort). Apart es) (sym law.end_ports_in_order) distinct
 
-  free-from_other : (e : EndPort) (n : ℕ) → Contains given (e, n) → Contains (kept cells) (e, None) → Contains (free_lids cells) n
-  free-from_other e n h k =
-      let r = law.in_range e n h in
-      elim (kept_or_free cells n r.0 r.1) [
-        | inr free ↦ free
-        | inl x ↦
-            let g = given_to x.0 (Some n) x.1 in
-            let s = law.distinct x.0 e n (contains_as given (λ l. (x.0, number_kept x.0 g.0 n g.1 x.1 l)) g.1) h in
-            absurd (nothing_kept e k n (keeps_from_kept cells apart e n (contains_as (kept cells) (λ l. (s l, Some n)) x.1)))
-      ]
+  -- the ranges that are taken where these end ports have their LIDs
+  record AreTakenBy (before : Placed) (taken : List Range) : Type 0 where
+    from : (r : Range) → Contains taken r → (x : EndPort × ℕ) × (r ≡ numbers_of lmc x) × (Contains before x ⊎ Contains (kept lmc cells) (x.0, Some x.1))
+    has_before : (x : EndPort × ℕ) → Contains before x → Contains taken (numbers_of lmc x)
+    has_kept : (e : EndPort) (c : ℕ) → Contains (kept lmc cells) (e, Some c) → Contains taken (range_at lmc e c)
 
-  stands_there : (before after : Given) (e : EndPort) (n : ℕ) → given ≡ before ++ (e, n) ∷ after → Contains given (e, n)
-  stands_there before after e n stands = contains_in (e, n) (sym stands) (contains_at before after (e, n))
+  module _ (before after : Placed) (e : EndPort) (n : ℕ) (stands : given ≡ before ++ (e, n) ∷ after) where
+    stands_there : Contains given (e, n)
+    stands_there = contains_in (e, n) (sym stands) (contains_at before after (e, n))
 
-  module _ (before after : Given) (e : EndPort) (n : ℕ) (stands : given ≡ before ++ (e, n) ∷ after) (other : KeepsNothing cells e) where
-    lesser_before : (f : EndPort) (m : ℕ) → Contains before (f, m) → KeepsNothing cells f → m < n
-    lesser_before f m h o =
-        let s = split_at before (f, m) h in
-        law.others_rise s.0 s.1 after f e m n (stands ∙ ap (λ (zs : Given). zs ++ (e, n) ∷ after) s.2) o other
+    module _ (taken : List Range) (by : AreTakenBy before taken) where
+      -- one that keeps its claim
+      past_kept : Contains (kept lmc cells) (e, Some n) → AreTakenBy (before ++ (e, n) ∷ []) taken
+      past_kept k =
+          record {
+            from = λ r h. let x = by.from r h in (x.0, x.1, elim x.2 [ inl b ↦ inl (Contains-append_left before ((e, n) ∷ []) x.0 b) | inr b ↦ inr b ]);
+            has_before = λ x h. (elim (Contains-push_cases before (e, n) x h) [
+              | inl b ↦ by.has_before x b
+              | inr i ↦ contains_as taken (ap (numbers_of lmc) i) (by.has_kept e n k)
+            ]);
+            has_kept = by.has_kept;
+          }
 
-    greater_after : (f : EndPort) (m : ℕ) → Contains after (f, m) → KeepsNothing cells f → n < m
-    greater_after f m h o =
-        let s = split_at after (f, m) h in
-        let assoc = sym (append_assoc before ((e, n) ∷ s.0) ((f, m) ∷ s.1)) in
-        law.others_rise before s.0 s.1 e f n m (stands ∙ ap (λ (zs : Given). before ++ (e, n) ∷ zs) s.2 ∙ assoc) other o
+      -- and one that keeps none
+      past_other : AreTakenBy (before ++ (e, n) ∷ []) (range_at lmc e n ∷ taken)
+      past_other =
+          record {
+            from = λ r h. (elim (contains_cases (range_at lmc e n) r taken h) [
+              | inl i ↦ ((e, n), sym i, inl (Contains-push before (e, n)))
+              | inr k ↦ let x = by.from r k in (x.0, x.1, elim x.2 [ inl b ↦ inl (Contains-append_left before ((e, n) ∷ []) x.0 b) | inr b ↦ inr b ])
+            ]);
+            has_before = λ x h. (elim (Contains-push_cases before (e, n) x h) [
+              | inl b ↦ contains_later (range_at lmc e n) (numbers_of lmc x) taken (by.has_before x b)
+              | inr i ↦ contains_as (range_at lmc e n ∷ taken) (ap (numbers_of lmc) i) (contains_here (range_at lmc e n) taken)
+            ]);
+            has_kept = λ f c k. contains_later (range_at lmc e n) (range_at lmc f c) taken (by.has_kept f c k);
+          }
 
-    -- a number that nobody keeps isn't given before
-    is_left : (free : List ℕ) → IsLeft cells before free → Contains (free_lids cells) n → Contains free n
-    is_left free left h =
-        elim (left.all n h) [
-          | inl k ↦ k
-          | inr f ↦
-              let g : Contains given (f.0, n) = contains_in (f.0, n) (sym stands) (Contains-append_left before ((e, n) ∷ after) (f.0, n) f.1) in
-              absurd (omega (arith, lesser_before f.0 n f.1 (other-from_free f.0 n g h)))
-        ]
+      module _ (none : Contains (kept lmc cells) (e, None)) where
+        -- its range meets none that is taken
+        is_free : (r : Range) → Contains taken r → meets (range_at lmc e n) r ≡ false
+        is_free r h =
+            let x = by.from r h in
+            false_from_ne_true _ (λ m.
+            let met = subst (λ (t : Range). meets (range_at lmc e n) t ≡ true) x.1 m in
+            let k = common_number (range_at lmc e n) (numbers_of lmc x.0) (some_width lmc e) (some_width lmc x.0.0) met in
+            elim x.2 [
+              | inl b ↦
+                  let there = contains_in x.0 (sym stands) (Contains-append_left before ((e, n) ∷ after) x.0 b) in
+                  let same : e ≡ x.0.0 = law.apart e x.0.0 n x.0.1 k.0 stands_there there k.1 in
+                  once (λ (y : EndPort × ℕ). y.0) before after (e, n) x.0 (subst (λ (g : Placed). Apart (map (λ y. y.0) g)) stands once_given) b (sym same)
+              | inr b ↦ meets_kept x.0 b k.0 k.1
+            ])
+          where
+            meets_kept : (x : EndPort × ℕ) → Contains (kept lmc cells) (x.0, Some x.1) → (k : ℕ) → IsInBoth (range_at lmc e n) (numbers_of lmc x) k → ⊥
+            meets_kept x b k both =
+                let is = given_to x.0 (Some x.1) b in
+                let there : Contains given (x.0, x.1) = contains_as given (λ l. (x.0, number_kept x.0 is.0 x.1 is.1 b l)) is.1 in
+                let same : e ≡ x.0 = law.apart e x.0 n x.1 k stands_there there both in
+                nothing_kept e none x.1 (keeps_from_kept lmc cells distinct e x.1 (contains_as (kept lmc cells) (λ l. (sym same l, Some x.1)) b))
 
-    -- nor is a lesser one left
-    none_lesser : (free : List ℕ) → IsLeft cells before free → (m : ℕ) → Contains free m → m < n → ⊥
-    none_lesser free left m h l =
-        let fm = left.are_free m h in
-        let f = law.none_skipped e n m (stands_there before after e n stands) other (in_range-from_free cells m fm).0 l in
-        elim (Contains-append_cases before ((e, n) ∷ after) (f.0, m) (contains_in (f.0, m) stands f.1)) [
-          | inl k ↦ left.not_given m f.0 h k
-          | inr k ↦ (elim (contains_cases (e, n) (f.0, m) after k) [
-            | inl i ↦ omega (arith, ap (λ x. x.1) i)
-            | inr j ↦ omega (arith, greater_after f.0 m j (other-from_free f.0 m f.1 fm))
-          ])
-        ]
+        -- and none before it is open
+        none_open : (m : ℕ) → m < n → Fits (room cells) (range_at lmc e m) → IsBlocked taken (range_at lmc e m)
+        none_open m l f =
+            let k = law.none_skipped before after e n m stands (nothing_kept e none) f l in
+            let w = k.2 in
+            let there : Contains taken (range_at lmc w.by w.lid) = elim w.is_before [
+              | inl b ↦ by.has_before (w.by, w.lid) b
+              | inr b ↦
+                  let o = kept_of w.by w.lid w.is_given in
+                  by.has_kept w.by w.lid (contains_as (kept lmc cells) (λ i. (w.by, kept_from_keeps lmc cells w.by o.0 w.lid o.1 b i)) o.1)
+            ] in
+            (range_at lmc w.by w.lid, there, meets_at (range_at lmc e m) (range_at lmc w.by w.lid) k.0 k.1 w.is_its)
 
-  left_past_kept : (before : Given) (free : List ℕ) (e : EndPort) (n : ℕ) → IsLeft cells before free → Contains (kept cells) (e, Some n)
-      → IsLeft cells (before ++ (e, n) ∷ []) free
-  left_past_kept before free e n left k =
-      record {
-        rise = left.rise;
-        are_free = left.are_free;
-        not_given = λ m f h g. (elim (Contains-push_cases before (e, n) (f, m) g) [
-          | inl i ↦ left.not_given m f h i
-          | inr i ↦ not_kept-from_free cells m (left.are_free m h) e (contains_as (kept cells) (λ l. (e, Some ((i l).1))) k)
-        ]);
-        all = λ m h. (elim (left.all m h) [ inl i ↦ inl i | inr i ↦ inr (i.0, Contains-append_left before ((e, n) ∷ []) (i.0, m) i.1) ]);
-      }
-
-  left_past_first : (before : Given) (free : List ℕ) (e : EndPort) (n : ℕ) → IsLeft cells before (n ∷ free) → IsLeft cells (before ++ (e, n) ∷ []) free
-  left_past_first before free e n left =
-      record {
-        rise = left.rise.1;
-        are_free = λ m h. left.are_free m (contains_later n m free h);
-        not_given = λ m f h g. (elim (Contains-push_cases before (e, n) (f, m) g) [
-          | inl i ↦ left.not_given m f (contains_later n m free h) i
-          | inr i ↦ omega (arith, ap (λ x. x.1) i, left.rise.0 m h)
-        ]);
-        all = λ m h. (elim (left.all m h) [
-          | inl i ↦ (elim (contains_cases n m free i) [
-            | inl j ↦ inr (e, contains_as (before ++ (e, n) ∷ []) (λ l. (e, j l)) (Contains-push before (e, n)))
-            | inr j ↦ inl j
-          ])
-          | inr i ↦ inr (i.0, Contains-append_left before ((e, n) ∷ []) (i.0, m) i.1)
-        ]);
-      }
-
-  unique_from : (ports : Ports) (before after : Given) (free : List ℕ) → given ≡ before ++ after → map (λ x. x.0) after ≡ map (λ x. x.0) ports
-      → ((x : EndPort × Option ℕ) → Contains ports x → Contains (kept cells) x) → IsLeft cells before free → after ≡ hand_out ports free
-  unique_from [] before [] free q s sub left = refl
-  unique_from [] before (x ∷ after) free q s sub left = absurd (cc)
-  unique_from (x ∷ ports) before [] free q s sub left = absurd (cc)
-  unique_from ((e, Some c) ∷ ports) before ((x, n) ∷ after) free q s sub left =
+  unique_from : (ports : Ports) (before after : Placed) (taken : List Range) → given ≡ before ++ after → map (λ x. x.0) after ≡ map (λ x. x.0) ports
+      → ((x : EndPort × Option ℕ) → Contains ports x → Contains (kept lmc cells) x) → AreTakenBy before taken → Hands (room cells) lmc taken ports after
+  unique_from [] before [] taken q s sub by = tt
+  unique_from [] before (x ∷ after) taken q s sub by = absurd (cc)
+  unique_from ((e, Some c) ∷ ports) before [] taken q s sub by = absurd (cc)
+  unique_from ((e, None) ∷ ports) before [] taken q s sub by = absurd (cc)
+  unique_from ((e, Some c) ∷ ports) before ((x, n) ∷ after) taken q s sub by =
       let i : x ≡ e = cc in
-      let k = sub (e, Some c) (contains_here (e, Some c) ports) in
-      let j = number_kept e n c (contains_as given (λ l. (i l, n)) (stands_there before after x n q)) k in
-      let own = contains_as (kept cells) (λ l. (sym i l, Some (sym j l))) k in
-      let stands = q ∙ sym (append_assoc before ((x, n) ∷ []) after) in
+      let k = contains_as (kept lmc cells) (λ l. (sym i l, Some c)) (sub (e, Some c) (contains_here (e, Some c) ports)) in
+      let j = number_kept x n c (stands_there before after x n q) k in
+      let own = contains_as (kept lmc cells) (λ l. (x, Some (sym j l))) k in
       let later = λ (y : EndPort × Option ℕ) (h : Contains ports y). sub y (contains_later (e, Some c) y ports h) in
-      let rest = unique_from ports (before ++ (x, n) ∷ []) after free stands (cc) later (left_past_kept before free x n left own) in
-      λ l. (i l, j l) ∷ rest l
-  unique_from ((e, None) ∷ ports) before ((x, n) ∷ after) [] q s sub left =
+      (sym i, sym j, unique_from ports (before ++ (x, n) ∷ []) after taken (q ∙ sym (append_assoc before ((x, n) ∷ []) after)) (cc) later (past_kept before after x n q taken by own))
+  unique_from ((e, None) ∷ ports) before ((x, n) ∷ after) taken q s sub by =
       let i : x ≡ e = cc in
-      let k = contains_as (kept cells) (λ l. (sym i l, None)) (sub (e, None) (contains_here (e, None) ports)) in
-      absurd (contains_none n (is_left before after x n q (nothing_kept x k) [] left (free-from_other x n (stands_there before after x n q) k)))
-  unique_from ((e, None) ∷ ports) before ((x, n) ∷ after) (m ∷ free) q s sub left =
-      let i : x ≡ e = cc in
-      let k = contains_as (kept cells) (λ l. (sym i l, None)) (sub (e, None) (contains_here (e, None) ports)) in
-      let other = nothing_kept x k in
-      elim (contains_cases m n free (is_left before after x n q other (m ∷ free) left (free-from_other x n (stands_there before after x n q) k))) [
-        | inr h ↦ absurd (none_lesser before after x n q other (m ∷ free) left m (contains_here m free) (left.rise.0 n h))
-        | inl j ↦
-            let first = subst (λ (c : ℕ). IsLeft cells before (c ∷ free)) j left in
-            let stands = q ∙ sym (append_assoc before ((x, n) ∷ []) after) in
-            let later = λ (y : EndPort × Option ℕ) (h : Contains ports y). sub y (contains_later (e, None) y ports h) in
-            let rest = unique_from ports (before ++ (x, n) ∷ []) after free stands (cc) later (left_past_first before free x n first) in
-            λ l. (i l, sym j l) ∷ rest l
-      ]
+      let k = contains_as (kept lmc cells) (λ l. (sym i l, None)) (sub (e, None) (contains_here (e, None) ports)) in
+      let later = λ (y : EndPort × Option ℕ) (h : Contains ports y). sub y (contains_later (e, None) y ports h) in
+      let least = is_least_open (room cells) taken (width_of lmc x) (some_width lmc x) n (record {
+        it_fits = law.each_fits x n (stands_there before after x n q);
+        free = is_free before after x n q taken by k;
+        none_before = none_open before after x n q taken by k;
+      }) in
+      let rest = unique_from ports (before ++ (x, n) ∷ []) after (range_at lmc x n ∷ taken) (q ∙ sym (append_assoc before ((x, n) ∷ []) after)) (cc) later
+      (past_other before after x n q taken by) in (
+        sym i,
+        subst (λ (f : EndPort). least_open (room cells) taken (width_of lmc f) ≡ Some n) i least,
+        subst (λ (f : EndPort). Hands (room cells) lmc (range_at lmc f n ∷ taken) ports after) i rest,
+      )
 
-  pub unique_lids : given ≡ lids cells
-  unique_lids =
-      unique_from (kept cells) [] given (free_lids cells) refl (law.end_ports_in_order ∙ sym (ports-with_kept cells [] (end_ports cells))) (λ x h. h)
-      (record { rise = free_rise cells; are_free = λ n h. h; not_given = λ n f h g. contains_none (f, n) g; all = λ n h. inl h })
+  pub unique_hands : Hands (room cells) lmc (ranges_of lmc (kept lmc cells)) (kept lmc cells) given
+  unique_hands =
+      unique_from (kept lmc cells) [] given (ranges_of lmc (kept lmc cells)) refl (law.end_ports_in_order ∙ sym (ports-with_kept lmc cells [] (end_ports cells))) (λ x h. h)
+      (record {
+        from = λ r h. let x = among_ranges lmc (kept lmc cells) r h in ((x.0, x.1), x.3, inr x.2);
+        has_before = λ x h. absurd (contains_none x h);
+        has_kept = range_among lmc (kept lmc cells);
+      })
+
+  pub unique_lids : handed_out lmc cells ≡ Some given
+  unique_lids = hands_to (room cells) lmc (ranges_of lmc (kept lmc cells)) (kept lmc cells) given unique_hands
 
 pub lids_are_unique : LidsAreUnique
-lids_are_unique facts given law = unique_lids (cells_of facts) (end_ports_apart facts) given law
+lids_are_unique lmc facts given law = ap (λ o. unwrap_or o []) (sym (unique_lids lmc (cells_of facts) (end_ports_apart facts) given law))
+
+pub no_room_law : NoRoomLaw
+no_room_law lmc facts = (
+  λ none given law. both_ways (not (is_some (handed_out lmc (cells_of facts)))) (ap (λ o. not (is_some o)) (unique_lids lmc (cells_of facts) (end_ports_apart facts) given law)) none,
+  λ nobody. (elim (cases_Bool (is_no_room lmc (cells_of facts))) [
+    | inl t ↦ t
+    | inr f ↦ absurd (nobody (lids lmc (cells_of facts)).ports (lids_law lmc facts (λ t. both_ways (is_no_room lmc (cells_of facts)) f t)))
+  ]),
+)
+
+-- of one width, those that keep no claim rise
+pub others_rise : OthersRise
+others_rise lmc facts given earlier middle later e f n m law stands widths nothing_e nothing_f =
+    let cells = cells_of facts in
+    let once_given = subst (λ (es : List EndPort). Apart es) (sym law.end_ports_in_order) (end_ports_apart facts) in
+    let later_is = stands ∙ append_assoc earlier ((e, n) ∷ middle) ((f, m) ∷ later) in
+    let there_e : Contains given (e, n) = contains_in (e, n) (sym later_is) (contains_at earlier (middle ++ (f, m) ∷ later) (e, n)) in
+    let there_f : Contains given (f, m) = contains_in (f, m) (sym stands) (contains_at (earlier ++ (e, n) ∷ middle) later (f, m)) in
+    let before_f : Contains (earlier ++ (e, n) ∷ middle) (e, n) = contains_at earlier middle (e, n) in
+    let apart_f = subst (λ (g : Placed). Apart (map (λ (y : EndPort × ℕ). y.0) g)) stands once_given in
+    let differ : (x : EndPort × ℕ) → Contains (earlier ++ (e, n) ∷ middle) x → x.0 ≡ f → ⊥ = λ x h q. once (λ (y : EndPort × ℕ). y.0) (earlier ++ (e, n) ∷ middle) later (f, m) x apart_f h q in
+    let same_range : (k : ℕ) → range_at lmc e k ≡ range_at lmc f k = λ k i. record { first = k; width = widths i } in
+    elim (cases_order n m) [
+      | inl q ↦ absurd (differ (e, n) before_f (law.apart e f n m n there_e there_f ((omega arith, omega (arith, some_width lmc e)), (omega arith, omega (arith, some_width lmc f)))))
+      | inr c ↦ (elim c [
+        | inl l ↦ l
+        | inr l ↦
+            let fit = subst (λ (r : Range). Fits (room cells) r) (sym (same_range m)) (law.each_fits f m there_f) in
+            let k = law.none_skipped earlier (middle ++ (f, m) ∷ later) e n m later_is nothing_e fit l in
+            let in_f = subst (λ (r : Range). IsIn r k.0) (same_range m) k.1 in
+            let same : f ≡ k.2.by = law.apart f k.2.by m k.2.lid k.0 there_f k.2.is_given (in_f, k.2.is_its) in
+            absurd (elim k.2.is_before [
+              | inl b ↦ differ (k.2.by, k.2.lid) (Contains-append_left earlier ((e, n) ∷ middle) (k.2.by, k.2.lid) b) (sym same)
+              | inr b ↦ nothing_f k.2.lid (subst (λ (g : EndPort). Keeps lmc cells g k.2.lid) (sym same) b)
+            ])
+      ])
+    ]

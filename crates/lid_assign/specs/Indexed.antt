@@ -1,22 +1,32 @@
--- The tables by which the owner of a LID and the LID of an end port are found.
-use Rattle.std.specs.Prelude.{◌≡◌, ◌<◌, ◌-◌, ℕ, List, Contains, Option, None, is_some, filter, length, slice_index_or}
+-- The tables by which the owner of a number and the LID of an end port are found.
+use Rattle.std.specs.Prelude.{◌≡◌, ◌≤◌, ◌+◌, ◌-◌, ℕ, List, Contains, Bool, false, Option, None, Some, filter, length, slice_index_or, if◌then◌else◌}
 use Rattle.subnet_view.specs.declared.end_port.EndPort.{EndPort}
 use Rattle.std.specs.declared.cmp.Ordering.{Ordering}
 use Rattle.std.specs.Ordering.{nat_cmp, ordering_then}
 use Rattle.std.specs.BTreeMap.{BTreeMap, get}
-use Rattle.lid_assign.specs.Lids.{count_up, owner_of, lid_of, top_of, rising_lids}
+use Rattle.lid_assign.specs.Ranges.{width_of, Range, is_in}
+use Rattle.lid_assign.specs.Lids.{Given, count_up, owner_of, lid_among, top_of, rising_lids, is_lid}
 
--- the table has at each LID the end port that has it
-abbrev pub AreOwners : List (EndPort × ℕ) → List (Option EndPort) → Type 0
+-- the table has at each number the end port that has it
+abbrev pub AreOwners : Given → List (Option EndPort) → Type 0
 AreOwners given owners = (n : ℕ) → slice_index_or owners n None ≡ owner_of given n
 
--- the LIDs from the first on that have an owner in the table
-abbrev pub owned_from : List (Option EndPort) → ℕ → List ℕ
-owned_from owners first = filter (λ n. is_some (slice_index_or owners n None)) (count_up first (length owners - first))
+-- the table with an end port at each number of a range
+pub record AreOwnersMore (e : EndPort) (r : Range) (old new : List (Option EndPort)) : Type 0 where
+  pub all : length new ≡ length old
+  pub each : (n : ℕ) → slice_index_or new n None ≡ (if is_in r n then Some e else slice_index_or old n None)
 
--- each LID is below the bound
-abbrev pub AreBelow : ℕ → List (EndPort × ℕ) → Type 0
-AreBelow bound given = (e : EndPort) (n : ℕ) → Contains given (e, n) → n < bound
+-- a number is marked where it is an end port's LID
+abbrev pub AreLidMarks : List (EndPort × ℕ) → List Bool → Type 0
+AreLidMarks given marks = (n : ℕ) → slice_index_or marks n false ≡ is_lid given n
+
+-- the numbers from the first on that are marked
+abbrev pub marked_from : List Bool → ℕ → List ℕ
+marked_from marks first = filter (λ n. slice_index_or marks n false) (count_up first (length marks - first))
+
+-- no number of an end port is over the bound
+abbrev pub AreBelow : ℕ → ℕ → List (EndPort × ℕ) → Type 0
+AreBelow bound lmc given = (e : EndPort) (n : ℕ) → Contains given (e, n) → n + width_of lmc e ≤ bound
 
 -- the order of nodes and ports
 abbrev pub place_cmp : ℕ × ℕ → ℕ × ℕ → Ordering
@@ -24,11 +34,11 @@ place_cmp a b = ordering_then (nat_cmp a.0 b.0) (nat_cmp a.1 b.1)
 
 -- the table has at each node and port the LID of that end port
 abbrev pub ByPort : List (EndPort × ℕ) → BTreeMap (ℕ × ℕ) ℕ → Type 0
-ByPort given lids = (e : EndPort) → get place_cmp lids (e.node, e.port) ≡ lid_of given e
+ByPort given lids = (e : EndPort) → get place_cmp lids (e.node, e.port) ≡ lid_among given e
 
 -- a map's tables
-pub record IsIndexed (given : List (EndPort × ℕ)) (owners : List (Option EndPort)) (lids : BTreeMap (ℕ × ℕ) ℕ) (top : Option ℕ) (rising : List ℕ) : Type 0 where
+pub record IsIndexed (given : Given) (owners : List (Option EndPort)) (lids : BTreeMap (ℕ × ℕ) ℕ) (top : Option ℕ) (rising : List ℕ) : Type 0 where
   pub owned : AreOwners given owners
-  pub placed : ByPort given lids
+  pub placed : ByPort given.ports lids
   pub greatest : top ≡ top_of given
   pub rise : rising ≡ rising_lids given

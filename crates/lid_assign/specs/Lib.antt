@@ -1,3 +1,4 @@
+pub mod Ranges
 pub mod Lids
 pub mod LidFault
 pub mod Rooms

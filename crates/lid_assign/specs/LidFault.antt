@@ -16,9 +16,9 @@ abbrev pub is_memory : LidFault → Bool
 is_memory (NoRoom why) = false
 is_memory Memory = true
 
--- how many end ports there are and how much room, where that is not enough
-abbrev pub no_room : Cells → Option Room
-no_room cells = if is_no_room cells then Some (record { endports = length (end_ports cells); room = room cells }) else None
+-- how many end ports there are and how much room, where one of them finds no LID
+abbrev pub no_room : ℕ → Cells → Option Room
+no_room lmc cells = if is_no_room lmc cells then Some (record { endports = length (end_ports cells); room = room cells }) else None
 
 -- why no LIDs are given, want of memory aside
 abbrev pub lid_fault : Option Room → Option LidFault

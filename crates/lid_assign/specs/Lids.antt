@@ -1,11 +1,13 @@
 -- Which LID each end port has (addressing chapter, unicast LIDs: 0x0001 to 0xBFFF).
-use Rattle.std.specs.Prelude.{◌≡◌, ◌≢◌, ◌↔◌, ◌<◌, ◌≤◌, ◌-◌, ℕ, zero, suc, Bool, false, List, [], ◌∷◌, ◌++◌, min, max, map, filter, length, Contains, Option, None, Some, ◌==◌, ◌&&◌, not, nat_le, nat_lt, option_map, is_some, IsTrue, if◌then◌else◌}
+use Rattle.std.specs.Prelude.{◌≡◌, ◌↔◌, ◌⊎◌, ◌<◌, ◌≤◌, ◌+◌, ◌-◌, ℕ, zero, suc, Bool, false, List, [], ◌∷◌, ◌++◌, min, max, map, filter, length, Contains, Option, None, Some, ◌==◌, ◌&&◌, not, option_map, option_and_then, unwrap_or, is_some, IsTrue, if◌then◌else◌}
 use Rattle.std.specs.Option.{option_map_or}
 use Rattle.std.specs.List.{filter_map, list_any, find, AllPairs}
 use Rattle.subnet_view.specs.declared.end_port.EndPort.{EndPort}
 use Rattle.fact_store.specs.View.{Facts, cells_of}
 use Rattle.subnet_view.specs.Reading.{Cells, cap_of, claim_of, switches}
 use Rattle.subnet_view.specs.EndPorts.{end_ports}
+use Rattle.smp_bytes.specs.LidRange.{has_lid}
+use Rattle.lid_assign.specs.Ranges.{lmc_at, width_of, Range, range_at, is_in, meets, fits, IsIn, IsInBoth, Fits}
 
 -- the least of some table rooms, and at most the first number that is no unicast LID
 abbrev pub least_room : List ℕ → ℕ
@@ -16,93 +18,142 @@ least_room (cap ∷ caps) = min cap (least_room caps)
 abbrev pub room : Cells → ℕ
 room cells = least_room (filter_map (cap_of cells) (switches cells))
 
--- the end port claims the number c
-abbrev pub claims : Cells → ℕ → EndPort → Bool
-claims cells c e = option_map_or (λ claim. claim == c) (claim_of cells e.node e.port) false
+-- claims that are kept: -----------------------------------------------------------
 
--- a claim below the room that no earlier end port makes
-abbrev pub can_keep : Cells → List EndPort → ℕ → Bool
-can_keep cells earlier c = nat_le 1 c && nat_lt c (room cells) && not (list_any (claims cells c) earlier)
+-- the number, where the range from it on fits
+abbrev pub if_fits : ℕ → ℕ → EndPort → ℕ → Option ℕ
+if_fits room lmc e c = if fits room (range_at lmc e c) then Some c else None
+
+-- the number that an end port claims, where its range fits
+abbrev pub fitting_claim : ℕ → Cells → EndPort → Option ℕ
+fitting_claim lmc cells e = option_and_then (if_fits (room cells) lmc e) (claim_of cells e.node e.port)
+
+-- the end port claims a range that fits and meets this one
+abbrev pub claims : ℕ → Cells → Range → EndPort → Bool
+claims lmc cells r e = option_map_or (λ c. meets r (range_at lmc e c)) (fitting_claim lmc cells e) false
+
+-- the number, where none of these end ports claims a range that fits and meets that from it on
+abbrev pub if_first : ℕ → Cells → List EndPort → EndPort → ℕ → Option ℕ
+if_first lmc cells earlier e c = if list_any (claims lmc cells (range_at lmc e c)) earlier then None else Some c
 
 -- the claim that an end port keeps after these
-abbrev pub kept_claim : Cells → List EndPort → EndPort → Option ℕ
-kept_claim cells earlier e = option_map_or (λ c. if can_keep cells earlier c then Some c else None) (claim_of cells e.node e.port) None
+abbrev pub kept_claim : ℕ → Cells → List EndPort → EndPort → Option ℕ
+kept_claim lmc cells earlier e = option_and_then (if_first lmc cells earlier e) (fitting_claim lmc cells e)
 
 -- end ports in their order, each with the claim that it keeps
-abbrev pub with_kept : Cells → List EndPort → List EndPort → List (EndPort × Option ℕ)
-with_kept cells earlier [] = []
-with_kept cells earlier (e ∷ rest) = (e, kept_claim cells earlier e) ∷ with_kept cells (e ∷ earlier) rest
+abbrev pub with_kept : ℕ → Cells → List EndPort → List EndPort → List (EndPort × Option ℕ)
+with_kept lmc cells earlier [] = []
+with_kept lmc cells earlier (e ∷ rest) = (e, kept_claim lmc cells earlier e) ∷ with_kept lmc cells (e ∷ earlier) rest
 
 -- each end port with the claim that it keeps
-abbrev pub kept : Cells → List (EndPort × Option ℕ)
-kept cells = with_kept cells [] (end_ports cells)
+abbrev pub kept : ℕ → Cells → List (EndPort × Option ℕ)
+kept lmc cells = with_kept lmc cells [] (end_ports cells)
 
--- the end port keeps the number n
-abbrev pub keeps : ℕ → EndPort × Option ℕ → Bool
-keeps n x = option_map_or (λ c. c == n) x.1 false
+-- the range of a claim that is kept
+abbrev pub kept_range : ℕ → EndPort × Option ℕ → Option Range
+kept_range lmc x = option_map (range_at lmc x.0) x.1
+
+-- LIDs that are handed out: -------------------------------------------------------
 
 -- so many numbers, counting up
 abbrev pub count_up : ℕ → ℕ → List ℕ
 count_up start zero = []
 count_up start (suc n) = start ∷ count_up (suc start) n
 
--- the LIDs that nobody keeps, rising
-abbrev pub free_lids : Cells → List ℕ
-free_lids cells = filter (λ n. not (list_any (keeps n) (kept cells))) (count_up 1 (room cells - 1))
+-- the range fits, and meets none of these
+abbrev pub is_open : ℕ → List Range → Range → Bool
+is_open room taken r = fits room r && not (list_any (meets r) taken)
 
--- kept claims stay, and the others take the free LIDs in turn
-abbrev pub hand_out : List (EndPort × Option ℕ) → List ℕ → List (EndPort × ℕ)
-hand_out [] free = []
-hand_out ((e, Some c) ∷ rest) free = (e, c) ∷ hand_out rest free
-hand_out ((e, None) ∷ rest) (n ∷ free) = (e, n) ∷ hand_out rest free
-hand_out ((e, None) ∷ rest) [] = hand_out rest []
+-- the least number from which on so many fit and meet none of these ranges
+abbrev pub least_open : ℕ → List Range → ℕ → Option ℕ
+least_open room taken width = find (λ c. is_open room taken (record { first = c; width = width })) (count_up 1 (room - 1))
 
--- the end ports in their order, with their LIDs
-abbrev pub lids : Cells → List (EndPort × ℕ)
-lids cells = hand_out (kept cells) (free_lids cells)
+-- kept claims stay, and each other end port in turn takes the least number whose range is open; None where one finds none
+abbrev pub hand_out : ℕ → ℕ → List Range → List (EndPort × Option ℕ) → Option (List (EndPort × ℕ))
+hand_out room lmc taken [] = Some []
+hand_out room lmc taken ((e, Some c) ∷ rest) = option_map (λ given. (e, c) ∷ given) (hand_out room lmc taken rest)
+hand_out room lmc taken ((e, None) ∷ rest) =
+    option_and_then (λ c. option_map (λ given. (e, c) ∷ given) (hand_out room lmc (range_at lmc e c ∷ taken) rest)) (least_open room taken (width_of lmc e))
 
--- there are end ports, and not fewer than the room
-abbrev pub IsNoRoom : Cells → Type 0
-IsNoRoom cells = (0 < length (end_ports cells)) × (room cells ≤ length (end_ports cells))
+-- the end ports in their order, with their LIDs, where each has one
+abbrev pub handed_out : ℕ → Cells → Option (List (EndPort × ℕ))
+handed_out lmc cells = hand_out (room cells) lmc (filter_map (kept_range lmc) (kept lmc cells)) (kept lmc cells)
 
--- the test of it
-abbrev pub is_no_room : Cells → Bool
-is_no_room cells = nat_lt 0 (length (end_ports cells)) && nat_le (room cells) (length (end_ports cells))
+-- the LMC of a subnet, and its end ports in their order, each with its LID
+pub record Given : Type 0 where
+  pub lmc : ℕ
+  pub ports : List (EndPort × ℕ)
 
--- which says what the words say
-abbrev pub NoRoomLaw : Type 0
-NoRoomLaw = (cells : Cells) → IsTrue (is_no_room cells) ↔ IsNoRoom cells
+-- the LIDs of a view under an LMC
+abbrev pub lids : ℕ → Cells → Given
+lids lmc cells = record { lmc = lmc; ports = unwrap_or (handed_out lmc cells) [] }
 
--- the end port that has a LID
-abbrev pub owner_of : List (EndPort × ℕ) → ℕ → Option EndPort
-owner_of given lid = option_map (λ x. x.0) (find (λ x. x.1 == lid) given)
+-- one of the end ports finds no LID
+abbrev pub is_no_room : ℕ → Cells → Bool
+is_no_room lmc cells = not (is_some (handed_out lmc cells))
+
+abbrev pub IsNoRoom : ℕ → Cells → Type 0
+IsNoRoom lmc cells = IsTrue (is_no_room lmc cells)
+
+-- what the LIDs say: ---------------------------------------------------------------
+
+-- the number is one of this end port's
+abbrev pub has_number : ℕ → ℕ → EndPort × ℕ → Bool
+has_number lmc n x = is_in (range_at lmc x.0 x.1) n
+
+-- the end port whose range has a number
+abbrev pub owner_of : Given → ℕ → Option EndPort
+owner_of given n = option_map (λ x. x.0) (find (has_number given.lmc n) given.ports)
 
 -- the LID is this end port's
 abbrev pub is_end_port_at : EndPort → EndPort × ℕ → Bool
 is_end_port_at e x = e.node == x.0.node && e.port == x.0.port
 
--- the LID that an end port has
-abbrev pub lid_of : List (EndPort × ℕ) → EndPort → Option ℕ
-lid_of given e = option_map (λ x. x.1) (find (is_end_port_at e) given)
+-- the LID that an end port has, the first number of its range
+abbrev pub lid_among : List (EndPort × ℕ) → EndPort → Option ℕ
+lid_among given e = option_map (λ x. x.1) (find (is_end_port_at e) given)
+
+abbrev pub lid_of : Given → EndPort → Option ℕ
+lid_of given e = lid_among given.ports e
+
+-- the LMC of an end port
+abbrev pub lmc_of : Given → EndPort → ℕ
+lmc_of given e = lmc_at given.lmc e
+
+-- the LID and the LMC that an end port has
+abbrev pub range_of : Given → EndPort → Option (ℕ × ℕ)
+range_of given e = option_map (λ lid. (lid, lmc_of given e)) (lid_of given e)
 
 -- the greatest of some numbers, and 0 where there is none
 abbrev pub greatest : List ℕ → ℕ
 greatest [] = 0
 greatest (n ∷ ns) = max n (greatest ns)
 
--- the greatest LID given
-abbrev pub top_of : List (EndPort × ℕ) → Option ℕ
-top_of [] = None
-top_of (x ∷ given) = Some (max x.1 (greatest (map (λ y. y.1) given)))
+-- the last number of an end port's range
+abbrev pub last_of : ℕ → EndPort × ℕ → ℕ
+last_of lmc x = x.1 + width_of lmc x.0 - 1
 
--- one more than the greatest LID, and 0 where there is none
+-- the last number of the highest of these ranges
+abbrev pub top_among : ℕ → List (EndPort × ℕ) → Option ℕ
+top_among lmc [] = None
+top_among lmc (x ∷ given) = Some (max (last_of lmc x) (greatest (map (last_of lmc) given)))
+
+-- the greatest number that an end port has
+abbrev pub top_of : Given → Option ℕ
+top_of given = top_among given.lmc given.ports
+
+-- one more than the greatest number, and 0 where there is none
 abbrev pub end_of : Option ℕ → ℕ
 end_of None = 0
 end_of (Some top) = suc top
 
+-- the number is an end port's LID
+abbrev pub is_lid : List (EndPort × ℕ) → ℕ → Bool
+is_lid given n = list_any (λ x. x.1 == n) given
+
 -- the LIDs that are given, rising
-abbrev pub rising_lids : List (EndPort × ℕ) → List ℕ
-rising_lids given = filter (λ n. is_some (owner_of given n)) (count_up 0 (end_of (top_of given)))
+abbrev pub rising_lids : Given → List ℕ
+rising_lids given = filter (is_lid given.ports) (count_up 0 (end_of (top_of given)))
 
 -- the law of the LIDs, in words: ---------------------------------------------------
 
@@ -110,35 +161,66 @@ rising_lids given = filter (λ n. is_some (owner_of given n)) (count_up 0 (end_o
 abbrev pub Stands : {X : Type 0} → List X → X → List X → List X → Type 0
 Stands earlier x later all = all ≡ earlier ++ x ∷ later
 
--- the claim c is the end port's own, within the room, and no earlier end port's
-abbrev pub Keeps : Cells → EndPort → ℕ → Type 0
-Keeps cells e c = (earlier later : List EndPort) → Stands earlier e later (end_ports cells) → (claim_of cells e.node e.port ≡ Some c) × (1 ≤ c) × (c < room cells) × ((x : EndPort) → Contains earlier x → claim_of cells x.node x.port ≢ Some c)
+-- the end port claims the number c, and its range fits
+pub record ClaimsFitting (lmc : ℕ) (cells : Cells) (e : EndPort) (c : ℕ) : Type 0 where
+  pub claimed : claim_of cells e.node e.port ≡ Some c
+  pub claim_fits : Fits (room cells) (range_at lmc e c)
+
+-- such a claim, whose range has no number in common with one that an earlier end port claims so
+abbrev pub Keeps : ℕ → Cells → EndPort → ℕ → Type 0
+Keeps lmc cells e c = (earlier later : List EndPort) → Stands earlier e later (end_ports cells) → ClaimsFitting lmc cells e c
+    × ((x : EndPort) (d n : ℕ) → Contains earlier x → ClaimsFitting lmc cells x d → IsInBoth (range_at lmc e c) (range_at lmc x d) n → ⊥)
 
 -- the end port keeps no claim
-abbrev pub KeepsNothing : Cells → EndPort → Type 0
-KeepsNothing cells e = (c : ℕ) → Keeps cells e c → ⊥
+abbrev pub KeepsNothing : ℕ → Cells → EndPort → Type 0
+KeepsNothing lmc cells e = (c : ℕ) → Keeps lmc cells e c → ⊥
 
--- the end ports in order, each with the claim that it keeps or the least LID that is left
-pub record AreLids (cells : Cells) (given : List (EndPort × ℕ)) : Type 0 where
+-- a number of an end port that keeps its claim, or was before
+pub record WasTaken (lmc : ℕ) (cells : Cells) (earlier given : List (EndPort × ℕ)) (n : ℕ) : Type 0 where
+  pub by : EndPort
+  pub lid : ℕ
+  pub is_given : Contains given (by, lid)
+  pub is_before : Contains earlier (by, lid) ⊎ Keeps lmc cells by lid
+  pub is_its : IsIn (range_at lmc by lid) n
+
+-- the end ports in order, each with the claim that it keeps, or the least number whose range fits and has none that was taken
+pub record AreLids (lmc : ℕ) (cells : Cells) (given : List (EndPort × ℕ)) : Type 0 where
   pub end_ports_in_order : map (λ x. x.0) given ≡ end_ports cells
-  pub in_range : (e : EndPort) (n : ℕ) → Contains given (e, n) → (1 ≤ n) × (n < room cells)
-  pub distinct : (e f : EndPort) (n : ℕ) → Contains given (e, n) → Contains given (f, n) → e ≡ f
-  pub kept_stay : (e : EndPort) (n c : ℕ) → Contains given (e, n) → Keeps cells e c → n ≡ c
-  pub others_rise : (earlier middle later : List (EndPort × ℕ)) (e f : EndPort) (n m : ℕ) → given ≡ earlier ++ (e, n) ∷ middle ++ (f, m) ∷ later → KeepsNothing cells e → KeepsNothing cells f → n < m
-  pub none_skipped : (e : EndPort) (n m : ℕ) → Contains given (e, n) → KeepsNothing cells e → 1 ≤ m → m < n → (f : EndPort) × Contains given (f, m)
+  pub each_fits : (e : EndPort) (n : ℕ) → Contains given (e, n) → Fits (room cells) (range_at lmc e n)
+  pub apart : (e f : EndPort) (n m k : ℕ) → Contains given (e, n) → Contains given (f, m) → IsInBoth (range_at lmc e n) (range_at lmc f m) k → e ≡ f
+  pub kept_stay : (e : EndPort) (n c : ℕ) → Contains given (e, n) → Keeps lmc cells e c → n ≡ c
+  pub none_skipped : (earlier later : List (EndPort × ℕ)) (e : EndPort) (n m : ℕ) → Stands earlier (e, n) later given → KeepsNothing lmc cells e
+      → Fits (room cells) (range_at lmc e m) → m < n → (k : ℕ) × IsIn (range_at lmc e m) k × WasTaken lmc cells earlier given k
 
 -- where there is room, the LIDs are so
 abbrev pub LidsLaw : Type 0
-LidsLaw = (facts : Facts) → ¬ (IsNoRoom (cells_of facts)) → AreLids (cells_of facts) (lids (cells_of facts))
+LidsLaw = (lmc : ℕ) (facts : Facts) → ¬ (IsNoRoom lmc (cells_of facts)) → AreLids lmc (cells_of facts) (lids lmc (cells_of facts)).ports
 
--- and nothing else is so
+-- nothing else is so
 abbrev pub LidsAreUnique : Type 0
-LidsAreUnique = (facts : Facts) (given : List (EndPort × ℕ)) → AreLids (cells_of facts) given → given ≡ lids (cells_of facts)
+LidsAreUnique = (lmc : ℕ) (facts : Facts) (given : List (EndPort × ℕ)) → AreLids lmc (cells_of facts) given
+    → given ≡ (lids lmc (cells_of facts)).ports
 
--- who owns a LID has it, and who has it owns it
+-- and where there is no room, nothing is
+abbrev pub NoRoomLaw : Type 0
+NoRoomLaw = (lmc : ℕ) (facts : Facts) → IsNoRoom lmc (cells_of facts) ↔ ((given : List (EndPort × ℕ)) → AreLids lmc (cells_of facts) given → ⊥)
+
+-- with one LID a port, there is no room where there are end ports, and not fewer than the room
+abbrev pub NoRoomAtLmc0 : Type 0
+NoRoomAtLmc0 = (cells : Cells) → IsNoRoom 0 cells ↔ ((0 < length (end_ports cells)) × (room cells ≤ length (end_ports cells)))
+
+-- end ports of one width that keep no claim have rising LIDs
+abbrev pub OthersRise : Type 0
+OthersRise = (lmc : ℕ) (facts : Facts) (given earlier middle later : List (EndPort × ℕ)) (e f : EndPort) (n m : ℕ) → AreLids lmc (cells_of facts) given
+    → given ≡ earlier ++ (e, n) ∷ middle ++ (f, m) ∷ later → width_of lmc e ≡ width_of lmc f
+    → KeepsNothing lmc (cells_of facts) e → KeepsNothing lmc (cells_of facts) f → n < m
+
+-- who owns a number has it, as one of the LIDs of its port, and who has it so owns it
 abbrev pub OwnersAreInverse : Type 0
-OwnersAreInverse = (facts : Facts) → ¬ (IsNoRoom (cells_of facts)) → (e : EndPort) (lid : ℕ) → (owner_of (lids (cells_of facts)) lid ≡ Some e) ↔ (lid_of (lids (cells_of facts)) e ≡ Some lid)
+OwnersAreInverse = (lmc : ℕ) (facts : Facts) → ¬ (IsNoRoom lmc (cells_of facts)) → (e : EndPort) (n : ℕ)
+    → (owner_of (lids lmc (cells_of facts)) n ≡ Some e)
+    ↔ ((lid : ℕ) × (lid_of (lids lmc (cells_of facts)) e ≡ Some lid) × IsTrue (has_lid lid (lmc_of (lids lmc (cells_of facts)) e) n))
 
 -- the rising LIDs are those that are given, each once
 abbrev pub RisingLidsLaw : Type 0
-RisingLidsLaw = (given : List (EndPort × ℕ)) → ((n : ℕ) → Contains (rising_lids given) n ↔ ((e : EndPort) × Contains given (e, n))) × AllPairs (λ m n. m < n) (rising_lids given)
+RisingLidsLaw = (given : Given) → ((n : ℕ) → Contains (rising_lids given) n ↔ ((e : EndPort) × Contains given.ports (e, n))) × AllPairs (λ m n. m < n) (rising_lids given)

@@ -1,31 +1,80 @@
--- Marks on numbers: which are claimed, and which are therefore not free.
-use Rattle.std.specs.Prelude.{◌≡◌, ◌<◌, ◌≤◌, ◌-◌, ℕ, suc, Bool, false, true, List, [], ◌∷◌, length, filter, Option, None, Some, ◌&&◌, not, nat_le, nat_lt, slice_index_or, slice_set, if◌then◌else◌}
+-- Marks on numbers: which are claimed, and which are taken.
+use Rattle.std.specs.Prelude.{◌≡◌, ◌<◌, ◌≤◌, ◌+◌, ◌%◌, ◌^◌, ℕ, Bool, true, false, List, length, Option, None, Some, ◌||◌, option_map, option_and_then, slice_index_or, if◌then◌else◌}
+use Rattle.std.specs.Option.{option_map_or}
 use Rattle.std.specs.List.{list_any}
 use Rattle.subnet_view.specs.declared.end_port.EndPort.{EndPort}
-use Rattle.subnet_view.specs.Reading.{Cells}
-use Rattle.lid_assign.specs.Lids.{room, keeps, kept, count_up}
+use Rattle.lid_assign.specs.declared.give.Next.{Next}
+use Rattle.lid_assign.specs.Ranges.{Range, is_in, fits}
+use Rattle.lid_assign.specs.Lids.{count_up}
 
--- the claim that is kept: a LID that has a mark to set, and is not marked
-abbrev pub unmarked : List Bool → Option ℕ → Option ℕ
-unmarked marks None = None
-unmarked marks (Some c) = if nat_le 1 c && nat_lt c (length marks) && not (slice_index_or marks c false) then Some c else None
+abbrev pub is_marked : List Bool → ℕ → Bool
+is_marked marks n = slice_index_or marks n false
 
--- the marks with that of the claim set
-abbrev pub with_mark : List Bool → Option ℕ → List Bool
-with_mark marks None = marks
-with_mark marks (Some c) = slice_set marks c true
+-- a number of the range is marked
+abbrev pub any_marked : List Bool → Range → Bool
+any_marked marks r = list_any (is_marked marks) (count_up r.first r.width)
 
--- a mark for each number below the room, which for each LID says whether an end port keeps it
-pub record AreTaken (cells : Cells) (marks : List Bool) : Type 0 where
-  pub all : length marks ≡ room cells
-  pub taken : (n : ℕ) → 1 ≤ n → n < room cells → slice_index_or marks n false ≡ list_any (keeps n) (kept cells)
+-- the numbers from one on
+abbrev pub from_on : ℕ → ℕ → Range
+from_on width c = record { first = c; width = width }
 
--- the numbers from the first on that are not marked
-abbrev pub free_from : List Bool → ℕ → List ℕ
-free_from marks first = filter (λ n. not (slice_index_or marks n false)) (count_up first (length marks - first))
+-- the number is one of the range, where there is one
+abbrev pub is_in_some : Option Range → ℕ → Bool
+is_in_some r n = option_map_or (λ r. is_in r n) r false
 
--- how many end ports keep no claim
-abbrev pub others : List (EndPort × Option ℕ) → ℕ
-others [] = 0
-others ((e, Some c) ∷ ports) = others ports
-others ((e, None) ∷ ports) = suc (others ports)
+-- the marks, with those of a range set, where there is one
+pub record AreMarkedMore (r : Option Range) (old new : List Bool) : Type 0 where
+  pub all : length new ≡ length old
+  pub each : (n : ℕ) → n < length old → is_marked new n ≡ (is_in_some r n || is_marked old n)
+
+-- the number, where so many from it on have marks
+abbrev pub if_within : ℕ → ℕ → ℕ → Option ℕ
+if_within room width c = if fits room (from_on width c) then Some c else None
+
+-- the claim, where the range from it on fits
+abbrev pub fitting : ℕ → ℕ → Option ℕ → Option ℕ
+fitting room width claim = option_and_then (if_within room width) claim
+
+-- the number, where none from it on is marked
+abbrev pub if_unmarked : List Bool → ℕ → ℕ → Option ℕ
+if_unmarked marks width c = if any_marked marks (from_on width c) then None else Some c
+
+-- the claim that is kept: its range fits, and has no mark
+abbrev pub unmarked : List Bool → ℕ → Option ℕ → Option ℕ
+unmarked marks width claim = option_and_then (if_unmarked marks width) (fitting (length marks) width claim)
+
+-- the range from a number on fits, and has no mark
+pub record IsUnmarked (marks : List Bool) (width c : ℕ) : Type 0 where
+  pub is_fit : fits (length marks) (from_on width c) ≡ true
+  pub is_open : any_marked marks (from_on width c) ≡ false
+
+-- no number from one on and below another is such
+abbrev pub NoneUnmarked : List Bool → ℕ → ℕ → ℕ → Type 0
+NoneUnmarked marks width low high = (c : ℕ) → low ≤ c → c < high → IsUnmarked marks width c → ⊥
+
+-- the least such number from one on
+pub record IsLeastUnmarked (marks : List Bool) (width low c : ℕ) : Type 0 where
+  pub unmarked_there : IsUnmarked marks width c
+  pub from_low : low ≤ c
+  pub none_before : NoneUnmarked marks width low c
+
+-- the numbers that these ranges have are marked, below the room
+pub record AreTaken (room : ℕ) (ranges : List Range) (marks : List Bool) : Type 0 where
+  pub all : length marks ≡ room
+  pub each : (n : ℕ) → n < room → is_marked marks n ≡ list_any (λ r. is_in r n) ranges
+
+-- no number below this one is open for so many, and it may be the next
+pub record IsPassed (marks : List Bool) (width next : ℕ) : Type 0 where
+  pub aligned : next % width ≡ 0
+  pub not_0 : 1 ≤ next
+  pub near : next ≤ length marks + width
+  pub none_before : NoneUnmarked marks width 0 next
+
+-- so it is for switches, and for adapters
+pub record ArePassed (lmc : ℕ) (marks : List Bool) (next : Next) : Type 0 where
+  pub switches : IsPassed marks 1 next.switch
+  pub adapters : IsPassed marks (2 ^ lmc) next.adapter
+
+-- what was found: the LIDs, or that one of the end ports finds none
+abbrev pub IsFound : {V : Type 0} → (V → List (EndPort × ℕ)) → Option (List (EndPort × ℕ)) → Option V → Type 0
+IsFound items handed found = option_map items found ≡ handed

@@ -1,6 +1,5 @@
 -- The table rooms of usable switches, as a walk of the cells finds them.
 use Rattle.std.specs.Prelude.{ℕ, Option, None, Some}
-use Rattle.std.specs.List.{filter_map}
 use Rattle.fact_join.specs.declared.cell.Cell.{Cell}
 use Rattle.fact_store.specs.declared.key.Key.{Key}
 use Rattle.fact_store.specs.declared.value.Value.{Value}

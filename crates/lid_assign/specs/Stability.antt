@@ -13,30 +13,31 @@ abbrev pub DifferInClaims : Facts → Facts → Type 0
 DifferInClaims x y = (key : Key) → ((g p : ℕ) → key ≢ Claim g p) → cell_for x key ≡ cell_for y key
 
 -- each end port of the first claims in the second the LID that it has in the first
-abbrev pub ClaimLids : Cells → Cells → Type 0
-ClaimLids x y = (e : EndPort) (lid : ℕ) → lid_of (lids x) e ≡ Some lid → claim_of y e.node e.port ≡ Some lid
+abbrev pub ClaimLids : ℕ → Cells → Cells → Type 0
+ClaimLids lmc x y = (e : EndPort) (lid : ℕ) → lid_of (lids lmc x) e ≡ Some lid → claim_of y e.node e.port ≡ Some lid
 
 -- the second view is the first once its LIDs are claimed
-pub record IsClaimed (x y : Facts) : Type 0 where
+pub record IsClaimed (lmc : ℕ) (x y : Facts) : Type 0 where
   pub same : DifferInClaims x y
-  pub claimed : ClaimLids (cells_of x) (cells_of y)
+  pub claimed : ClaimLids lmc (cells_of x) (cells_of y)
 
--- once the LIDs of a view are claimed, they are given again
+-- once the LIDs of a view are claimed, they are given again under the same LMC
 abbrev pub LidsSettle : Type 0
-LidsSettle = (x y : Facts) → ¬ (IsNoRoom (cells_of x)) → IsClaimed x y → ¬ (IsNoRoom (cells_of y)) × (lids (cells_of y) ≡ lids (cells_of x))
+LidsSettle = (lmc : ℕ) (x y : Facts) → ¬ (IsNoRoom lmc (cells_of x)) → IsClaimed lmc x y
+    → ¬ (IsNoRoom lmc (cells_of y)) × (lids lmc (cells_of y) ≡ lids lmc (cells_of x))
 
 -- the end port claims nothing, or 0
 abbrev pub ClaimsNothing : Cells → EndPort → Type 0
 ClaimsNothing cells e = (claim_of cells e.node e.port ≡ None) ⊎ (claim_of cells e.node e.port ≡ Some 0)
 
 -- the second view has the first's end ports, which claim their LIDs, other end ports that claim nothing, and room for these LIDs
-pub record GrowsFrom (x z : Cells) : Type 0 where
+pub record GrowsFrom (lmc : ℕ) (x z : Cells) : Type 0 where
   pub has : (e : EndPort) → Contains (end_ports x) e → Contains (end_ports z) e
-  pub claimed : ClaimLids x z
+  pub claimed : ClaimLids lmc x z
   pub others : (e : EndPort) → Contains (end_ports z) e → (Contains (end_ports x) e → ⊥) → ClaimsNothing z e
-  pub in_room : (top : ℕ) → top_of (lids x) ≡ Some top → top < room z
+  pub in_room : (top : ℕ) → top_of (lids lmc x) ≡ Some top → top < room z
 
--- LIDs that are claimed stay, whatever end ports come
+-- LIDs that are claimed stay under the same LMC, whatever end ports come
 abbrev pub LidsStay : Type 0
-LidsStay = (x z : Facts) → ¬ (IsNoRoom (cells_of x)) → ¬ (IsNoRoom (cells_of z)) → GrowsFrom (cells_of x) (cells_of z)
-    → (e : EndPort) (lid : ℕ) → lid_of (lids (cells_of x)) e ≡ Some lid → lid_of (lids (cells_of z)) e ≡ Some lid
+LidsStay = (lmc : ℕ) (x z : Facts) → ¬ (IsNoRoom lmc (cells_of x)) → ¬ (IsNoRoom lmc (cells_of z)) → GrowsFrom lmc (cells_of x) (cells_of z)
+    → (e : EndPort) (lid : ℕ) → lid_of (lids lmc (cells_of x)) e ≡ Some lid → lid_of (lids lmc (cells_of z)) e ≡ Some lid

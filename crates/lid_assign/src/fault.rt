@@ -4,8 +4,7 @@ use fact_store::Refused;
 use std::alloc::AllocError;
 use thiserror::Error;
 
-/// There are end ports, and no fewer of them than the smallest forwarding table has room for LIDs,
-/// 0 among them.
+/// An end port finds no LID: no range that fits is left below the room of the smallest forwarding table.
 #[derive(Clone, Copy, Debug, PartialEq, Eq)]
 pub struct NoRoom {
     /// How many end ports there are.

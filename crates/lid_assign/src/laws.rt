@@ -1,15 +1,16 @@
 //! The laws of the LIDs that are given.
-ghost use Rattle.lid_assign.specs.Lids.{LidsLaw, LidsAreUnique, NoRoomLaw, OwnersAreInverse, RisingLidsLaw};
+ghost use Rattle.lid_assign.specs.Lids.{LidsLaw, LidsAreUnique, NoRoomAtLmc0, NoRoomLaw, OthersRise, OwnersAreInverse, RisingLidsLaw};
+ghost use Rattle.lid_assign.specs.Ranges.{RangesLaw};
 ghost use Rattle.lid_assign.specs.Stability.{LidsSettle, LidsStay};
 
-/// There is no room where there are end ports, and not fewer of them than LIDs below the room, 0 among
-/// them.
-pub fn no_room_law()
-    ensures { NoRoomLaw }
+/// A number is in a range, two ranges meet, and a range fits below a room, just where the words say so.
+pub fn ranges_law()
+    ensures { RangesLaw }
 {}
 
-/// Where there is room, each end port has one LID below it, and no two have the same; an end port keeps
-/// the claim that no earlier one makes; and the others have the least numbers that are left, rising.
+/// Where there is room, each end port has one LID, whose range fits below it, and no two ranges have a number
+/// in common; an end port keeps a claim whose range fits and meets none that fits and that an earlier end port
+/// claims; and each other one has the least number whose range fits and was not taken in part before.
 pub fn lids_law()
     ensures { LidsLaw }
 {}
@@ -19,7 +20,23 @@ pub fn lids_are_unique()
     ensures { LidsAreUnique }
 {}
 
-/// Who owns a LID has it, and who has it owns it.
+/// There is no room just where no LIDs have that law.
+pub fn no_room_law()
+    ensures { NoRoomLaw }
+{}
+
+/// With one LID a port there is no room just where there are end ports, and not fewer than LIDs below the
+/// room, 0 among them.
+pub fn no_room_at_lmc_0()
+    ensures { NoRoomAtLmc0 }
+{}
+
+/// End ports of one width that keep no claim have rising LIDs.
+pub fn others_rise()
+    ensures { OthersRise }
+{}
+
+/// Who owns a number has a LID whose range has it, and who has such a LID owns it.
 pub fn owners_are_inverse()
     ensures { OwnersAreInverse }
 {}
@@ -36,7 +53,7 @@ pub fn lids_settle()
 {}
 
 /// End ports that claim the LIDs that they have in one view keep them in each view with room where the
-/// other end ports claim nothing or 0, and whose tables have room for the greatest of these LIDs.
+/// other end ports claim nothing or 0, and whose tables have room for the ranges of these LIDs.
 pub fn lids_stay()
     ensures { LidsStay }
 {}

@@ -1,50 +1,60 @@
-ghost use Rattle.std.specs.Prelude.{◌≡◌, ◌≤◌, ◌^◌, length, IfOk, max, unwrap_or};
-ghost use Rattle.lid_assign.specs.Lids.{owner_of, lid_of, top_of, end_of, rising_lids};
-ghost use Rattle.lid_assign.specs.Indexed.{AreOwners, AreBelow, ByPort, owned_from};
+ghost use Rattle.std.specs.Prelude.{◌≡◌, ◌+◌, ◌<◌, ◌≤◌, ◌^◌, length, vec_len, IfOk, max, unwrap_or};
+ghost use Rattle.lid_assign.specs.Ranges.{range_at, width_of};
+ghost use Rattle.lid_assign.specs.Lids.{owner_of, lid_of, lmc_of, top_of, top_among, end_of, last_of, rising_lids};
+ghost use Rattle.lid_assign.specs.Indexed.{AreOwners, AreOwnersMore, AreLidMarks, AreBelow, ByPort, marked_from};
 
+use crate::marks::{lmc_at, width};
+use attr_codec::Lmc;
 use smp_bytes::{Guid, Lid, PortNum};
 use std::alloc::{AllocError, Global};
 use std::collections::BTreeMap;
 use std::marker::Model;
 use subnet_view::EndPort;
 
-/// The LID of each end port.
+/// The LID of each end port, and with it its range: one number of a switch, and 2^LMC of an adapter's port.
 #[derive(Drop)]
 pub struct LidMap {
+    lmc: Lmc,
     /// The end ports in their order, each with its LID.
     given: Vec<(EndPort, Lid)>,
-    /// The end port that has a LID, at the LID.
+    /// The end port that has a number, at the number.
     owners: Vec<Option<EndPort>>,
     /// The LID of a port of a node.
     by_port: BTreeMap<(Guid, PortNum), Lid>,
-    /// The greatest LID.
+    /// The greatest number that an end port has.
     top: Option<Lid>,
     /// The LIDs that are given, rising.
     rising: Vec<Lid>,
 }
 
 impl Model for LidMap {
-    ghost use Rattle.std.specs.Prelude.{List, ℕ};
-    ghost use Rattle.subnet_view.specs.declared.end_port.EndPort.{EndPort as Port};
     ghost use Rattle.lid_assign.specs.Indexed.{IsIndexed};
+    ghost use Rattle.lid_assign.specs.Lids.{Given};
 
-    ghost Value = { List (Port × ℕ) };
+    ghost Value = { Given };
 
-    ghost view = { λ a. a.given.items };
+    ghost view = { λ a. record { lmc = a.lmc; ports = a.given.items } };
 
-    ghost invariant = { λ a. IsIndexed a.given.items a.owners.items a.by_port a.top a.rising.items };
+    ghost invariant = { λ a. IsIndexed (record { lmc = a.lmc; ports = a.given.items })
+        a.owners.items a.by_port a.top a.rising.items };
 }
 
 impl LidMap {
     /// The map that gives these end ports these LIDs.
-    pub(crate) fn new(alloc: Global, given: Vec<(EndPort, Lid)>) -> Result<Self, AllocError>
-        ensures { IfOk result (λ map. map ≡ given.items) }
+    pub(crate) fn new(
+        alloc: Global,
+        lmc: Lmc,
+        given: Vec<(EndPort, Lid)>,
+    ) -> Result<Self, AllocError>
+        requires { AreBelow 0xC000 lmc given.items }
+        ensures { IfOk result (λ map. map ≡ record { lmc = lmc; ports = given.items }) }
     {
-        let top = top(&given);
-        let owners = owners(alloc, &given, end(&top))?;
+        let top = top(lmc, &given);
+        let owners = owners(alloc, lmc, &given, end(&top))?;
         let by_port = by_port(alloc, &given)?;
-        let rising = rising(alloc, &owners)?;
+        let rising = rising(alloc, &lid_marks(alloc, lmc, &given, end(&top))?)?;
         Ok(LidMap {
+            lmc,
             given,
             owners,
             by_port,
@@ -53,14 +63,21 @@ impl LidMap {
         })
     }
 
+    /// The LMC of an end port: 0 of port 0, which is a switch's, and else the one under which the LIDs are given.
+    pub fn lmc_of(&self, port: &EndPort) -> Lmc
+        ensures { result ≡ lmc_of self.now port.now }
+    {
+        lmc_at(self.lmc, *port)
+    }
+
     /// The end ports in their order, each with its LID.
     pub fn given(&self) -> &[(EndPort, Lid)]
-        ensures { result.now ≡ self.now }
+        ensures { result.now ≡ self.now.ports }
     {
         &self.given
     }
 
-    /// The end port that has a LID. Takes one step.
+    /// The end port whose range has a number. Takes one step.
     pub fn owner(&self, lid: Lid) -> Option<EndPort>
         ensures { result ≡ owner_of self.now lid }
     {
@@ -70,21 +87,21 @@ impl LidMap {
             .flatten()
     }
 
-    /// The LID of an end port. Takes a search.
+    /// The LID of an end port, the first number of its range. Takes a search.
     pub fn lid_of(&self, port: EndPort) -> Option<Lid>
         ensures { result ≡ lid_of self.now port }
     {
         self.by_port.get(&(port.node, port.port)).copied()
     }
 
-    /// The LIDs that are given, rising.
+    /// The LIDs that are given, one for each end port, rising.
     pub fn lids(&self) -> &[Lid]
         ensures { result.now ≡ rising_lids self.now }
     {
         &self.rising
     }
 
-    /// The greatest LID. It is held.
+    /// The greatest number that an end port has, the last of the highest range. It is held.
     pub fn top(&self) -> Option<Lid>
         ensures { result ≡ top_of self.now }
     {
@@ -92,38 +109,70 @@ impl LidMap {
     }
 }
 
-/// The end port that has a LID, at the LID. The first one's entry is written last.
+/// The end port that has a number, at the number. The first one's entries are written last.
 fn owners(
     alloc: Global,
+    lmc: Lmc,
     given: &[(EndPort, Lid)],
     end: usize,
 ) -> Result<Vec<Option<EndPort>>, AllocError>
-    requires { AreBelow end given.now }
-    ensures owners { IfOk result (λ owners. AreOwners given.now owners.items) }
-    ensures len { IfOk result (λ owners. length owners.items ≡ end) }
+    requires { AreBelow end lmc given.now }
+    ensures owners { IfOk result (λ owners.
+        AreOwners (record { lmc = lmc; ports = given.now }) owners.items) }
 {
     let mut owners = vec![in alloc; None; end]?;
-    for (port, lid) in given.iter().rev().copied() {
-        owners[usize::from(lid.number())] = Some(port);
+    for one in given.iter().rev() {
+        own(&mut owners, lmc, one);
     }
     Ok(owners)
 }
 
-/// The LIDs that have an owner, rising.
-fn rising(alloc: Global, owners: &[Option<EndPort>]) -> Result<Vec<Lid>, AllocError>
-    requires { length owners.now ≤ 2 ^ 16 }
-    ensures { IfOk result (λ lids. lids.items ≡ owned_from owners.now 0) }
+/// Gives an end port the numbers of its range.
+fn own(owners: &mut Vec<Option<EndPort>>, lmc: Lmc, given: &(EndPort, Lid))
+    requires { given.now.1 + width_of lmc given.now.0 ≤ vec_len owners.old }
+    ensures owned { AreOwnersMore given.now.0 (range_at lmc given.now.0 given.now.1)
+        owners.old.items owners.new.items }
+    ensures len { vec_len owners.new ≡ vec_len owners.old }
+{
+    let first = usize::from(given.1.number());
+    for n in first..first + width(lmc, given.0) {
+        owners[n] = Some(given.0);
+    }
+}
+
+/// A mark for each number, which says whether it is an end port's LID.
+fn lid_marks(
+    alloc: Global,
+    lmc: Lmc,
+    given: &[(EndPort, Lid)],
+    end: usize,
+) -> Result<Vec<bool>, AllocError>
+    requires { AreBelow end lmc given.now }
+    ensures marks { IfOk result (λ marks. AreLidMarks given.now marks.items) }
+    ensures len { IfOk result (λ marks. length marks.items ≡ end) }
+{
+    let mut marks = vec![in alloc; false; end]?;
+    for (_, lid) in given.iter().rev().copied() {
+        marks[usize::from(lid.number())] = true;
+    }
+    Ok(marks)
+}
+
+/// The numbers that are marked, rising.
+fn rising(alloc: Global, marks: &[bool]) -> Result<Vec<Lid>, AllocError>
+    requires { length marks.now ≤ 2 ^ 16 }
+    ensures { IfOk result (λ lids. lids.items ≡ marked_from marks.now 0) }
 {
     let mut lids = Vec::new(alloc);
-    for (lid, owner) in owners.iter().enumerate() {
-        if owner.is_some() {
+    for (lid, is_given) in marks.iter().enumerate() {
+        if *is_given {
             lids.push(Lid::new(lid as u16))?;
         }
     }
     Ok(lids)
 }
 
-/// One more than the greatest LID, and 0 where there is none.
+/// One more than the greatest number, and 0 where there is none.
 fn end(top: &Option<Lid>) -> usize
     ensures { result ≡ end_of top.now }
 {
@@ -147,18 +196,27 @@ fn by_port(
     Ok(lids)
 }
 
-/// The greatest LID.
-fn top(given: &[(EndPort, Lid)]) -> Option<Lid>
-    ensures { result ≡ top_of given.now }
+/// The greatest number that an end port has.
+fn top(lmc: Lmc, given: &[(EndPort, Lid)]) -> Option<Lid>
+    requires { AreBelow 0xC000 lmc given.now }
+    ensures { result ≡ top_among lmc given.now }
 {
     let mut top = None;
-    for (_, lid) in given.iter().rev().copied() {
-        top = Some(greater(top, lid));
+    for (port, lid) in given.iter().rev().copied() {
+        top = Some(greater(top, last(lmc, port, lid)));
     }
     top
 }
 
-/// The greater of two LIDs, where there may be one only.
+/// The last number of an end port's range.
+fn last(lmc: Lmc, port: EndPort, lid: Lid) -> Lid
+    requires { lid + width_of lmc port ≤ 0xC000 }
+    ensures { result ≡ last_of lmc (port, lid) }
+{
+    Lid::new(lid.number() + width(lmc, port) as u16 - 1)
+}
+
+/// The greater of two numbers, where there may be one only.
 fn greater(top: Option<Lid>, lid: Lid) -> Lid
     ensures { result ≡ max lid (unwrap_or top 0) }
 {

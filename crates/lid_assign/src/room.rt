@@ -2,36 +2,54 @@ ghost use Rattle.std.specs.Prelude.{◌≡◌, Some, length};
 ghost use Rattle.fact_store.specs.View.{cell_for, cells_of};
 ghost use Rattle.subnet_view.specs.EndPorts.{end_ports};
 ghost use Rattle.lid_assign.specs.LidFault.{no_room};
-ghost use Rattle.lid_assign.specs.Lids.{room};
+ghost use Rattle.lid_assign.specs.Lids.{is_no_room, room};
 ghost use Rattle.lid_assign.specs.Rooms.{usable_cap};
 
 use crate::fault::NoRoom;
+use crate::in_turn::runs_out;
+use attr_codec::Lmc;
 use fact_store::{Sighting, Store};
 use subnet_view::{cap, count_end_ports, usable_guid};
 
 /// The first number that is no unicast LID.
 const END: u16 = 0xC000;
 
-/// Whether the view's end ports have no room for LIDs, and how many they are then. Takes no memory. Walks the cells twice.
-pub fn no_room(store: &Store) -> Option<NoRoom>
-    ensures { result ≡ no_room (cells_of store.now) }
+/// Whether an end port of the view finds no LID, and how many end ports there are then. Takes no memory. Walks
+/// the cells twice where there are no fewer end ports than the room, or where their ranges have room one beside
+/// the other, as always with one LID a port; else twice for each end port.
+pub fn no_room(store: &Store, lmc: Lmc) -> Option<NoRoom>
+    ensures { result ≡ no_room lmc (cells_of store.now) }
 {
-    lack_of_room(store, count_end_ports(store), room(store))
-}
-
-/// Whether so many end ports have no room.
-pub(crate) fn lack_of_room(store: &Store, endports: usize, most: u16) -> Option<NoRoom>
-    requires ports { endports ≡ length (end_ports (cells_of store.now)) }
-    requires room { most ≡ room (cells_of store.now) }
-    ensures { result ≡ no_room (cells_of store.now) }
-{
-    if endports > 0 && usize::from(most) <= endports {
-        Some(NoRoom {
-            endports,
-            room: most,
-        })
+    if lacks_room(store, lmc) {
+        Some(room_and_end_ports(store))
     } else {
         None
+    }
+}
+
+/// Whether an end port of the view finds no LID.
+fn lacks_room(store: &Store, lmc: Lmc) -> bool
+    ensures { result ≡ is_no_room lmc (cells_of store.now) }
+{
+    let endports = count_end_ports(store);
+    let room = usize::from(room(store));
+    if endports >= room {
+        endports > 0
+    } else if (endports + 1) * usize::from(lmc.width()) <= room {
+        false
+    } else {
+        runs_out(store, lmc)
+    }
+}
+
+/// How many end ports there are, and how much room.
+pub(crate) fn room_and_end_ports(store: &Store) -> NoRoom
+    ensures { result ≡ record
+        { endports = length (end_ports (cells_of store.now)); room = room (cells_of store.now) } }
+{
+    NoRoom {
+        endports: count_end_ports(store),
+        room: room(store),
     }
 }
 

@@ -10,7 +10,7 @@ use Rattle.smp_bytes.specs.Requests.{flag}
 use Rattle.smp_bytes.proofs.FieldLaws.{length-with_number, length-with_numbers}
 use Rattle.attr_codec.specs.Image.{image}
 use Rattle.attr_codec.specs.NodeInfo.{entries_of}
-use Rattle.attr_codec.specs.PortInfo.{base_lid, master_sm_lid, local_port_num, port_state, is_sm_bit, number_of_state}
+use Rattle.attr_codec.specs.PortInfo.{base_lid, master_sm_lid, local_port_num, lmc, port_state, is_sm_bit, number_of_state}
 use Rattle.attr_codec.specs.SwitchInfo.{linear_fdb_cap, linear_fdb_top}
 use Rattle.node_agents.specs.declared.port.Port.{Port}
 use Rattle.node_agents.specs.declared.refusal.Refusal.{Refusal}
@@ -44,10 +44,17 @@ pub length-port_marked : (port : Port) (arrival : ℕ) → length (port_marked p
 length-port_marked port arrival =
     let long = length-port_image port arrival in length-with_bits is_sm_bit (flag port.is_sm) (image (port_entries port arrival)) (omega arith) ∙ long
 
+-- and with the LMC
+abbrev pub port_ranged : Port → ℕ → List ℕ
+port_ranged port arrival = with_bits lmc port.lmc (port_marked port arrival)
+
+pub length-port_ranged : (port : Port) (arrival : ℕ) → length (port_ranged port arrival) ≡ 64
+length-port_ranged port arrival = let long = length-port_marked port arrival in length-with_bits lmc port.lmc (port_marked port arrival) (omega arith) ∙ long
+
 pub length-port_info_of : (port : Port) (arrival : ℕ) → length (port_info_of port arrival) ≡ 64
 length-port_info_of port arrival =
-    let long = length-port_marked port arrival in
-    length-with_bits port_state (number_of_state port.state) (port_marked port arrival) (omega arith) ∙ long
+    let long = length-port_ranged port arrival in
+    length-with_bits port_state (number_of_state port.state) (port_ranged port arrival) (omega arith) ∙ long
 
 pub length-get_node_info : (a : Agent) (arrival : ℕ) → length (get_node_info a arrival) ≡ 64
 length-get_node_info a arrival = length-with_numbers 64 (entries_of (node_info_of a.node arrival)) (replicate 64 0) refl refl

@@ -1,30 +1,33 @@
 -- What a Set of each attribute does.
-use Rattle.std.proofs.Common.{◌≡◌, ◌≢◌, ◌⊎◌, ℕ, ◌+◌, ◌*◌, ◌^◌, ◌<◌, ◌≤◌, Bool, true, false, List, [], ◌∷◌, inl, inr, refl, sym, ap, ◌∙◌, subst, arith, length, take, drop, get_or, replicate}
+use Rattle.std.proofs.Common.{◌≡◌, ◌≢◌, ◌⊎◌, ℕ, ◌+◌, ◌*◌, ◌^◌, ◌<◌, ◌≤◌, Bool, true, false, List, [], ◌∷◌, inl, inr, refl, sym, ap, ◌∙◌, subst, arith, length, take, drop, get_or, mod-lt, replicate}
 use Rattle.std.specs.Prelude.{Option, Some, None, Result, Ok, option_map, option_and_then, find, if◌then◌else◌, ◌==◌, ◌||◌, nat_lt, nat_le}
-use Rattle.std.proofs.lemmas.Bool.{or_cases, eqb-true, ltb-true, ltb-false, leb-true, cases_lt}
+use Rattle.std.proofs.lemmas.Bool.{or_cases, eqb-true, ltb-true, leb-true, cases_lt}
 use Rattle.std.proofs.lemmas.Grind.{get_or_default_zero}
-use Rattle.std.proofs.lemmas.List.{get_or_past, get_or-set_same, get_or-set_other, length-drop, length-take-le}
+use Rattle.std.proofs.lemmas.Nat.{pow_pos}
+use Rattle.std.proofs.lemmas.List.{get_or-replicate, get_or_past, get_or-set_same, get_or-set_other, length-drop, length-take-le}
 use Rattle.smp_bytes.specs.Header.{switch_info, port_info, linear_forwarding_table}
 use Rattle.smp_bytes.specs.Field.{number_in, bytes_in, bits_in, with_bytes}
+use Rattle.smp_bytes.specs.LidRange.{lid_end}
 use Rattle.smp_bytes.specs.Packet.{attribute_id, attribute_modifier, attribute_data}
 use Rattle.smp_bytes.proofs.FieldLaws.{get_or-with_bytes, length-with_bytes, number_in-with_number_apart, number_in-with_numbers}
 use Rattle.smp_bytes.proofs.PlaceLaws.{get_or-with_bytes_inside, get_or-with_number, get_or-with_numbers_behind, bytes_in-with_bytes}
-use Rattle.smp_bytes.proofs.BitLaws.{bits_in-with_bits}
+use Rattle.smp_bytes.proofs.BitLaws.{bits_in-with_bits, bits_in-with_bits_apart}
 use Rattle.attr_codec.specs.Image.{image}
 use Rattle.attr_codec.specs.SwitchInfo.{linear_fdb_top}
-use Rattle.attr_codec.specs.PortInfo.{base_lid, port_state, number_of_state, state_of_number}
+use Rattle.attr_codec.specs.PortInfo.{base_lid, lmc, range_in, port_state, number_of_state, state_of_number}
 use Rattle.attr_codec.specs.declared.port_state.PortState.{PortState}
 use Rattle.attr_codec.specs.declared.port_state.PortState.TheVariants.{NoChange, Down, Initialize, Armed, Active}
 use Rattle.node_agents.specs.declared.port.Port.{Port}
-use Rattle.node_agents.specs.Agent.{Agent, IsAgent, is_switch, port_in, port_at, base_lid_at, with_port, max_unicast_lid}
+use Rattle.node_agents.specs.Agent.{Agent, IsAgent, is_switch, port_in, port_at, range_at, with_port}
 use Rattle.node_agents.specs.SwitchInfo.{get_switch_info}
-use Rattle.node_agents.specs.PortInfo.{has_lid, is_next_state, state_after, port_with, port_after, port_meant, port_info_of}
+use Rattle.node_agents.specs.PortInfo.{has_lid, max_lmc, is_next_state, state_after, port_with, are_lids_taken, port_after, port_meant, port_info_of}
 use Rattle.node_agents.specs.ForwardingBlock.{has_block}
 use Rattle.node_agents.specs.declared.refusal.Refusal.{Refusal}
 use Rattle.node_agents.specs.Answers.{get_of, answered}
 use Rattle.node_agents.specs.AnswerLaws.{SetsBlock, BlocksAreSet, SetsTop, TopsAreSet, SetsPort, PortsAreSet}
+use Rattle.node_agents.proofs.PortSteps.{lid_taken}
 use Rattle.node_agents.proofs.Shapes.{block_within}
-use Rattle.node_agents.proofs.Lengths.{port_entries, port_marked, switch_entries, length-port_image, length-port_marked}
+use Rattle.node_agents.proofs.Lengths.{port_entries, port_marked, port_ranged, switch_entries, length-port_image, length-port_marked, length-port_ranged}
 use Rattle.node_agents.proofs.Outcomes.{SetsPortInfo, SetsSwitchInfo, SetsABlock, what_is_set}
 use Rattle.node_agents.proofs.Told.{port_taken, from_choice, get_after_port, get_after_top, get_after_block, TakenTo, taken_to}
 
@@ -180,32 +183,32 @@ state_wished s t number (Some w) e h some =
 
 -- what became of a port
 pub record Became (port new : Port) (has : Bool) (payload : List ℕ) : Type 0 where
-  pub lid_fits : number_in base_lid payload ≤ max_unicast_lid
-  pub lid : has ≡ true → new.base_lid ≡ number_in base_lid payload
+  pub lid_fits : number_in base_lid payload < lid_end
+  pub lids : has ≡ true → (new.base_lid, new.lmc) ≡ range_in payload
   pub state : bits_in port_state payload ≢ 0 → number_of_state new.state ≡ bits_in port_state payload
 
-module _ (port new : Port) (has : Bool) (payload : List ℕ) where
-  became_with : (t : PortState) → number_in base_lid payload ≤ max_unicast_lid → (bits_in port_state payload ≢ 0 → number_of_state t ≡ bits_in port_state payload)
+module _ (port new : Port) (has : Bool) (most : ℕ) (payload : List ℕ) where
+  became_with : (t : PortState) → number_in base_lid payload < lid_end → (bits_in port_state payload ≢ 0 → number_of_state t ≡ bits_in port_state payload)
       → Became port (port_with port has payload t) has payload
   became_with t small state =
       record {
         lid_fits = small;
-        lid = λ e. ap (λ (b : Bool). if b then number_in base_lid payload else port.base_lid) e;
+        lids = λ e. ap (λ (b : Bool). (if b then number_in base_lid payload else port.base_lid, if b then bits_in lmc payload else port.lmc)) e;
         state = state;
       }
 
-  became_by : (b : Bool) (m : Option PortState) → (b ≡ false → number_in base_lid payload ≤ max_unicast_lid)
+  became_by : (b : Bool) (m : Option PortState) → (b ≡ true → number_in base_lid payload < lid_end)
       → ((t : PortState) → m ≡ Some t → bits_in port_state payload ≢ 0 → number_of_state t ≡ bits_in port_state payload)
-      → (if b then None else option_map (port_with port has payload) m) ≡ Some new → Became port new has payload
-  became_by true m small state h = cc
-  became_by false None small state h = cc
-  became_by false (Some t) small state h =
+      → (if b then option_map (port_with port has payload) m else None) ≡ Some new → Became port new has payload
+  became_by false m small state h = cc
+  became_by true None small state h = cc
+  became_by true (Some t) small state h =
       let e : port_with port has payload t ≡ new = cc in
       subst (λ (x : Port). Became port x has payload) e (became_with t (small refl) (state t refl))
 
-  pub became : port_after port has payload ≡ Some new → Became port new has payload
+  pub became : port_after port has most payload ≡ Some new → Became port new has payload
   became h =
-      became_by (nat_lt max_unicast_lid (number_in base_lid payload)) _ (λ b. ltb-false _ _ b)
+      became_by (are_lids_taken most payload) _ (lid_taken most payload)
       (λ t e. state_wished port.state t (bits_in port_state payload) (state_of_number (bits_in port_state payload)) refl e) h
 
 -- what is told of a port
@@ -214,15 +217,19 @@ module _ (port : Port) (arrival : ℕ) where
   told_lid small =
       let long = length-port_image port arrival in
       let marked = length-port_marked port arrival in
-      number_in-with_number_apart base_lid (record { at = 32; len = 1 }) _ (port_marked port arrival) (omega arith) refl
+      let ranged = length-port_ranged port arrival in
+      number_in-with_number_apart base_lid (record { at = 32; len = 1 }) _ (port_ranged port arrival) (omega arith) refl
+      ∙ number_in-with_number_apart base_lid (record { at = 34; len = 1 }) _ (port_marked port arrival) (omega arith) refl
       ∙ number_in-with_number_apart base_lid (record { at = 23; len = 1 }) _ (image (port_entries port arrival)) (omega arith) refl
       ∙ number_in-with_numbers 64 (port_entries port arrival) (replicate 64 0) 0 (record { field = base_lid; number = port.base_lid }) refl refl refl small
 
-  blank : get_or (port_marked port arrival) 32 0 ≡ 0
-  blank =
+  -- behind the LIDs and the number of the port nothing is written but the state and the LMC
+  blank : (i : ℕ) → 29 ≤ i → i < 64 → get_or (port_marked port arrival) i 0 ≡ 0
+  blank i from below =
       let long = length-port_image port arrival in
-      get_or-with_number (record { at = 23; len = 1 }) _ (image (port_entries port arrival)) 32 (omega arith) (inr (omega arith))
-      ∙ get_or-with_numbers_behind 29 (port_entries port arrival) (replicate 64 0) 32 (omega arith) refl (omega arith)
+      get_or-with_number (record { at = 23; len = 1 }) _ (image (port_entries port arrival)) i (omega arith) (inr (omega arith))
+      ∙ get_or-with_numbers_behind 29 (port_entries port arrival) (replicate 64 0) i (omega arith) refl (omega arith)
+      ∙ get_or-replicate 64 i 0 0 below
 
   state_small : (s : PortState) → number_of_state s < 16
   state_small NoChange = omega arith
@@ -231,22 +238,49 @@ module _ (port : Port) (arrival : ℕ) where
   state_small Armed = omega arith
   state_small Active = omega arith
 
+  -- and the state not before the LMC
+  below_lmc : get_or (port_ranged port arrival) 32 0 ≡ get_or (port_marked port arrival) 32 0
+  below_lmc =
+      let marked = length-port_marked port arrival in
+      get_or-with_number (record { at = 34; len = 1 }) _ (port_marked port arrival) 32 (omega arith) (inl (omega arith))
+
   pub told_state : bits_in port_state (port_info_of port arrival) ≡ number_of_state port.state
   told_state =
       let marked = length-port_marked port arrival in
-      let empty = blank in
-      bits_in-with_bits port_state (number_of_state port.state) (port_marked port arrival) (omega arith) (omega arith) (omega arith) (state_small port.state)
+      let ranged = length-port_ranged port arrival in
+      let empty = blank 32 (omega arith) (omega arith) in
+      let apart : get_or (port_ranged port arrival) 32 0 ≡ 0 = below_lmc ∙ empty in
+      bits_in-with_bits port_state (number_of_state port.state) (port_ranged port arrival) (omega arith) (omega arith) (omega arith) (state_small port.state)
+
+  pub told_lmc : port.lmc < 8 → bits_in lmc (port_info_of port arrival) ≡ port.lmc
+  told_lmc small =
+      let marked = length-port_marked port arrival in
+      let ranged = length-port_ranged port arrival in
+      let empty = blank 32 (omega arith) (omega arith) in
+      let none = blank 34 (omega arith) (omega arith) in
+      let apart : get_or (port_ranged port arrival) 32 0 ≡ 0 = below_lmc ∙ empty in
+      bits_in-with_bits_apart lmc port_state (number_of_state port.state) (port_ranged port arrival) (omega arith) (omega arith) (omega arith) (state_small port.state) refl
+      ∙ bits_in-with_bits lmc port.lmc (port_marked port arrival) (omega arith) (omega arith) (omega arith) (omega arith)
+
+-- and both, where they are those of a payload
+told_range : (port : Port) (arrival : ℕ) (payload : List ℕ) → (port.base_lid, port.lmc) ≡ range_in payload → number_in base_lid payload < lid_end
+    → range_in (port_info_of port arrival) ≡ (port.base_lid, port.lmc)
+told_range port arrival payload e fits =
+    let lid : port.base_lid ≡ number_in base_lid payload = ap (λ (x : ℕ × ℕ). x.0) e in
+    let lmc_is : port.lmc ≡ bits_in lmc payload = ap (λ (x : ℕ × ℕ). x.1) e in
+    let small : bits_in lmc payload < 8 = mod-lt _ (pow_pos 3) in
+    λ i. (told_lid port arrival (omega arith) i, told_lmc port arrival (omega arith) i)
 
 sets_port : (a : Agent) (port arrival : ℕ) (payload : List ℕ) (new : Port) → port < length a.ports
     → Became (port_at a port) new (has_lid a port) payload
     → SetsPort a (with_port a port new) port payload (port_info_of (port_at (with_port a port new) port) arrival)
 sets_port a port arrival payload new there is =
     let here : port_at (with_port a port new) port ≡ new = get_or-set_same a.ports port new (port_in Down) there in
-    let lid : has_lid a port ≡ true → base_lid_at (with_port a port new) port ≡ number_in base_lid payload =
-    λ h. ap (λ (p : Port). p.base_lid) here ∙ is.lid h in
+    let lids : has_lid a port ≡ true → range_at (with_port a port new) port ≡ range_in payload =
+    λ h. ap (λ (p : Port). (p.base_lid, p.lmc)) here ∙ is.lids h in
     record {
-      lid = lid;
-      lid_told = λ h. let fits = is.lid_fits in let same = lid h in told_lid (port_at (with_port a port new) port) arrival (omega arith) ∙ lid h;
+      lids = lids;
+      lids_told = λ h. told_range (port_at (with_port a port new) port) arrival payload (lids h) is.lid_fits ∙ lids h;
       state_told = λ some. told_state (port_at (with_port a port new) port) arrival ∙ ap (λ (p : Port). number_of_state p.state) here ∙ is.state some;
       others = λ place other. get_or-set_other a.ports port place new (port_in Down) other;
       all_else = refl;
@@ -280,7 +314,7 @@ ports_are_set a packet arrival port there is meant =
     let count : length a.ports ≡ a.node.ports + 1 = is.agent.count in
     let P : Agent → List ℕ → Type 0 = λ x told. SetsPort a x port payload told in
     let of_port : SetsPort a (with_port a after.0 after.1) after.0 payload (port_info_of (port_at (with_port a after.0 after.1) after.0) arrival) =
-    sets_port a after.0 arrival payload after.1 (omega arith) (became (port_at a after.0) after.1 (has_lid a after.0) payload after.2.after) in
+    sets_port a after.0 arrival payload after.1 (omega arith) (became (port_at a after.0) after.1 (has_lid a after.0) (max_lmc a after.0) payload after.2.after) in
     let of_agent : SetsPort a b after.0 payload (port_info_of (port_at b after.0) arrival) =
     subst (λ (x : Agent). SetsPort a x after.0 payload (port_info_of (port_at x after.0) arrival)) after.2.agent of_port in
     let known : SetsPort a b port payload (port_info_of (port_at b after.0) arrival) =

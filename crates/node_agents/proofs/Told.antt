@@ -11,7 +11,7 @@ use Rattle.node_agents.specs.declared.refusal.Refusal.{Refusal}
 use Rattle.node_agents.specs.declared.refusal.Refusal.TheVariants.{Method, MethodAndAttribute, InvalidField}
 use Rattle.node_agents.specs.Agent.{Agent, IsAgent, is_switch, port_at, with_port}
 use Rattle.node_agents.specs.SwitchInfo.{get_switch_info, set_switch_info}
-use Rattle.node_agents.specs.PortInfo.{has_lid, port_meant, port_info_of, port_after, changed_port, set_port_info}
+use Rattle.node_agents.specs.PortInfo.{has_lid, max_lmc, port_meant, port_info_of, port_after, changed_port, set_port_info}
 use Rattle.node_agents.specs.ForwardingBlock.{has_block, set_block}
 use Rattle.node_agents.specs.Answers.{get_attribute, get_of, set_of, Met, met_set, met, status_told, payload_told, answered}
 use Rattle.node_agents.specs.AnswerLaws.{GetsChangeNothing, RefusalsChangeNothing, IsTaken, IsAboutTheSame, GetsTellAsSets}
@@ -23,14 +23,14 @@ use Rattle.node_agents.proofs.Outcomes.{answers_hold, SetsPortInfo, SetsSwitchIn
 -- the port that was meant, and what became of it
 pub record PortTaken (a b : Agent) (modifier arrival : ℕ) (payload : List ℕ) (port : ℕ) (new : Port) : Type 0 where
   pub meant : port_meant a modifier arrival ≡ Some port
-  pub after : port_after (port_at a port) (has_lid a port) payload ≡ Some new
+  pub after : port_after (port_at a port) (has_lid a port) (max_lmc a port) payload ≡ Some new
   pub agent : with_port a port new ≡ b
 
 abbrev pub APortIsTaken : Agent → Agent → ℕ → ℕ → List ℕ → Type 0
 APortIsTaken a b modifier arrival payload = (port : ℕ) × (new : Port) × PortTaken a b modifier arrival payload port new
 
 module _ (a b : Agent) (modifier arrival : ℕ) (payload : List ℕ) where
-  port_became : (port : ℕ) (m : Option Port) → m ≡ port_after (port_at a port) (has_lid a port) payload → port_meant a modifier arrival ≡ Some port
+  port_became : (port : ℕ) (m : Option Port) → m ≡ port_after (port_at a port) (has_lid a port) (max_lmc a port) payload → port_meant a modifier arrival ≡ Some port
       → option_map (λ (changed : ℕ × Port). with_port a changed.0 changed.1) (option_map (λ (after : Port). (port, after)) m) ≡ Some b
       → APortIsTaken a b modifier arrival payload
   port_became port None e meant h = cc
@@ -38,7 +38,7 @@ module _ (a b : Agent) (modifier arrival : ℕ) (payload : List ℕ) where
 
   port_was : (m : Option ℕ) → m ≡ port_meant a modifier arrival
       → option_map (λ (changed : ℕ × Port). with_port a changed.0 changed.1)
-      (option_and_then (λ port. option_map (λ (after : Port). (port, after)) (port_after (port_at a port) (has_lid a port) payload)) m) ≡ Some b
+      (option_and_then (λ port. option_map (λ (after : Port). (port, after)) (port_after (port_at a port) (has_lid a port) (max_lmc a port) payload)) m) ≡ Some b
       → APortIsTaken a b modifier arrival payload
   port_was None e h = cc
   port_was (Some port) e h = port_became port _ refl (sym e) h

@@ -3,6 +3,7 @@ use Rattle.std.specs.Prelude.{◌≡◌, ◌≢◌, ℕ, ◌+◌, ◌*◌, ◌/�
 use Rattle.smp_bytes.specs.declared.node_type.NodeType.{NodeType}
 use Rattle.smp_bytes.specs.NodeType as types
 use Rattle.smp_bytes.specs.Fabric.{Node}
+use Rattle.smp_bytes.specs.LidRange.{has_lid as is_lid_of, lid_end}
 use Rattle.attr_codec.specs.declared.port_state.PortState.{PortState}
 use Rattle.attr_codec.specs.declared.port_state.PortState.TheVariants.{NoChange, Down, Initialize, Active}
 use Rattle.node_agents.specs.declared.agent_node.AgentNode.{AgentNode}
@@ -22,7 +23,7 @@ is_switch a = types.is_switch a.node.kind
 
 -- a port that nothing was written to, in a state
 abbrev pub port_in : PortState → Port
-port_in state = record { base_lid = 0; master_sm_lid = 0; state = state; is_sm = false }
+port_in state = record { base_lid = 0; lmc = 0; master_sm_lid = 0; state = state; is_sm = false }
 
 -- a port; one that the node lacks is down and holds nothing
 abbrev pub port_at : Agent → ℕ → Port
@@ -34,9 +35,16 @@ state_at a port = (port_at a port).state
 abbrev pub base_lid_at : Agent → ℕ → ℕ
 base_lid_at a port = (port_at a port).base_lid
 
--- the LID is the port's own
+abbrev pub lmc_at : Agent → ℕ → ℕ
+lmc_at a port = (port_at a port).lmc
+
+-- the LID and the LMC of a port
+abbrev pub range_at : Agent → ℕ → ℕ × ℕ
+range_at a port = (base_lid_at a port, lmc_at a port)
+
+-- the LID is one of the port's own
 abbrev pub owns : Agent → ℕ → ℕ → Bool
-owns a port lid = base_lid_at a port == lid
+owns a port lid = is_lid_of (base_lid_at a port) (lmc_at a port) lid
 
 -- a subnet manager sits at the port
 abbrev pub has_seat : Agent → ℕ → Bool
@@ -97,14 +105,10 @@ pub record IsAgentNode (node : AgentNode) : Type 0 where
   pub no_table : types.is_switch node.kind ≡ false → node.cap ≡ 0
   pub port_guids : types.is_switch node.kind ≡ false → node.guid + node.ports < 2 ^ 64
 
--- the greatest LID that a port may have
-abbrev pub max_unicast_lid : ℕ
-max_unicast_lid = 0xBFFF
-
 -- what holds of each port that an agent has: a state, a LID that a port may have, and no subnet manager at a switch
 pub record IsPort (kind : NodeType) (port : Port) : Type 0 where
   pub state : port.state ≢ NoChange
-  pub base_lid : port.base_lid ≤ max_unicast_lid
+  pub base_lid : port.base_lid < lid_end
   pub is_sm : types.is_switch kind ≡ true → port.is_sm ≡ false
 
 -- what holds of each agent

@@ -5,12 +5,12 @@ use Rattle.smp_bytes.specs.Field.{number_in, bytes_in, bits_in}
 use Rattle.smp_bytes.specs.Packet.{method, attribute_id, attribute_modifier, attribute_data, status, fault_of}
 use Rattle.smp_bytes.specs.ReadBack.{HoldsAnswer}
 use Rattle.attr_codec.specs.NodeInfo.{node_info_in}
-use Rattle.attr_codec.specs.PortInfo.{base_lid, port_state, number_of_state}
+use Rattle.attr_codec.specs.PortInfo.{range_in, port_state, number_of_state}
 use Rattle.attr_codec.specs.SwitchInfo.{linear_fdb_cap, linear_fdb_top}
 use Rattle.attr_codec.specs.declared.port_state.PortState.{PortState}
 use Rattle.attr_codec.specs.declared.port_state.PortState.TheVariants.{NoChange, Down}
 use Rattle.node_agents.specs.declared.agent_node.AgentNode.{AgentNode}
-use Rattle.node_agents.specs.Agent.{Agent, IsAgent, IsAgentNode, is_switch, state_at, has_seat, port_at, base_lid_at, entry_at, fresh_agent, wired, seated}
+use Rattle.node_agents.specs.Agent.{Agent, IsAgent, IsAgentNode, is_switch, state_at, has_seat, port_at, range_at, entry_at, fresh_agent, wired, seated}
 use Rattle.node_agents.specs.NodeInfo.{node_info_of}
 use Rattle.node_agents.specs.PortInfo.{has_lid, port_meant}
 use Rattle.node_agents.specs.Answers.{met, status_told, payload_told, answered}
@@ -129,10 +129,10 @@ TopsAreSet =
     (a : Agent) (packet : List ℕ) (arrival : ℕ) → IsTaken a packet arrival switch_info
     → SetsTop a (answered a packet arrival).agent (bytes_in attribute_data packet) (bytes_in attribute_data (answered a packet arrival).packet)
 
--- the LID that is set at a port with a LID is told, and so is the state; no other port and nothing else is changed
+-- the LID and the LMC that are set at a port with a LID are told, and so is the state; no other port and nothing else is changed
 pub record SetsPort (a after : Agent) (port : ℕ) (payload told : List ℕ) : Type 0 where
-  pub lid : has_lid a port ≡ true → base_lid_at after port ≡ number_in base_lid payload
-  pub lid_told : has_lid a port ≡ true → number_in base_lid told ≡ number_in base_lid payload
+  pub lids : has_lid a port ≡ true → range_at after port ≡ range_in payload
+  pub lids_told : has_lid a port ≡ true → range_in told ≡ range_in payload
   pub state_told : bits_in port_state payload ≢ 0 → bits_in port_state told ≡ bits_in port_state payload
   pub others : (place : ℕ) → place ≢ port → port_at after place ≡ port_at a place
   pub all_else : after ≡ record a { ports = after.ports }

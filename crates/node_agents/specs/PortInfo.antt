@@ -1,13 +1,14 @@
 -- Port information: which port a request means, what a Get tells and a Set takes.
 -- InfiniBand Architecture Specification, Volume 1: subnet management, PortInfo.
-use Rattle.std.specs.Prelude.{ℕ, ◌+◌, Bool, not, ◌&&◌, ◌||◌, ◌==◌, List, [], ◌∷◌, nat_lt, nat_le, if◌then◌else◌, Option, Some, None, option_map, option_and_then}
+use Rattle.std.specs.Prelude.{ℕ, ◌+◌, Bool, not, ◌&&◌, ◌||◌, ◌==◌, List, [], ◌∷◌, nat_le, if◌then◌else◌, Option, Some, None, option_map, option_and_then}
 use Rattle.smp_bytes.specs.Field.{number_in, bits_in, with_bits}
 use Rattle.smp_bytes.specs.Requests.{flag}
+use Rattle.smp_bytes.specs.LidRange.{may_have}
 use Rattle.attr_codec.specs.Image.{image}
-use Rattle.attr_codec.specs.PortInfo.{base_lid, master_sm_lid, local_port_num, port_state, is_sm_bit, number_of_state, state_of_number}
+use Rattle.attr_codec.specs.PortInfo.{base_lid, master_sm_lid, local_port_num, lmc, port_state, is_sm_bit, number_of_state, state_of_number}
 use Rattle.attr_codec.specs.declared.port_state.PortState.{PortState}
 use Rattle.node_agents.specs.declared.port.Port.{Port}
-use Rattle.node_agents.specs.Agent.{Agent, is_switch, port_at, with_port, max_unicast_lid}
+use Rattle.node_agents.specs.Agent.{Agent, is_switch, port_at, with_port}
 
 -- any port of a switch, 0 among them; of an adapter the one that the request came to, by its number or by 0
 abbrev pub port_meant : Agent → ℕ → ℕ → Option ℕ
@@ -21,9 +22,9 @@ port_meant a modifier arrival =
 -- what is told of a port to a request that came by this or another one; all else is 0
 abbrev pub port_info_of : Port → ℕ → List ℕ
 port_info_of port arrival =
-    with_bits port_state (number_of_state port.state) (with_bits is_sm_bit (flag port.is_sm)
+    with_bits port_state (number_of_state port.state) (with_bits lmc port.lmc (with_bits is_sm_bit (flag port.is_sm)
     (image (record { field = base_lid; number = port.base_lid } ∷ record { field = master_sm_lid; number = port.master_sm_lid }
-    ∷ record { field = local_port_num; number = arrival } ∷ [])))
+    ∷ record { field = local_port_num; number = arrival } ∷ []))))
 
 abbrev pub get_port_info : Agent → ℕ → ℕ → Option (List ℕ)
 get_port_info a modifier arrival = option_map (λ port. port_info_of (port_at a port) arrival) (port_meant a modifier arrival)
@@ -33,6 +34,10 @@ get_port_info a modifier arrival = option_map (λ port. port_info_of (port_at a 
 -- each port of an adapter has a LID, and of a switch port 0 alone
 abbrev pub has_lid : Agent → ℕ → Bool
 has_lid a port = not (is_switch a) || port == 0
+
+-- the greatest LMC of a port: port 0 of a switch has one LID
+abbrev pub max_lmc : Agent → ℕ → ℕ
+max_lmc a port = if is_switch a && port == 0 then 0 else 7
 
 -- the next state on the way from Initialize to Active; none leads to Down, or from it
 abbrev pub is_next_state : PortState → PortState → Bool
@@ -45,25 +50,31 @@ state_after state wish =
     else if is_next_state state wish then Some wish
     else None
 
--- a port in another state, with the LIDs of the payload where it has LIDs
+-- a port in another state, with the LIDs and the LMC of the payload where it has LIDs
 abbrev pub port_with : Port → Bool → List ℕ → PortState → Port
 port_with port has_lid payload state =
     record port {
       base_lid = if has_lid then number_in base_lid payload else port.base_lid;
+      lmc = if has_lid then bits_in lmc payload else port.lmc;
       master_sm_lid = if has_lid then number_in master_sm_lid payload else port.master_sm_lid;
       state = state;
     }
 
--- what a payload makes of a port, if its LID is one that a port may have and the state wished for is granted
-abbrev pub port_after : Port → Bool → List ℕ → Option Port
-port_after port has_lid payload =
-    if nat_lt max_unicast_lid (number_in base_lid payload) then None
-    else option_map (port_with port has_lid payload) (option_and_then (state_after port.state) (state_of_number (bits_in port_state payload)))
+-- the LIDs of a payload are some that a port may have, with no greater LMC
+abbrev pub are_lids_taken : ℕ → List ℕ → Bool
+are_lids_taken max_lmc payload = nat_le (bits_in lmc payload) max_lmc && may_have (number_in base_lid payload) (bits_in lmc payload)
+
+-- what a payload makes of a port, if its LIDs are some that this port may have and the state wished for is granted
+abbrev pub port_after : Port → Bool → ℕ → List ℕ → Option Port
+port_after port has_lid max_lmc payload =
+    if are_lids_taken max_lmc payload
+    then option_map (port_with port has_lid payload) (option_and_then (state_after port.state) (state_of_number (bits_in port_state payload)))
+    else None
 
 -- the port that a Set means, and what the payload makes of it
 unfoldable pub changed_port : Agent → ℕ → ℕ → List ℕ → Option (ℕ × Port)
 changed_port a modifier arrival payload =
-    option_and_then (λ port. option_map (λ after. (port, after)) (port_after (port_at a port) (has_lid a port) payload)) (port_meant a modifier arrival)
+    option_and_then (λ port. option_map (λ after. (port, after)) (port_after (port_at a port) (has_lid a port) (max_lmc a port) payload)) (port_meant a modifier arrival)
 
 abbrev pub set_port_info : Agent → ℕ → ℕ → List ℕ → Option Agent
 set_port_info a modifier arrival payload = option_map (λ changed. with_port a changed.0 changed.1) (changed_port a modifier arrival payload)

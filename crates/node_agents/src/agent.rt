@@ -1,12 +1,12 @@
 ghost use Rattle.std.specs.Prelude.{◌≡◌, ◌≤◌, false, IfOk};
-ghost use Rattle.node_agents.specs.Agent.{IsAgentNode, fresh_agent, is_switch, port_at, state_at, base_lid_at, has_seat, entry_at, owns, wired, seated};
+ghost use Rattle.node_agents.specs.Agent.{IsAgentNode, fresh_agent, is_switch, port_at, state_at, base_lid_at, lmc_at, has_seat, entry_at, owns, wired, seated};
 ghost use Rattle.node_agents.specs.Answers.{answered};
 
 use crate::agent_node::AgentNode;
 use crate::forwarding_block::BLOCK;
 use crate::port::Port;
 use crate::request::meet;
-use attr_codec::PortState;
+use attr_codec::{Lmc, PortState};
 use smp_bytes::{Guid, Lid, NodeType, PortNum, Smp, Status};
 use std::alloc::{AllocError, Global};
 use std::marker::Model;
@@ -137,11 +137,25 @@ impl Agent {
         self.port(port).base_lid
     }
 
-    /// Whether a LID is a port's own: a packet for it has arrived there.
+    /// The LMC of a port: it has 2^LMC LIDs, from its own on; 0 at a switch, and where nothing was set.
+    pub fn lmc(&self, port: PortNum) -> Lmc
+        ensures { result ≡ lmc_at self.now port }
+    {
+        self.port(port).lmc
+    }
+
+    /// Whether a LID is one of a port's own: a packet for it has arrived there. A port with LID 0 has that alone.
     pub fn owns(&self, port: PortNum, lid: Lid) -> bool
         ensures { result ≡ owns self.now port lid }
     {
-        self.base_lid(port) == lid
+        let base = self.base_lid(port);
+        if base.number() == 0 {
+            lid.number() == 0
+        } else {
+            let first = u32::from(base.number());
+            let lid = u32::from(lid.number());
+            first <= lid && lid < first + u32::from(self.lmc(port).width())
+        }
     }
 
     /// Whether a subnet manager sits at a port.

@@ -1,6 +1,6 @@
 ghost use Rattle.std.specs.Prelude.{◌≡◌};
 
-use attr_codec::PortState;
+use attr_codec::{Lmc, PortState};
 use smp_bytes::Lid;
 
 /// What an agent holds of a port.
@@ -8,6 +8,8 @@ use smp_bytes::Lid;
 pub struct Port {
     /// The port's own LID, 0 for none.
     pub(crate) base_lid: Lid,
+    /// The port has 2^LMC LIDs, from its own on.
+    pub(crate) lmc: Lmc,
     /// The LID of the subnet manager.
     pub(crate) master_sm_lid: Lid,
     pub(crate) state: PortState,
@@ -24,6 +26,7 @@ impl Port {
     {
         Port {
             base_lid: Lid::new(0),
+            lmc: Lmc::ZERO,
             master_sm_lid: Lid::new(0),
             state,
             is_sm: false,

@@ -1,15 +1,16 @@
 //! PortInfo: which port a request means, what a Get tells, and what a Set takes.
 ghost use Rattle.std.specs.Prelude.{◌≡◌, ◌≤◌, is_some, IfSome};
+ghost use Rattle.smp_bytes.specs.LidRange.{may_have};
 ghost use Rattle.std.specs.Option.{unwrap_or};
-ghost use Rattle.node_agents.specs.PortInfo.{port_meant, port_info_of, get_port_info, has_lid, state_after, port_after, changed_port, set_port_info};
+ghost use Rattle.node_agents.specs.PortInfo.{port_meant, port_info_of, get_port_info, has_lid, max_lmc, are_lids_taken, state_after, port_after, changed_port, set_port_info};
 
 use crate::agent::Agent;
 use crate::port::Port;
-use attr_codec::{Attribute, PortInfo, PortState};
-use smp_bytes::PortNum;
+use attr_codec::{Attribute, Lmc, PortInfo, PortState};
+use smp_bytes::{Lid, PortNum};
 
-/// The greatest LID that a port may have.
-const MAX_UNICAST_LID: u16 = 0xBFFF;
+/// The first number that is no unicast LID.
+const LID_END: u16 = 0xC000;
 
 /// What a Get tells.
 pub(crate) fn get(agent: &Agent, modifier: u32, arrival: PortNum) -> Option<[u8; 64]>
@@ -19,7 +20,7 @@ pub(crate) fn get(agent: &Agent, modifier: u32, arrival: PortNum) -> Option<[u8;
     Some(info_of(agent.port(port), arrival))
 }
 
-/// Takes the LIDs, at an end port, and the state, where it takes both; whether that is so.
+/// Takes the LIDs and the LMC, at an end port, and the state, where it takes all; whether that is so.
 pub(crate) fn set(agent: &mut Agent, modifier: u32, arrival: PortNum, payload: &[u8; 64]) -> bool
     requires { arrival ≤ agent.old.node.ports }
     ensures taken { result ≡ is_some (set_port_info agent.old modifier arrival payload.now) }
@@ -48,7 +49,12 @@ fn changed_port(
     ensures port { IfSome result (λ changed. changed.0 ≤ agent.now.node.ports) }
 {
     let port = port_meant(agent, modifier, arrival)?;
-    let after = port_after(agent.port(port), has_lid(agent, port), payload)?;
+    let after = port_after(
+        agent.port(port),
+        has_lid(agent, port),
+        max_lmc(agent, port),
+        payload,
+    )?;
     Some((port, after))
 }
 
@@ -75,6 +81,7 @@ fn info_of(port: Port, arrival: PortNum) -> [u8; 64]
     info.set_master_sm_lid(port.master_sm_lid);
     info.set_local_port_num(arrival);
     info.set_is_sm(port.is_sm);
+    info.set_lmc(port.lmc);
     info.set_port_state(port.state);
     info.encode()
 }
@@ -86,12 +93,40 @@ fn has_lid(agent: &Agent, port: PortNum) -> bool
     !agent.node.is_switch() || port.number() == 0
 }
 
-/// What a Set makes of a port, or None where it refuses the LID or the state.
-fn port_after(port: Port, has_lid: bool, payload: &[u8; 64]) -> Option<Port>
-    ensures { result ≡ port_after port has_lid payload.now }
+/// The greatest LMC that a port takes: port 0 of a switch has one LID.
+fn max_lmc(agent: &Agent, port: PortNum) -> u8
+    ensures { result ≡ max_lmc agent.now port }
+{
+    if agent.node.is_switch() && port.number() == 0 {
+        0
+    } else {
+        7
+    }
+}
+
+/// Whether a port may have the LIDs of a Set, with an LMC of at most so much.
+fn are_lids_taken(max_lmc: u8, info: &PortInfo) -> bool
+    ensures { result ≡ are_lids_taken max_lmc info.now }
+{
+    let lmc = info.lmc();
+    lmc.number() <= max_lmc && may_have(info.base_lid(), lmc)
+}
+
+/// Whether a port may have a LID with an LMC: none, or one that is a multiple of its count of LIDs, all of which are unicast.
+fn may_have(base: Lid, lmc: Lmc) -> bool
+    ensures { result ≡ may_have base lmc }
+{
+    let first = u32::from(base.number());
+    let count = u32::from(lmc.width());
+    first == 0 || (first % count == 0 && first + count <= u32::from(LID_END))
+}
+
+/// What a Set makes of a port, or None where it refuses the LIDs or the state.
+fn port_after(port: Port, has_lid: bool, max_lmc: u8, payload: &[u8; 64]) -> Option<Port>
+    ensures { result ≡ port_after port has_lid max_lmc payload.now }
 {
     let info = PortInfo::decode(payload);
-    if info.base_lid().number() > MAX_UNICAST_LID {
+    if !are_lids_taken(max_lmc, &info) {
         return None;
     }
     let state = state_after(port.state, info.port_state()?)?;
@@ -100,6 +135,7 @@ fn port_after(port: Port, has_lid: bool, payload: &[u8; 64]) -> Option<Port>
     }
     Some(Port {
         base_lid: info.base_lid(),
+        lmc: info.lmc(),
         master_sm_lid: info.master_sm_lid(),
         state,
         ..port

@@ -174,6 +174,44 @@ fn port_states(rt: HostRuntime) -> Result<(), Fail> {
     Ok(())
 }
 
+/// A BaseLID and an LMC: the status at the port of H1, at port 0 of S2 and at its port 3, which takes neither.
+const LMC_SETS: [(u16, u8, u16, u16, u16); 11] = [
+    (9, 0, 0, 0, 0),
+    (8, 1, 0, 0x1C, 0),
+    (9, 1, 0x1C, 0x1C, 0x1C),
+    (0, 7, 0, 0x1C, 0),
+    (0xBFFE, 1, 0, 0x1C, 0),
+    (0xBFFF, 1, 0x1C, 0x1C, 0x1C),
+    (0xBFFF, 0, 0, 0, 0),
+    (0xC000, 0, 0x1C, 0x1C, 0x1C),
+    (0xBF80, 7, 0, 0x1C, 0),
+    (0xBFC0, 7, 0x1C, 0x1C, 0x1C),
+    (0x80, 7, 0, 0x1C, 0),
+];
+
+#[test]
+fn lids_that_a_set_takes(rt: HostRuntime) -> Result<(), Fail> {
+    let (mut switch, mut adapter) = (s2(rt.alloc())?, h1(rt.alloc())?);
+    for (base_lid, lmc, at_adapter, at_switch, elsewhere) in LMC_SETS {
+        let mut payload = port_info(base_lid, 1, 0);
+        payload[34] = lmc;
+        let statuses = [
+            ask(&mut adapter, SET, PORT_INFO, 1, &payload).status().0,
+            ask(&mut switch, SET, PORT_INFO, 0, &payload).status().0,
+            ask(&mut switch, SET, PORT_INFO, 3, &payload).status().0,
+        ];
+        assert!(rt;
+            statuses == [at_adapter, at_switch, elsewhere],
+            "{base_lid} {lmc}"
+        );
+    }
+    let port = PortNum::new(1);
+    let owned = [0, 0x7F, 0x80, 0xFF, 0x100].map(|lid| adapter.owns(port, Lid::new(lid)));
+    let told = ask(&mut adapter, GET, PORT_INFO, 1, &[0; 64]).attribute_data()[34];
+    assert!(rt; owned == [false, false, true, true, false] && told == 7);
+    Ok(())
+}
+
 /// Whether bytes stand at a place of an answer's attribute.
 fn holds(smp: &Smp, place: usize, bytes: [u8; 8]) -> bool {
     match smp.attribute_data().get(place..) {

@@ -41,6 +41,10 @@ joined a b c = simp append_assoc
 joined_four : (a b c d : List ℕ) → (((a ++ 32 ∷ []) ++ b) ++ 32 ∷ (c ++ 32 ∷ [])) ++ d ++ 10 ∷ [] ≡ (a ++ 32 ∷ (b ++ 32 ∷ (c ++ 32 ∷ d))) ++ 10 ∷ []
 joined_four a b c d = simp append_assoc
 
+-- and nothing behind the last of them
+joined_alone : (a b c : List ℕ) → (((a ++ 32 ∷ []) ++ b) ++ 32 ∷ []) ++ c ++ [] ++ 10 ∷ [] ≡ (a ++ 32 ∷ (b ++ 32 ∷ c)) ++ 10 ∷ []
+joined_alone a b c = simp append_assoc
+
 -- the line of a LID
 abbrev lid_words : ℕ → EndPort → List (List ℕ)
 lid_words lid e = codes "lid" ∷ decimal lid ∷ port_text e.node e.port ∷ []
@@ -49,8 +53,8 @@ lid_words_are : (lid : ℕ) (e : EndPort) → lid ≤ 0xBFFF → e.port ≤ 254 
 lid_words_are lid e most port =
     (record { some = omega arith; on = refl; plain = refl }, (decimal_word lid (omega arith), (port_is_word e.node e.port port, tt)))
 
-lid_text : (lid : ℕ) (e : EndPort) → lid_line (lid, e) ≡ line_text (lid_words lid e) ++ 10 ∷ []
-lid_text lid e = joined (codes "lid") (decimal lid) (port_text e.node e.port)
+lid_text : (lid : ℕ) (e : EndPort) → lid_line (lid, 0, e) ≡ line_text (lid_words lid e) ++ 10 ∷ []
+lid_text lid e = joined_alone (codes "lid") (decimal lid) (port_text e.node e.port)
 
 lid_follows : (number : ℕ) (last : Option HeldLid) (held : HeldLid) → IsBelow last held.lid → lid_after number last held ≡ Ok (Lid held)
 lid_follows number None held below = refl
@@ -62,7 +66,7 @@ lid_is_said number place lid e some most node port below =
     rw (count_is_read 0xBFFF lid (omega arith) some most, port_is_read e.node e.port node port) (lid_follows number place.lid (record { lid = lid; port = e }) below)
 
 pub lid_passes : (place : Place) (lid : ℕ) (e : EndPort) → 1 ≤ lid → lid ≤ 0xBFFF → e.node < 2 ^ 64 → e.port ≤ 254 → IsBelow place.lid lid
-    → Passes place (lid_line (lid, e)) (Lid (record { lid = lid; port = e }) ∷ []) (place_after place (Lid (record { lid = lid; port = e })))
+    → Passes place (lid_line (lid, 0, e)) (Lid (record { lid = lid; port = e }) ∷ []) (place_after place (Lid (record { lid = lid; port = e })))
 lid_passes place lid e some most node port below =
     let held : HeldLid = record { lid = lid; port = e } in
     let P : List ℕ → Type 0 = λ t. Passes place t (Lid held ∷ []) (place_after place (Lid held)) in

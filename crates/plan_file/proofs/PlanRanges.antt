@@ -29,6 +29,8 @@ use Rattle.std.proofs.lemmas.Option.{same_Some}
 use Rattle.subnet_view.specs.Reading.{is_switch_node, is_usable}
 use Rattle.std.specs.List.{filter_map}
 use Rattle.std.specs.List.Sorted.{IsStrictlyIncreasing}
+use Rattle.std.proofs.lemmas.Nat.{pow_pos}
+use Rattle.lid_assign.specs.Ranges.{lmc_at}
 use Rattle.lid_assign.specs.Lids.{lids, owner_of, top_of, rising_lids, room, AreLids, IsNoRoom}
 use Rattle.lid_assign.proofs.FreeLids.{at_most}
 use Rattle.lid_assign.proofs.LidLaws.{lids_law}
@@ -155,9 +157,9 @@ module _ (facts : Facts) (range : AreInRange facts) where
         | Some p ↦ λ e. let small = next_small lid s t p there e in omega arith
       ] refl
 
-  entry_small : (s lid : ℕ) → Contains (switches cells) s → entry (home_of_lid cells (lids cells)) next s lid < 256
+  entry_small : (s lid : ℕ) → Contains (switches cells) s → entry (home_of_lid cells (lids 0 cells)) next s lid < 256
   entry_small s lid there =
-      elim (owner_of (lids cells) lid) as (λ o. option_map_or (port_to next lid s) (option_and_then (home_of cells) o) 255 < 256) [
+      elim (owner_of (lids 0 cells) lid) as (λ o. option_map_or (port_to next lid s) (option_and_then (home_of cells) o) 255 < 256) [
         | None ↦ omega arith
         | Some e ↦ (elim (home_of cells e) as (λ o. home_of cells e ≡ o → option_map_or (port_to next lid s) o 255 < 256) [
           | None ↦ λ k. omega arith
@@ -170,9 +172,9 @@ module _ (facts : Facts) (range : AreInRange facts) where
       by_switch home false small = next_or lid s home.0 there
 
   -- blocks
-  block_at_most : (s b i : ℕ) → Contains (switches cells) s → slice_index (block (home_of_lid cells (lids cells)) next s b) i < 256
+  block_at_most : (s b i : ℕ) → Contains (switches cells) s → slice_index (block (home_of_lid cells (lids 0 cells)) next s b) i < 256
   block_at_most s b i there =
-      let f : ℕ → ℕ = λ j. entry (home_of_lid cells (lids cells)) next s (64 * b + j) in
+      let f : ℕ → ℕ = λ j. entry (home_of_lid cells (lids 0 cells)) next s (64 * b + j) in
       elim (cases_lt i 64) [
         | inl less ↦ let at : get_or (map f (range_with_len 0 64)) i 0 ≡ f i = get_or-map-range_with_len f 0 64 i i 0 less (omega arith) in
             let small = entry_small s (64 * b + i) there in omega arith
@@ -185,11 +187,11 @@ module _ (facts : Facts) (range : AreInRange facts) where
       past (x ∷ xs) zero h = absurd (omega arith)
       past (x ∷ xs) (suc n) h = past xs n (omega arith)
 
-  is_block : (s b : ℕ) → Contains (switches cells) s → IsBlock (block (home_of_lid cells (lids cells)) next s b)
+  is_block : (s b : ℕ) → Contains (switches cells) s → IsBlock (block (home_of_lid cells (lids 0 cells)) next s b)
   is_block s b there =
-      record { whole = length-map-range_with_len (λ j. entry (home_of_lid cells (lids cells)) next s (64 * b + j)) 0 64; bytes = λ i. block_at_most s b i there }
+      record { whole = length-map-range_with_len (λ j. entry (home_of_lid cells (lids 0 cells)) next s (64 * b + j)) 0 64; bytes = λ i. block_at_most s b i there }
 
-  all_blocks : (s : ℕ) (bs : List ℕ) → Contains (switches cells) s → AllByRecursion IsBlock (map (block (home_of_lid cells (lids cells)) next s) bs)
+  all_blocks : (s : ℕ) (bs : List ℕ) → Contains (switches cells) s → AllByRecursion IsBlock (map (block (home_of_lid cells (lids 0 cells)) next s) bs)
   all_blocks s [] there = tt
   all_blocks s (b ∷ bs) there = (is_block s b there, all_blocks s bs there)
 
@@ -197,33 +199,33 @@ module _ (facts : Facts) (range : AreInRange facts) where
   switch_small s there = let usable = ((switches_law facts).0 s).0 there in node_small s (ap is_some usable.1)
 
   all_tables : (count : ℕ) (guids : List ℕ) → count ≤ 768 → ((s : ℕ) → Contains guids s → Contains (switches cells) s)
-      → AllByRecursion IsTableInRange (tables_of (home_of_lid cells (lids cells)) next count guids)
+      → AllByRecursion IsTableInRange (tables_of (home_of_lid cells (lids 0 cells)) next count guids)
   all_tables count [] few in_all = tt
   all_tables count (s ∷ guids) few in_all =
       let there = in_all s (contains_here s guids) in (
         record {
           guid = switch_small s there;
           blocks = all_blocks s (range_with_len 0 count) there;
-          few = omega (arith, length-map-range_with_len (block (home_of_lid cells (lids cells)) next s) 0 count);
+          few = omega (arith, length-map-range_with_len (block (home_of_lid cells (lids 0 cells)) next s) 0 count);
         },
         all_tables count guids few (λ x c. in_all x (contains_later s x guids c)),
       )
 
-  guids_are : (count : ℕ) (guids : List ℕ) → map (λ t. t.guid) (tables_of (home_of_lid cells (lids cells)) next count guids) ≡ guids
+  guids_are : (count : ℕ) (guids : List ℕ) → map (λ t. t.guid) (tables_of (home_of_lid cells (lids 0 cells)) next count guids) ≡ guids
   guids_are count [] = refl
   guids_are count (s ∷ guids) = ap (λ gs. s ∷ gs) (guids_are count guids)
 
   -- LIDs
-  module _ (has_room : ¬ (IsNoRoom cells)) where
-    good : AreLids cells (lids cells)
-    good = lids_law facts has_room
+  module _ (has_room : ¬ (IsNoRoom 0 cells)) where
+    good : AreLids 0 cells (lids 0 cells).ports
+    good = lids_law 0 facts has_room
 
     room_most : room cells ≤ 0xC000
     room_most = at_most (filter_map (cap_of cells) (switches cells))
 
-    end_small : (e : EndPort) (n : ℕ) → Contains (lids cells) (e, n) → (e.node < 2 ^ 64) × (e.port ≤ 254)
+    end_small : (e : EndPort) (n : ℕ) → Contains (lids 0 cells).ports (e, n) → (e.node < 2 ^ 64) × (e.port ≤ 254)
     end_small e n there =
-        let listed = subst (λ (xs : List EndPort). Contains xs e) good.end_ports_in_order (contains_map (λ (x : EndPort × ℕ). x.0) (lids cells) (e, n) there) in
+        let listed = subst (λ (xs : List EndPort). Contains xs e) good.end_ports_in_order (contains_map (λ (x : EndPort × ℕ). x.0) (lids 0 cells).ports (e, n) there) in
         let (kind, ports, known, number, guid) = ((end_ports_law facts).0 e).0 listed in
         let count : port_count_of cells e.node ≡ ports = ap (λ o. option_map_or (λ x. x.1) o 0) known in (
           node_small e.node (ap is_some known),
@@ -233,36 +235,39 @@ module _ (facts : Facts) (range : AreInRange facts) where
           ] number),
         )
 
-    lid_range : (n : ℕ) → Contains (rising_lids (lids cells)) n → IsLidInRange (lids cells) n
+    lid_range : (n : ℕ) → Contains (rising_lids (lids 0 cells)) n → IsLidInRange (lids 0 cells) n
     lid_range n there =
-        let given = ((rising_lids_law (lids cells)).0 n).0 there in
-        let within = good.in_range given.0 n given.1 in
+        let given = ((rising_lids_law (lids 0 cells)).0 n).0 there in
+        let within = good.each_fits given.0 n given.1 in
         let below = room_most in
         record {
-          some = within.0;
-          most = omega (arith, within.1, below);
-          node = λ e owned. (end_small e n (given-from_owner (lids cells) e n owned)).0;
-          port = λ e owned. (end_small e n (given-from_owner (lids cells) e n owned)).1;
+          some = within.not_0;
+          most = omega (arith, within.in_room, below, pow_pos (lmc_at 0 given.0));
+          node = λ e owned. let its = given-from_owner (lids 0 cells) e n owned in (end_small e its.0 its.1).0;
+          port = λ e owned. let its = given-from_owner (lids 0 cells) e n owned in (end_small e its.0 its.1).1;
         }
 
-    top_most : (top : ℕ) → top_of (lids cells) ≡ Some top → top ≤ 0xBFFF
+    top_most : (top : ℕ) → top_of (lids 0 cells) ≡ Some top → top ≤ 0xBFFF
     top_most top e =
-        let less = top_below (lids cells) (room cells) top (λ x n there. (good.in_range x n there).1) e in let below = room_most in omega arith
+        let less = top_below 0 (lids 0 cells).ports (room cells) top (λ x n there. (good.each_fits x n there).in_room) e in
+        let below = room_most in
+        omega arith
 
-    few_blocks : block_count (top_of (lids cells)) ≤ 768
+    few_blocks : block_count (top_of (lids 0 cells)) ≤ 768
     few_blocks =
-        elim (top_of (lids cells)) as (λ o. top_of (lids cells) ≡ o → block_count o ≤ 768) [
+        elim (top_of (lids 0 cells)) as (λ o. top_of (lids 0 cells) ≡ o → block_count o ≤ 768) [
           | None ↦ λ e. omega arith
           | Some top ↦ λ e. let most = top_most top e in omega arith
         ] refl
 
-    in_range : IsPlanInRange (plan_of cells)
+    in_range : IsPlanInRange (plan_of 0 cells)
     in_range = record {
-      lids = all_of (IsLidInRange (lids cells)) (rising_lids (lids cells)) lid_range;
+      lmc = refl;
+      lids = all_of (IsLidInRange (lids 0 cells)) (rising_lids (lids 0 cells)) lid_range;
       top = top_most;
-      rising = subst IsStrictlyIncreasing (graph_guids cells ∙ sym (guids_are (block_count (top_of (lids cells))) (switches cells))) (switches_rise facts);
-      tables = all_tables (block_count (top_of (lids cells))) (switches cells) few_blocks (λ s there. there);
+      rising = subst IsStrictlyIncreasing (graph_guids cells ∙ sym (guids_are (block_count (top_of (lids 0 cells))) (switches cells))) (switches_rise facts);
+      tables = all_tables (block_count (top_of (lids 0 cells))) (switches cells) few_blocks (λ s there. there);
     }
 
-pub plans_in_range : (facts : Facts) → AreInRange facts → ¬ (IsNoRoom (cells_of facts)) → IsPlanInRange (plan_of (cells_of facts))
+pub plans_in_range : (facts : Facts) → AreInRange facts → ¬ (IsNoRoom 0 (cells_of facts)) → IsPlanInRange (plan_of 0 (cells_of facts))
 plans_in_range facts range has_room = in_range facts range has_room

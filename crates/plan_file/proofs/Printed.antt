@@ -1,12 +1,14 @@
 -- A printed plan is read as it is: its LIDs, then its switches with their blocks.
-use Rattle.std.proofs.Common.{◌≡◌, ℕ, zero, suc, ◌+◌, ◌-◌, ◌<◌, ◌≤◌, List, [], ◌∷◌, ◌++◌, length, Option, None, Some, refl, sym, ap, ◌∙◌, arith, append_assoc, append-nil, length-append, get_or, add-one}
+use Rattle.std.proofs.Common.{◌≡◌, ℕ, zero, suc, ◌+◌, ◌-◌, ◌<◌, ◌≤◌, List, [], ◌∷◌, ◌++◌, length, Option, None, Some, refl, sym, ap, ◌∙◌, subst, arith, append_assoc, append-nil, length-append, get_or, add-one}
 use Rattle.std.specs.Prelude.{map, option_map}
 use Rattle.std.specs.Option.{option_map_or}
 use Rattle.std.specs.List.{AllByRecursion, AllPairs, enumerate_from, filter_map, cons_option, flat_map}
 use Rattle.std.specs.List.Sorted.{IsStrictlyIncreasing}
 use Rattle.text_words.specs.Text.{lines}
 use Rattle.subnet_view.specs.declared.end_port.EndPort.{EndPort}
-use Rattle.lid_assign.specs.Lids.{owner_of, top_of, rising_lids}
+use Rattle.std.proofs.lemmas.Bool.{cond_both}
+use Rattle.std.specs.Prelude.{◌==◌}
+use Rattle.lid_assign.specs.Lids.{Given, owner_of, lmc_of, top_of, rising_lids}
 use Rattle.lid_assign.proofs.RisingLids.{rising_lids_law}
 use Rattle.lft_blocks.specs.Plan.{SwitchTable, PlanValue}
 use Rattle.lft_blocks.specs.PlanText.{lid_line, owner_line, lids_text, switch_line, block_line, blocks_text, table_text, plan_text}
@@ -55,26 +57,30 @@ record LidsPass (place : Place) (text : List ℕ) (items : List Item) : Type 0 w
   last : Option HeldLid
   passes : Passes place text items (record place { lid = last })
 
-owner_passes : (given : List (EndPort × ℕ)) (place : Place) (low n : ℕ) (owner : Option EndPort) (text : List ℕ) (held : List HeldLid)
-    → owner_of given n ≡ owner → IsLidInRange given n → IsUpTo place.lid low → low < n
+-- with LMC 0 each end port has it
+no_lmc : (given : Given) (e : EndPort) → given.lmc ≡ 0 → lmc_of given e ≡ 0
+no_lmc given e none = cond_both (e.port == 0) 0 given.lmc (λ n. n ≡ 0) (λ _. refl) (λ _. none)
+
+owner_passes : (given : Given) (place : Place) (low n : ℕ) (owner : Option EndPort) (text : List ℕ) (held : List HeldLid)
+    → given.lmc ≡ 0 → owner_of given n ≡ owner → IsLidInRange given n → IsUpTo place.lid low → low < n
     → ((p : Place) → IsUpTo p.lid n → LidsPass p text (map Lid held))
-    → LidsPass place (option_map_or (λ port. lid_line (n, port)) owner [] ++ text)
+    → LidsPass place (option_map_or (λ port. lid_line (n, lmc_of given port, port)) owner [] ++ text)
     (map Lid (cons_option (option_map (λ port. record { lid = n; port = port }) owner) held))
-owner_passes given place low n None text held e range is above later = later place (up_to_more place.lid low n above is)
-owner_passes given place low n (Some port) text held e range is above later =
+owner_passes given place low n None text held none e range is above later = later place (up_to_more place.lid low n above is)
+owner_passes given place low n (Some port) text held none e range is above later =
     let here : HeldLid = record { lid = n; port = port } in
     let next : Place = place_after place (Lid here) in
     let rest = later next (omega arith) in
-    let first : Passes place (lid_line (n, port)) (Lid here ∷ []) next =
-    lid_passes place n port range.some range.most (range.node port e) (range.port port e) (is_below place.lid low n above is) in
-    record { last = rest.last; passes = passes_then place next (record place { lid = rest.last }) (lid_line (n, port)) text (Lid here ∷ []) (map Lid held) first rest.passes }
+    let first : Passes place (lid_line (n, lmc_of given port, port)) (Lid here ∷ []) next =
+    subst (λ (m : ℕ). Passes place (lid_line (n, m, port)) (Lid here ∷ []) next) (sym (no_lmc given port none)) (lid_passes place n port range.some range.most (range.node port e) (range.port port e) (is_below place.lid low n above is)) in
+    record { last = rest.last; passes = passes_then place next (record place { lid = rest.last }) (lid_line (n, lmc_of given port, port)) text (Lid here ∷ []) (map Lid held) first rest.passes }
 
-lids_pass : (given : List (EndPort × ℕ)) (place : Place) (low : ℕ) (ns : List ℕ) → AllByRecursion (IsLidInRange given) ns → IsUpTo place.lid low → Rises low ns
+lids_pass : (given : Given) (place : Place) (low : ℕ) (ns : List ℕ) → given.lmc ≡ 0 → AllByRecursion (IsLidInRange given) ns → IsUpTo place.lid low → Rises low ns
     → LidsPass place (flat_map (owner_line given) ns) (map Lid (filter_map (owned_lid given) ns))
-lids_pass given place low [] range is rises = record { last = place.lid; passes = passes_none place }
-lids_pass given place low (n ∷ ns) range is rises =
-    owner_passes given place low n (owner_of given n) (flat_map (owner_line given) ns) (filter_map (owned_lid given) ns) refl range.0 is rises.0
-    (λ p h. lids_pass given p n ns range.1 h rises.1)
+lids_pass given place low [] none range is rises = record { last = place.lid; passes = passes_none place }
+lids_pass given place low (n ∷ ns) none range is rises =
+    owner_passes given place low n (owner_of given n) (flat_map (owner_line given) ns) (filter_map (owned_lid given) ns) none refl range.0 is rises.0
+    (λ p h. lids_pass given p n ns none range.1 h rises.1)
 
 -- the blocks of a switch
 abbrev block_item : ℕ × List ℕ → Item
@@ -192,7 +198,7 @@ held_tables h top (table ∷ tables) =
 abbrev plan_items : ℕ → PlanValue → List Item
 plan_items top plan = map Lid (filter_map (owned_lid plan.given) (rising_lids plan.given)) ++ flat_map (table_items top) plan.tables
 
-above_zero : (given : List (EndPort × ℕ)) (ns : List ℕ) (k : ℕ) → AllByRecursion (IsLidInRange given) ns → k < length ns → 0 < get_or ns k 0
+above_zero : (given : Given) (ns : List ℕ) (k : ℕ) → AllByRecursion (IsLidInRange given) ns → k < length ns → 0 < get_or ns k 0
 above_zero given [] k all h = absurd (omega arith)
 above_zero given (n ∷ ns) zero all h = let some = all.0.some in omega arith
 above_zero given (n ∷ ns) (suc k) all h = above_zero given ns k all.1 (omega arith)
@@ -201,7 +207,7 @@ whole_passes : (plan : PlanValue) (top : ℕ) → IsPlanInRange plan → top ≤
     → (after : Place) × Passes start (lids_text plan.given ++ flat_map (table_text top) plan.tables) (plan_items top plan) after
 whole_passes plan top range most =
     let given = plan.given in
-    let lids = lids_pass given start 0 (rising_lids given) range.lids tt
+    let lids = lids_pass given start 0 (rising_lids given) range.lmc range.lids tt
     (rises_from 0 (rising_lids given) (λ k h. above_zero given (rising_lids given) k range.lids h) (rising_lids_law given).1) in
     let middle : Place = record start { lid = lids.last } in
     let tables = tables_pass middle top plan.tables most range.tables (follow plan.tables range.rising) in (
@@ -238,16 +244,19 @@ read_with_top plan top e range =
     let held : held_by nothing_held (plan_items top plan) ≡ held_plan plan = held_whole plan top ∙ rw e refl in
     (ap first_fault (sym text) ∙ read.0, ap held_of (sym text) ∙ read.1 ∙ held)
 
-no_lids : (tables : List SwitchTable) → (first_fault (plan_text (record { given = []; tables = tables })) ≡ None)
-    × (held_of (plan_text (record { given = []; tables = tables })) ≡ nothing_held)
-unfolding first_fault held_of
-no_lids tables = (refl, refl)
+abbrev with_ports : ℕ → List (EndPort × ℕ) → List SwitchTable → PlanValue
+with_ports lmc ports tables = record { given = record { lmc = lmc; ports = ports }; tables = tables }
 
-read_given : (given : List (EndPort × ℕ)) (tables : List SwitchTable) → IsPlanInRange (record { given = given; tables = tables })
-    → (first_fault (plan_text (record { given = given; tables = tables })) ≡ None)
-    × (held_of (plan_text (record { given = given; tables = tables })) ≡ held_plan (record { given = given; tables = tables }))
-read_given [] tables range = no_lids tables
-read_given (x ∷ given) tables range = read_with_top (record { given = x ∷ given; tables = tables }) _ refl range
+no_lids : (lmc : ℕ) (tables : List SwitchTable) → (first_fault (plan_text (with_ports lmc [] tables)) ≡ None)
+    × (held_of (plan_text (with_ports lmc [] tables)) ≡ nothing_held)
+unfolding first_fault held_of
+no_lids lmc tables = (refl, refl)
+
+read_given : (lmc : ℕ) (ports : List (EndPort × ℕ)) (tables : List SwitchTable) → IsPlanInRange (with_ports lmc ports tables)
+    → (first_fault (plan_text (with_ports lmc ports tables)) ≡ None)
+    × (held_of (plan_text (with_ports lmc ports tables)) ≡ held_plan (with_ports lmc ports tables))
+read_given lmc [] tables range = no_lids lmc tables
+read_given lmc (x ∷ ports) tables range = read_with_top (with_ports lmc (x ∷ ports) tables) _ refl range
 
 pub printed_is_read : PrintedPlansAreRead
-printed_is_read plan range = read_given plan.given plan.tables range
+printed_is_read plan range = read_given plan.given.lmc plan.given.ports plan.tables range

@@ -8,7 +8,7 @@ use Rattle.hex.specs.Hex.{IsBytes}
 use Rattle.subnet_view.specs.declared.end_port.EndPort.{EndPort}
 use Rattle.fact_store.specs.Sighting.{AreInRange}
 use Rattle.fact_store.specs.View.{Facts, cells_of}
-use Rattle.lid_assign.specs.Lids.{IsNoRoom, owner_of, top_of, rising_lids}
+use Rattle.lid_assign.specs.Lids.{Given, IsNoRoom, owner_of, top_of, rising_lids}
 use Rattle.lft_blocks.specs.Plan.{SwitchTable, PlanValue, plan_of}
 use Rattle.lft_blocks.specs.PlanText.{plan_text}
 use Rattle.plan_file.specs.declared.held.HeldLid.{HeldLid}
@@ -18,7 +18,7 @@ use Rattle.plan_file.specs.Held.{HeldPlan, nothing_held}
 use Rattle.plan_file.specs.Reading.{first_fault, held_of}
 
 -- the LID with the end port that has it
-abbrev pub owned_lid : List (EndPort × ℕ) → ℕ → Option HeldLid
+abbrev pub owned_lid : Given → ℕ → Option HeldLid
 owned_lid given lid = option_map (λ port. record { lid = lid; port = port }) (owner_of given lid)
 
 -- the blocks of the switch at a place, that count from a number on
@@ -44,7 +44,7 @@ held_plan plan =
     }) (top_of plan.given) nothing_held
 
 -- a LID and its end port
-pub record IsLidInRange (given : List (EndPort × ℕ)) (lid : ℕ) : Type 0 where
+pub record IsLidInRange (given : Given) (lid : ℕ) : Type 0 where
   pub some : 1 ≤ lid
   pub most : lid ≤ 0xBFFF
   pub node : (e : EndPort) → owner_of given lid ≡ Some e → e.node < 2 ^ 64
@@ -60,8 +60,9 @@ pub record IsTableInRange (table : SwitchTable) : Type 0 where
   pub blocks : AllByRecursion IsBlock table.blocks
   pub few : length table.blocks ≤ 768
 
--- the numbers of a plan fit their types, and its switches rise
+-- the numbers of a plan fit their types, each port has one LID, and its switches rise
 pub record IsPlanInRange (plan : PlanValue) : Type 0 where
+  pub lmc : plan.given.lmc ≡ 0
   pub lids : AllByRecursion (IsLidInRange plan.given) (rising_lids plan.given)
   pub top : (top : ℕ) → top_of plan.given ≡ Some top → top ≤ 0xBFFF
   pub rising : IsStrictlyIncreasing (map (λ table. table.guid) plan.tables)
@@ -74,6 +75,6 @@ IsRead plan = (first_fault (plan_text plan) ≡ None) × (held_of (plan_text pla
 abbrev pub PrintedPlansAreRead : Type 0
 PrintedPlansAreRead = (plan : PlanValue) → IsPlanInRange plan → IsRead plan
 
--- so is that of the plan of each view whose facts are in range, where there is room for its LIDs
+-- so is that of the plan under LMC 0 of each view whose facts are in range, where there is room for its LIDs
 abbrev pub PlansAreRead : Type 0
-PlansAreRead = (facts : Facts) → AreInRange facts → ¬ (IsNoRoom (cells_of facts)) → IsRead (plan_of (cells_of facts))
+PlansAreRead = (facts : Facts) → AreInRange facts → ¬ (IsNoRoom 0 (cells_of facts)) → IsRead (plan_of 0 (cells_of facts))

@@ -73,6 +73,30 @@ impl fmt::Display for TextFault {
 
 impl Error for TextFault {}
 
+impl TextFault {
+    ghost use Rattle.plan_file.specs.TextFault.{fault_line, fault_word};
+
+    /// The line that has the fault, from 1.
+    pub fn line(self) -> Option<usize>
+        ensures { result ≡ fault_line self }
+    {
+        match self {
+            TextFault::Line(fault) => Some(fault.line),
+            TextFault::Memory => None,
+        }
+    }
+
+    /// What is said of the line, or that memory is out.
+    pub fn word(self) -> &'static str
+        ensures { result.now ≡ fault_word self }
+    {
+        match self {
+            TextFault::Line(fault) => fault.wrong.word(),
+            TextFault::Memory => "out of memory",
+        }
+    }
+}
+
 impl From<LineFault> for TextFault {
     ghost use Rattle.std.specs.Prelude.{◌≡◌};
     ghost use Rattle.plan_file.specs.declared.fault.TextFault.TheVariants.{Line};

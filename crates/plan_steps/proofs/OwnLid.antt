@@ -114,6 +114,6 @@ module _ (cells : Cells) (port_guid port : ℕ) where
       ] refl
 
 pub own_lid_law : OwnLidLaw
-own_lid_law facts room_for_all port_guid port =
-    own_lid_is (cells_of facts) port_guid port (lids (cells_of facts))
-    (subst (λ (es : List EndPort). AllPairs (ComesBefore (cells_of facts)) es) (sym (ports-lids (cells_of facts) room_for_all)) (end_ports_law facts).1)
+own_lid_law lmc facts room_for_all port_guid port =
+    own_lid_is (cells_of facts) port_guid port (lids lmc (cells_of facts)).ports
+    (subst (λ (es : List EndPort). AllPairs (ComesBefore (cells_of facts)) es) (sym (ports-lids lmc (cells_of facts) room_for_all)) (end_ports_law facts).1)

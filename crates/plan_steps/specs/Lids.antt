@@ -5,13 +5,13 @@ use Rattle.std.specs.Option.{option_map_or}
 use Rattle.std.specs.List.{filter_map, find}
 use Rattle.smp_bytes.specs.Field.{with_bits, with_number}
 use Rattle.smp_bytes.specs.Header.{port_info}
-use Rattle.attr_codec.specs.PortInfo.{base_lid, master_sm_lid, port_state, number_of_state}
+use Rattle.attr_codec.specs.PortInfo.{base_lid, master_sm_lid, lmc, port_state, number_of_state}
 use Rattle.attr_codec.specs.declared.port_state.PortState.{PortState}
 use Rattle.attr_codec.specs.declared.port_state.PortState.TheVariants.{NoChange}
 use Rattle.fact_store.specs.View.{Facts, cells_of}
 use Rattle.subnet_view.specs.declared.end_port.EndPort.{EndPort}
 use Rattle.subnet_view.specs.Reading.{Cells, port_guid_of}
-use Rattle.lid_assign.specs.Lids.{owner_of, rising_lids, lids, IsNoRoom}
+use Rattle.lid_assign.specs.Lids.{Given, owner_of, lmc_of, rising_lids, lids, IsNoRoom}
 use Rattle.sweep.specs.Sweep.{Sweep}
 use Rattle.plan_steps.specs.declared.step.Step.{Step}
 use Rattle.plan_steps.specs.Step.{step_at}
@@ -24,21 +24,22 @@ is_own_port cells port_guid port e = e.port == port && option_map_or (λ guid. g
 abbrev pub own_lid : Cells → List (EndPort × ℕ) → ℕ → ℕ → ℕ
 own_lid cells given port_guid port = option_map_or (λ x. x.1) (find (λ x. is_own_port cells port_guid port x.0) given) 0
 
--- PortInfo with a LID, the manager's LID and the state that is asked for, and 0 elsewhere
-abbrev pub port_data : ℕ → ℕ → PortState → List ℕ
-port_data lid master state =
-    with_bits port_state (number_of_state state) (with_number master_sm_lid master (with_number base_lid lid (replicate 64 0)))
+-- PortInfo with a LID and an LMC, the manager's LID and the state that is asked for, and 0 elsewhere
+abbrev pub port_data : ℕ × ℕ → ℕ → PortState → List ℕ
+port_data range master state =
+    with_bits port_state (number_of_state state)
+    (with_bits lmc range.1 (with_number master_sm_lid master (with_number base_lid range.0 (replicate 64 0))))
 
--- the LID of an end port, and the manager's
-abbrev pub lid_step : Sweep → ℕ → ℕ → EndPort → Option Step
-lid_step sweep master lid e = step_at sweep e.node e.port port_info e.port (port_data lid master NoChange)
+-- the LID and the LMC of an end port, and the manager's LID
+abbrev pub lid_step : Sweep → ℕ → ℕ × ℕ → EndPort → Option Step
+lid_step sweep master range e = step_at sweep e.node e.port port_info e.port (port_data range master NoChange)
 
 -- the step of the end port that has a LID
-abbrev pub owner_step : Sweep → ℕ → List (EndPort × ℕ) → ℕ → Option Step
-owner_step sweep master given lid = option_and_then (lid_step sweep master lid) (owner_of given lid)
+abbrev pub owner_step : Sweep → ℕ → Given → ℕ → Option Step
+owner_step sweep master given lid = option_and_then (λ e. lid_step sweep master (lid, lmc_of given e) e) (owner_of given lid)
 
--- each end port that was reached gets its LID, by rising LIDs
-abbrev pub lid_steps : Sweep → ℕ → List (EndPort × ℕ) → List Step
+-- each end port that was reached gets its LID and its LMC, by rising LIDs
+abbrev pub lid_steps : Sweep → ℕ → Given → List Step
 lid_steps sweep master given = filter_map (owner_step sweep master given) (rising_lids given)
 
 -- the law of the manager's LID, in words: ----------------------------------------------------
@@ -65,5 +66,5 @@ IsOwnLidOr0 cells given port_guid port lid = IsOwnLid cells given port_guid port
 -- where there is room, the LID of the manager is so
 abbrev pub OwnLidLaw : Type 0
 OwnLidLaw =
-    (facts : Facts) → ¬ (IsNoRoom (cells_of facts)) → (port_guid port : ℕ)
-    → IsOwnLidOr0 (cells_of facts) (lids (cells_of facts)) port_guid port (own_lid (cells_of facts) (lids (cells_of facts)) port_guid port)
+    (lmc : ℕ) (facts : Facts) → ¬ (IsNoRoom lmc (cells_of facts)) → (port_guid port : ℕ)
+    → IsOwnLidOr0 (cells_of facts) (lids lmc (cells_of facts)).ports port_guid port (own_lid (cells_of facts) (lids lmc (cells_of facts)).ports port_guid port)

@@ -27,4 +27,4 @@ phases_by plan cells sweep master =
 
 -- the phases of a plan that a manager at the port of this GUID and number writes, over the paths of its last sweep
 abbrev pub phases_of : PlanValue → Cells → Sweep → ℕ → ℕ → List Phase
-phases_of plan cells sweep port_guid port = phases_by plan cells sweep (own_lid cells plan.given port_guid port)
+phases_of plan cells sweep port_guid port = phases_by plan cells sweep (own_lid cells plan.given.ports port_guid port)

@@ -14,7 +14,7 @@ use Rattle.fact_store.specs.View.{Facts, cells_of}
 use Rattle.subnet_view.specs.declared.end_port.EndPort.{EndPort}
 use Rattle.subnet_view.specs.Reading.{Cells, is_usable}
 use Rattle.subnet_view.specs.Wires.{across}
-use Rattle.lid_assign.specs.Lids.{lid_of}
+use Rattle.lid_assign.specs.Lids.{Given, range_of}
 use Rattle.sweep.specs.Order.{is_before}
 use Rattle.sweep.specs.Sweep.{Sweep, seen_state}
 use Rattle.plan_steps.specs.declared.step.Step.{Step}
@@ -42,19 +42,19 @@ abbrev pub vertex_port : Cells → ℕ × ℕ → ℕ
 vertex_port cells at = if is_usable cells at.0 then 0 else at.1
 
 -- an end port's LIDs go with its state; a switch's other ports have none
-abbrev pub state_data : List (EndPort × ℕ) → ℕ → PortState → ℕ × ℕ → List ℕ
+abbrev pub state_data : Given → ℕ → PortState → ℕ × ℕ → List ℕ
 state_data given master state at =
-    option_map_or (λ lid. port_data lid master state) (lid_of given (record { node = at.0; port = at.1 })) (port_data 0 0 state)
+    option_map_or (λ range. port_data range master state) (range_of given (record { node = at.0; port = at.1 })) (port_data (0, 0) 0 state)
 
 -- the state of a port that the sweep saw in one from which it is still to come to it
-abbrev pub state_step : Cells → Sweep → List (EndPort × ℕ) → ℕ → PortState → ℕ × ℕ → Option Step
+abbrev pub state_step : Cells → Sweep → Given → ℕ → PortState → ℕ × ℕ → Option Step
 state_step cells sweep given master state at =
     if option_map_or (is_due state) (seen_state sweep at.0 at.1) false
     then step_at sweep at.0 (vertex_port cells at) port_info at.1 (state_data given master state at)
     else None
 
 -- the state for each such port on a wire that was reached, by node GUID and port
-abbrev pub state_steps : Cells → Sweep → List (EndPort × ℕ) → ℕ → PortState → List Step
+abbrev pub state_steps : Cells → Sweep → Given → ℕ → PortState → List Step
 state_steps cells sweep given master state = filter_map (state_step cells sweep given master state) (wired_ports cells)
 
 -- the law of the ports on wires, in words: -------------------------------------------------

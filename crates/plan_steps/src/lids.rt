@@ -4,7 +4,7 @@ ghost use Rattle.plan_steps.specs.Lids.{is_own_port, own_lid, port_data};
 ghost use Rattle.plan_steps.specs.Lids.{lid_step, lid_steps, owner_step};
 
 use crate::step::{Step, step_at};
-use attr_codec::{Attribute, PortInfo, PortState};
+use attr_codec::{Attribute, Lmc, PortInfo, PortState};
 use fact_store::Store;
 use lid_assign::LidMap;
 use smp_bytes::{AttributeId, Guid, Lid, PortNum};
@@ -15,7 +15,7 @@ use sweep::Sweep;
 /// The LID of the manager at the port of a GUID and a number: that of the first such end port, by
 /// node GUID, and 0 where there is none. Takes a search for each end port of the number.
 pub(crate) fn own_lid(store: &Store, lids: &LidMap, own_guid: Guid, port: PortNum) -> Lid
-    ensures { result ≡ own_lid (cells_of store.now) lids.now own_guid port }
+    ensures { result ≡ own_lid (cells_of store.now) lids.now.ports own_guid port }
 {
     for (end, lid) in lids.given() {
         if is_own_port(store, *end, own_guid, port) {
@@ -32,7 +32,7 @@ fn is_own_port(store: &Store, end: EndPort, own_guid: Guid, port: PortNum) -> bo
     end.port == port && port_guid(store, end.node, end.port) == Some(own_guid)
 }
 
-/// The LID of each end port that was reached, by rising LIDs. Takes a search for each.
+/// The LID and the LMC of each end port that was reached, by rising LIDs. Takes a search for each.
 pub(crate) fn lid_steps(
     alloc: Global,
     sweep: &Sweep,
@@ -54,12 +54,14 @@ pub(crate) fn lid_steps(
 fn owner_step(sweep: &Sweep, master: Lid, lids: &LidMap, lid: Lid) -> Option<Step>
     ensures { result ≡ owner_step sweep.now master lids.now lid }
 {
-    lid_step(sweep, master, lid, lids.owner(lid)?)
+    let end = lids.owner(lid)?;
+    let lmc = lids.lmc_of(&end);
+    lid_step(sweep, master, lid, lmc, end)
 }
 
-/// The step that gives an end port its LID, and the manager's.
-fn lid_step(sweep: &Sweep, master: Lid, lid: Lid, end: EndPort) -> Option<Step>
-    ensures { result ≡ lid_step sweep.now master lid end }
+/// The step that gives an end port its LID and its LMC, and the manager's LID.
+fn lid_step(sweep: &Sweep, master: Lid, lid: Lid, lmc: Lmc, end: EndPort) -> Option<Step>
+    ensures { result ≡ lid_step sweep.now master (lid, lmc) end }
 {
     step_at(
         sweep,
@@ -67,17 +69,18 @@ fn lid_step(sweep: &Sweep, master: Lid, lid: Lid, end: EndPort) -> Option<Step>
         end.port,
         AttributeId::PORT_INFO,
         u32::from(end.port.number()),
-        port_data(lid, master, PortState::NoChange),
+        port_data(lid, lmc, master, PortState::NoChange),
     )
 }
 
-/// PortInfo with a LID, the manager's LID and the state that is asked for, and 0 elsewhere.
-pub(crate) fn port_data(lid: Lid, master: Lid, state: PortState) -> [u8; 64]
-    ensures { result ≡ port_data lid master state }
+/// PortInfo with a LID and an LMC, the manager's LID and the state that is asked for, and 0 elsewhere.
+pub(crate) fn port_data(lid: Lid, lmc: Lmc, master: Lid, state: PortState) -> [u8; 64]
+    ensures { result ≡ port_data (lid, lmc) master state }
 {
     let mut info = PortInfo::decode(&[0; 64]);
     info.set_base_lid(lid);
     info.set_master_sm_lid(master);
+    info.set_lmc(lmc);
     info.set_port_state(state);
     info.encode()
 }

@@ -8,7 +8,7 @@ ghost use Rattle.plan_steps.specs.States.{wired_port, wired_ports};
 
 use crate::lids::port_data;
 use crate::step::{Step, step_at};
-use attr_codec::PortState;
+use attr_codec::{Lmc, PortState};
 use fact_store::{Key, Sighting, Store};
 use lid_assign::LidMap;
 use smp_bytes::{AttributeId, Guid, Lid, PortNum};
@@ -130,8 +130,10 @@ fn vertex_port(store: &Store, guid: Guid, port: PortNum) -> PortNum
 fn state_data(lids: &LidMap, master: Lid, state: PortState, guid: Guid, port: PortNum) -> [u8; 64]
     ensures { result ≡ state_data lids.now master state (guid, port) }
 {
-    match lids.lid_of(EndPort { node: guid, port }) {
-        Some(lid) => port_data(lid, master, state),
-        None => port_data(Lid::new(0), Lid::new(0), state),
+    let end = EndPort { node: guid, port };
+    let lmc = lids.lmc_of(&end);
+    match lids.lid_of(end) {
+        Some(lid) => port_data(lid, lmc, master, state),
+        None => port_data(Lid::new(0), Lmc::ZERO, Lid::new(0), state),
     }
 }

@@ -4,9 +4,9 @@
 //! S1[1] - S2[1]    S1[2] - S3[1]    S2[2] - S3[2]    S2[3] - H1[1]    S3[3] - H2[1]
 //! ```
 use super::*;
-use attr_codec::{Attribute, NodeInfo, NodeTypeNumber, PortInfo, PortState, SwitchInfo};
+use attr_codec::{Attribute, Lmc, NodeInfo, NodeTypeNumber, PortInfo, PortState, SwitchInfo};
 use fact_store::Store;
-use lft_blocks::Plan;
+use lft_blocks::{Plan, Rule};
 use smp_bytes::{AttributeId, Generation, Guid, NodeType, PortNum, Smp, Status};
 use std::alloc::Global;
 use std::collections::VecDeque;
@@ -146,7 +146,7 @@ fn phases_of(
     sweep: &Sweep,
     own_guid: u64,
 ) -> Result<VecDeque<Phase>, Fail> {
-    let plan = Plan::of(alloc, store)?;
+    let plan = Plan::of(alloc, store, Lmc::ZERO, &Rule::UpDown)?;
     let own_guid = Guid::new(own_guid);
     Ok(phases(alloc, &plan, store, sweep, own_guid, PortNum::new(1))?)
 }

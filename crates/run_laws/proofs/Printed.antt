@@ -28,8 +28,8 @@ each_says cells plan w origin arrives nodes source end joined lid owner owned =
     }
 
 pub held_plans_are_reached : HeldPlansAreReached
-held_plans_are_reached facts w origin room is end agrees holds =
-    each_says (cells_of facts) (plan_of (cells_of facts)) w origin (pings_arrive facts w.fabric origin room is end agrees holds)
+held_plans_are_reached lmc facts w origin room is end agrees holds =
+    each_says (cells_of facts) (plan_of lmc (cells_of facts)) w origin (pings_arrive lmc facts w.fabric origin room is end agrees holds)
 
 pub written_plans_are_reached : WrittenPlansAreReached
 written_plans_are_reached m before between after brings w same =

@@ -11,6 +11,7 @@ use Rattle.fact_store.specs.View.{Facts, view_at, no_facts}
 use Rattle.fact_store.proofs.Views.{view_of_both}
 use Rattle.sm_manager.specs.Manager.{Manager}
 use Rattle.sm_manager.specs.declared.fault.ManagerFault.{ManagerFault}
+use Rattle.sm_manager.proofs.Lives.{Keeps}
 use Rattle.sm_run.specs.Commands.{new_seated}
 use Rattle.sm_run.specs.World.{Ran, SeatedValue, WorldValue, at_seat, called_run, quiet, with_manager}
 use Rattle.run_laws.specs.Accounts.{Account, Accounts, joined, opened, with_more}
@@ -32,9 +33,10 @@ module _ {X : Type 0} where
 
 -- seats --------------------------------------------------------------------------------------------
 
--- so many managers, each of which knows the view of what it took in at its greatest floor
-pub record AreKnown (count : ℕ) (managers : List SeatedValue) (accounts : Accounts) : Type 0 where
+-- so many managers, which plan by one LMC, and each of which knows the view of what it took in at its greatest floor
+pub record AreKnown (count lmc : ℕ) (managers : List SeatedValue) (accounts : Accounts) : Type 0 where
   pub many : length managers ≡ count
+  pub lmcs : (seat : ℕ) (s : SeatedValue) → slice_get managers seat ≡ Some s → s.manager.lmc ≡ lmc
   pub knows : (seat : ℕ) (s : SeatedValue) → slice_get managers seat ≡ Some s → s.manager.store ≡ view_at (accounts seat).floor (accounts seat).told
 
 -- the account that a manager has then
@@ -58,14 +60,26 @@ pub told_more : (facts : Facts) (before more : Account) → facts ≡ view_at be
 told_more facts before more e =
     ap (λ x. merge x (view_at more.floor more.told)) e ∙ sym (view_of_both before.floor more.floor before.told more.told)
 
-module _ (count : ℕ) (w : WorldValue) (accounts : Accounts) (known : AreKnown count w.managers accounts) where
+module _ (count lmc : ℕ) (w : WorldValue) (accounts : Accounts) (known : AreKnown count lmc w.managers accounts) where
   -- another manager in a seat
   pub seated_known : (seat : ℕ) (s : SeatedValue) (m : Manager) (accounts' : Accounts) → slice_get w.managers seat ≡ Some s
       → ((other : ℕ) → other ≢ seat → accounts' other ≡ accounts other)
-      → m.store ≡ view_at (accounts' seat).floor (accounts' seat).told → AreKnown count (with_manager w seat s m).managers accounts'
-  seated_known seat s m accounts' there others is =
-      record { many = length-set w.managers seat (record s { manager = m }) ∙ known.many; knows = knows }
+      → m.lmc ≡ s.manager.lmc → m.store ≡ view_at (accounts' seat).floor (accounts' seat).told
+      → AreKnown count lmc (with_manager w seat s m).managers accounts'
+  seated_known seat s m accounts' there others same_lmc is =
+      record { many = length-set w.managers seat (record s { manager = m }) ∙ known.many; lmcs = lmcs; knows = knows }
     where
+      lmcs : (k : ℕ) (x : SeatedValue) → slice_get (with_manager w seat s m).managers k ≡ Some x → x.manager.lmc ≡ lmc
+      lmcs k x at =
+          elim (eqb_tells k seat) [
+            | inl same ↦
+                let here : Some x ≡ Some (record s { manager = m }) =
+                sym at ∙ ap (slice_get (with_manager w seat s m).managers) same.1 ∙ get_here w.managers seat s (record s { manager = m }) there in
+                let is_it : x ≡ record s { manager = m } = cc in
+                ap (λ (y : SeatedValue). y.manager.lmc) is_it ∙ same_lmc ∙ known.lmcs seat s there
+            | inr h ↦ known.lmcs k x (sym (get_there w.managers seat k (record s { manager = m }) h.1) ∙ at)
+          ]
+
       knows : (k : ℕ) (x : SeatedValue) → slice_get (with_manager w seat s m).managers k ≡ Some x
           → x.manager.store ≡ view_at (accounts' k).floor (accounts' k).told
       knows k x at =
@@ -84,22 +98,22 @@ module _ (count : ℕ) (w : WorldValue) (accounts : Accounts) (known : AreKnown 
               ap (λ (y : SeatedValue). y.manager.store) is_it ∙ is ∙ ap (λ (a : Account). view_at a.floor a.told) (ap accounts' (sym same))
 
   -- it takes in nothing
-  pub kept : (seat : ℕ) (s : SeatedValue) (m : Manager) → slice_get w.managers seat ≡ Some s → m.store ≡ s.manager.store
-      → AreKnown count (with_manager w seat s m).managers accounts
-  kept seat s m there same = seated_known seat s m accounts there (λ other apart. refl) (same ∙ known.knows seat s there)
+  pub kept : (seat : ℕ) (s : SeatedValue) (m : Manager) → slice_get w.managers seat ≡ Some s → Keeps s.manager m
+      → AreKnown count lmc (with_manager w seat s m).managers accounts
+  kept seat s m there keeps = seated_known seat s m accounts there (λ other apart. refl) keeps.lmc (keeps.store ∙ known.knows seat s there)
 
   -- it takes in more
-  pub grown : (seat : ℕ) (s : SeatedValue) (m : Manager) (more : Account) → slice_get w.managers seat ≡ Some s
-      → m.store ≡ merge s.manager.store (view_at more.floor more.told) → AreKnown count (with_manager w seat s m).managers (with_more accounts seat more)
-  grown seat s m more there takes =
-      seated_known seat s m (with_more accounts seat more) there (λ other apart. more_there accounts seat other more apart)
+  pub grown : (seat : ℕ) (s : SeatedValue) (m : Manager) (more : Account) → slice_get w.managers seat ≡ Some s → m.lmc ≡ s.manager.lmc
+      → m.store ≡ merge s.manager.store (view_at more.floor more.told) → AreKnown count lmc (with_manager w seat s m).managers (with_more accounts seat more)
+  grown seat s m more there same_lmc takes =
+      seated_known seat s m (with_more accounts seat more) there (λ other apart. more_there accounts seat other more apart) same_lmc
       (takes ∙ told_more s.manager.store (accounts seat) more (known.knows seat s there)
       ∙ ap (λ (a : Account). view_at a.floor a.told) (sym (more_here accounts seat more)))
 
   -- it took this in before
   pub repeated : (seat : ℕ) (s : SeatedValue) (more : Account) → slice_get w.managers seat ≡ Some s
-      → s.manager.store ≡ merge s.manager.store (view_at more.floor more.told) → AreKnown count w.managers (with_more accounts seat more)
-  repeated seat s more there takes = record { many = known.many; knows = knows }
+      → s.manager.store ≡ merge s.manager.store (view_at more.floor more.told) → AreKnown count lmc w.managers (with_more accounts seat more)
+  repeated seat s more there takes = record { many = known.many; lmcs = known.lmcs; knows = knows }
     where
       knows : (k : ℕ) (x : SeatedValue) → slice_get w.managers k ≡ Some x
           → x.manager.store ≡ view_at (with_more accounts seat more k).floor (with_more accounts seat more k).told
@@ -119,9 +133,9 @@ module _ (count : ℕ) (w : WorldValue) (accounts : Accounts) (known : AreKnown 
               ∙ ap (λ (a : Account). view_at a.floor a.told) (sym (more_here accounts seat more) ∙ ap (with_more accounts seat more) (sym same))
 
 -- where nobody is in a seat, nothing is known of it
-pub nobody : (count : ℕ) (managers : List SeatedValue) (accounts : Accounts) (seat : ℕ) (more : Account) → AreKnown count managers accounts
-    → slice_get managers seat ≡ None → AreKnown count managers (with_more accounts seat more)
-nobody count managers accounts seat more known none = record { many = known.many; knows = knows }
+pub nobody : (count lmc : ℕ) (managers : List SeatedValue) (accounts : Accounts) (seat : ℕ) (more : Account) → AreKnown count lmc managers accounts
+    → slice_get managers seat ≡ None → AreKnown count lmc managers (with_more accounts seat more)
+nobody count lmc managers accounts seat more known none = record { many = known.many; lmcs = known.lmcs; knows = knows }
   where
     knows : (k : ℕ) (x : SeatedValue) → slice_get managers k ≡ Some x
         → x.manager.store ≡ view_at (with_more accounts seat more k).floor (with_more accounts seat more k).told
@@ -152,11 +166,18 @@ called_is next w seat s (Some why) m P refused done = refused why refl
 
 -- as a run begins ------------------------------------------------------------------------------------
 
-new_known : (nodes : List Node) (seats : List Seat) (k : ℕ) (s : SeatedValue) → slice_get (map (new_seated nodes) seats) k ≡ Some s → s.manager.store ≡ no_facts
-new_known nodes [] k s there = absurd (cc)
-new_known nodes (x ∷ seats) zero s there =
-    let is_it : s ≡ new_seated nodes x = cc in ap (λ (y : SeatedValue). y.manager.store) is_it
-new_known nodes (x ∷ seats) (suc k) s there = new_known nodes seats k s there
+-- a manager as it is made
+new_is : (lmc : ℕ) (nodes : List Node) (seats : List Seat) (k : ℕ) (s : SeatedValue) → slice_get (map (new_seated lmc nodes) seats) k ≡ Some s
+    → (s.manager.store ≡ no_facts) × (s.manager.lmc ≡ lmc)
+new_is lmc nodes [] k s there = absurd (cc)
+new_is lmc nodes (x ∷ seats) zero s there =
+    let is_it : s ≡ new_seated lmc nodes x = cc in (ap (λ (y : SeatedValue). y.manager.store) is_it, ap (λ (y : SeatedValue). y.manager.lmc) is_it)
+new_is lmc nodes (x ∷ seats) (suc k) s there = new_is lmc nodes seats k s there
 
-pub all_new : (nodes : List Node) (seats : List Seat) → AreKnown (length seats) (map (new_seated nodes) seats) opened
-all_new nodes seats = record { many = length-map seats (new_seated nodes); knows = new_known nodes seats }
+pub all_new : (lmc : ℕ) (nodes : List Node) (seats : List Seat) → AreKnown (length seats) lmc (map (new_seated lmc nodes) seats) opened
+all_new lmc nodes seats =
+    record {
+      many = length-map seats (new_seated lmc nodes);
+      lmcs = λ k s there. (new_is lmc nodes seats k s there).1;
+      knows = λ k s there. (new_is lmc nodes seats k s there).0;
+    }

@@ -116,12 +116,12 @@ told_by_commands nodes w accounts (command ∷ later) =
 -- runs -------------------------------------------------------------------------------------------
 
 -- the world once a schedule was run
-abbrev pub world_after : Layout → Script → WorldValue
-world_after topology script = (commands_run topology.nodes (world_of topology script.seats) script.commands).now
+abbrev pub world_after : ℕ → Layout → Script → WorldValue
+world_after lmc topology script = (commands_run topology.nodes (world_of lmc topology script.seats) script.commands).now
 
 -- and what the manager of a seat has taken in by then
-abbrev pub account_after : Layout → Script → ℕ → Account
-account_after topology script = told_by_commands topology.nodes (world_of topology script.seats) opened script.commands
+abbrev pub account_after : ℕ → Layout → Script → ℕ → Account
+account_after lmc topology script = told_by_commands topology.nodes (world_of lmc topology script.seats) opened script.commands
 
 -- each manager knows the view of what it took in, at its greatest floor
 abbrev pub KnowWhatTheyTookIn : WorldValue → Accounts → Type 0
@@ -130,4 +130,4 @@ KnowWhatTheyTookIn w accounts =
 
 -- so it is after every run
 abbrev pub RunsAreAccountedFor : Type 0
-RunsAreAccountedFor = (topology : Layout) (script : Script) → KnowWhatTheyTookIn (world_after topology script) (account_after topology script)
+RunsAreAccountedFor = (lmc : ℕ) (topology : Layout) (script : Script) → KnowWhatTheyTookIn (world_after lmc topology script) (account_after lmc topology script)

@@ -1,5 +1,5 @@
 -- A run with one manager: it sweeps, and then writes its plan; and what pings print behind it.
-use Rattle.std.specs.Prelude.{◌≡◌, ℕ, zero, suc, true, List, [], ◌∷◌, slice_get, Option, Some, None}
+use Rattle.std.specs.Prelude.{◌≡◌, ◌<◌, ℕ, zero, suc, true, List, [], ◌∷◌, slice_get, Option, Some, None}
 use Rattle.std.specs.Option.{option_map_or}
 use Rattle.topo_file.specs.declared.node.Node.{Node}
 use Rattle.schedule_file.specs.declared.command.Command.{Command}
@@ -83,7 +83,10 @@ IsOnly w s manager = w.managers ≡ record s { manager = manager } ∷ []
 pub record BringsUpAlone (nodes : List Node) (w : WorldValue) (s : SeatedValue) (between after : List Command) : Type 0 where
   pub port_guid : ℕ
   pub priority : ℕ
-  pub only : IsOnly w s (new_manager port_guid s.at.port priority)
+  -- an LMC that there is
+  pub lmc : ℕ
+  pub few : lmc < 8
+  pub only : IsOnly w s (new_manager port_guid s.at.port priority lmc)
   pub fabric : IsSimulation w.fabric
   pub no_packets : w.fabric.flights ≡ []
   pub distinct : AreGuidsDistinct (fabric_of w.fabric)
@@ -98,7 +101,7 @@ pub record BringsUpAlone (nodes : List Node) (w : WorldValue) (s : SeatedValue) 
   pub whole : IsWhole sweep
   pub begins : writing_fault swept ≡ None
   -- each Set that an agent takes from then on, unless it is one of the writing's own, carries the plan's values
-  pub keeps : KeepsLines (plan_of (cells_of swept.store)) (IsOwnSet (fabric_of w.fabric) s.at (phases_by swept swept.sweep)) nodes
+  pub keeps : KeepsLines (plan_of swept.lmc (cells_of swept.store)) (IsOwnSet (fabric_of w.fabric) s.at (phases_by swept swept.sweep)) nodes
       (at_first_steps nodes w between) after
   -- and it is finished in the end
   pub writer : Manager
@@ -109,4 +112,4 @@ pub record BringsUpAlone (nodes : List Node) (w : WorldValue) (s : SeatedValue) 
 abbrev pub RunsOfOneAreReached : Type 0
 RunsOfOneAreReached = (nodes : List Node) (w : WorldValue) (s : SeatedValue) (between after : List Command)
     → (b : BringsUpAlone nodes w s between after)
-    → EachPingSaysReached (plan_of (cells_of b.swept.store)) (at_end nodes w between after) s.at
+    → EachPingSaysReached (plan_of b.swept.lmc (cells_of b.swept.store)) (at_end nodes w between after) s.at

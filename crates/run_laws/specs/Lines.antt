@@ -16,38 +16,38 @@ and_lines script lines = record script { commands = script.commands ++ lines }
 -- what stands behind a schedule changes nothing of what it prints, and prints what it does in the world then
 abbrev pub LaterLinesComeBehind : Type 0
 LaterLinesComeBehind =
-    (topology : Layout) (script : Script) (lines : List Command)
-    → script_text topology (and_lines script lines)
-    ≡ script_text topology script ++ (commands_run topology.nodes (world_after topology script) lines).text
+    (lmc : ℕ) (topology : Layout) (script : Script) (lines : List Command)
+    → script_text lmc topology (and_lines script lines)
+    ≡ script_text lmc topology script ++ (commands_run topology.nodes (world_after lmc topology script) lines).text
 
 -- a manager of one world and a manager of another print the same of what they know, and the same plan
 pub record TellTheSame (one other : WorldValue) (seat seat' : ℕ) : Type 0 where
   pub facts : facts_shown one seat ≡ facts_shown other seat'
   pub plan : plan_shown one seat ≡ plan_shown other seat'
 
--- two managers, of one run or of two, that took in the same, in whatever order and however often, and have one greatest floor
+-- two managers, of one run or of two under the same LMC, that took in the same, in whatever order and however often, and have one greatest floor
 abbrev pub SameTakenInSameLines : Type 0
 SameTakenInSameLines =
-    (topology topology' : Layout) (script script' : Script) (seat seat' : ℕ) → seat < length script.seats → seat' < length script'.seats
-    → HaveSameMembers (account_after topology script seat).told (account_after topology' script' seat').told
-    → (account_after topology script seat).floor ≡ (account_after topology' script' seat').floor
-    → TellTheSame (world_after topology script) (world_after topology' script') seat seat'
+    (lmc : ℕ) (topology topology' : Layout) (script script' : Script) (seat seat' : ℕ) → seat < length script.seats → seat' < length script'.seats
+    → HaveSameMembers (account_after lmc topology script seat).told (account_after lmc topology' script' seat').told
+    → (account_after lmc topology script seat).floor ≡ (account_after lmc topology' script' seat').floor
+    → TellTheSame (world_after lmc topology script) (world_after lmc topology' script') seat seat'
 
 -- behind a schedule the plans of two managers are printed alike
-pub record PrintsPlansAlike (topology : Layout) (script : Script) (seat other : ℕ) : Type 0 where
+pub record PrintsPlansAlike (lmc : ℕ) (topology : Layout) (script : Script) (seat other : ℕ) : Type 0 where
   pub plan : List ℕ
-  pub twice : script_text topology (and_lines script (Plan seat ∷ Plan other ∷ [])) ≡ script_text topology script ++ (plan ++ plan)
+  pub twice : script_text lmc topology (and_lines script (Plan seat ∷ Plan other ∷ [])) ≡ script_text lmc topology script ++ (plan ++ plan)
 
 -- where they took in the same, and have one greatest floor
 abbrev pub SameTakenInPlansAlike : Type 0
 SameTakenInPlansAlike =
-    (topology : Layout) (script : Script) (seat other : ℕ) → seat < length script.seats → other < length script.seats
-    → HaveSameMembers (account_after topology script seat).told (account_after topology script other).told
-    → (account_after topology script seat).floor ≡ (account_after topology script other).floor
-    → PrintsPlansAlike topology script seat other
+    (lmc : ℕ) (topology : Layout) (script : Script) (seat other : ℕ) → seat < length script.seats → other < length script.seats
+    → HaveSameMembers (account_after lmc topology script seat).told (account_after lmc topology script other).told
+    → (account_after lmc topology script seat).floor ≡ (account_after lmc topology script other).floor
+    → PrintsPlansAlike lmc topology script seat other
 
 -- and whenever each has merged what the other knows
 abbrev pub MergedManagersPlanAlike : Type 0
 MergedManagersPlanAlike =
-    (topology : Layout) (script : Script) (seat other : ℕ) → seat < length script.seats → other < length script.seats
-    → PrintsPlansAlike topology (and_lines script (Merge seat other ∷ Merge other seat ∷ [])) seat other
+    (lmc : ℕ) (topology : Layout) (script : Script) (seat other : ℕ) → seat < length script.seats → other < length script.seats
+    → PrintsPlansAlike lmc topology (and_lines script (Merge seat other ∷ Merge other seat ∷ [])) seat other

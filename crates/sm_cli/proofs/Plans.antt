@@ -1,5 +1,5 @@
 -- Why there is no plan, as a fault of a run.
-use Rattle.std.proofs.Common.{◌≡◌, Bool, Option, None, Some, refl}
+use Rattle.std.proofs.Common.{◌≡◌, ℕ, Bool, Option, None, Some, refl}
 use Rattle.std.specs.Prelude.{if◌then◌else◌}
 use Rattle.fact_store.specs.View.{Facts, cells_of}
 use Rattle.lid_assign.specs.LidFault.{is_memory, lid_fault, no_room}
@@ -10,6 +10,7 @@ use Rattle.sm_cli.specs.Faults.{fault_of_lids}
 use Rattle.sm_cli.specs.Run.{IsAnswerFault}
 use Rattle.sm_cli.specs.declared.fault.Fault.{Fault}
 use Rattle.sm_cli.specs.declared.run.Output.TheVariants as output
+use Rattle.sm_cli.specs.declared.run.RuleKind.{RuleKind}
 
 none_lacks : (o : Option Room) → lid_fault o ≡ None → o ≡ None
 none_lacks None e = refl
@@ -20,11 +21,12 @@ one_lacks None why e = absurd (cc)
 one_lacks (Some room) why e = cc
 
 -- a plan that there is has room
-pub has_room : (facts : Facts) → lid_fault (no_room (cells_of facts)) ≡ None → no_room (cells_of facts) ≡ None
-has_room facts e = none_lacks (no_room (cells_of facts)) e
+pub has_room : (lmc : ℕ) (facts : Facts) → lid_fault (no_room lmc (cells_of facts)) ≡ None → no_room lmc (cells_of facts) ≡ None
+has_room lmc facts e = none_lacks (no_room lmc (cells_of facts)) e
 
 -- and where there is none, there is no room, or memory was refused though there is
-pub plan_fault : (facts : Facts) (sink_failed : Bool) (why : LidFault) (fault : Fault)
-    → lid_fault (no_room (cells_of facts)) ≡ (if is_memory why then None else Some why) → fault ≡ fault_of_lids why → IsAnswerFault output.Plan facts sink_failed fault
-plan_fault facts sink_failed (lids.NoRoom why) fault e f = rw f (refl, one_lacks (no_room (cells_of facts)) why e)
-plan_fault facts sink_failed lids.Memory fault e f = rw f (refl, none_lacks (no_room (cells_of facts)) e)
+pub plan_fault : (lmc : ℕ) (kind : RuleKind) (facts : Facts) (sink_failed : Bool) (why : LidFault) (fault : Fault)
+    → lid_fault (no_room lmc (cells_of facts)) ≡ (if is_memory why then None else Some why) → fault ≡ fault_of_lids why
+    → IsAnswerFault (output.Plan lmc kind) facts sink_failed fault
+plan_fault lmc kind facts sink_failed (lids.NoRoom why) fault e f = rw f (one_lacks (no_room lmc (cells_of facts)) why e)
+plan_fault lmc kind facts sink_failed lids.Memory fault e f = rw f (none_lacks (no_room lmc (cells_of facts)) e)

@@ -6,11 +6,12 @@ use Rattle.sm_cli.specs.declared.fault.Fault.{Fault}
 use Rattle.sm_cli.specs.declared.fault.Fault.TheVariants.{Open, File, Text, NoRoom, Write, Memory as NoMemory}
 use Rattle.sm_cli.specs.TextFault.{is_of_text}
 use Rattle.sm_cli.specs.declared.exit_status.ExitStatus.{ExitStatus}
-use Rattle.sm_cli.specs.declared.exit_status.ExitStatus.TheVariants.{Done, Usage, Refused, InputOutput, Memory}
+use Rattle.sm_cli.specs.declared.exit_status.ExitStatus.TheVariants.{Done, Failed, Usage, Refused, InputOutput, Memory}
 
 -- the number that the program ends with
 abbrev pub code_of : ExitStatus → ℕ
 code_of Done = 0
+code_of Failed = 1
 code_of Usage = 2
 code_of Refused = 3
 code_of InputOutput = 4

@@ -10,8 +10,9 @@ use Rattle.record_file.specs.RecordFile.{facts_in, floor_in, kept, outcome}
 use Rattle.record_file.specs.StoreFile.{store_bytes}
 use Rattle.record_file.specs.declared.file_fault.FileFault.{FileFault}
 use Rattle.record_file.specs.declared.file_fault.FileFault.TheVariants.{Read, Memory as NoMemory}
+use Rattle.lid_assign.specs.declared.fault.NoRoom.{NoRoom as LacksRoom}
 use Rattle.lid_assign.specs.LidFault.{no_room}
-use Rattle.lft_blocks.specs.Plan.{plan_of}
+use Rattle.lft_blocks.specs.Plan.{plan_by}
 use Rattle.lft_blocks.specs.PlanText.{plan_text}
 use Rattle.sm_cli.specs.declared.fault.Fault.{Fault}
 use Rattle.sm_cli.specs.declared.fault.Fault.TheVariants.{Open, File, Text, NoRoom, Write, Memory}
@@ -19,6 +20,7 @@ use Rattle.sm_cli.specs.declared.run.Command.{Command}
 use Rattle.sm_cli.specs.declared.run.Output.{Output}
 use Rattle.sm_cli.specs.declared.run.Output.TheVariants as output
 use Rattle.sm_cli.specs.FactsText.{facts_text}
+use Rattle.sm_cli.specs.Kinds.{rule_of_kind}
 
 -- the greatest of a floor and those that the files tell
 abbrev pub floor_among : ℕ → List (List ℕ) → ℕ
@@ -32,22 +34,28 @@ facts_of floor files = view_at (floor_among floor files) (flat_map kept files)
 abbrev pub answer_to : Output → Facts → List ℕ
 answer_to output.Facts facts = facts_text facts
 answer_to output.Join facts = store_bytes facts.floor (cells_of facts)
-answer_to output.Plan facts = plan_text (plan_of (cells_of facts))
+answer_to (output.Plan lmc kind) facts = plan_text (plan_by (rule_of_kind kind (cells_of facts)) lmc (cells_of facts))
 
 -- what is so of facts that are answered: they are in range, and a plan has room for their LIDs
 abbrev pub IsAnswered : Output → Facts → Type 0
 IsAnswered output.Facts facts = AreInRange facts
 IsAnswered output.Join facts = AreInRange facts
-IsAnswered output.Plan facts = no_room (cells_of facts) ≡ None
+IsAnswered (output.Plan lmc kind) facts = no_room lmc (cells_of facts) ≡ None
+
+-- a plan is asked for, and this is why there is no room for it, if anything is
+abbrev pub IsPlanned : Output → Facts → Option LacksRoom → Type 0
+IsPlanned output.Facts facts why = ⊥
+IsPlanned output.Join facts why = ⊥
+IsPlanned (output.Plan lmc kind) facts why = no_room lmc (cells_of facts) ≡ why
 
 -- why the facts are not answered
 abbrev pub IsAnswerFault : Output → Facts → Bool → Fault → Type 0
 IsAnswerFault what facts sink_failed (Open place) = ⊥
 IsAnswerFault what facts sink_failed (File place fault) = ⊥
 IsAnswerFault what facts sink_failed (Text place fault) = ⊥
-IsAnswerFault what facts sink_failed (NoRoom why) = (what ≡ output.Plan) × (no_room (cells_of facts) ≡ Some why)
+IsAnswerFault what facts sink_failed (NoRoom why) = IsPlanned what facts (Some why)
 IsAnswerFault what facts sink_failed Write = IsTrue sink_failed
-IsAnswerFault what facts sink_failed Memory = (what ≡ output.Plan) × (no_room (cells_of facts) ≡ None)
+IsAnswerFault what facts sink_failed Memory = IsPlanned what facts None
 
 -- the source was read to its end: this was its file, which is accepted
 pub record IsReadAs {S : Type 0} (left : S → Option (List ℕ)) (has_failed : S → Bool) (old new : S) (file : List ℕ) : Type 0 where

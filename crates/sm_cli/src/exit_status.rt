@@ -4,6 +4,8 @@ ghost use Rattle.std.specs.Prelude.{◌≡◌};
 #[derive(Clone, Copy, Debug, PartialEq, Eq)]
 pub enum ExitStatus {
     Done = 0,
+    /// What was audited does not pass.
+    Failed = 1,
     Usage = 2,
     Refused = 3,
     InputOutput = 4,

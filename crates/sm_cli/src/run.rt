@@ -1,14 +1,32 @@
 ghost use Rattle.std.specs.Prelude.{◌≡◌, ◌⊎◌, Err, false, OnOk, OnErr, IfOk, IfErr, IsTrue};
 ghost use Rattle.std.specs.Io.KnownBytes.{Appends};
+ghost use Rattle.fact_store.specs.View.{cells_of};
+ghost use Rattle.smp_bytes.specs.Judges.{JudgesButFor};
+ghost use Rattle.subnet_view.specs.Reading.{Cells};
+ghost use Rattle.lid_assign.specs.LidFault.{is_memory, lid_fault, no_room};
+ghost use Rattle.spread_rule.specs.Rules.{rule_of};
+ghost use Rattle.lft_blocks.specs.Arrival.{EveryPacketArrivesBy};
+ghost use Rattle.lft_blocks.specs.Plan.{plan_by};
+ghost use Rattle.sm_cli.specs.Kinds.{rule_of_kind};
 ghost use Rattle.sm_cli.specs.Run.{HasAnswered, HasRead, IsAnswered, IsAnswerFault, IsFaultOf, ReadsInto, Refuses, RefusesFile, answer_to};
 
 use crate::facts_text::write_facts;
 use crate::fault::Fault;
+use attr_codec::Lmc;
 use fact_store::Store;
-use lft_blocks::{Plan, write_plan};
+use lft_blocks::{Plan, PlanFault, Rule, write_plan};
 use record_file::{FileFault, Sink, Source, absorb, write_store};
 use smp_bytes::Generation;
 use std::alloc::Global;
+
+/// By which rule a plan leads packets between switches.
+#[derive(Clone, Copy, Debug, PartialEq, Eq)]
+pub enum RuleKind {
+    /// Up towards the root of each component, and then down, by the least ports.
+    UpDown,
+    /// Spread over all wires, in an order that grows from the most central switch of each component.
+    Spread,
+}
 
 /// What a run writes of the files.
 #[derive(Clone, Copy, Debug, PartialEq, Eq)]
@@ -17,8 +35,9 @@ pub enum Output {
     Facts,
     /// The same as a store file.
     Join,
-    /// The LID of each end port, and the forwarding blocks of each switch, that follow from it.
-    Plan,
+    /// The LID of each end port, with 2^LMC of them for each adapter port, and the forwarding blocks of each switch, that
+    /// follow from it by a rule of routing.
+    Plan(Lmc, RuleKind),
 }
 
 /// What a run is to do with the files.
@@ -75,36 +94,66 @@ fn write_answer<W: Sink>(
     match output {
         Output::Facts => write_facts(sink, store)?,
         Output::Join => write_store(sink, store)?,
-        Output::Plan => return answer_plan(alloc, sink, store),
+        Output::Plan(lmc, kind) => return answer_plan(alloc, sink, store, lmc, kind),
     }
     Ok(())
 }
 
 /// Writes the plan of the facts that a store holds, and flushes.
 #[tactic(auto, using(crate::proofs::Plans::has_room, crate::proofs::Plans::plan_fault))]
-fn answer_plan<W: Sink>(alloc: Global, sink: &mut W, store: &Store) -> Result<(), Fault>
+fn answer_plan<W: Sink>(
+    alloc: Global,
+    sink: &mut W,
+    store: &Store,
+    lmc: Lmc,
+    kind: RuleKind,
+) -> Result<(), Fault>
     ensures answered { OnOk result (Appends (W.written sink.old) (W.written sink.new)
-        (answer_to Output.Plan store.now)) }
-    ensures can_be { OnOk result (IsAnswered Output.Plan store.now) }
+        (answer_to (Output.Plan lmc kind) store.now)) }
+    ensures can_be { OnOk result (IsAnswered (Output.Plan lmc kind) store.now) }
     ensures flushed { OnOk result (IsTrue (W.is_flushed sink.new)) }
     ensures sink_works { OnOk result (W.has_failed sink.new ≡ false) }
-    ensures refused { IfErr result (IsAnswerFault Output.Plan store.now (W.has_failed sink.new)) }
+    ensures refused { IfErr result (IsAnswerFault (Output.Plan lmc kind) store.now (W.has_failed sink.new)) }
     ensures nothing_written { OnErr result ((result ≡ Err Fault.Write) ⊎ (sink.new ≡ sink.old)) }
 {
-    let plan = Plan::of(alloc, store)?;
+    let plan = plan_by(alloc, store, lmc, kind)?;
     write_plan(sink, &plan)?;
     Ok(())
 }
 
+/// The plan of the facts that a store holds, under an LMC and by a rule.
+fn plan_by(alloc: Global, store: &Store, lmc: Lmc, kind: RuleKind) -> Result<Plan, PlanFault>
+    ensures judged { JudgesButFor is_memory result (lid_fault (no_room lmc (cells_of store.now))) }
+    ensures plan { IfOk result (λ plan.
+        plan ≡ plan_by (rule_of_kind kind (cells_of store.now)) lmc (cells_of store.now)) }
+    ensures arrives { IfOk result (λ plan. EveryPacketArrivesBy
+        (rule_of_kind kind (cells_of store.now)) (cells_of store.now) plan) }
+{
+    let rule = rule_of_kind(alloc, kind);
+    Plan::of(alloc, store, lmc, &rule)
+}
+
+/// The rule itself.
+fn rule_of_kind(alloc: Global, kind: RuleKind) -> Rule
+    ensures { (cells : Cells) → rule_of result cells ≡ rule_of_kind kind cells }
+{
+    match kind {
+        RuleKind::UpDown => Rule::UpDown,
+        RuleKind::Spread => Rule::Spread {
+            roots: Vec::new(alloc),
+        },
+    }
+}
+
 /// A file that was refused: its place among those that were named, from 0, and why.
 #[derive(Clone, Copy, Drop)]
-struct RefusedFile {
-    place: usize,
-    fault: FileFault,
+pub struct RefusedFile {
+    pub place: usize,
+    pub fault: FileFault,
 }
 
 /// All that the files say from a floor on, or the first that is refused.
-fn read_all<S: Source>(
+pub fn read_all<S: Source>(
     alloc: Global,
     sources: &mut Vec<S>,
     floor: Generation,

@@ -4,7 +4,7 @@ use schedule_file::ScheduleFault;
 use thiserror::Error;
 use topo_file::TopoFault;
 
-/// Why the text of a topology or a schedule is refused.
+/// Why the text of a topology, of a schedule or of tables is refused.
 #[derive(Clone, Copy, Debug, PartialEq, Eq, Error)]
 pub enum TextFault {
     /// It is not UTF-8.
@@ -16,6 +16,9 @@ pub enum TextFault {
     /// What is wrong with a schedule, or that memory was refused as it was judged.
     #[error("{0}")]
     Schedule(ScheduleFault),
+    /// What is wrong with the text of tables, or that memory was refused as it was judged.
+    #[error("{0}")]
+    Tables(plan_file::TextFault),
 }
 
 impl TextFault {
@@ -29,6 +32,7 @@ impl TextFault {
             TextFault::NotUtf8 => None,
             TextFault::Topology(fault) => fault.line(),
             TextFault::Schedule(fault) => fault.line(),
+            TextFault::Tables(fault) => fault.line(),
         }
     }
 
@@ -40,6 +44,7 @@ impl TextFault {
             TextFault::NotUtf8 => "not UTF-8",
             TextFault::Topology(fault) => fault.word(),
             TextFault::Schedule(fault) => fault.word(),
+            TextFault::Tables(fault) => fault.word(),
         }
     }
 
@@ -49,7 +54,9 @@ impl TextFault {
     {
         !matches!(
             self,
-            TextFault::Topology(TopoFault::Memory) | TextFault::Schedule(ScheduleFault::Memory)
+            TextFault::Topology(TopoFault::Memory)
+                | TextFault::Schedule(ScheduleFault::Memory)
+                | TextFault::Tables(plan_file::TextFault::Memory)
         )
     }
 }

@@ -28,7 +28,7 @@ EachPingArrives cells plan s origin = (source : NodePort) → IsEndPort (fabric_
 
 -- where the facts agree with what an end port is joined to, and their plan is held there, pings arrive there
 abbrev pub PingsArrive : Type 0
-PingsArrive = (facts : Facts) (s : Simulation) (origin : NodePort) → ¬ (IsNoRoom (cells_of facts)) → IsSimulation s → IsEndPort (fabric_of s) origin
+PingsArrive = (lmc : ℕ) (facts : Facts) (s : Simulation) (origin : NodePort) → ¬ (IsNoRoom lmc (cells_of facts)) → IsSimulation s → IsEndPort (fabric_of s) origin
     → AgreesOn (IsJoinedTo (fabric_of s) origin) (cells_of facts) (fabric_of s)
-    → HoldsPlan (IsJoinedTo (fabric_of s) origin) (plan_of (cells_of facts)) (fabric_of s)
-    → EachPingArrives (cells_of facts) (plan_of (cells_of facts)) s origin
+    → HoldsPlan (IsJoinedTo (fabric_of s) origin) (plan_of lmc (cells_of facts)) (fabric_of s)
+    → EachPingArrives (cells_of facts) (plan_of lmc (cells_of facts)) s origin

@@ -99,18 +99,19 @@ greatest_floor (call ∷ calls) = max (floor_in call) (greatest_floor calls)
 
 -- a manager knows the view of all that it took in at the greatest floor, whatever else was asked of it
 abbrev pub KnowsWhatItTookIn : Type 0
-KnowsWhatItTookIn = (port_guid port priority : ℕ) (calls : List Call) →
-    (after_calls calls (new_manager port_guid port priority)).store ≡ view_at (greatest_floor calls) (taken_in calls (new_manager port_guid port priority))
+KnowsWhatItTookIn = (port_guid port priority lmc : ℕ) (calls : List Call) →
+    (after_calls calls (new_manager port_guid port priority lmc)).store
+    ≡ view_at (greatest_floor calls) (taken_in calls (new_manager port_guid port priority lmc))
 
--- two managers that took in the same, in whatever order and however often, and have one greatest floor know the same and plan the same; and where that plan has room and is in
+-- two managers that took in the same, in whatever order and however often, and have one greatest floor and one LMC know the same and plan the same; and where that plan has room and is in
 -- force in what an end port is joined to, each packet from each end port there for each of its LIDs arrives
 pub record KnowTheSame (one other : Manager) : Type 0 where
   pub facts : one.store ≡ other.store
-  pub plan : plan_of (cells_of one.store) ≡ plan_of (cells_of other.store)
-  pub arrives : ¬ (IsNoRoom (cells_of one.store)) → EveryPacketArrives (cells_of one.store) (plan_of (cells_of one.store))
+  pub plan : plan_of one.lmc (cells_of one.store) ≡ plan_of other.lmc (cells_of other.store)
+  pub arrives : ¬ (IsNoRoom one.lmc (cells_of one.store)) → EveryPacketArrives (cells_of one.store) (plan_of one.lmc (cells_of one.store))
 
 abbrev pub SameTakenInSamePlan : Type 0
-SameTakenInSamePlan = (guid port priority guid' port' priority' : ℕ) (calls calls' : List Call) →
+SameTakenInSamePlan = (guid port priority guid' port' priority' lmc : ℕ) (calls calls' : List Call) →
     greatest_floor calls ≡ greatest_floor calls' →
-    HaveSameMembers (taken_in calls (new_manager guid port priority)) (taken_in calls' (new_manager guid' port' priority')) →
-    KnowTheSame (after_calls calls (new_manager guid port priority)) (after_calls calls' (new_manager guid' port' priority'))
+    HaveSameMembers (taken_in calls (new_manager guid port priority lmc)) (taken_in calls' (new_manager guid' port' priority' lmc)) →
+    KnowTheSame (after_calls calls (new_manager guid port priority lmc)) (after_calls calls' (new_manager guid' port' priority' lmc))

@@ -28,14 +28,15 @@ writing_code =
 
 abbrev pub manager_code : Coded Manager
 manager_code =
-    code_by ((Standing × (ℕ × Facts)) × ((Option Sweep × (List SeenManager × Option Writing)) × (ℕ × (List Pending × List Outgoing))))
-    (coded× (coded× (standing.the_row).coded (coded× coded_ℕ facts_code))
+    code_by ((Standing × ((ℕ × ℕ) × Facts)) × ((Option Sweep × (List SeenManager × Option Writing)) × (ℕ × (List Pending × List Outgoing))))
+    (coded× (coded× (standing.the_row).coded (coded× (coded× coded_ℕ coded_ℕ) facts_code))
     (coded× (coded× (coded_option (sweep.the_row).coded) (coded× (coded_list (seen.the_row).coded) (coded_option writing_code)))
     (coded× coded_ℕ (coded× (coded_list (pending.the_row).coded) (coded_list (outgoing.the_row).coded)))))
-    (λ m. ((m.standing, (m.port, m.store)), ((m.sweep, (m.seen, m.writing)), (m.counter, (m.pending, m.outgoing)))))
+    (λ m. ((m.standing, ((m.port, m.lmc), m.store)), ((m.sweep, (m.seen, m.writing)), (m.counter, (m.pending, m.outgoing)))))
     (λ p. record {
       standing = p.0.0;
-      port = p.0.1.0;
+      port = p.0.1.0.0;
+      lmc = p.0.1.0.1;
       store = p.0.1.1;
       sweep = p.1.0.0;
       seen = p.1.0.1.0;

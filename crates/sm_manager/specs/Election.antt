@@ -78,18 +78,18 @@ abbrev pub heir : Manager → Option SeenManager
 heir m = heir_of (info_of m.standing) m.seen
 
 -- the LID that the plan gives to the port where a manager was seen
-abbrev pub lid_seen : Cells → SeenManager → Option ℕ
-lid_seen cells s = lid_of (plan_of cells).given (record { node = s.guid; port = s.port })
+abbrev pub lid_seen : ℕ → Cells → SeenManager → Option ℕ
+lid_seen lmc cells s = lid_of (plan_of lmc cells).given (record { node = s.guid; port = s.port })
 
 abbrev pub heir_lid : Manager → Option ℕ
-heir_lid m = option_and_then (lid_seen (cells_of m.store)) (heir m)
+heir_lid m = option_and_then (lid_seen m.lmc (cells_of m.store)) (heir m)
 
 -- why nobody can take over, or there is no plan that gives a LID
 abbrev pub heir_fault : Manager → Option ManagerFault
 heir_fault m =
     if not (is_in Master m.standing) then Some fault.NotMaster
     else if is_none (heir m) then Some fault.Nobody
-    else plan_fault (cells_of m.store)
+    else plan_fault m.lmc (cells_of m.store)
 
 -- nor has the heir a LID
 abbrev pub heir_lid_fault : Manager → Option ManagerFault

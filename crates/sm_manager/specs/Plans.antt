@@ -16,8 +16,8 @@ room_fault None = None
 room_fault (Some why) = Some (fault.NoRoom why)
 
 -- why there is no plan
-abbrev pub plan_fault : Cells → Option ManagerFault
-plan_fault cells = room_fault (no_room cells)
+abbrev pub plan_fault : ℕ → Cells → Option ManagerFault
+plan_fault lmc cells = room_fault (no_room lmc cells)
 
 abbrev pub or_else : Option ManagerFault → Option ManagerFault → Option ManagerFault
 or_else None other = other
@@ -25,7 +25,7 @@ or_else (Some why) other = Some why
 
 -- why there is nothing to be written: what goes on forbids it, or there is no plan
 abbrev pub planned_fault : Manager → Option ManagerFault
-planned_fault m = or_else (write_fault m) (plan_fault (cells_of m.store))
+planned_fault m = or_else (write_fault m) (plan_fault m.lmc (cells_of m.store))
 
 -- a number is needed that 32 bits do not hold
 abbrev pub number_fault : ℕ → Option ManagerFault

@@ -12,14 +12,14 @@ use Rattle.std.proofs.lemmas.List.Sorted.{ranks_by}
 use Rattle.std.specs.Borrow.{Bor}
 use Rattle.std.specs.Cmp.{IsStrictWeakOrder, IsTotalOrder}
 use Rattle.std.specs.Ordering.{is_lt, nat_cmp}
-use Rattle.node_agents.specs.Agent.{Agent, base_lid_at, is_switch}
-use Rattle.sm_run.specs.Tables.{Held, held_by, held_cmp, in_order, put_in_order}
+use Rattle.node_agents.specs.Agent.{Agent, base_lid_at, lmc_at, is_switch}
+use Rattle.sm_run.specs.Tables.{Held, held_by, held_cmp, key_cmp, in_order, put_in_order}
 
 abbrev pub is_held : Held → Bool
 is_held x = not (x.0 == 0)
 
 abbrev pub held_at : Agent → ℕ → Held
-held_at a port = (base_lid_at a port, a.node.guid, port)
+held_at a port = (base_lid_at a port, a.node.guid, port, lmc_at a port)
 
 -- one port more
 pub held_more : (a : Agent) (old before now : List Held) (port : ℕ) → before ≡ old ++ filter is_held (map (held_at a) (range_with_len 0 port))
@@ -30,12 +30,12 @@ held_more a old before now port e f =
     ∙ ap (λ t. old ++ t) (sym (filter_of_map_range_with_len_more is_held (held_at a) 0 port port (omega arith)))
 
 -- a port that holds a LID
-pub holds : (a : Agent) (lid guid p port : ℕ) (before : List Held) → lid ≡ base_lid_at a p → guid ≡ a.node.guid → p ≡ port → ¬ (lid ≡ 0)
-    → before ++ (lid, guid, p) ∷ [] ≡ before ++ cond (is_held (held_at a port)) (held_at a port ∷ []) []
-holds a lid guid p port before e f g some =
-    let Triple : Type 0 = Held in
-    let one : Triple = (lid, guid, p) in
-    let same : one ≡ held_at a port = λ i. ((e ∙ ap (base_lid_at a) g) i, f i, g i) in
+pub holds : (a : Agent) (lid guid p lmc port : ℕ) (before : List Held) → lid ≡ base_lid_at a p → guid ≡ a.node.guid → p ≡ port → lmc ≡ lmc_at a p
+    → ¬ (lid ≡ 0) → before ++ (lid, guid, p, lmc) ∷ [] ≡ before ++ cond (is_held (held_at a port)) (held_at a port ∷ []) []
+holds a lid guid p lmc port before e f g m some =
+    let Four : Type 0 = Held in
+    let one : Four = (lid, guid, p, lmc) in
+    let same : one ≡ held_at a port = λ i. ((e ∙ ap (base_lid_at a) g) i, f i, g i, (m ∙ ap (lmc_at a) g) i) in
     let is : is_held (held_at a port) ≡ true = ap is_held (sym same) ∙ ap not (false_from_ne_true (lid == 0) (λ t. some (eqb-true lid 0 t))) in
     ap (λ (x : Held). before ++ x ∷ []) same ∙ ap (λ b. before ++ cond b (held_at a port ∷ []) []) (sym is)
 
@@ -66,12 +66,18 @@ more_switches agents place a before now there e f =
     f ∙ ap (λ t. t ++ cond (is_switch a) (a ∷ []) []) e
     ∙ sym (filter-append is_switch (take place agents) (a ∷ [])) ∙ ap (filter is_switch) (sym (one_more agents place a there))
 
-held_total : IsTotalOrder held_cmp
-held_total = then_total (then_total (on_total (λ (x : Held). x.0) nat_cmp_total) (on_total (λ (x : Held). x.1) nat_cmp_total)) (on_total (λ (x : Held). x.2) nat_cmp_total)
+abbrev pub Key : Type 0
+Key = ℕ × ℕ × ℕ
+
+key_total : IsTotalOrder key_cmp
+key_total = then_total (then_total (on_total (λ (x : Key). x.0) nat_cmp_total) (on_total (λ (x : Key). x.1) nat_cmp_total)) (on_total (λ (x : Key). x.2) nat_cmp_total)
+
+abbrev pub key_of : Held → Key
+key_of x = (x.0, x.1, x.2)
 
 -- LIDs that ports hold are in an order
 pub held_ranks : IsStrictWeakOrder (λ x y. is_lt (held_cmp x y))
-held_ranks = ranks_by held_total (λ (x : Held). x)
+held_ranks = ranks_by key_total key_of
 
 -- and so are switches by their GUIDs
 abbrev pub guid_of : Bor Agent → ℕ

@@ -14,19 +14,19 @@ told f None n e = absurd (cc)
 told f (Some x) n e = let same : f x ≡ n = cc in sym same
 
 -- a manager as it is made
-pub is_seated : (nodes : List Node) (seat : Seat) (guid : ℕ) (m : Manager)
-    → option_map (λ (node : Node). node.guid + seat.at.port) (slice_get nodes seat.at.node) ≡ Some guid → m ≡ new_manager guid seat.at.port seat.priority
-    → record { name = seat.name; at = seat.at; manager = m } ≡ new_seated nodes seat
-is_seated nodes seat guid m e same =
+pub is_seated : (lmc : ℕ) (nodes : List Node) (seat : Seat) (guid : ℕ) (m : Manager)
+    → option_map (λ (node : Node). node.guid + seat.at.port) (slice_get nodes seat.at.node) ≡ Some guid → m ≡ new_manager guid seat.at.port seat.priority lmc
+    → record { name = seat.name; at = seat.at; manager = m } ≡ new_seated lmc nodes seat
+is_seated lmc nodes seat guid m e same =
     let Value : Type 0 = SeatedValue in
     let made : Manager → Value = λ m. record { name = seat.name; at = seat.at; manager = m } in
-    ap made (same ∙ ap (λ g. new_manager g seat.at.port seat.priority) (told (λ (node : Node). node.guid + seat.at.port) (slice_get nodes seat.at.node) guid e))
+    ap made (same ∙ ap (λ g. new_manager g seat.at.port seat.priority lmc) (told (λ (node : Node). node.guid + seat.at.port) (slice_get nodes seat.at.node) guid e))
 
 -- one seat more
-pub seated_more : (nodes : List Node) (seats : List Seat) (i : ℕ) (seat : Seat) (before : List SeatedValue) (s : SeatedValue) → i < length seats
-    → seat ≡ get_or seats i seat → before ≡ map (new_seated nodes) (take i seats) → s ≡ new_seated nodes seat
-    → before ++ s ∷ [] ≡ map (new_seated nodes) (take (i + 1) seats)
-seated_more nodes seats i seat before s h here so_far same =
-    ap (λ b. b ++ s ∷ []) so_far ∙ ap (λ x. map (new_seated nodes) (take i seats) ++ x ∷ []) same
-    ∙ sym (map-append (new_seated nodes) (take i seats) (seat ∷ []))
-    ∙ ap (map (new_seated nodes)) (ap (λ x. take i seats ++ x ∷ []) here ∙ sym (take_more seats i seat h))
+pub seated_more : (lmc : ℕ) (nodes : List Node) (seats : List Seat) (i : ℕ) (seat : Seat) (before : List SeatedValue) (s : SeatedValue) → i < length seats
+    → seat ≡ get_or seats i seat → before ≡ map (new_seated lmc nodes) (take i seats) → s ≡ new_seated lmc nodes seat
+    → before ++ s ∷ [] ≡ map (new_seated lmc nodes) (take (i + 1) seats)
+seated_more lmc nodes seats i seat before s h here so_far same =
+    ap (λ b. b ++ s ∷ []) so_far ∙ ap (λ x. map (new_seated lmc nodes) (take i seats) ++ x ∷ []) same
+    ∙ sym (map-append (new_seated lmc nodes) (take i seats) (seat ∷ []))
+    ∙ ap (map (new_seated lmc nodes)) (ap (λ x. take i seats ++ x ∷ []) here ∙ sym (take_more seats i seat h))

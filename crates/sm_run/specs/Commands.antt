@@ -181,12 +181,13 @@ unfoldable pub facts_shown : WorldValue → ℕ → List ℕ
 facts_shown w seat = told_of w seat (λ s. facts_text s.manager.store)
 
 -- `plan M`: the plan, or why there is none
-abbrev pub plan_or_refusal : Cells → Option ManagerFault → List ℕ
-plan_or_refusal cells None = plan_text (plan_of cells)
-plan_or_refusal cells (Some fault) = manager_line fault
+abbrev pub plan_or_refusal : ℕ → Cells → Option ManagerFault → List ℕ
+plan_or_refusal lmc cells None = plan_text (plan_of lmc cells)
+plan_or_refusal lmc cells (Some fault) = manager_line fault
 
 unfoldable pub plan_shown : WorldValue → ℕ → List ℕ
-plan_shown w seat = told_of w seat (λ s. plan_or_refusal (cells_of s.manager.store) (plan_fault (cells_of s.manager.store)))
+plan_shown w seat =
+    told_of w seat (λ s. plan_or_refusal s.manager.lmc (cells_of s.manager.store) (plan_fault s.manager.lmc (cells_of s.manager.store)))
 
 -- `progress M`
 unfoldable pub progress_shown : WorldValue → ℕ → List ℕ
@@ -227,28 +228,28 @@ abbrev pub commands_run : List Node → WorldValue → List Command → Ran Worl
 commands_run nodes w [] = quiet w
 commands_run nodes w (command ∷ later) = and_then (command_run nodes w command) (λ now. commands_run nodes now later)
 
--- the manager of a seat: an adapter's port has the GUID that lies so far above its node's
-abbrev pub new_seated : List Node → Seat → SeatedValue
-new_seated nodes seat =
+-- the manager of a seat, which plans by an LMC: an adapter's port has the GUID that lies so far above its node's
+abbrev pub new_seated : ℕ → List Node → Seat → SeatedValue
+new_seated lmc nodes seat =
     let guid = option_map_or (λ node. node.guid + seat.at.port) (slice_get nodes seat.at.node) 0 in
-    record { name = seat.name; at = seat.at; manager = new_manager guid seat.at.port seat.priority }
+    record { name = seat.name; at = seat.at; manager = new_manager guid seat.at.port seat.priority lmc }
 
 -- the fabric of a topology, whose first packet has the serial number 1, and a manager for each seat
-abbrev pub world_of : Layout → List Seat → WorldValue
-world_of topology seats = record { fabric = simulation_of topology 1; managers = map (new_seated topology.nodes) seats }
+abbrev pub world_of : ℕ → Layout → List Seat → WorldValue
+world_of lmc topology seats = record { fabric = simulation_of topology 1; managers = map (new_seated lmc topology.nodes) seats }
 
--- what the run of a schedule prints
-unfoldable pub script_text : Layout → Script → List ℕ
-script_text topology script = (commands_run topology.nodes (world_of topology script.seats) script.commands).text
+-- what the run of a schedule prints, whose managers plan by an LMC
+unfoldable pub script_text : ℕ → Layout → Script → List ℕ
+script_text lmc topology script = (commands_run topology.nodes (world_of lmc topology script.seats) script.commands).text
 
-abbrev pub schedule_text : Layout → Result Script ScheduleFault → List ℕ
-schedule_text topology (Ok script) = script_text topology script
-schedule_text topology (Err fault) = []
+abbrev pub schedule_text : ℕ → Layout → Result Script ScheduleFault → List ℕ
+schedule_text lmc topology (Ok script) = script_text lmc topology script
+schedule_text lmc topology (Err fault) = []
 
-abbrev pub topology_text : Result Layout TopoFault → List ℕ → List ℕ
-topology_text (Ok topology) schedule = schedule_text topology (schedule_of topology.nodes schedule)
-topology_text (Err fault) schedule = []
+abbrev pub topology_text : ℕ → Result Layout TopoFault → List ℕ → List ℕ
+topology_text lmc (Ok topology) schedule = schedule_text lmc topology (schedule_of topology.nodes schedule)
+topology_text lmc (Err fault) schedule = []
 
--- what a run of these two texts prints; nothing where one of them is refused
-abbrev pub run_text : List ℕ → List ℕ → List ℕ
-run_text topology schedule = topology_text (topology_of topology) schedule
+-- what a run of these two texts under an LMC prints; nothing where one of them is refused
+abbrev pub run_text : ℕ → List ℕ → List ℕ → List ℕ
+run_text lmc topology schedule = topology_text lmc (topology_of topology) schedule

@@ -121,12 +121,12 @@ pub record AreSound {T S : Type 0} (left : T → Option (List ℕ)) (has_failed 
   pub read : AreRead left has_failed left' has_failed' old new old' new' topology schedule
   pub sound : input_fault topology schedule ≡ None
 
--- they are so, and this holds of what their run prints
+-- they are so, and this holds of what their run under an LMC prints
 pub record HasRun {T S : Type 0} (left : T → Option (List ℕ)) (has_failed : T → Bool) (left' : S → Option (List ℕ)) (has_failed' : S → Bool)
-    (old new : T) (old' new' : S)
+    (old new : T) (old' new' : S) (lmc : ℕ)
     (prints : List ℕ → Type 0) : Type 0 where
   pub texts : AreSound left has_failed left' has_failed' old new old' new'
-  pub printed : prints (run_text texts.topology texts.schedule)
+  pub printed : prints (run_text lmc texts.topology texts.schedule)
 
 -- both sources were read to their ends, and what they say is refused with this fault
 pub record IsRefusedInput {T S : Type 0} (left : T → Option (List ℕ)) (has_failed : T → Bool) (left' : S → Option (List ℕ)) (has_failed' : S → Bool)
@@ -151,15 +151,15 @@ fault_of_run runs.Memory = Memory
 
 -- why a run ends early; where memory was refused as it went on, this holds of what it would have printed
 abbrev pub IsRunFault :
-    {T S : Type 0} → (T → Option (List ℕ)) → (T → Bool) → (T → ℕ) → (S → Option (List ℕ)) → (S → Bool) → (S → ℕ) → T → T → S → S → (List ℕ → Type 0)
+    {T S : Type 0} → (T → Option (List ℕ)) → (T → Bool) → (T → ℕ) → (S → Option (List ℕ)) → (S → Bool) → (S → ℕ) → T → T → S → S → ℕ → (List ℕ → Type 0)
     → Bool → Fault → Type 0
-IsRunFault left has_failed interruptions left' has_failed' interruptions' old new old' new' prints sink_failed (Open place) = ⊥
-IsRunFault left has_failed interruptions left' has_failed' interruptions' old new old' new' prints sink_failed (File place fault) =
+IsRunFault left has_failed interruptions left' has_failed' interruptions' old new old' new' lmc prints sink_failed (Open place) = ⊥
+IsRunFault left has_failed interruptions left' has_failed' interruptions' old new old' new' lmc prints sink_failed (File place fault) =
     FailsToReadThem left has_failed interruptions left' has_failed' interruptions' old new old' new' (File place fault)
-IsRunFault left has_failed interruptions left' has_failed' interruptions' old new old' new' prints sink_failed (Text place fault) =
+IsRunFault left has_failed interruptions left' has_failed' interruptions' old new old' new' lmc prints sink_failed (Text place fault) =
     IsRefusedInput left has_failed left' has_failed' old new old' new' (Text place fault)
-IsRunFault left has_failed interruptions left' has_failed' interruptions' old new old' new' prints sink_failed (NoRoom why) = ⊥
-IsRunFault left has_failed interruptions left' has_failed' interruptions' old new old' new' prints sink_failed Write =
+IsRunFault left has_failed interruptions left' has_failed' interruptions' old new old' new' lmc prints sink_failed (NoRoom why) = ⊥
+IsRunFault left has_failed interruptions left' has_failed' interruptions' old new old' new' lmc prints sink_failed Write =
     FailsToWrite left has_failed left' has_failed' old new old' new' sink_failed
-IsRunFault left has_failed interruptions left' has_failed' interruptions' old new old' new' prints sink_failed Memory =
-    HasRun left has_failed left' has_failed' old new old' new' prints
+IsRunFault left has_failed interruptions left' has_failed' interruptions' old new old' new' lmc prints sink_failed Memory =
+    HasRun left has_failed left' has_failed' old new old' new' lmc prints

@@ -4,7 +4,7 @@ use Rattle.std.specs.List.{flat_map, range_with_len}
 use Rattle.std.specs.Ordering.{is_lt, nat_cmp, ordering_then}
 use Rattle.std.specs.declared.cmp.Ordering.{Ordering}
 use Rattle.lft_blocks.specs.PlanText.{block_line, lid_line, switch_line}
-use Rattle.node_agents.specs.Agent.{Agent, base_lid_at, entry_at, is_switch}
+use Rattle.node_agents.specs.Agent.{Agent, base_lid_at, lmc_at, entry_at, is_switch}
 use Rattle.fabric_sim.specs.Simulation.{Simulation}
 
 -- an order ---------------------------------------------------------------------------------------------
@@ -21,25 +21,28 @@ in_order before (x ∷ xs) = put_in_order before x (in_order before xs)
 
 -- LIDs -------------------------------------------------------------------------------------------------
 
--- a LID with the GUID of the node and the number of the port that holds it
+-- a LID with the GUID of the node and the number of the port that holds it, and its LMC
 abbrev pub Held : Type 0
-Held = ℕ × ℕ × ℕ
+Held = ℕ × ℕ × ℕ × ℕ
 
 -- those of a node, from port 0 on
 abbrev pub held_by : Agent → List Held
-held_by a = filter (λ x. not (x.0 == 0)) (map (λ port. (base_lid_at a port, a.node.guid, port)) (range_with_len 0 (a.node.ports + 1)))
+held_by a = filter (λ x. not (x.0 == 0)) (map (λ port. (base_lid_at a port, a.node.guid, port, lmc_at a port)) (range_with_len 0 (a.node.ports + 1)))
 
 -- by LID, GUID and port
-abbrev pub held_cmp : Held → Held → Ordering
-held_cmp x y = ordering_then (ordering_then (nat_cmp x.0 y.0) (nat_cmp x.1 y.1)) (nat_cmp x.2 y.2)
+abbrev pub key_cmp : ℕ × ℕ × ℕ → ℕ × ℕ × ℕ → Ordering
+key_cmp x y = ordering_then (ordering_then (nat_cmp x.0 y.0) (nat_cmp x.1 y.1)) (nat_cmp x.2 y.2)
 
--- of all nodes, in this order
+abbrev pub held_cmp : Held → Held → Ordering
+held_cmp x y = key_cmp (x.0, x.1, x.2) (y.0, y.1, y.2)
+
+-- of all nodes, in this order, and where all three are the same by the places of the nodes
 abbrev pub all_held : List Agent → List Held
 all_held agents = in_order (λ x y. is_lt (held_cmp x y)) (flat_map held_by agents)
 
 -- a line for each
 abbrev pub held_line : Held → List ℕ
-held_line x = lid_line (x.0, record { node = x.1; port = x.2 })
+held_line x = lid_line (x.0, x.3, record { node = x.1; port = x.2 })
 
 -- tables -----------------------------------------------------------------------------------------------
 

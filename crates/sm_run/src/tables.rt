@@ -7,6 +7,7 @@ ghost use Rattle.sm_run.specs.Tables.{switches, table_text, tables_text};
 
 use crate::run_fault::RunFault;
 use crate::world::World;
+use attr_codec::Lmc;
 use fabric_sim::Fabric;
 use lft_blocks::{write_block, write_lid, write_switch};
 use node_agents::Agent;
@@ -29,42 +30,46 @@ impl World<'_> {
     }
 }
 
+/// A LID, with the GUID of the node and the number of the port that hold it, and its LMC.
+type HeldLid = (Lid, Guid, PortNum, Lmc);
+
 /// Prints LIDs, with the GUIDs of the nodes and the numbers of the ports that hold them.
-fn write_held<W: Sink>(sink: &mut W, lids: &[(Lid, Guid, PortNum)]) -> Result<(), RunFault>
+fn write_held<W: Sink>(sink: &mut W, lids: &[HeldLid]) -> Result<(), RunFault>
     ensures prints { PrintsUnless W.written W.has_failed result sink.old sink.new
         (flat_map held_line lids.now) }
 {
-    for (lid, node, port) in lids {
+    for (lid, node, port, lmc) in lids {
         let port = EndPort {
             node: *node,
             port: *port,
         };
-        write_lid(sink, *lid, port)?;
+        write_lid(sink, *lid, *lmc, port)?;
     }
     Ok(())
 }
 
 /// The LIDs that ports hold, with the GUIDs of their nodes and their numbers, in this order.
-fn held_lids(alloc: Global, fabric: &Fabric) -> Result<Vec<(Lid, Guid, PortNum)>, AllocError>
+fn held_lids(alloc: Global, fabric: &Fabric) -> Result<Vec<HeldLid>, AllocError>
     ensures { IfOk result (λ held. held.items ≡ all_held fabric.now.agents) }
 {
     let mut held = Vec::new(alloc);
     for place in 0..fabric.node_count() {
         hold_lids(&mut held, fabric.agent(place).unwrap())?;
     }
-    held.sort()?;
+    held.sort_by_key(|held| (held.0, held.1, held.2))?;
     Ok(held)
 }
 
 /// And those of a node.
-fn hold_lids(held: &mut Vec<(Lid, Guid, PortNum)>, agent: &Agent) -> Result<(), AllocError>
+fn hold_lids(held: &mut Vec<HeldLid>, agent: &Agent) -> Result<(), AllocError>
     ensures { OnOk result (held.new.items ≡ held.old.items ++ held_by agent.now) }
 {
     for port in 0..=agent.ports() {
         let port = PortNum::new(port);
         let lid = agent.base_lid(port);
         if lid.number() != 0 {
-            held.push((lid, agent.guid(), port))?;
+            let lmc = agent.lmc(port);
+            held.push((lid, agent.guid(), port, lmc))?;
         }
     }
     Ok(())

@@ -10,6 +10,7 @@ ghost use Rattle.sm_run.specs.World.{after_fabric, emptied, sent, sent_from, val
 
 use crate::refusals::refuse_fabric;
 use crate::run_fault::RunFault;
+use attr_codec::Lmc;
 use fabric_sim::{Fabric, Packet};
 use record_file::Sink;
 use schedule_file::Seat;
@@ -41,20 +42,21 @@ pub(crate) struct World<'s> {
 }
 
 impl<'s> World<'s> {
-    /// The fabric of a topology, and a manager for each seat.
+    /// The fabric of a topology, and a manager for each seat, which plans by an LMC.
     pub(crate) fn of(
         alloc: Global,
         topology: &Topology,
         seats: &'s [Seat],
+        lmc: Lmc,
     ) -> Result<World<'s>, AllocError>
         requires { All (λ seat. is_seat topology.now.nodes seat.at ≡ true) seats.now }
-        ensures { IfOk result (λ world. value_of world ≡ world_of topology.now seats.now) }
+        ensures { IfOk result (λ world. value_of world ≡ world_of lmc topology.now seats.now) }
     {
         let fabric = Fabric::of(alloc, topology, FIRST_SERIAL)?;
         let mut managers = Vec::with_capacity(alloc, seats.len())?;
         for seat in seats {
             let guid = port_guid(topology, &seat.at);
-            let manager = Manager::new(alloc, guid, seat.at.port, seat.priority);
+            let manager = Manager::new(alloc, guid, seat.at.port, seat.priority, lmc);
             managers.push(Seated { seat, manager })?;
         }
         Ok(World { fabric, managers })

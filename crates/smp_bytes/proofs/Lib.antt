@@ -8,6 +8,7 @@ pub mod FieldLaws
 pub mod Forwarded
 pub mod HexText
 pub mod Kept
+pub mod LidRanges
 pub mod Made
 pub mod Members
 pub mod PlaceLaws

@@ -1,9 +1,10 @@
 -- A fabric: its nodes, the cables between their ports, and what its agents hold.
-use Rattle.std.specs.Prelude.{◌≡◌, ℕ, ◌≤◌, Bool, false, List, Option, Some, slice_get, ◌==◌, count_by, MatchBool}
+use Rattle.std.specs.Prelude.{◌≡◌, ℕ, ◌≤◌, Bool, false, List, Option, Some, slice_get, count_by, MatchBool}
 use Rattle.std.specs.Option.{option_map_or}
 use Rattle.smp_bytes.specs.declared.node_type.NodeType.{NodeType}
 use Rattle.smp_bytes.specs.declared.cable.NodePort.{NodePort}
 use Rattle.smp_bytes.specs.NodeType.{is_switch}
+use Rattle.smp_bytes.specs.LidRange.{has_lid}
 
 -- a node as it was built: its GUID, its type, its ports from 1 on, the entries that its linear forwarding table has room
 -- for, and its ports' GUIDs, of which those of end ports are read (subnet management chapter, NodeInfo and SwitchInfo)
@@ -14,17 +15,22 @@ pub record Node : Type 0 where
   pub cap : ℕ
   pub port_guid : ℕ → ℕ
 
--- the nodes by place, the other end of the cable in a port, each end port's LID, and each switch's forwarding table and its top
+-- the nodes by place, the other end of the cable in a port, each end port's LID and LMC, and each switch's forwarding table and its top
 pub record Fabric : Type 0 where
   pub nodes : List Node
   pub across : NodePort → Option NodePort
   pub base_lid : NodePort → ℕ
+  pub lmc : NodePort → ℕ
   pub entry : ℕ → ℕ → ℕ
   pub top : ℕ → ℕ
 
--- the LID is the end port's own (addressing chapter)
+-- the LID and the LMC of an end port
+abbrev pub range_at : Fabric → NodePort → ℕ × ℕ
+range_at f p = (f.base_lid p, f.lmc p)
+
+-- the LID is one of the end port's own (addressing chapter)
 abbrev pub owns : Fabric → NodePort → ℕ → Bool
-owns f p lid = f.base_lid p == lid
+owns f p lid = has_lid (f.base_lid p) (f.lmc p) lid
 
 abbrev pub IsNodeAt : Fabric → ℕ → Node → Type 0
 IsNodeAt f place node = slice_get f.nodes place ≡ Some node

@@ -9,6 +9,7 @@ pub mod Forwarding
 pub mod Header
 pub mod Judges
 pub mod Laws
+pub mod LidRange
 pub mod NodeType
 pub mod Packet
 pub mod ReadBack

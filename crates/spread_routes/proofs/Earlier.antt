@@ -27,22 +27,29 @@ earliest_more : (before : ℕ → ℕ → Bool) (xs : List ℕ) (y : ℕ) → ea
 earliest_more before [] y = refl
 earliest_more before (x ∷ xs) y = ap Some (earliest_then before x xs y)
 
-module _ (before : ℕ → ℕ → Bool) (stages : List Stage) (stage : Stage) (n : ℕ) where
-  abbrev at_stage : ℕ → Bool
-  at_stage s = is_stage (stage_at stages s) stage
-
-  grown : filter at_stage (numbers_from 0 (n + 1)) ≡ filter at_stage (numbers_from 0 n) ++ cond (at_stage n) (n ∷ []) []
+module _ (before : ℕ → ℕ → Bool) (test : ℕ → Bool) (n : ℕ) where
+  grown : filter test (numbers_from 0 (n + 1)) ≡ filter test (numbers_from 0 n) ++ cond (test n) (n ∷ []) []
   grown =
       let is : 0 + n ≡ n = omega arith in
-      ap (filter at_stage) (ap (numbers_from 0) (add-one n) ∙ numbers_more 0 n ∙ ap (λ x. numbers_from 0 n ++ x ∷ []) is)
-      ∙ filter_more at_stage (numbers_from 0 n) n
+      ap (filter test) (ap (numbers_from 0) (add-one n) ∙ numbers_more 0 n ∙ ap (λ x. numbers_from 0 n ++ x ∷ []) is)
+      ∙ filter_more test (numbers_from 0 n) n
 
-  -- one more vertex at the stage, or at another
-  pub earliest_with : at_stage n ≡ true → earliest_at before stages stage (n + 1) ≡ Some (earlier_of before (earliest_at before stages stage n) n)
-  earliest_with is = ap (earliest_of before) (grown ∙ ap (λ b. filter at_stage (numbers_from 0 n) ++ cond b (n ∷ []) []) is) ∙ earliest_more before (filter at_stage (numbers_from 0 n)) n
+  -- one more number that passes, or does not
+  pub earliest_passing : test n ≡ true
+      → earliest_of before (filter test (numbers_from 0 (n + 1))) ≡ Some (earlier_of before (earliest_of before (filter test (numbers_from 0 n))) n)
+  earliest_passing is = ap (earliest_of before) (grown ∙ ap (λ b. filter test (numbers_from 0 n) ++ cond b (n ∷ []) []) is) ∙ earliest_more before (filter test (numbers_from 0 n)) n
 
-  pub earliest_without : at_stage n ≡ false → earliest_at before stages stage (n + 1) ≡ earliest_at before stages stage n
-  earliest_without is = ap (earliest_of before) (grown ∙ ap (λ b. filter at_stage (numbers_from 0 n) ++ cond b (n ∷ []) []) is ∙ append-nil (filter at_stage (numbers_from 0 n)))
+  pub earliest_failing : test n ≡ false → earliest_of before (filter test (numbers_from 0 (n + 1))) ≡ earliest_of before (filter test (numbers_from 0 n))
+  earliest_failing is = ap (earliest_of before) (grown ∙ ap (λ b. filter test (numbers_from 0 n) ++ cond b (n ∷ []) []) is ∙ append-nil (filter test (numbers_from 0 n)))
+
+-- one more vertex at the stage, or at another
+pub earliest_with : (before : ℕ → ℕ → Bool) (stages : List Stage) (stage : Stage) (n : ℕ) → is_stage (stage_at stages n) stage ≡ true
+    → earliest_at before stages stage (n + 1) ≡ Some (earlier_of before (earliest_at before stages stage n) n)
+earliest_with before stages stage n is = earliest_passing before (λ s. is_stage (stage_at stages s) stage) n is
+
+pub earliest_without : (before : ℕ → ℕ → Bool) (stages : List Stage) (stage : Stage) (n : ℕ) → is_stage (stage_at stages n) stage ≡ false
+    → earliest_at before stages stage (n + 1) ≡ earliest_at before stages stage n
+earliest_without before stages stage n is = earliest_failing before (λ s. is_stage (stage_at stages s) stage) n is
 
 -- a vertex of so many, if one was found
 abbrev pub IsBelow : ℕ → Option ℕ → Type 0

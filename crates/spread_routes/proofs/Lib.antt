@@ -11,6 +11,9 @@ pub mod Following
 pub mod Rising
 pub mod Growing
 pub mod Earlier
+pub mod Numbers
+pub mod Widths
+pub mod PlaceSteps
 pub mod OrderSteps
 pub mod KeyOrder
 pub mod Placing

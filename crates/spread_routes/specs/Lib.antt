@@ -7,5 +7,8 @@ pub mod Orders
 pub mod Keys
 pub mod Classes
 pub mod Stages
+pub mod Firsts
+pub mod Heights
+pub mod Places
 pub mod Sides
 pub mod EveryPair

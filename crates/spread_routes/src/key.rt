@@ -5,7 +5,7 @@ ghost use Rattle.spread_routes.specs.Keys.{key_less};
 #[derive(Clone, Copy, Debug, PartialEq, Eq)]
 pub struct Key {
     /// The class of the vertex.
-    pub class: usize,
+    pub class: u128,
     /// Its distance from the first of its component.
     pub distance: usize,
 }

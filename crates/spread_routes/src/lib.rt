@@ -3,18 +3,24 @@
 
 mod choice;
 mod class;
+mod first;
+mod height;
 mod key;
 mod labelling;
 pub mod laws;
 mod mark;
 mod ordering;
+mod place;
 
-pub use choice::candidate;
+pub use choice::{candidates, chosen};
 pub use class::classes;
+pub use first::keys;
+pub use height::{heights, units};
 pub use key::Key;
 pub use labelling::marks;
 pub use mark::{Label, Mark};
 pub use ordering::grown_order;
+pub use place::{by_places, places};
 
 #[cfg(test)]
 mod tests;

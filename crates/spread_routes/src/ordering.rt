@@ -76,7 +76,7 @@ fn is_at(one: Stage, stage: Stage) -> bool
 }
 
 /// The earlier of a vertex that was found, if one was, and another.
-fn earlier(keys: &[Key], found: Option<usize>, vertex: usize) -> usize
+pub(crate) fn earlier(keys: &[Key], found: Option<usize>, vertex: usize) -> usize
     requires vertex { vertex < length keys.now }
     requires found { MatchOption found (Unit {0}) (λ other. other < length keys.now) }
     ensures { result ≡ earlier_of (before_by keys.now) found vertex }

@@ -31,16 +31,62 @@ const UNPLACED: [&[(u8, usize)]; 6] = [
 ];
 
 /// Their classes, each with how far the vertex is from the first; and the order that they grow to.
-const CLASSES: [(usize, usize); 6] = [(1, 0), (2, 1), (0, 1), (1, 1), (0, 0), (2, 0)];
+const CLASSES: [(u128, usize); 6] = [(1, 0), (2, 1), (0, 1), (1, 1), (0, 0), (2, 0)];
 
 const ORDER: [usize; 6] = [4, 0, 3, 1, 2, 5];
 
-/// Vertices that bear adapters, roots, and the classes of the six vertices then.
-const CLASSES_BY: [(&[usize], &[usize], [u128; 6]); 4] = [
-    (&[], &[], [0, 0, 0, 0, 0, 0]),
-    (&[2, 3, 4], &[], [5, 5, 6, 4, 5, 0]),
-    (&[2, 3, 4], &[5], [5, 5, 6, 4, 5, 0]),
-    (&[2, 3, 4], &[4, 2], [1, 1, 0, 1, 0, 0]),
+/// Vertices that bear adapters and roots; and then of the six vertices the classes, how far each is from the first of its component, the
+/// heights, and the units of these.
+type Graded = (
+    &'static [usize],
+    &'static [usize],
+    [u128; 6],
+    [usize; 6],
+    [usize; 6],
+    [usize; 6],
+);
+
+const GRADED: [Graded; 5] = [
+    (
+        &[],
+        &[],
+        [0, 0, 0, 0, 0, 0],
+        [0, 1, 2, 1, 1, 0],
+        [0; 6],
+        [1; 6],
+    ),
+    (
+        &[2, 3, 4],
+        &[],
+        [5, 5, 6, 4, 5, 0],
+        [1, 1, 2, 0, 1, 0],
+        [1, 1, 0, 0, 0, 0],
+        [3, 3, 1, 1, 1, 1],
+    ),
+    (
+        &[2],
+        &[],
+        [8, 4, 0, 8, 12, 0],
+        [2, 1, 0, 2, 3, 0],
+        [2, 1, 0, 2, 3, 0],
+        [2, 1, 1, 2, 2, 1],
+    ),
+    (
+        &[2, 3, 4],
+        &[5],
+        [5, 5, 6, 4, 5, 0],
+        [1, 1, 2, 0, 1, 0],
+        [1, 1, 0, 0, 0, 0],
+        [3, 3, 1, 1, 1, 1],
+    ),
+    (
+        &[2, 3, 4],
+        &[4, 2],
+        [1, 1, 0, 1, 0, 0],
+        [2, 1, 0, 2, 3, 0],
+        [1, 1, 0, 0, 0, 0],
+        [3, 3, 1, 1, 1, 1],
+    ),
 ];
 
 /// What the mark of each vertex towards each target is: its label and cost, in two letters.
@@ -127,14 +173,19 @@ fn are_marks(marks: &[Option<Mark>], wanted: &[u8; 12]) -> bool {
 }
 
 /// The ports of a vertex for the choices 0 and 5.
-fn ports_of(exits: &Exits, marks: &[Option<Mark>], vertex: usize) -> [u8; 2]
+fn ports_of(
+    alloc: Global,
+    exits: &Exits,
+    marks: &[Option<Mark>],
+    vertex: usize,
+) -> Result<[u8; 2], AllocError>
     requires lead { LeadToVertices exits.now }
     requires all { length marks.now ≡ length exits.now }
     requires vertex { vertex < length exits.now }
 {
-    let first = candidate(exits.at(vertex), vertex, marks, 0);
-    let sixth = candidate(exits.at(vertex), vertex, marks, 5);
-    [first, sixth].map(|exit| exit.map_or(0, |exit| exit.port.number()))
+    let found = candidates(alloc, exits.at(vertex), vertex, marks)?;
+    let taken = [chosen(&found, 0), chosen(&found, 5)];
+    Ok(taken.map(|exit| exit.map_or(0, |exit| exit.port.number())))
 }
 
 #[test]
@@ -144,10 +195,8 @@ fn marks_and_candidates(rt: HostRuntime) -> Result<(), Fail> {
         let marks = marks(rt.alloc(), &exits, target)?;
         assert!(rt; are_marks(&marks, wanted), "{target}");
         for (vertex, wanted) in ports.iter().enumerate() {
-            assert!(rt;
-                ports_of(&exits, &marks, vertex) == *wanted,
-                "{target} {vertex}"
-            );
+            let found = ports_of(rt.alloc(), &exits, &marks, vertex)?;
+            assert!(rt; found == *wanted, "{target} {vertex}");
         }
     }
     Ok(())
@@ -170,12 +219,27 @@ fn are_vertices(some: &[usize]) -> bool
 }
 
 #[test]
-fn classes_by_distances(rt: HostRuntime) -> Result<(), Fail> {
+fn classes_and_keys(rt: HostRuntime) -> Result<(), Fail> {
     let exits = unplaced(rt.alloc())?;
-    for (bearing, roots, wanted) in &CLASSES_BY {
+    for (bearing, roots, wanted, far, _, _) in &GRADED {
         assert!(rt; are_vertices(bearing) && are_vertices(roots));
         let classes = classes(rt.alloc(), &exits, bearing, roots)?;
         assert!(rt; classes.as_slice() == wanted.as_slice());
+        let keys = keys(rt.alloc(), &exits, &classes)?;
+        assert!(rt; keys.iter().map(|key| key.distance).eq(far.iter().copied()));
+    }
+    Ok(())
+}
+
+#[test]
+fn heights_and_units(rt: HostRuntime) -> Result<(), Fail> {
+    let exits = unplaced(rt.alloc())?;
+    for (bearing, _, _, _, tall, counted) in &GRADED {
+        assert!(rt; are_vertices(bearing));
+        let heights = heights(rt.alloc(), &exits, bearing)?;
+        assert!(rt; heights.as_slice() == tall.as_slice());
+        let units = units(rt.alloc(), &exits, &heights)?;
+        assert!(rt; units.as_slice() == counted.as_slice());
     }
     Ok(())
 }

@@ -38,11 +38,11 @@ Rises [] = Unit {0}
 Rises (x ∷ xs) = ((y : ℕ × EndPort) → Contains xs y → port_cmp x y ≡ Less) × Rises xs
 
 -- nothing comes before itself
-not_before_itself : (x : ℕ × EndPort) → port_cmp x x ≡ Less → ⊥
+pub not_before_itself : (x : ℕ × EndPort) → port_cmp x x ≡ Less → ⊥
 not_before_itself x e = cc (ap is_lt (sym e ∙ tied_itself port_total x))
 
 -- of two, one does not come before the other and after it
-one_way : (x y : ℕ × EndPort) → port_cmp x y ≡ Less → port_cmp y x ≡ Less → ⊥
+pub one_way : (x y : ℕ × EndPort) → port_cmp x y ≡ Less → port_cmp y x ≡ Less → ⊥
 one_way x y h k = not_before_itself x (port_total.trans x y x h k)
 
 -- rising lists with the same members are the same
@@ -71,7 +71,7 @@ rises_once (x ∷ xs) (y ∷ ys) r s h k =
     later' z (inr m) n = m
 
 -- what is sorted and apart rises
-from_not_less : (x y : ℕ × EndPort) → (x ≡ y → ⊥) → is_lt (port_cmp y x) ≡ false → port_cmp x y ≡ Less
+pub from_not_less : (x y : ℕ × EndPort) → (x ≡ y → ⊥) → is_lt (port_cmp y x) ≡ false → port_cmp x y ≡ Less
 from_not_less x y differ h =
     elim (port_cmp x y) as (λ o. port_cmp x y ≡ o → o ≡ Less) [
       | Less ↦ λ e. refl
@@ -123,7 +123,7 @@ apart_permutation xs ys p a = apart_from_distinct ys (IsDistinct-IsPermutation t
 
 -- each put in its place ------------------------------------------------------------------
 
-less_from_test : (o : Ordering) → is_lt o ≡ true → o ≡ Less
+pub less_from_test : (o : Ordering) → is_lt o ≡ true → o ≡ Less
 less_from_test Less e = refl
 less_from_test Equal e = absurd (cc)
 less_from_test Greater e = absurd (cc)

@@ -16,3 +16,4 @@ pub mod Passing
 pub mod EndsInStep
 pub mod EndSearch
 pub mod EndPairs
+pub mod NextEndPort

@@ -1,5 +1,5 @@
 -- The ports that have a LID: port 0 of a switch, and the ports of other nodes.
-use Rattle.std.specs.Prelude.{◌≡◌, ◌↔◌, ◌≤◌, ℕ, Bool, List, [], ◌∷◌, map, Contains, Option, None, Some, IsTrue, IsSome, is_some, ◌==◌, ◌&&◌, MatchBool, option_map, if◌then◌else◌}
+use Rattle.std.specs.Prelude.{◌≡◌, ◌↔◌, ◌≤◌, ℕ, Bool, List, [], ◌∷◌, map, filter, Contains, Option, None, Some, IsTrue, IsSome, is_some, ◌==◌, ◌&&◌, MatchBool, option_map, if◌then◌else◌}
 use Rattle.std.specs.List.{filter_map, AllPairs}
 use Rattle.std.specs.declared.cmp.Ordering.{Ordering}
 use Rattle.std.specs.Ordering.{nat_cmp, is_lt}
@@ -49,9 +49,18 @@ abbrev pub in_order : List (ℕ × EndPort) → List (ℕ × EndPort)
 in_order [] = []
 in_order (x ∷ xs) = put_in_order x (in_order xs)
 
+-- the end ports with their port GUIDs, in their order
+abbrev pub guids_and_ports : Cells → List (ℕ × EndPort)
+guids_and_ports cells = in_order (filter_map (guid_and_port cells) cells)
+
 -- the end ports in their order
 abbrev pub end_ports : Cells → List EndPort
-end_ports cells = map (λ e. e.1) (in_order (filter_map (guid_and_port cells) cells))
+end_ports cells = map (λ e. e.1) (guids_and_ports cells)
+
+-- those that come after one, and all where there is none
+abbrev pub ports_after : Cells → Option (ℕ × EndPort) → List (ℕ × EndPort)
+ports_after cells None = guids_and_ports cells
+ports_after cells (Some e) = filter (comes_before e) (guids_and_ports cells)
 
 -- the laws of these words: -----------------------------------------------------------
 

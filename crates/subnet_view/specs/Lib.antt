@@ -4,3 +4,4 @@ pub mod EndPorts
 pub mod Wires
 pub mod WireEnds
 pub mod Agreement
+pub mod NextEndPort

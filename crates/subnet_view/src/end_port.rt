@@ -85,7 +85,7 @@ fn sort(found: &mut [(Guid, EndPort)])
 }
 
 /// The port GUID, the node GUID and the port.
-fn sort_key(end: &(Guid, EndPort)) -> [u64; 3]
+pub(crate) fn sort_key(end: &(Guid, EndPort)) -> [u64; 3]
     ensures { result ≡ port_numbers end.now }
 {
     [
@@ -96,7 +96,7 @@ fn sort_key(end: &(Guid, EndPort)) -> [u64; 3]
 }
 
 /// The end port of a cell with its port GUID, where the cell is an end port's GUID. Takes a search.
-fn guid_and_port(store: &Store, sighting: &Sighting) -> Option<(Guid, EndPort)>
+pub(crate) fn guid_and_port(store: &Store, sighting: &Sighting) -> Option<(Guid, EndPort)>
     requires { cell_for store.now sighting.now.0 ≡ Some sighting.now.1 }
     ensures { result ≡ guid_and_port (cells_of store.now) sighting.now }
 {

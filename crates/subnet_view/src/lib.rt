@@ -2,6 +2,7 @@
 #![tactic(auto)]
 
 mod end_port;
+mod following;
 mod in_step;
 pub mod laws;
 mod port_reader;
@@ -11,6 +12,7 @@ mod wire_end;
 mod wires;
 
 pub use end_port::{EndPort, count_end_ports, end_ports, is_end_port};
+pub use following::next_end_port;
 pub use reading::{cap, claim, port_guid};
 pub use switch::{is_usable, switches, usable_guid};
 pub use wire_end::{attached, wire};

@@ -104,19 +104,19 @@ module _ (w : Sweeping) (generation first : ℕ) (begins : Begins w generation f
           ways = ways can is_fabric node there ended.sweep (told_in ended.reports) covered none origin told;
         }
 
-    pings : (whole : IsWhole (after_sweep_events events w).sweep) → ¬ (IsNoRoom (cells_of (facts_of (after_sweep_events events w).reports)))
+    pings : (lmc : ℕ) (whole : IsWhole (after_sweep_events events w).sweep) → ¬ (IsNoRoom lmc (cells_of (facts_of (after_sweep_events events w).reports)))
         → HoldsPlan (IsJoinedTo (fabric_of (after_sweep_events events w).scene.fabric) w.seat)
-        (plan_of (cells_of (facts_of (after_sweep_events events w).reports)))
+        (plan_of lmc (cells_of (facts_of (after_sweep_events events w).reports)))
         (fabric_of (after_sweep_events events w).scene.fabric)
-        → EachPingArrives (cells_of (facts_of (after_sweep_events events w).reports)) (plan_of (cells_of (facts_of (after_sweep_events events w).reports)))
+        → EachPingArrives (cells_of (facts_of (after_sweep_events events w).reports)) (plan_of lmc (cells_of (facts_of (after_sweep_events events w).reports)))
         (after_sweep_events events w).scene.fabric w.seat
-    pings whole room holds =
+    pings lmc whole room holds =
         let ended = after_sweep_events events w in
-        pings_arrive (facts_of ended.reports) ended.scene.fabric w.seat room ends.scene.fabric.is
+        pings_arrive lmc (facts_of ended.reports) ended.scene.fabric w.seat room ends.scene.fabric.is
         (end_port_along w.scene.fabric ended.scene.fabric ends.scene.fabric.along w.seat seat_end) (finds_all whole).at_last holds
 
 pub done_sweeps_are_complete : DoneSweepsAreComplete
 done_sweeps_are_complete w generation first events begins all whole = finds_all w generation first begins events all whole
 
 pub swept_pings_arrive : SweptPingsArrive
-swept_pings_arrive w generation first events begins all whole room holds = pings w generation first begins events all whole room holds
+swept_pings_arrive lmc w generation first events begins all whole room holds = pings w generation first begins events all lmc whole room holds

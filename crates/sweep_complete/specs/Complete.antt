@@ -55,15 +55,15 @@ DoneSweepsAreComplete =
     (w : Sweeping) (generation first : ℕ) (events : List SweepEvent) → Begins w generation first → All CanBe events
     → IsWhole (after_sweep_events events w).sweep → HasFoundAll w (after_sweep_events events w)
 
--- so once the fabric holds the plan of what it has found, as far as its seat is joined to, each ping there arrives
+-- so once the fabric holds the plan of what it has found under an LMC, as far as its seat is joined to, each ping there arrives
 abbrev pub SweptPingsArrive : Type 0
 SweptPingsArrive =
-    (w : Sweeping) (generation first : ℕ) (events : List SweepEvent) → Begins w generation first → All CanBe events
+    (lmc : ℕ) (w : Sweeping) (generation first : ℕ) (events : List SweepEvent) → Begins w generation first → All CanBe events
     → IsWhole (after_sweep_events events w).sweep
     → let ended = after_sweep_events events w in
     let cells = cells_of (facts_of ended.reports) in
     let f = fabric_of ended.scene.fabric in
-    ¬ (IsNoRoom cells) → HoldsPlan (IsJoinedTo f w.seat) (plan_of cells) f → EachPingArrives cells (plan_of cells) ended.scene.fabric w.seat
+    ¬ (IsNoRoom lmc cells) → HoldsPlan (IsJoinedTo f w.seat) (plan_of lmc cells) f → EachPingArrives cells (plan_of lmc cells) ended.scene.fabric w.seat
 
 -- there is such a sweep: a fabric, and events after which a sweep on it has every answer
 pub record SomeSweepIsWhole : Type 0 where

@@ -21,3 +21,4 @@ pub mod PartWires
 pub mod Joined
 pub mod RisingChannels
 pub mod Routed
+pub mod FoundRoots

@@ -10,3 +10,4 @@ pub mod Wiring
 pub mod Order
 pub mod Placed
 pub mod Ports
+pub mod Roots

@@ -2,15 +2,16 @@ ghost use Rattle.std.specs.Prelude.{◌≡◌, ◌<◌, IfOk, length, map, slice
 ghost use Rattle.fact_store.specs.View.{cells_of};
 ghost use Rattle.updown_routes.specs.Graph.{graph_of, guids_of};
 ghost use Rattle.updown_routes.specs.GraphLaws.{IsGraph};
-ghost use Rattle.updown_routes.specs.Ranks.{rank_of};
+ghost use Rattle.updown_routes.specs.Ranks.{rank_of, root_of};
 ghost use Rattle.updown_routes.specs.Wiring.{AreExitsAt, IsIndexIn, LeadBelow};
 
 use crate::rank::ranks;
+use crate::root::roots;
 use crate::wiring::Wiring;
 use fact_store::Refused;
 use port_graph::Exit;
 use smp_bytes::Guid;
-use std::alloc::Global;
+use std::alloc::{AllocError, Global};
 use std::marker::Model;
 use subnet_view::Wires;
 
@@ -91,6 +92,14 @@ impl Graph {
         self.ranks[index]
     }
 
+    /// The root of each switch's component, by rising GUID: the least GUID there. Takes a search in
+    /// breadth for each component.
+    pub fn roots(&self, alloc: Global) -> Result<Vec<Option<Guid>>, AllocError>
+        ensures { IfOk result (λ roots. roots.items ≡ map (root_of self.now) (guids_of self.now)) }
+    {
+        roots(alloc, &self.wiring)
+    }
+
     /// The ranks of the switches, by rising GUID.
     pub(crate) fn ranks(&self) -> &[Option<usize>]
         ensures ranks { result.now ≡ map (rank_of self.now) (guids_of self.now) }
@@ -100,7 +109,7 @@ impl Graph {
     }
 
     /// The exits of the switch at an index, which lead to indices. Takes one step.
-    pub(crate) fn exits(&self, index: usize) -> &[Exit]
+    pub fn exits(&self, index: usize) -> &[Exit]
         requires { index < length self.now }
         ensures exits { AreExitsAt self.now index result.now }
         ensures to_switches { LeadBelow (length self.now) result.now }

@@ -5,9 +5,11 @@ mod graph;
 pub mod laws;
 mod order;
 mod rank;
+mod root;
 mod routes;
 mod slope;
 mod wiring;
 
 pub use graph::Graph;
 pub use routes::Routes;
+pub use wiring::port_count;

@@ -161,7 +161,7 @@ fn index_of(guids: &[Guid], guid: Guid) -> Option<usize>
 }
 
 /// The number of a node's ports, and 0 where the node is not known.
-fn port_count(store: &Store, guid: Guid) -> u8
+pub fn port_count(store: &Store, guid: Guid) -> u8
     ensures { result ≡ port_count_of (cells_of store.now) guid }
 {
     match store.node(guid) {

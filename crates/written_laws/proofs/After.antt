@@ -401,7 +401,7 @@ module _ (start : Simulation) (seat : NodePort) (plan : PlanValue) (c : ℕ) (ph
               scene = g.fair.scene;
               traced = g.fair.traced;
               seat_is = g.fair.seat_is;
-              side = record { port = g.fair.side.port; sweep = g.fair.side.sweep; knows = g.fair.side.knows };
+              side = record { port = g.fair.side.port; lmc = g.fair.side.lmc; sweep = g.fair.side.sweep; knows = g.fair.side.knows };
               once = once;
               outgoing = g.fair.outgoing;
               out = g.fair.out;
@@ -417,7 +417,7 @@ module _ (start : Simulation) (seat : NodePort) (plan : PlanValue) (c : ℕ) (ph
       over_writes false most = rests
       over_writes true most =
           phase_writes w (ended_with (Some g.now)) after_it g.all g.fair g.from refl
-          (record { port = g.fair.side.port; sweep = g.fair.side.sweep; knows = g.fair.side.knows }) once way most
+          (record { port = g.fair.side.port; lmc = g.fair.side.lmc; sweep = g.fair.side.sweep; knows = g.fair.side.knows }) once way most
 
       goes_on : (o : Option Writing) → Some g.now ≡ o → (went_on_with (ended_with o) (noted (counts p) was_done o)).counter ≤ 2 ^ 32
           → Writes (record w { manager = went_on_with (ended_with o) (noted (counts p) was_done o) })

@@ -66,6 +66,7 @@ module _ (start : Simulation) (seat : NodePort) (plan : PlanValue) (ground : Gro
           seat_is = g.fair.seat_is;
           side = record {
             port = g.fair.side.port;
+            lmc = g.fair.side.lmc;
             sweep = elim g.fair.side.sweep [ inl none ↦ absurd none.0 | inr swept ↦ inr swept ];
             knows = g.fair.side.knows;
           };
@@ -105,9 +106,9 @@ module _ (start : Simulation) (seat : NodePort) (plan : PlanValue) (ground : Gro
           → Goes start seat plan old (record w { manager = begun_with w.manager (phases_by w.manager o) })
       by_sweep None swept most = absurd swept
       by_sweep (Some s) swept most =
-          let phases = phases_of (plan_of (cells_of w.manager.store)) (cells_of w.manager.store) s w.manager.standing.guid w.manager.port in
+          let phases = phases_of (plan_of w.manager.lmc (cells_of w.manager.store)) (cells_of w.manager.store) s w.manager.standing.guid w.manager.port in
           phase_goes start seat plan old w w.manager (record { later = passed phases; has_failed = false }) g.fair refl refl g.fair.side g.fair.once
-          (passed_goes start seat plan phases (writing_goes start seat w.manager may s swept plan)) most
+          (passed_goes start seat plan phases (writing_goes start seat w.manager may g.fair.side.lmc s swept plan)) most
 
   -- a packet is heard
   heard_goes : (old : Type 0) (w : Managing) (which : ℕ) (m : Option Handed) → slice_get w.scene.handed which ≡ m → Goes start seat plan old w

@@ -150,7 +150,7 @@ module _ (start : Simulation) (seat : NodePort) (plan : PlanValue) (g : Ground s
           more = [];
           outgoing = sym (append-nil m.outgoing);
           own = λ c all. tt;
-          side = record { port = side.port; sweep = side.sweep; knows = side.knows };
+          side = record { port = side.port; lmc = side.lmc; sweep = side.sweep; knows = side.knows };
         }
 
     over_still : Beside m (without m p)
@@ -176,7 +176,7 @@ module _ (start : Simulation) (seat : NodePort) (plan : PlanValue) (g : Ground s
         more = out ∷ [];
         outgoing = refl;
         own = λ c all. (lid_own start seat plan c all handed out count by_lids, tt);
-        side = record { port = side.port; sweep = side.sweep; knows = side.knows };
+        side = record { port = side.port; lmc = side.lmc; sweep = side.sweep; knows = side.knows };
       }
     where
       only : (q : Pending) → Contains (waits ∷ []) q → waits ≡ q
@@ -249,7 +249,7 @@ module _ (start : Simulation) (seat : NodePort) (plan : PlanValue) (g : Ground s
             more = answer_out m.standing h.packet.bytes lid given ∷ [];
             outgoing = refl;
             own = λ c all. (own_answer c all, tt);
-            side = record { port = side.port; sweep = side.sweep; knows = side.knows };
+            side = record { port = side.port; lmc = side.lmc; sweep = side.sweep; knows = side.knows };
           }
 
     module _ (m : Manager) (side : SweepSide start seat old m) (once : AreOnce m.counter m.pending) (lid : Option ℕ) where
@@ -266,7 +266,7 @@ module _ (start : Simulation) (seat : NodePort) (plan : PlanValue) (g : Ground s
             more = [];
             outgoing = sym (append-nil m.outgoing);
             own = λ c all. tt;
-            side = record { port = side.port; sweep = side.sweep; knows = side.knows };
+            side = record { port = side.port; lmc = side.lmc; sweep = side.sweep; knows = side.knows };
           }
 
       moves_on : (move : Transition) → Beside m (moved_on m h.packet.bytes lid move)

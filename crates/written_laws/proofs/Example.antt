@@ -125,7 +125,7 @@ distinct here there one other a b same = one_place here there other.guid (guid_t
 -- the manager, and its sweep ------------------------------------------------------------------------------------
 
 abbrev beginning : Managing
-beginning = record { scene = record { fabric = network; handed = [] }; seat = port 0 1; manager = new_manager 17 1 0; out = [] }
+beginning = record { scene = record { fabric = network; handed = [] }; seat = port 0 1; manager = new_manager 17 1 0 0; out = [] }
 
 starts : Starts beginning
 unfolding joined fresh_agent
@@ -135,7 +135,8 @@ starts =
       distinct = distinct;
       seat = refl;
       port = refl;
-      at_rest = new_managers_rest 17 1 0;
+      lmc = omega arith;
+      at_rest = new_managers_rest 17 1 0 0;
       out = refl;
     }
 
@@ -143,15 +144,15 @@ starts =
 abbrev sweeping_with : ℕ → Managing
 sweeping_with generation =
     record beginning {
-      manager = with_sweep (record (new_manager 17 1 0) { standing = active_once_more (new_manager 17 1 0).standing; seen = [] }) (started 1 generation 1);
+      manager = with_sweep (record (new_manager 17 1 0 0) { standing = active_once_more (new_manager 17 1 0 0).standing; seen = [] }) (started 1 generation 1);
     }
 
-may_begin : begin_fault (new_manager 17 1 0) ≡ None
+may_begin : begin_fault (new_manager 17 1 0 0) ≡ None
 may_begin = ap (λ n. if n == 2 ^ 32 - 1 then Some GenerationsSpent else None) nothing_newest
 
 begun : after_manager_event beginning Begin ≡ sweeping_with 1
 begun =
-    ap (λ o. record beginning { manager = if is_none o then sweep_begun (new_manager 17 1 0) else new_manager 17 1 0 }) may_begin
+    ap (λ o. record beginning { manager = if is_none o then sweep_begun (new_manager 17 1 0 0) else new_manager 17 1 0 0 }) may_begin
     ∙ ap (λ n. sweeping_with (max (n + 1) 1)) nothing_newest
 
 -- so many deliveries of a packet
@@ -221,7 +222,7 @@ known =
 
 abbrev phases_from : Cells → List Phase
 phases_from known_cells =
-    phases_of (plan_of known_cells) known_cells (sweep_in swept.manager.sweep) swept.manager.standing.guid swept.manager.port
+    phases_of (plan_of 0 known_cells) known_cells (sweep_in swept.manager.sweep) swept.manager.standing.guid swept.manager.port
 
 -- the manager as it is when its writing by these phases has begun
 abbrev writing_by : List Phase → Managing
@@ -229,7 +230,7 @@ writing_by phases = record swept { manager = begun_with swept.manager phases }
 
 fault_from : Cells → Option ManagerFault
 fault_from known_cells =
-    or_else (or_else (write_fault_with swept.manager swept.manager.sweep) (plan_fault known_cells))
+    or_else (or_else (write_fault_with swept.manager swept.manager.sweep) (plan_fault 0 known_cells))
     (number_fault (begun_with swept.manager (phases_from known_cells)).counter)
 
 may_write : writing_fault swept.manager ≡ None
@@ -399,31 +400,31 @@ world_10 = after_manager_event world_9 (Around (Deliver 11))
 abbrev world_11 : Managing
 world_11 = after_manager_event world_10 (Around (Deliver 11))
 
-keeps_8 : KeepsPlan (plan_of cells) own world_2.scene.fabric (Deliver 8)
+keeps_8 : KeepsPlan (plan_of 0 cells) own world_2.scene.fabric (Deliver 8)
 unfolding joined fresh_agent injected delivered outcome_of answered get_of set_of changed_port with_bytes
-keeps_8 = taken_as_own (plan_of cells) own world_2.scene.fabric 8 own_at_home
+keeps_8 = taken_as_own (plan_of 0 cells) own world_2.scene.fabric 8 own_at_home
 
-keeps_9 : KeepsPlan (plan_of cells) own world_3.scene.fabric (Deliver 9)
+keeps_9 : KeepsPlan (plan_of 0 cells) own world_3.scene.fabric (Deliver 9)
 unfolding joined fresh_agent injected delivered outcome_of answered get_of set_of changed_port with_bytes
-keeps_9 = taken_by_none (plan_of cells) own world_3.scene.fabric 9 refl
+keeps_9 = taken_by_none (plan_of 0 cells) own world_3.scene.fabric 9 refl
 
-keeps_10 : KeepsPlan (plan_of cells) own world_7.scene.fabric (Deliver 10)
+keeps_10 : KeepsPlan (plan_of 0 cells) own world_7.scene.fabric (Deliver 10)
 unfolding joined fresh_agent injected delivered outcome_of answered get_of set_of changed_port with_bytes
-keeps_10 = taken_by_none (plan_of cells) own world_7.scene.fabric 10 refl
+keeps_10 = taken_by_none (plan_of 0 cells) own world_7.scene.fabric 10 refl
 
-keeps_10_then : KeepsPlan (plan_of cells) own world_8.scene.fabric (Deliver 10)
+keeps_10_then : KeepsPlan (plan_of 0 cells) own world_8.scene.fabric (Deliver 10)
 unfolding joined fresh_agent injected delivered outcome_of answered get_of set_of changed_port with_bytes
-keeps_10_then = taken_as_own (plan_of cells) own world_8.scene.fabric 10 own_there
+keeps_10_then = taken_as_own (plan_of 0 cells) own world_8.scene.fabric 10 own_there
 
-keeps_11 : KeepsPlan (plan_of cells) own world_9.scene.fabric (Deliver 11)
+keeps_11 : KeepsPlan (plan_of 0 cells) own world_9.scene.fabric (Deliver 11)
 unfolding joined fresh_agent injected delivered outcome_of answered get_of set_of changed_port with_bytes
-keeps_11 = taken_by_none (plan_of cells) own world_9.scene.fabric 11 refl
+keeps_11 = taken_by_none (plan_of 0 cells) own world_9.scene.fabric 11 refl
 
-keeps_11_then : KeepsPlan (plan_of cells) own world_10.scene.fabric (Deliver 11)
+keeps_11_then : KeepsPlan (plan_of 0 cells) own world_10.scene.fabric (Deliver 11)
 unfolding joined fresh_agent injected delivered outcome_of answered get_of set_of changed_port with_bytes
-keeps_11_then = taken_by_none (plan_of cells) own world_10.scene.fabric 11 refl
+keeps_11_then = taken_by_none (plan_of 0 cells) own world_10.scene.fabric 11 refl
 
-keeps : AllKeep (plan_of cells) own after (writing_by (phases_from cells))
+keeps : AllKeep (plan_of 0 cells) own after (writing_by (phases_from cells))
 keeps = (tt, (tt, (keeps_8, (keeps_9, (tt, (tt, (tt, (keeps_10, (keeps_10_then, (keeps_11, (keeps_11_then, (tt, tt))))))))))))
 
 -- the run ---------------------------------------------------------------------------------------------------------
@@ -504,7 +505,7 @@ unfolding joined fresh_agent injected delivered outcome_of answered get_of set_o
 kept_then =
     subst (AllKeep (plan_at swept) (own_sets beginning swept) after)
     (sym (ap (λ o. record swept { manager = if is_none o then writing_begun swept.manager else swept.manager }) may_write))
-    (subst (λ c. AllKeep (plan_of c) (IsOwnSet (fabric_of network) (port 0 1) (phases_from c)) after (writing_by (phases_from c))) (sym known) keeps)
+    (subst (λ c. AllKeep (plan_of 0 c) (IsOwnSet (fabric_of network) (port 0 1) (phases_from c)) after (writing_by (phases_from c))) (sym known) keeps)
 
 last_sweep : swept.manager.sweep ≡ Some (sweep_in swept.manager.sweep)
 unfolding joined fresh_agent injected delivered outcome_of answered get_of set_of changed_port with_bytes
@@ -540,6 +541,7 @@ some_manager_brings_up =
       port_guid = 17;
       port = 1;
       priority = 0;
+      lmc = 0;
       new = refl;
       before = [];
       between = between;

@@ -227,7 +227,7 @@ module _ (start : Simulation) (seat : NodePort) (plan : PlanValue) where
             scene = fair.scene;
             traced = fair.traced;
             seat_is = fair.seat_is;
-            side = record { port = fair.side.port; sweep = fair.side.sweep; knows = fair.side.knows };
+            side = record { port = fair.side.port; lmc = fair.side.lmc; sweep = fair.side.sweep; knows = fair.side.knows };
             once = fair.once;
             outgoing = own.1;
             out = own_more c all w.scene.handed w.out (o ∷ []) fair.out (own.0, tt);

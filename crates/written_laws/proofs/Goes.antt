@@ -59,7 +59,7 @@ module _ (start : Simulation) (seat : NodePort) (plan : PlanValue) where
           scene = fair.scene;
           traced = fair.traced;
           seat_is = fair.seat_is;
-          side = record { port = side.port; sweep = side.sweep; knows = side.knows };
+          side = record { port = side.port; lmc = side.lmc; sweep = side.sweep; knows = side.knows };
           once = once_more m.counter (m.counter + length steps) m.pending (next_pending m.counter v.later) once
               (steps_once (next_phase v.later).counts m.counter steps) (omega arith) (steps_from (next_phase v.later).counts m.counter steps);
           outgoing = own_more start seat plan c all w.scene.handed m.outgoing (steps_out m.counter (next_phase v.later).steps)
@@ -114,7 +114,7 @@ module _ (start : Simulation) (seat : NodePort) (plan : PlanValue) where
             scene = g.fair.scene;
             traced = g.fair.traced;
             seat_is = g.fair.seat_is;
-            side = record { port = g.fair.side.port; sweep = g.fair.side.sweep; knows = g.fair.side.knows };
+            side = record { port = g.fair.side.port; lmc = g.fair.side.lmc; sweep = g.fair.side.sweep; knows = g.fair.side.knows };
             once = once;
             outgoing = g.fair.outgoing;
             out = g.fair.out;
@@ -136,7 +136,7 @@ module _ (start : Simulation) (seat : NodePort) (plan : PlanValue) where
         by_rest false most = rests (Some v) h
         by_rest true most =
             phase_goes old w (ended_with (Some v)) (record v { has_failed = v.has_failed || (counts p && not was_done) }) g.fair refl refl
-            (record { port = g.fair.side.port; sweep = g.fair.side.sweep; knows = g.fair.side.knows }) once h most
+            (record { port = g.fair.side.port; lmc = g.fair.side.lmc; sweep = g.fair.side.sweep; knows = g.fair.side.knows }) once h most
 
     pub step_goes : Goes old (record w { manager = (unless_spent w.manager (step_over w.manager p was_done)).manager })
     step_goes =

@@ -5,11 +5,11 @@ use Rattle.std.specs.Prelude.{Contains, Option, Some, None, IsSome}
 use Rattle.std.specs.Option.{option_map_or}
 use Rattle.smp_bytes.specs.declared.cable.NodePort.{NodePort}
 use Rattle.smp_bytes.specs.Header.{port_info, switch_info, linear_forwarding_table}
-use Rattle.smp_bytes.specs.Fabric.{Node, IsNodeAt}
+use Rattle.smp_bytes.specs.Fabric.{Node, IsNodeAt, range_at as range_in_fabric}
 use Rattle.smp_bytes.specs.DirectedWalk.{directed_end}
 use Rattle.attr_codec.specs.declared.port_state.PortState.{PortState}
 use Rattle.attr_codec.specs.declared.port_state.PortState.TheVariants.{NoChange}
-use Rattle.node_agents.specs.Agent.{Agent, base_lid_at, entry_at}
+use Rattle.node_agents.specs.Agent.{Agent, base_lid_at, lmc_at, range_at, entry_at}
 use Rattle.fact_store.specs.View.{Facts, cells_of}
 use Rattle.fabric_sim.specs.Simulation.{Simulation, IsSimulation, agent_at, fabric_of}
 use Rattle.fabric_sim.proofs.SeenFabrics.{agent_seen}
@@ -19,8 +19,7 @@ use Rattle.fabric_sim.proofs.TracedCalls.{AreTraced}
 use Rattle.subnet_view.specs.declared.end_port.EndPort.{EndPort}
 use Rattle.subnet_view.proofs.Members.{contains_none}
 use Rattle.subnet_view.specs.Agreement.{IsPortNamed}
-use Rattle.lid_assign.specs.Lids.{lids, lid_of, top_of}
-use Rattle.lid_assign.proofs.Owners.{given-from_lid}
+use Rattle.lid_assign.specs.Lids.{lids, range_of, top_of}
 use Rattle.lft_blocks.specs.Arrival.{HoldsBlock}
 use Rattle.lft_blocks.specs.Plan.{PlanValue, plan_of, block_at, switches_of}
 use Rattle.sweep.specs.Sweep.{Sweep, path_to, seen_state}
@@ -45,7 +44,7 @@ use Rattle.written_laws.proofs.Goes.{Goes}
 use Rattle.written_laws.proofs.Led.{IsLedSweep, LeadsToVertex, path_led, seen_small}
 use Rattle.written_laws.proofs.Numbered.{from_passed, none_once, passed_is_of}
 use Rattle.written_laws.proofs.Scenes.{Sends, Tells, WereTraced}
-use Rattle.written_laws.proofs.Steps.{IsOf, StepSent, lid_is_set, block_is_set, top_is_set, lid_value, lid_fits, top_value}
+use Rattle.written_laws.proofs.Steps.{IsOf, StepSent, range_is_set, block_is_set, top_is_set, range_value, top_value}
 use Rattle.written_laws.proofs.Sweeps.{Ground, IsSwept, IsSweptOne, nothing_accepted}
 use Rattle.written_laws.proofs.Taken.{IsGood, IsDone, nodes_stay}
 use Rattle.written_laws.proofs.Writings.{MayWrite, may_write, own_carries, writing_good}
@@ -66,6 +65,7 @@ starting w starts plan =
         seat_is = refl;
         side = record {
           port = starts.port;
+          lmc = starts.lmc;
           sweep = inl (tt, nothing_accepted start w.seat w.manager starts.at_rest.sweep);
           knows = in_range_small w.manager.store starts.at_rest.facts (generation_small w.manager.store.floor starts.at_rest.floor);
         };
@@ -154,12 +154,12 @@ module _ (w : Managing) (before between after : List ManagerEvent) (run : IsWrit
     swept = elim swept_before.fair.side.sweep [ inl none ↦ absurd none.0 | inr one ↦ subst (IsSweptOne w.scene.fabric w.seat) sweep_is one ]
 
     pub phases : List Phase
-    phases = phases_of (plan_of (cells_of (at_writing w before between).manager.store)) (cells_of (at_writing w before between).manager.store) sweep
+    phases = phases_of (plan_of (at_writing w before between).manager.lmc (cells_of (at_writing w before between).manager.store)) (cells_of (at_writing w before between).manager.store) sweep
         (at_writing w before between).manager.standing.guid (at_writing w before between).manager.port
 
     pub good : (x : StepSent) → IsOf phases x.counts x.step → IsGood w.scene.fabric w.seat (plan_at (at_writing w before between)) x
     unfolding phases
-    good x is = writing_good w.scene.fabric w.seat (at_writing w before between).manager may sweep swept x is
+    good x is = writing_good w.scene.fabric w.seat (at_writing w before between).manager may swept_before.fair.side.lmc sweep swept x is
 
     pub begins : Writes w.scene.fabric w.seat (plan_at (at_writing w before between)) (at_writing w before between).manager.counter phases
         (at_first_steps w before between)
@@ -194,7 +194,7 @@ module _ (w : Managing) (before between after : List ManagerEvent) (run : IsWrit
     pub owns : (now : Simulation) → IsAlong w.scene.fabric now → (at : NodePort) (a : Agent) (packet : List ℕ) → agent_at now at.node ≡ Some a
         → own_sets w (at_writing w before between) at packet → Carries (plan_at (at_writing w before between)) a at.port packet
     owns now along at a packet there is_own =
-        own_carries w.scene.fabric w.seat (at_writing w before between).manager may sweep swept now along at a packet there
+        own_carries w.scene.fabric w.seat (at_writing w before between).manager may swept_before.fair.side.lmc sweep swept now along at a packet there
         (subst (λ o. IsOwnSet (fabric_of w.scene.fabric) w.seat (phases_by (at_writing w before between).manager o) at packet) sweep_is is_own)
 
     ends : Writes w.scene.fabric w.seat (plan_at (at_writing w before between)) (at_writing w before between).manager.counter phases
@@ -227,7 +227,7 @@ module _ (w : Managing) (before between after : List ManagerEvent) (run : IsWrit
       facts = (at_writing w before between).manager.store
 
       master : ℕ
-      master = own_lid (cells_of (at_writing w before between).manager.store) (plan_of (cells_of (at_writing w before between).manager.store)).given
+      master = own_lid (cells_of (at_writing w before between).manager.store) (plan_of (at_writing w before between).manager.lmc (cells_of (at_writing w before between).manager.store)).given.ports
           (at_writing w before between).manager.standing.guid (at_writing w before between).manager.port
 
       -- a step of a phase that counts is held
@@ -250,19 +250,19 @@ module _ (w : Managing) (before between after : List ManagerEvent) (run : IsWrit
           by_path None e h = absurd (cc)
           by_path (Some path) e h = (path, e)
 
-      lids_held : (e : EndPort) (lid : ℕ) (port : NodePort) → lid_of (plan_at (at_writing w before between)).given e ≡ Some lid → IsReached sweep e.node e.port
-          → IsPortNamed (fabric_of (at_end w before between after).scene.fabric) e.node e.port port
-          → (fabric_of (at_end w before between after).scene.fabric).base_lid port ≡ lid
+      lids_held : (e : EndPort) (range : ℕ × ℕ) (port : NodePort) → range_of (plan_at (at_writing w before between)).given e ≡ Some range
+          → IsReached sweep e.node e.port → IsPortNamed (fabric_of (at_end w before between after).scene.fabric) e.node e.port port
+          → range_in_fabric (fabric_of (at_end w before between after).scene.fabric) port ≡ range
       unfolding phases master
-      lids_held e lid port has reached named =
+      lids_held e range port has reached named =
           let (path, there) = some_path e.node e.port reached in
           let facts = (at_writing w before between).manager.store in
-          let x = lid_is_set facts may.has_room sweep master few seen_few e lid path has there in
-          let (a, at, held, whole) = set_is_held (record { path = path; attribute = port_info; modifier = e.port; payload = port_data lid master NoChange }) x
+          let x = range_is_set (at_writing w before between).manager.lmc swept_before.fair.side.lmc facts may.has_room sweep master few seen_few e range path has there in
+          let (a, at, held, whole) = set_is_held (record { path = path; attribute = port_info; modifier = e.port; payload = port_data range master NoChange }) x
           e.node e.port there port.node named.node named.node_there named.guid_is in
-          let small = lid_fits facts may.has_room sweep master few seen_few e lid (given-from_lid (lids (cells_of facts)) e lid has) in
-          ap (λ o. option_map_or (λ y. base_lid_at y port.port) o 0) at ∙ ap (base_lid_at a) named.port_is ∙ held.lid refl
-          ∙ lid_value facts may.has_room sweep master few seen_few lid small
+          ap (λ o. (option_map_or (λ y. base_lid_at y port.port) o 0, option_map_or (λ y. lmc_at y port.port) o 0)) at
+          ∙ ap (range_at a) named.port_is ∙ held.lids refl
+          ∙ range_value (at_writing w before between).manager.lmc swept_before.fair.side.lmc facts may.has_room sweep master few seen_few e range has
 
       tops_held : (guid top place : ℕ) (node : Node) → top_of (plan_at (at_writing w before between)).given ≡ Some top
           → Contains (switches_of (plan_at (at_writing w before between))) guid → IsReached sweep guid 0
@@ -272,10 +272,10 @@ module _ (w : Managing) (before between after : List ManagerEvent) (run : IsWrit
       tops_held guid top place node is_top is_switch reached has =
           let (path, there) = some_path guid 0 reached in
           let facts = (at_writing w before between).manager.store in
-          let x = top_is_set facts may.has_room sweep master few seen_few guid top path is_top is_switch there in
+          let x = top_is_set (at_writing w before between).manager.lmc swept_before.fair.side.lmc facts may.has_room sweep master few seen_few guid top path is_top is_switch there in
           let (a, at, held, whole) = set_is_held (record { path = path; attribute = switch_info; modifier = 0; payload = top_data top }) x guid 0 there place
           node has.there has.named in
-          ap (λ o. option_map_or (λ (y : Agent). y.top) o 0) at ∙ held.top refl ∙ top_value facts may.has_room sweep master few seen_few top is_top
+          ap (λ o. option_map_or (λ (y : Agent). y.top) o 0) at ∙ held.top refl ∙ top_value (at_writing w before between).manager.lmc swept_before.fair.side.lmc facts may.has_room sweep master few seen_few top is_top
 
       blocks_held : (guid b place : ℕ) (block : List ℕ) (node : Node) → block_at (plan_at (at_writing w before between)) guid b ≡ Some block
           → IsReached sweep guid 0
@@ -285,7 +285,7 @@ module _ (w : Managing) (before between after : List ManagerEvent) (run : IsWrit
       blocks_held guid b place block node is_block reached has i less =
           let (path, there) = some_path guid 0 reached in
           let facts = (at_writing w before between).manager.store in
-          let x = block_is_set facts may.has_room sweep master few seen_few guid b block path is_block there in
+          let x = block_is_set (at_writing w before between).manager.lmc swept_before.fair.side.lmc facts may.has_room sweep master few seen_few guid b block path is_block there in
           let (a, at, held, whole) = set_is_held (record { path = path; attribute = linear_forwarding_table; modifier = b; payload = block }) x guid 0 there
           place node has.there has.named in
           slice_get-get_or block i 0 (omega (arith, less, whole))

@@ -77,6 +77,7 @@ module _ (start : Simulation) (seat : NodePort) where
 
   pub record SweepSide (old : Type 0) (m : Manager) : Type 0 where
     pub port : m.port ≡ seat.port
+    pub lmc : m.lmc < 8
     pub sweep : SweepIs old m.sweep
     pub knows : KnowsSmall m.store
 
@@ -118,6 +119,7 @@ module _ (start : Simulation) (seat : NodePort) where
         asks = asked_out (next_generation m.store) (started m.port (next_generation m.store) 1).queued few first;
         side = record {
           port = side.port;
+          lmc = side.lmc;
           sweep = inr (record {
             sound = record {
               origin = side.port;
@@ -196,6 +198,7 @@ module _ (start : Simulation) (seat : NodePort) where
             asks = asked_out new.generation new.queued reply_sound.generation reply_sound.queued;
             side = record {
               port = side.port;
+              lmc = side.lmc;
               sweep = inr (record {
                 sound = record {
                   origin = reply_sound.origin;
@@ -263,7 +266,7 @@ module _ (start : Simulation) (seat : NodePort) where
             more = [];
             outgoing = sym (append-nil m.outgoing);
             asks = tt;
-            side = record { port = side.port; sweep = by_request s is_one (request_with s.generation transaction s.outstanding) refl; knows = side.knows };
+            side = record { port = side.port; lmc = side.lmc; sweep = by_request s is_one (request_with s.generation transaction s.outstanding) refl; knows = side.knows };
           }
 
       by_sweep : (o : Option Sweep) → SweepIs old o → SweepCall old m (sweep_gave_up m transaction o).manager
@@ -282,7 +285,7 @@ module _ (start : Simulation) (seat : NodePort) where
         more = [];
         outgoing = sym (append-nil m.outgoing);
         asks = tt;
-        side = record { port = side.port; sweep = side.sweep; knows = knows };
+        side = record { port = side.port; lmc = side.lmc; sweep = side.sweep; knows = knows };
       }
 
   pub facts_merged : (old : Type 0) (m : Manager) → SweepSide old m → (floor : ℕ) (told : Told) → floor < 2 ^ 32 → AreSmall told

@@ -31,7 +31,7 @@ use Rattle.fabric_sim.proofs.TracedCalls.{IsAskedBy, AsksAnAgent}
 use Rattle.fabric_sim.proofs.TripShapes.{IsAlong, agent_there, nodes_of}
 use Rattle.fabric_sim.proofs.TripEnds.{changed_there}
 use Rattle.plan_steps.specs.Step.{set_packet}
-use Rattle.attr_codec.specs.PortInfo.{base_lid}
+use Rattle.attr_codec.specs.PortInfo.{range_in}
 use Rattle.attr_codec.specs.SwitchInfo.{linear_fdb_top}
 use Rattle.lft_blocks.specs.Plan.{PlanValue, block_at}
 use Rattle.written_laws.specs.Sets.{TakesSet, Carries}
@@ -267,8 +267,8 @@ module _ (start s : Simulation) (seat : NodePort) (plan : PlanValue) (along : Is
             done = sym told.status_is ∙ taken;
           }) in
           record {
-            lid = λ e port lid meant has. ap (number_in base_lid) asked.alike.data_is
-                ∙ c.lid (sym asked.alike.attribute_is ∙ e) port lid
+            lids = λ e port range meant has. ap range_in asked.alike.data_is
+                ∙ c.lids (sym asked.alike.attribute_is ∙ e) port range
                 (ap (λ m. port_meant b m (port_of flight.place).port) (sym asked.alike.modifier_is) ∙ meant) has;
             top = λ e top switch is_top. ap (number_in linear_fdb_top) asked.alike.data_is ∙ c.top (sym asked.alike.attribute_is ∙ e) top switch is_top;
             block = λ e block there_is. asked.alike.data_is

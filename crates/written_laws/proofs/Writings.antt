@@ -1,5 +1,5 @@
 -- A writing that begins: where none of what forbids it holds, its steps go where the sweep came to, and set what the plan has there.
-use Rattle.std.proofs.Common.{◌≡◌, inl, inr, ℕ, ◌≤◌, ◌^◌, Bool, true, false, cond, List, [], ◌∷◌, length, refl, sym, ap, ◌∙◌, subst, arith}
+use Rattle.std.proofs.Common.{◌≡◌, ◌<◌, inl, inr, ℕ, ◌≤◌, ◌^◌, Bool, true, false, cond, List, [], ◌∷◌, length, refl, sym, ap, ◌∙◌, subst, arith}
 use Rattle.std.proofs.lemmas.Bool.{and_from, eqb-true, lt-ltb, le-leb, ltb-false}
 use Rattle.std.proofs.lemmas.Option.{same_Some}
 use Rattle.std.specs.Prelude.{Contains, Option, Some, None, nat_lt, nat_le, not, ◌==◌, ◌||◌}
@@ -14,7 +14,7 @@ use Rattle.smp_bytes.specs.DirectedWalk.{directed_end}
 use Rattle.subnet_view.proofs.Members.{contains_cases, contains_none}
 use Rattle.fact_store.specs.View.{cells_of}
 use Rattle.subnet_view.specs.EndPorts.{end_ports}
-use Rattle.lid_assign.specs.Lids.{IsNoRoom, is_no_room, room}
+use Rattle.lid_assign.specs.Lids.{IsNoRoom, is_no_room, range_of, room}
 use Rattle.lid_assign.specs.declared.fault.NoRoom.{NoRoom}
 use Rattle.lid_assign.specs.LidFault.{no_room}
 use Rattle.lft_blocks.specs.Plan.{PlanValue, plan_of}
@@ -45,7 +45,7 @@ use Rattle.node_agents.specs.Agent.{Agent, is_switch, node_of}
 use Rattle.node_agents.specs.PortInfo.{port_meant}
 use Rattle.smp_bytes.specs.Field.{number_in}
 use Rattle.smp_bytes.specs.Packet.{attribute_modifier}
-use Rattle.attr_codec.specs.PortInfo.{base_lid}
+use Rattle.attr_codec.specs.PortInfo.{range_in}
 use Rattle.attr_codec.specs.SwitchInfo.{linear_fdb_top}
 use Rattle.lid_assign.specs.Lids.{lid_of}
 use Rattle.lft_blocks.specs.Plan.{block_at}
@@ -59,13 +59,13 @@ or_none (Some x) b e = absurd (cc)
 pub record MayWrite (m : Manager) : Type 0 where
   pub no_step : (p : Pending) → Contains m.pending p → is_step p ≡ true → ⊥
   pub sweep_done : (s : Sweep) → m.sweep ≡ Some s → is_done s ≡ true
-  pub has_room : ¬ (IsNoRoom (cells_of m.store))
+  pub has_room : ¬ (IsNoRoom m.lmc (cells_of m.store))
   pub few : (writing_begun m).counter ≤ 2 ^ 32
 
 pub may_write : (m : Manager) → writing_fault m ≡ None → MayWrite m
 may_write m e =
     let outer = or_none (planned_fault m) (number_fault (writing_begun m).counter) e in
-    let inner = or_none (write_fault m) (plan_fault (cells_of m.store)) outer.0 in
+    let inner = or_none (write_fault m) (plan_fault m.lmc (cells_of m.store)) outer.0 in
     record {
       no_step = λ p. no_step_there m.pending p (nothing_waits m.sweep inner.0);
       sweep_done = λ s is. sweep_ended s
@@ -109,10 +109,9 @@ may_write m e =
     no_room_there true why h = absurd (cc)
     no_room_there false why h = refl
 
-    room_there : plan_fault (cells_of m.store) ≡ None → ¬ (IsNoRoom (cells_of m.store))
+    room_there : plan_fault m.lmc (cells_of m.store) ≡ None → ¬ (IsNoRoom m.lmc (cells_of m.store))
     room_there h none =
-        absurd (cc (sym (and_from (nat_lt 0 (length (end_ports (cells_of m.store)))) (nat_le (room (cells_of m.store)) (length (end_ports (cells_of m.store))))
-        (lt-ltb _ _ none.0) (le-leb _ _ none.1)) ∙ no_room_there (is_no_room (cells_of m.store)) _ (no_why (no_room (cells_of m.store)) h)))
+        absurd (cc (sym none ∙ no_room_there (is_no_room m.lmc (cells_of m.store)) _ (no_why (no_room m.lmc (cells_of m.store)) h)))
 
     numbers_left : number_fault (writing_begun m).counter ≡ None → (writing_begun m).counter ≤ 2 ^ 32
     numbers_left h = ltb-false _ _ (chosen (nat_lt (2 ^ 32) (writing_begun m).counter) _ h)
@@ -163,9 +162,9 @@ module _ (start : Simulation) (seat : NodePort) (plan : PlanValue) (s : Sweep) (
           ∙ to.led.has.there)
 
 -- the phases of a writing
-module _ (start : Simulation) (seat : NodePort) (m : Manager) (may : MayWrite m) (s : Sweep) (swept : IsSwept start seat s) where
+module _ (start : Simulation) (seat : NodePort) (m : Manager) (may : MayWrite m) (few_lmc : m.lmc < 8) (s : Sweep) (swept : IsSwept start seat s) where
   master : ℕ
-  master = own_lid (cells_of m.store) (plan_of (cells_of m.store)).given m.standing.guid m.port
+  master = own_lid (cells_of m.store) (plan_of m.lmc (cells_of m.store)).given.ports m.standing.guid m.port
 
   few : (guid vertex : ℕ) (path : List ℕ) → path_to s guid vertex ≡ Some path → vertex ≤ 254
   few guid vertex path e =
@@ -178,14 +177,14 @@ module _ (start : Simulation) (seat : NodePort) (m : Manager) (may : MayWrite m)
   seen_few guid port state e = seen_small (fabric_of start) seat s guid port state swept.led e
 
   GoodOne : Phase → Type 0
-  GoodOne p = IsGoodPhase m.store may.has_room s master few seen_few p
+  GoodOne p = IsGoodPhase m.lmc few_lmc m.store may.has_room s master few seen_few p
 
   GoodAll : List Phase → Type 0
-  GoodAll phases = AreGoodPhases m.store may.has_room s master few seen_few phases
+  GoodAll phases = AreGoodPhases m.lmc few_lmc m.store may.has_room s master few seen_few phases
 
-  all_good : GoodAll (phases_of (plan_of (cells_of m.store)) (cells_of m.store) s m.standing.guid m.port)
+  all_good : GoodAll (phases_of (plan_of m.lmc (cells_of m.store)) (cells_of m.store) s m.standing.guid m.port)
   unfolding GoodAll master
-  all_good = good_phases m.store may.has_room s master few seen_few
+  all_good = good_phases m.lmc few_lmc m.store may.has_room s master few seen_few
 
   one_good : (phases : List Phase) (p : Phase) → GoodAll phases → Contains phases p → GoodOne p
   unfolding GoodAll GoodOne
@@ -194,38 +193,38 @@ module _ (start : Simulation) (seat : NodePort) (m : Manager) (may : MayWrite m)
       elim (contains_cases q p phases there) [ inl i ↦ subst GoodOne i good.0 | inr k ↦ one_good phases p good.1 k ]
 
   -- of each phase
-  phase_good : (counts : Bool) (t : Step) → IsOf (phases_of (plan_of (cells_of m.store)) (cells_of m.store) s m.standing.guid m.port) counts t
-      → IsStep (plan_of (cells_of m.store)) s t × (counts ≡ true → IsPlanned (plan_of (cells_of m.store)) s t)
+  phase_good : (counts : Bool) (t : Step) → IsOf (phases_of (plan_of m.lmc (cells_of m.store)) (cells_of m.store) s m.standing.guid m.port) counts t
+      → IsStep (plan_of m.lmc (cells_of m.store)) s t × (counts ≡ true → IsPlanned (plan_of m.lmc (cells_of m.store)) s t)
   unfolding GoodOne
   phase_good counts t is =
-      let good = one_good (phases_of (plan_of (cells_of m.store)) (cells_of m.store) s m.standing.guid m.port) is.phase all_good is.there in
+      let good = one_good (phases_of (plan_of m.lmc (cells_of m.store)) (cells_of m.store) s m.standing.guid m.port) is.phase all_good is.there in
       (good.steps t is.step, λ c. good.counted (is.counts_is ∙ c) t is.step)
 
-  pub writing_goes : (plan : PlanValue) → CanAllGo start seat plan (phases_of (plan_of (cells_of m.store)) (cells_of m.store) s m.standing.guid m.port)
+  pub writing_goes : (plan : PlanValue) → CanAllGo start seat plan (phases_of (plan_of m.lmc (cells_of m.store)) (cells_of m.store) s m.standing.guid m.port)
   writing_goes plan counts t is =
-      let can = step_can_go start seat (plan_of (cells_of m.store)) s swept.led t (phase_good counts t is).0 in
+      let can = step_can_go start seat (plan_of m.lmc (cells_of m.store)) s swept.led t (phase_good counts t is).0 in
       record { sendable = can.sendable; own = can.own; short = can.short }
 
   -- a Set of its own carries the plan's values
   pub own_carries : (now : Simulation) → IsAlong start now → (at : NodePort) (a : Agent) (packet : List ℕ) → agent_at now at.node ≡ Some a
-      → IsOwnSet (fabric_of start) seat (phases_of (plan_of (cells_of m.store)) (cells_of m.store) s m.standing.guid m.port) at packet
-      → Carries (plan_of (cells_of m.store)) a at.port packet
+      → IsOwnSet (fabric_of start) seat (phases_of (plan_of m.lmc (cells_of m.store)) (cells_of m.store) s m.standing.guid m.port) at packet
+      → Carries (plan_of m.lmc (cells_of m.store)) a at.port packet
   unfolding GoodOne
   own_carries now along at a packet agent own =
       record {
-        lid = λ e port lid meant has. ap (number_in base_lid) own.payload
-            ∙ is.planned.lid (sym own.attribute ∙ e) lid
-            (ap (λ g. lid_of (plan_of (cells_of m.store)).given (record { node = g; port = own.step.modifier })) guid_is
-            ∙ ap (λ n. lid_of (plan_of (cells_of m.store)).given (record { node = a.node.guid; port = n })) (sym (means (sym own.attribute ∙ e) port meant))
+        lids = λ e port range meant has. ap range_in own.payload
+            ∙ is.planned.lids (sym own.attribute ∙ e) range
+            (ap (λ g. range_of (plan_of m.lmc (cells_of m.store)).given (record { node = g; port = own.step.modifier })) guid_is
+            ∙ ap (λ n. range_of (plan_of m.lmc (cells_of m.store)).given (record { node = a.node.guid; port = n })) (sym (means (sym own.attribute ∙ e) port meant))
             ∙ has);
         top = λ e top switch is_top. ap (number_in linear_fdb_top) own.payload ∙ is.planned.top (sym own.attribute ∙ e) top is_top;
         block = λ e block there. own.payload ∙ is.planned.block (sym own.attribute ∙ e) block
-            (ap (λ g. block_at (plan_of (cells_of m.store)) g own.step.modifier) guid_is
-            ∙ ap (block_at (plan_of (cells_of m.store)) a.node.guid) (sym own.modifier) ∙ there);
+            (ap (λ g. block_at (plan_of m.lmc (cells_of m.store)) g own.step.modifier) guid_is
+            ∙ ap (block_at (plan_of m.lmc (cells_of m.store)) a.node.guid) (sym own.modifier) ∙ there);
       }
     where
-      is : IsStep (plan_of (cells_of m.store)) s own.step
-      is = (one_good (phases_of (plan_of (cells_of m.store)) (cells_of m.store) s m.standing.guid m.port) own.phase all_good own.there).steps own.step
+      is : IsStep (plan_of m.lmc (cells_of m.store)) s own.step
+      is = (one_good (phases_of (plan_of m.lmc (cells_of m.store)) (cells_of m.store) s m.standing.guid m.port) own.phase all_good own.there).steps own.step
           own.in_phase
 
       to : LeadsToVertex (fabric_of start) seat own.step.path is.guid is.vertex
@@ -265,8 +264,8 @@ module _ (start : Simulation) (seat : NodePort) (m : Manager) (may : MayWrite m)
           by_kind false d v z h = by_zero (own.step.modifier == 0) refl (own.step.modifier == at.port) refl v z h
 
   -- each of its steps is good
-  pub writing_good : (x : StepSent) → IsOf (phases_of (plan_of (cells_of m.store)) (cells_of m.store) s m.standing.guid m.port) x.counts x.step
-      → IsGood start seat (plan_of (cells_of m.store)) x
+  pub writing_good : (x : StepSent) → IsOf (phases_of (plan_of m.lmc (cells_of m.store)) (cells_of m.store) s m.standing.guid m.port) x.counts x.step
+      → IsGood start seat (plan_of m.lmc (cells_of m.store)) x
   writing_good x is =
       let good = phase_good x.counts x.step is in
-      step_is_good start seat (plan_of (cells_of m.store)) s swept.led x good.0 good.1
+      step_is_good start seat (plan_of m.lmc (cells_of m.store)) s swept.led x good.0 good.1

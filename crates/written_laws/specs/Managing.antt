@@ -1,5 +1,5 @@
 -- A manager at its seat on a fabric on which other managers work too: its calls, and the packets that it gave out.
-use Rattle.std.specs.Prelude.{◌≡◌, ◌≢◌, ℕ, true, false, List, [], ◌∷◌, ◌++◌, All, slice_get, if◌then◌else◌, Option, Some, None, IsTrue}
+use Rattle.std.specs.Prelude.{◌≡◌, ◌<◌, ◌≢◌, ℕ, true, false, List, [], ◌∷◌, ◌++◌, All, slice_get, if◌then◌else◌, Option, Some, None, IsTrue}
 use Rattle.std.specs.Option.{unwrap_or}
 use Rattle.smp_bytes.specs.declared.cable.NodePort.{NodePort}
 use Rattle.smp_bytes.specs.Cables.{is_same_port}
@@ -120,10 +120,12 @@ pub record Starts (w : Managing) : Type 0 where
   pub seat : is_seat_at w.scene.fabric w.seat ≡ true
   -- it was told this port's number
   pub port : w.manager.port ≡ w.seat.port
+  -- and an LMC that there is
+  pub lmc : w.manager.lmc < 8
   pub at_rest : IsAtRest w.manager
   -- it gave no packet out
   pub out : w.out ≡ []
 
 -- a manager that was just made is at rest
 abbrev pub NewManagersRest : Type 0
-NewManagersRest = (port_guid port priority : ℕ) → IsAtRest (new_manager port_guid port priority)
+NewManagersRest = (port_guid port priority lmc : ℕ) → IsAtRest (new_manager port_guid port priority lmc)

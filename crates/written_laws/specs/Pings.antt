@@ -47,7 +47,8 @@ pub record SomeManagerBringsUp : Type 0 where
   pub port_guid : ℕ
   pub port : ℕ
   pub priority : ℕ
-  pub new : managing.manager ≡ new_manager port_guid port priority
+  pub lmc : ℕ
+  pub new : managing.manager ≡ new_manager port_guid port priority lmc
   pub before : List ManagerEvent
   pub between : List ManagerEvent
   pub after : List ManagerEvent

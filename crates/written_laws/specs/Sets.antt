@@ -7,12 +7,12 @@ use Rattle.smp_bytes.specs.DirectedWalk.{directed_end}
 use Rattle.smp_bytes.specs.Header.{set, done, port_info, switch_info, linear_forwarding_table}
 use Rattle.smp_bytes.specs.Field.{number_in, bytes_in}
 use Rattle.smp_bytes.specs.Packet.{method, attribute_id, attribute_modifier, attribute_data, status}
-use Rattle.attr_codec.specs.PortInfo.{base_lid}
+use Rattle.attr_codec.specs.PortInfo.{range_in}
 use Rattle.attr_codec.specs.SwitchInfo.{linear_fdb_top}
 use Rattle.node_agents.specs.Agent.{Agent}
 use Rattle.node_agents.specs.PortInfo.{port_meant}
 use Rattle.node_agents.specs.Answers.{answered}
-use Rattle.lid_assign.specs.Lids.{lid_of, top_of}
+use Rattle.lid_assign.specs.Lids.{range_of, top_of}
 use Rattle.lft_blocks.specs.Plan.{PlanValue, block_at, switches_of}
 use Rattle.plan_steps.specs.declared.step.Step.{Step}
 use Rattle.plan_steps.specs.Phases.{Phase}
@@ -33,12 +33,12 @@ pub record TakesSet (s : Simulation) (serial : ℕ) (at : NodePort) (a : Agent) 
   pub method : number_in method packet ≡ set
   pub done : status (answered a packet at.port).packet ≡ done
 
--- what a Set would write at an agent is what the plan has there, wherever it has something: the LID of the port that is
--- meant, the switch's top, and the block
+-- what a Set would write at an agent is what the plan has there, wherever it has something: the LID and the LMC of the port
+-- that is meant, the switch's top, and the block
 pub record Carries (plan : PlanValue) (a : Agent) (arrival : ℕ) (packet : List ℕ) : Type 0 where
-  pub lid : number_in attribute_id packet ≡ port_info
-      → (port lid : ℕ) → port_meant a (number_in attribute_modifier packet) arrival ≡ Some port
-      → lid_of plan.given (record { node = a.node.guid; port = port }) ≡ Some lid → number_in base_lid (bytes_in attribute_data packet) ≡ lid
+  pub lids : number_in attribute_id packet ≡ port_info
+      → (port : ℕ) (range : ℕ × ℕ) → port_meant a (number_in attribute_modifier packet) arrival ≡ Some port
+      → range_of plan.given (record { node = a.node.guid; port = port }) ≡ Some range → range_in (bytes_in attribute_data packet) ≡ range
   pub top : number_in attribute_id packet ≡ switch_info
       → (top : ℕ) → Contains (switches_of plan) a.node.guid → top_of plan.given ≡ Some top → number_in linear_fdb_top (bytes_in attribute_data packet) ≡ top
   pub block : number_in attribute_id packet ≡ linear_forwarding_table

@@ -3,11 +3,11 @@
 use Rattle.std.specs.Prelude.{◌≡◌, ◌≢◌, ◌⊎◌, ℕ, true, List, [], ◌∷◌, All, Contains, Some, None, IsSome}
 use Rattle.smp_bytes.specs.declared.cable.NodePort.{NodePort}
 use Rattle.smp_bytes.specs.Fabric as fabric
-use Rattle.smp_bytes.specs.Fabric.{Fabric}
+use Rattle.smp_bytes.specs.Fabric.{Fabric, range_at}
 use Rattle.fact_store.specs.View.{cells_of}
 use Rattle.subnet_view.specs.declared.end_port.EndPort.{EndPort}
 use Rattle.subnet_view.specs.Agreement.{IsPortNamed}
-use Rattle.lid_assign.specs.Lids.{lid_of, top_of}
+use Rattle.lid_assign.specs.Lids.{range_of, top_of}
 use Rattle.lft_blocks.specs.Plan.{PlanValue, plan_of, block_at, switches_of}
 use Rattle.lft_blocks.specs.Arrival.{HoldsBlock}
 use Rattle.fabric_sim.specs.Simulation.{fabric_of}
@@ -27,8 +27,8 @@ IsReached s guid port = IsSome (path_to s guid port)
 
 -- each end port and each switch of the plan that the sweep came to holds what the plan has for it
 pub record IsHeldWhere (plan : PlanValue) (s : Sweep) (f : Fabric) : Type 0 where
-  pub lids : (e : EndPort) (lid : ℕ) (port : NodePort) → lid_of plan.given e ≡ Some lid → IsReached s e.node e.port → IsPortNamed f e.node e.port port
-      → f.base_lid port ≡ lid
+  pub lids : (e : EndPort) (range : ℕ × ℕ) (port : NodePort) → range_of plan.given e ≡ Some range → IsReached s e.node e.port
+      → IsPortNamed f e.node e.port port → range_at f port ≡ range
   pub tops : (guid top place : ℕ) (node : fabric.Node) → top_of plan.given ≡ Some top → Contains (switches_of plan) guid → IsReached s guid 0
       → HasNode f guid place node → f.top place ≡ top
   pub blocks : (guid b place : ℕ) (block : List ℕ) (node : fabric.Node) → block_at plan guid b ≡ Some block → IsReached s guid 0
@@ -53,7 +53,7 @@ SweepsFirst (event ∷ events) w =
 -- that is so of whatever happens to a manager that was just made
 abbrev pub NewManagersSweepFirst : Type 0
 NewManagersSweepFirst =
-    (port_guid port priority : ℕ) (w : Managing) (events : List ManagerEvent) → w.manager ≡ new_manager port_guid port priority
+    (port_guid port priority lmc : ℕ) (w : Managing) (events : List ManagerEvent) → w.manager ≡ new_manager port_guid port priority lmc
     → SweepsFirst events w
 
 -- no writing begins, and each Set that an agent takes is one of the own, or carries the plan's values
@@ -69,9 +69,9 @@ AllKeep plan own (event ∷ events) w = Keeps plan own w event × AllKeep plan o
 abbrev pub at_writing : Managing → List ManagerEvent → List ManagerEvent → Managing
 at_writing w before between = after_manager_events between (after_manager_event (after_manager_events before w) Begin)
 
--- the plan that is written
+-- the plan that is written, under the manager's LMC
 abbrev pub plan_at : Managing → PlanValue
-plan_at w = plan_of (cells_of w.manager.store)
+plan_at w = plan_of w.manager.lmc (cells_of w.manager.store)
 
 -- the Sets of the writing's own steps
 abbrev pub own_sets : Managing → Managing → OwnSets

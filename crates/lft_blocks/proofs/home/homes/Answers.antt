@@ -15,8 +15,8 @@ loop-lid-preserved c =
     subst (ArePlacedBelow guids homes (c.loop-lid.lid + 1)) (sym {A = List (Option Home)} c.in_ok-push.ensures.items)
     (placed_more guids homes c.loop-lid.lid c.loop-lid.homes.items c.home_of_lid.result c.loop-lid.invariant next)
 
-pub returns : goal.returns
-returns c =
+pub returns-clause-placed : goal.returns-clause-placed
+returns-clause-placed c =
     let cells = cells_of c.args.wires.now in
     let lids = c.args.lids.now in
     let end : 64 * c.args.count ≡ c.loop-lid.lid = omega arith in

@@ -1,34 +1,50 @@
-use Rattle.std.proofs.Common.{List, ap, sym, ◌∙◌, subst, length, map}
+use Rattle.std.proofs.Common.{◌≡◌, List, ℕ, ap, sym, ◌∙◌, subst, length}
 use Rattle.std.specs.Prelude.{Option}
-use Rattle.std.specs.List.{range_with_len}
+use Rattle.std.specs.List.Sorted.{IsStrictlyIncreasing}
 use Rattle.fact_store.specs.View.{cells_of}
 use Rattle.updown_routes.specs.Crossing.{Crossing}
-use Rattle.updown_routes.specs.Graph.{guids_of}
+use Rattle.updown_routes.specs.Graph.{graph_of, guids_of}
 use Rattle.updown_routes.specs.Routing.{updown}
-use Rattle.updown_routes.proofs.Switches.{graph_guids}
+use Rattle.updown_routes.proofs.Switches.{graph_guids, switches_rise}
+use Rattle.spread_rule.specs.Bearing.{bearing_of}
+use Rattle.spread_rule.specs.Rules.{rule_of}
+use Rattle.spread_rule.specs.Spread.{spread_by}
 use Rattle.lft_blocks.specs.declared.home.Home.{Home}
-use Rattle.lft_blocks.specs.Entries.{home_of_lid, block_count}
-use Rattle.lft_blocks.specs.Homes.{ArePlaced, table_in}
+use Rattle.lft_blocks.specs.Entries.{Next, home_of_lid, block_count}
+use Rattle.lft_blocks.specs.Homes.{ArePlaced, AreWithin}
 use Rattle.lft_blocks.specs.Plan.{tables_of}
-use Rattle.lft_blocks.proofs.HomeTables.{switches_rise, tables_same}
+use Rattle.lft_blocks.specs.Rows.{placed_home}
+use Rattle.lft_blocks.proofs.HomeTables.{placed_within}
+use Rattle.lft_blocks.proofs.RowSteps.{same_homes}
 use Rattle.lft_blocks.proofs.plan.tables_of.Goals as goal
 
 pub homes-requires-clause-switches : goal.homes-requires-clause-switches
 homes-requires-clause-switches c = c.switches-guids.ensures ∙ ap guids_of c.requires ∙ graph_guids (cells_of c.args.wires.now)
 
+pub updown_tables-requires-clause-rising : goal.updown_tables-requires-clause-rising
+updown_tables-requires-clause-rising c =
+    subst (λ (g : List Crossing). IsStrictlyIncreasing (guids_of g)) (sym c.requires) (switches_rise c.args.wires.now)
+
+pub returns-in-UpDown : goal.returns-in-UpDown
+returns-in-UpDown c =
+    let cells = cells_of c.args.wires.now in
+    let graph = c.args.graph.now in
+    let guids = guids_of graph in
+    let homes = home_of_lid cells c.args.lids.now in
+    let are = subst (λ (x : List ℕ × List (Option Home)). ArePlaced x.0 homes x.1) (λ i. (c.switches-guids.ensures i, sym c.deref.ensures.value i)) c.in_ok-homes.ensures.placed in
+    let next : (updown graph).next ≡ (rule_of c.args.rule.now cells).next =
+    ap (λ (g : List Crossing). (updown g).next) c.requires ∙ ap (λ r. (rule_of r cells).next) (sym c.in-UpDown.is) in
+    let counted = c.block_count-count.ensures.count ∙ ap block_count c.top.ensures in
+    c.in_ok-updown_tables-in-UpDown.ensures ∙ (λ i. tables_of (same_homes guids homes c.deref.result.now are i) (next i) (counted i) guids)
+
 pub returns : goal.returns
 returns c =
-    let a = c.args in
-    let cells = cells_of a.wires.now in
-    let guids = c.switches-guids.result.now in
-    let graph = a.graph.now in
-    let homes = home_of_lid cells a.lids.now in
-    let placed = c.deref.result.now in
-    let count = c.block_count-count.result in
-    let theirs = c.switches-guids.ensures in
-    let usable = theirs ∙ ap guids_of c.requires ∙ graph_guids cells in
+    let cells = cells_of c.args.wires.now in
+    let graph = c.args.graph.now in
+    let guids = guids_of graph in
+    let homes = home_of_lid cells c.args.lids.now in
+    let are = subst (λ (x : List ℕ × List (Option Home)). ArePlaced x.0 homes x.1) (λ i. (c.switches-guids.ensures i, sym c.deref-in-Spread.ensures.value i)) c.in_ok-homes.ensures.placed in
+    let next : (spread_by graph (bearing_of cells) c.deref-in-Spread-2.result.now).next ≡ (rule_of c.args.rule.now cells).next =
+    (λ i. (spread_by (c.requires i) (bearing_of cells) (c.deref-in-Spread-2.ensures.value i)).next) ∙ ap (λ r. (rule_of r cells).next) (sym c.in-Spread.is) in
     let counted = c.block_count-count.ensures.count ∙ ap block_count c.top.ensures in
-    let are = subst (λ (hs : List (Option Home)). ArePlaced guids homes hs) (sym c.deref.ensures.value) c.in_ok-homes.ensures in
-    c.in_ok-tables.ensures ∙ ap (λ (g : List Crossing). map (table_in placed g guids count) (range_with_len 0 (length guids))) c.in_ok-routes.ensures
-    ∙ sym (tables_same graph guids homes placed count theirs (switches_rise a.wires.now guids usable) are)
-    ∙ (λ i. tables_of homes (updown graph).next (counted i) (theirs i))
+    c.in_ok-spread_tables-in-Spread.ensures ∙ (λ i. tables_of (same_homes guids homes c.deref-in-Spread.result.now are i) (next i) (counted i) guids)

@@ -5,4 +5,4 @@ use Rattle.lid_assign.proofs.keep.keep_claims.Given as goal
 
 -- what is kept so far, and what the rest will keep
 abbrev pub invariant-loop-port : goal.invariant-loop-port
-invariant-loop-port l = IsKeeping (cells_of l.store) l.keepers.items (drop l.port-index l.ports) l.marks
+invariant-loop-port l = IsKeeping l.lmc (cells_of l.store) l.keepers.items (drop l.port-index l.ports) l.claimed l.taken

@@ -1,4 +1,4 @@
-use Rattle.lid_assign.proofs.LackOfRoom.{no_room_law}
+use Rattle.lid_assign.proofs.Uniqueness.{no_room_law}
 use Rattle.lid_assign.proofs.laws.no_room_law.Goals as goal
 
 pub returns : goal.returns

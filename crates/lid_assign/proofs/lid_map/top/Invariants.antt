@@ -1,7 +1,8 @@
 use Rattle.std.proofs.Common.{◌≡◌, reverse}
-use Rattle.lid_assign.specs.Lids.{top_of}
+use Rattle.lid_assign.specs.Lids.{top_among}
+use Rattle.lid_assign.specs.Indexed.{AreBelow}
 use Rattle.lid_assign.proofs.lid_map.top.Given as goal
 
--- the greatest of those seen
-abbrev pub invariant-loop-lid : goal.invariant-loop-lid
-invariant-loop-lid l = l.top ≡ top_of (reverse l.yielded)
+-- the greatest number of those seen; those to come are below the bound
+abbrev pub invariant-loop-port : goal.invariant-loop-port
+invariant-loop-port l = (l.top ≡ top_among l.lmc (reverse l.yielded)) × AreBelow 0xC000 l.lmc l.port-iterator.iter.iter.rest.now

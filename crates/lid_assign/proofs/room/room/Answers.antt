@@ -1,12 +1,12 @@
 -- The least of the usable switches' table rooms.
-use Rattle.std.proofs.Common.{◌≡◌, ap, sym, ◌∙◌, subst, arith, min}
+use Rattle.std.proofs.Common.{ap, ◌∙◌, arith}
 use Rattle.std.specs.List.{filter_map}
 use Rattle.fact_store.specs.View.{cells_of}
 use Rattle.fact_store.specs.Walk.{cells_left}
 use Rattle.lid_assign.specs.Lids.{least_room}
 use Rattle.lid_assign.specs.Rooms.{usable_cap}
 use Rattle.lid_assign.proofs.FreeLids.{at_most}
-use Rattle.lid_assign.proofs.LackOfRoom.{room_walked}
+use Rattle.lid_assign.proofs.FreeLids.{room_walked}
 use Rattle.subnet_view.proofs.Walks.{cell_given}
 use Rattle.lid_assign.proofs.room.room.Goals as goal
 

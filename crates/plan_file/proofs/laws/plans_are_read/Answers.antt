@@ -5,4 +5,4 @@ use Rattle.plan_file.proofs.Printed.{printed_is_read}
 use Rattle.plan_file.proofs.laws.plans_are_read.Goals as goal
 
 pub returns : goal.returns
-returns c = record { law = λ facts range has_room. printed_is_read (plan_of (cells_of facts)) (plans_in_range facts range has_room) }
+returns c = record { law = λ facts range has_room. printed_is_read (plan_of 0 (cells_of facts)) (plans_in_range facts range has_room) }

@@ -1,10 +1,11 @@
-use Rattle.std.proofs.Common.{◌∙◌, ◌≤◌, length, sym, ap, arith}
+use Rattle.std.proofs.Common.{◌≡◌, ◌∙◌, ◌≤◌, length, sym, ap, arith, rules, of_calls}
+use Rattle.std.proofs.lemmas.Fn.{always_returns_same}
 use Rattle.std.specs.List.{flat_map}
 use Rattle.std.specs.Option.{option_copied}
 use Rattle.std.specs.Ordering.{is_lt}
 use Rattle.std.proofs.lemmas.List.{take_all}
 use Rattle.sm_run.specs.Tables.{held_by, held_cmp, in_order}
-use Rattle.sm_run.proofs.Held.{held_ranks, more_held}
+use Rattle.sm_run.proofs.Held.{held_ranks, key_of, more_held}
 use Rattle.sm_run.proofs.Order.{sorted_is_in_order}
 use Rattle.sm_run.proofs.tables.held_lids.Goals as goal
 
@@ -17,5 +18,7 @@ pub returns : goal.returns
 returns c =
     let agents = c.args.fabric.now.agents in
     let all : length agents ≤ c.loop-place.place = omega (arith, c.node_count-place-end.ensures) in
-    sorted_is_in_order (λ x y. is_lt (held_cmp x y)) held_ranks c.loop-place.held.items c.sort.new.self.items c.in_ok-sort.ensures.sorted c.in_ok-sort.ensures.stable
+    let tells = always_returns_same _ (λ a r. r ≡ key_of a.0.now) _ (λ a r f h. search (rules, of_calls)) in
+    sorted_is_in_order (λ x y. is_lt (held_cmp x y)) held_ranks c.loop-place.held.items c.sort_by_key.new.self.items
+    (c.in_ok-sort_by_key.ensures.sorted key_of tells) (c.in_ok-sort_by_key.ensures.stable key_of tells)
     ∙ ap (in_order (λ x y. is_lt (held_cmp x y))) (c.loop-place.invariant ∙ ap (flat_map held_by) (take_all c.loop-place.place agents all))

@@ -4,12 +4,7 @@ use Rattle.port_graph.specs.declared.exit.Exit.{Exit}
 use Rattle.port_graph.proofs.SearchSteps.{all_from_contained}
 use Rattle.spread_routes.proofs.tests.ports_of.Goals as goal
 
-pub candidate-first-requires-clause-lead : goal.candidate-first-requires-clause-lead
-candidate-first-requires-clause-lead c =
+pub candidates-requires-clause-lead : goal.candidates-requires-clause-lead
+candidates-requires-clause-lead c =
     all_from_contained (λ (e : Exit). e.to < length c.args.marks.now) c.at.result.now
     (λ e h. omega (arith, c.requires.all, c.requires.lead c.args.vertex e (subst (λ (xs : List Exit). Contains xs e) c.at.ensures h)))
-
-pub candidate-sixth-requires-clause-lead : goal.candidate-sixth-requires-clause-lead
-candidate-sixth-requires-clause-lead c =
-    all_from_contained (λ (e : Exit). e.to < length c.args.marks.now) c.at-2.result.now
-    (λ e h. omega (arith, c.requires.all, c.requires.lead c.args.vertex e (subst (λ (xs : List Exit). Contains xs e) c.at-2.ensures h)))

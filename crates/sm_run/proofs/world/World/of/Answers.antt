@@ -12,8 +12,8 @@ loop-seat-preserved c =
     let nodes = c.args.topology.now.nodes in
     let seat = c.seat-item.result in
     ap (map seated_value) c.in_ok-push.ensures.items ∙ map-append seated_value c.loop-seat.managers.items _
-    ∙ seated_more nodes c.args.seats.now c.loop-seat.seat-index seat (map seated_value c.loop-seat.managers.items) _ c.loop-seat-test.true c.seat-item.is
-    c.loop-seat.invariant (is_seated nodes seat c.port_guid-guid.result c.new-manager.result c.port_guid-guid.ensures c.new-manager.ensures)
+    ∙ seated_more c.args.lmc nodes c.args.seats.now c.loop-seat.seat-index seat (map seated_value c.loop-seat.managers.items) _ c.loop-seat-test.true c.seat-item.is
+    c.loop-seat.invariant (is_seated c.args.lmc nodes seat c.port_guid-guid.result c.new-manager.result c.port_guid-guid.ensures c.new-manager.ensures)
 
 pub returns : goal.returns
 returns c =
@@ -21,4 +21,4 @@ returns c =
     let made : Simulation → List SeatedValue → WorldValue = λ fabric managers. record { fabric = fabric; managers = managers } in
     ap (λ fabric. made fabric (map seated_value c.loop-seat.managers.items)) c.in_ok-fabric.ensures.fabric
     ∙ ap (made (simulation_of c.args.topology.now 1))
-    (c.loop-seat.invariant ∙ ap (map (new_seated nodes)) (take_all c.loop-seat.seat-index c.args.seats.now c.loop-seat-test.false))
+    (c.loop-seat.invariant ∙ ap (map (new_seated c.args.lmc nodes)) (take_all c.loop-seat.seat-index c.args.seats.now c.loop-seat-test.false))

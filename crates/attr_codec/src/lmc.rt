@@ -1,0 +1,56 @@
+ghost use Rattle.std.specs.Prelude.{◌≡◌, ◌<◌, ◌≤◌, ◌^◌, ◌↔◌, IsSome, IfSome};
+
+use std::marker::Model;
+
+/// The LID mask control of a subnet, 0 to 7: an adapter's port has 2^LMC LIDs, which follow one another
+/// (addressing; subnet management, PortInfo: LMC).
+#[derive(Clone, Copy, Debug, PartialEq, Eq)]
+pub struct Lmc(u8);
+
+impl Model for Lmc {
+    ghost use Rattle.std.specs.Prelude.{ℕ, ◌<◌};
+
+    ghost Value = { ℕ };
+
+    ghost view = { λ a. a.0 };
+
+    ghost invariant = { λ a. a.0 < 8 };
+
+    ghost inverse = { λ n. record { 0 = n } };
+}
+
+impl Lmc {
+    /// One LID a port.
+    pub const ZERO: Self = Lmc(0);
+
+    /// None over 7.
+    pub fn new(number: u8) -> Option<Self>
+        ensures fits { IsSome result ↔ (number < 8) }
+        ensures value { IfSome result (λ lmc. lmc ≡ number) }
+    {
+        if number < 8 { Some(Lmc(number)) } else { None }
+    }
+
+    pub(crate) fn from_bits(number: u8) -> Self
+        requires { number < 8 }
+        ensures { result ≡ number }
+    {
+        Lmc(number)
+    }
+
+    pub fn number(self) -> u8
+        ensures value { result ≡ self }
+        ensures fits { result < 8 }
+    {
+        self.0
+    }
+
+    /// How many LIDs an adapter's port has, 1 to 128.
+    pub fn width(self) -> u16
+        ensures value { result ≡ 2 ^ self }
+        ensures some { 1 ≤ result }
+        ensures few { result ≤ 128 }
+    {
+        1 << self.0
+    }
+}

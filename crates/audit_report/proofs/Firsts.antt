@@ -1,0 +1,50 @@
+-- The first of a list that pass a test, with one element more.
+use Rattle.std.proofs.Common.{◌≡◌, ◌<◌, ◌≤◌, ◌+◌, ℕ, List, [], ◌∷◌, ◌++◌, inl, inr, sym, ap, ◌∙◌, arith, Bool, true, false, cond, length, take, get_or}
+use Rattle.std.specs.Prelude.{filter, nat_lt}
+use Rattle.std.proofs.lemmas.Bool.{cases_lt, lt-ltb, le-ltb}
+use Rattle.std.proofs.lemmas.List.{append-nil, length-append, length-take-le, take_all, take_more, take-append-le}
+use Rattle.std.proofs.lemmas.List.Elements.{filter-append}
+use Rattle.audit_report.specs.Told.{first_of, noted}
+
+module _ {X : Type 0} where
+  -- the first so many of a list with one more
+  abbrev noted_to : ℕ → List X → X → List X
+  noted_to n told x = cond (nat_lt (length told) n) (told ++ x ∷ []) told
+
+  take_one : (n : ℕ) (ys : List X) (x : X) → take n (ys ++ x ∷ []) ≡ noted_to n (take n ys) x
+  take_one n ys x =
+      elim (cases_lt (length ys) n) [
+        | inl h ↦
+            let all : take n ys ≡ ys = take_all n ys (omega arith) in
+            let few : nat_lt (length ys) n ≡ true = lt-ltb (length ys) n h in
+            take_all n (ys ++ x ∷ []) (omega (arith, length-append ys (x ∷ []))) ∙ sym (ap (λ t. cond t (ys ++ x ∷ []) ys) few) ∙ sym (ap (λ zs. noted_to n zs x) all)
+        | inr h ↦
+            let many : nat_lt (length (take n ys)) n ≡ false = le-ltb (length (take n ys)) n (omega (arith, length-take-le n ys h)) in
+            take-append-le n ys (x ∷ []) h ∙ sym (ap (λ t. cond t (take n ys ++ x ∷ []) (take n ys)) many)
+      ]
+
+  pub first_more : (p : X → Bool) (xs : List X) (x : X) → first_of p (xs ++ x ∷ []) ≡ cond (p x) (noted (first_of p xs) x) (first_of p xs)
+  first_more p xs x =
+      ap (λ ys. take 20 ys) (filter-append p xs (x ∷ []))
+      ∙ (elim (p x) as (λ t. take 20 (filter p xs ++ cond t (x ∷ []) []) ≡ cond t (noted (first_of p xs) x) (first_of p xs)) [
+        | true ↦ take_one 20 (filter p xs) x
+        | false ↦ ap (λ ys. take 20 ys) (append-nil (filter p xs))
+      ])
+
+  -- the element at a place passes, and is told
+  pub told_more : (p : X → Bool) (xs : List X) (i : ℕ) (x : X) (told new : List X) → told ≡ first_of p (take i xs) → i < length xs → x ≡ get_or xs i x
+      → p x ≡ true → new ≡ noted told x → new ≡ first_of p (take (i + 1) xs)
+  told_more p xs i x told new h less is passes e =
+      e ∙ ap (λ ys. noted ys x) h ∙ sym (ap (λ t. cond t (noted (first_of p (take i xs)) x) (first_of p (take i xs))) passes)
+      ∙ sym (first_more p (take i xs) x) ∙ sym (ap (first_of p) (take_more xs i x less ∙ ap (λ y. take i xs ++ y ∷ []) (sym is)))
+
+  -- it does not, and is not told
+  pub told_same : (p : X → Bool) (xs : List X) (i : ℕ) (x : X) (told new : List X) → told ≡ first_of p (take i xs) → i < length xs → x ≡ get_or xs i x
+      → p x ≡ false → new ≡ told → new ≡ first_of p (take (i + 1) xs)
+  told_same p xs i x told new h less is fails e =
+      e ∙ h ∙ sym (ap (λ t. cond t (noted (first_of p (take i xs)) x) (first_of p (take i xs))) fails)
+      ∙ sym (first_more p (take i xs) x) ∙ sym (ap (first_of p) (take_more xs i x less ∙ ap (λ y. take i xs ++ y ∷ []) (sym is)))
+
+  -- all were looked at
+  pub told_all : (p : X → Bool) (xs : List X) (i : ℕ) (told : List X) → told ≡ first_of p (take i xs) → length xs ≤ i → told ≡ first_of p xs
+  told_all p xs i told h past = h ∙ ap (first_of p) (take_all i xs past)

@@ -1,0 +1,152 @@
+-- When all packets arrive, and channels can be numbered.
+use Rattle.std.proofs.Common.{◌≡◌, ◌+◌, ℕ, List, [], ◌∷◌, refl, sym, ap, ◌∙◌, subst, arith, inl, inr, Bool, true, false, cond, length}
+use Rattle.std.specs.Prelude.{Contains, Some, IsTrue, ◌↔◌, ◌&&◌, ◌==◌, count_by, filter}
+use Rattle.std.specs.List.{flat_map}
+use Rattle.std.proofs.lemmas.Bool.{and_parts, and_from, eqb-true, eq-eqb}
+use Rattle.std.proofs.lemmas.List.Elements.{Contains-append_left, Contains-append_right, Contains-append_cases}
+use Rattle.std.proofs.lemmas.List.Sums.{sum_by-cons, count_by-le-length}
+use Rattle.fact_store.specs.View.{cells_of}
+use Rattle.subnet_view.specs.declared.end_port.EndPort.{EndPort}
+use Rattle.subnet_view.specs.EndPorts.{end_ports}
+use Rattle.subnet_view.specs.Reading.{Cells}
+use Rattle.subnet_view.proofs.Members.{contains_here, contains_later, contains_cases, contains_none, contains_filter, contains-from_filter, list_any_true, list_any_at}
+use Rattle.subnet_view.proofs.Apart.{contains_map, contains-from_map}
+use Rattle.plan_file.specs.declared.held.HeldLid.{HeldLid}
+use Rattle.plan_file.specs.Held.{HeldPlan}
+use Rattle.audit.specs.declared.end.End.TheVariants.{Taken}
+use Rattle.audit.specs.Network.{Seen}
+use Rattle.audit.specs.Steps.{end_for, is_at}
+use Rattle.audit.specs.Tables.{is_owner, is_same_end}
+use Rattle.audit.proofs.InTime.{end_found, end_is}
+use Rattle.audit.proofs.Judged.{same_ends, same_itself, at_is}
+use Rattle.audit_circles.proofs.Orders.{never_both}
+use Rattle.audit.specs.Steps.{IsBrought}
+use Rattle.audit_report.specs.declared.packet.Packet.{Packet}
+use Rattle.audit_report.specs.declared.tally.Tally.{Tally}
+use Rattle.audit_report.specs.declared.unmatched.Unmatched.{Unmatched}
+use Rattle.audit_report.specs.Packets.{arrives, packet_of, packets_for, packets_of, sent_to}
+use Rattle.audit_report.specs.Passing.{EachArrives, CanRise, Passes, IsCircle, IsFound}
+use Rattle.audit_report.specs.Seats.{in_one_component}
+
+-- a list of lists has what one of them has
+in_lists : (f : HeldLid → List Packet) (lines : List HeldLid) (line : HeldLid) (p : Packet) → Contains lines line → Contains (f line) p → Contains (flat_map f lines) p
+in_lists f [] line p h k = absurd (contains_none line h)
+in_lists f (x ∷ lines) line p h k =
+    elim (contains_cases x line lines h) [
+      | inl e ↦ Contains-append_left (f x) (flat_map f lines) p (subst (λ (y : HeldLid). Contains (f y) p) (sym e) k)
+      | inr later ↦ Contains-append_right (f x) (flat_map f lines) p (in_lists f lines line p later k)
+    ]
+
+from_lists : (f : HeldLid → List Packet) (lines : List HeldLid) (p : Packet) → Contains (flat_map f lines) p → (line : HeldLid) × Contains lines line × Contains (f line) p
+from_lists f [] p h = absurd (contains_none p h)
+from_lists f (x ∷ lines) p h =
+    elim (Contains-append_cases (f x) (flat_map f lines) p h) [
+      | inl k ↦ (x, contains_here x lines, k)
+      | inr later ↦ let i = from_lists f lines p later in (i.0, contains_later x i.0 lines i.1, i.2)
+    ]
+
+-- counting all ------------------------------------------------------------------------
+
+-- an element more
+one_more : (x : Packet) (ps : List Packet) → count_by arrives (x ∷ ps) ≡ cond (arrives x) 1 0 + count_by arrives ps
+one_more x ps = sum_by-cons (λ (p : Packet). cond (arrives p) 1 0) x ps
+
+first_of_all : (x : Packet) (ps : List Packet) (b : Bool) → cond b 1 0 + count_by arrives ps ≡ length ps + 1 → (b ≡ true) × (count_by arrives ps ≡ length ps)
+first_of_all x ps true h = (refl, omega arith)
+first_of_all x ps false h = let most = count_by-le-length arrives ps in absurd (omega arith)
+
+each_arrives : (ps : List Packet) → count_by arrives ps ≡ length ps → (p : Packet) → Contains ps p → arrives p ≡ true
+each_arrives [] h p k = absurd (contains_none p k)
+each_arrives (x ∷ ps) h p k =
+    let parts = first_of_all x ps (arrives x) (omega (arith, one_more x ps, h)) in
+    elim (contains_cases x p ps k) [
+      | inl e ↦ ap arrives (sym e) ∙ parts.0
+      | inr later ↦ each_arrives ps parts.1 p later
+    ]
+
+all_counted : (ps : List Packet) → ((p : Packet) → Contains ps p → arrives p ≡ true) → count_by arrives ps ≡ length ps
+all_counted [] h = refl
+all_counted (x ∷ ps) h =
+    let rest = all_counted ps (λ p k. h p (contains_later x p ps k)) in
+    one_more x ps ∙ ap (λ t. cond t 1 0 + count_by arrives ps) (h x (contains_here x ps)) ∙ (omega (arith, rest))
+
+module _ (cells : Cells) (held : HeldPlan) where
+  -- an end port of the facts is one that is owned
+  owned : (e : EndPort) → Contains (end_ports cells) e → is_owner (end_ports cells) e ≡ true
+  owned e h = list_any_true (is_same_end e) (end_ports cells) e h (same_itself e)
+
+  from_owned : (e : EndPort) → is_owner (end_ports cells) e ≡ true → Contains (end_ports cells) e
+  from_owned e h = let i = list_any_at (is_same_end e) (end_ports cells) h in subst (λ (x : EndPort). Contains (end_ports cells) x) (same_ends e i.0 i.2) i.1
+
+  -- a packet is of a line and of an end port of its component
+  in_packets : (line : HeldLid) (e : EndPort) → Contains held.lids line → Contains (end_ports cells) line.port → Contains (end_ports cells) e
+      → in_one_component cells e line.port ≡ true → Contains (packets_of cells held) (packet_of cells held line e)
+  in_packets line e is_held there is_end joined =
+      let sent : Contains (sent_to cells held line) (packet_of cells held line e) =
+      contains_map (packet_of cells held line) (filter (λ x. in_one_component cells x line.port) (end_ports cells)) e
+      (contains_filter (λ x. in_one_component cells x line.port) (end_ports cells) e is_end joined) in
+      in_lists (packets_for cells held) held.lids line (packet_of cells held line e) is_held
+      (subst (λ (t : Bool). Contains (cond t (sent_to cells held line) []) (packet_of cells held line e)) (sym (owned line.port there)) sent)
+
+  pub record IsSent (p : Packet) : Type 0 where
+    line : HeldLid
+    is_held : Contains held.lids line
+    there : Contains (end_ports cells) line.port
+    source : EndPort
+    is_end : Contains (end_ports cells) source
+    joined : in_one_component cells source line.port ≡ true
+    is : p ≡ packet_of cells held line source
+
+  of_line : (line : HeldLid) (p : Packet) → Contains held.lids line → Contains (packets_for cells held line) p → IsSent p
+  of_line line p is_held h =
+      elim (is_owner (end_ports cells) line.port) as (λ t. is_owner (end_ports cells) line.port ≡ t → Contains (cond t (sent_to cells held line) []) p → IsSent p) [
+        | true ↦ λ q k.
+            let m = contains-from_map (packet_of cells held line) (filter (λ x. in_one_component cells x line.port) (end_ports cells)) p k in
+            let f = contains-from_filter (λ x. in_one_component cells x line.port) (end_ports cells) m.0 m.1 in
+            record { line = line; is_held = is_held; there = from_owned line.port q; source = m.0; is_end = f.0; joined = f.1; is = sym m.2 }
+        | false ↦ λ q k. absurd (contains_none p k)
+      ] refl h
+
+  from_packets : (p : Packet) → Contains (packets_of cells held) p → IsSent p
+  from_packets p h = let i = from_lists (packets_for cells held) held.lids p h in of_line i.0 p i.1 i.2
+
+  -- all arrive exactly where as many arrive as there are
+  arrive_all : count_by arrives (packets_of cells held) ≡ length (packets_of cells held) → EachArrives cells held
+  arrive_all h line is_held e there is_end joined =
+      let packet = packet_of cells held line e in
+      let yes : arrives packet ≡ true = each_arrives (packets_of cells held) h packet (in_packets line e is_held there is_end joined) in
+      subst (IsBrought cells held line.lid e) (at_is line.port (end_for cells held line.lid e) yes) (end_is cells held line.lid e)
+
+  count_all : EachArrives cells held → count_by arrives (packets_of cells held) ≡ length (packets_of cells held)
+  count_all h = all_counted (packets_of cells held) (λ p k.
+      let i = from_packets p k in
+      let end : end_for cells held i.line.lid i.source ≡ Some (Taken i.line.port) =
+      sym (end_found cells held i.line.lid i.source (Some (Taken i.line.port)) (h i.line i.is_held i.source i.there i.is_end i.joined)) in
+      ap arrives i.is ∙ ap (is_at i.line.port) end ∙ same_itself i.line.port)
+
+  -- there is no circle exactly where channels can be numbered
+  no_circle : (circle : List ℕ) → IsCircle cells held circle → CanRise cells held → length circle ≡ 0
+  no_circle [] h k = refl
+  no_circle (channel ∷ later) h k = absurd (never_both cells held k.0 (channel ∷ later) k.1 h)
+
+  can_rise : (circle : List ℕ) → IsCircle cells held circle → length circle ≡ 0 → CanRise cells held
+  can_rise [] h e = h
+  can_rise (channel ∷ later) h e = absurd (omega arith)
+
+pub passes_is : (seen : Seen) (tally : Tally) (unmatched : Unmatched) (circle : List ℕ) (b : Bool) → IsFound seen tally unmatched circle
+    → b ≡ ((tally.arrived == tally.sent) && (length circle == 0)) → IsTrue b ↔ Passes (cells_of seen.facts) seen.held
+passes_is seen tally unmatched circle b found is =
+    let cells = cells_of seen.facts in
+    let held = seen.held in
+    let counted = found.counted in (
+      λ t.
+          let parts = and_parts (tally.arrived == tally.sent) (length circle == 0) (sym is ∙ t) in
+          let same : tally.arrived ≡ tally.sent = eqb-true tally.arrived tally.sent parts.0 in
+          record {
+            arrive = arrive_all cells held (sym counted.arrived ∙ same ∙ counted.sent);
+            rise = can_rise cells held circle found.waits (eqb-true (length circle) 0 parts.1);
+          },
+      λ p. is ∙ and_from (tally.arrived == tally.sent) (length circle == 0)
+          (eq-eqb tally.arrived tally.sent (counted.arrived ∙ count_all cells held p.arrive ∙ sym counted.sent))
+          (eq-eqb (length circle) 0 (no_circle cells held circle found.waits p.rise)),
+    )

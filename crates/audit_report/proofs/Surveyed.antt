@@ -1,0 +1,129 @@
+-- The packets of a line, end port by end port, and those of all lines.
+use Rattle.std.proofs.Common.{◌≡◌, ◌<◌, ◌≤◌, ◌+◌, ℕ, List, [], ◌∷◌, ◌++◌, refl, sym, ap, ◌∙◌, subst, arith, Bool, true, false, cond, length, get_or, map, take, append_assoc}
+use Rattle.std.specs.Prelude.{Option, Some, filter}
+use Rattle.std.specs.List.{flat_map}
+use Rattle.std.proofs.lemmas.List.{append-nil, map-append, take_all, take_more}
+use Rattle.std.proofs.lemmas.List.Concat.{flat_map-append}
+use Rattle.std.proofs.lemmas.List.Elements.{filter-append}
+use Rattle.std.proofs.lemmas.Option.{slice_get-get_or}
+use Rattle.subnet_view.specs.declared.end_port.EndPort.{EndPort}
+use Rattle.subnet_view.specs.EndPorts.{end_ports}
+use Rattle.subnet_view.specs.Reading.{Cells}
+use Rattle.plan_file.specs.declared.held.HeldLid.{HeldLid}
+use Rattle.plan_file.specs.Held.{HeldPlan}
+use Rattle.audit.specs.declared.end.End.{End}
+use Rattle.audit.specs.Steps.{AreBlocks, AreBrought, end_for}
+use Rattle.audit.specs.Tables.{is_owner}
+use Rattle.audit.proofs.InTime.{end_found}
+use Rattle.audit_report.specs.declared.packet.Packet.{Packet}
+use Rattle.audit_report.specs.declared.tally.Tally.{Tally}
+use Rattle.audit_report.specs.Packets.{packet_of, packets_for, packets_of, sent_to}
+use Rattle.audit_report.specs.Seats.{in_one_component}
+use Rattle.audit_report.specs.Tally.{IsTally, IsWith}
+use Rattle.audit_report.proofs.Counted.{tally_more}
+
+module _ (cells : Cells) (held : HeldPlan) (line : HeldLid) where
+  -- the packets of the first end ports
+  abbrev sent_by : ℕ → List Packet
+  sent_by n = map (packet_of cells held line) (filter (λ e. in_one_component cells e line.port) (take n (end_ports cells)))
+
+  -- they are counted besides those before
+  pub record AreCounted (old : Tally) (n : ℕ) (new : Tally) : Type 0 where
+    pub counted : (packets : List Packet) → IsTally packets old → IsTally (packets ++ sent_by n) new
+
+  pub none_counted : (tally : Tally) → AreCounted tally 0 tally
+  none_counted tally = record { counted = λ packets h. subst (λ (ps : List Packet). IsTally ps tally) (sym (append-nil packets)) h }
+
+  -- the packets of one end port more
+  sent_more : (n : ℕ) (e : EndPort) → n < length (end_ports cells) → e ≡ get_or (end_ports cells) n e
+      → sent_by (n + 1) ≡ sent_by n ++ cond (in_one_component cells e line.port) (packet_of cells held line e ∷ []) []
+  sent_more n e h is =
+      let joined : EndPort → Bool = λ x. in_one_component cells x line.port in
+      ap (λ xs. map (packet_of cells held line) (filter joined xs)) (take_more (end_ports cells) n e h ∙ ap (λ x. take n (end_ports cells) ++ x ∷ []) (sym is))
+      ∙ ap (map (packet_of cells held line)) (filter-append joined (take n (end_ports cells)) (e ∷ []))
+      ∙ map-append (packet_of cells held line) (filter joined (take n (end_ports cells))) (cond (joined e) (e ∷ []) [])
+      ∙ ap (λ xs. sent_by n ++ xs) (elim (joined e) as (λ t. map (packet_of cells held line) (cond t (e ∷ []) []) ≡ cond t (packet_of cells held line e ∷ []) []) [
+        | true ↦ refl
+        | false ↦ refl
+      ])
+
+  pub one_counted : (old tally new : Tally) (n : ℕ) (e : EndPort) (packet : Packet) → AreCounted old n tally → n < length (end_ports cells)
+      → e ≡ get_or (end_ports cells) n e → in_one_component cells e line.port ≡ true → packet ≡ packet_of cells held line e → IsWith tally packet new
+      → AreCounted old (n + 1) new
+  one_counted old tally new n e packet h less is joined packet_is w = record {
+    counted = λ packets before.
+        let more = sent_more n e less is ∙ ap (λ t. sent_by n ++ cond t (packet_of cells held line e ∷ []) []) joined ∙ ap (λ p. sent_by n ++ p ∷ []) (sym packet_is) in
+        subst (λ (ps : List Packet). IsTally ps new) (append_assoc packets (sent_by n) (packet ∷ []) ∙ ap (λ ps. packets ++ ps) (sym more))
+        (tally_more (packets ++ sent_by n) tally new packet (h.counted packets before) w);
+  }
+
+  pub none_more : (old tally : Tally) (n : ℕ) (e : EndPort) → AreCounted old n tally → n < length (end_ports cells)
+      → e ≡ get_or (end_ports cells) n e → in_one_component cells e line.port ≡ false → AreCounted old (n + 1) tally
+  none_more old tally n e h less is joined = record {
+    counted = λ packets before.
+        let more = sent_more n e less is ∙ ap (λ t. sent_by n ++ cond t (packet_of cells held line e ∷ []) []) joined ∙ append-nil (sent_by n) in
+        subst (λ (ps : List Packet). IsTally ps tally) (ap (λ ps. packets ++ ps) (sym more)) (h.counted packets before);
+  }
+
+  pub all_counted : (old tally : Tally) (n : ℕ) → AreCounted old n tally → length (end_ports cells) ≤ n
+      → (packets : List Packet) → IsTally packets old → IsTally (packets ++ sent_to cells held line) tally
+  all_counted old tally n h past packets before =
+      let all : sent_by n ≡ sent_to cells held line =
+      ap (λ xs. map (packet_of cells held line) (filter (λ e. in_one_component cells e line.port) xs)) (take_all n (end_ports cells) past) in
+      subst (λ (ps : List Packet). IsTally ps tally) (ap (λ ps. packets ++ ps) all) (h.counted packets before)
+
+  -- the end that is found for an end port's packet
+  pub end_there : (ends : List (Option End)) (n : ℕ) (e : EndPort) (end : Option End) → AreBrought cells held line.lid ends → n < length (end_ports cells)
+      → e ≡ get_or (end_ports cells) n e → end ≡ get_or ends n end → end ≡ end_for cells held line.lid e
+  end_there ends n e end h less is there =
+      let as_many = h.as_many in
+      let within : n < length ends = omega arith in
+      end_found cells held line.lid e end
+      (h.brought n e end (slice_get-get_or (end_ports cells) n e less ∙ ap (λ x. Some x) (sym is)) (slice_get-get_or ends n end within ∙ ap (λ x. Some x) (sym there)))
+
+-- line by line --------------------------------------------------------------------------
+
+-- those of the first lines
+pub record AreSurveyed (cells : Cells) (held : HeldPlan) (lines : List HeldLid) (number : ℕ) (rows : List (List ℕ)) (n : ℕ) (tally : Tally) : Type 0 where
+  pub blocks : AreBlocks held number rows
+  pub counted : IsTally (flat_map (packets_for cells held) (take n lines)) tally
+
+module _ (cells : Cells) (held : HeldPlan) (lines : List HeldLid) where
+  pub none_surveyed : (number : ℕ) (rows : List (List ℕ)) (tally : Tally) → AreBlocks held number rows → IsTally [] tally
+      → AreSurveyed cells held lines number rows 0 tally
+  none_surveyed number rows tally b h = record { blocks = b; counted = h }
+
+  lines_more : (n : ℕ) (line : HeldLid) → n < length lines → line ≡ get_or lines n line
+      → flat_map (packets_for cells held) (take (n + 1) lines) ≡ flat_map (packets_for cells held) (take n lines) ++ packets_for cells held line
+  lines_more n line h is =
+      ap (flat_map (packets_for cells held)) (take_more lines n line h ∙ ap (λ x. take n lines ++ x ∷ []) (sym is))
+      ∙ flat_map-append (packets_for cells held) (take n lines) (line ∷ [])
+      ∙ ap (λ ps. flat_map (packets_for cells held) (take n lines) ++ ps) (append-nil (packets_for cells held line))
+
+  pub line_surveyed : (before number : ℕ) (old rows : List (List ℕ)) (n : ℕ) (line : HeldLid) (tally new : Tally)
+      → AreSurveyed cells held lines before old n tally → AreBlocks held number rows → n < length lines → line ≡ get_or lines n line
+      → is_owner (end_ports cells) line.port ≡ true
+      → ((packets : List Packet) → IsTally packets tally → IsTally (packets ++ sent_to cells held line) new) → AreSurveyed cells held lines number rows (n + 1) new
+  line_surveyed before number old rows n line tally new h b less is there add = record {
+    blocks = b;
+    counted =
+        let more = lines_more n line less is ∙ ap (λ t. flat_map (packets_for cells held) (take n lines) ++ cond t (sent_to cells held line) []) there in
+        subst (λ (ps : List Packet). IsTally ps new) (sym more) (add (flat_map (packets_for cells held) (take n lines)) h.counted);
+  }
+
+  pub line_passed : (before number : ℕ) (old rows : List (List ℕ)) (n : ℕ) (line : HeldLid) (tally : Tally)
+      → AreSurveyed cells held lines before old n tally → AreBlocks held number rows → n < length lines → line ≡ get_or lines n line
+      → is_owner (end_ports cells) line.port ≡ false → AreSurveyed cells held lines number rows (n + 1) tally
+  line_passed before number old rows n line tally h b less is there = record {
+    blocks = b;
+    counted =
+        let more =
+        lines_more n line less is ∙ ap (λ t. flat_map (packets_for cells held) (take n lines) ++ cond t (sent_to cells held line) []) there
+        ∙ append-nil (flat_map (packets_for cells held) (take n lines)) in
+        subst (λ (ps : List Packet). IsTally ps tally) (sym more) h.counted;
+  }
+
+  pub all_surveyed : (number : ℕ) (rows : List (List ℕ)) (n : ℕ) (tally : Tally) → AreSurveyed cells held lines number rows n tally
+      → lines ≡ held.lids → length lines ≤ n → IsTally (packets_of cells held) tally
+  all_surveyed number rows n tally h are past =
+      subst (λ (ls : List HeldLid). IsTally (flat_map (packets_for cells held) ls) tally) (take_all n lines past ∙ are) h.counted

@@ -1,0 +1,15 @@
+-- The lines of a list's elements, written one after another.
+use Rattle.std.proofs.Common.{◌≡◌, ◌<◌, ◌+◌, ℕ, suc, List, [], ◌∷◌, ◌++◌, Option, sym, ap, ◌∙◌, subst, arith, length, get_or, take, drop}
+use Rattle.std.specs.Io.KnownBytes.{Appends}
+use Rattle.std.proofs.lemmas.List.{take_more}
+use Rattle.std.proofs.Math.Seq.{drop-cons}
+use Rattle.record_file.proofs.Writing.{HasWritten, written_more}
+
+pub written_next : {X : Type 0} (text : X → List ℕ) (a b c : Option (List ℕ)) (xs : List X) (i : ℕ) (x : X) → HasWritten text a b (take i xs) (drop i xs) xs
+    → i < length xs → x ≡ get_or xs i x → Appends b c (text x) → HasWritten text a c (take (i + 1) xs) (drop (i + 1) xs) xs
+written_next {X} text a b c xs i x h less is wrote =
+    let e : suc i ≡ i + 1 = omega arith in
+    let next : drop i xs ≡ x ∷ drop (i + 1) xs = drop-cons xs i x less ∙ ap (λ y. y ∷ drop (suc i) xs) (sym is) ∙ ap (λ n. x ∷ drop n xs) e in
+    let seen : take (i + 1) xs ≡ take i xs ++ x ∷ [] = take_more xs i x less ∙ ap (λ y. take i xs ++ y ∷ []) (sym is) in
+    subst (λ (given : List X). HasWritten text a c given (drop (i + 1) xs) xs) (sym seen)
+    (written_more text a b c (take i xs) (drop i xs) (drop (i + 1) xs) xs x h next wrote)

@@ -1,0 +1,64 @@
+-- When the tables that a subnet's switches hold pass.
+use Rattle.std.specs.Prelude.{◌≡◌, ℕ, true, List, [], ◌∷◌, Contains, Some}
+use Rattle.std.specs.Coded.{Coded, code_by, coded×, coded_ℕ}
+use Rattle.std.specs.Prelude.{refl}
+use base.Stored.{coded_list}
+use Rattle.fact_store.specs.View.{Facts, cells_of}
+use Rattle.fact_store.specs.Coded.{facts_code}
+use Rattle.subnet_view.specs.declared.end_port.EndPort.{EndPort}
+use Rattle.subnet_view.specs.EndPorts.{end_ports}
+use Rattle.subnet_view.specs.Reading.{Cells}
+use Rattle.plan_file.specs.contracts.held.Held as held_plan
+use Rattle.plan_file.specs.declared.held.HeldLid.{HeldLid}
+use Rattle.plan_file.specs.Held.{HeldPlan}
+use Rattle.audit.specs.declared.end.End.TheVariants.{Taken}
+use Rattle.audit.specs.Network.{Seen}
+use Rattle.audit.specs.Steps.{IsBrought}
+use Rattle.audit_circles.specs.Waiting.{RiseOnWays, WaitInCircle}
+use Rattle.audit_report.specs.declared.tally.Tally.{Tally}
+use Rattle.audit_report.specs.declared.unmatched.Unmatched.{Unmatched}
+use Rattle.audit_report.specs.Packets.{packets_of}
+use Rattle.audit_report.specs.Seats.{in_one_component}
+use Rattle.audit_report.specs.Tally.{IsTally}
+use Rattle.audit_report.specs.Unmatched.{IsUnmatched}
+
+-- an end port of the facts holds the LID, and each packet for it that an end port of its component sends is delivered there
+abbrev pub ArriveAt : Cells → HeldPlan → HeldLid → Type 0
+ArriveAt cells held line = (e : EndPort) → Contains (end_ports cells) line.port → Contains (end_ports cells) e → in_one_component cells e line.port ≡ true
+    → IsBrought cells held line.lid e (Some (Taken line.port))
+
+-- each packet from every end port of a component for every LID that an end port there holds is delivered at that end port
+abbrev pub EachArrives : Cells → HeldPlan → Type 0
+EachArrives cells held = (line : HeldLid) → Contains held.lids line → ArriveAt cells held line
+
+-- channels can be numbered so that the numbers rise on every way
+abbrev pub CanRise : Cells → HeldPlan → Type 0
+CanRise cells held = (numbers : List ℕ) × RiseOnWays cells held numbers
+
+-- both
+pub record Passes (cells : Cells) (held : HeldPlan) : Type 0 where
+  pub arrive : EachArrives cells held
+  pub rise : CanRise cells held
+
+-- channels that wait for each other in a circle; none where they can be numbered so
+abbrev pub IsCircle : Cells → HeldPlan → List ℕ → Type 0
+IsCircle cells held [] = CanRise cells held
+IsCircle cells held (channel ∷ later) = WaitInCircle cells held (channel ∷ later)
+
+-- facts and tables, and the circle that is told
+pub record Audited : Type 0 where
+  pub facts : Facts
+  pub held : HeldPlan
+  pub circle : List ℕ
+
+-- stored as pairs
+abbrev pub audited_code : Coded Audited
+audited_code =
+    code_by (Facts × (HeldPlan × List ℕ)) (coded× facts_code (coded× (held_plan.the_row).coded (coded_list coded_ℕ))) (λ a. (a.facts, (a.held, a.circle)))
+    (λ p. record { facts = p.0; held = p.1.0; circle = p.1.1 }) (λ _. refl)
+
+-- what is found of facts and tables
+pub record IsFound (seen : Seen) (tally : Tally) (unmatched : Unmatched) (circle : List ℕ) : Type 0 where
+  pub counted : IsTally (packets_of (cells_of seen.facts) seen.held) tally
+  pub differ : IsUnmatched (cells_of seen.facts) seen.held unmatched
+  pub waits : IsCircle (cells_of seen.facts) seen.held circle

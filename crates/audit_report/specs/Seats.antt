@@ -1,0 +1,40 @@
+-- Which end ports lie in one component: those at switches of one, and two adapter ports with a wire between them.
+use Rattle.std.specs.Prelude.{ℕ, Bool, false, ◌==◌, ◌||◌, Option, None, Some, option_map, option_and_then}
+use Rattle.std.specs.Option.{option_map_or}
+use Rattle.subnet_view.specs.declared.end_port.EndPort.{EndPort}
+use Rattle.subnet_view.specs.Reading.{Cells}
+use Rattle.subnet_view.specs.Wires.{across, is_at}
+use Rattle.updown_routes.specs.Graph.{graph_of}
+use Rattle.updown_routes.specs.Ranks.{root_of}
+use Rattle.lft_blocks.specs.Entries.{home_of}
+use Rattle.audit.specs.Tables.{is_same_end}
+use Rattle.audit_report.specs.declared.seat.Seat.{Seat}
+
+-- the usable switch at which an end port lies: its own, or the one to which its wire leads
+abbrev pub switch_of : Cells → EndPort → Option ℕ
+switch_of cells e = option_map (λ h. h.0) (home_of cells e)
+
+-- the root of that switch's component
+abbrev pub root_at : Cells → EndPort → Option ℕ
+root_at cells e = option_and_then (root_of (graph_of cells)) (switch_of cells e)
+
+abbrev pub seat_of : Cells → EndPort → Seat
+seat_of cells e = record { port = e; root = root_at cells e; across = across cells e.node e.port }
+
+-- two components with roots are one where their roots are
+abbrev pub is_one_root : Option ℕ → Option ℕ → Bool
+is_one_root None s = false
+is_one_root (Some r) None = false
+is_one_root (Some r) (Some s) = r == s
+
+-- a wire leads to the port
+abbrev pub leads_to : Option (ℕ × ℕ) → EndPort → Bool
+leads_to far e = option_map_or (is_at e.node e.port) far false
+
+-- one port, at switches of one component, or with a wire between them
+abbrev pub are_joined : Seat → Seat → Bool
+are_joined a b = is_same_end a.port b.port || is_one_root a.root b.root || leads_to a.across b.port
+
+-- two end ports lie in one component
+abbrev pub in_one_component : Cells → EndPort → EndPort → Bool
+in_one_component cells e x = are_joined (seat_of cells e) (seat_of cells x)

@@ -1,0 +1,77 @@
+ghost use Rattle.std.specs.Prelude.{◌≡◌, ◌↔◌, IfOk, IsTrue};
+ghost use Rattle.fact_store.specs.View.{cells_of};
+ghost use Rattle.audit_report.specs.Passing.{IsCircle, Passes};
+
+use crate::seat::seats;
+use crate::survey::survey;
+use crate::tally::Tally;
+use crate::unmatched::Unmatched;
+use audit::Network;
+use audit_circles::channel_order;
+use channel_order::ChannelOrder;
+use fact_store::{Refused, Store};
+use plan_file::Held;
+use std::alloc::{AllocError, Global};
+use std::marker::Model;
+
+/// What the tables that switches hold do with the packets of a subnet.
+#[derive(Drop)]
+pub struct Audit<'a> {
+    pub(crate) network: Network<'a>,
+    pub(crate) tally: Tally,
+    pub(crate) unmatched: Unmatched,
+    /// Channels that wait for each other in a circle; none where there is no circle.
+    pub(crate) circle: Vec<usize>,
+}
+
+impl<'a> Model for Audit<'a> {
+    ghost use Rattle.audit_report.specs.Passing.{Audited, audited_code, IsFound};
+
+    ghost Value = { Audited };
+
+    ghost coded = { audited_code };
+
+    ghost view = { λ a. record { facts = a.network.facts; held = a.network.held; circle = a.circle.items } };
+
+    ghost invariant = { λ a. IsFound a.network a.tally a.unmatched a.circle.items };
+}
+
+impl<'a> Audit<'a> {
+    /// Follows the packets that the end ports of the view send to the LIDs which are held, each from every end port of the
+    /// component in which the LID's end port lies, by these tables; and orders channels. Takes what `Network::ends`
+    /// and `Network::exits` do for each LID, and a step for each two end ports.
+    pub fn of(alloc: Global, store: &'a Store, held: &'a Held) -> Result<Self, Refused>
+        ensures facts { IfOk result (λ audit. audit.facts ≡ store.now) }
+        ensures held { IfOk result (λ audit. audit.held ≡ held.now) }
+        ensures circle { IfOk result (λ audit. IsCircle (cells_of store.now) held.now audit.circle) }
+    {
+        let network = Network::of(alloc, store, held)?;
+        let seats = seats(alloc, store)?;
+        let tally = survey(alloc, &network, &seats)?;
+        let unmatched = Unmatched::of(alloc, store, held, &seats)?;
+        let circle = circle_of(alloc, &network)?;
+        Ok(Audit {
+            network,
+            tally,
+            unmatched,
+            circle,
+        })
+    }
+
+    /// Whether each packet arrives, and there is no circle.
+    pub fn passes(&self) -> bool
+        ensures { IsTrue result ↔ Passes (cells_of self.now.facts) self.now.held }
+    {
+        self.tally.arrived == self.tally.sent && self.circle.is_empty()
+    }
+}
+
+/// Channels that wait for each other in a circle; none where there is no circle.
+fn circle_of(alloc: Global, network: &Network) -> Result<Vec<usize>, AllocError>
+    ensures { IfOk result (λ circle. IsCircle (cells_of network.now.facts) network.now.held circle.items) }
+{
+    match channel_order(alloc, network)? {
+        ChannelOrder::Rises(_) => Ok(Vec::new(alloc)),
+        ChannelOrder::Circle(channels) => Ok(channels),
+    }
+}

@@ -1,0 +1,140 @@
+//! Where end ports lie: which of them are in one component.
+ghost use Rattle.std.specs.Prelude.{◌≡◌, IfOk, find, map};
+ghost use Rattle.fact_store.specs.View.{cells_of};
+ghost use Rattle.subnet_view.specs.EndPorts.{end_ports};
+ghost use Rattle.updown_routes.specs.Graph.{graph_of, guids_of};
+ghost use Rattle.updown_routes.specs.Ranks.{root_of};
+ghost use Rattle.audit.specs.Tables.{is_same_end};
+ghost use Rattle.audit_report.specs.Seats.{are_joined, is_one_root, leads_to, root_at, seat_of, switch_of};
+
+use fact_store::{Refused, Store};
+use smp_bytes::{Guid, PortNum};
+use std::alloc::{AllocError, Global};
+use subnet_view::{EndPort, Wires, end_ports, is_usable};
+use updown_routes::Graph;
+
+/// Where an end port lies.
+#[derive(Clone, Copy, Debug, PartialEq, Eq)]
+pub(crate) struct Seat {
+    pub(crate) port: EndPort,
+    /// The least GUID of the switches in its component.
+    pub(crate) root: Option<Guid>,
+    /// The port at the other end of its wire.
+    pub(crate) across: Option<(Guid, PortNum)>,
+}
+
+impl Seat {
+    /// Whether the two end ports lie in one component.
+    pub(crate) fn is_joined_to(&self, other: &Seat) -> bool
+        ensures { result ≡ are_joined self.now other.now }
+    {
+        is_same_end(&self.port, &other.port)
+            || is_one_root(self.root, other.root)
+            || leads_to(self.across, &other.port)
+    }
+}
+
+/// Whether two end ports are one.
+pub(crate) fn is_same_end(port: &EndPort, other: &EndPort) -> bool
+    ensures { result ≡ is_same_end port.now other.now }
+{
+    other.node == port.node && other.port == port.port
+}
+
+/// Whether two components that have roots are one.
+fn is_one_root(one: Option<Guid>, other: Option<Guid>) -> bool
+    ensures { result ≡ is_one_root one other }
+{
+    match (one, other) {
+        (Some(one), Some(other)) => one == other,
+        _ => false,
+    }
+}
+
+/// Whether a wire leads to the port.
+fn leads_to(far: Option<(Guid, PortNum)>, port: &EndPort) -> bool
+    ensures { result ≡ leads_to far port.now }
+{
+    match far {
+        Some((node, number)) => port.node == node && port.port == number,
+        None => false,
+    }
+}
+
+/// The end ports of the view, in their order. Takes what a graph of the switches takes, and some seven searches for each.
+pub(crate) fn seats(alloc: Global, store: &Store) -> Result<Vec<Seat>, Refused>
+    ensures { IfOk result (λ seats. seats.items
+        ≡ map (seat_of (cells_of store.now)) (end_ports (cells_of store.now))) }
+{
+    let wires = Wires::of(alloc, store)?;
+    let graph = Graph::of(alloc, &wires)?;
+    let roots = graph.roots(alloc)?;
+    let ports = end_ports(alloc, store)?;
+    Ok(seats_of(alloc, &wires, &graph, &roots, &ports)?)
+}
+
+/// Where each of these end ports lies.
+fn seats_of(
+    alloc: Global,
+    wires: &Wires,
+    graph: &Graph,
+    roots: &[Option<Guid>],
+    ports: &[EndPort],
+) -> Result<Vec<Seat>, AllocError>
+    requires graph { graph.now ≡ graph_of (cells_of wires.now) }
+    requires roots { roots.now ≡ map (root_of graph.now) (guids_of graph.now) }
+    ensures { IfOk result (λ seats. seats.items ≡ map (seat_of (cells_of wires.now)) ports.now) }
+{
+    let mut seats = Vec::with_capacity(alloc, ports.len())?;
+    for port in ports {
+        seats.push(seat_of(wires, graph, roots, port))?;
+    }
+    Ok(seats)
+}
+
+/// Where an end port lies.
+fn seat_of(wires: &Wires, graph: &Graph, roots: &[Option<Guid>], port: &EndPort) -> Seat
+    requires graph { graph.now ≡ graph_of (cells_of wires.now) }
+    requires roots { roots.now ≡ map (root_of graph.now) (guids_of graph.now) }
+    ensures { result ≡ seat_of (cells_of wires.now) port.now }
+{
+    let root = root_at(wires, graph, roots, port);
+    let across = wires.across(port.node, port.port);
+    Seat {
+        port: *port,
+        root,
+        across,
+    }
+}
+
+/// The root of an end port's component.
+fn root_at(wires: &Wires, graph: &Graph, roots: &[Option<Guid>], port: &EndPort) -> Option<Guid>
+    requires graph { graph.now ≡ graph_of (cells_of wires.now) }
+    requires roots { roots.now ≡ map (root_of graph.now) (guids_of graph.now) }
+    ensures { result ≡ root_at (cells_of wires.now) port.now }
+{
+    let switch = switch_of(wires, port)?;
+    let index = graph.index_of(switch)?;
+    roots[index]
+}
+
+/// The usable switch at which an end port lies.
+fn switch_of(wires: &Wires, port: &EndPort) -> Option<Guid>
+    ensures { result ≡ switch_of (cells_of wires.now) port.now }
+{
+    if is_usable(wires.store(), port.node) {
+        return Some(port.node);
+    }
+    let (switch, _) = wires.attached(port.node, port.port)?;
+    Some(switch)
+}
+
+/// The seat of a port, where it is one of these.
+pub(crate) fn seat_at(seats: &[Seat], port: &EndPort) -> Option<Seat>
+    ensures { result ≡ find (λ seat. is_same_end port.now seat.port) seats.now }
+{
+    seats
+        .iter()
+        .copied()
+        .find(|seat| is_same_end(port, &seat.port))
+}

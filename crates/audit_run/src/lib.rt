@@ -1,0 +1,10 @@
+//! What the program does with the tables that a subnet's switches hold and files of records: it reads them, and writes
+//! how packets fare.
+#![tactic(auto)]
+
+mod fault;
+mod run;
+mod tables;
+
+pub use fault::AuditFault;
+pub use run::run_audit;

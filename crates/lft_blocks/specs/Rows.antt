@@ -1,0 +1,69 @@
+-- The entries of each switch, LID by LID, as they are written from target to target.
+use Rattle.std.specs.Prelude.{◌≡◌, ◌<◌, ℕ, ◌+◌, ◌*◌, Bool, false, List, [], ◌∷◌, map, filter, length, Option, None, Some, ◌==◌, nat_lt, unwrap_or, option_map, slice_index, slice_index_or, slice_set, if◌then◌else◌}
+use Rattle.std.specs.List.{range_with_len}
+use Rattle.spread_routes.specs.Orders.{numbers_from}
+use Rattle.lft_blocks.specs.declared.home.Home.{Home}
+use Rattle.lft_blocks.specs.Entries.{Next}
+use Rattle.lft_blocks.specs.Homes.{meant}
+use Rattle.lft_blocks.specs.Plan.{SwitchTable}
+
+-- the home of a LID, by the GUID of its switch
+abbrev pub placed_home : List ℕ → List (Option Home) → ℕ → Option (ℕ × ℕ)
+placed_home guids homes lid = option_map (meant guids) (slice_index_or homes lid None)
+
+-- whether a home lies at the switch at an index
+abbrev pub is_home_at : ℕ → Option Home → Bool
+is_home_at t None = false
+is_home_at t (Some h) = h.switch == t
+
+-- the LIDs whose homes lie there
+abbrev pub lids_at : List (Option Home) → ℕ → List ℕ
+lids_at homes t = filter (λ lid. is_home_at t (slice_index_or homes lid None)) (numbers_from 0 (length homes))
+
+-- the port of a home, and 255 of none
+abbrev pub home_port : Option Home → ℕ
+home_port None = 255
+home_port (Some h) = h.port
+
+-- the entry for a LID: at its home's switch the home's port, elsewhere this port, and 255 where there is none
+abbrev pub entry_by : List (Option Home) → Bool → ℕ → Option ℕ → ℕ
+entry_by homes is_own lid port = if is_own then home_port (slice_index_or homes lid None) else unwrap_or port 255
+
+-- a row with such entries for these LIDs
+abbrev pub written : List (Option Home) → Bool → List ℕ → List ℕ → List (Option ℕ) → List ℕ
+written homes is_own row [] ports = row
+written homes is_own row (lid ∷ lids) [] = row
+written homes is_own row (lid ∷ lids) (port ∷ ports) = written homes is_own (slice_set row lid (entry_by homes is_own lid port)) lids ports
+
+-- the rows of all switches, towards the one at an index
+abbrev pub AreWritten : List (Option Home) → ℕ → List ℕ → List (List (Option ℕ)) → List (List ℕ) → List (List ℕ) → Type 0
+AreWritten homes target lids ports old new = (length new ≡ length old)
+    × ((own : ℕ) → own < length old → slice_index_or new own [] ≡ written homes (own == target) (slice_index_or old own []) lids (slice_index_or ports own []))
+
+-- the entry for a LID of the switch at an index, where its home's switch has an index less than t, and else 255
+abbrev pub entry_before : Next → List ℕ → ℕ → ℕ → ℕ → Option Home → ℕ
+entry_before next guids t own lid None = 255
+entry_before next guids t own lid (Some h) =
+    if nat_lt h.switch t then (if h.switch == own then h.port else unwrap_or (next lid (slice_index guids own) (slice_index guids h.switch)) 255) else 255
+
+-- a row of such entries
+pub record IsRow (next : Next) (guids : List ℕ) (homes : List (Option Home)) (t own : ℕ) (row : List ℕ) : Type 0 where
+  pub all : length row ≡ length homes
+  pub entries : (lid : ℕ) → lid < length homes → slice_index row lid ≡ entry_before next guids t own lid (slice_index_or homes lid None)
+
+-- the rows of all switches
+pub record AreRows (next : Next) (guids : List ℕ) (homes : List (Option Home)) (t : ℕ) (rows : List (List ℕ)) : Type 0 where
+  pub all : length rows ≡ length guids
+  pub each : (own : ℕ) → own < length guids → IsRow next guids homes t own (slice_index_or rows own [])
+
+-- block b of a row
+abbrev pub block_of_row : List ℕ → ℕ → List ℕ
+block_of_row row b = map (λ i. slice_index row (64 * b + i)) (range_with_len 0 64)
+
+-- so many blocks
+abbrev pub blocks_of_row : List ℕ → ℕ → List (List ℕ)
+blocks_of_row row count = map (block_of_row row) (range_with_len 0 count)
+
+-- the table of the switch at an index, by its row
+abbrev pub table_of_row : List ℕ → List (List ℕ) → ℕ → ℕ → SwitchTable
+table_of_row guids rows count own = record { guid = slice_index guids own; blocks = blocks_of_row (slice_index_or rows own []) count }

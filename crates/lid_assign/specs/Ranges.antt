@@ -1,0 +1,52 @@
+-- The numbers of an end port: as many as its port has LIDs, from its LID on (addressing chapter, base LID and LMC).
+use Rattle.std.specs.Prelude.{◌≡◌, ◌↔◌, ◌<◌, ◌≤◌, ◌+◌, ◌%◌, ◌^◌, ℕ, Bool, ◌==◌, ◌&&◌, nat_le, nat_lt, IsTrue, if◌then◌else◌}
+use Rattle.smp_bytes.specs.LidRange.{is_among}
+use Rattle.subnet_view.specs.declared.end_port.EndPort.{EndPort}
+
+-- the LMC of an end port: 0 of port 0, which is a switch's, and else the subnet's
+abbrev pub lmc_at : ℕ → EndPort → ℕ
+lmc_at lmc e = if e.port == 0 then 0 else lmc
+
+-- how many LIDs it has
+abbrev pub width_of : ℕ → EndPort → ℕ
+width_of lmc e = 2 ^ lmc_at lmc e
+
+-- numbers that follow one another: the first one, and how many they are
+pub record Range : Type 0 where
+  pub first : ℕ
+  pub width : ℕ
+
+-- the numbers of an end port with this LID
+abbrev pub range_at : ℕ → EndPort → ℕ → Range
+range_at lmc e lid = record { first = lid; width = width_of lmc e }
+
+-- the number is one of the range
+abbrev pub is_in : Range → ℕ → Bool
+is_in r n = is_among r.first r.width n
+
+-- the ranges have a number in common
+abbrev pub meets : Range → Range → Bool
+meets a b = nat_lt a.first (b.first + b.width) && nat_lt b.first (a.first + a.width)
+
+-- the range can be an end port's below the room: it begins at a multiple of its width, and not at 0, and its last number is below the room
+abbrev pub fits : ℕ → Range → Bool
+fits room r = nat_le 1 r.first && (r.first % r.width == 0 && nat_le (r.first + r.width) room)
+
+-- the same in words: -------------------------------------------------------------
+
+abbrev pub IsIn : Range → ℕ → Type 0
+IsIn r n = (r.first ≤ n) × (n < r.first + r.width)
+
+-- a number that two ranges have in common
+abbrev pub IsInBoth : Range → Range → ℕ → Type 0
+IsInBoth a b n = IsIn a n × IsIn b n
+
+pub record Fits (room : ℕ) (r : Range) : Type 0 where
+  pub not_0 : 1 ≤ r.first
+  pub aligned : r.first % r.width ≡ 0
+  pub in_room : r.first + r.width ≤ room
+
+-- the tests say what the words say, of ranges that have a number
+abbrev pub RangesLaw : Type 0
+RangesLaw = (room n : ℕ) (a b : Range) → 1 ≤ a.width → 1 ≤ b.width
+    → (IsTrue (is_in a n) ↔ IsIn a n) × (IsTrue (meets a b) ↔ ((k : ℕ) × IsInBoth a b k)) × (IsTrue (fits room a) ↔ Fits room a)

@@ -1,0 +1,67 @@
+//! The end ports in their order, one after the other, without memory.
+ghost use Rattle.std.specs.Prelude.{◌≡◌, [], ◌∷◌, Some, MatchOption};
+ghost use Rattle.fact_store.specs.View.{cells_of};
+ghost use Rattle.subnet_view.specs.EndPorts.{comes_before, ports_after};
+ghost use Rattle.subnet_view.specs.NextEndPort.{is_after, is_before, nearer};
+
+use crate::end_port::{EndPort, guid_and_port, sort_key};
+use fact_store::Store;
+use smp_bytes::Guid;
+
+/// The end port that comes after another one in their order, with its port GUID; the first one where none is named. Takes
+/// no memory, and walks the cells.
+pub fn next_end_port(store: &Store, last: Option<(Guid, EndPort)>) -> Option<(Guid, EndPort)>
+    ensures { MatchOption result (ports_after (cells_of store.now) last ≡ [])
+        (λ end. ports_after (cells_of store.now) last
+        ≡ end ∷ ports_after (cells_of store.now) (Some end)) }
+{
+    let mut next = None;
+    for sighting in store.cells() {
+        if let Some(end) = guid_and_port(store, &sighting) {
+            next = nearer(&last, next, end);
+        }
+    }
+    next
+}
+
+/// The end port, where it comes after the last one and before the next one so far; else that one.
+fn nearer(
+    last: &Option<(Guid, EndPort)>,
+    next: Option<(Guid, EndPort)>,
+    end: (Guid, EndPort),
+) -> Option<(Guid, EndPort)>
+    ensures { result ≡ nearer last.now next end }
+{
+    if is_after(last, &end) && is_before(&next, &end) {
+        Some(end)
+    } else {
+        next
+    }
+}
+
+/// Whether an end port comes after the last one, where there is one.
+fn is_after(last: &Option<(Guid, EndPort)>, end: &(Guid, EndPort)) -> bool
+    ensures { result ≡ is_after last.now end.now }
+{
+    match last {
+        Some(last) => comes_before(last, end),
+        None => true,
+    }
+}
+
+/// Whether an end port comes before the next one, where there is one.
+fn is_before(next: &Option<(Guid, EndPort)>, end: &(Guid, EndPort)) -> bool
+    ensures { result ≡ is_before next.now end.now }
+{
+    match next {
+        Some(next) => comes_before(end, next),
+        None => true,
+    }
+}
+
+/// Whether one end port comes before another.
+fn comes_before(a: &(Guid, EndPort), b: &(Guid, EndPort)) -> bool
+    ensures { result ≡ comes_before a.now b.now }
+{
+    sort_key(a).as_slice() < sort_key(b).as_slice()
+}

@@ -1,0 +1,118 @@
+"""Tables of two switches and of a ring of five, and how an audit of them ends. Worked out by hand from docs/FORMATS.md."""
+from built_program import Ended, prints, refused
+
+# Adapters 100 at port 2 of switch 10 and 200 at port 2 of switch 20, which have a wire between their ports 1.
+SWITCHES, ADAPTERS = (0x10, 0x20), (0x100, 0x200)
+WIRES = "10/1-20/1 10/2-100/1 20/2-200/1"
+LIDS = "1 10/0 2 20/0 3 100/1 4 200/1"
+GOOD = "10 0 1 2 1", "20 1 0 1 2"
+
+# A ring of five switches, with a wire from the port 1 of each to the port 2 of the next.
+RING = tuple(range(0x10, 0x60, 0x10))
+RING_WIRES = " ".join(f"{guid:x}/1-{RING[(i + 1) % 5]:x}/2" for i, guid in enumerate(RING))
+RING_LIDS = " ".join(f"{i + 1} {guid:x}/0" for i, guid in enumerate(RING))
+
+
+def ring(*rows):
+    return [f"{guid:x} {row}" for guid, row in zip(RING, rows)]
+
+
+def named(word):
+    guid, port = word.split("/")
+    return f"{guid.rjust(16, '0')}/{port}"
+
+
+def spelled(text):
+    """The lines of an audit, with GUIDs and ports in full."""
+    words = [[named(word) if "/" in word else word for word in line.split(" ")] for line in text.split("\n")]
+    return "\n".join(" ".join(line) for line in words)
+
+
+def found(text):
+    """Packets that do not arrive, or a circle."""
+    return Ended(1, b"", spelled(text).encode())
+
+
+def lost(at, *packets):
+    return "".join(f"lost {packet} at {at}\n" for packet in packets)
+
+
+AT_10, AT_20, AT_100 = f"{0x10:016x}", f"{0x20:016x}", f"{0x100:016x}"
+
+
+def tables(plan):
+    """Each with its title, the text of tables, and how the audit ends."""
+    good = plan(LIDS, *GOOD).printed.decode()
+    lines = good.splitlines()
+    yield "tables by which all arrive", good, prints("pairs 16 arrive 16\ncircle none\n")
+    yield (
+        "an entry to a port without a wire",
+        plan(LIDS, "10 0 1 2 3", GOOD[1]).printed.decode(),
+        found("pairs 16 arrive 14\n" + lost(f"{AT_10} by 3", "10/0 4", "100/1 4") + "circle none\n"),
+    )
+    yield (
+        "an entry to the wrong neighbour",
+        plan(LIDS, "10 0 2 2 1", GOOD[1]).printed.decode(),
+        found("pairs 16 arrive 14\n" + lost(AT_100, "10/0 2", "100/1 2") + "circle none\n"),
+    )
+    yield (
+        "round between two switches",
+        plan(LIDS, GOOD[0], "20 1 0 1 1").printed.decode(),
+        found("pairs 16 arrive 13\nround 10/0 4\nround 20/0 4\nround 100/1 4\ncircle 10/1 20/1\n"),
+    )
+    all_lost = "20/0 1", "200/1 1", "10/0 2", "20/0 2", "100/1 2", "200/1 2", "20/0 3", "200/1 3", "10/0 4", "20/0 4", "100/1 4"
+    without = found("pairs 16 arrive 5\n" + lost(f"{AT_20} by 255", *all_lost) + "circle none\n")
+    yield "a switch without its block", "\n".join(lines[:-1]) + "\n", without
+    tableless = without.printed.decode().replace("circle", f"tableless {AT_20}\ncircle")
+    yield "a switch without tables", "\n".join(lines[:-2]) + "\n", found(tableless)
+    yield (
+        "a top too low",
+        good.replace(f"switch {AT_10} top 4", f"switch {AT_10} top 3"),
+        found("pairs 16 arrive 14\n" + lost(f"{AT_10} by 255", "10/0 4", "100/1 4") + "circle none\n"),
+    )
+    twice = good.replace("lid 4 ", "lid 3 ")
+    misdelivered = "200/1 3 at 200/1", "10/0 3 at 100/1", "20/0 3 at 100/1", "100/1 3 at 100/1"
+    yield (
+        "a LID that two ports hold",
+        twice,
+        found(
+            "pairs 16 arrive 12\n" + "".join(f"misdelivered {line}\n" for line in misdelivered)
+            + "twice 3 100/1\ntwice 3 200/1\ncircle none\n"
+        ),
+    )
+    # A port and a switch that the facts don't know are told, and change nothing.
+    strange = "\n".join([*lines[:4], f"lid 5 {0x300:016x}/1", *lines[4:], f"switch {0x30:016x} top 4"]) + "\n"
+    yield (
+        "a port and a switch that the facts don't know",
+        strange,
+        prints(spelled(f"pairs 16 arrive 16\nunowned 5 300/1\nunknown {0x30:016x}\ncircle none\n")),
+    )
+    yield "nothing", "", prints(f"pairs 0 arrive 0\ntableless {AT_10}\ntableless {AT_20}\ncircle none\n")
+
+
+def rings(plan):
+    """The same of the ring: the short way both ways, and not across the wire from the last to the first."""
+    short = ring("0 1 1 2 2", "2 0 1 1 2", "2 2 0 1 1", "1 2 2 0 1", "1 1 2 2 0")
+    cut = ring("0 1 1 1 1", "2 0 1 1 1", "2 2 0 1 1", "2 2 2 0 1", "2 2 2 2 0")
+    yield (
+        "the short way both ways",
+        plan(RING_LIDS, *short).printed.decode(),
+        found("pairs 25 arrive 25\ncircle 10/1 20/1 30/1 40/1 50/1\n"),
+    )
+    yield "not across one wire", plan(RING_LIDS, *cut).printed.decode(), prints("pairs 25 arrive 25\ncircle none\n")
+
+
+# What is wrong with a text of tables.
+FAULTS = (
+    ("lid 1", "line 1: syntax"),
+    ("lid 0 10/0", "line 1: lid"),
+    ("lid 1 10/255", "line 1: port"),
+    ("# tables\nlid 2 10/0\nlid 1 20/0", "line 3: lid"),
+    ("switch 20 top 1\nswitch 10 top 1", "line 2: switch"),
+    (f"switch 10 top 1\nblock 768 {'f' * 128}", "line 2: block"),
+)
+
+
+def faults():
+    for text, said in FAULTS:
+        yield text, refused(f"TABLES: {said}")
