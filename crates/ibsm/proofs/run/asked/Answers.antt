@@ -5,7 +5,6 @@ use Rattle.clap.specs.Matches.{found_of}
 use Rattle.clap.specs.Simple.{subcommand_rows_of}
 use Rattle.ibsm.proofs.Words.{first_is, named}
 use Rattle.ibsm.proofs.run.asked.Goals as goal
-use Rattle.ibsm.proofs.run.asked.Goals.{in-facts, in-join, in-plan+in_ok-rule_of-in-plan}
 
 pub returns-clause-files : goal.returns-clause-files
 returns-clause-files c = named (subcommand_rows_of c.args.matches.now) (found_of c.in_ok-name.words.now) (codes "FILE") _ c.in_ok-name.ensures.rows c.in_ok-get_strs.ensures
