@@ -46,6 +46,7 @@ use Rattle.lft_blocks.specs.PlanLaws.{HasBlock, block_of}
 use Rattle.lft_blocks.proofs.BlockOwners.{blocks_are_of_switches}
 use Rattle.lft_blocks.proofs.WholeFabrics.{packets_arrive_if_connected}
 use Rattle.subnet_view.specs.Agreement.{WholeFabric, IsEndPortIn}
+use Rattle.spread_rule.specs.Rules.{up_and_down}
 use Rattle.audit.specs.declared.end.Failure.{Failure}
 use Rattle.audit.specs.Steps.{IsHeldFailure}
 use Rattle.audit.specs.Fabrics.{IsSeen, HoldsLids, PlansPass}
@@ -271,8 +272,8 @@ module _ (top : ℕ) (tables : List SwitchTable) (g : ℕ) where
 abbrev made : Cells → ℕ → HeldPlan
 made cells top = record {
   lids = filter_map (owned_lid (lids 0 cells)) (rising_lids (lids 0 cells));
-  switches = map (with_top top) (plan_of 0 cells).tables;
-  blocks = blocks_of 0 (plan_of 0 cells).tables;
+  switches = map (with_top top) (plan_of up_and_down 0 cells).tables;
+  blocks = blocks_of 0 (plan_of up_and_down 0 cells).tables;
 }
 
 module _ (facts : Facts) (has_room : ¬ (IsNoRoom 0 (cells_of facts))) (f : Fabric) (top : ℕ) (top_is : lid_top (lids 0 (cells_of facts)) ≡ Some top)
@@ -287,7 +288,7 @@ module _ (facts : Facts) (has_room : ¬ (IsNoRoom 0 (cells_of facts))) (f : Fabr
   held = made cells top
 
   abbrev plan : PlanValue
-  plan = plan_of 0 cells
+  plan = plan_of up_and_down 0 cells
 
   line_lid : (n : ℕ) (line : HeldLid) (o : Option EndPort) → option_map (λ port. record { lid = n; port = port }) o ≡ Some line → line.lid ≡ n
   line_lid n line None e = absurd (cc)
@@ -438,7 +439,7 @@ module _ (facts : Facts) (has_room : ¬ (IsNoRoom 0 (cells_of facts))) (f : Fabr
       let has = lid_held missed.target t at missed.is_target in
       let owner : owner_of given lid ≡ Some e =
       owner_is e lid (has.lid_is ∙ ap (λ n. Some n) (sym (has.only lid missed.is_lid missed.owned))) in
-      let arrives = packets_arrive_if_connected 0 facts has_room f connected
+      let arrives = packets_arrive_if_connected up_and_down 0 facts has_room f connected
       (record { is_fabric = seen.is_fabric; agrees = seen.agrees; holds = plan_held }) missed.source missed.is_source lid e owner in
       let same : arrives.target ≡ missed.target = one_port facts held f seen arrives.target missed.target t e arrives.is_owner at refl in
       missed.misses (record { hops = arrives.hops; delivered = subst (IsDelivered f lid missed.source arrives.hops) same arrives.delivered })

@@ -12,6 +12,9 @@ use Rattle.sm_cli.specs.declared.run.Output.{Output}
 use Rattle.sm_cli.specs.declared.run.Output.TheVariants.{Facts, Join, Plan}
 use Rattle.sm_cli.specs.declared.run.RuleKind.{RuleKind}
 use Rattle.sm_cli.specs.declared.run.RuleKind.TheVariants.{UpDown, Spread}
+use Rattle.sm_cli.specs.Kinds.{value_of_kind}
+use Rattle.spread_rule.specs.Rules.{RuleValue}
+use Rattle.sm_manager.specs.Planning.{Planning}
 use Rattle.ibsm.specs.declared.opener.OpenFault.{OpenFault}
 use Rattle.ibsm.specs.Audits.{AuditsFiles}
 use Rattle.ibsm.specs.Ending.{AnswersFiles, RunsFiles}
@@ -60,6 +63,12 @@ abbrev pub IsRule : Option (List ℕ) → RuleKind → Type 0
 IsRule None kind = kind ≡ UpDown
 IsRule (Some word) kind = word ≡ rule_word kind
 
+-- so is this rule, which has no roots
+pub record AsksRule (word : Option (List ℕ)) (rule : RuleValue) : Type 0 where
+  pub kind : RuleKind
+  pub named : IsRule word kind
+  pub is : rule ≡ value_of_kind kind
+
 -- a plan goes by that rule
 abbrev pub HasRule : Option (List ℕ) → Output → Type 0
 HasRule word Facts = Unit {0}
@@ -86,9 +95,10 @@ pub record RunsWords {S : Type 0} (answers : List ℕ → Result S OpenFault →
   pub schedule : Bor (List ℕ)
   pub topology_named : word_named (codes "TOPOLOGY") matches ≡ Some topology.now
   pub schedule_named : word_named (codes "SCHEDULE") matches ≡ Some schedule.now
-  pub lmc : ℕ
-  pub lmc_asked : IsLmc (word_named (codes "lmc") matches) lmc
-  pub run : RunsFiles answers left has_failed (topology ∷ schedule ∷ []) lmc prints
+  pub planning : Planning
+  pub lmc_asked : IsLmc (word_named (codes "lmc") matches) planning.lmc
+  pub rule_asked : AsksRule (word_named (codes "routing") matches) planning.rule
+  pub run : RunsFiles answers left has_failed (topology ∷ schedule ∷ []) planning prints
 
 -- the words ask for an audit, and the tables and the files that they name were read, and how packets fare was written
 pub record AuditsWords {S : Type 0} (answers : List ℕ → Result S OpenFault → Type 0) (left : S → Option (List ℕ)) (has_failed : S → Bool)

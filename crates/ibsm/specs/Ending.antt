@@ -5,6 +5,7 @@ use Rattle.std.specs.Borrow.{Bor}
 use Rattle.sm_cli.specs.FaultText.{fault_text, program_line}
 use Rattle.sm_cli.specs.ExitStatus.{status_of}
 use Rattle.sm_cli.specs.Run.{HasAnswered, IsFaultOf}
+use Rattle.sm_manager.specs.Planning.{Planning}
 use Rattle.sm_run.specs.Run.{HasRun, IsRunFault}
 use Rattle.sm_cli.specs.declared.fault.Fault.{Fault}
 use Rattle.sm_cli.specs.declared.fault.Fault.TheVariants.{Open, File, Text, NoRoom, Write, Memory}
@@ -35,32 +36,32 @@ abbrev pub IsAnswersFault : {S : Type 0} → (List ℕ → Result S OpenFault �
 IsAnswersFault answers left has_failed interruptions command names output_failed fault =
     IsOpenFault answers names fault ⊎ FailsOverFiles answers left has_failed interruptions command names output_failed fault
 
--- the files with both names were opened and read, and what they say was run under an LMC; this holds of what the run prints
+-- the files with both names were opened and read, and what they say was run, and managers planned so; this holds of what the run prints
 pub record RunsFiles {S : Type 0} (answers : List ℕ → Result S OpenFault → Type 0) (left : S → Option (List ℕ)) (has_failed : S → Bool)
-    (names : List (Bor (List ℕ))) (lmc : ℕ) (prints : List ℕ → Type 0) : Type 0 where
+    (names : List (Bor (List ℕ))) (planning : Planning) (prints : List ℕ → Type 0) : Type 0 where
   pub topology : S
   pub topology' : S
   pub schedule : S
   pub schedule' : S
   pub opened : AreOpened answers names (topology ∷ schedule ∷ [])
-  pub run : HasRun left has_failed left has_failed topology topology' schedule schedule' lmc prints
+  pub run : HasRun left has_failed left has_failed topology topology' schedule schedule' planning prints
 
 -- they were opened, and the run of them ends with the fault
 pub record FailsToRunFiles {S : Type 0} (answers : List ℕ → Result S OpenFault → Type 0) (left : S → Option (List ℕ)) (has_failed : S → Bool)
-    (interruptions : S → ℕ) (names : List (Bor (List ℕ))) (lmc : ℕ) (prints : List ℕ → Type 0) (output_failed : Bool) (fault : Fault) : Type 0 where
+    (interruptions : S → ℕ) (names : List (Bor (List ℕ))) (planning : Planning) (prints : List ℕ → Type 0) (output_failed : Bool) (fault : Fault) : Type 0 where
   pub topology : S
   pub topology' : S
   pub schedule : S
   pub schedule' : S
   pub opened : AreOpened answers names (topology ∷ schedule ∷ [])
-  pub fails : IsRunFault left has_failed interruptions left has_failed interruptions topology topology' schedule schedule' lmc prints output_failed fault
+  pub fails : IsRunFault left has_failed interruptions left has_failed interruptions topology topology' schedule schedule' planning prints output_failed fault
 
 -- why the files with both names are not run: they are not open, or the run of them ends early, and this holds of what it
 -- would have printed where memory was refused
 abbrev pub IsRunsFault : {S : Type 0} → (List ℕ → Result S OpenFault → Type 0) → (S → Option (List ℕ)) → (S → Bool) → (S → ℕ)
-    → List (Bor (List ℕ)) → ℕ → (List ℕ → Type 0) → Bool → Fault → Type 0
-IsRunsFault answers left has_failed interruptions names lmc prints output_failed fault =
-    IsOpenFault answers names fault ⊎ FailsToRunFiles answers left has_failed interruptions names lmc prints output_failed fault
+    → List (Bor (List ℕ)) → Planning → (List ℕ → Type 0) → Bool → Fault → Type 0
+IsRunsFault answers left has_failed interruptions names planning prints output_failed fault =
+    IsOpenFault answers names fault ⊎ FailsToRunFiles answers left has_failed interruptions names planning prints output_failed fault
 
 -- the name of a file, and nothing where there is no file of that place
 abbrev pub name_at : Option (Bor (List ℕ)) → List ℕ

@@ -115,7 +115,8 @@ fn run<'a>(alloc: Global) -> Result<Command<'a>, AllocError> {
             SCHEDULE,
             "The managers and the commands that are run",
         ))?
-        .arg(lmc(alloc))
+        .arg(lmc(alloc))?
+        .arg(routing(alloc))
 }
 
 /// A file of its own.

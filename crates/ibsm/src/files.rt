@@ -7,9 +7,9 @@ ghost use Rattle.ibsm.specs.Ending.{fault_line, name_of};
 ghost use Rattle.ibsm.specs.Opening.{AreOpened, IsOpenFault};
 
 use crate::opener::{OpenFault, Opener};
-use attr_codec::Lmc;
 use record_file::{Sink, ToWrite};
 use sm_cli::{Command, ExitStatus, Fault, run_files, write_fault};
+use sm_manager::Planning;
 use sm_run::run_schedule;
 use std::io::Write;
 
@@ -45,12 +45,12 @@ where
     }
 }
 
-/// Runs a schedule in the fabric of a topology, and says on `errors` why it cannot. Managers plan by the LMC. The names are those of the topology and
+/// Runs a schedule in the fabric of a topology, and says on `errors` why it cannot. Managers plan as is said. The names are those of the topology and
 /// of the schedule.
 pub(crate) fn run_or_explain<R, O, E>(
     rt: &R,
     names: &[&str],
-    lmc: Lmc,
+    planning: &Planning,
     output: &mut ToWrite<O>,
     errors: &mut ToWrite<E>,
 ) -> ExitStatus
@@ -60,44 +60,44 @@ where
     E: Write,
     requires { length names.now ≡ 2 }
     ensures done { result ≡ ExitStatus.Done → RunsFiles (R.answers rt.now)
-        R.Opened.left R.Opened.has_failed names.now lmc
+        R.Opened.left R.Opened.has_failed names.now planning.now
         (Prints ⟦<ToWrite<O> as Sink>⟧.written ⟦<ToWrite<O> as Sink>⟧.has_failed output.old output.new) }
     ensures flushed { result ≡ ExitStatus.Done → IsTrue (⟦<ToWrite<O> as Sink>⟧.is_flushed output.new) }
     ensures silent { result ≡ ExitStatus.Done → errors.new ≡ errors.old }
     ensures says_why { (result ≡ ExitStatus.Done) ⊎ SaysWhy names.now
         (IsRunsFault (R.answers rt.now) R.Opened.left R.Opened.has_failed R.Opened.interruptions
-        names.now lmc (PrintsSome ⟦<ToWrite<O> as Sink>⟧.written ⟦<ToWrite<O> as Sink>⟧.has_failed output.old output.new)
+        names.now planning.now (PrintsSome ⟦<ToWrite<O> as Sink>⟧.written ⟦<ToWrite<O> as Sink>⟧.has_failed output.old output.new)
         (⟦<ToWrite<O> as Sink>⟧.has_failed output.new))
         result (⟦<ToWrite<E> as Sink>⟧.written errors.old)
         (⟦<ToWrite<E> as Sink>⟧.written errors.new) (⟦<ToWrite<E> as Sink>⟧.has_failed errors.new) }
     ensures nothing_written { (result ≡ ExitStatus.Refused) → (output.new ≡ output.old) }
 {
-    if let Err(fault) = run(rt, names, lmc, output) {
+    if let Err(fault) = run(rt, names, planning, output) {
         return say(errors, names, &fault);
     }
     ExitStatus::Done
 }
 
 /// Runs the schedule of the second file in the fabric of the first one.
-fn run<R, O>(rt: &R, names: &[&str], lmc: Lmc, output: &mut ToWrite<O>) -> Result<(), Fault>
+fn run<R, O>(rt: &R, names: &[&str], planning: &Planning, output: &mut ToWrite<O>) -> Result<(), Fault>
 where
     R: Opener + AllocGlobal,
     O: Write,
     requires { length names.now ≡ 2 }
     ensures done { OnOk result (RunsFiles (R.answers rt.now)
-        R.Opened.left R.Opened.has_failed names.now lmc
+        R.Opened.left R.Opened.has_failed names.now planning.now
         (Prints ⟦<ToWrite<O> as Sink>⟧.written ⟦<ToWrite<O> as Sink>⟧.has_failed output.old output.new)) }
     ensures flushed { OnOk result (IsTrue (⟦<ToWrite<O> as Sink>⟧.is_flushed output.new)) }
     ensures refused { IfErr result (IsRunsFault (R.answers rt.now)
         R.Opened.left R.Opened.has_failed R.Opened.interruptions
-        names.now lmc (PrintsSome ⟦<ToWrite<O> as Sink>⟧.written ⟦<ToWrite<O> as Sink>⟧.has_failed output.old output.new)
+        names.now planning.now (PrintsSome ⟦<ToWrite<O> as Sink>⟧.written ⟦<ToWrite<O> as Sink>⟧.has_failed output.old output.new)
         (⟦<ToWrite<O> as Sink>⟧.has_failed output.new)) }
     ensures nothing_written { OnErr result ((result ≡ Err Fault.Write) ⊎ (result ≡ Err Fault.Memory) ⊎ (output.new ≡ output.old)) }
 {
     match open_all(rt, names) {
         Ok(mut files) => {
             let (topology, schedule) = files.split_at_mut(1);
-            run_schedule(rt.alloc(), &mut topology[0], &mut schedule[0], lmc, output)
+            run_schedule(rt.alloc(), &mut topology[0], &mut schedule[0], planning, output)
         }
         Err(fault) => Err(fault),
     }

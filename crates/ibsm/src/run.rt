@@ -3,7 +3,7 @@ ghost use Rattle.std.specs.Prelude.{◌≡◌, ◌⊎◌, Some, IfSome, IsSome, 
 ghost use Rattle.clap.specs.Matches.{subcommand_name_of};
 ghost use Rattle.clap.specs.Matches.{first_value, found_of};
 ghost use Rattle.sm_run.specs.Prints.{Prints};
-ghost use Rattle.ibsm.specs.Asked.{AnswersWords, AuditsWords, HasLmc, HasRule, IsFloor, IsLmc, IsRule, RunsWords, files_named, word_named, word_of};
+ghost use Rattle.ibsm.specs.Asked.{AnswersWords, AsksRule, AuditsWords, HasLmc, HasRule, IsFloor, IsLmc, IsRule, RunsWords, files_named, word_named, word_of};
 
 use crate::arguments::{
     AUDIT, FACTS, FILE, FLOOR, JOIN, LMC, PLAN, ROUTING, RUN, SCHEDULE, TABLES, TOPOLOGY,
@@ -16,9 +16,10 @@ use attr_codec::Lmc;
 use clap::error::ErrorKind;
 use clap::{ArgMatches, Error};
 use record_file::{Sink, ToWrite};
-use sm_cli::{Command, ExitStatus, Fault, Output, RuleKind};
+use sm_cli::{Command, ExitStatus, Fault, Output, RuleKind, rule_of_kind};
+use sm_manager::Planning;
 use smp_bytes::Generation;
-use std::alloc::AllocError;
+use std::alloc::{AllocError, Global};
 use std::io::{BufWriter, Write};
 use std::rt::Env;
 use std::{env, io};
@@ -88,8 +89,8 @@ where
         → AuditsWords (R.answers rt.now) R.Opened.left R.Opened.has_failed matches.now
         (⟦<ToWrite<O> as Sink>⟧.written output.old) (⟦<ToWrite<O> as Sink>⟧.written output.new) false }
 {
-    if let Some((topology, schedule, lmc)) = run_asked(matches) {
-        return run_or_explain(rt, &[topology, schedule], lmc, output, errors);
+    if let Some((topology, schedule, planning)) = run_asked(rt.alloc(), matches) {
+        return run_or_explain(rt, &[topology, schedule], &planning, output, errors);
     }
     if let Some((tables, floor, names)) = audit_asked(matches) {
         return audit_or_explain(rt, floor, tables, names, output, errors);
@@ -162,12 +163,16 @@ fn rule_of(words: &ArgMatches<'_>) -> Option<RuleKind>
     }
 }
 
-/// The names of the topology and of the schedule that the words of the command line ask to be run, and the LMC.
-pub(crate) fn run_asked<'a>(matches: &ArgMatches<'a>) -> Option<(&'a str, &'a str, Lmc)>
+/// The names of the topology and of the schedule that the words of the command line ask to be run, and how managers plan.
+pub(crate) fn run_asked<'a>(
+    alloc: Global,
+    matches: &ArgMatches<'a>,
+) -> Option<(&'a str, &'a str, Planning)>
     ensures command { IsSome result → subcommand_name_of matches.now ≡ Some (codes "run") }
     ensures topology { IfSome result (λ names. word_named (codes "TOPOLOGY") matches.now ≡ Some names.0.now) }
     ensures schedule { IfSome result (λ names. word_named (codes "SCHEDULE") matches.now ≡ Some names.1.now) }
-    ensures lmc { IfSome result (λ names. IsLmc (word_named (codes "lmc") matches.now) names.2) }
+    ensures lmc { IfSome result (λ names. IsLmc (word_named (codes "lmc") matches.now) names.2.lmc) }
+    ensures rule { IfSome result (λ names. AsksRule (word_named (codes "routing") matches.now) names.2.rule) }
 {
     let (name, words) = matches.subcommand()?;
     if name != RUN {
@@ -175,7 +180,10 @@ pub(crate) fn run_asked<'a>(matches: &ArgMatches<'a>) -> Option<(&'a str, &'a st
     }
     let topology = words.get_str(TOPOLOGY)?;
     let lmc = lmc_of(words)?;
-    Some((topology, words.get_str(SCHEDULE)?, lmc))
+    let kind = rule_of(words)?;
+    let rule = rule_of_kind(alloc, kind);
+    let planning = Planning::new(lmc, rule);
+    Some((topology, words.get_str(SCHEDULE)?, planning))
 }
 
 /// The tables, the floor and the files that the words of the command line ask to be audited.

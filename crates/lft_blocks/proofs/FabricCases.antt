@@ -30,6 +30,7 @@ use Rattle.subnet_view.proofs.WireLaws.{wire_law}
 use Rattle.lid_assign.specs.Lids.{lids, range_of, top_of}
 use Rattle.updown_routes.specs.Graph.{graph_of}
 use Rattle.updown_routes.specs.Routing.{updown}
+use Rattle.spread_rule.specs.Rules.{up_and_down}
 use Rattle.lft_blocks.specs.Plan.{plan_of, block_at}
 use Rattle.lft_blocks.specs.PlanLaws.{HasBlock, block_of}
 use Rattle.lft_blocks.specs.Arrival.{HoldsBlock, HoldsPlan}
@@ -206,7 +207,7 @@ planned_entry lmc cells g lid = entry_of (updown (graph_of cells)) lmc cells g l
 
 -- a table whose entries are the plan's holds the plan's blocks
 blocks_held : (lmc : ℕ) (facts : Facts) (f : Fabric) (place g : ℕ) → ((lid : ℕ) → planned_entry lmc (cells_of facts) g lid ≡ f.entry place lid)
-    → (b : ℕ) (block : List ℕ) → block_at (plan_of lmc (cells_of facts)) g b ≡ Some block → HoldsBlock f place b block
+    → (b : ℕ) (block : List ℕ) → block_at (plan_of up_and_down lmc (cells_of facts)) g b ≡ Some block → HoldsBlock f place b block
 blocks_held lmc facts f place g same b block there i h =
     let cells = cells_of facts in
     let rule = updown (graph_of cells) in
@@ -227,7 +228,7 @@ pub record HasPlanned (lmc : ℕ) (cells : Cells) (f : Fabric) (k : ℕ) (n : No
   pub table : (l : ℕ) → planned_entry lmc cells n.guid l ≡ f.entry k l
 
 pub holding : (part : Part) (lmc : ℕ) (facts : Facts) (f : Fabric) → EachPlace (λ k n. HasOneEnd n) f.nodes
-    → EachPlace (λ k n. HasPlanned lmc (cells_of facts) f k n (end_of n)) f.nodes → HoldsPlan part (plan_of lmc (cells_of facts)) f
+    → EachPlace (λ k n. HasPlanned lmc (cells_of facts) f k n (end_of n)) f.nodes → HoldsPlan part (plan_of up_and_down lmc (cells_of facts)) f
 holding part lmc facts f one rows =
     let row = end_cases part f one (HasPlanned lmc (cells_of facts) f) rows in
     λ port node here. record {

@@ -17,9 +17,10 @@ use Rattle.lid_assign.proofs.LidLaws.{lids_law}
 use Rattle.lid_assign.proofs.Owners.{owners_are_inverse}
 use Rattle.updown_routes.specs.Graph.{graph_of}
 use Rattle.updown_routes.specs.Ranks.{in_one_component}
-use Rattle.updown_routes.specs.Routing.{Routing, IsRouting, stops, Leads, updown}
+use Rattle.updown_routes.specs.Routing.{Routing, IsRouting, stops, Leads}
 use Rattle.updown_routes.proofs.Components.{component_itself}
-use Rattle.updown_routes.proofs.Routed.{updown_is_routing}
+use Rattle.spread_rule.specs.Rules.{RuleValue, routing_by}
+use Rattle.spread_rule.proofs.Whole.{rules_are_routings}
 use Rattle.updown_routes.proofs.Switches.{usable_switch}
 use Rattle.updown_routes.proofs.Graphs.{graph_law}
 use Rattle.updown_routes.proofs.PartWires.{IsTold, SwitchIn, one_place, switch_at_place}
@@ -239,8 +240,8 @@ packets_arrive_by_each_routing lmc facts rule routing has_room f origin is_origi
     let d = delivery routing told planned target source is_origin is_end j in
     record { target = target.port; is_owner = target.named; in_part = target.joined; hops = d.0; delivered = d.1; way = d.2 }
 
--- so it does up and down
-pub every_packet_arrives : (lmc : ℕ) (facts : Facts) → ¬ (IsNoRoom lmc (cells_of facts)) → EveryPacketArrives (cells_of facts) (plan_of lmc (cells_of facts))
-every_packet_arrives lmc facts has_room =
-    let graph = graph_of (cells_of facts) in
-    packets_arrive_by_each_routing lmc facts (updown graph) (updown_is_routing graph (graph_law facts)) has_room
+-- so it does by each rule that can be asked for
+pub every_packet_arrives : (rule : RuleValue) (lmc : ℕ) (facts : Facts) → ¬ (IsNoRoom lmc (cells_of facts))
+    → EveryPacketArrives rule (cells_of facts) (plan_of rule lmc (cells_of facts))
+every_packet_arrives rule lmc facts has_room =
+    packets_arrive_by_each_routing lmc facts (routing_by rule (cells_of facts)) (rules_are_routings rule facts) has_room

@@ -1,7 +1,8 @@
 -- Facts that differ in claims alone, and give the same LIDs, have the same plan.
 use Rattle.std.proofs.Common.{◌≡◌, ℕ, sym, false, cond, map}
-use Rattle.std.specs.Prelude.{None, Some, option_and_then}
-use Rattle.std.specs.List.{filter_map, range_with_len}
+use Rattle.std.specs.Prelude.{None, Some, filter, not, option_and_then}
+use Rattle.std.specs.List.{filter_map, list_any, range_with_len}
+use Rattle.std.specs.Option.{option_map_or}
 use Rattle.fact_store.specs.declared.key.Key.{Key}
 use Rattle.fact_store.specs.View.{Facts, cell_for, cells_of}
 use Rattle.subnet_view.specs.declared.end_port.EndPort.{EndPort}
@@ -9,7 +10,9 @@ use Rattle.subnet_view.proofs.BesideClaims.{is_claim, switch_same, usable_same, 
 use Rattle.lid_assign.specs.Lids.{lids, owner_of, top_of}
 use Rattle.lid_assign.proofs.Staying.{same_but_claims, lids_settle}
 use Rattle.updown_routes.specs.Graph.{exit_at, graph_of}
-use Rattle.updown_routes.specs.Routing.{updown}
+use Rattle.spread_rule.specs.Bearing.{bearing_of, bears, bears_at}
+use Rattle.spread_rule.specs.Rules.{RuleValue}
+use Rattle.spread_rule.proofs.Whole.{rules_stay}
 use Rattle.lft_blocks.specs.Entries.{home_of, block_count}
 use Rattle.lft_blocks.specs.Plan.{tables_of, plan_of}
 use Rattle.lft_blocks.specs.PlanLaws.{PlansStay}
@@ -24,15 +27,25 @@ module _ (x y : Facts) (same : (key : Key) → is_claim key ≡ false → cell_f
   home_same : (e : EndPort) → home_of (cells_of x) e ≡ home_of (cells_of y) e
   home_same e = λ i. cond (usable_same x y same e.node i) (Some (e.node, 0)) (attached_same x y same e.node e.port i)
 
-  plan_same : (lmc : ℕ) → lids lmc (cells_of x) ≡ lids lmc (cells_of y) → plan_of lmc (cells_of x) ≡ plan_of lmc (cells_of y)
-  plan_same lmc given =
+  bears_at_same : (g p : ℕ) → bears_at (cells_of x) g p ≡ bears_at (cells_of y) g p
+  bears_at_same g p = λ i. option_map_or (λ q. not (usable_same x y same q.0 i)) (across_same x y same g p i) false
+
+  bears_same : (g : ℕ) → bears (cells_of x) g ≡ bears (cells_of y) g
+  bears_same g = λ i. list_any (λ p. bears_at_same g p i) (range_with_len 1 (count_same x y same g i))
+
+  bearing_same : bearing_of (cells_of x) ≡ bearing_of (cells_of y)
+  bearing_same = λ i. filter (λ g. bears_same g i) (switches_same x y same i)
+
+  plan_same : (rule : RuleValue) (lmc : ℕ) → lids lmc (cells_of x) ≡ lids lmc (cells_of y) → plan_of rule lmc (cells_of x) ≡ plan_of rule lmc (cells_of y)
+  plan_same rule lmc given =
       λ i. record {
         given = given i;
-        tables = tables_of (λ lid. option_and_then (λ e. home_same e i) (owner_of (given i) lid)) (updown (graph_same i)).next (block_count (top_of (given i))) (switches_same x y same i);
+        tables = tables_of (λ lid. option_and_then (λ e. home_same e i) (owner_of (given i) lid)) (rules_stay rule x y graph_same bearing_same i).next
+            (block_count (top_of (given i))) (switches_same x y same i);
       }
 
 -- once the LIDs of a view are claimed, its plan stays
 pub plans_stay : PlansStay
-plans_stay lmc x y room claims =
+plans_stay rule lmc x y room claims =
     let l = lids_settle lmc x y room claims in
-    (l.0, sym (plan_same x y (same_but_claims x y claims.same) lmc (sym l.1)))
+    (l.0, sym (plan_same x y (same_but_claims x y claims.same) rule lmc (sym l.1)))

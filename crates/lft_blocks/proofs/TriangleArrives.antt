@@ -18,6 +18,7 @@ use Rattle.subnet_view.specs.Agreement.{Part, WholeFabric, IsEndPortIn, IsPortNa
 use Rattle.lid_assign.specs.Lids.{IsNoRoom, lids, owner_of}
 use Rattle.updown_routes.specs.Graph.{graph_of}
 use Rattle.updown_routes.specs.Routing.{updown}
+use Rattle.spread_rule.specs.Rules.{up_and_down}
 use Rattle.lft_blocks.specs.Entries.{home_of, port_to}
 use Rattle.lft_blocks.specs.Plan.{plan_of}
 use Rattle.lft_blocks.specs.Arrival.{Arrives, IsInForce}
@@ -246,7 +247,7 @@ has_room : ¬ (IsNoRoom 1 cells)
 has_room none = cc
 
 module _ (part : Part) (all : (v : NodePort) → IsEndPort triangle v → part v) where
-  in_force : IsInForce part (cells_of facts) (plan_of 1 (cells_of facts)) triangle
+  in_force : IsInForce part (cells_of facts) (plan_of up_and_down 1 (cells_of facts)) triangle
   in_force =
       record {
         is_fabric = is_fabric;
@@ -258,18 +259,18 @@ module _ (part : Part) (all : (v : NodePort) → IsEndPort triangle v → part v
 facts_have_room : ¬ (IsNoRoom 1 (cells_of facts))
 facts_have_room = subst (λ (c : Cells). ¬ (IsNoRoom 1 c)) (sym facts_have) has_room
 
-second_owns : owner_of (plan_of 1 (cells_of facts)).given 7 ≡ Some (record { node = 512; port = 1 })
+second_owns : owner_of (plan_of up_and_down 1 (cells_of facts)).given 7 ≡ Some (record { node = 512; port = 1 })
 second_owns = subst (λ (c : Cells). owner_of (lids 1 c) 7 ≡ Some (record { node = 512; port = 1 })) (sym facts_have) refl
 
 -- the packet for LID 7, its second one, from the first adapter arrives at the second, in what the first is joined to
-pub arrives : Arrives (IsJoinedTo triangle (port_at 3 1)) (cells_of facts) triangle 7 (port_at 3 1) (record { node = 512; port = 1 })
+pub arrives : Arrives up_and_down (IsJoinedTo triangle (port_at 3 1)) (cells_of facts) triangle 7 (port_at 3 1) (record { node = 512; port = 1 })
 arrives =
-    every_packet_arrives 1 facts facts_have_room triangle (port_at 3 1) of_first
+    every_packet_arrives up_and_down 1 facts facts_have_room triangle (port_at 3 1) of_first
     (in_force (IsJoinedTo triangle (port_at 3 1)) (λ v end. is_connected (port_at 3 1) v of_first end))
     (port_at 3 1) of_first (0, refl) 7 (record { node = 512; port = 1 }) second_owns
 
 -- and in the whole, since it is connected
-pub arrives_in_whole : Arrives WholeFabric (cells_of facts) triangle 7 (port_at 3 1) (record { node = 512; port = 1 })
+pub arrives_in_whole : Arrives up_and_down WholeFabric (cells_of facts) triangle 7 (port_at 3 1) (record { node = 512; port = 1 })
 arrives_in_whole =
-    packets_arrive_if_connected 1 facts facts_have_room triangle is_connected (in_force WholeFabric (λ v end. tt))
+    packets_arrive_if_connected up_and_down 1 facts facts_have_room triangle is_connected (in_force WholeFabric (λ v end. tt))
     (port_at 3 1) of_first 7 (record { node = 512; port = 1 }) second_owns

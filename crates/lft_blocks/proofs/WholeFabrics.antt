@@ -51,8 +51,8 @@ module _ (f : Fabric) (origin : NodePort) (fab : IsFabric f) (connected : IsConn
       record { is_fabric = fab; agrees = agrees_on_part cells whole.agrees; holds = holds_on_part plan whole.holds }
 
 pub packets_arrive_if_connected : PacketsArriveIfConnected
-packets_arrive_if_connected lmc facts has_room f connected in_force source is_end lid owner owned =
+packets_arrive_if_connected rule lmc facts has_room f connected in_force source is_end lid owner owned =
     let cells = cells_of facts in
-    let part = in_force_on_part f source in_force.is_fabric connected is_end cells (plan_of lmc cells) in_force in
-    let a = every_packet_arrives lmc facts has_room f source is_end part source is_end (connected source source is_end is_end) lid owner owned in
+    let part = in_force_on_part f source in_force.is_fabric connected is_end cells (plan_of rule lmc cells) in_force in
+    let a = every_packet_arrives rule lmc facts has_room f source is_end part source is_end (connected source source is_end is_end) lid owner owned in
     record { target = a.target; is_owner = a.is_owner; in_part = tt; hops = a.hops; delivered = a.delivered; way = a.way }

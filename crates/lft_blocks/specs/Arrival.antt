@@ -15,7 +15,8 @@ use Rattle.subnet_view.specs.Reading.{Cells}
 use Rattle.subnet_view.specs.Agreement.{Part, WholeFabric, IsEndPortIn, IsPortNamed, AgreesOn}
 use Rattle.lid_assign.specs.Lids.{IsNoRoom, range_of, owner_of, top_of}
 use Rattle.updown_routes.specs.Graph.{graph_of}
-use Rattle.updown_routes.specs.Routing.{Routing, IsRouting, updown}
+use Rattle.updown_routes.specs.Routing.{Routing, IsRouting}
+use Rattle.spread_rule.specs.Rules.{RuleValue, routing_by}
 use Rattle.lft_blocks.specs.Plan.{PlanValue, plan_by, plan_of, block_at}
 
 -- the block stands in the table of the switch at a place, from LID 64 b on
@@ -85,9 +86,9 @@ pub record ArrivesBy (rule : Routing) (part : Part) (f : Fabric) (lid : ℕ) (so
   pub delivered : IsDelivered f lid source hops target
   pub way : IsRoutedWay rule f source hops
 
--- over a way that goes up and then down
-abbrev pub Arrives : Part → Cells → Fabric → ℕ → NodePort → EndPort → Type 0
-Arrives part cells f lid source owner = ArrivesBy (updown (graph_of cells)) part f lid source owner
+-- over a way of a rule that can be asked for
+abbrev pub Arrives : RuleValue → Part → Cells → Fabric → ℕ → NodePort → EndPort → Type 0
+Arrives rule part cells f lid source owner = ArrivesBy (routing_by rule cells) part f lid source owner
 
 -- where the plan is in force in what an end port is joined to, a packet from each end port there for each LID of the plan arrives
 abbrev pub EveryPacketArrivesBy : Routing → Cells → PlanValue → Type 0
@@ -100,16 +101,17 @@ abbrev pub PacketsArriveByEachRouting : Type 0
 PacketsArriveByEachRouting = (lmc : ℕ) (facts : Facts) (rule : Routing) → IsRouting (graph_of (cells_of facts)) rule → ¬ (IsNoRoom lmc (cells_of facts))
     → EveryPacketArrivesBy rule (cells_of facts) (plan_by rule lmc (cells_of facts))
 
--- by ways that go up and then down
-abbrev pub EveryPacketArrives : Cells → PlanValue → Type 0
-EveryPacketArrives cells plan = EveryPacketArrivesBy (updown (graph_of cells)) cells plan
+-- by a rule that can be asked for
+abbrev pub EveryPacketArrives : RuleValue → Cells → PlanValue → Type 0
+EveryPacketArrives rule cells plan = EveryPacketArrivesBy (routing_by rule cells) cells plan
 
 -- where the plan is in force in the whole of a connected fabric, a packet from each end port for each LID of the plan arrives
-abbrev pub EveryPacketArrivesIfConnected : Cells → PlanValue → Type 0
-EveryPacketArrivesIfConnected cells plan = (f : Fabric) → IsConnected f → IsInForce WholeFabric cells plan f
+abbrev pub EveryPacketArrivesIfConnected : RuleValue → Cells → PlanValue → Type 0
+EveryPacketArrivesIfConnected rule cells plan = (f : Fabric) → IsConnected f → IsInForce WholeFabric cells plan f
     → (source : NodePort) → IsEndPort f source
-    → (lid : ℕ) (owner : EndPort) → owner_of plan.given lid ≡ Some owner → Arrives WholeFabric cells f lid source owner
+    → (lid : ℕ) (owner : EndPort) → owner_of plan.given lid ≡ Some owner → Arrives rule WholeFabric cells f lid source owner
 
 -- so it is with the plan of each view that has one
 abbrev pub PacketsArriveIfConnected : Type 0
-PacketsArriveIfConnected = (lmc : ℕ) (facts : Facts) → ¬ (IsNoRoom lmc (cells_of facts)) → EveryPacketArrivesIfConnected (cells_of facts) (plan_of lmc (cells_of facts))
+PacketsArriveIfConnected = (rule : RuleValue) (lmc : ℕ) (facts : Facts) → ¬ (IsNoRoom lmc (cells_of facts))
+    → EveryPacketArrivesIfConnected rule (cells_of facts) (plan_of rule lmc (cells_of facts))

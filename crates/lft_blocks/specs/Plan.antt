@@ -4,8 +4,8 @@ use Rattle.std.specs.List.{find}
 use Rattle.std.specs.List.Sorted.{IsStrictlyIncreasing}
 use Rattle.subnet_view.specs.Reading.{Cells, switches}
 use Rattle.lid_assign.specs.Lids.{Given, lids, top_of}
-use Rattle.updown_routes.specs.Graph.{graph_of}
-use Rattle.updown_routes.specs.Routing.{Routing, updown}
+use Rattle.updown_routes.specs.Routing.{Routing}
+use Rattle.spread_rule.specs.Rules.{RuleValue, routing_by}
 use Rattle.lft_blocks.specs.Entries.{Next, home_of_lid, block_count, blocks}
 
 -- a usable switch and its blocks from 0 on
@@ -28,9 +28,9 @@ plan_by rule lmc cells =
     let given = lids lmc cells in
     record { given = given; tables = tables_of (home_of_lid cells given) rule.next (block_count (top_of given)) (switches cells) }
 
--- the plan of a view: up and then down
-abbrev pub plan_of : ℕ → Cells → PlanValue
-plan_of lmc cells = plan_by (updown (graph_of cells)) lmc cells
+-- the plan of a view by a rule that can be asked for
+abbrev pub plan_of : RuleValue → ℕ → Cells → PlanValue
+plan_of rule lmc cells = plan_by (routing_by rule cells) lmc cells
 
 -- a block of a switch; none where the GUID is no usable switch's, or there is no such block
 abbrev pub block_at : PlanValue → ℕ → ℕ → Option (List ℕ)

@@ -6,17 +6,19 @@ use Rattle.subnet_view.specs.Reading.{Cells, IsUsable}
 use Rattle.lid_assign.specs.Lids.{IsNoRoom, lids, lid_of, top_of}
 use Rattle.lid_assign.specs.Stability.{IsClaimed, GrowsFrom}
 use Rattle.updown_routes.specs.Routing.{Routing}
+use Rattle.spread_rule.specs.Rules.{RuleValue}
 use Rattle.lft_blocks.specs.Entries.{Next, home_of_lid, entry, block, block_count, blocks}
 use Rattle.lft_blocks.specs.Plan.{plan_by, plan_of, block_at}
 
 -- once the LIDs of a view are claimed, its plan stays
 abbrev pub PlansStay : Type 0
-PlansStay = (lmc : ℕ) (x y : Facts) → ¬ (IsNoRoom lmc (cells_of x)) → IsClaimed lmc x y → ¬ (IsNoRoom lmc (cells_of y)) × (plan_of lmc (cells_of y) ≡ plan_of lmc (cells_of x))
+PlansStay = (rule : RuleValue) (lmc : ℕ) (x y : Facts) → ¬ (IsNoRoom lmc (cells_of x)) → IsClaimed lmc x y
+    → ¬ (IsNoRoom lmc (cells_of y)) × (plan_of rule lmc (cells_of y) ≡ plan_of rule lmc (cells_of x))
 
 -- LIDs that are claimed stay in plans, whatever end ports come
 abbrev pub LidsStayInPlans : Type 0
-LidsStayInPlans = (lmc : ℕ) (x z : Facts) → ¬ (IsNoRoom lmc (cells_of x)) → ¬ (IsNoRoom lmc (cells_of z)) → GrowsFrom lmc (cells_of x) (cells_of z)
-    → (e : EndPort) (lid : ℕ) → lid_of (plan_of lmc (cells_of x)).given e ≡ Some lid → lid_of (plan_of lmc (cells_of z)).given e ≡ Some lid
+LidsStayInPlans = (rule : RuleValue) (lmc : ℕ) (x z : Facts) → ¬ (IsNoRoom lmc (cells_of x)) → ¬ (IsNoRoom lmc (cells_of z)) → GrowsFrom lmc (cells_of x) (cells_of z)
+    → (e : EndPort) (lid : ℕ) → lid_of (plan_of rule lmc (cells_of x)).given e ≡ Some lid → lid_of (plan_of rule lmc (cells_of z)).given e ≡ Some lid
 
 -- block b has the entry for the LID 64 b + i at the place i
 abbrev pub BlocksHoldEntries : Type 0

@@ -47,6 +47,7 @@ use Rattle.port_graph.specs.Routes.{IsNextPort}
 use Rattle.updown_routes.specs.Graph.{graph_of, guids_of, exits_at}
 use Rattle.updown_routes.specs.Ranks.{slopes_of, is_before}
 use Rattle.updown_routes.specs.Routing.{updown}
+use Rattle.spread_rule.specs.Rules.{up_and_down}
 use Rattle.updown_routes.proofs.Before.{ups_filter, downs_filter}
 use Rattle.updown_routes.proofs.Graphs.{exit_is_wire, graph_law}
 use Rattle.updown_routes.proofs.NextPorts.{next_port_law}
@@ -260,7 +261,7 @@ module _ (facts : Facts) (range : AreInRange facts) where
           | Some top ↦ λ e. let most = top_most top e in omega arith
         ] refl
 
-    in_range : IsPlanInRange (plan_of 0 cells)
+    in_range : IsPlanInRange (plan_of up_and_down 0 cells)
     in_range = record {
       lmc = refl;
       lids = all_of (IsLidInRange (lids 0 cells)) (rising_lids (lids 0 cells)) lid_range;
@@ -269,5 +270,5 @@ module _ (facts : Facts) (range : AreInRange facts) where
       tables = all_tables (block_count (top_of (lids 0 cells))) (switches cells) few_blocks (λ s there. there);
     }
 
-pub plans_in_range : (facts : Facts) → AreInRange facts → ¬ (IsNoRoom 0 (cells_of facts)) → IsPlanInRange (plan_of 0 (cells_of facts))
+pub plans_in_range : (facts : Facts) → AreInRange facts → ¬ (IsNoRoom 0 (cells_of facts)) → IsPlanInRange (plan_of up_and_down 0 (cells_of facts))
 plans_in_range facts range has_room = in_range facts range has_room

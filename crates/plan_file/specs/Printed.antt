@@ -9,6 +9,7 @@ use Rattle.subnet_view.specs.declared.end_port.EndPort.{EndPort}
 use Rattle.fact_store.specs.Sighting.{AreInRange}
 use Rattle.fact_store.specs.View.{Facts, cells_of}
 use Rattle.lid_assign.specs.Lids.{Given, IsNoRoom, owner_of, top_of, rising_lids}
+use Rattle.spread_rule.specs.Rules.{up_and_down}
 use Rattle.lft_blocks.specs.Plan.{SwitchTable, PlanValue, plan_of}
 use Rattle.lft_blocks.specs.PlanText.{plan_text}
 use Rattle.plan_file.specs.declared.held.HeldLid.{HeldLid}
@@ -77,4 +78,4 @@ PrintedPlansAreRead = (plan : PlanValue) → IsPlanInRange plan → IsRead plan
 
 -- so is that of the plan under LMC 0 of each view whose facts are in range, where there is room for its LIDs
 abbrev pub PlansAreRead : Type 0
-PlansAreRead = (facts : Facts) → AreInRange facts → ¬ (IsNoRoom 0 (cells_of facts)) → IsRead (plan_of 0 (cells_of facts))
+PlansAreRead = (facts : Facts) → AreInRange facts → ¬ (IsNoRoom 0 (cells_of facts)) → IsRead (plan_of up_and_down 0 (cells_of facts))

@@ -15,6 +15,7 @@ use Rattle.fact_store.specs.Seen.{HaveSameMembers}
 use Rattle.fact_store.specs.View.{Facts, cells_of, view_at}
 use Rattle.fact_store.proofs.Views.{members_decide_view}
 use Rattle.sm_cli.specs.FactsText.{facts_text}
+use Rattle.sm_manager.specs.Planning.{Planning}
 use Rattle.sm_manager.specs.Plans.{plan_fault}
 use Rattle.sm_run.specs.Commands.{command_run, commands_run, facts_shown, plan_or_refusal, plan_shown, script_text, world_of}
 use Rattle.sm_run.specs.World.{SeatedValue, WorldValue}
@@ -49,26 +50,26 @@ told_behind nodes w accounts (command ∷ later) lines = told_behind nodes (comm
 
 pub later_lines_come_behind : LaterLinesComeBehind
 unfolding script_text
-later_lines_come_behind lmc topology script lines = text_behind topology.nodes (world_of lmc topology script.seats) script.commands lines
+later_lines_come_behind planning topology script lines = text_behind topology.nodes (world_of planning topology script.seats) script.commands lines
 
 -- managers that know the same ----------------------------------------------------------------------------
 
 -- of managers in their seats
 module _ (one other : WorldValue) (seat seat' : ℕ) (s s' : SeatedValue) (there : slice_get one.managers seat ≡ Some s)
-    (there' : slice_get other.managers seat' ≡ Some s') (facts : s.manager.store ≡ s'.manager.store) (lmcs : s.manager.lmc ≡ s'.manager.lmc) where
-  told_alike : (text : ℕ → Facts → List ℕ)
-      → option_map_or (λ (x : SeatedValue). text x.manager.lmc x.manager.store) (slice_get one.managers seat) []
-      ≡ option_map_or (λ (x : SeatedValue). text x.manager.lmc x.manager.store) (slice_get other.managers seat') []
+    (there' : slice_get other.managers seat' ≡ Some s') (facts : s.manager.store ≡ s'.manager.store) (plannings : s.manager.planning ≡ s'.manager.planning) where
+  told_alike : (text : Planning → Facts → List ℕ)
+      → option_map_or (λ (x : SeatedValue). text x.manager.planning x.manager.store) (slice_get one.managers seat) []
+      ≡ option_map_or (λ (x : SeatedValue). text x.manager.planning x.manager.store) (slice_get other.managers seat') []
   told_alike text =
-      ap (λ o. option_map_or (λ (x : SeatedValue). text x.manager.lmc x.manager.store) o []) there ∙ (λ i. text (lmcs i) (facts i))
-      ∙ ap (λ o. option_map_or (λ (x : SeatedValue). text x.manager.lmc x.manager.store) o []) (sym there')
+      ap (λ o. option_map_or (λ (x : SeatedValue). text x.manager.planning x.manager.store) o []) there ∙ (λ i. text (plannings i) (facts i))
+      ∙ ap (λ o. option_map_or (λ (x : SeatedValue). text x.manager.planning x.manager.store) o []) (sym there')
 
   know_alike : TellTheSame one other seat seat'
   unfolding facts_shown plan_shown
   know_alike =
       record {
-        facts = told_alike (λ lmc facts. facts_text facts);
-        plan = told_alike (λ lmc x. plan_or_refusal lmc (cells_of x) (plan_fault lmc (cells_of x)));
+        facts = told_alike (λ planning facts. facts_text facts);
+        plan = told_alike (λ planning x. plan_or_refusal planning (cells_of x) (plan_fault planning.lmc (cells_of x)));
       }
 
 -- who is in a seat
@@ -77,63 +78,63 @@ none_within [] i h e = omega (arith, h)
 none_within (x ∷ xs) zero h e = cc
 none_within (x ∷ xs) (suc i) h e = none_within xs i (omega (arith, h)) e
 
-seated : (count lmc : ℕ) (managers : List SeatedValue) (accounts : Accounts) (seat : ℕ) → AreKnown count lmc managers accounts → seat < count
+seated : (count : ℕ) (planning : Planning) (managers : List SeatedValue) (accounts : Accounts) (seat : ℕ) → AreKnown count planning managers accounts → seat < count
     → (s : SeatedValue) × (slice_get managers seat ≡ Some s)
-seated count lmc managers accounts seat known within = by_seat (slice_get managers seat) refl
+seated count planning managers accounts seat known within = by_seat (slice_get managers seat) refl
   where
     by_seat : (o : Option SeatedValue) → slice_get managers seat ≡ o → (s : SeatedValue) × (slice_get managers seat ≡ Some s)
     by_seat None e = absurd (none_within managers seat (omega (arith, within, known.many)) e)
     by_seat (Some s) e = (s, e)
 
-tell_alike : (lmc : ℕ) (topology topology' : Layout) (script script' : Script) (seat seat' : ℕ) → seat < length script.seats → seat' < length script'.seats
-    → view_at (account_after lmc topology script seat).floor (account_after lmc topology script seat).told
-    ≡ view_at (account_after lmc topology' script' seat').floor (account_after lmc topology' script' seat').told
-    → TellTheSame (world_after lmc topology script) (world_after lmc topology' script') seat seat'
-tell_alike lmc topology topology' script script' seat seat' within within' same =
-    let known = all_known lmc topology script in
-    let known' = all_known lmc topology' script' in
-    let s = seated (length script.seats) lmc (world_after lmc topology script).managers (account_after lmc topology script) seat known within in
-    let s' = seated (length script'.seats) lmc (world_after lmc topology' script').managers (account_after lmc topology' script') seat' known' within' in
-    know_alike (world_after lmc topology script) (world_after lmc topology' script') seat seat' s.0 s'.0 s.1 s'.1
-    (known.knows seat s.0 s.1 ∙ same ∙ sym (known'.knows seat' s'.0 s'.1)) (known.lmcs seat s.0 s.1 ∙ sym (known'.lmcs seat' s'.0 s'.1))
+tell_alike : (planning : Planning) (topology topology' : Layout) (script script' : Script) (seat seat' : ℕ) → seat < length script.seats → seat' < length script'.seats
+    → view_at (account_after planning topology script seat).floor (account_after planning topology script seat).told
+    ≡ view_at (account_after planning topology' script' seat').floor (account_after planning topology' script' seat').told
+    → TellTheSame (world_after planning topology script) (world_after planning topology' script') seat seat'
+tell_alike planning topology topology' script script' seat seat' within within' same =
+    let known = all_known planning topology script in
+    let known' = all_known planning topology' script' in
+    let s = seated (length script.seats) planning (world_after planning topology script).managers (account_after planning topology script) seat known within in
+    let s' = seated (length script'.seats) planning (world_after planning topology' script').managers (account_after planning topology' script') seat' known' within' in
+    know_alike (world_after planning topology script) (world_after planning topology' script') seat seat' s.0 s'.0 s.1 s'.1
+    (known.knows seat s.0 s.1 ∙ same ∙ sym (known'.knows seat' s'.0 s'.1)) (known.plannings seat s.0 s.1 ∙ sym (known'.plannings seat' s'.0 s'.1))
 
 views_alike : (one other : Account) → HaveSameMembers one.told other.told → one.floor ≡ other.floor
     → view_at one.floor one.told ≡ view_at other.floor other.told
 views_alike one other same floors = members_decide_view one.floor one.told other.told same ∙ ap (λ floor. view_at floor other.told) floors
 
 pub same_taken_in_same_lines : SameTakenInSameLines
-same_taken_in_same_lines lmc topology topology' script script' seat seat' within within' same floors =
-    tell_alike lmc topology topology' script script' seat seat' within within'
-    (views_alike (account_after lmc topology script seat) (account_after lmc topology' script' seat') same floors)
+same_taken_in_same_lines planning topology topology' script script' seat seat' within within' same floors =
+    tell_alike planning topology topology' script script' seat seat' within within'
+    (views_alike (account_after planning topology script seat) (account_after planning topology' script' seat') same floors)
 
 -- plans behind a schedule ---------------------------------------------------------------------------------
 
-plans_twice : (lmc : ℕ) (topology : Layout) (script : Script) (seat other : ℕ) → TellTheSame (world_after lmc topology script) (world_after lmc topology script) seat other
-    → PrintsPlansAlike lmc topology script seat other
-plans_twice lmc topology script seat other alike =
-    let w = world_after lmc topology script in
+plans_twice : (planning : Planning) (topology : Layout) (script : Script) (seat other : ℕ) → TellTheSame (world_after planning topology script) (world_after planning topology script) seat other
+    → PrintsPlansAlike planning topology script seat other
+plans_twice planning topology script seat other alike =
+    let w = world_after planning topology script in
     let plan = plan_shown w seat in
     record {
       plan = plan;
-      twice = later_lines_come_behind lmc topology script (Plan seat ∷ Plan other ∷ [])
-          ∙ ap (λ text. script_text lmc topology script ++ (plan ++ text)) (append-nil (plan_shown w other) ∙ sym alike.plan);
+      twice = later_lines_come_behind planning topology script (Plan seat ∷ Plan other ∷ [])
+          ∙ ap (λ text. script_text planning topology script ++ (plan ++ text)) (append-nil (plan_shown w other) ∙ sym alike.plan);
     }
 
 pub same_taken_in_plans_alike : SameTakenInPlansAlike
-same_taken_in_plans_alike lmc topology script seat other within within' same floors =
-    plans_twice lmc topology script seat other (same_taken_in_same_lines lmc topology topology script script seat other within within' same floors)
+same_taken_in_plans_alike planning topology script seat other within within' same floors =
+    plans_twice planning topology script seat other (same_taken_in_same_lines planning topology topology script script seat other within within' same floors)
 
 -- managers that merged ------------------------------------------------------------------------------------
 
-module _ (lmc : ℕ) (topology : Layout) (script : Script) (seat other : ℕ) (within : seat < length script.seats) (within' : other < length script.seats) where
+module _ (planning : Planning) (topology : Layout) (script : Script) (seat other : ℕ) (within : seat < length script.seats) (within' : other < length script.seats) where
   abbrev count : ℕ
   count = length script.seats
 
   abbrev after : Accounts
-  after = account_after lmc topology script
+  after = account_after planning topology script
 
   abbrev w : WorldValue
-  w = world_after lmc topology script
+  w = world_after planning topology script
 
   -- the first has merged
   abbrev first : Accounts
@@ -148,22 +149,22 @@ module _ (lmc : ℕ) (topology : Layout) (script : Script) (seat other : ℕ) (w
 
   by_first : told_by_command w after (Merge seat other) ≡ first
   by_first =
-      let o = seated count lmc w.managers after other (all_known lmc topology script) within' in
+      let o = seated count planning w.managers after other (all_known planning topology script) within' in
       ap (λ m. option_map_or (λ (o : SeatedValue). with_more after seat (after other)) m after) o.1
 
-  known_once : AreKnown count lmc merged_once.managers first
+  known_once : AreKnown count planning merged_once.managers first
   known_once =
-      subst (λ accounts. AreKnown count lmc merged_once.managers accounts) by_first
-      (command_known count lmc topology.nodes w after (Merge seat other) (all_known lmc topology script))
+      subst (λ accounts. AreKnown count planning merged_once.managers accounts) by_first
+      (command_known count planning topology.nodes w after (Merge seat other) (all_known planning topology script))
 
   by_second : told_by_command merged_once first (Merge other seat) ≡ second
   by_second =
-      let s = seated count lmc merged_once.managers first seat known_once within in
+      let s = seated count planning merged_once.managers first seat known_once within in
       ap (λ m. option_map_or (λ (o : SeatedValue). with_more first other (first seat)) m first) s.1
 
-  accounts_then : account_after lmc topology (and_lines script (Merge seat other ∷ Merge other seat ∷ [])) ≡ second
+  accounts_then : account_after planning topology (and_lines script (Merge seat other ∷ Merge other seat ∷ [])) ≡ second
   accounts_then =
-      told_behind topology.nodes (world_of lmc topology script.seats) opened script.commands (Merge seat other ∷ Merge other seat ∷ [])
+      told_behind topology.nodes (world_of planning topology script.seats) opened script.commands (Merge seat other ∷ Merge other seat ∷ [])
       ∙ ap (λ accounts. told_by_command merged_once accounts (Merge other seat)) by_first ∙ by_second
 
   -- each has what both took in
@@ -187,22 +188,22 @@ module _ (lmc : ℕ) (topology : Layout) (script : Script) (seat other : ℕ) (w
       ∙ ap (λ (a : Account). view_at a.floor a.told) (sym there)
 
   merged_alike : (seat ≡ other) ⊎ (seat ≢ other)
-      → view_at (account_after lmc topology (and_lines script (Merge seat other ∷ Merge other seat ∷ [])) seat).floor
-      (account_after lmc topology (and_lines script (Merge seat other ∷ Merge other seat ∷ [])) seat).told
-      ≡ view_at (account_after lmc topology (and_lines script (Merge seat other ∷ Merge other seat ∷ [])) other).floor
-      (account_after lmc topology (and_lines script (Merge seat other ∷ Merge other seat ∷ [])) other).told
+      → view_at (account_after planning topology (and_lines script (Merge seat other ∷ Merge other seat ∷ [])) seat).floor
+      (account_after planning topology (and_lines script (Merge seat other ∷ Merge other seat ∷ [])) seat).told
+      ≡ view_at (account_after planning topology (and_lines script (Merge seat other ∷ Merge other seat ∷ [])) other).floor
+      (account_after planning topology (and_lines script (Merge seat other ∷ Merge other seat ∷ [])) other).told
   merged_alike (inl same) =
-      ap (λ k. view_at (account_after lmc topology (and_lines script (Merge seat other ∷ Merge other seat ∷ [])) k).floor
-      (account_after lmc topology (and_lines script (Merge seat other ∷ Merge other seat ∷ [])) k).told) same
+      ap (λ k. view_at (account_after planning topology (and_lines script (Merge seat other ∷ Merge other seat ∷ [])) k).floor
+      (account_after planning topology (and_lines script (Merge seat other ∷ Merge other seat ∷ [])) k).told) same
   merged_alike (inr apart) =
       subst (λ (accounts : Accounts). view_at (accounts seat).floor (accounts seat).told ≡ view_at (accounts other).floor (accounts other).told)
       (sym accounts_then) (seconds_alike apart)
 
-  merged_plan_alike : PrintsPlansAlike lmc topology (and_lines script (Merge seat other ∷ Merge other seat ∷ [])) seat other
+  merged_plan_alike : PrintsPlansAlike planning topology (and_lines script (Merge seat other ∷ Merge other seat ∷ [])) seat other
   merged_plan_alike =
       let after_both = and_lines script (Merge seat other ∷ Merge other seat ∷ []) in
-      plans_twice lmc topology after_both seat other
-      (tell_alike lmc topology topology after_both after_both seat other within within'
+      plans_twice planning topology after_both seat other
+      (tell_alike planning topology topology after_both after_both seat other within within'
       (merged_alike (elim (eqb_tells seat other) [ inl same ↦ inl same.1 | inr h ↦ inr h.1 ])))
 
 pub merged_managers_plan_alike : MergedManagersPlanAlike

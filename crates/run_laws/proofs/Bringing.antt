@@ -58,13 +58,13 @@ module _ (nodes : List Node) (name : List ℕ) (m : Managing) where
 
 module _ (nodes : List Node) (w : WorldValue) (s : SeatedValue) (between after : List Command) (b : BringsUpAlone nodes w s between after) where
   abbrev plan : PlanValue
-  plan = plan_of b.swept.lmc (cells_of b.swept.store)
+  plan = plan_of b.swept.planning.rule b.swept.planning.lmc (cells_of b.swept.store)
 
   abbrev own : OwnSets
   own = IsOwnSet (fabric_of w.fabric) s.at (phases_by b.swept b.swept.sweep)
 
   abbrev start : Managing
-  start = managing_of (record { fabric = w.fabric; handed = [] }) s.at (new_manager b.port_guid s.at.port b.priority b.lmc) []
+  start = managing_of (record { fabric = w.fabric; handed = [] }) s.at (new_manager b.port_guid s.at.port b.priority b.planning) []
 
   starts_so : as_world s.name start ≡ w
   starts_so = ap (λ (ms : List SeatedValue). world_with w ms) (sym b.only)
@@ -136,7 +136,7 @@ module _ (nodes : List Node) (w : WorldValue) (s : SeatedValue) (between after :
 
   keeps : AllKeep (plan_at m2) (IsOwnSet (fabric_of w.fabric) s.at (phases_by m2.manager m2.manager.sweep)) wrote.events m3
   keeps =
-      subst (λ (x : Manager). AllKeep (plan_of x.lmc (cells_of x.store)) (IsOwnSet (fabric_of w.fabric) s.at (phases_by x x.sweep)) wrote.events m3) (sym swept_is)
+      subst (λ (x : Manager). AllKeep (plan_of x.planning.rule x.planning.lmc (cells_of x.store)) (IsOwnSet (fabric_of w.fabric) s.at (phases_by x x.sweep)) wrote.events m3) (sym swept_is)
       (wrote.keep (subst (λ x. KeepsLines plan own nodes x after) (sym steps_so) b.keeps))
 
   brings : BringsUp start [] swept.events wrote.events
@@ -149,7 +149,7 @@ module _ (nodes : List Node) (w : WorldValue) (s : SeatedValue) (between after :
             seat = b.seat;
             port = refl;
             lmc = b.few;
-            at_rest = new_managers_rest b.port_guid s.at.port b.priority b.lmc;
+            at_rest = new_managers_rest b.port_guid s.at.port b.priority b.planning;
             out = refl;
           };
           before_can = All-nil (CanBe s.at);
@@ -170,7 +170,7 @@ module _ (nodes : List Node) (w : WorldValue) (s : SeatedValue) (between after :
 
   reached : EachPingSaysReached plan (at_end nodes w between after) s.at
   reached =
-      subst (λ (x : Manager). EachPingSaysReached (plan_of x.lmc (cells_of x.store)) (at_end nodes w between after) s.at) swept_is
+      subst (λ (x : Manager). EachPingSaysReached (plan_of x.planning.rule x.planning.lmc (cells_of x.store)) (at_end nodes w between after) s.at) swept_is
       (written_plans_are_reached start [] swept.events wrote.events brings (at_end nodes w between after) (ap (λ (x : WorldValue). x.fabric) (sym end_so)))
 
 pub runs_of_one_are_reached : RunsOfOneAreReached

@@ -27,6 +27,7 @@ use Rattle.sweep.specs.declared.answer.Answer.{Answer}
 use Rattle.sweep.specs.declared.fault.SweepFault.{SweepFault}
 use Rattle.sweep.specs.Replies.{judged}
 use Rattle.sweep.specs.Sweep.{Sweep}
+use Rattle.sm_manager.specs.Planning.{Planning}
 use Rattle.sm_manager.specs.declared.fault.ManagerFault.{ManagerFault}
 use Rattle.sm_manager.specs.declared.fault.ManagerFault.TheVariants.{SequenceSpent}
 use Rattle.sm_manager.specs.declared.pending.Pending.{Pending}
@@ -42,7 +43,7 @@ use Rattle.sm_manager.specs.Packets.{request_answered, request_over, sweep_answe
 use Rattle.sm_manager.specs.Plans.{writing_fault}
 use Rattle.sm_manager.specs.Served.{served}
 use Rattle.sm_manager.specs.Writing.{is_spent, writing_begun}
-use Rattle.sm_manager.proofs.Lives.{Keeps, handing_keeps, lmc_stays, takes_call, timeout_keeps}
+use Rattle.sm_manager.proofs.Lives.{Keeps, handing_keeps, planning_stays, takes_call, timeout_keeps}
 use Rattle.sm_run.specs.Commands.{came_up, command_run, commands_run, cut_run, deliver_run, drain_run, floor_run, gave_up_run, given_up, handed_up}
 use Rattle.sm_run.specs.Commands.{handover_run}
 use Rattle.sm_run.specs.Commands.{lose_run, merge_run, plug_run, poll_run, repeat_run, seat_at, seat_run, step_run, sweep_run, taken_by, timeout_run}
@@ -93,79 +94,79 @@ module _ (m : Manager) (bytes : List ℕ) where
 
 -- what managers are asked for ----------------------------------------------------------------------------
 
-module _ (count lmc : ℕ) where
-  sent_known : (w : WorldValue) (accounts : Accounts) (seat : ℕ) → AreKnown count lmc w.managers accounts → AreKnown count lmc (sent w seat).now.managers accounts
+module _ (count : ℕ) (planning : Planning) where
+  sent_known : (w : WorldValue) (accounts : Accounts) (seat : ℕ) → AreKnown count planning w.managers accounts → AreKnown count planning (sent w seat).now.managers accounts
   unfolding sent
   sent_known w accounts seat known =
-      at_seat_is w seat (sent_by w seat) (λ x. AreKnown count lmc x.managers accounts) (λ _. known)
-      (λ s there. kept count lmc w accounts known seat s _ there (record { store = refl; lmc = refl }))
+      at_seat_is w seat (sent_by w seat) (λ x. AreKnown count planning x.managers accounts) (λ _. known)
+      (λ s there. kept count planning w accounts known seat s _ there (record { store = refl; planning = refl }))
 
   asked_known : (next : WorldValue → Ran WorldValue) (w : WorldValue) (accounts : Accounts) (seat : ℕ) (fault : Manager → Option ManagerFault)
-      (after : Manager → Manager) → ((x : WorldValue) → AreKnown count lmc x.managers accounts → AreKnown count lmc (next x).now.managers accounts)
-      → ((m : Manager) → Keeps m (after m)) → AreKnown count lmc w.managers accounts
-      → AreKnown count lmc (asked_run next w seat fault after).now.managers accounts
+      (after : Manager → Manager) → ((x : WorldValue) → AreKnown count planning x.managers accounts → AreKnown count planning (next x).now.managers accounts)
+      → ((m : Manager) → Keeps m (after m)) → AreKnown count planning w.managers accounts
+      → AreKnown count planning (asked_run next w seat fault after).now.managers accounts
   asked_known next w accounts seat fault after goes keeps known =
-      at_seat_is w seat _ (λ x. AreKnown count lmc x.managers accounts) (λ _. known)
-      (λ s there. called_is next w seat s (fault s.manager) (after s.manager) (λ x. AreKnown count lmc x.managers accounts) (λ why e. known)
-      (goes (with_manager w seat s (after s.manager)) (kept count lmc w accounts known seat s (after s.manager) there (keeps s.manager))))
+      at_seat_is w seat _ (λ x. AreKnown count planning x.managers accounts) (λ _. known)
+      (λ s there. called_is next w seat s (fault s.manager) (after s.manager) (λ x. AreKnown count planning x.managers accounts) (λ why e. known)
+      (goes (with_manager w seat s (after s.manager)) (kept count planning w accounts known seat s (after s.manager) there (keeps s.manager))))
 
   sending_known : (w : WorldValue) (accounts : Accounts) (seat : ℕ) (fault : Manager → Option ManagerFault) (after : Manager → Manager)
-      → ((m : Manager) → Keeps m (after m)) → AreKnown count lmc w.managers accounts
-      → AreKnown count lmc (asked_run (λ now. sent now seat) w seat fault after).now.managers accounts
+      → ((m : Manager) → Keeps m (after m)) → AreKnown count planning w.managers accounts
+      → AreKnown count planning (asked_run (λ now. sent now seat) w seat fault after).now.managers accounts
   sending_known w accounts seat fault after keeps known =
       asked_known (λ now. sent now seat) w accounts seat fault after (λ x h. sent_known x accounts seat h) keeps known
 
-  gave_up_known : (w : WorldValue) (accounts : Accounts) (seat transaction : ℕ) → AreKnown count lmc w.managers accounts
-      → AreKnown count lmc (gave_up_run w seat transaction).now.managers accounts
+  gave_up_known : (w : WorldValue) (accounts : Accounts) (seat transaction : ℕ) → AreKnown count planning w.managers accounts
+      → AreKnown count planning (gave_up_run w seat transaction).now.managers accounts
   unfolding gave_up_run
   gave_up_known w accounts seat transaction known =
       asked_known quiet w accounts seat (λ m. (manager.gave_up m transaction).fault) (λ m. (manager.gave_up m transaction).manager) (λ x h. h)
       (λ m. timeout_keeps m transaction) known
 
-  all_given_known : (w : WorldValue) (accounts : Accounts) (seat : ℕ) (transactions : List ℕ) → AreKnown count lmc w.managers accounts
-      → AreKnown count lmc (given_up w seat transactions).now.managers accounts
+  all_given_known : (w : WorldValue) (accounts : Accounts) (seat : ℕ) (transactions : List ℕ) → AreKnown count planning w.managers accounts
+      → AreKnown count planning (given_up w seat transactions).now.managers accounts
   all_given_known w accounts seat [] known = known
   all_given_known w accounts seat (transaction ∷ later) known =
       all_given_known (gave_up_run w seat transaction).now accounts seat later (gave_up_known w accounts seat transaction known)
 
-  timeout_known : (w : WorldValue) (accounts : Accounts) (seat : ℕ) → AreKnown count lmc w.managers accounts
-      → AreKnown count lmc (timeout_run w seat).now.managers accounts
+  timeout_known : (w : WorldValue) (accounts : Accounts) (seat : ℕ) → AreKnown count planning w.managers accounts
+      → AreKnown count planning (timeout_run w seat).now.managers accounts
   unfolding timeout_run
   timeout_known w accounts seat known =
-      at_seat_is w seat _ (λ x. AreKnown count lmc x.managers accounts) (λ _. known)
+      at_seat_is w seat _ (λ x. AreKnown count planning x.managers accounts) (λ _. known)
       (λ s there. sent_known (given_up w seat (outstanding s.manager)).now accounts seat (all_given_known w accounts seat (outstanding s.manager) known))
 
-  merge_known : (w : WorldValue) (accounts : Accounts) (seat other : ℕ) → AreKnown count lmc w.managers accounts
-      → AreKnown count lmc (merge_run w seat other).now.managers (told_by_merge w accounts seat other)
+  merge_known : (w : WorldValue) (accounts : Accounts) (seat other : ℕ) → AreKnown count planning w.managers accounts
+      → AreKnown count planning (merge_run w seat other).now.managers (told_by_merge w accounts seat other)
   unfolding merge_run
   merge_known w accounts seat other known = by_other (slice_get w.managers other) (λ o e. known.knows other o e)
     where
       by_other : (o : Option SeatedValue) → ((x : SeatedValue) → o ≡ Some x → x.manager.store ≡ view_at (accounts other).floor (accounts other).told)
-          → AreKnown count lmc
+          → AreKnown count planning
           (at_seat w seat (λ s. option_map_or (λ o. quiet (with_manager w seat s (merged s.manager o.manager.store))) o (quiet w))).now.managers
           (option_map_or (λ o. with_more accounts seat (accounts other)) o accounts)
-      by_other None h = at_seat_is w seat _ (λ x. AreKnown count lmc x.managers accounts) (λ _. known) (λ s there. known)
+      by_other None h = at_seat_is w seat _ (λ x. AreKnown count planning x.managers accounts) (λ _. known) (λ s there. known)
       by_other (Some o) h =
-          at_seat_is w seat _ (λ x. AreKnown count lmc x.managers (with_more accounts seat (accounts other)))
-          (nobody count lmc w.managers accounts seat (accounts other) known)
-          (λ s there. grown count lmc w accounts known seat s (merged s.manager o.manager.store) (accounts other) there refl (ap (merge s.manager.store) (h o refl)))
+          at_seat_is w seat _ (λ x. AreKnown count planning x.managers (with_more accounts seat (accounts other)))
+          (nobody count planning w.managers accounts seat (accounts other) known)
+          (λ s there. grown count planning w accounts known seat s (merged s.manager o.manager.store) (accounts other) there refl (ap (merge s.manager.store) (h o refl)))
 
-  floor_known : (w : WorldValue) (accounts : Accounts) (seat floor : ℕ) → AreKnown count lmc w.managers accounts
-      → AreKnown count lmc (floor_run w seat floor).now.managers (with_more accounts seat (record { told = []; floor = floor }))
+  floor_known : (w : WorldValue) (accounts : Accounts) (seat floor : ℕ) → AreKnown count planning w.managers accounts
+      → AreKnown count planning (floor_run w seat floor).now.managers (with_more accounts seat (record { told = []; floor = floor }))
   unfolding floor_run
   floor_known w accounts seat floor known =
       let more : Account = record { told = []; floor = floor } in
-      at_seat_is w seat _ (λ x. AreKnown count lmc x.managers (with_more accounts seat more)) (nobody count lmc w.managers accounts seat more known)
-      (λ s there. grown count lmc w accounts known seat s (floor_raised s.manager floor) more there refl (raised_is_merge s.manager.store floor))
+      at_seat_is w seat _ (λ x. AreKnown count planning x.managers (with_more accounts seat more)) (nobody count planning w.managers accounts seat more known)
+      (λ s there. grown count planning w accounts known seat s (floor_raised s.manager floor) more there refl (raised_is_merge s.manager.store floor))
 
   -- packets ------------------------------------------------------------------------------------------------
 
-  taken_known : (w : WorldValue) (accounts : Accounts) (seat : ℕ) (packet : Packet) → AreKnown count lmc w.managers accounts
-      → AreKnown count lmc (taken_by w seat packet).now.managers (told_by_packet w accounts packet seat)
+  taken_known : (w : WorldValue) (accounts : Accounts) (seat : ℕ) (packet : Packet) → AreKnown count planning w.managers accounts
+      → AreKnown count planning (taken_by w seat packet).now.managers (told_by_packet w accounts packet seat)
   taken_known w accounts seat packet known = by_seat (slice_get w.managers seat) (λ s e. e)
     where
       by_call : (s : SeatedValue) → slice_get w.managers seat ≡ Some s
-          → AreKnown count lmc
+          → AreKnown count planning
           (called_run quiet w seat s (took s.manager packet.bytes (Some packet.slid)).fault (took s.manager packet.bytes
           (Some packet.slid)).manager).now.managers
           (with_more accounts seat (record { told = told_in s.manager (calls.Packet packet.bytes (Some packet.slid)); floor = 1 }))
@@ -173,13 +174,13 @@ module _ (count lmc : ℕ) where
           let after = took s.manager packet.bytes (Some packet.slid) in
           let told : Account = record { told = told_in s.manager (calls.Packet packet.bytes (Some packet.slid)); floor = 1 } in
           let takes = takes_call s.manager (calls.Packet packet.bytes (Some packet.slid)) in
-          called_is quiet w seat s after.fault after.manager (λ x. AreKnown count lmc x.managers (with_more accounts seat told))
-          (λ why e. repeated count lmc w accounts known seat s told there
+          called_is quiet w seat s after.fault after.manager (λ x. AreKnown count planning x.managers (with_more accounts seat told))
+          (λ why e. repeated count planning w accounts known seat s told there
           (ap (λ (m : Manager). m.store) (sym (packet_leaves s.manager packet.bytes (Some packet.slid) (fault_of packet.bytes) why e)) ∙ takes))
-          (grown count lmc w accounts known seat s after.manager told there (lmc_stays s.manager (calls.Packet packet.bytes (Some packet.slid))) takes)
+          (grown count planning w accounts known seat s after.manager told there (planning_stays s.manager (calls.Packet packet.bytes (Some packet.slid))) takes)
 
       by_seat : (o : Option SeatedValue) → ((s : SeatedValue) → o ≡ Some s → slice_get w.managers seat ≡ Some s)
-          → AreKnown count lmc
+          → AreKnown count planning
           (option_map_or
           (λ s. called_run quiet w seat s (took s.manager packet.bytes (Some packet.slid)).fault (took s.manager packet.bytes (Some packet.slid)).manager)
           o (quiet w)).now.managers
@@ -191,82 +192,82 @@ module _ (count lmc : ℕ) where
       by_seat None there = known
       by_seat (Some s) there = by_call s (there s refl)
 
-  took_known : (w : WorldValue) (accounts : Accounts) (seat : ℕ) (packet : Packet) → AreKnown count lmc w.managers accounts
-      → AreKnown count lmc (took_run w seat packet).now.managers (told_by_packet w accounts packet seat)
+  took_known : (w : WorldValue) (accounts : Accounts) (seat : ℕ) (packet : Packet) → AreKnown count planning w.managers accounts
+      → AreKnown count planning (took_run w seat packet).now.managers (told_by_packet w accounts packet seat)
   unfolding took_run
   took_known w accounts seat packet known =
       sent_known (taken_by w seat packet).now (told_by_packet w accounts packet seat) seat (taken_known w accounts seat packet known)
 
-  handed_known : (w : WorldValue) (accounts : Accounts) (p : NodePort) (packet : Packet) → AreKnown count lmc w.managers accounts
-      → AreKnown count lmc (handed_up w p packet).now.managers (told_at w accounts p packet)
+  handed_known : (w : WorldValue) (accounts : Accounts) (p : NodePort) (packet : Packet) → AreKnown count planning w.managers accounts
+      → AreKnown count planning (handed_up w p packet).now.managers (told_at w accounts p packet)
   unfolding handed_up
   handed_known w accounts p packet known = by_seat (seat_at w p)
     where
-      by_seat : (o : Option ℕ) → AreKnown count lmc (option_map_or (λ seat. took_run w seat packet) o (quiet w)).now.managers
+      by_seat : (o : Option ℕ) → AreKnown count planning (option_map_or (λ seat. took_run w seat packet) o (quiet w)).now.managers
           (option_map_or (told_by_packet w accounts packet) o accounts)
       by_seat None = known
       by_seat (Some seat) = took_known w accounts seat packet known
 
-  came_known : (w : WorldValue) (accounts : Accounts) (result : Result Delivered FabricFault) → AreKnown count lmc w.managers accounts
-      → AreKnown count lmc (came_up w result).now.managers (told_by_delivery w accounts result)
+  came_known : (w : WorldValue) (accounts : Accounts) (result : Result Delivered FabricFault) → AreKnown count planning w.managers accounts
+      → AreKnown count planning (came_up w result).now.managers (told_by_delivery w accounts result)
   came_known w accounts (Ok (delivered_is.ToManager p packet)) known = handed_known w accounts p packet known
   came_known w accounts (Ok (delivered_is.Moved serial)) known = known
   came_known w accounts (Ok (delivered_is.Answered serial)) known = known
   came_known w accounts (Ok (delivered_is.Discarded reason)) known = known
   came_known w accounts (Err fault) known = known
 
-  step_known : (w : WorldValue) (accounts : Accounts) (serial : ℕ) → AreKnown count lmc w.managers accounts
-      → AreKnown count lmc (step_run w serial).now.managers (told_by_step w accounts serial)
+  step_known : (w : WorldValue) (accounts : Accounts) (serial : ℕ) → AreKnown count planning w.managers accounts
+      → AreKnown count planning (step_run w serial).now.managers (told_by_step w accounts serial)
   unfolding step_run
   step_known w accounts serial known =
       let called = delivered w.fabric serial in
-      came_known (fabric_run w called).now accounts called.result (record { many = known.many; lmcs = known.lmcs; knows = known.knows })
+      came_known (fabric_run w called).now accounts called.result (record { many = known.many; plannings = known.plannings; knows = known.knows })
 
-  deliver_known : (w : WorldValue) (accounts : Accounts) (which : Which) → AreKnown count lmc w.managers accounts
-      → AreKnown count lmc (deliver_run w which).now.managers (told_by_deliver w accounts which)
+  deliver_known : (w : WorldValue) (accounts : Accounts) (which : Which) → AreKnown count planning w.managers accounts
+      → AreKnown count planning (deliver_run w which).now.managers (told_by_deliver w accounts which)
   unfolding deliver_run
   deliver_known w accounts which known = by_serial (serial_of w.fabric.flights which)
     where
-      by_serial : (o : Option ℕ) → AreKnown count lmc (option_map_or (step_run w) o (shows (refusal_line (fabric_fault_name NoSuchPacket)) w)).now.managers
+      by_serial : (o : Option ℕ) → AreKnown count planning (option_map_or (step_run w) o (shows (refusal_line (fabric_fault_name NoSuchPacket)) w)).now.managers
           (option_map_or (told_by_step w accounts) o accounts)
       by_serial None = known
       by_serial (Some serial) = step_known w accounts serial known
 
-  drain_known : (most : ℕ) (w : WorldValue) (accounts : Accounts) → AreKnown count lmc w.managers accounts
-      → AreKnown count lmc (drain_run w most).now.managers (told_by_drain w accounts most)
+  drain_known : (most : ℕ) (w : WorldValue) (accounts : Accounts) → AreKnown count planning w.managers accounts
+      → AreKnown count planning (drain_run w most).now.managers (told_by_drain w accounts most)
   drain_known zero w accounts known = known
   drain_known (suc most) w accounts known = by_flight (slice_get w.fabric.flights 0) (drain_known most)
     where
       by_flight : (o : Option Flight)
-          → ((x : WorldValue) (accounts' : Accounts) → AreKnown count lmc x.managers accounts'
-          → AreKnown count lmc (drain_run x most).now.managers (told_by_drain x accounts' most))
-          → AreKnown count lmc (option_map_or (λ flight. and_then (step_run w flight.serial) (λ now. drain_run now most)) o (quiet w)).now.managers
+          → ((x : WorldValue) (accounts' : Accounts) → AreKnown count planning x.managers accounts'
+          → AreKnown count planning (drain_run x most).now.managers (told_by_drain x accounts' most))
+          → AreKnown count planning (option_map_or (λ flight. and_then (step_run w flight.serial) (λ now. drain_run now most)) o (quiet w)).now.managers
           (option_map_or (λ flight. told_by_drain (step_run w flight.serial).now (told_by_step w accounts flight.serial) most) o accounts)
       by_flight None later = known
       by_flight (Some flight) later =
           later (step_run w flight.serial).now (told_by_step w accounts flight.serial) (step_known w accounts flight.serial known)
 
   -- a packet that is meant, of which managers learn nothing
-  which_known : (w : WorldValue) (accounts : Accounts) (which : Which) (run : ℕ → Ran WorldValue) → AreKnown count lmc w.managers accounts
-      → ((serial : ℕ) → (run serial).now.managers ≡ w.managers) → AreKnown count lmc (with_packet w which run).now.managers accounts
+  which_known : (w : WorldValue) (accounts : Accounts) (which : Which) (run : ℕ → Ran WorldValue) → AreKnown count planning w.managers accounts
+      → ((serial : ℕ) → (run serial).now.managers ≡ w.managers) → AreKnown count planning (with_packet w which run).now.managers accounts
   which_known w accounts which run known same = by_serial (serial_of w.fabric.flights which)
     where
-      by_serial : (o : Option ℕ) → AreKnown count lmc (option_map_or run o (shows (refusal_line (fabric_fault_name NoSuchPacket)) w)).now.managers accounts
+      by_serial : (o : Option ℕ) → AreKnown count planning (option_map_or run o (shows (refusal_line (fabric_fault_name NoSuchPacket)) w)).now.managers accounts
       by_serial None = known
-      by_serial (Some serial) = subst (λ managers. AreKnown count lmc managers accounts) (sym (same serial)) known
+      by_serial (Some serial) = subst (λ managers. AreKnown count planning managers accounts) (sym (same serial)) known
 
   -- all lines ----------------------------------------------------------------------------------------------
 
-  pub command_known : (nodes : List Node) (w : WorldValue) (accounts : Accounts) (command : Command) → AreKnown count lmc w.managers accounts
-      → AreKnown count lmc (command_run nodes w command).now.managers (told_by_command w accounts command)
+  pub command_known : (nodes : List Node) (w : WorldValue) (accounts : Accounts) (command : Command) → AreKnown count planning w.managers accounts
+      → AreKnown count planning (command_run nodes w command).now.managers (told_by_command w accounts command)
   unfolding seat_run sweep_run write_run handover_run poll_run lose_run repeat_run cut_run plug_run
   command_known nodes w accounts (command.Manager seat) known =
-      at_seat_is w seat _ (λ x. AreKnown count lmc x.managers accounts) (λ _. known) (λ s there. known)
-  command_known nodes w accounts (command.Sweep seat) known = sending_known w accounts seat begin_fault sweep_begun (λ m. record { store = refl; lmc = refl }) known
-  command_known nodes w accounts (command.Write seat) known = sending_known w accounts seat writing_fault writing_begun (λ m. record { store = refl; lmc = refl }) known
+      at_seat_is w seat _ (λ x. AreKnown count planning x.managers accounts) (λ _. known) (λ s there. known)
+  command_known nodes w accounts (command.Sweep seat) known = sending_known w accounts seat begin_fault sweep_begun (λ m. record { store = refl; planning = refl }) known
+  command_known nodes w accounts (command.Write seat) known = sending_known w accounts seat writing_fault writing_begun (λ m. record { store = refl; planning = refl }) known
   command_known nodes w accounts (command.Handover seat) known =
       sending_known w accounts seat handover_fault handed_over (λ m. handing_keeps m (heir_lid m)) known
-  command_known nodes w accounts (command.Poll seat lid) known = sending_known w accounts seat poll_fault (λ m. poll_sent m lid) (λ m. record { store = refl; lmc = refl }) known
+  command_known nodes w accounts (command.Poll seat lid) known = sending_known w accounts seat poll_fault (λ m. poll_sent m lid) (λ m. record { store = refl; planning = refl }) known
   command_known nodes w accounts (command.Merge seat other) known = merge_known w accounts seat other known
   command_known nodes w accounts (command.Floor seat floor) known = floor_known w accounts seat floor known
   command_known nodes w accounts (command.Deliver which) known = deliver_known w accounts which known
@@ -284,15 +285,15 @@ module _ (count lmc : ℕ) where
   command_known nodes w accounts command.Tables known = known
   command_known nodes w accounts command.Flight known = known
 
-  commands_known : (nodes : List Node) (w : WorldValue) (accounts : Accounts) (commands : List Command) → AreKnown count lmc w.managers accounts
-      → AreKnown count lmc (commands_run nodes w commands).now.managers (told_by_commands nodes w accounts commands)
+  commands_known : (nodes : List Node) (w : WorldValue) (accounts : Accounts) (commands : List Command) → AreKnown count planning w.managers accounts
+      → AreKnown count planning (commands_run nodes w commands).now.managers (told_by_commands nodes w accounts commands)
   commands_known nodes w accounts [] known = known
   commands_known nodes w accounts (command ∷ later) known =
       commands_known nodes (command_run nodes w command).now (told_by_command w accounts command) later (command_known nodes w accounts command known)
 
-pub all_known : (lmc : ℕ) (topology : Layout) (script : Script) → AreKnown (length script.seats) lmc (world_after lmc topology script).managers (account_after lmc topology script)
-all_known lmc topology script =
-    commands_known (length script.seats) lmc topology.nodes (world_of lmc topology script.seats) opened script.commands (all_new lmc topology.nodes script.seats)
+pub all_known : (planning : Planning) (topology : Layout) (script : Script) → AreKnown (length script.seats) planning (world_after planning topology script).managers (account_after planning topology script)
+all_known planning topology script =
+    commands_known (length script.seats) planning topology.nodes (world_of planning topology script.seats) opened script.commands (all_new planning topology.nodes script.seats)
 
 pub runs_are_accounted_for : RunsAreAccountedFor
-runs_are_accounted_for lmc topology script = (all_known lmc topology script).knows
+runs_are_accounted_for planning topology script = (all_known planning topology script).knows

@@ -4,6 +4,7 @@ use Rattle.smp_bytes.specs.declared.cable.NodePort.{NodePort}
 use Rattle.fabric_sim.specs.Simulation.{Simulation}
 use Rattle.fact_store.specs.View.{cells_of}
 use Rattle.subnet_view.specs.Reading.{Cells}
+use Rattle.spread_rule.specs.Rules.{RuleValue}
 use Rattle.lft_blocks.specs.Plan.{PlanValue, plan_of}
 use Rattle.sm_laws.specs.Pings.{EachPingArrives}
 use Rattle.sm_laws.proofs.PlannedPings.{pings_arrive}
@@ -15,10 +16,10 @@ use Rattle.sm_run.specs.World.{WorldValue}
 use Rattle.run_laws.specs.Reached.{EachPingSaysReached, HeldPlansAreReached, WrittenPlansAreReached}
 
 -- a ping that arrives is shown as reached
-each_says : (cells : Cells) (plan : PlanValue) (w : WorldValue) (origin : NodePort) → EachPingArrives cells plan w.fabric origin
+each_says : (rule : RuleValue) (cells : Cells) (plan : PlanValue) (w : WorldValue) (origin : NodePort) → EachPingArrives rule cells plan w.fabric origin
     → EachPingSaysReached plan w origin
 unfolding ping_shown
-each_says cells plan w origin arrives nodes source end joined lid owner owned =
+each_says rule cells plan w origin arrives nodes source end joined lid owner owned =
     let p = arrives source end joined lid owner owned in
     record {
       target = p.arrives.target;
@@ -28,12 +29,13 @@ each_says cells plan w origin arrives nodes source end joined lid owner owned =
     }
 
 pub held_plans_are_reached : HeldPlansAreReached
-held_plans_are_reached lmc facts w origin room is end agrees holds =
-    each_says (cells_of facts) (plan_of lmc (cells_of facts)) w origin (pings_arrive lmc facts w.fabric origin room is end agrees holds)
+held_plans_are_reached rule lmc facts w origin room is end agrees holds =
+    each_says rule (cells_of facts) (plan_of rule lmc (cells_of facts)) w origin (pings_arrive rule lmc facts w.fabric origin room is end agrees holds)
 
 pub written_plans_are_reached : WrittenPlansAreReached
 written_plans_are_reached m before between after brings w same =
     let cells = cells_of (at_writing m before between).manager.store in
     let plan = plan_at (at_writing m before between) in
-    each_says cells plan w m.seat
-    (subst (λ (s : Simulation). EachPingArrives cells plan s m.seat) (sym same) (arrive.pings_arrive_once_written m before between after brings))
+    let rule = (at_writing m before between).manager.planning.rule in
+    each_says rule cells plan w m.seat
+    (subst (λ (s : Simulation). EachPingArrives rule cells plan s m.seat) (sym same) (arrive.pings_arrive_once_written m before between after brings))

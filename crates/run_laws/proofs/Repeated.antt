@@ -15,8 +15,8 @@ all_taken (Some xs) (Some ys) taken held consumed end e =
 
 pub texts_decide_output : {T S W : Type 0} (left : T → Option (List ℕ)) (has_failed : T → Bool) (left' : S → Option (List ℕ)) (has_failed' : S → Bool)
     (written : W → Option (List ℕ)) (failed : W → Bool) → TextsDecideOutput left has_failed left' has_failed' written failed
-texts_decide_output left has_failed left' has_failed' written failed old new old' new' sink sink' lmc topology schedule held held' run =
+texts_decide_output left has_failed left' has_failed' written failed old new old' new' sink sink' planning topology schedule held held' run =
     let read = run.texts.read in
     let one = all_taken (left old) (left new) run.texts.topology topology read.topology_read.consumed read.topology_read.at_end held in
     let other = all_taken (left' old') (left' new') run.texts.schedule schedule read.schedule_read.consumed read.schedule_read.at_end held' in
-    subst (Appends (written sink) (written sink')) (ap (λ t. run_text lmc t run.texts.schedule) one ∙ ap (run_text lmc topology) other) run.printed.grown
+    subst (Appends (written sink) (written sink')) (ap (λ t. run_text planning t run.texts.schedule) one ∙ ap (run_text planning topology) other) run.printed.grown

@@ -9,6 +9,7 @@ use Rattle.schedule_file.specs.declared.schedule.Seat.{Seat}
 use Rattle.fact_store.specs.Merge.{merge}
 use Rattle.fact_store.specs.View.{Facts, view_at, no_facts}
 use Rattle.fact_store.proofs.Views.{view_of_both}
+use Rattle.sm_manager.specs.Planning.{Planning}
 use Rattle.sm_manager.specs.Manager.{Manager}
 use Rattle.sm_manager.specs.declared.fault.ManagerFault.{ManagerFault}
 use Rattle.sm_manager.proofs.Lives.{Keeps}
@@ -34,9 +35,9 @@ module _ {X : Type 0} where
 -- seats --------------------------------------------------------------------------------------------
 
 -- so many managers, which plan by one LMC, and each of which knows the view of what it took in at its greatest floor
-pub record AreKnown (count lmc : ℕ) (managers : List SeatedValue) (accounts : Accounts) : Type 0 where
+pub record AreKnown (count : ℕ) (planning : Planning) (managers : List SeatedValue) (accounts : Accounts) : Type 0 where
   pub many : length managers ≡ count
-  pub lmcs : (seat : ℕ) (s : SeatedValue) → slice_get managers seat ≡ Some s → s.manager.lmc ≡ lmc
+  pub plannings : (seat : ℕ) (s : SeatedValue) → slice_get managers seat ≡ Some s → s.manager.planning ≡ planning
   pub knows : (seat : ℕ) (s : SeatedValue) → slice_get managers seat ≡ Some s → s.manager.store ≡ view_at (accounts seat).floor (accounts seat).told
 
 -- the account that a manager has then
@@ -60,24 +61,24 @@ pub told_more : (facts : Facts) (before more : Account) → facts ≡ view_at be
 told_more facts before more e =
     ap (λ x. merge x (view_at more.floor more.told)) e ∙ sym (view_of_both before.floor more.floor before.told more.told)
 
-module _ (count lmc : ℕ) (w : WorldValue) (accounts : Accounts) (known : AreKnown count lmc w.managers accounts) where
+module _ (count : ℕ) (planning : Planning) (w : WorldValue) (accounts : Accounts) (known : AreKnown count planning w.managers accounts) where
   -- another manager in a seat
   pub seated_known : (seat : ℕ) (s : SeatedValue) (m : Manager) (accounts' : Accounts) → slice_get w.managers seat ≡ Some s
       → ((other : ℕ) → other ≢ seat → accounts' other ≡ accounts other)
-      → m.lmc ≡ s.manager.lmc → m.store ≡ view_at (accounts' seat).floor (accounts' seat).told
-      → AreKnown count lmc (with_manager w seat s m).managers accounts'
-  seated_known seat s m accounts' there others same_lmc is =
-      record { many = length-set w.managers seat (record s { manager = m }) ∙ known.many; lmcs = lmcs; knows = knows }
+      → m.planning ≡ s.manager.planning → m.store ≡ view_at (accounts' seat).floor (accounts' seat).told
+      → AreKnown count planning (with_manager w seat s m).managers accounts'
+  seated_known seat s m accounts' there others same_planning is =
+      record { many = length-set w.managers seat (record s { manager = m }) ∙ known.many; plannings = plannings; knows = knows }
     where
-      lmcs : (k : ℕ) (x : SeatedValue) → slice_get (with_manager w seat s m).managers k ≡ Some x → x.manager.lmc ≡ lmc
-      lmcs k x at =
+      plannings : (k : ℕ) (x : SeatedValue) → slice_get (with_manager w seat s m).managers k ≡ Some x → x.manager.planning ≡ planning
+      plannings k x at =
           elim (eqb_tells k seat) [
             | inl same ↦
                 let here : Some x ≡ Some (record s { manager = m }) =
                 sym at ∙ ap (slice_get (with_manager w seat s m).managers) same.1 ∙ get_here w.managers seat s (record s { manager = m }) there in
                 let is_it : x ≡ record s { manager = m } = cc in
-                ap (λ (y : SeatedValue). y.manager.lmc) is_it ∙ same_lmc ∙ known.lmcs seat s there
-            | inr h ↦ known.lmcs k x (sym (get_there w.managers seat k (record s { manager = m }) h.1) ∙ at)
+                ap (λ (y : SeatedValue). y.manager.planning) is_it ∙ same_planning ∙ known.plannings seat s there
+            | inr h ↦ known.plannings k x (sym (get_there w.managers seat k (record s { manager = m }) h.1) ∙ at)
           ]
 
       knows : (k : ℕ) (x : SeatedValue) → slice_get (with_manager w seat s m).managers k ≡ Some x
@@ -99,21 +100,21 @@ module _ (count lmc : ℕ) (w : WorldValue) (accounts : Accounts) (known : AreKn
 
   -- it takes in nothing
   pub kept : (seat : ℕ) (s : SeatedValue) (m : Manager) → slice_get w.managers seat ≡ Some s → Keeps s.manager m
-      → AreKnown count lmc (with_manager w seat s m).managers accounts
-  kept seat s m there keeps = seated_known seat s m accounts there (λ other apart. refl) keeps.lmc (keeps.store ∙ known.knows seat s there)
+      → AreKnown count planning (with_manager w seat s m).managers accounts
+  kept seat s m there keeps = seated_known seat s m accounts there (λ other apart. refl) keeps.planning (keeps.store ∙ known.knows seat s there)
 
   -- it takes in more
-  pub grown : (seat : ℕ) (s : SeatedValue) (m : Manager) (more : Account) → slice_get w.managers seat ≡ Some s → m.lmc ≡ s.manager.lmc
-      → m.store ≡ merge s.manager.store (view_at more.floor more.told) → AreKnown count lmc (with_manager w seat s m).managers (with_more accounts seat more)
-  grown seat s m more there same_lmc takes =
-      seated_known seat s m (with_more accounts seat more) there (λ other apart. more_there accounts seat other more apart) same_lmc
+  pub grown : (seat : ℕ) (s : SeatedValue) (m : Manager) (more : Account) → slice_get w.managers seat ≡ Some s → m.planning ≡ s.manager.planning
+      → m.store ≡ merge s.manager.store (view_at more.floor more.told) → AreKnown count planning (with_manager w seat s m).managers (with_more accounts seat more)
+  grown seat s m more there same_planning takes =
+      seated_known seat s m (with_more accounts seat more) there (λ other apart. more_there accounts seat other more apart) same_planning
       (takes ∙ told_more s.manager.store (accounts seat) more (known.knows seat s there)
       ∙ ap (λ (a : Account). view_at a.floor a.told) (sym (more_here accounts seat more)))
 
   -- it took this in before
   pub repeated : (seat : ℕ) (s : SeatedValue) (more : Account) → slice_get w.managers seat ≡ Some s
-      → s.manager.store ≡ merge s.manager.store (view_at more.floor more.told) → AreKnown count lmc w.managers (with_more accounts seat more)
-  repeated seat s more there takes = record { many = known.many; lmcs = known.lmcs; knows = knows }
+      → s.manager.store ≡ merge s.manager.store (view_at more.floor more.told) → AreKnown count planning w.managers (with_more accounts seat more)
+  repeated seat s more there takes = record { many = known.many; plannings = known.plannings; knows = knows }
     where
       knows : (k : ℕ) (x : SeatedValue) → slice_get w.managers k ≡ Some x
           → x.manager.store ≡ view_at (with_more accounts seat more k).floor (with_more accounts seat more k).told
@@ -133,9 +134,9 @@ module _ (count lmc : ℕ) (w : WorldValue) (accounts : Accounts) (known : AreKn
               ∙ ap (λ (a : Account). view_at a.floor a.told) (sym (more_here accounts seat more) ∙ ap (with_more accounts seat more) (sym same))
 
 -- where nobody is in a seat, nothing is known of it
-pub nobody : (count lmc : ℕ) (managers : List SeatedValue) (accounts : Accounts) (seat : ℕ) (more : Account) → AreKnown count lmc managers accounts
-    → slice_get managers seat ≡ None → AreKnown count lmc managers (with_more accounts seat more)
-nobody count lmc managers accounts seat more known none = record { many = known.many; lmcs = known.lmcs; knows = knows }
+pub nobody : (count : ℕ) (planning : Planning) (managers : List SeatedValue) (accounts : Accounts) (seat : ℕ) (more : Account) → AreKnown count planning managers accounts
+    → slice_get managers seat ≡ None → AreKnown count planning managers (with_more accounts seat more)
+nobody count planning managers accounts seat more known none = record { many = known.many; plannings = known.plannings; knows = knows }
   where
     knows : (k : ℕ) (x : SeatedValue) → slice_get managers k ≡ Some x
         → x.manager.store ≡ view_at (with_more accounts seat more k).floor (with_more accounts seat more k).told
@@ -167,17 +168,17 @@ called_is next w seat s (Some why) m P refused done = refused why refl
 -- as a run begins ------------------------------------------------------------------------------------
 
 -- a manager as it is made
-new_is : (lmc : ℕ) (nodes : List Node) (seats : List Seat) (k : ℕ) (s : SeatedValue) → slice_get (map (new_seated lmc nodes) seats) k ≡ Some s
-    → (s.manager.store ≡ no_facts) × (s.manager.lmc ≡ lmc)
-new_is lmc nodes [] k s there = absurd (cc)
-new_is lmc nodes (x ∷ seats) zero s there =
-    let is_it : s ≡ new_seated lmc nodes x = cc in (ap (λ (y : SeatedValue). y.manager.store) is_it, ap (λ (y : SeatedValue). y.manager.lmc) is_it)
-new_is lmc nodes (x ∷ seats) (suc k) s there = new_is lmc nodes seats k s there
+new_is : (planning : Planning) (nodes : List Node) (seats : List Seat) (k : ℕ) (s : SeatedValue) → slice_get (map (new_seated planning nodes) seats) k ≡ Some s
+    → (s.manager.store ≡ no_facts) × (s.manager.planning ≡ planning)
+new_is planning nodes [] k s there = absurd (cc)
+new_is planning nodes (x ∷ seats) zero s there =
+    let is_it : s ≡ new_seated planning nodes x = cc in (ap (λ (y : SeatedValue). y.manager.store) is_it, ap (λ (y : SeatedValue). y.manager.planning) is_it)
+new_is planning nodes (x ∷ seats) (suc k) s there = new_is planning nodes seats k s there
 
-pub all_new : (lmc : ℕ) (nodes : List Node) (seats : List Seat) → AreKnown (length seats) lmc (map (new_seated lmc nodes) seats) opened
-all_new lmc nodes seats =
+pub all_new : (planning : Planning) (nodes : List Node) (seats : List Seat) → AreKnown (length seats) planning (map (new_seated planning nodes) seats) opened
+all_new planning nodes seats =
     record {
-      many = length-map seats (new_seated lmc nodes);
-      lmcs = λ k s there. (new_is lmc nodes seats k s there).1;
-      knows = λ k s there. (new_is lmc nodes seats k s there).0;
+      many = length-map seats (new_seated planning nodes);
+      plannings = λ k s there. (new_is planning nodes seats k s there).1;
+      knows = λ k s there. (new_is planning nodes seats k s there).0;
     }

@@ -15,6 +15,7 @@ use Rattle.fabric_sim.specs.declared.fault.FabricFault.{FabricFault}
 use Rattle.fabric_sim.specs.declared.packet.Packet.{Packet}
 use Rattle.fact_store.specs.Report.{Told}
 use Rattle.fact_store.specs.View.{view_at}
+use Rattle.sm_manager.specs.Planning.{Planning}
 use Rattle.sm_manager.specs.Calls as calls
 use Rattle.sm_manager.specs.Calls.{told_in}
 use Rattle.sm_run.specs.Commands.{command_run, commands_run, seat_at, step_run, world_of}
@@ -116,12 +117,12 @@ told_by_commands nodes w accounts (command ∷ later) =
 -- runs -------------------------------------------------------------------------------------------
 
 -- the world once a schedule was run
-abbrev pub world_after : ℕ → Layout → Script → WorldValue
-world_after lmc topology script = (commands_run topology.nodes (world_of lmc topology script.seats) script.commands).now
+abbrev pub world_after : Planning → Layout → Script → WorldValue
+world_after planning topology script = (commands_run topology.nodes (world_of planning topology script.seats) script.commands).now
 
 -- and what the manager of a seat has taken in by then
-abbrev pub account_after : ℕ → Layout → Script → ℕ → Account
-account_after lmc topology script = told_by_commands topology.nodes (world_of lmc topology script.seats) opened script.commands
+abbrev pub account_after : Planning → Layout → Script → ℕ → Account
+account_after planning topology script = told_by_commands topology.nodes (world_of planning topology script.seats) opened script.commands
 
 -- each manager knows the view of what it took in, at its greatest floor
 abbrev pub KnowWhatTheyTookIn : WorldValue → Accounts → Type 0
@@ -130,4 +131,4 @@ KnowWhatTheyTookIn w accounts =
 
 -- so it is after every run
 abbrev pub RunsAreAccountedFor : Type 0
-RunsAreAccountedFor = (lmc : ℕ) (topology : Layout) (script : Script) → KnowWhatTheyTookIn (world_after lmc topology script) (account_after lmc topology script)
+RunsAreAccountedFor = (planning : Planning) (topology : Layout) (script : Script) → KnowWhatTheyTookIn (world_after planning topology script) (account_after planning topology script)

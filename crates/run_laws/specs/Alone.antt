@@ -8,6 +8,7 @@ use Rattle.fabric_sim.specs.Simulation.{IsSimulation, Simulation, fabric_of, is_
 use Rattle.fact_store.specs.View.{cells_of}
 use Rattle.lft_blocks.specs.Plan.{PlanValue, plan_of}
 use Rattle.sweep.specs.Sweep.{Sweep}
+use Rattle.sm_manager.specs.Planning.{Planning}
 use Rattle.sm_manager.specs.Manager.{Manager, new_manager}
 use Rattle.sm_manager.specs.Plans.{writing_fault}
 use Rattle.sm_manager.specs.Writing.{is_written, phases_by}
@@ -84,9 +85,9 @@ pub record BringsUpAlone (nodes : List Node) (w : WorldValue) (s : SeatedValue) 
   pub port_guid : ℕ
   pub priority : ℕ
   -- an LMC that there is
-  pub lmc : ℕ
-  pub few : lmc < 8
-  pub only : IsOnly w s (new_manager port_guid s.at.port priority lmc)
+  pub planning : Planning
+  pub few : planning.lmc < 8
+  pub only : IsOnly w s (new_manager port_guid s.at.port priority planning)
   pub fabric : IsSimulation w.fabric
   pub no_packets : w.fabric.flights ≡ []
   pub distinct : AreGuidsDistinct (fabric_of w.fabric)
@@ -101,7 +102,7 @@ pub record BringsUpAlone (nodes : List Node) (w : WorldValue) (s : SeatedValue) 
   pub whole : IsWhole sweep
   pub begins : writing_fault swept ≡ None
   -- each Set that an agent takes from then on, unless it is one of the writing's own, carries the plan's values
-  pub keeps : KeepsLines (plan_of swept.lmc (cells_of swept.store)) (IsOwnSet (fabric_of w.fabric) s.at (phases_by swept swept.sweep)) nodes
+  pub keeps : KeepsLines (plan_of swept.planning.rule swept.planning.lmc (cells_of swept.store)) (IsOwnSet (fabric_of w.fabric) s.at (phases_by swept swept.sweep)) nodes
       (at_first_steps nodes w between) after
   -- and it is finished in the end
   pub writer : Manager
@@ -112,4 +113,4 @@ pub record BringsUpAlone (nodes : List Node) (w : WorldValue) (s : SeatedValue) 
 abbrev pub RunsOfOneAreReached : Type 0
 RunsOfOneAreReached = (nodes : List Node) (w : WorldValue) (s : SeatedValue) (between after : List Command)
     → (b : BringsUpAlone nodes w s between after)
-    → EachPingSaysReached (plan_of b.swept.lmc (cells_of b.swept.store)) (at_end nodes w between after) s.at
+    → EachPingSaysReached (plan_of b.swept.planning.rule b.swept.planning.lmc (cells_of b.swept.store)) (at_end nodes w between after) s.at

@@ -1,4 +1,5 @@
 -- What managers that took in the same print.
+use Rattle.sm_manager.specs.Planning.{Planning}
 use Rattle.std.specs.Prelude.{◌≡◌, ◌<◌, ℕ, List, [], ◌∷◌, ◌++◌, length}
 use Rattle.topo_file.specs.Topology.{Layout}
 use Rattle.schedule_file.specs.Schedule.{Script}
@@ -16,9 +17,9 @@ and_lines script lines = record script { commands = script.commands ++ lines }
 -- what stands behind a schedule changes nothing of what it prints, and prints what it does in the world then
 abbrev pub LaterLinesComeBehind : Type 0
 LaterLinesComeBehind =
-    (lmc : ℕ) (topology : Layout) (script : Script) (lines : List Command)
-    → script_text lmc topology (and_lines script lines)
-    ≡ script_text lmc topology script ++ (commands_run topology.nodes (world_after lmc topology script) lines).text
+    (planning : Planning) (topology : Layout) (script : Script) (lines : List Command)
+    → script_text planning topology (and_lines script lines)
+    ≡ script_text planning topology script ++ (commands_run topology.nodes (world_after planning topology script) lines).text
 
 -- a manager of one world and a manager of another print the same of what they know, and the same plan
 pub record TellTheSame (one other : WorldValue) (seat seat' : ℕ) : Type 0 where
@@ -28,26 +29,26 @@ pub record TellTheSame (one other : WorldValue) (seat seat' : ℕ) : Type 0 wher
 -- two managers, of one run or of two under the same LMC, that took in the same, in whatever order and however often, and have one greatest floor
 abbrev pub SameTakenInSameLines : Type 0
 SameTakenInSameLines =
-    (lmc : ℕ) (topology topology' : Layout) (script script' : Script) (seat seat' : ℕ) → seat < length script.seats → seat' < length script'.seats
-    → HaveSameMembers (account_after lmc topology script seat).told (account_after lmc topology' script' seat').told
-    → (account_after lmc topology script seat).floor ≡ (account_after lmc topology' script' seat').floor
-    → TellTheSame (world_after lmc topology script) (world_after lmc topology' script') seat seat'
+    (planning : Planning) (topology topology' : Layout) (script script' : Script) (seat seat' : ℕ) → seat < length script.seats → seat' < length script'.seats
+    → HaveSameMembers (account_after planning topology script seat).told (account_after planning topology' script' seat').told
+    → (account_after planning topology script seat).floor ≡ (account_after planning topology' script' seat').floor
+    → TellTheSame (world_after planning topology script) (world_after planning topology' script') seat seat'
 
 -- behind a schedule the plans of two managers are printed alike
-pub record PrintsPlansAlike (lmc : ℕ) (topology : Layout) (script : Script) (seat other : ℕ) : Type 0 where
+pub record PrintsPlansAlike (planning : Planning) (topology : Layout) (script : Script) (seat other : ℕ) : Type 0 where
   pub plan : List ℕ
-  pub twice : script_text lmc topology (and_lines script (Plan seat ∷ Plan other ∷ [])) ≡ script_text lmc topology script ++ (plan ++ plan)
+  pub twice : script_text planning topology (and_lines script (Plan seat ∷ Plan other ∷ [])) ≡ script_text planning topology script ++ (plan ++ plan)
 
 -- where they took in the same, and have one greatest floor
 abbrev pub SameTakenInPlansAlike : Type 0
 SameTakenInPlansAlike =
-    (lmc : ℕ) (topology : Layout) (script : Script) (seat other : ℕ) → seat < length script.seats → other < length script.seats
-    → HaveSameMembers (account_after lmc topology script seat).told (account_after lmc topology script other).told
-    → (account_after lmc topology script seat).floor ≡ (account_after lmc topology script other).floor
-    → PrintsPlansAlike lmc topology script seat other
+    (planning : Planning) (topology : Layout) (script : Script) (seat other : ℕ) → seat < length script.seats → other < length script.seats
+    → HaveSameMembers (account_after planning topology script seat).told (account_after planning topology script other).told
+    → (account_after planning topology script seat).floor ≡ (account_after planning topology script other).floor
+    → PrintsPlansAlike planning topology script seat other
 
 -- and whenever each has merged what the other knows
 abbrev pub MergedManagersPlanAlike : Type 0
 MergedManagersPlanAlike =
-    (lmc : ℕ) (topology : Layout) (script : Script) (seat other : ℕ) → seat < length script.seats → other < length script.seats
-    → PrintsPlansAlike lmc topology (and_lines script (Merge seat other ∷ Merge other seat ∷ [])) seat other
+    (planning : Planning) (topology : Layout) (script : Script) (seat other : ℕ) → seat < length script.seats → other < length script.seats
+    → PrintsPlansAlike planning topology (and_lines script (Merge seat other ∷ Merge other seat ∷ [])) seat other

@@ -10,6 +10,7 @@ use Rattle.fact_store.specs.View.{Facts, cells_of}
 use Rattle.subnet_view.specs.declared.end_port.EndPort.{EndPort}
 use Rattle.subnet_view.specs.Agreement.{AgreesOn, IsPortNamed}
 use Rattle.lid_assign.specs.Lids.{IsNoRoom, owner_of}
+use Rattle.spread_rule.specs.Rules.{RuleValue}
 use Rattle.lft_blocks.specs.Plan.{PlanValue, plan_of}
 use Rattle.lft_blocks.specs.Arrival.{HoldsPlan}
 use Rattle.written_laws.specs.Managing.{Managing, ManagerEvent}
@@ -34,11 +35,11 @@ EachPingSaysReached plan w origin = (nodes : List Node) (source : NodePort) → 
 
 -- so it is where facts agree with what an end port of a world's fabric is joined to, and their plan is held there
 abbrev pub HeldPlansAreReached : Type 0
-HeldPlansAreReached = (lmc : ℕ) (facts : Facts) (w : WorldValue) (origin : NodePort) → ¬ (IsNoRoom lmc (cells_of facts)) → IsSimulation w.fabric
+HeldPlansAreReached = (rule : RuleValue) (lmc : ℕ) (facts : Facts) (w : WorldValue) (origin : NodePort) → ¬ (IsNoRoom lmc (cells_of facts)) → IsSimulation w.fabric
     → IsEndPort (fabric_of w.fabric) origin
     → AgreesOn (IsJoinedTo (fabric_of w.fabric) origin) (cells_of facts) (fabric_of w.fabric)
-    → HoldsPlan (IsJoinedTo (fabric_of w.fabric) origin) (plan_of lmc (cells_of facts)) (fabric_of w.fabric)
-    → EachPingSaysReached (plan_of lmc (cells_of facts)) w origin
+    → HoldsPlan (IsJoinedTo (fabric_of w.fabric) origin) (plan_of rule lmc (cells_of facts)) (fabric_of w.fabric)
+    → EachPingSaysReached (plan_of rule lmc (cells_of facts)) w origin
 
 -- and where the fabric is as it is once a manager has brought its subnet up: after a sweep with every answer, a writing that is
 -- finished, and nothing else that writes other values

@@ -1,14 +1,20 @@
 -- The rules of routing that a plan can be asked for by.
-use Rattle.std.specs.Prelude.{[]}
+use Rattle.std.specs.Prelude.{[], None, Some}
 use Rattle.subnet_view.specs.Reading.{Cells}
 use Rattle.updown_routes.specs.Graph.{graph_of}
 use Rattle.updown_routes.specs.Routing.{Routing, updown}
 use Rattle.spread_rule.specs.Bearing.{bearing_of}
+use Rattle.spread_rule.specs.Rules.{RuleValue}
 use Rattle.spread_rule.specs.Spread.{spread_by}
 use Rattle.sm_cli.specs.declared.run.RuleKind.{RuleKind}
 use Rattle.sm_cli.specs.declared.run.RuleKind.TheVariants.{UpDown, Spread}
 
--- what a rule makes of the wires of a view; the one that spreads has no roots
+-- the one that spreads has no roots
+abbrev pub value_of_kind : RuleKind → RuleValue
+value_of_kind UpDown = None
+value_of_kind Spread = Some []
+
+-- what a rule makes of the wires of a view
 abbrev pub rule_of_kind : RuleKind → Cells → Routing
 rule_of_kind UpDown cells = updown (graph_of cells)
 rule_of_kind Spread cells = spread_by (graph_of cells) (bearing_of cells) []

@@ -13,5 +13,5 @@ pub use exit_status::ExitStatus;
 pub use facts_text::{write_cell, write_facts};
 pub use fault::Fault;
 pub use fault_text::write_fault;
-pub use run::{Command, Output, RefusedFile, RuleKind, read_all, run_files};
+pub use run::{Command, Output, RefusedFile, RuleKind, read_all, rule_of_kind, run_files};
 pub use text_fault::TextFault;

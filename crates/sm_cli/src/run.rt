@@ -4,10 +4,10 @@ ghost use Rattle.fact_store.specs.View.{cells_of};
 ghost use Rattle.smp_bytes.specs.Judges.{JudgesButFor};
 ghost use Rattle.subnet_view.specs.Reading.{Cells};
 ghost use Rattle.lid_assign.specs.LidFault.{is_memory, lid_fault, no_room};
-ghost use Rattle.spread_rule.specs.Rules.{rule_of};
+ghost use Rattle.spread_rule.specs.Rules.{rule_of, value_of};
 ghost use Rattle.lft_blocks.specs.Arrival.{EveryPacketArrivesBy};
 ghost use Rattle.lft_blocks.specs.Plan.{plan_by};
-ghost use Rattle.sm_cli.specs.Kinds.{rule_of_kind};
+ghost use Rattle.sm_cli.specs.Kinds.{rule_of_kind, value_of_kind};
 ghost use Rattle.sm_cli.specs.Run.{HasAnswered, HasRead, IsAnswered, IsAnswerFault, IsFaultOf, ReadsInto, Refuses, RefusesFile, answer_to};
 
 use crate::facts_text::write_facts;
@@ -133,9 +133,10 @@ fn plan_by(alloc: Global, store: &Store, lmc: Lmc, kind: RuleKind) -> Result<Pla
     Plan::of(alloc, store, lmc, &rule)
 }
 
-/// The rule itself.
-fn rule_of_kind(alloc: Global, kind: RuleKind) -> Rule
-    ensures { (cells : Cells) → rule_of result cells ≡ rule_of_kind kind cells }
+/// The rule itself; the one that spreads has no roots.
+pub fn rule_of_kind(alloc: Global, kind: RuleKind) -> Rule
+    ensures value { value_of result ≡ value_of_kind kind }
+    ensures routing { (cells : Cells) → rule_of result cells ≡ rule_of_kind kind cells }
 {
     match kind {
         RuleKind::UpDown => Rule::UpDown,

@@ -48,10 +48,10 @@ end_is_port s p (node, at, number) =
     or_left a b e = ap (λ (t : Bool). t || b) e
 
 pub pings_arrive : PingsArrive
-pings_arrive lmc facts s origin has_room is is_origin agrees holds source is_end joined lid owner owned =
-    let in_force : IsInForce (IsJoinedTo (fabric_of s) origin) (cells_of facts) (plan_of lmc (cells_of facts)) (fabric_of s) =
+pings_arrive rule lmc facts s origin has_room is is_origin agrees holds source is_end joined lid owner owned =
+    let in_force : IsInForce (IsJoinedTo (fabric_of s) origin) (cells_of facts) (plan_of rule lmc (cells_of facts)) (fabric_of s) =
     record { is_fabric = simulations_are_fabrics s is; agrees = agrees; holds = holds } in
-    let a = every_packet_arrives lmc facts has_room (fabric_of s) origin is_origin in_force source is_end joined lid owner owned in
+    let a = every_packet_arrives rule lmc facts has_room (fabric_of s) origin is_origin in_force source is_end joined lid owner owned in
     record {
       accepted = ap (λ (t : Bool). cond t None (Some NoSuchPort)) (end_is_port s source is_end);
       arrives = a;

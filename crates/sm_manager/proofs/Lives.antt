@@ -39,25 +39,25 @@ use Rattle.sm_manager.specs.Calls.{Call, BeginSweep, WriteSteps, Take, Packet, T
 
 -- what a call takes in is merged with what was known -------------------------------------------
 
--- the facts and the LMC stay
+-- the facts and how it plans stays
 pub record Keeps (m after : Manager) : Type 0 where
   pub store : after.store ≡ m.store
-  pub lmc : after.lmc ≡ m.lmc
+  pub planning : after.planning ≡ m.planning
 
 same : (m : Manager) → Keeps m m
-same m = record { store = refl; lmc = refl }
+same m = record { store = refl; planning = refl }
 
--- the facts are merged with what these sightings say, and the LMC stays
+-- the facts are merged with what these sightings say, and how it plans stays
 record Takes (m : Manager) (told : Told) (after : Manager) : Type 0 where
   store : after.store ≡ merge m.store (view told)
-  lmc : after.lmc ≡ m.lmc
+  planning : after.planning ≡ m.planning
 
 nothing_taken : (m after : Manager) → Keeps m after → Takes m [] after
-nothing_taken m after k = record { store = k.store ∙ sym (merge_is_commutative m.store no_facts ∙ merge_empty m.store); lmc = k.lmc }
+nothing_taken m after k = record { store = k.store ∙ sym (merge_is_commutative m.store no_facts ∙ merge_empty m.store); planning = k.planning }
 
 module _ (m : Manager) where
   takes_answer : (bytes : List ℕ) (s : Sweep) (r : Result Answer SweepFault) → Takes m (told_if r) (answered_by m s bytes r).manager
-  takes_answer bytes s (Ok answer) = record { store = refl; lmc = refl }
+  takes_answer bytes s (Ok answer) = record { store = refl; planning = refl }
   takes_answer bytes s (Err why) = nothing_taken m m (same m)
 
   takes_reply : (bytes : List ℕ) (s : Option Sweep) → Takes m (told_of_reply bytes s) (sweep_answered m bytes s).manager
@@ -65,42 +65,42 @@ module _ (m : Manager) where
   takes_reply bytes (Some s) = takes_answer bytes s (judged s bytes)
 
   phase_keeps : (w : Option Writing) → Keeps m (went_on_with m w)
-  phase_keeps None = record { store = refl; lmc = refl }
-  phase_keeps (Some w) = cond_both (no_step_waits m.pending) (phase_sent m w) m (λ (x : Manager). Keeps m x) (λ _. record { store = refl; lmc = refl }) (λ _. record { store = refl; lmc = refl })
+  phase_keeps None = record { store = refl; planning = refl }
+  phase_keeps (Some w) = cond_both (no_step_waits m.pending) (phase_sent m w) m (λ (x : Manager). Keeps m x) (λ _. record { store = refl; planning = refl }) (λ _. record { store = refl; planning = refl })
 
 over_keeps : (m : Manager) (p : Pending) (was_done : Bool) → Keeps m (step_over m p was_done)
 over_keeps m p was_done =
     let w = noted (counts p) was_done m.writing in
     let k = phase_keeps (record m { pending = without_number p.number m.pending; writing = w }) w in
-    record { store = k.store; lmc = k.lmc }
+    record { store = k.store; planning = k.planning }
 
 unless_keeps : (m : Manager) (after : Manager) → Keeps m after → Keeps m (unless_spent m after).manager
-unless_keeps m after e = cond_both (is_spent after) (refused m SequenceSpent) (done after) (λ (x : Called). Keeps m x.manager) (λ _. record { store = refl; lmc = refl }) (λ _. e)
+unless_keeps m after e = cond_both (is_spent after) (refused m SequenceSpent) (done after) (λ (x : Called). Keeps m x.manager) (λ _. record { store = refl; planning = refl }) (λ _. e)
 
 telling_keeps : (m : Manager) (to : Option ℕ) (message : Option Message) → Keeps m (told m to message)
-telling_keeps m None message = record { store = refl; lmc = refl }
-telling_keeps m (Some lid) None = record { store = refl; lmc = refl }
-telling_keeps m (Some lid) (Some message) = record { store = refl; lmc = refl }
+telling_keeps m None message = record { store = refl; planning = refl }
+telling_keeps m (Some lid) None = record { store = refl; planning = refl }
+telling_keeps m (Some lid) (Some message) = record { store = refl; planning = refl }
 
 module _ (m : Manager) where
   ending_keeps : (p : Pending) (answer : Option ℕ) (why : Purpose) → Keeps m (request_over m p answer why).manager
-  ending_keeps p answer purpose.Poll = record { store = refl; lmc = refl }
-  ending_keeps p answer purpose.Control = record { store = refl; lmc = refl }
+  ending_keeps p answer purpose.Poll = record { store = refl; planning = refl }
+  ending_keeps p answer purpose.Control = record { store = refl; planning = refl }
   ending_keeps p answer (purpose.Step counts) = unless_keeps m _ (over_keeps m p (is_done_by answer))
 
   answer_keeps : (bytes : List ℕ) (p : Option Pending) → Keeps m (request_answered m bytes p).manager
-  answer_keeps bytes None = record { store = refl; lmc = refl }
+  answer_keeps bytes None = record { store = refl; planning = refl }
   answer_keeps bytes (Some p) = ending_keeps p (Some (status bytes)) p.purpose
 
   moving_keeps : (bytes : List ℕ) (from : Option ℕ) (move : Transition) → Keeps m (moved_on m bytes from move)
   moving_keeps bytes from move =
       let k = telling_keeps (answering (record m { standing = moved_to move.state m.standing }) bytes from (status_of move)) from move.message in
-      record { store = k.store; lmc = k.lmc }
+      record { store = k.store; planning = k.planning }
 
   serving_keeps : (bytes : List ℕ) (from : Option ℕ) → Keeps m (served m bytes from)
   serving_keeps bytes from =
       cond_both (is_control bytes) (controlled m bytes from) (answering m bytes from (status_for bytes)) (λ (x : Manager). Keeps m x)
-      (λ _. moving_keeps bytes from (stepped m.standing.state (event.Control (number_in attribute_modifier bytes)))) (λ _. record { store = refl; lmc = refl })
+      (λ _. moving_keeps bytes from (stepped m.standing.state (event.Control (number_in attribute_modifier bytes)))) (λ _. record { store = refl; planning = refl })
 
   takes_packet : (bytes : List ℕ) (from : Option ℕ) (why : Option SmpFault) → Takes m (told_of_packet m bytes why) (packet_taken m bytes from why).manager
   takes_packet bytes from (Some why) = nothing_taken m m (same m)
@@ -113,15 +113,15 @@ module _ (m : Manager) where
       by_tests false false = nothing_taken m _ (answer_keeps bytes (pending_for m bytes))
 
   sweep_timeout_keeps : (transaction : ℕ) (s : Option Sweep) → Keeps m (sweep_gave_up m transaction s).manager
-  sweep_timeout_keeps transaction None = record { store = refl; lmc = refl }
+  sweep_timeout_keeps transaction None = record { store = refl; planning = refl }
   sweep_timeout_keeps transaction (Some s) = by_fault (timeout_fault s transaction)
     where
       by_fault : (why : Option SweepFault) → Keeps m (sweep_timed_out m s transaction why).manager
-      by_fault (Some why) = record { store = refl; lmc = refl }
-      by_fault None = record { store = refl; lmc = refl }
+      by_fault (Some why) = record { store = refl; planning = refl }
+      by_fault None = record { store = refl; planning = refl }
 
   request_timeout_keeps : (p : Option Pending) → Keeps m (request_gave_up m p).manager
-  request_timeout_keeps None = record { store = refl; lmc = refl }
+  request_timeout_keeps None = record { store = refl; planning = refl }
   request_timeout_keeps (Some p) = ending_keeps p None p.purpose
 
   pub timeout_keeps : (transaction : ℕ) → Keeps m (gave_up m transaction).manager
@@ -130,46 +130,46 @@ module _ (m : Manager) where
       (λ _. sweep_timeout_keeps transaction m.sweep) (λ _. request_timeout_keeps (with_number transaction m.pending))
 
   taking_keeps : (packets : List Outgoing) → Keeps m (taken_of m packets).manager
-  taking_keeps [] = record { store = refl; lmc = refl }
-  taking_keeps (packet ∷ packets) = record { store = refl; lmc = refl }
+  taking_keeps [] = record { store = refl; planning = refl }
+  taking_keeps (packet ∷ packets) = record { store = refl; planning = refl }
 
   pub handing_keeps : (lid : Option ℕ) → Keeps m (handed_to m lid)
-  handing_keeps None = record { store = refl; lmc = refl }
-  handing_keeps (Some lid) = record { store = refl; lmc = refl }
+  handing_keeps None = record { store = refl; planning = refl }
+  handing_keeps (Some lid) = record { store = refl; planning = refl }
 
   -- so it is with each call
   record TakesIn (call : Call) : Type 0 where
     store : (after_call m call).store ≡ merge m.store (view_at (floor_in call) (told_in m call))
-    lmc : (after_call m call).lmc ≡ m.lmc
+    planning : (after_call m call).planning ≡ m.planning
 
   stays : (call : Call) → Keeps m (after_call m call) → Takes m [] (after_call m call)
   stays call k = nothing_taken m (after_call m call) k
 
   takes : (call : Call) → TakesIn call
   takes BeginSweep =
-      let t = stays BeginSweep (cond_both (is_none (begin_fault m)) (sweep_begun m) m (λ (x : Manager). Keeps m x) (λ _. record { store = refl; lmc = refl }) (λ _. record { store = refl; lmc = refl })) in
-      record { store = t.store; lmc = t.lmc }
+      let t = stays BeginSweep (cond_both (is_none (begin_fault m)) (sweep_begun m) m (λ (x : Manager). Keeps m x) (λ _. record { store = refl; planning = refl }) (λ _. record { store = refl; planning = refl })) in
+      record { store = t.store; planning = t.planning }
   takes WriteSteps =
-      let t = stays WriteSteps (cond_both (is_none (writing_fault m)) (writing_begun m) m (λ (x : Manager). Keeps m x) (λ _. record { store = refl; lmc = refl }) (λ _. record { store = refl; lmc = refl })) in
-      record { store = t.store; lmc = t.lmc }
-  takes Take = let t = stays Take (taking_keeps m.outgoing) in record { store = t.store; lmc = t.lmc }
-  takes (Packet bytes from) = let t = takes_packet bytes from (fault_of bytes) in record { store = t.store; lmc = t.lmc }
-  takes (Timeout transaction) = let t = stays (Timeout transaction) (timeout_keeps transaction) in record { store = t.store; lmc = t.lmc }
-  takes (Raise floor) = record { store = raised_is_merge m.store floor; lmc = refl }
-  takes (Merge floor sightings) = record { store = refl; lmc = refl }
+      let t = stays WriteSteps (cond_both (is_none (writing_fault m)) (writing_begun m) m (λ (x : Manager). Keeps m x) (λ _. record { store = refl; planning = refl }) (λ _. record { store = refl; planning = refl })) in
+      record { store = t.store; planning = t.planning }
+  takes Take = let t = stays Take (taking_keeps m.outgoing) in record { store = t.store; planning = t.planning }
+  takes (Packet bytes from) = let t = takes_packet bytes from (fault_of bytes) in record { store = t.store; planning = t.planning }
+  takes (Timeout transaction) = let t = stays (Timeout transaction) (timeout_keeps transaction) in record { store = t.store; planning = t.planning }
+  takes (Raise floor) = record { store = raised_is_merge m.store floor; planning = refl }
+  takes (Merge floor sightings) = record { store = refl; planning = refl }
   takes (Poll lid) =
-      let t = stays (Poll lid) (cond_both (is_none (poll_fault m)) (poll_sent m lid) m (λ (x : Manager). Keeps m x) (λ _. record { store = refl; lmc = refl }) (λ _. record { store = refl; lmc = refl })) in
-      record { store = t.store; lmc = t.lmc }
+      let t = stays (Poll lid) (cond_both (is_none (poll_fault m)) (poll_sent m lid) m (λ (x : Manager). Keeps m x) (λ _. record { store = refl; planning = refl }) (λ _. record { store = refl; planning = refl })) in
+      record { store = t.store; planning = t.planning }
   takes Handover =
       let t = stays Handover
-      (cond_both (is_none (handover_fault m)) (handed_over m) m (λ (x : Manager). Keeps m x) (λ _. handing_keeps (heir_lid m)) (λ _. record { store = refl; lmc = refl })) in
-      record { store = t.store; lmc = t.lmc }
+      (cond_both (is_none (handover_fault m)) (handed_over m) m (λ (x : Manager). Keeps m x) (λ _. handing_keeps (heir_lid m)) (λ _. record { store = refl; planning = refl })) in
+      record { store = t.store; planning = t.planning }
 
   pub takes_call : (call : Call) → (after_call m call).store ≡ merge m.store (view_at (floor_in call) (told_in m call))
   takes_call call = (takes call).store
 
-  pub lmc_stays : (call : Call) → (after_call m call).lmc ≡ m.lmc
-  lmc_stays call = (takes call).lmc
+  pub planning_stays : (call : Call) → (after_call m call).planning ≡ m.planning
+  planning_stays call = (takes call).planning
 
 -- the laws ------------------------------------------------------------------------------------------
 
@@ -184,26 +184,26 @@ knows (call ∷ calls) m floor before e =
     ∙ ap (view_at (max (max floor (floor_in call)) (greatest_floor calls))) (append_assoc before (told_in m call) (taken_in calls (after_call m call)))
     ∙ at_same_floor (max (max floor (floor_in call)) (greatest_floor calls)) (max floor (max (floor_in call) (greatest_floor calls))) (seen told) (omega arith)
 
-pub lmc_of_calls : (calls : List Call) (m : Manager) → (after_calls calls m).lmc ≡ m.lmc
-lmc_of_calls [] m = refl
-lmc_of_calls (call ∷ calls) m = lmc_of_calls calls (after_call m call) ∙ lmc_stays m call
+pub planning_of_calls : (calls : List Call) (m : Manager) → (after_calls calls m).planning ≡ m.planning
+planning_of_calls [] m = refl
+planning_of_calls (call ∷ calls) m = planning_of_calls calls (after_call m call) ∙ planning_stays m call
 
 pub knows_what_it_took_in : KnowsWhatItTookIn
-knows_what_it_took_in port_guid port priority lmc calls =
-    let m = new_manager port_guid port priority lmc in
+knows_what_it_took_in port_guid port priority planning calls =
+    let m = new_manager port_guid port priority planning in
     knows calls m 1 [] refl ∙ at_same_floor (max 1 (greatest_floor calls)) (greatest_floor calls) (seen (taken_in calls m)) (omega arith)
 
 pub same_taken_in_same_plan : SameTakenInSamePlan
-same_taken_in_same_plan guid port priority guid' port' priority' lmc calls calls' floors same =
+same_taken_in_same_plan guid port priority guid' port' priority' planning calls calls' floors same =
     let facts =
-    knows_what_it_took_in guid port priority lmc calls
-    ∙ members_decide_view (greatest_floor calls) (taken_in calls (new_manager guid port priority lmc)) (taken_in calls' (new_manager guid' port' priority' lmc)) same
-    ∙ ap (λ floor. view_at floor (taken_in calls' (new_manager guid' port' priority' lmc))) floors
-    ∙ sym (knows_what_it_took_in guid' port' priority' lmc calls') in
-    let one = after_calls calls (new_manager guid port priority lmc) in
-    let lmcs = lmc_of_calls calls (new_manager guid port priority lmc) ∙ sym (lmc_of_calls calls' (new_manager guid' port' priority' lmc)) in
+    knows_what_it_took_in guid port priority planning calls
+    ∙ members_decide_view (greatest_floor calls) (taken_in calls (new_manager guid port priority planning)) (taken_in calls' (new_manager guid' port' priority' planning)) same
+    ∙ ap (λ floor. view_at floor (taken_in calls' (new_manager guid' port' priority' planning))) floors
+    ∙ sym (knows_what_it_took_in guid' port' priority' planning calls') in
+    let one = after_calls calls (new_manager guid port priority planning) in
+    let plannings = planning_of_calls calls (new_manager guid port priority planning) ∙ sym (planning_of_calls calls' (new_manager guid' port' priority' planning)) in
     record {
       facts = facts;
-      plan = λ i. plan_of (lmcs i) (cells_of (facts i));
-      arrives = every_packet_arrives one.lmc one.store;
+      plan = λ i. plan_of (plannings i).rule (plannings i).lmc (cells_of (facts i));
+      arrives = every_packet_arrives one.planning.rule one.planning.lmc one.store;
     }

@@ -15,6 +15,7 @@ use Rattle.lft_blocks.specs.Plan.{plan_of}
 use Rattle.sm_manager.specs.Manager.{Manager, new_manager, begin_fault, sweep_begun, floor_raised, merged, taken}
 use Rattle.sm_manager.specs.Election.{handed_over, handover_fault, poll_fault, poll_sent}
 use Rattle.sm_manager.specs.Packets.{took, gave_up, is_for_sweep, is_info_request}
+use Rattle.sm_manager.specs.Planning.{Planning}
 use Rattle.sm_manager.specs.Plans.{writing_fault}
 use Rattle.sm_manager.specs.Writing.{writing_begun}
 
@@ -99,19 +100,19 @@ greatest_floor (call ∷ calls) = max (floor_in call) (greatest_floor calls)
 
 -- a manager knows the view of all that it took in at the greatest floor, whatever else was asked of it
 abbrev pub KnowsWhatItTookIn : Type 0
-KnowsWhatItTookIn = (port_guid port priority lmc : ℕ) (calls : List Call) →
-    (after_calls calls (new_manager port_guid port priority lmc)).store
-    ≡ view_at (greatest_floor calls) (taken_in calls (new_manager port_guid port priority lmc))
+KnowsWhatItTookIn = (port_guid port priority : ℕ) (planning : Planning) (calls : List Call) →
+    (after_calls calls (new_manager port_guid port priority planning)).store
+    ≡ view_at (greatest_floor calls) (taken_in calls (new_manager port_guid port priority planning))
 
--- two managers that took in the same, in whatever order and however often, and have one greatest floor and one LMC know the same and plan the same; and where that plan has room and is in
--- force in what an end port is joined to, each packet from each end port there for each of its LIDs arrives
+-- two managers that took in the same, in whatever order and however often, and have one greatest floor, one LMC and one rule of routing
+-- know the same and plan the same; and where that plan has room and is in force in what an end port is joined to, each packet from each end port there for each of its LIDs arrives
 pub record KnowTheSame (one other : Manager) : Type 0 where
   pub facts : one.store ≡ other.store
-  pub plan : plan_of one.lmc (cells_of one.store) ≡ plan_of other.lmc (cells_of other.store)
-  pub arrives : ¬ (IsNoRoom one.lmc (cells_of one.store)) → EveryPacketArrives (cells_of one.store) (plan_of one.lmc (cells_of one.store))
+  pub plan : plan_of one.planning.rule one.planning.lmc (cells_of one.store) ≡ plan_of other.planning.rule other.planning.lmc (cells_of other.store)
+  pub arrives : ¬ (IsNoRoom one.planning.lmc (cells_of one.store)) → EveryPacketArrives one.planning.rule (cells_of one.store) (plan_of one.planning.rule one.planning.lmc (cells_of one.store))
 
 abbrev pub SameTakenInSamePlan : Type 0
-SameTakenInSamePlan = (guid port priority guid' port' priority' lmc : ℕ) (calls calls' : List Call) →
+SameTakenInSamePlan = (guid port priority guid' port' priority' : ℕ) (planning : Planning) (calls calls' : List Call) →
     greatest_floor calls ≡ greatest_floor calls' →
-    HaveSameMembers (taken_in calls (new_manager guid port priority lmc)) (taken_in calls' (new_manager guid' port' priority' lmc)) →
-    KnowTheSame (after_calls calls (new_manager guid port priority lmc)) (after_calls calls' (new_manager guid' port' priority' lmc))
+    HaveSameMembers (taken_in calls (new_manager guid port priority planning)) (taken_in calls' (new_manager guid' port' priority' planning)) →
+    KnowTheSame (after_calls calls (new_manager guid port priority planning)) (after_calls calls' (new_manager guid' port' priority' planning))

@@ -16,6 +16,7 @@ use Rattle.sm_manager.specs.contracts.standing.Standing as standing
 use Rattle.plan_steps.specs.Phases.{Phase}
 use Rattle.plan_steps.specs.contracts.phase.Phase as phase
 use Rattle.sm_manager.specs.Manager.{Manager, Writing}
+use Rattle.sm_manager.specs.Planning.{Planning, planning_code}
 
 -- by the codes of its parts
 abbrev pub writing_code : Coded Writing
@@ -28,15 +29,15 @@ writing_code =
 
 abbrev pub manager_code : Coded Manager
 manager_code =
-    code_by ((Standing × ((ℕ × ℕ) × Facts)) × ((Option Sweep × (List SeenManager × Option Writing)) × (ℕ × (List Pending × List Outgoing))))
-    (coded× (coded× (standing.the_row).coded (coded× (coded× coded_ℕ coded_ℕ) facts_code))
+    code_by ((Standing × ((ℕ × Planning) × Facts)) × ((Option Sweep × (List SeenManager × Option Writing)) × (ℕ × (List Pending × List Outgoing))))
+    (coded× (coded× (standing.the_row).coded (coded× (coded× coded_ℕ planning_code) facts_code))
     (coded× (coded× (coded_option (sweep.the_row).coded) (coded× (coded_list (seen.the_row).coded) (coded_option writing_code)))
     (coded× coded_ℕ (coded× (coded_list (pending.the_row).coded) (coded_list (outgoing.the_row).coded)))))
-    (λ m. ((m.standing, ((m.port, m.lmc), m.store)), ((m.sweep, (m.seen, m.writing)), (m.counter, (m.pending, m.outgoing)))))
+    (λ m. ((m.standing, ((m.port, m.planning), m.store)), ((m.sweep, (m.seen, m.writing)), (m.counter, (m.pending, m.outgoing)))))
     (λ p. record {
       standing = p.0.0;
       port = p.0.1.0.0;
-      lmc = p.0.1.0.1;
+      planning = p.0.1.0.1;
       store = p.0.1.1;
       sweep = p.1.0.0;
       seen = p.1.0.1.0;

@@ -6,8 +6,7 @@ use Rattle.smp_bytes.specs.Requests.{lid_routed}
 use Rattle.attr_codec.specs.SmInfo.{sm_info_bytes}
 use Rattle.fact_store.specs.View.{cells_of}
 use Rattle.subnet_view.specs.Reading.{Cells}
-use Rattle.lid_assign.specs.Lids.{lid_of}
-use Rattle.lft_blocks.specs.Plan.{plan_of}
+use Rattle.lid_assign.specs.Lids.{lid_of, lids}
 use Rattle.sm_state.specs.declared.control.Control.{Control}
 use Rattle.sm_state.specs.declared.control.Control.TheVariants.{Handover}
 use Rattle.sm_state.specs.declared.event.Message.{Message}
@@ -77,19 +76,19 @@ poll_fault m = if is_in Standby m.standing then number_fault (m.counter + 1) els
 abbrev pub heir : Manager → Option SeenManager
 heir m = heir_of (info_of m.standing) m.seen
 
--- the LID that the plan gives to the port where a manager was seen
+-- the LID that a plan gives to the port where a manager was seen
 abbrev pub lid_seen : ℕ → Cells → SeenManager → Option ℕ
-lid_seen lmc cells s = lid_of (plan_of lmc cells).given (record { node = s.guid; port = s.port })
+lid_seen lmc cells s = lid_of (lids lmc cells) (record { node = s.guid; port = s.port })
 
 abbrev pub heir_lid : Manager → Option ℕ
-heir_lid m = option_and_then (lid_seen m.lmc (cells_of m.store)) (heir m)
+heir_lid m = option_and_then (lid_seen m.planning.lmc (cells_of m.store)) (heir m)
 
 -- why nobody can take over, or there is no plan that gives a LID
 abbrev pub heir_fault : Manager → Option ManagerFault
 heir_fault m =
     if not (is_in Master m.standing) then Some fault.NotMaster
     else if is_none (heir m) then Some fault.Nobody
-    else plan_fault m.lmc (cells_of m.store)
+    else plan_fault m.planning.lmc (cells_of m.store)
 
 -- nor has the heir a LID
 abbrev pub heir_lid_fault : Manager → Option ManagerFault

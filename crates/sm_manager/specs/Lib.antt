@@ -4,6 +4,7 @@ pub mod Election
 pub mod Fault
 pub mod Manager
 pub mod Packets
+pub mod Planning
 pub mod Plans
 pub mod Requests
 pub mod Seen

@@ -15,6 +15,7 @@ use Rattle.sm_manager.specs.declared.progress.Progress.{Progress}
 use Rattle.sm_manager.specs.declared.progress.Progress.TheVariants.{Never, Running, Done}
 use Rattle.sm_manager.specs.declared.seen.SeenManager.{SeenManager}
 use Rattle.sm_manager.specs.declared.standing.Standing.{Standing}
+use Rattle.sm_manager.specs.Planning.{Planning}
 use Rattle.sm_manager.specs.Seen.{verdict}
 use Rattle.sm_manager.specs.Standing.{active_once_more, info_of, moved_by, new_standing}
 
@@ -23,15 +24,13 @@ pub record Writing : Type 0 where
   pub later : List Phase
   pub has_failed : Bool
 
--- What it is among the managers of its subnet, the number of the port that it sits at, the LMC that it plans by, all facts that
--- it took in, the last
--- sweep that it began, the managers that this sweep saw, in the order in which it did, the last writing that it began, the
+-- What it is among the managers of its subnet, the number of the port that it sits at, how it plans, all facts that it took in, the last sweep that it began, the managers that this sweep saw, in the order in which it did, the last writing that it began, the
 -- number of its next request outside sweeps, the requests outside sweeps that wait for their answers, by rising numbers,
 -- and the packets that it is about to send, first in, first out.
 pub record Manager : Type 0 where
   pub standing : Standing
   pub port : ℕ
-  pub lmc : ℕ
+  pub planning : Planning
   pub store : Facts
   pub sweep : Option Sweep
   pub seen : List SeenManager
@@ -41,12 +40,12 @@ pub record Manager : Type 0 where
   pub outgoing : List Outgoing
 
 -- one that knows nothing and has done nothing
-abbrev pub new_manager : ℕ → ℕ → ℕ → ℕ → Manager
-new_manager port_guid port priority lmc =
+abbrev pub new_manager : ℕ → ℕ → ℕ → Planning → Manager
+new_manager port_guid port priority planning =
     record {
       standing = new_standing port_guid priority;
       port = port;
-      lmc = lmc;
+      planning = planning;
       store = no_facts;
       sweep = None;
       seen = [];

@@ -25,7 +25,7 @@ or_else (Some why) other = Some why
 
 -- why there is nothing to be written: what goes on forbids it, or there is no plan
 abbrev pub planned_fault : Manager → Option ManagerFault
-planned_fault m = or_else (write_fault m) (plan_fault m.lmc (cells_of m.store))
+planned_fault m = or_else (write_fault m) (plan_fault m.planning.lmc (cells_of m.store))
 
 -- a number is needed that 32 bits do not hold
 abbrev pub number_fault : ℕ → Option ManagerFault

@@ -89,7 +89,7 @@ write_fault m = write_fault_with m m.sweep
 -- the phases of the plan of what it knows, over the paths of its last sweep
 abbrev pub phases_by : Manager → Option Sweep → List Phase
 phases_by m None = []
-phases_by m (Some s) = phases_of (plan_of m.lmc (cells_of m.store)) (cells_of m.store) s m.standing.guid m.port
+phases_by m (Some s) = phases_of (plan_of m.planning.rule m.planning.lmc (cells_of m.store)) (cells_of m.store) s m.standing.guid m.port
 
 -- the first of these phases is sent
 abbrev pub begun_with : Manager → List Phase → Manager

@@ -93,10 +93,10 @@ impl Manager {
 
     /// The LIDs of the plan.
     fn plan_lids(&self) -> Result<LidMap, ManagerFault>
-        ensures judged { JudgesButFor is_memory result (plan_fault self.now.lmc (cells_of self.now.store)) }
-        ensures lids { IfOk result (λ map. map ≡ lids self.now.lmc (cells_of self.now.store)) }
+        ensures judged { JudgesButFor is_memory result (plan_fault self.now.planning.lmc (cells_of self.now.store)) }
+        ensures lids { IfOk result (λ map. map ≡ lids self.now.planning.lmc (cells_of self.now.store)) }
     {
-        match assign(self.alloc, &self.store, self.lmc) {
+        match assign(self.alloc, &self.store, self.planning.lmc) {
             Ok(lids) => Ok(lids),
             Err(LidFault::NoRoom(why)) => Err(ManagerFault::NoRoom(why)),
             Err(LidFault::Memory) => Err(ManagerFault::Memory),

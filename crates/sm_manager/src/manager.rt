@@ -9,14 +9,15 @@ ghost use Rattle.sm_manager.specs.Plans.{plan_fault};
 
 use crate::fault::ManagerFault;
 use crate::outgoing::{Outgoing, send_queued};
+use crate::planning::Planning;
 use crate::progress::Progress;
 use crate::requests::Requests;
 use crate::seen::SeenManager;
 use crate::standing::Standing;
 use crate::writing::Writing;
-use attr_codec::{Lmc, Priority};
+use attr_codec::Priority;
 use fact_store::Store;
-use lft_blocks::{Plan, PlanFault, Rule};
+use lft_blocks::{Plan, PlanFault};
 use sm_state::SmState;
 use smp_bytes::{Generation, Guid, PortNum};
 use std::alloc::{AllocError, Global};
@@ -31,8 +32,8 @@ pub struct Manager {
     pub(crate) alloc: Global,
     pub(crate) standing: Standing,
     pub(crate) port: PortNum,
-    /// The LMC that it plans by.
-    pub(crate) lmc: Lmc,
+    /// The LMC and the rule that it plans by.
+    pub(crate) planning: Planning,
     pub(crate) store: Store,
     pub(crate) sweep: Option<Sweep>,
     /// The managers that this sweep saw.
@@ -50,22 +51,28 @@ impl Model for Manager {
 
     ghost coded = { manager_code };
 
-    ghost view = { λ a. record { standing = a.standing; port = a.port; lmc = a.lmc; store = a.store; sweep = a.sweep; seen = a.seen.items; writing = a.writing; counter = a.requests.counter; pending = a.requests.pending; outgoing = a.outgoing.items } };
+    ghost view = { λ a. record { standing = a.standing; port = a.port; planning = a.planning; store = a.store; sweep = a.sweep; seen = a.seen.items; writing = a.writing; counter = a.requests.counter; pending = a.requests.pending; outgoing = a.outgoing.items } };
 
     ghost invariant = { λ a. IsSentWhole a.sweep };
 }
 
 impl Manager {
-    /// A manager that knows nothing, at the port of a GUID and a number, which plans 2^LMC LIDs for each adapter port; its
-    /// state is Discovering. Takes no memory yet.
-    pub fn new(alloc: Global, port_guid: Guid, port: PortNum, priority: Priority, lmc: Lmc) -> Self
-        ensures { result ≡ new_manager port_guid port priority lmc }
+    /// A manager that knows nothing, at the port of a GUID and a number, and how it plans; its state is Discovering. Takes
+    /// no memory yet.
+    pub fn new(
+        alloc: Global,
+        port_guid: Guid,
+        port: PortNum,
+        priority: Priority,
+        planning: Planning,
+    ) -> Self
+        ensures { result ≡ new_manager port_guid port priority planning }
     {
         Manager {
             alloc,
             standing: Standing::new(port_guid, priority),
             port,
-            lmc,
+            planning,
             store: Store::new(alloc),
             sweep: None,
             seen: Vec::new(alloc),
@@ -140,11 +147,18 @@ impl Manager {
     ///
     /// `NoRoom`, and `Memory` where there is room.
     pub fn plan(&self) -> Result<Plan, ManagerFault>
-        ensures judged { JudgesButFor is_memory result (plan_fault self.now.lmc (cells_of self.now.store)) }
-        ensures plan { IfOk result (λ plan. plan ≡ plan_of self.now.lmc (cells_of self.now.store)) }
-        ensures arrives { IfOk result (λ plan. EveryPacketArrives (cells_of self.now.store) plan) }
+        ensures judged { JudgesButFor is_memory result (plan_fault self.now.planning.lmc (cells_of self.now.store)) }
+        ensures plan { IfOk result (λ plan.
+            plan ≡ plan_of self.now.planning.rule self.now.planning.lmc (cells_of self.now.store)) }
+        ensures arrives { IfOk result (λ plan.
+            EveryPacketArrives self.now.planning.rule (cells_of self.now.store) plan) }
     {
-        match Plan::of(self.alloc, &self.store, self.lmc, &Rule::UpDown) {
+        match Plan::of(
+            self.alloc,
+            &self.store,
+            self.planning.lmc,
+            &self.planning.rule,
+        ) {
             Ok(plan) => Ok(plan),
             Err(PlanFault::NoRoom(why)) => Err(ManagerFault::NoRoom(why)),
             Err(PlanFault::Memory) => Err(ManagerFault::Memory),

@@ -33,6 +33,7 @@ use Rattle.subnet_view.specs.Reading.{Cells}
 use Rattle.sm_cli.specs.FactsText.{facts_text}
 use Rattle.sm_manager.specs.declared.fault.ManagerFault.{ManagerFault}
 use Rattle.sm_manager.specs.Election.{handed_over, handover_fault, poll_fault, poll_sent}
+use Rattle.sm_manager.specs.Planning.{Planning}
 use Rattle.sm_manager.specs.Manager.{Manager, begin_fault, floor_raised, merged, new_manager, outstanding, progress_of, sweep_begun}
 use Rattle.sm_manager.specs.Packets as manager
 use Rattle.sm_manager.specs.Plans.{plan_fault, writing_fault}
@@ -181,13 +182,13 @@ unfoldable pub facts_shown : WorldValue → ℕ → List ℕ
 facts_shown w seat = told_of w seat (λ s. facts_text s.manager.store)
 
 -- `plan M`: the plan, or why there is none
-abbrev pub plan_or_refusal : ℕ → Cells → Option ManagerFault → List ℕ
-plan_or_refusal lmc cells None = plan_text (plan_of lmc cells)
-plan_or_refusal lmc cells (Some fault) = manager_line fault
+abbrev pub plan_or_refusal : Planning → Cells → Option ManagerFault → List ℕ
+plan_or_refusal planning cells None = plan_text (plan_of planning.rule planning.lmc cells)
+plan_or_refusal planning cells (Some fault) = manager_line fault
 
 unfoldable pub plan_shown : WorldValue → ℕ → List ℕ
 plan_shown w seat =
-    told_of w seat (λ s. plan_or_refusal s.manager.lmc (cells_of s.manager.store) (plan_fault s.manager.lmc (cells_of s.manager.store)))
+    told_of w seat (λ s. plan_or_refusal s.manager.planning (cells_of s.manager.store) (plan_fault s.manager.planning.lmc (cells_of s.manager.store)))
 
 -- `progress M`
 unfoldable pub progress_shown : WorldValue → ℕ → List ℕ
@@ -228,28 +229,28 @@ abbrev pub commands_run : List Node → WorldValue → List Command → Ran Worl
 commands_run nodes w [] = quiet w
 commands_run nodes w (command ∷ later) = and_then (command_run nodes w command) (λ now. commands_run nodes now later)
 
--- the manager of a seat, which plans by an LMC: an adapter's port has the GUID that lies so far above its node's
-abbrev pub new_seated : ℕ → List Node → Seat → SeatedValue
-new_seated lmc nodes seat =
+-- the manager of a seat, and how it plans: an adapter's port has the GUID that lies so far above its node's
+abbrev pub new_seated : Planning → List Node → Seat → SeatedValue
+new_seated planning nodes seat =
     let guid = option_map_or (λ node. node.guid + seat.at.port) (slice_get nodes seat.at.node) 0 in
-    record { name = seat.name; at = seat.at; manager = new_manager guid seat.at.port seat.priority lmc }
+    record { name = seat.name; at = seat.at; manager = new_manager guid seat.at.port seat.priority planning }
 
 -- the fabric of a topology, whose first packet has the serial number 1, and a manager for each seat
-abbrev pub world_of : ℕ → Layout → List Seat → WorldValue
-world_of lmc topology seats = record { fabric = simulation_of topology 1; managers = map (new_seated lmc topology.nodes) seats }
+abbrev pub world_of : Planning → Layout → List Seat → WorldValue
+world_of planning topology seats = record { fabric = simulation_of topology 1; managers = map (new_seated planning topology.nodes) seats }
 
--- what the run of a schedule prints, whose managers plan by an LMC
-unfoldable pub script_text : ℕ → Layout → Script → List ℕ
-script_text lmc topology script = (commands_run topology.nodes (world_of lmc topology script.seats) script.commands).text
+-- what the run of a schedule prints, and how its managers plan
+unfoldable pub script_text : Planning → Layout → Script → List ℕ
+script_text planning topology script = (commands_run topology.nodes (world_of planning topology script.seats) script.commands).text
 
-abbrev pub schedule_text : ℕ → Layout → Result Script ScheduleFault → List ℕ
-schedule_text lmc topology (Ok script) = script_text lmc topology script
-schedule_text lmc topology (Err fault) = []
+abbrev pub schedule_text : Planning → Layout → Result Script ScheduleFault → List ℕ
+schedule_text planning topology (Ok script) = script_text planning topology script
+schedule_text planning topology (Err fault) = []
 
-abbrev pub topology_text : ℕ → Result Layout TopoFault → List ℕ → List ℕ
-topology_text lmc (Ok topology) schedule = schedule_text lmc topology (schedule_of topology.nodes schedule)
-topology_text lmc (Err fault) schedule = []
+abbrev pub topology_text : Planning → Result Layout TopoFault → List ℕ → List ℕ
+topology_text planning (Ok topology) schedule = schedule_text planning topology (schedule_of topology.nodes schedule)
+topology_text planning (Err fault) schedule = []
 
--- what a run of these two texts under an LMC prints; nothing where one of them is refused
-abbrev pub run_text : ℕ → List ℕ → List ℕ → List ℕ
-run_text lmc topology schedule = topology_text lmc (topology_of topology) schedule
+-- what a run of these two texts prints, by how managers plan; nothing where one of them is refused
+abbrev pub run_text : Planning → List ℕ → List ℕ → List ℕ
+run_text planning topology schedule = topology_text planning (topology_of topology) schedule

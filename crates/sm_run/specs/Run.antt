@@ -1,4 +1,5 @@
 -- A run of a schedule: its two texts are read, and then judged; the topology comes first.
+use Rattle.sm_manager.specs.Planning.{Planning}
 use Rattle.std.specs.Prelude.{◌≡◌, ◌⊎◌, ◌<◌, ℕ, Bool, true, List, Option, Some, None, Result, Ok, Err, IsTrue, if◌then◌else◌}
 use Rattle.std.specs.Str.{is_utf8}
 use Rattle.record_file.specs.Whole.{IsReadWhole, FailsToRead}
@@ -123,10 +124,10 @@ pub record AreSound {T S : Type 0} (left : T → Option (List ℕ)) (has_failed 
 
 -- they are so, and this holds of what their run under an LMC prints
 pub record HasRun {T S : Type 0} (left : T → Option (List ℕ)) (has_failed : T → Bool) (left' : S → Option (List ℕ)) (has_failed' : S → Bool)
-    (old new : T) (old' new' : S) (lmc : ℕ)
+    (old new : T) (old' new' : S) (planning : Planning)
     (prints : List ℕ → Type 0) : Type 0 where
   pub texts : AreSound left has_failed left' has_failed' old new old' new'
-  pub printed : prints (run_text lmc texts.topology texts.schedule)
+  pub printed : prints (run_text planning texts.topology texts.schedule)
 
 -- both sources were read to their ends, and what they say is refused with this fault
 pub record IsRefusedInput {T S : Type 0} (left : T → Option (List ℕ)) (has_failed : T → Bool) (left' : S → Option (List ℕ)) (has_failed' : S → Bool)
@@ -153,13 +154,13 @@ fault_of_run runs.Memory = Memory
 abbrev pub IsRunFault :
     {T S : Type 0} → (T → Option (List ℕ)) → (T → Bool) → (T → ℕ) → (S → Option (List ℕ)) → (S → Bool) → (S → ℕ) → T → T → S → S → ℕ → (List ℕ → Type 0)
     → Bool → Fault → Type 0
-IsRunFault left has_failed interruptions left' has_failed' interruptions' old new old' new' lmc prints sink_failed (Open place) = ⊥
-IsRunFault left has_failed interruptions left' has_failed' interruptions' old new old' new' lmc prints sink_failed (File place fault) =
+IsRunFault left has_failed interruptions left' has_failed' interruptions' old new old' new' planning prints sink_failed (Open place) = ⊥
+IsRunFault left has_failed interruptions left' has_failed' interruptions' old new old' new' planning prints sink_failed (File place fault) =
     FailsToReadThem left has_failed interruptions left' has_failed' interruptions' old new old' new' (File place fault)
-IsRunFault left has_failed interruptions left' has_failed' interruptions' old new old' new' lmc prints sink_failed (Text place fault) =
+IsRunFault left has_failed interruptions left' has_failed' interruptions' old new old' new' planning prints sink_failed (Text place fault) =
     IsRefusedInput left has_failed left' has_failed' old new old' new' (Text place fault)
-IsRunFault left has_failed interruptions left' has_failed' interruptions' old new old' new' lmc prints sink_failed (NoRoom why) = ⊥
-IsRunFault left has_failed interruptions left' has_failed' interruptions' old new old' new' lmc prints sink_failed Write =
+IsRunFault left has_failed interruptions left' has_failed' interruptions' old new old' new' planning prints sink_failed (NoRoom why) = ⊥
+IsRunFault left has_failed interruptions left' has_failed' interruptions' old new old' new' planning prints sink_failed Write =
     FailsToWrite left has_failed left' has_failed' old new old' new' sink_failed
-IsRunFault left has_failed interruptions left' has_failed' interruptions' old new old' new' lmc prints sink_failed Memory =
-    HasRun left has_failed left' has_failed' old new old' new' lmc prints
+IsRunFault left has_failed interruptions left' has_failed' interruptions' old new old' new' planning prints sink_failed Memory =
+    HasRun left has_failed left' has_failed' old new old' new' planning prints

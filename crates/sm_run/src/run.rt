@@ -9,10 +9,10 @@ ghost use Rattle.sm_run.specs.World.{value_of};
 use crate::run_fault::RunFault;
 use crate::texts::{Setting, judge, read_texts};
 use crate::world::World;
-use attr_codec::Lmc;
 use record_file::{Sink, Source};
 use schedule_file::Command;
 use sm_cli::Fault;
+use sm_manager::Planning;
 use std::alloc::Global;
 use topo_file::Topology;
 
@@ -34,36 +34,36 @@ pub fn run_schedule<T: Source, S: Source, W: Sink>(
     alloc: Global,
     topology: &mut T,
     schedule: &mut S,
-    lmc: Lmc,
+    planning: &Planning,
     sink: &mut W,
 ) -> Result<(), Fault>
     ensures done { OnOk result (HasRun T.left T.has_failed S.left S.has_failed
-        topology.old topology.new schedule.old schedule.new lmc
+        topology.old topology.new schedule.old schedule.new planning.now
         (Prints W.written W.has_failed sink.old sink.new)) }
     ensures flushed { OnOk result (IsTrue (W.is_flushed sink.new)) }
     ensures sink_works { OnOk result (W.has_failed sink.new ≡ false) }
     ensures refused { IfErr result (IsRunFault T.left T.has_failed T.interruptions
         S.left S.has_failed S.interruptions
-        topology.old topology.new schedule.old schedule.new lmc
+        topology.old topology.new schedule.old schedule.new planning.now
         (PrintsSome W.written W.has_failed sink.old sink.new) (W.has_failed sink.new)) }
     ensures nothing_written { OnErr result ((result ≡ Err Fault.Write)
         ⊎ (result ≡ Err Fault.Memory) ⊎ (sink.new ≡ sink.old)) }
 {
     let texts = read_texts(alloc, topology, schedule)?;
     let setting = judge(alloc, &texts)?;
-    run(alloc, &setting, lmc, sink)?;
+    run(alloc, &setting, planning, sink)?;
     Ok(())
 }
 
 /// Runs the commands of a schedule, and flushes.
-fn run<W: Sink>(alloc: Global, setting: &Setting, lmc: Lmc, sink: &mut W) -> Result<(), RunFault>
+fn run<W: Sink>(alloc: Global, setting: &Setting, planning: &Planning, sink: &mut W) -> Result<(), RunFault>
     requires { IsScript setting.now.topology.nodes setting.now.schedule }
     ensures prints { PrintsUnless W.written W.has_failed result sink.old sink.new
-        (script_text lmc setting.now.topology setting.now.schedule) }
+        (script_text planning.now setting.now.topology setting.now.schedule) }
     ensures flushed { OnOk result (IsTrue (W.is_flushed sink.new)) }
     ensures sink_works { OnOk result (W.has_failed sink.new ≡ false) }
 {
-    let mut world = World::of(alloc, &setting.topology, setting.schedule.seats(), lmc)?;
+    let mut world = World::of(alloc, &setting.topology, setting.schedule.seats(), planning)?;
     for command in setting.schedule.commands() {
         world.obey(alloc, &setting.topology, *command, sink)?;
     }

@@ -10,11 +10,10 @@ ghost use Rattle.sm_run.specs.World.{after_fabric, emptied, sent, sent_from, val
 
 use crate::refusals::refuse_fabric;
 use crate::run_fault::RunFault;
-use attr_codec::Lmc;
 use fabric_sim::{Fabric, Packet};
 use record_file::Sink;
 use schedule_file::Seat;
-use sm_manager::{Manager, Outgoing};
+use sm_manager::{Manager, Outgoing, Planning};
 use smp_bytes::{Guid, Lid, NodePort};
 use std::alloc::{AllocError, Global};
 use topo_file::Topology;
@@ -47,16 +46,17 @@ impl<'s> World<'s> {
         alloc: Global,
         topology: &Topology,
         seats: &'s [Seat],
-        lmc: Lmc,
+        planning: &Planning,
     ) -> Result<World<'s>, AllocError>
         requires { All (λ seat. is_seat topology.now.nodes seat.at ≡ true) seats.now }
-        ensures { IfOk result (λ world. value_of world ≡ world_of lmc topology.now seats.now) }
+        ensures { IfOk result (λ world. value_of world ≡ world_of planning.now topology.now seats.now) }
     {
         let fabric = Fabric::of(alloc, topology, FIRST_SERIAL)?;
         let mut managers = Vec::with_capacity(alloc, seats.len())?;
         for seat in seats {
             let guid = port_guid(topology, &seat.at);
-            let manager = Manager::new(alloc, guid, seat.at.port, seat.priority, lmc);
+            let own = planning.try_clone(alloc)?;
+            let manager = Manager::new(alloc, guid, seat.at.port, seat.priority, own);
             managers.push(Seated { seat, manager })?;
         }
         Ok(World { fabric, managers })

@@ -9,6 +9,7 @@ use Rattle.smp_bytes.specs.NodeType.{is_switch}
 use Rattle.smp_bytes.specs.Fabric.{Fabric, IsEndPort, IsNodeAt}
 use Rattle.smp_bytes.specs.FabricWalks.{IsJoinedTo}
 use Rattle.lid_assign.specs.Lids.{IsNoRoom}
+use Rattle.spread_rule.specs.Rules.{RuleValue}
 use Rattle.lft_blocks.specs.Plan.{plan_of}
 use Rattle.lft_blocks.specs.Arrival.{HoldsPlan}
 use Rattle.fact_store.specs.declared.report.Report.{Report}
@@ -104,19 +105,19 @@ module _ (w : Sweeping) (generation first : ℕ) (begins : Begins w generation f
           ways = ways can is_fabric node there ended.sweep (told_in ended.reports) covered none origin told;
         }
 
-    pings : (lmc : ℕ) (whole : IsWhole (after_sweep_events events w).sweep) → ¬ (IsNoRoom lmc (cells_of (facts_of (after_sweep_events events w).reports)))
+    pings : (rule : RuleValue) (lmc : ℕ) (whole : IsWhole (after_sweep_events events w).sweep) → ¬ (IsNoRoom lmc (cells_of (facts_of (after_sweep_events events w).reports)))
         → HoldsPlan (IsJoinedTo (fabric_of (after_sweep_events events w).scene.fabric) w.seat)
-        (plan_of lmc (cells_of (facts_of (after_sweep_events events w).reports)))
+        (plan_of rule lmc (cells_of (facts_of (after_sweep_events events w).reports)))
         (fabric_of (after_sweep_events events w).scene.fabric)
-        → EachPingArrives (cells_of (facts_of (after_sweep_events events w).reports)) (plan_of lmc (cells_of (facts_of (after_sweep_events events w).reports)))
+        → EachPingArrives rule (cells_of (facts_of (after_sweep_events events w).reports)) (plan_of rule lmc (cells_of (facts_of (after_sweep_events events w).reports)))
         (after_sweep_events events w).scene.fabric w.seat
-    pings lmc whole room holds =
+    pings rule lmc whole room holds =
         let ended = after_sweep_events events w in
-        pings_arrive lmc (facts_of ended.reports) ended.scene.fabric w.seat room ends.scene.fabric.is
+        pings_arrive rule lmc (facts_of ended.reports) ended.scene.fabric w.seat room ends.scene.fabric.is
         (end_port_along w.scene.fabric ended.scene.fabric ends.scene.fabric.along w.seat seat_end) (finds_all whole).at_last holds
 
 pub done_sweeps_are_complete : DoneSweepsAreComplete
 done_sweeps_are_complete w generation first events begins all whole = finds_all w generation first begins events all whole
 
 pub swept_pings_arrive : SweptPingsArrive
-swept_pings_arrive lmc w generation first events begins all whole room holds = pings w generation first begins events all lmc whole room holds
+swept_pings_arrive rule lmc w generation first events begins all whole room holds = pings w generation first begins events all rule lmc whole room holds

@@ -12,6 +12,7 @@ use Rattle.subnet_view.specs.Agreement.{AgreesOn}
 use Rattle.fabric_sim.specs.Simulation.{Simulation, fabric_of}
 use Rattle.sweep.specs.Sweep.{Sweep, is_done, path_to}
 use Rattle.lid_assign.specs.Lids.{IsNoRoom}
+use Rattle.spread_rule.specs.Rules.{RuleValue}
 use Rattle.lft_blocks.specs.Plan.{plan_of}
 use Rattle.lft_blocks.specs.Arrival.{HoldsPlan}
 use Rattle.sm_laws.specs.Pings.{EachPingArrives}
@@ -58,12 +59,12 @@ DoneSweepsAreComplete =
 -- so once the fabric holds the plan of what it has found under an LMC, as far as its seat is joined to, each ping there arrives
 abbrev pub SweptPingsArrive : Type 0
 SweptPingsArrive =
-    (lmc : ℕ) (w : Sweeping) (generation first : ℕ) (events : List SweepEvent) → Begins w generation first → All CanBe events
+    (rule : RuleValue) (lmc : ℕ) (w : Sweeping) (generation first : ℕ) (events : List SweepEvent) → Begins w generation first → All CanBe events
     → IsWhole (after_sweep_events events w).sweep
     → let ended = after_sweep_events events w in
     let cells = cells_of (facts_of ended.reports) in
     let f = fabric_of ended.scene.fabric in
-    ¬ (IsNoRoom lmc cells) → HoldsPlan (IsJoinedTo f w.seat) (plan_of lmc cells) f → EachPingArrives cells (plan_of lmc cells) ended.scene.fabric w.seat
+    ¬ (IsNoRoom lmc cells) → HoldsPlan (IsJoinedTo f w.seat) (plan_of rule lmc cells) f → EachPingArrives rule cells (plan_of rule lmc cells) ended.scene.fabric w.seat
 
 -- there is such a sweep: a fabric, and events after which a sweep on it has every answer
 pub record SomeSweepIsWhole : Type 0 where

@@ -244,16 +244,17 @@ module _ (w : Managing) (before between after : List ManagerEvent) (run : IsWrit
         (seat_end first 1 1 first_begins)
 
     pub arrives : IsWhole sweep → is_written (at_end w before between after).manager ≡ true
-        → EachPingArrives (cells_of (at_writing w before between).manager.store) (plan_at (at_writing w before between))
+        → EachPingArrives (at_writing w before between).manager.planning.rule (cells_of (at_writing w before between).manager.store) (plan_at (at_writing w before between))
         (at_end w before between after).scene.fabric w.seat
     arrives whole written =
         let f = (at_end w before between after).scene.fabric in
         let facts = (at_writing w before between).manager.store in
-        let lmc = (at_writing w before between).manager.lmc in
+        let rule = (at_writing w before between).manager.planning.rule in
+        let lmc = (at_writing w before between).manager.planning.lmc in
         let may = held.may w before between after run sweep sweep_is in
         let agrees = known_agrees whole in
-        pings_arrive lmc facts f w.seat may.has_room (held.at_end_is w before between after run sweep sweep_is) seat_is_end agrees
-        (holds_plan lmc facts may.has_room (IsJoinedTo (fabric_of f) w.seat) (fabric_of f) sweep agrees
+        pings_arrive rule lmc facts f w.seat may.has_room (held.at_end_is w before between after run sweep sweep_is) seat_is_end agrees
+        (holds_plan rule lmc facts may.has_room (IsJoinedTo (fabric_of f) w.seat) (fabric_of f) sweep agrees
         (held.is_held w before between after run sweep sweep_is written)
         (reached_known whole))
 

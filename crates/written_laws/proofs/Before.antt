@@ -106,7 +106,7 @@ module _ (start : Simulation) (seat : NodePort) (plan : PlanValue) (ground : Gro
           → Goes start seat plan old (record w { manager = begun_with w.manager (phases_by w.manager o) })
       by_sweep None swept most = absurd swept
       by_sweep (Some s) swept most =
-          let phases = phases_of (plan_of w.manager.lmc (cells_of w.manager.store)) (cells_of w.manager.store) s w.manager.standing.guid w.manager.port in
+          let phases = phases_of (plan_of w.manager.planning.rule w.manager.planning.lmc (cells_of w.manager.store)) (cells_of w.manager.store) s w.manager.standing.guid w.manager.port in
           phase_goes start seat plan old w w.manager (record { later = passed phases; has_failed = false }) g.fair refl refl g.fair.side g.fair.once
           (passed_goes start seat plan phases (writing_goes start seat w.manager may g.fair.side.lmc s swept plan)) most
 

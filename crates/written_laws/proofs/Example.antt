@@ -36,6 +36,7 @@ use Rattle.fact_store.proofs.Entries.{cells_of_view, entries-view}
 use Rattle.fact_store.proofs.Merges.{merge_empty}
 use Rattle.fact_store.proofs.Views.{view_of_both}
 use Rattle.subnet_view.specs.Reading.{Cells}
+use Rattle.spread_rule.specs.Rules.{up_and_down}
 use Rattle.lft_blocks.specs.Plan.{PlanValue, plan_of}
 use Rattle.plan_steps.specs.declared.step.Step.{Step}
 use Rattle.plan_steps.specs.Step.{set_packet}
@@ -53,6 +54,7 @@ use Rattle.fabric_sim.proofs.Invariants.{seated_is}
 use Rattle.fabric_sim.proofs.Recabled.{joined_is}
 use Rattle.sweep.specs.Sweep.{Sweep, started}
 use Rattle.sm_manager.specs.Manager.{begin_fault, new_manager, sweep_begun, with_sweep}
+use Rattle.sm_manager.specs.Planning.{Planning}
 use Rattle.sm_manager.specs.declared.fault.ManagerFault.{ManagerFault}
 use Rattle.sm_manager.specs.Plans.{number_fault, or_else, plan_fault, writing_fault}
 use Rattle.sm_manager.specs.Standing.{active_once_more}
@@ -124,8 +126,12 @@ distinct here there one other a b same = one_place here there other.guid (guid_t
 
 -- the manager, and its sweep ------------------------------------------------------------------------------------
 
+-- an LMC of 0, and up and down
+abbrev first_planning : Planning
+first_planning = record { lmc = 0; rule = up_and_down }
+
 abbrev beginning : Managing
-beginning = record { scene = record { fabric = network; handed = [] }; seat = port 0 1; manager = new_manager 17 1 0 0; out = [] }
+beginning = record { scene = record { fabric = network; handed = [] }; seat = port 0 1; manager = new_manager 17 1 0 first_planning; out = [] }
 
 starts : Starts beginning
 unfolding joined fresh_agent
@@ -136,7 +142,7 @@ starts =
       seat = refl;
       port = refl;
       lmc = omega arith;
-      at_rest = new_managers_rest 17 1 0 0;
+      at_rest = new_managers_rest 17 1 0 first_planning;
       out = refl;
     }
 
@@ -144,15 +150,15 @@ starts =
 abbrev sweeping_with : ℕ → Managing
 sweeping_with generation =
     record beginning {
-      manager = with_sweep (record (new_manager 17 1 0 0) { standing = active_once_more (new_manager 17 1 0 0).standing; seen = [] }) (started 1 generation 1);
+      manager = with_sweep (record (new_manager 17 1 0 first_planning) { standing = active_once_more (new_manager 17 1 0 first_planning).standing; seen = [] }) (started 1 generation 1);
     }
 
-may_begin : begin_fault (new_manager 17 1 0 0) ≡ None
+may_begin : begin_fault (new_manager 17 1 0 first_planning) ≡ None
 may_begin = ap (λ n. if n == 2 ^ 32 - 1 then Some GenerationsSpent else None) nothing_newest
 
 begun : after_manager_event beginning Begin ≡ sweeping_with 1
 begun =
-    ap (λ o. record beginning { manager = if is_none o then sweep_begun (new_manager 17 1 0 0) else new_manager 17 1 0 0 }) may_begin
+    ap (λ o. record beginning { manager = if is_none o then sweep_begun (new_manager 17 1 0 first_planning) else new_manager 17 1 0 first_planning }) may_begin
     ∙ ap (λ n. sweeping_with (max (n + 1) 1)) nothing_newest
 
 -- so many deliveries of a packet
@@ -222,7 +228,7 @@ known =
 
 abbrev phases_from : Cells → List Phase
 phases_from known_cells =
-    phases_of (plan_of 0 known_cells) known_cells (sweep_in swept.manager.sweep) swept.manager.standing.guid swept.manager.port
+    phases_of (plan_of up_and_down 0 known_cells) known_cells (sweep_in swept.manager.sweep) swept.manager.standing.guid swept.manager.port
 
 -- the manager as it is when its writing by these phases has begun
 abbrev writing_by : List Phase → Managing
@@ -400,31 +406,31 @@ world_10 = after_manager_event world_9 (Around (Deliver 11))
 abbrev world_11 : Managing
 world_11 = after_manager_event world_10 (Around (Deliver 11))
 
-keeps_8 : KeepsPlan (plan_of 0 cells) own world_2.scene.fabric (Deliver 8)
+keeps_8 : KeepsPlan (plan_of up_and_down 0 cells) own world_2.scene.fabric (Deliver 8)
 unfolding joined fresh_agent injected delivered outcome_of answered get_of set_of changed_port with_bytes
-keeps_8 = taken_as_own (plan_of 0 cells) own world_2.scene.fabric 8 own_at_home
+keeps_8 = taken_as_own (plan_of up_and_down 0 cells) own world_2.scene.fabric 8 own_at_home
 
-keeps_9 : KeepsPlan (plan_of 0 cells) own world_3.scene.fabric (Deliver 9)
+keeps_9 : KeepsPlan (plan_of up_and_down 0 cells) own world_3.scene.fabric (Deliver 9)
 unfolding joined fresh_agent injected delivered outcome_of answered get_of set_of changed_port with_bytes
-keeps_9 = taken_by_none (plan_of 0 cells) own world_3.scene.fabric 9 refl
+keeps_9 = taken_by_none (plan_of up_and_down 0 cells) own world_3.scene.fabric 9 refl
 
-keeps_10 : KeepsPlan (plan_of 0 cells) own world_7.scene.fabric (Deliver 10)
+keeps_10 : KeepsPlan (plan_of up_and_down 0 cells) own world_7.scene.fabric (Deliver 10)
 unfolding joined fresh_agent injected delivered outcome_of answered get_of set_of changed_port with_bytes
-keeps_10 = taken_by_none (plan_of 0 cells) own world_7.scene.fabric 10 refl
+keeps_10 = taken_by_none (plan_of up_and_down 0 cells) own world_7.scene.fabric 10 refl
 
-keeps_10_then : KeepsPlan (plan_of 0 cells) own world_8.scene.fabric (Deliver 10)
+keeps_10_then : KeepsPlan (plan_of up_and_down 0 cells) own world_8.scene.fabric (Deliver 10)
 unfolding joined fresh_agent injected delivered outcome_of answered get_of set_of changed_port with_bytes
-keeps_10_then = taken_as_own (plan_of 0 cells) own world_8.scene.fabric 10 own_there
+keeps_10_then = taken_as_own (plan_of up_and_down 0 cells) own world_8.scene.fabric 10 own_there
 
-keeps_11 : KeepsPlan (plan_of 0 cells) own world_9.scene.fabric (Deliver 11)
+keeps_11 : KeepsPlan (plan_of up_and_down 0 cells) own world_9.scene.fabric (Deliver 11)
 unfolding joined fresh_agent injected delivered outcome_of answered get_of set_of changed_port with_bytes
-keeps_11 = taken_by_none (plan_of 0 cells) own world_9.scene.fabric 11 refl
+keeps_11 = taken_by_none (plan_of up_and_down 0 cells) own world_9.scene.fabric 11 refl
 
-keeps_11_then : KeepsPlan (plan_of 0 cells) own world_10.scene.fabric (Deliver 11)
+keeps_11_then : KeepsPlan (plan_of up_and_down 0 cells) own world_10.scene.fabric (Deliver 11)
 unfolding joined fresh_agent injected delivered outcome_of answered get_of set_of changed_port with_bytes
-keeps_11_then = taken_by_none (plan_of 0 cells) own world_10.scene.fabric 11 refl
+keeps_11_then = taken_by_none (plan_of up_and_down 0 cells) own world_10.scene.fabric 11 refl
 
-keeps : AllKeep (plan_of 0 cells) own after (writing_by (phases_from cells))
+keeps : AllKeep (plan_of up_and_down 0 cells) own after (writing_by (phases_from cells))
 keeps = (tt, (tt, (keeps_8, (keeps_9, (tt, (tt, (tt, (keeps_10, (keeps_10_then, (keeps_11, (keeps_11_then, (tt, tt))))))))))))
 
 -- the run ---------------------------------------------------------------------------------------------------------
@@ -505,7 +511,7 @@ unfolding joined fresh_agent injected delivered outcome_of answered get_of set_o
 kept_then =
     subst (AllKeep (plan_at swept) (own_sets beginning swept) after)
     (sym (ap (λ o. record swept { manager = if is_none o then writing_begun swept.manager else swept.manager }) may_write))
-    (subst (λ c. AllKeep (plan_of 0 c) (IsOwnSet (fabric_of network) (port 0 1) (phases_from c)) after (writing_by (phases_from c))) (sym known) keeps)
+    (subst (λ c. AllKeep (plan_of up_and_down 0 c) (IsOwnSet (fabric_of network) (port 0 1) (phases_from c)) after (writing_by (phases_from c))) (sym known) keeps)
 
 last_sweep : swept.manager.sweep ≡ Some (sweep_in swept.manager.sweep)
 unfolding joined fresh_agent injected delivered outcome_of answered get_of set_of changed_port with_bytes
@@ -541,7 +547,7 @@ some_manager_brings_up =
       port_guid = 17;
       port = 1;
       priority = 0;
-      lmc = 0;
+      planning = first_planning;
       new = refl;
       before = [];
       between = between;

@@ -26,8 +26,7 @@ use Rattle.lid_assign.proofs.Owners.{lid-from_given}
 use Rattle.lft_blocks.specs.Arrival.{HoldsBlock, HoldsPlan, HoldsPlanAt}
 use Rattle.lft_blocks.specs.Plan.{SwitchTable, plan_of, block_at, switches_of}
 use Rattle.lft_blocks.specs.Entries.{home_of_lid, block_count, blocks}
-use Rattle.updown_routes.specs.Graph.{graph_of}
-use Rattle.updown_routes.specs.Routing.{updown}
+use Rattle.spread_rule.specs.Rules.{RuleValue, routing_by}
 use Rattle.sweep.specs.Sweep.{Sweep}
 use Rattle.sm_laws.specs.Truth.{HasNode}
 use Rattle.written_laws.specs.Written.{IsReached, IsHeldWhere}
@@ -37,37 +36,37 @@ switch_is ChannelAdapter e = absurd (cc)
 switch_is Switch e = refl
 switch_is Router e = absurd (cc)
 
-module _ (lmc : ℕ) (facts : Facts) where
+module _ (rule : RuleValue) (lmc : ℕ) (facts : Facts) where
   table_of : ℕ → SwitchTable
   table_of s = record {
     guid = s;
-    blocks = blocks (home_of_lid (cells_of facts) (lids lmc (cells_of facts))) (updown (graph_of (cells_of facts))).next
+    blocks = blocks (home_of_lid (cells_of facts) (lids lmc (cells_of facts))) (routing_by rule (cells_of facts)).next
         (block_count (top_of (lids lmc (cells_of facts)))) s;
   }
 
   -- the switches of the plan are the usable ones
-  to_switches : (guid : ℕ) → Contains (switches (cells_of facts)) guid → Contains (switches_of (plan_of lmc (cells_of facts))) guid
+  to_switches : (guid : ℕ) → Contains (switches (cells_of facts)) guid → Contains (switches_of (plan_of rule lmc (cells_of facts))) guid
   unfolding table_of
   to_switches guid there =
-      contains_map (λ (t : SwitchTable). t.guid) (plan_of lmc (cells_of facts)).tables (table_of guid)
+      contains_map (λ (t : SwitchTable). t.guid) (plan_of rule lmc (cells_of facts)).tables (table_of guid)
       (contains_map table_of (switches (cells_of facts)) guid there)
 
   -- only they have blocks
-  has_table : (guid b : ℕ) (block : List ℕ) → block_at (plan_of lmc (cells_of facts)) guid b ≡ Some block → Contains (switches (cells_of facts)) guid
+  has_table : (guid b : ℕ) (block : List ℕ) → block_at (plan_of rule lmc (cells_of facts)) guid b ≡ Some block → Contains (switches (cells_of facts)) guid
   unfolding table_of
-  has_table guid b block e = by_table (find (λ table. table.guid == guid) (plan_of lmc (cells_of facts)).tables) refl e
+  has_table guid b block e = by_table (find (λ table. table.guid == guid) (plan_of rule lmc (cells_of facts)).tables) refl e
     where
-      by_table : (m : Option SwitchTable) → find (λ table. table.guid == guid) (plan_of lmc (cells_of facts)).tables ≡ m
+      by_table : (m : Option SwitchTable) → find (λ table. table.guid == guid) (plan_of rule lmc (cells_of facts)).tables ≡ m
           → option_and_then (λ table. slice_get table.blocks b) m ≡ Some block
           → Contains (switches (cells_of facts)) guid
       by_table None found h = absurd (cc)
       by_table (Some table) found h =
-          let is = found_there (λ (t : SwitchTable). t.guid == guid) (plan_of lmc (cells_of facts)).tables table found in
+          let is = found_there (λ (t : SwitchTable). t.guid == guid) (plan_of rule lmc (cells_of facts)).tables table found in
           let (s, there, same) = contains-from_map table_of (switches (cells_of facts)) table is.0 in
           subst (Contains (switches (cells_of facts))) (ap (λ (t : SwitchTable). t.guid) same ∙ eqb-true _ _ is.1) there
 
-module _ (lmc : ℕ) (facts : Facts) (has_room : ¬ (IsNoRoom lmc (cells_of facts))) (part : Part) (f : Fabric) (sweep : Sweep) (agrees : AgreesOn part (cells_of facts) f)
-    (held : IsHeldWhere (plan_of lmc (cells_of facts)) sweep f) (known : (g p : ℕ) → IsEndPort (cells_of facts) g p → IsReached sweep g p) where
+module _ (rule : RuleValue) (lmc : ℕ) (facts : Facts) (has_room : ¬ (IsNoRoom lmc (cells_of facts))) (part : Part) (f : Fabric) (sweep : Sweep) (agrees : AgreesOn part (cells_of facts) f)
+    (held : IsHeldWhere (plan_of rule lmc (cells_of facts)) sweep f) (known : (g p : ℕ) → IsEndPort (cells_of facts) g p → IsReached sweep g p) where
   module _ (port : NodePort) (node : Node) (end : IsEndPortIn part f port node) where
     tells : TellsEndPort (cells_of facts) node port.port
     tells = agrees.tells_end_ports port node end
@@ -128,21 +127,21 @@ module _ (lmc : ℕ) (facts : Facts) (has_room : ¬ (IsNoRoom lmc (cells_of fact
 
       top_held : (top : ℕ) → top_of (lids lmc (cells_of facts)) ≡ Some top → top ≤ f.top port.node
       top_held top is_top =
-          let same = held.tops node.guid top port.node node is_top (to_switches lmc facts node.guid usable) reached_switch has in
+          let same = held.tops node.guid top port.node node is_top (to_switches rule lmc facts node.guid usable) reached_switch has in
           omega (arith, same)
 
-    blocks_held : (b : ℕ) (block : List ℕ) → block_at (plan_of lmc (cells_of facts)) node.guid b ≡ Some block → HoldsBlock f port.node b block
+    blocks_held : (b : ℕ) (block : List ℕ) → block_at (plan_of rule lmc (cells_of facts)) node.guid b ≡ Some block → HoldsBlock f port.node b block
     blocks_held b block is_block = by_kind (is_switch node.kind) refl
       where
         by_kind : (k : Bool) → is_switch node.kind ≡ k → HoldsBlock f port.node b block
         by_kind true switch = held.blocks node.guid b port.node block node is_block (reached_switch switch) has
         by_kind false adapter =
-            let (ports, kind, cap) = ((switches_law facts).0 node.guid).0 (has_table lmc facts node.guid b block is_block) in
+            let (ports, kind, cap) = ((switches_law facts).0 node.guid).0 (has_table rule lmc facts node.guid b block is_block) in
             let same = same_Some _ _ (sym tells.kind ∙ kind) in
             let clash : is_switch node.kind ≡ true = ap (λ (x : NodeType × ℕ). is_switch x.0) same in
             absurd (cc (sym adapter ∙ clash))
 
-    holds_at : HoldsPlanAt (plan_of lmc (cells_of facts)) f port node
+    holds_at : HoldsPlanAt (plan_of rule lmc (cells_of facts)) f port node
     holds_at =
         record {
           lids = has_range ∙ ap (λ n. Some n) (sym (held.lids (record { node = node.guid; port = port.port }) range port has_range reached
@@ -151,5 +150,5 @@ module _ (lmc : ℕ) (facts : Facts) (has_room : ¬ (IsNoRoom lmc (cells_of fact
           blocks = blocks_held;
         }
 
-  pub holds_plan : HoldsPlan part (plan_of lmc (cells_of facts)) f
+  pub holds_plan : HoldsPlan part (plan_of rule lmc (cells_of facts)) f
   holds_plan = holds_at

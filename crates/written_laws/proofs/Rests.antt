@@ -25,7 +25,7 @@ use Rattle.written_laws.proofs.Follows.{KeepsSweep, handed_keeps, request_keeps,
 use Rattle.written_laws.proofs.Generations.{nothing_held}
 
 pub new_managers_rest : NewManagersRest
-new_managers_rest port_guid port priority lmc = record { sweep = refl; pending = refl; outgoing = refl; facts = nothing_held; floor = refl }
+new_managers_rest port_guid port priority planning = record { sweep = refl; pending = refl; outgoing = refl; facts = nothing_held; floor = refl }
 
 -- a manager that never began a sweep ------------------------------------------------------------------------
 
@@ -96,7 +96,7 @@ goes_on w HandOver never =
 writes_nothing : (w : Managing) (event : ManagerEvent) → NeverSwept w → BeginsNoWriting w event
 writes_nothing w Write never =
     let m = w.manager in
-    λ none. cc (sym (ap (λ o. or_else (or_else (write_fault_with m o) (plan_fault w.manager.lmc (cells_of m.store))) (number_fault (writing_begun m).counter)) never) ∙ none)
+    λ none. cc (sym (ap (λ o. or_else (or_else (write_fault_with m o) (plan_fault w.manager.planning.lmc (cells_of m.store))) (number_fault (writing_begun m).counter)) never) ∙ none)
 writes_nothing w (Around event) never = tt
 writes_nothing w Begin never = tt
 writes_nothing w Take never = tt
@@ -117,4 +117,4 @@ sweeps_first (event ∷ events) w never =
     ]
 
 pub new_managers_sweep_first : NewManagersSweepFirst
-new_managers_sweep_first port_guid port priority lmc w events new = sweeps_first events w (ap (λ (m : Manager). m.sweep) new)
+new_managers_sweep_first port_guid port priority planning w events new = sweeps_first events w (ap (λ (m : Manager). m.sweep) new)

@@ -34,8 +34,7 @@ use Rattle.lid_assign.proofs.Tops.{top_below}
 use Rattle.lft_blocks.specs.Entries.{Next, home_of_lid, entry, block, block_count, blocks}
 use Rattle.lft_blocks.specs.Plan.{PlanValue, SwitchTable, plan_of, block_at, switches_of}
 use Rattle.lft_blocks.proofs.BlockLaws.{made_from}
-use Rattle.updown_routes.specs.Graph.{graph_of}
-use Rattle.updown_routes.specs.Routing.{updown}
+use Rattle.spread_rule.specs.Rules.{RuleValue, routing_by}
 use Rattle.sweep.specs.Sweep.{Sweep, path_to, seen_state}
 use Rattle.plan_steps.specs.declared.step.Step.{Step}
 use Rattle.plan_steps.specs.Step.{step_at}
@@ -199,7 +198,7 @@ top-top_data top small = let blank = length-replicate {A = ℕ} 64 0 in number_i
 
 -- the steps -----------------------------------------------------------------------------------------
 
-module _ (lmc : ℕ) (few_lmc : lmc < 8) (facts : Facts) (has_room : ¬ (IsNoRoom lmc (cells_of facts))) (sweep : Sweep) (master : ℕ)
+module _ (rule : RuleValue) (lmc : ℕ) (few_lmc : lmc < 8) (facts : Facts) (has_room : ¬ (IsNoRoom lmc (cells_of facts))) (sweep : Sweep) (master : ℕ)
     (few : (guid vertex : ℕ) (path : List ℕ) → path_to sweep guid vertex ≡ Some path → vertex ≤ 254)
     (seen_few : (guid port : ℕ) (state : PortState) → seen_state sweep guid port ≡ Some state → port ≤ 254) where
   cells : Cells
@@ -209,7 +208,7 @@ module _ (lmc : ℕ) (few_lmc : lmc < 8) (facts : Facts) (has_room : ¬ (IsNoRoo
   given = lids lmc (cells_of facts)
 
   plan : PlanValue
-  plan = plan_of lmc (cells_of facts)
+  plan = plan_of rule lmc (cells_of facts)
 
   pub lid_fits : (e : EndPort) (lid : ℕ) → Contains (lids lmc (cells_of facts)).ports (e, lid) → lid < 0xC000
   lid_fits e lid there =
@@ -289,7 +288,7 @@ module _ (lmc : ℕ) (few_lmc : lmc < 8) (facts : Facts) (has_room : ¬ (IsNoRoo
       → range_in (port_data range master NoChange) ≡ range
   range_value e range has = value_in NoChange e range has
 
-  lid_step_is : (s : Step) → LidStep s → IsStep (plan_of lmc (cells_of facts)) sweep s × IsPlanned (plan_of lmc (cells_of facts)) sweep s
+  lid_step_is : (s : Step) → LidStep s → IsStep (plan_of rule lmc (cells_of facts)) sweep s × IsPlanned (plan_of rule lmc (cells_of facts)) sweep s
   lid_step_is s l =
       let m = l.is_made in
       let port = few l.e.node l.e.port s.path m.goes.path in
@@ -341,31 +340,31 @@ module _ (lmc : ℕ) (few_lmc : lmc < 8) (facts : Facts) (has_room : ¬ (IsNoRoo
 
   -- blocks
   record BlockThere (guid b : ℕ) (payload : List ℕ) : Type 0 where
-    pub switch : Contains (switches_of (plan_of lmc (cells_of facts))) guid
+    pub switch : Contains (switches_of (plan_of rule lmc (cells_of facts))) guid
     pub count : b < block_count (top_of (lids lmc (cells_of facts)))
     pub whole : length payload ≡ 64
 
-  block_there : (guid b : ℕ) (payload : List ℕ) → block_at (plan_of lmc (cells_of facts)) guid b ≡ Some payload → BlockThere guid b payload
-  block_there guid b payload e = by_table (find (λ table. table.guid == guid) (plan_of lmc (cells_of facts)).tables) refl e
+  block_there : (guid b : ℕ) (payload : List ℕ) → block_at (plan_of rule lmc (cells_of facts)) guid b ≡ Some payload → BlockThere guid b payload
+  block_there guid b payload e = by_table (find (λ table. table.guid == guid) (plan_of rule lmc (cells_of facts)).tables) refl e
     where
       homes : ℕ → Option (ℕ × ℕ)
       homes = home_of_lid (cells_of facts) (lids lmc (cells_of facts))
 
       next : Next
-      next = (updown (graph_of (cells_of facts))).next
+      next = (routing_by rule (cells_of facts)).next
 
       n : ℕ
       n = block_count (top_of (lids lmc (cells_of facts)))
 
-      by_table : (m : Option SwitchTable) → find (λ table. table.guid == guid) (plan_of lmc (cells_of facts)).tables ≡ m
+      by_table : (m : Option SwitchTable) → find (λ table. table.guid == guid) (plan_of rule lmc (cells_of facts)).tables ≡ m
           → option_and_then (λ table. slice_get table.blocks b) m ≡ Some payload → BlockThere guid b payload
       by_table None there h = absurd (cc)
       by_table (Some table) there h =
-          let found = found_there (λ (t : SwitchTable). t.guid == guid) (plan_of lmc (cells_of facts)).tables table there in
+          let found = found_there (λ (t : SwitchTable). t.guid == guid) (plan_of rule lmc (cells_of facts)).tables table there in
           let (s, is_switch, same) = contains-from_map
           (λ s. record {
             guid = s;
-            blocks = blocks (home_of_lid (cells_of facts) (lids lmc (cells_of facts))) (updown (graph_of (cells_of facts))).next
+            blocks = blocks (home_of_lid (cells_of facts) (lids lmc (cells_of facts))) (routing_by rule (cells_of facts)).next
                 (block_count (top_of (lids lmc (cells_of facts)))) s;
           })
           (switches (cells_of facts)) table found.0 in
@@ -373,8 +372,8 @@ module _ (lmc : ℕ) (few_lmc : lmc < 8) (facts : Facts) (has_room : ¬ (IsNoRoo
           let within = slice_get_within (blocks homes next n s) b payload at in
           let long = length-map-range_with_len (block homes next s) 0 n in
           record {
-            switch = subst (Contains (switches_of (plan_of lmc (cells_of facts)))) (eqb-true _ _ found.1)
-                (contains_map (λ (t : SwitchTable). t.guid) (plan_of lmc (cells_of facts)).tables table found.0);
+            switch = subst (Contains (switches_of (plan_of rule lmc (cells_of facts)))) (eqb-true _ _ found.1)
+                (contains_map (λ (t : SwitchTable). t.guid) (plan_of rule lmc (cells_of facts)).tables table found.0);
             count = omega (arith, within, long);
             whole = ap length (made_from (block homes next s) 0 n b payload at)
                 ∙ length-map-range_with_len (λ i. entry homes next s (64 * (0 + b) + i)) 0 64;
@@ -391,23 +390,23 @@ module _ (lmc : ℕ) (few_lmc : lmc < 8) (facts : Facts) (has_room : ¬ (IsNoRoo
     pub guid : ℕ
     pub b : ℕ
     pub payload : List ℕ
-    pub there : block_at (plan_of lmc (cells_of facts)) guid b ≡ Some payload
+    pub there : block_at (plan_of rule lmc (cells_of facts)) guid b ≡ Some payload
     pub is_made : IsMade sweep guid 0 linear_forwarding_table b payload s
 
-  from_block_step : (s : Step) → Contains (block_steps sweep (plan_of lmc (cells_of facts))) s → BlockStep s
+  from_block_step : (s : Step) → Contains (block_steps sweep (plan_of rule lmc (cells_of facts))) s → BlockStep s
   from_block_step s there =
-      let (guid, is_switch, in_it) = from_flat_map (switch_steps sweep (plan_of lmc (cells_of facts))) (switches_of (plan_of lmc (cells_of facts))) s there in
-      let (b, ranged, e) = taken_from (block_step sweep (plan_of lmc (cells_of facts)) guid)
+      let (guid, is_switch, in_it) = from_flat_map (switch_steps sweep (plan_of rule lmc (cells_of facts))) (switches_of (plan_of rule lmc (cells_of facts))) s there in
+      let (b, ranged, e) = taken_from (block_step sweep (plan_of rule lmc (cells_of facts)) guid)
       (range_with_len 0 (block_count (top_of (lids lmc (cells_of facts))))) s in_it in
-      by_block guid b (block_at (plan_of lmc (cells_of facts)) guid b) refl e
+      by_block guid b (block_at (plan_of rule lmc (cells_of facts)) guid b) refl e
     where
-      by_block : (guid b : ℕ) (m : Option (List ℕ)) → block_at (plan_of lmc (cells_of facts)) guid b ≡ m
+      by_block : (guid b : ℕ) (m : Option (List ℕ)) → block_at (plan_of rule lmc (cells_of facts)) guid b ≡ m
           → option_and_then (step_at sweep guid 0 linear_forwarding_table b) m ≡ Some s → BlockStep s
       by_block guid b None at h = absurd (cc)
       by_block guid b (Some payload) at h =
           record { guid = guid; b = b; payload = payload; there = at; is_made = made sweep guid 0 linear_forwarding_table b payload s h }
 
-  block_step_is : (s : Step) → BlockStep s → IsStep (plan_of lmc (cells_of facts)) sweep s × IsPlanned (plan_of lmc (cells_of facts)) sweep s
+  block_step_is : (s : Step) → BlockStep s → IsStep (plan_of rule lmc (cells_of facts)) sweep s × IsPlanned (plan_of rule lmc (cells_of facts)) sweep s
   block_step_is s l =
       let m = l.is_made in
       let t = block_there l.guid l.b l.payload l.there in
@@ -426,7 +425,7 @@ module _ (lmc : ℕ) (few_lmc : lmc < 8) (facts : Facts) (has_room : ¬ (IsNoRoo
           planned = record {
             lids = λ f. absurd (omega (arith, is_block, f));
             top = λ f. absurd (omega (arith, is_block, f));
-            block = λ _ block has. m.payload_is ∙ same_Some _ _ (sym l.there ∙ ap (block_at (plan_of lmc (cells_of facts)) l.guid) (sym m.modifier_is) ∙ has);
+            block = λ _ block has. m.payload_is ∙ same_Some _ _ (sym l.there ∙ ap (block_at (plan_of rule lmc (cells_of facts)) l.guid) (sym m.modifier_is) ∙ has);
           };
           zero = λ f. absurd (omega (arith, is_block, f));
         },
@@ -437,19 +436,19 @@ module _ (lmc : ℕ) (few_lmc : lmc < 8) (facts : Facts) (has_room : ¬ (IsNoRoo
           of_plan = record {
             lids = λ f. absurd (omega (arith, is_block, f));
             top = λ f. absurd (omega (arith, is_block, f));
-            block = λ _. ap (block_at (plan_of lmc (cells_of facts)) l.guid) m.modifier_is ∙ l.there ∙ ap (λ p. Some p) (sym m.payload_is);
+            block = λ _. ap (block_at (plan_of rule lmc (cells_of facts)) l.guid) m.modifier_is ∙ l.there ∙ ap (λ p. Some p) (sym m.payload_is);
           };
           port = λ f. absurd (omega (arith, is_block, f));
         },
       )
 
-  to_block_step : (guid b : ℕ) (payload path : List ℕ) → block_at (plan_of lmc (cells_of facts)) guid b ≡ Some payload → path_to sweep guid 0 ≡ Some path
-      → Contains (block_steps sweep (plan_of lmc (cells_of facts)))
+  to_block_step : (guid b : ℕ) (payload path : List ℕ) → block_at (plan_of rule lmc (cells_of facts)) guid b ≡ Some payload → path_to sweep guid 0 ≡ Some path
+      → Contains (block_steps sweep (plan_of rule lmc (cells_of facts)))
       (record { path = path; attribute = linear_forwarding_table; modifier = b; payload = payload })
   to_block_step guid b payload path at there =
       let t = block_there guid b payload at in
-      in_flat_map (switch_steps sweep (plan_of lmc (cells_of facts))) (switches_of (plan_of lmc (cells_of facts))) guid _ t.switch
-      (is_taken (block_step sweep (plan_of lmc (cells_of facts)) guid) (range_with_len 0 (block_count (top_of (lids lmc (cells_of facts))))) b _
+      in_flat_map (switch_steps sweep (plan_of rule lmc (cells_of facts))) (switches_of (plan_of rule lmc (cells_of facts))) guid _ t.switch
+      (is_taken (block_step sweep (plan_of rule lmc (cells_of facts)) guid) (range_with_len 0 (block_count (top_of (lids lmc (cells_of facts))))) b _
       (in_range_from_0 (block_count (top_of (lids lmc (cells_of facts)))) b t.count)
       (ap (option_and_then (step_at sweep guid 0 linear_forwarding_table b)) at
       ∙ making sweep guid 0 linear_forwarding_table b payload path there))
@@ -459,20 +458,20 @@ module _ (lmc : ℕ) (few_lmc : lmc < 8) (facts : Facts) (has_room : ¬ (IsNoRoo
     pub guid : ℕ
     pub top : ℕ
     pub is_top : top_of (lids lmc (cells_of facts)) ≡ Some top
-    pub switch : Contains (switches_of (plan_of lmc (cells_of facts))) guid
+    pub switch : Contains (switches_of (plan_of rule lmc (cells_of facts))) guid
     pub is_made : IsMade sweep guid 0 switch_info 0 (top_data top) s
 
-  from_top_step : (s : Step) → Contains (top_steps sweep (plan_of lmc (cells_of facts))) s → TopStep s
+  from_top_step : (s : Step) → Contains (top_steps sweep (plan_of rule lmc (cells_of facts))) s → TopStep s
   from_top_step s there = by_top (top_of (lids lmc (cells_of facts))) refl there
     where
       by_top : (m : Option ℕ) → top_of (lids lmc (cells_of facts)) ≡ m
-          → Contains (option_map_or (λ top. filter_map (top_step sweep top) (switches_of (plan_of lmc (cells_of facts)))) m []) s → TopStep s
+          → Contains (option_map_or (λ top. filter_map (top_step sweep top) (switches_of (plan_of rule lmc (cells_of facts)))) m []) s → TopStep s
       by_top None is_top h = absurd (contains_none s h)
       by_top (Some top) is_top h =
-          let (guid, is_switch, e) = taken_from (top_step sweep top) (switches_of (plan_of lmc (cells_of facts))) s h in
+          let (guid, is_switch, e) = taken_from (top_step sweep top) (switches_of (plan_of rule lmc (cells_of facts))) s h in
           record { guid = guid; top = top; is_top = is_top; switch = is_switch; is_made = made sweep guid 0 switch_info 0 (top_data top) s e }
 
-  top_step_is : (s : Step) → TopStep s → IsStep (plan_of lmc (cells_of facts)) sweep s × IsPlanned (plan_of lmc (cells_of facts)) sweep s
+  top_step_is : (s : Step) → TopStep s → IsStep (plan_of rule lmc (cells_of facts)) sweep s × IsPlanned (plan_of rule lmc (cells_of facts)) sweep s
   top_step_is s l =
       let m = l.is_made in
       let small = top_fits l.top l.is_top in
@@ -508,21 +507,21 @@ module _ (lmc : ℕ) (few_lmc : lmc < 8) (facts : Facts) (has_room : ¬ (IsNoRoo
         },
       )
 
-  to_top_step : (guid top : ℕ) (path : List ℕ) → top_of (lids lmc (cells_of facts)) ≡ Some top → Contains (switches_of (plan_of lmc (cells_of facts))) guid
+  to_top_step : (guid top : ℕ) (path : List ℕ) → top_of (lids lmc (cells_of facts)) ≡ Some top → Contains (switches_of (plan_of rule lmc (cells_of facts))) guid
       → path_to sweep guid 0 ≡ Some path
-      → Contains (top_steps sweep (plan_of lmc (cells_of facts))) (record { path = path; attribute = switch_info; modifier = 0; payload = top_data top })
+      → Contains (top_steps sweep (plan_of rule lmc (cells_of facts))) (record { path = path; attribute = switch_info; modifier = 0; payload = top_data top })
   to_top_step guid top path is_top is_switch there =
-      subst (λ m. Contains (option_map_or (λ t. filter_map (top_step sweep t) (switches_of (plan_of lmc (cells_of facts)))) m [])
+      subst (λ m. Contains (option_map_or (λ t. filter_map (top_step sweep t) (switches_of (plan_of rule lmc (cells_of facts)))) m [])
       (record { path = path; attribute = switch_info; modifier = 0; payload = top_data top }))
       (sym is_top)
-      (is_taken (top_step sweep top) (switches_of (plan_of lmc (cells_of facts))) guid _ is_switch (making sweep guid 0 switch_info 0 (top_data top) path there))
+      (is_taken (top_step sweep top) (switches_of (plan_of rule lmc (cells_of facts))) guid _ is_switch (making sweep guid 0 switch_info 0 (top_data top) path there))
 
   pub top_value : (top : ℕ) → top_of (lids lmc (cells_of facts)) ≡ Some top → number_in linear_fdb_top (top_data top) ≡ top
   top_value top is_top = let small = top_fits top is_top in top-top_data top (omega (arith, small))
 
   -- states
   state_step_is : (state : PortState) (s : Step) → Contains (state_steps (cells_of facts) sweep (lids lmc (cells_of facts)) master state) s
-      → IsStep (plan_of lmc (cells_of facts)) sweep s
+      → IsStep (plan_of rule lmc (cells_of facts)) sweep s
   state_step_is state s there =
       let (at, wired, e) = taken_from (state_step (cells_of facts) sweep (lids lmc (cells_of facts)) master state) (wired_ports (cells_of facts)) s there in
       by_due at (seen_state sweep at.0 at.1) refl e
@@ -537,7 +536,7 @@ module _ (lmc : ℕ) (few_lmc : lmc < 8) (facts : Facts) (has_room : ¬ (IsNoRoo
       by_step : (at : ℕ × ℕ) → at.1 ≤ 254 → (b : Bool)
           → (if b then step_at sweep at.0 (vertex_port (cells_of facts) at) port_info at.1
           (state_data (lids lmc (cells_of facts)) master state at) else None) ≡ Some s
-          → IsStep (plan_of lmc (cells_of facts)) sweep s
+          → IsStep (plan_of rule lmc (cells_of facts)) sweep s
       by_step at small false h = absurd (cc)
       by_step at small true h =
           let m = made sweep at.0 (vertex_port (cells_of facts) at) port_info at.1 (state_data (lids lmc (cells_of facts)) master state at) s h in
@@ -565,21 +564,21 @@ module _ (lmc : ℕ) (few_lmc : lmc < 8) (facts : Facts) (has_room : ¬ (IsNoRoo
       by_due : (at : ℕ × ℕ) (m : Option PortState) → seen_state sweep at.0 at.1 ≡ m
           → (if option_map_or (is_due state) m false
           then step_at sweep at.0 (vertex_port (cells_of facts) at) port_info at.1 (state_data (lids lmc (cells_of facts)) master state at) else None) ≡ Some s
-          → IsStep (plan_of lmc (cells_of facts)) sweep s
+          → IsStep (plan_of rule lmc (cells_of facts)) sweep s
       by_due at None seen h = absurd (cc)
       by_due at (Some now) seen h = by_step at (seen_few at.0 at.1 now seen) (is_due state now) h
 
   -- phases ------------------------------------------------------------------------------------------
 
   pub record IsGoodPhase (p : Phase) : Type 0 where
-    pub steps : (s : Step) → Contains p.steps s → IsStep (plan_of lmc (cells_of facts)) sweep s
-    pub counted : p.counts ≡ true → (s : Step) → Contains p.steps s → IsPlanned (plan_of lmc (cells_of facts)) sweep s
+    pub steps : (s : Step) → Contains p.steps s → IsStep (plan_of rule lmc (cells_of facts)) sweep s
+    pub counted : p.counts ≡ true → (s : Step) → Contains p.steps s → IsPlanned (plan_of rule lmc (cells_of facts)) sweep s
 
   abbrev pub AreGoodPhases : List Phase → Type 0
   AreGoodPhases [] = Unit {0}
   AreGoodPhases (p ∷ phases) = IsGoodPhase p × AreGoodPhases phases
 
-  pub good_phases : AreGoodPhases (phases_by (plan_of lmc (cells_of facts)) (cells_of facts) sweep master)
+  pub good_phases : AreGoodPhases (phases_by (plan_of rule lmc (cells_of facts)) (cells_of facts) sweep master)
   good_phases = (
     record { steps = λ s there. (lid_step_is s (from_lid_step s there)).0; counted = λ _ s there. (lid_step_is s (from_lid_step s there)).1 },
     (
@@ -596,10 +595,10 @@ module _ (lmc : ℕ) (few_lmc : lmc < 8) (facts : Facts) (has_room : ¬ (IsNoRoo
 
   -- a step of a phase that counts
   abbrev all_phases : List Phase
-  all_phases = phases_by (plan_of lmc (cells_of facts)) (cells_of facts) sweep master
+  all_phases = phases_by (plan_of rule lmc (cells_of facts)) (cells_of facts) sweep master
 
   pub range_is_set : (e : EndPort) (range : ℕ × ℕ) (path : List ℕ) → range_of (lids lmc (cells_of facts)) e ≡ Some range → path_to sweep e.node e.port ≡ Some path
-      → IsOf (phases_by (plan_of lmc (cells_of facts)) (cells_of facts) sweep master) true
+      → IsOf (phases_by (plan_of rule lmc (cells_of facts)) (cells_of facts) sweep master) true
       (record { path = path; attribute = port_info; modifier = e.port; payload = port_data range master NoChange })
   range_is_set e range path has there =
       let (lid_is, lmc_is) = range_parts e range has in
@@ -612,24 +611,24 @@ module _ (lmc : ℕ) (few_lmc : lmc < 8) (facts : Facts) (has_room : ¬ (IsNoRoo
             (to_lid_step e range.0 path lid_is there);
       }
 
-  pub block_is_set : (guid b : ℕ) (payload path : List ℕ) → block_at (plan_of lmc (cells_of facts)) guid b ≡ Some payload → path_to sweep guid 0 ≡ Some path
-      → IsOf (phases_by (plan_of lmc (cells_of facts)) (cells_of facts) sweep master) true
+  pub block_is_set : (guid b : ℕ) (payload path : List ℕ) → block_at (plan_of rule lmc (cells_of facts)) guid b ≡ Some payload → path_to sweep guid 0 ≡ Some path
+      → IsOf (phases_by (plan_of rule lmc (cells_of facts)) (cells_of facts) sweep master) true
       (record { path = path; attribute = linear_forwarding_table; modifier = b; payload = payload })
   block_is_set guid b payload path at there =
       record {
-        phase = record { counts = true; steps = block_steps sweep (plan_of lmc (cells_of facts)) };
+        phase = record { counts = true; steps = block_steps sweep (plan_of rule lmc (cells_of facts)) };
         there = (1, omega arith, refl);
         counts_is = refl;
         step = to_block_step guid b payload path at there;
       }
 
-  pub top_is_set : (guid top : ℕ) (path : List ℕ) → top_of (lids lmc (cells_of facts)) ≡ Some top → Contains (switches_of (plan_of lmc (cells_of facts))) guid
+  pub top_is_set : (guid top : ℕ) (path : List ℕ) → top_of (lids lmc (cells_of facts)) ≡ Some top → Contains (switches_of (plan_of rule lmc (cells_of facts))) guid
       → path_to sweep guid 0 ≡ Some path
-      → IsOf (phases_by (plan_of lmc (cells_of facts)) (cells_of facts) sweep master) true
+      → IsOf (phases_by (plan_of rule lmc (cells_of facts)) (cells_of facts) sweep master) true
       (record { path = path; attribute = switch_info; modifier = 0; payload = top_data top })
   top_is_set guid top path is_top is_switch there =
       record {
-        phase = record { counts = true; steps = top_steps sweep (plan_of lmc (cells_of facts)) };
+        phase = record { counts = true; steps = top_steps sweep (plan_of rule lmc (cells_of facts)) };
         there = (2, omega arith, refl);
         counts_is = refl;
         step = to_top_step guid top path is_top is_switch there;

@@ -77,7 +77,7 @@ module _ (start : Simulation) (seat : NodePort) where
 
   pub record SweepSide (old : Type 0) (m : Manager) : Type 0 where
     pub port : m.port ≡ seat.port
-    pub lmc : m.lmc < 8
+    pub lmc : m.planning.lmc < 8
     pub sweep : SweepIs old m.sweep
     pub knows : KnowsSmall m.store
 

@@ -59,13 +59,13 @@ or_none (Some x) b e = absurd (cc)
 pub record MayWrite (m : Manager) : Type 0 where
   pub no_step : (p : Pending) → Contains m.pending p → is_step p ≡ true → ⊥
   pub sweep_done : (s : Sweep) → m.sweep ≡ Some s → is_done s ≡ true
-  pub has_room : ¬ (IsNoRoom m.lmc (cells_of m.store))
+  pub has_room : ¬ (IsNoRoom m.planning.lmc (cells_of m.store))
   pub few : (writing_begun m).counter ≤ 2 ^ 32
 
 pub may_write : (m : Manager) → writing_fault m ≡ None → MayWrite m
 may_write m e =
     let outer = or_none (planned_fault m) (number_fault (writing_begun m).counter) e in
-    let inner = or_none (write_fault m) (plan_fault m.lmc (cells_of m.store)) outer.0 in
+    let inner = or_none (write_fault m) (plan_fault m.planning.lmc (cells_of m.store)) outer.0 in
     record {
       no_step = λ p. no_step_there m.pending p (nothing_waits m.sweep inner.0);
       sweep_done = λ s is. sweep_ended s
@@ -109,9 +109,9 @@ may_write m e =
     no_room_there true why h = absurd (cc)
     no_room_there false why h = refl
 
-    room_there : plan_fault m.lmc (cells_of m.store) ≡ None → ¬ (IsNoRoom m.lmc (cells_of m.store))
+    room_there : plan_fault m.planning.lmc (cells_of m.store) ≡ None → ¬ (IsNoRoom m.planning.lmc (cells_of m.store))
     room_there h none =
-        absurd (cc (sym none ∙ no_room_there (is_no_room m.lmc (cells_of m.store)) _ (no_why (no_room m.lmc (cells_of m.store)) h)))
+        absurd (cc (sym none ∙ no_room_there (is_no_room m.planning.lmc (cells_of m.store)) _ (no_why (no_room m.planning.lmc (cells_of m.store)) h)))
 
     numbers_left : number_fault (writing_begun m).counter ≡ None → (writing_begun m).counter ≤ 2 ^ 32
     numbers_left h = ltb-false _ _ (chosen (nat_lt (2 ^ 32) (writing_begun m).counter) _ h)
@@ -162,9 +162,9 @@ module _ (start : Simulation) (seat : NodePort) (plan : PlanValue) (s : Sweep) (
           ∙ to.led.has.there)
 
 -- the phases of a writing
-module _ (start : Simulation) (seat : NodePort) (m : Manager) (may : MayWrite m) (few_lmc : m.lmc < 8) (s : Sweep) (swept : IsSwept start seat s) where
+module _ (start : Simulation) (seat : NodePort) (m : Manager) (may : MayWrite m) (few_lmc : m.planning.lmc < 8) (s : Sweep) (swept : IsSwept start seat s) where
   master : ℕ
-  master = own_lid (cells_of m.store) (plan_of m.lmc (cells_of m.store)).given.ports m.standing.guid m.port
+  master = own_lid (cells_of m.store) (plan_of m.planning.rule m.planning.lmc (cells_of m.store)).given.ports m.standing.guid m.port
 
   few : (guid vertex : ℕ) (path : List ℕ) → path_to s guid vertex ≡ Some path → vertex ≤ 254
   few guid vertex path e =
@@ -177,14 +177,14 @@ module _ (start : Simulation) (seat : NodePort) (m : Manager) (may : MayWrite m)
   seen_few guid port state e = seen_small (fabric_of start) seat s guid port state swept.led e
 
   GoodOne : Phase → Type 0
-  GoodOne p = IsGoodPhase m.lmc few_lmc m.store may.has_room s master few seen_few p
+  GoodOne p = IsGoodPhase m.planning.rule m.planning.lmc few_lmc m.store may.has_room s master few seen_few p
 
   GoodAll : List Phase → Type 0
-  GoodAll phases = AreGoodPhases m.lmc few_lmc m.store may.has_room s master few seen_few phases
+  GoodAll phases = AreGoodPhases m.planning.rule m.planning.lmc few_lmc m.store may.has_room s master few seen_few phases
 
-  all_good : GoodAll (phases_of (plan_of m.lmc (cells_of m.store)) (cells_of m.store) s m.standing.guid m.port)
+  all_good : GoodAll (phases_of (plan_of m.planning.rule m.planning.lmc (cells_of m.store)) (cells_of m.store) s m.standing.guid m.port)
   unfolding GoodAll master
-  all_good = good_phases m.lmc few_lmc m.store may.has_room s master few seen_few
+  all_good = good_phases m.planning.rule m.planning.lmc few_lmc m.store may.has_room s master few seen_few
 
   one_good : (phases : List Phase) (p : Phase) → GoodAll phases → Contains phases p → GoodOne p
   unfolding GoodAll GoodOne
@@ -193,38 +193,38 @@ module _ (start : Simulation) (seat : NodePort) (m : Manager) (may : MayWrite m)
       elim (contains_cases q p phases there) [ inl i ↦ subst GoodOne i good.0 | inr k ↦ one_good phases p good.1 k ]
 
   -- of each phase
-  phase_good : (counts : Bool) (t : Step) → IsOf (phases_of (plan_of m.lmc (cells_of m.store)) (cells_of m.store) s m.standing.guid m.port) counts t
-      → IsStep (plan_of m.lmc (cells_of m.store)) s t × (counts ≡ true → IsPlanned (plan_of m.lmc (cells_of m.store)) s t)
+  phase_good : (counts : Bool) (t : Step) → IsOf (phases_of (plan_of m.planning.rule m.planning.lmc (cells_of m.store)) (cells_of m.store) s m.standing.guid m.port) counts t
+      → IsStep (plan_of m.planning.rule m.planning.lmc (cells_of m.store)) s t × (counts ≡ true → IsPlanned (plan_of m.planning.rule m.planning.lmc (cells_of m.store)) s t)
   unfolding GoodOne
   phase_good counts t is =
-      let good = one_good (phases_of (plan_of m.lmc (cells_of m.store)) (cells_of m.store) s m.standing.guid m.port) is.phase all_good is.there in
+      let good = one_good (phases_of (plan_of m.planning.rule m.planning.lmc (cells_of m.store)) (cells_of m.store) s m.standing.guid m.port) is.phase all_good is.there in
       (good.steps t is.step, λ c. good.counted (is.counts_is ∙ c) t is.step)
 
-  pub writing_goes : (plan : PlanValue) → CanAllGo start seat plan (phases_of (plan_of m.lmc (cells_of m.store)) (cells_of m.store) s m.standing.guid m.port)
+  pub writing_goes : (plan : PlanValue) → CanAllGo start seat plan (phases_of (plan_of m.planning.rule m.planning.lmc (cells_of m.store)) (cells_of m.store) s m.standing.guid m.port)
   writing_goes plan counts t is =
-      let can = step_can_go start seat (plan_of m.lmc (cells_of m.store)) s swept.led t (phase_good counts t is).0 in
+      let can = step_can_go start seat (plan_of m.planning.rule m.planning.lmc (cells_of m.store)) s swept.led t (phase_good counts t is).0 in
       record { sendable = can.sendable; own = can.own; short = can.short }
 
   -- a Set of its own carries the plan's values
   pub own_carries : (now : Simulation) → IsAlong start now → (at : NodePort) (a : Agent) (packet : List ℕ) → agent_at now at.node ≡ Some a
-      → IsOwnSet (fabric_of start) seat (phases_of (plan_of m.lmc (cells_of m.store)) (cells_of m.store) s m.standing.guid m.port) at packet
-      → Carries (plan_of m.lmc (cells_of m.store)) a at.port packet
+      → IsOwnSet (fabric_of start) seat (phases_of (plan_of m.planning.rule m.planning.lmc (cells_of m.store)) (cells_of m.store) s m.standing.guid m.port) at packet
+      → Carries (plan_of m.planning.rule m.planning.lmc (cells_of m.store)) a at.port packet
   unfolding GoodOne
   own_carries now along at a packet agent own =
       record {
         lids = λ e port range meant has. ap range_in own.payload
             ∙ is.planned.lids (sym own.attribute ∙ e) range
-            (ap (λ g. range_of (plan_of m.lmc (cells_of m.store)).given (record { node = g; port = own.step.modifier })) guid_is
-            ∙ ap (λ n. range_of (plan_of m.lmc (cells_of m.store)).given (record { node = a.node.guid; port = n })) (sym (means (sym own.attribute ∙ e) port meant))
+            (ap (λ g. range_of (plan_of m.planning.rule m.planning.lmc (cells_of m.store)).given (record { node = g; port = own.step.modifier })) guid_is
+            ∙ ap (λ n. range_of (plan_of m.planning.rule m.planning.lmc (cells_of m.store)).given (record { node = a.node.guid; port = n })) (sym (means (sym own.attribute ∙ e) port meant))
             ∙ has);
         top = λ e top switch is_top. ap (number_in linear_fdb_top) own.payload ∙ is.planned.top (sym own.attribute ∙ e) top is_top;
         block = λ e block there. own.payload ∙ is.planned.block (sym own.attribute ∙ e) block
-            (ap (λ g. block_at (plan_of m.lmc (cells_of m.store)) g own.step.modifier) guid_is
-            ∙ ap (block_at (plan_of m.lmc (cells_of m.store)) a.node.guid) (sym own.modifier) ∙ there);
+            (ap (λ g. block_at (plan_of m.planning.rule m.planning.lmc (cells_of m.store)) g own.step.modifier) guid_is
+            ∙ ap (block_at (plan_of m.planning.rule m.planning.lmc (cells_of m.store)) a.node.guid) (sym own.modifier) ∙ there);
       }
     where
-      is : IsStep (plan_of m.lmc (cells_of m.store)) s own.step
-      is = (one_good (phases_of (plan_of m.lmc (cells_of m.store)) (cells_of m.store) s m.standing.guid m.port) own.phase all_good own.there).steps own.step
+      is : IsStep (plan_of m.planning.rule m.planning.lmc (cells_of m.store)) s own.step
+      is = (one_good (phases_of (plan_of m.planning.rule m.planning.lmc (cells_of m.store)) (cells_of m.store) s m.standing.guid m.port) own.phase all_good own.there).steps own.step
           own.in_phase
 
       to : LeadsToVertex (fabric_of start) seat own.step.path is.guid is.vertex
@@ -264,8 +264,8 @@ module _ (start : Simulation) (seat : NodePort) (m : Manager) (may : MayWrite m)
           by_kind false d v z h = by_zero (own.step.modifier == 0) refl (own.step.modifier == at.port) refl v z h
 
   -- each of its steps is good
-  pub writing_good : (x : StepSent) → IsOf (phases_of (plan_of m.lmc (cells_of m.store)) (cells_of m.store) s m.standing.guid m.port) x.counts x.step
-      → IsGood start seat (plan_of m.lmc (cells_of m.store)) x
+  pub writing_good : (x : StepSent) → IsOf (phases_of (plan_of m.planning.rule m.planning.lmc (cells_of m.store)) (cells_of m.store) s m.standing.guid m.port) x.counts x.step
+      → IsGood start seat (plan_of m.planning.rule m.planning.lmc (cells_of m.store)) x
   writing_good x is =
       let good = phase_good x.counts x.step is in
-      step_is_good start seat (plan_of m.lmc (cells_of m.store)) s swept.led x good.0 good.1
+      step_is_good start seat (plan_of m.planning.rule m.planning.lmc (cells_of m.store)) s swept.led x good.0 good.1

@@ -9,6 +9,7 @@ use Rattle.fact_store.specs.Sighting.{IsSighting, AreInRange, is_generation}
 use Rattle.fabric_sim.specs.declared.packet.Packet.{Packet}
 use Rattle.fabric_sim.specs.Simulation.{fabric_of, is_seat_at}
 use Rattle.sm_manager.specs.declared.outgoing.Outgoing.{Outgoing}
+use Rattle.sm_manager.specs.Planning.{Planning}
 use Rattle.sm_manager.specs.Manager.{Manager, Taken, is_running, new_manager, taken}
 use Rattle.sm_manager.specs.Calls as calls
 use Rattle.sm_manager.specs.Calls.{Call, after_call}
@@ -121,11 +122,11 @@ pub record Starts (w : Managing) : Type 0 where
   -- it was told this port's number
   pub port : w.manager.port ≡ w.seat.port
   -- and an LMC that there is
-  pub lmc : w.manager.lmc < 8
+  pub lmc : w.manager.planning.lmc < 8
   pub at_rest : IsAtRest w.manager
   -- it gave no packet out
   pub out : w.out ≡ []
 
 -- a manager that was just made is at rest
 abbrev pub NewManagersRest : Type 0
-NewManagersRest = (port_guid port priority lmc : ℕ) → IsAtRest (new_manager port_guid port priority lmc)
+NewManagersRest = (port_guid port priority : ℕ) (planning : Planning) → IsAtRest (new_manager port_guid port priority planning)

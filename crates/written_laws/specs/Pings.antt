@@ -2,6 +2,7 @@
 use Rattle.std.specs.Prelude.{◌≡◌, ◌≢◌, ◌≤◌, ℕ, true, List, [], ◌∷◌, Some, None}
 use Rattle.fact_store.specs.View.{cells_of, no_facts}
 use Rattle.sweep.specs.Sweep.{Sweep}
+use Rattle.sm_manager.specs.Planning.{Planning}
 use Rattle.sm_manager.specs.Manager.{begin_fault, new_manager}
 use Rattle.sm_manager.specs.Writing.{is_written}
 use Rattle.sm_laws.specs.Pings.{EachPingArrives}
@@ -38,7 +39,7 @@ pub record BringsUp (w : Managing) (before between after : List ManagerEvent) : 
 abbrev pub PingsArriveOnceWritten : Type 0
 PingsArriveOnceWritten =
     (w : Managing) (before between after : List ManagerEvent) → BringsUp w before between after
-    → EachPingArrives (cells_of (at_writing w before between).manager.store) (plan_at (at_writing w before between))
+    → EachPingArrives (at_writing w before between).manager.planning.rule (cells_of (at_writing w before between).manager.store) (plan_at (at_writing w before between))
     (at_end w before between after).scene.fabric w.seat
 
 -- there is a manager that brings a subnet up: one that was just made, on a fabric, with what happens there
@@ -47,8 +48,8 @@ pub record SomeManagerBringsUp : Type 0 where
   pub port_guid : ℕ
   pub port : ℕ
   pub priority : ℕ
-  pub lmc : ℕ
-  pub new : managing.manager ≡ new_manager port_guid port priority lmc
+  pub planning : Planning
+  pub new : managing.manager ≡ new_manager port_guid port priority planning
   pub before : List ManagerEvent
   pub between : List ManagerEvent
   pub after : List ManagerEvent

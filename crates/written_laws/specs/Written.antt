@@ -12,6 +12,7 @@ use Rattle.lft_blocks.specs.Plan.{PlanValue, plan_of, block_at, switches_of}
 use Rattle.lft_blocks.specs.Arrival.{HoldsBlock}
 use Rattle.fabric_sim.specs.Simulation.{fabric_of}
 use Rattle.sweep.specs.Sweep.{Sweep, path_to}
+use Rattle.sm_manager.specs.Planning.{Planning}
 use Rattle.sm_manager.specs.Manager.{begin_fault, new_manager}
 use Rattle.sm_manager.specs.Plans.{writing_fault}
 use Rattle.sm_manager.specs.Writing.{is_written, phases_by}
@@ -53,7 +54,7 @@ SweepsFirst (event ∷ events) w =
 -- that is so of whatever happens to a manager that was just made
 abbrev pub NewManagersSweepFirst : Type 0
 NewManagersSweepFirst =
-    (port_guid port priority lmc : ℕ) (w : Managing) (events : List ManagerEvent) → w.manager ≡ new_manager port_guid port priority lmc
+    (port_guid port priority : ℕ) (planning : Planning) (w : Managing) (events : List ManagerEvent) → w.manager ≡ new_manager port_guid port priority planning
     → SweepsFirst events w
 
 -- no writing begins, and each Set that an agent takes is one of the own, or carries the plan's values
@@ -71,7 +72,7 @@ at_writing w before between = after_manager_events between (after_manager_event 
 
 -- the plan that is written, under the manager's LMC
 abbrev pub plan_at : Managing → PlanValue
-plan_at w = plan_of w.manager.lmc (cells_of w.manager.store)
+plan_at w = plan_of w.manager.planning.rule w.manager.planning.lmc (cells_of w.manager.store)
 
 -- the Sets of the writing's own steps
 abbrev pub own_sets : Managing → Managing → OwnSets

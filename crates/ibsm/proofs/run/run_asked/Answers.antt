@@ -1,6 +1,7 @@
 use Rattle.std.proofs.Common.{sym, subst}
 use Rattle.std.specs.Prelude.{codes}
-use Rattle.ibsm.specs.Asked.{IsLmc}
+use Rattle.sm_manager.specs.Planning.{Planning}
+use Rattle.ibsm.specs.Asked.{AsksRule, IsLmc, IsRule, word_named}
 use Rattle.clap.specs.Matches.{found_of}
 use Rattle.clap.specs.Simple.{subcommand_rows_of}
 use Rattle.ibsm.proofs.Words.{first_is, first_named}
@@ -16,4 +17,15 @@ returns-clause-schedule c =
 
 pub returns-clause-lmc : goal.returns-clause-lmc
 returns-clause-lmc c =
-    subst (λ o. IsLmc o c.in_ok-lmc.lmc) (sym (first_is (subcommand_rows_of c.args.matches.now) (found_of c.in_ok-name.words.now) (codes "lmc") c.in_ok-name.ensures.rows)) c.in_ok-lmc.ensures
+    subst (λ (p : Planning). IsLmc (word_named (codes "lmc") c.args.matches.now) p.lmc) (sym c.new-planning.ensures)
+    (subst (λ o. IsLmc o c.in_ok-lmc.lmc) (sym (first_is (subcommand_rows_of c.args.matches.now) (found_of c.in_ok-name.words.now) (codes "lmc") c.in_ok-name.ensures.rows)) c.in_ok-lmc.ensures)
+
+pub returns-clause-rule : goal.returns-clause-rule
+returns-clause-rule c =
+    subst (λ (p : Planning). AsksRule (word_named (codes "routing") c.args.matches.now) p.rule) (sym c.new-planning.ensures)
+    (record {
+      kind = c.in_ok-kind.kind;
+      named = subst (λ o. IsRule o c.in_ok-kind.kind)
+          (sym (first_is (subcommand_rows_of c.args.matches.now) (found_of c.in_ok-name.words.now) (codes "routing") c.in_ok-name.ensures.rows)) c.in_ok-kind.ensures;
+      is = c.rule_of_kind-rule.ensures.value;
+    })

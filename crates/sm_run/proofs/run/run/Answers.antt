@@ -15,7 +15,7 @@ loop-command-init g c =
     let nodes = c.args.setting.now.topology.nodes in
     record {
       managers = sym (length-map c.in_ok-world.world.managers.items seated_value) ∙ ap (λ w. length w.managers) c.in_ok-world.ensures
-          ∙ length-map c.seats.result.now (new_seated c.args.lmc nodes) ∙ ap length c.seats.ensures;
+          ∙ length-map c.seats.result.now (new_seated c.args.planning.now nodes) ∙ ap length c.seats.ensures;
       runs = begins g.W.Sink.written g.W.Sink.has_failed c.args.sink.now (commands_run nodes (value_of c.in_ok-world.world) c.commands-command-items.result.now);
     }
 
@@ -51,7 +51,7 @@ returns-in_err-obey-clause-prints g c =
     let there = slice_get_read items (length items) i command refl c.loop-command-test.true c.command-item.is in
     let all = ap (λ xs. commands_run nodes (value_of c.in_ok-world.world) xs) c.commands-command-items.ensures
     ∙ ap (λ v. commands_run nodes v c.args.setting.now.schedule.commands)
-    (c.in_ok-world.ensures ∙ ap (world_of c.args.lmc c.args.setting.now.topology) c.seats.ensures) in
+    (c.in_ok-world.ensures ∙ ap (world_of c.args.planning.now c.args.setting.now.topology) c.seats.ensures) in
     rw (p.1, p.2) (prints_same g.W.Sink.written g.W.Sink.has_failed (failed_with c.in_err-obey.field-0.0) c.args.sink.now c.obey.new.sink _ _ (ap (λ r. r.text) all)
     (stops_in g.W.Sink.written g.W.Sink.has_failed c.in_err-obey.field-0.0 c.args.sink.now c.loop-command.sink c.obey.new.sink whole (command_run nodes w command)
     (λ now. commands_run nodes now (drop (i + 1) items)) (subst Under (commands_next nodes w items i command there) c.loop-command.invariant.runs)
@@ -66,7 +66,7 @@ returns-clause-prints g c =
     let whole = commands_run nodes (value_of c.in_ok-world.world) items in
     let all = ap (λ xs. commands_run nodes (value_of c.in_ok-world.world) xs) c.commands-command-items.ensures
     ∙ ap (λ v. commands_run nodes v c.args.setting.now.schedule.commands)
-    (c.in_ok-world.ensures ∙ ap (world_of c.args.lmc c.args.setting.now.topology) c.seats.ensures) in
+    (c.in_ok-world.ensures ∙ ap (world_of c.args.planning.now c.args.setting.now.topology) c.seats.ensures) in
     let Printed : List ℕ → Type 0 = Prints g.W.Sink.written g.W.Sink.has_failed c.args.sink.now c.flush.new.self in
     subst Printed (append-nil whole.text ∙ ap (λ r. r.text) all)
     (prints_both g.W.Sink.written g.W.Sink.has_failed c.args.sink.now c.loop-command.sink c.flush.new.self whole.text []

@@ -3,7 +3,7 @@ use Rattle.fact_store.specs.View.{Facts, cells_of}
 use Rattle.lid_assign.specs.Lids.{top_of}
 use Rattle.updown_routes.specs.Graph.{graph_of, guids_of}
 use Rattle.updown_routes.proofs.Switches.{graph_guids}
-use Rattle.spread_rule.specs.Rules.{rule_of}
+use Rattle.spread_rule.specs.Rules.{rule_of, value_of}
 use Rattle.spread_rule.proofs.Whole.{rules_are_routings}
 use Rattle.lft_blocks.specs.Entries.{home_of_lid, block_count}
 use Rattle.lft_blocks.specs.Arrival.{EveryPacketArrivesBy}
@@ -42,4 +42,4 @@ returns-clause-arrives c =
     let facts = c.args.store.now in
     let rule = rule_of c.args.rule.now (cells_of facts) in
     subst (λ (plan : PlanValue). EveryPacketArrivesBy rule (cells_of facts) plan) (sym (returns-clause-plan c))
-    (packets_arrive_by_each_routing c.args.lmc facts rule (rules_are_routings c.args.rule.now facts) (has_room c.args.lmc (cells_of facts) c.in_ok-lids.ensures.judged))
+    (packets_arrive_by_each_routing c.args.lmc facts rule (rules_are_routings (value_of c.args.rule.now) facts) (has_room c.args.lmc (cells_of facts) c.in_ok-lids.ensures.judged))

@@ -5,4 +5,4 @@ use Rattle.sm_run.proofs.world.World.of.Given as goal
 
 -- a manager for each seat so far
 abbrev pub invariant-loop-seat : goal.invariant-loop-seat
-invariant-loop-seat l = map seated_value l.managers.items ≡ map (new_seated l.lmc l.topology.nodes) (take l.seat-index l.seats)
+invariant-loop-seat l = map seated_value l.managers.items ≡ map (new_seated l.planning l.topology.nodes) (take l.seat-index l.seats)

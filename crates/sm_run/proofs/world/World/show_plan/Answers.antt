@@ -11,7 +11,7 @@ returns-in-Err g c =
     let w = value_of c.args.self.now in
     let cells = cells_of c.index.result.now.manager.store in
     let there = sits c.args.self.now.managers.items c.args.seat c.index.result.now c.requires c.index.ensures in
-    let refused = refuses c.in-Err.fault _ w (λ why. shows (plan_or_refusal c.index.result.now.manager.lmc cells why) w) (λ fault. refl)
+    let refused = refuses c.in-Err.fault _ w (λ why. shows (plan_or_refusal c.index.result.now.manager.planning cells why) w) (λ fault. refl)
     (but_for_memory c.in-Err.fault _ c.in-Err.ensures.judged) in
     record {
       prints = rw there (refusal_prints g.W.Sink.written g.W.Sink.has_failed c.in-Err.fault w _ c.refuse_manager.result _ _ refused
