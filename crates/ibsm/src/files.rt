@@ -79,7 +79,12 @@ where
 }
 
 /// Runs the schedule of the second file in the fabric of the first one.
-fn run<R, O>(rt: &R, names: &[&str], planning: &Planning, output: &mut ToWrite<O>) -> Result<(), Fault>
+fn run<R, O>(
+    rt: &R,
+    names: &[&str],
+    planning: &Planning,
+    output: &mut ToWrite<O>,
+) -> Result<(), Fault>
 where
     R: Opener + AllocGlobal,
     O: Write,
@@ -97,7 +102,13 @@ where
     match open_all(rt, names) {
         Ok(mut files) => {
             let (topology, schedule) = files.split_at_mut(1);
-            run_schedule(rt.alloc(), &mut topology[0], &mut schedule[0], planning, output)
+            run_schedule(
+                rt.alloc(),
+                &mut topology[0],
+                &mut schedule[0],
+                planning,
+                output,
+            )
         }
         Err(fault) => Err(fault),
     }

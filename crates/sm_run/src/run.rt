@@ -56,7 +56,12 @@ pub fn run_schedule<T: Source, S: Source, W: Sink>(
 }
 
 /// Runs the commands of a schedule, and flushes.
-fn run<W: Sink>(alloc: Global, setting: &Setting, planning: &Planning, sink: &mut W) -> Result<(), RunFault>
+fn run<W: Sink>(
+    alloc: Global,
+    setting: &Setting,
+    planning: &Planning,
+    sink: &mut W,
+) -> Result<(), RunFault>
     requires { IsScript setting.now.topology.nodes setting.now.schedule }
     ensures prints { PrintsUnless W.written W.has_failed result sink.old sink.new
         (script_text planning.now setting.now.topology setting.now.schedule) }
