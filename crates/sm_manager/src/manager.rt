@@ -153,12 +153,7 @@ impl Manager {
         ensures arrives { IfOk result (λ plan.
             EveryPacketArrives self.now.planning.rule (cells_of self.now.store) plan) }
     {
-        match Plan::of(
-            self.alloc,
-            &self.store,
-            self.planning.lmc,
-            &self.planning.rule,
-        ) {
+        match self.planning.plan(self.alloc, &self.store) {
             Ok(plan) => Ok(plan),
             Err(PlanFault::NoRoom(why)) => Err(ManagerFault::NoRoom(why)),
             Err(PlanFault::Memory) => Err(ManagerFault::Memory),

@@ -1,8 +1,14 @@
 ghost use Rattle.std.specs.Prelude.{◌≡◌, IfOk};
+ghost use Rattle.fact_store.specs.View.{cells_of};
+ghost use Rattle.smp_bytes.specs.Judges.{JudgesButFor};
+ghost use Rattle.lid_assign.specs.LidFault.{is_memory, lid_fault, no_room};
+ghost use Rattle.lft_blocks.specs.Arrival.{EveryPacketArrives};
+ghost use Rattle.lft_blocks.specs.Plan.{plan_of};
 ghost use Rattle.spread_rule.specs.Rules.{value_of};
 
 use attr_codec::Lmc;
-use lft_blocks::Rule;
+use fact_store::Store;
+use lft_blocks::{Plan, PlanFault, Rule};
 use std::alloc::{AllocError, Global};
 use std::marker::Model;
 
@@ -42,5 +48,14 @@ impl Planning {
             lmc: self.lmc,
             rule: self.rule.try_clone(alloc)?,
         })
+    }
+
+    /// The plan of what a store holds.
+    pub(crate) fn plan(&self, alloc: Global, store: &Store) -> Result<Plan, PlanFault>
+        ensures judged { JudgesButFor is_memory result (lid_fault (no_room self.now.lmc (cells_of store.now))) }
+        ensures plan { IfOk result (λ plan. plan ≡ plan_of self.now.rule self.now.lmc (cells_of store.now)) }
+        ensures arrives { IfOk result (λ plan. EveryPacketArrives self.now.rule (cells_of store.now) plan) }
+    {
+        Plan::of(alloc, store, self.lmc, &self.rule)
     }
 }
