@@ -152,7 +152,7 @@ fault_of_run runs.Memory = Memory
 
 -- why a run ends early; where memory was refused as it went on, this holds of what it would have printed
 abbrev pub IsRunFault :
-    {T S : Type 0} → (T → Option (List ℕ)) → (T → Bool) → (T → ℕ) → (S → Option (List ℕ)) → (S → Bool) → (S → ℕ) → T → T → S → S → ℕ → (List ℕ → Type 0)
+    {T S : Type 0} → (T → Option (List ℕ)) → (T → Bool) → (T → ℕ) → (S → Option (List ℕ)) → (S → Bool) → (S → ℕ) → T → T → S → S → Planning → (List ℕ → Type 0)
     → Bool → Fault → Type 0
 IsRunFault left has_failed interruptions left' has_failed' interruptions' old new old' new' planning prints sink_failed (Open place) = ⊥
 IsRunFault left has_failed interruptions left' has_failed' interruptions' old new old' new' planning prints sink_failed (File place fault) =
