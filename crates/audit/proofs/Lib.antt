@@ -3,6 +3,8 @@ pub mod Ended
 pub mod FabricParts
 pub mod FabricsJudged
 pub mod Gathered
+pub mod HeldPlans
+pub mod HeldTables
 pub mod InTime
 pub mod Judged
 pub mod Mapped
