@@ -1,5 +1,6 @@
 -- Blocks and switches of tables as a text holds them: each block is found at its switch's place.
-use Rattle.std.proofs.Common.{◌≡◌, ℕ, zero, suc, ◌+◌, ◌<◌, ◌≤◌, Bool, true, false, List, [], ◌∷◌, ◌++◌, length, get_or, Option, None, Some, refl, sym, ap, ◌∙◌, subst, arith, inl, inr, ◌⊎◌, add-zero}
+use Rattle.std.proofs.Common.{◌≡◌, ℕ, zero, suc, ◌+◌, ◌<◌, ◌≤◌, Bool, true, false, List, [], ◌∷◌, ◌++◌, length, get_or}
+use Rattle.std.proofs.Common.{None, Some, refl, sym, ap, ◌∙◌, subst, arith, inl, inr, ◌⊎◌, add-zero}
 use Rattle.std.specs.Prelude.{slice_get, map, Contains, reverse, ◌==◌, ◌&&◌}
 use Rattle.std.specs.List.{find, position, position_or_len}
 use Rattle.std.proofs.lemmas.Bool.{eqb-true, eq-eqb, ltb-false, and_parts}
@@ -21,7 +22,9 @@ from_list : (place number : ℕ) (blocks : List (List ℕ)) (y : HeldBlock) → 
 from_list place number [] y h = absurd (contains_none y h)
 from_list place number (x ∷ blocks) y h =
     elim (contains_cases (record { switch = place; number = number; entries = x }) y (blocks_from place (number + 1) blocks) h) [
-      | inl e ↦ (0, sym (ap (λ (z : HeldBlock). z.switch) e), sym (ap (λ (z : HeldBlock). z.number) e) ∙ sym (add-zero number), ap (λ (z : HeldBlock). Some z.entries) e)
+      | inl e ↦
+          let at = sym (ap (λ (z : HeldBlock). z.number) e) ∙ sym (add-zero number) in
+          (0, sym (ap (λ (z : HeldBlock). z.switch) e), at, ap (λ (z : HeldBlock). Some z.entries) e)
       | inr l ↦ let (b, switch, at, there) = from_list place (number + 1) blocks y l in (suc b, switch, omega arith, there)
     ]
 
@@ -99,7 +102,8 @@ in_tables place (t ∷ tables) zero b table block e there =
 in_tables place (t ∷ tables) (suc k) b table block e there =
     let later = in_tables (suc place) tables k b table block e there in
     let switch = later.switch in
-    record { y = later.y; there = behind (blocks_from place 0 t.blocks) (blocks_of (suc place) tables) later.y later.there; switch = omega arith; number = later.number }
+    let there = behind (blocks_from place 0 t.blocks) (blocks_of (suc place) tables) later.y later.there in
+    record { y = later.y; there = there; switch = omega arith; number = later.number }
 
 -- in the reversed list
 turned : {X : Type 0} (xs : List X) (y x : X) → Contains (reverse xs ++ y ∷ []) x → Contains (reverse (y ∷ xs)) x
@@ -165,7 +169,7 @@ find_at p (y ∷ xs) zero x e h first = let same : y ≡ x = same_Some y x e in 
 find_at p (y ∷ xs) (suc k) x e h first =
     let here : p y ≡ false = first 0 y (omega arith) refl in rw here (find_at p xs k x e h (λ i z less at. first (suc i) z (omega arith) at))
 
-get_mapped : {X Y : Type 0} (F : X → Y) (xs : List X) (i : ℕ) (x : X) (d : Y) → slice_get xs i ≡ Some x → get_or (map F xs) i d ≡ F x
+pub get_mapped : {X Y : Type 0} (F : X → Y) (xs : List X) (i : ℕ) (x : X) (d : Y) → slice_get xs i ≡ Some x → get_or (map F xs) i d ≡ F x
 get_mapped F [] i x d e = cc
 get_mapped F (y ∷ xs) zero x d e = ap F (same_Some y x e)
 get_mapped F (y ∷ xs) (suc i) x d e = get_mapped F xs i x d e
@@ -216,7 +220,8 @@ module _ (top : ℕ) (tables : List SwitchTable) (g : ℕ) where
           let past : length (map (with_top top) tables) ≤ position_or_len its (map (with_top top) tables) = ltb-false _ _ (unfound _ _ q) in
           passing tables (λ i t at.
           let less = within_length (map (with_top top) tables) i (with_top top t) (slice_mapped (with_top top) tables i t at) in
-          let fails : its (get_or (map (with_top top) tables) i no_switch) ≡ false = fails_before_first its (map (with_top top) tables) i no_switch (omega arith) in
+          let fails : its (get_or (map (with_top top) tables) i no_switch) ≡ false =
+          fails_before_first its (map (with_top top) tables) i no_switch (omega arith) in
           sym (ap its (get_mapped (with_top top) tables i t no_switch at)) ∙ fails) e
         where
           passing : (ts : List SwitchTable) → ((i : ℕ) (t : SwitchTable) → slice_get ts i ≡ Some t → (t.guid == g) ≡ false)

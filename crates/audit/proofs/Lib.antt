@@ -8,5 +8,7 @@ pub mod HeldTables
 pub mod InTime
 pub mod Judged
 pub mod Mapped
+pub mod PlanPackets
+pub mod PlanSteps
 pub mod PlansPass
 pub mod Told

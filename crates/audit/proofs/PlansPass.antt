@@ -1,46 +1,38 @@
 -- Where a connected fabric holds the plan of its view, no packet fails.
-use Rattle.std.proofs.Common.{◌≡◌, ℕ, zero, suc, ◌+◌, ◌*◌, ◌/◌, ◌%◌, ◌<◌, ◌≤◌, Bool, true, false, List, [], ◌∷◌, ◌++◌, length, get_or, Option, None, Some, refl, sym, ap, ◌∙◌, subst, arith, inl, inr, ◌⊎◌, add-zero}
-use Rattle.std.specs.Prelude.{slice_get, map, Contains, reverse, option_and_then, option_map, ◌==◌}
+use Rattle.std.proofs.Common.{◌≡◌, ℕ, ◌+◌, ◌*◌, ◌/◌, ◌%◌, ◌≤◌, true, List, length, get_or, Option, None, Some, refl, sym, ap, ◌∙◌, subst, arith}
+use Rattle.std.specs.Prelude.{Contains, option_map, ◌==◌}
 use Rattle.std.specs.Option.{option_map_or}
-use Rattle.std.specs.List.{find, position, position_or_len, filter_map}
-use Rattle.std.proofs.lemmas.Bool.{cond_both, eqb-true, eq-eqb, ltb-false, and_parts}
+use Rattle.std.specs.List.{find}
+use Rattle.std.proofs.lemmas.Bool.{and_parts}
 use Rattle.std.proofs.lemmas.Option.{same_Some, slice_get-get_or}
-use Rattle.std.proofs.lemmas.List.{reverse-append}
-use Rattle.std.specs.Prelude.{◌&&◌}
-use Rattle.std.proofs.lemmas.List.Sums.{fails_before_first}
-use Rattle.std.proofs.lemmas.List.Quantifiers.{position-Some}
-use Rattle.text_words.proofs.Splits.{unfound}
 use Rattle.smp_bytes.specs.declared.cable.NodePort.{NodePort}
 use Rattle.smp_bytes.specs.NodeType.{is_switch}
 use Rattle.smp_bytes.specs.Fabric.{Node, Fabric, IsNodeAt, IsEndPort, range_at, owns}
 use Rattle.smp_bytes.specs.FabricWalks.{IsConnected}
-use Rattle.smp_bytes.specs.LidRange.{has_lid}
-use Rattle.smp_bytes.proofs.LidRanges.{has_one_lid, one_lid}
+use Rattle.smp_bytes.proofs.LidRanges.{one_lid}
 use Rattle.fact_store.specs.View.{Facts, cells_of}
 use Rattle.subnet_view.specs.declared.end_port.EndPort.{EndPort}
 use Rattle.subnet_view.specs.Reading.{Cells, switches, is_usable, is_switch_node, cap_of}
-use Rattle.subnet_view.proofs.Members.{contains_here, contains_later, contains_cases, contains_none}
-use Rattle.subnet_view.proofs.Apart.{contains_map, contains-from_map}
-use Rattle.lft_blocks.specs.Plan.{SwitchTable, PlanValue, plan_of}
-use Rattle.plan_file.specs.declared.held.HeldBlock.{HeldBlock}
+use Rattle.subnet_view.proofs.Members.{contains_none}
+use Rattle.subnet_view.proofs.Apart.{contains-from_map}
+use Rattle.lft_blocks.specs.Plan.{PlanValue, plan_of}
 use Rattle.plan_file.specs.declared.held.HeldLid.{HeldLid}
-use Rattle.plan_file.specs.declared.held.HeldSwitch.{HeldSwitch}
 use Rattle.plan_file.specs.Held.{HeldPlan, nothing_held}
-use Rattle.plan_file.specs.Printed.{owned_lid, blocks_from, blocks_of, with_top}
+use Rattle.plan_file.specs.Printed.{owned_lid}
 use Rattle.lid_assign.specs.Lids.{Given, IsNoRoom, lids, lid_of, lmc_of, range_of, owner_of, rising_lids}
 use Rattle.lid_assign.specs.Lids.{top_of as lid_top}
 use Rattle.lid_assign.proofs.LidLaws.{lids_law, ports_apart}
-use Rattle.lid_assign.proofs.Owners.{owners_are_inverse, lid-from_given}
+use Rattle.lid_assign.proofs.Owners.{lid-from_given}
 use Rattle.lid_assign.proofs.RisingLids.{rising_lids_law}
 use Rattle.subnet_view.proofs.Taken.{is_taken, taken_from}
 use Rattle.updown_routes.specs.Graph.{graph_of}
 use Rattle.updown_routes.specs.Routing.{updown}
-use Rattle.lft_blocks.specs.Entries.{Next, home_of_lid, blocks, block_count}
+use Rattle.lft_blocks.specs.Entries.{home_of_lid}
 use Rattle.lft_blocks.specs.Entries.{entry as table_entry}
 use Rattle.std.specs.Prelude.{MatchOption, is_some}
 use Rattle.std.proofs.lemmas.List.FromFn.{length-map-range_with_len}
 use Rattle.smp_bytes.specs.Forwarding.{IsDelivered}
-use Rattle.lft_blocks.specs.Plan.{tables_of, block_at as plan_block}
+use Rattle.lft_blocks.specs.Plan.{block_at as plan_block}
 use Rattle.lft_blocks.specs.Arrival.{HoldsBlock, HoldsPlan}
 use Rattle.lft_blocks.specs.PlanLaws.{HasBlock, block_of}
 use Rattle.lft_blocks.proofs.BlockOwners.{blocks_are_of_switches}
@@ -49,7 +41,7 @@ use Rattle.subnet_view.specs.Agreement.{WholeFabric, IsEndPortIn}
 use Rattle.audit.specs.declared.end.Failure.{Failure}
 use Rattle.audit.specs.Steps.{IsHeldFailure}
 use Rattle.audit.specs.Fabrics.{IsSeen, HoldsLids, PlansPass}
-use Rattle.audit.specs.Tables.{is_block_of, top_at, entry_in, entry_at}
+use Rattle.audit.specs.Tables.{entry_in, entry_at}
 use Rattle.audit.specs.Tables.{block_at as held_block}
 use Rattle.audit.proofs.HeldPlans.{made, line_lid, line_port, lmc_0, of_find, owner_is, lid_of_owner, top_of_switch}
 use Rattle.audit.proofs.HeldTables.{block_found, placed}

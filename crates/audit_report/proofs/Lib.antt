@@ -5,5 +5,4 @@ pub mod Surveyed
 pub mod Written
 pub mod Judged
 pub mod PlansArrive
-pub mod PlanSteps
 pub mod PlansRise

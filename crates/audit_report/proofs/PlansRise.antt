@@ -1,5 +1,6 @@
 -- The channels of the plan of a view can be numbered so that the numbers rise on every way.
-use Rattle.std.proofs.Common.{◌≡◌, ℕ, ◌+◌, ◌*◌, ◌/◌, ◌%◌, ◌<◌, ◌≤◌, true, false, List, [], ◌∷◌, length, get_or, Option, None, Some, refl, sym, ap, ◌∙◌, subst, arith, ◌==◌}
+use Rattle.std.proofs.Common.{◌≡◌, ℕ, ◌+◌, ◌*◌, ◌/◌, ◌%◌, ◌<◌, true, false, List, [], ◌∷◌, length, get_or}
+use Rattle.std.proofs.Common.{Option, None, Some, refl, sym, ap, ◌∙◌, subst, arith, ◌==◌}
 use Rattle.std.specs.Prelude.{slice_get, slice_index_or, map, Contains}
 use Rattle.std.specs.Option.{option_map_or}
 use Rattle.std.specs.List.{range_with_len}
@@ -9,17 +10,15 @@ use Rattle.std.proofs.lemmas.List.FromFn.{length-map-range_with_len, get_or-map-
 use Rattle.std.proofs.lemmas.Option.{same_Some, slice_get_within, slice_get-get_or, none-some}
 use Rattle.fact_store.specs.Sighting.{AreInRange}
 use Rattle.fact_store.specs.View.{Facts, cells_of}
-use Rattle.subnet_view.specs.declared.end_port.EndPort.{EndPort}
 use Rattle.subnet_view.specs.Reading.{Cells, switches}
 use Rattle.subnet_view.specs.Wires.{across}
 use Rattle.subnet_view.proofs.Members.{contains_none}
 use Rattle.port_graph.specs.declared.exit.Exit.{Exit}
-use Rattle.channel_order.specs.Columns.{TakesInTurn}
-use Rattle.lid_assign.specs.Lids.{IsNoRoom, lids, owner_of, top_of}
+use Rattle.lid_assign.specs.Lids.{IsNoRoom, lids, top_of}
 use Rattle.updown_routes.specs.Channels.{channel_number, numbers_along}
 use Rattle.updown_routes.specs.Crossing.{Crossing}
 use Rattle.updown_routes.specs.Graph.{graph_of}
-use Rattle.updown_routes.specs.GraphLaws.{IsGraph, IsSwitch}
+use Rattle.updown_routes.specs.GraphLaws.{IsSwitch}
 use Rattle.updown_routes.specs.Ranks.{in_one_component}
 use Rattle.updown_routes.specs.Routing.{Routing, Leads, Passes, FollowsRule, updown}
 use Rattle.updown_routes.proofs.Components.{cost_in_component}
@@ -27,18 +26,18 @@ use Rattle.updown_routes.proofs.Graphs.{exit_is_wire, graph_law}
 use Rattle.updown_routes.proofs.LeastCosts.{no_cost_between}
 use Rattle.updown_routes.proofs.Routed.{updown_is_routing}
 use Rattle.updown_routes.proofs.Switches.{graph_guids}
-use Rattle.lft_blocks.proofs.HeldEntries.{entry_of as planned_entry}
 use Rattle.lft_blocks.proofs.HomeSwitches.{home_is_switch}
+use Rattle.lft_blocks.specs.Plan.{plan_of}
 use Rattle.plan_file.specs.Held.{HeldPlan, nothing_held}
+use Rattle.plan_file.specs.Printed.{held_plan}
 use Rattle.plan_file.proofs.PlanRanges.{wire_small}
 use Rattle.audit.specs.Exits.{exit_by}
 use Rattle.audit.specs.Network.{row_of}
 use Rattle.audit.specs.Tables.{entry_for}
 use Rattle.audit.proofs.HeldPlans.{made, line_owned, entry_counts}
-use Rattle.audit_circles.specs.Waiting.{WaitsFor, RiseOnWays}
-use Rattle.audit_report.specs.Laws.{PlansRise}
+use Rattle.audit_circles.specs.Waiting.{WaitsFor}
 use Rattle.audit_report.specs.Passing.{CanRise}
-use Rattle.audit_report.proofs.PlanSteps.{LeavesBy, OnWay, contains_at, of_column, leaves, on_way}
+use Rattle.audit.proofs.PlanSteps.{contains_at, of_column, leaves, on_way}
 
 -- the number of a channel: the rule's, where its wire leads somewhere
 abbrev number_at : Cells → ℕ → ℕ → ℕ
@@ -117,7 +116,8 @@ module _ (facts : Facts) (lid t : ℕ) (t_there : Contains (switches (cells_of f
       let (n, way) = way_there s p there next in
       along s p r a b way.exits way.by_rule way.passes way.channels_rise apart past next then wire more
 
-module _ (facts : Facts) (range : AreInRange facts) (has_room : ¬ (IsNoRoom 0 (cells_of facts))) (top : ℕ) (top_is : top_of (lids 0 (cells_of facts)) ≡ Some top) where
+module _ (facts : Facts) (range : AreInRange facts) (has_room : ¬ (IsNoRoom 0 (cells_of facts)))
+    (top : ℕ) (top_is : top_of (lids 0 (cells_of facts)) ≡ Some top) where
   abbrev its_cells : Cells
   its_cells = cells_of facts
 
@@ -155,7 +155,8 @@ module _ (facts : Facts) (range : AreInRange facts) (has_room : ¬ (IsNoRoom 0 (
       g_there way.apart apart way.next next first.wire (ap (λ x. across its_cells x (entry_for held lid h)) here ∙ second.wire) in
       let a_is : a ≡ 256 * w.switch + entry_for held lid g = takes.channel_is ∙ ap (λ p. 256 * w.switch + p) first.port_is in
       let b_is : b ≡ 256 * takes.first.to + entry_for held lid h = takes.next_is ∙ ap (λ p. 256 * takes.first.to + p) second.port_is in
-      let a_number = ap (λ c. slice_index_or (numbers its_cells) c 0) a_is ∙ numbered its_cells w.switch (entry_for held lid g) g first.end at first.below first.wire in
+      let a_number = ap (λ c. slice_index_or (numbers its_cells) c 0) a_is
+      ∙ numbered its_cells w.switch (entry_for held lid g) g first.end at first.below first.wire in
       let b_number = ap (λ c. slice_index_or (numbers its_cells) c 0) b_is
       ∙ numbered its_cells takes.first.to (entry_for held lid h) h second.end at_next second.below second.wire
       ∙ ap (λ x. channel_number (graph_of its_cells) x second.end.0) (sym here) in
@@ -164,7 +165,7 @@ module _ (facts : Facts) (range : AreInRange facts) (has_room : ¬ (IsNoRoom 0 (
 as_many : (cells : Cells) → length (numbers cells) ≡ 256 * length (switches cells)
 as_many cells = length-map-range_with_len (number_of cells) 0 (256 * length (switches cells))
 
-pub plans_rise : PlansRise
+pub plans_rise : (facts : Facts) → AreInRange facts → ¬ (IsNoRoom 0 (cells_of facts)) → CanRise (cells_of facts) (held_plan (plan_of 0 (cells_of facts)))
 plans_rise facts range has_room =
     let cells = cells_of facts in
     let told : Option ℕ → HeldPlan = λ o.

@@ -1,9 +1,9 @@
 -- By the plan's entries a packet goes from switch to switch by the ports of the rule.
-use Rattle.std.proofs.Common.{◌≡◌, ℕ, zero, suc, ◌<◌, ◌≤◌, Bool, true, false, List, [], ◌∷◌, length, get_or, Option, None, Some, refl, sym, ap, ◌∙◌, subst, arith, inl, inr, cond, ◌==◌}
+use Rattle.std.proofs.Common.{◌≡◌, ℕ, zero, suc, ◌<◌, true, false, List, [], ◌∷◌, get_or, Option, None, Some}
+use Rattle.std.proofs.Common.{refl, sym, ap, ◌∙◌, subst, arith, inl, inr, cond, ◌==◌}
 use Rattle.std.specs.Prelude.{slice_get, slice_index_or, map, Contains, unwrap_or, option_and_then}
 use Rattle.std.specs.Option.{option_map_or}
-use Rattle.std.specs.List.{range_with_len}
-use Rattle.std.proofs.lemmas.Bool.{cases_lt, eqb-true, eqb-false, eq-eqb, false_from_ne_true}
+use Rattle.std.proofs.lemmas.Bool.{cases_lt, eqb-true, eqb-false, false_from_ne_true}
 use Rattle.std.proofs.lemmas.List.{get_or_past}
 use Rattle.std.proofs.lemmas.List.FromFn.{length-map-range_with_len, get_or-map-range_with_len}
 use Rattle.std.proofs.lemmas.List.Quantifiers.{position-Some}
@@ -34,6 +34,12 @@ contains_at [] i x e = cc
 contains_at (y ∷ xs) zero x e = subst (λ z. Contains (y ∷ xs) z) (same_Some y x e) (contains_here y xs)
 contains_at (y ∷ xs) (suc i) x e = contains_later y x xs (contains_at xs i x e)
 
+-- what stands at the index of a number
+pub index_is : (guids : List ℕ) (g i : ℕ) → index_in guids g ≡ Some i → slice_get guids i ≡ Some g
+index_is guids g i e =
+    let found = position-Some (λ x. x == g) guids i g e in
+    slice_get-get_or guids i g found.0 ∙ ap (λ x. Some x) (eqb-true (get_or guids i g) g found.1)
+
 -- an exit of a column is that of the switch there
 pub of_column : (F : ℕ → Option Exit) (guids : List ℕ) (i : ℕ) (x : Exit) → slice_index_or (map F guids) i None ≡ Some x
     → (g : ℕ) × (slice_get guids i ≡ Some g) × (F g ≡ Some x)
@@ -61,11 +67,7 @@ module _ (cells : Cells) where
       ] refl h
     where
       at : (j : ℕ) → index_in (switches cells) q.0 ≡ Some j → Switch j ≡ Switch i → slice_get (switches cells) i ≡ Some q.0
-      at j e k =
-          let same : j ≡ i = cc in
-          let found = position-Some (λ x. x == q.0) (switches cells) j q.0 e in
-          let is : get_or (switches cells) j q.0 ≡ q.0 = eqb-true (get_or (switches cells) j q.0) q.0 found.1 in
-          ap (slice_get (switches cells)) (sym same) ∙ slice_get-get_or (switches cells) j q.0 found.0 ∙ ap (λ x. Some x) is
+      at j e k = let same : j ≡ i = cc in ap (slice_get (switches cells)) (sym same) ∙ index_is (switches cells) q.0 j e
 
   in_row : (g entry i : ℕ) → slice_index_or (row_of cells g) entry Nothing ≡ Switch i → (entry < 256) × (far_of cells g entry ≡ Switch i)
   in_row g entry i h =
@@ -108,7 +110,7 @@ pub record OnWay (cells : Cells) (lid : ℕ) (e : EndPort) (g entry : ℕ) : Typ
   pub next : (updown (graph_of cells)).next lid g home.0 ≡ Some entry
 
 -- no wire is in a port 0
-no_wire_at_0 : (cells : Cells) (g : ℕ) (q : ℕ × ℕ) → across cells g 0 ≡ Some q → ⊥
+pub no_wire_at_0 : (cells : Cells) (g : ℕ) (q : ℕ × ℕ) → across cells g 0 ≡ Some q → ⊥
 no_wire_at_0 cells g q e = let from = (wire_end cells g 0 (linked cells g 0 q e).here).is_port.0 in omega arith
 
 module _ (facts : Facts) (unwired : (g : ℕ) (q : ℕ × ℕ) → across (cells_of facts) g 255 ≡ Some q → ⊥) (lid : ℕ) (e : EndPort)
