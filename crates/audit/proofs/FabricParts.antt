@@ -24,7 +24,7 @@ use Rattle.audit.specs.Network.{index_in}
 use Rattle.plan_file.specs.Held.{HeldPlan}
 
 -- a list that contains a number has an index for it
-index_there : (guids : List ℕ) (g : ℕ) → Contains guids g → index_in guids g ≡ None → ⊥
+pub index_there : (guids : List ℕ) (g : ℕ) → Contains guids g → index_in guids g ≡ None → ⊥
 index_there guids g h e =
     let past : length guids ≤ position_or_len (λ x. x == g) guids = ltb-false _ _ (unfound _ _ e) in
     let less = h.1 in

@@ -3,8 +3,12 @@ pub mod Ended
 pub mod FabricParts
 pub mod FabricsJudged
 pub mod Gathered
+pub mod HeldPlans
+pub mod HeldTables
 pub mod InTime
 pub mod Judged
 pub mod Mapped
+pub mod PlanPackets
+pub mod PlanSteps
 pub mod PlansPass
 pub mod Told

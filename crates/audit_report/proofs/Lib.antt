@@ -5,3 +5,4 @@ pub mod Surveyed
 pub mod Written
 pub mod Judged
 pub mod PlansArrive
+pub mod PlansRise

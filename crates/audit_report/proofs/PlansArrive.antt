@@ -1,31 +1,66 @@
--- By the plan of a view each packet arrives.
-use Rattle.std.proofs.Common.{◌≡◌, refl, ap, ◌∙◌, subst, true, false}
-use Rattle.std.specs.Prelude.{Some}
-use Rattle.fact_store.specs.View.{cells_of}
+-- By the plan of a view each packet of a component arrives.
+use Rattle.std.proofs.Common.{◌≡◌, ℕ, true, false, ◌||◌, Option, None, Some, refl, sym, ap}
+use Rattle.std.specs.Prelude.{option_map, option_and_then}
+use Rattle.std.specs.Option.{option_map_or}
+use Rattle.std.proofs.lemmas.Bool.{eqb-true}
+use Rattle.fact_store.specs.Sighting.{AreInRange}
+use Rattle.fact_store.specs.View.{Facts, cells_of}
+use Rattle.subnet_view.specs.declared.end_port.EndPort.{EndPort}
+use Rattle.subnet_view.specs.Reading.{Cells}
+use Rattle.subnet_view.specs.Wires.{across}
+use Rattle.subnet_view.proofs.Members.{contains_none}
+use Rattle.subnet_view.proofs.WireEnds.{same_port}
+use Rattle.lid_assign.specs.Lids.{IsNoRoom, lids, top_of}
+use Rattle.updown_routes.specs.Graph.{graph_of}
+use Rattle.updown_routes.specs.Ranks.{root_of}
 use Rattle.spread_rule.specs.Rules.{up_and_down}
+use Rattle.lft_blocks.specs.Entries.{home_of}
 use Rattle.lft_blocks.specs.Plan.{plan_of}
+use Rattle.plan_file.specs.Held.{HeldPlan, nothing_held}
 use Rattle.plan_file.specs.Printed.{held_plan}
-use Rattle.audit.specs.declared.end.End.TheVariants.{Taken}
-use Rattle.audit.specs.Steps.{IsBrought, end_for, is_at}
-use Rattle.audit.proofs.InTime.{end_is}
-use Rattle.audit.proofs.Judged.{at_is, same_itself}
-use Rattle.audit.proofs.PlansPass.{plans_pass}
-use Rattle.audit_report.specs.Laws.{PlansArrive}
+use Rattle.audit.specs.Tables.{is_same_end}
+use Rattle.audit.proofs.HeldPlans.{made}
+use Rattle.audit.proofs.Judged.{same_ends}
+use Rattle.audit.proofs.PlanPackets.{HasRoot, Meets, itself, of_root, by_wire, brought}
+use Rattle.audit_report.specs.Passing.{EachArrives}
+use Rattle.audit_report.specs.Seats.{in_one_component, root_at, is_one_root, leads_to}
 
-pub plans_arrive : PlansArrive
-plans_arrive facts room f connected seen line is_held e there is_end joined =
+roots : (a b : Option ℕ) → is_one_root a b ≡ true → (r : ℕ) × (a ≡ Some r) × (b ≡ Some r)
+roots None b h = absurd (cc)
+roots (Some r) None h = absurd (cc)
+roots (Some r) (Some s) h = (r, refl, ap (λ x. Some x) (sym (eqb-true r s h)))
+
+led : (owner : EndPort) (far : Option (ℕ × ℕ)) → leads_to far owner ≡ true → far ≡ Some (owner.node, owner.port)
+led owner None h = absurd (cc)
+led owner (Some q) h = ap (λ x. Some x) (same_port owner.node owner.port q h)
+
+has_root : (cells : Cells) (e : EndPort) (r : ℕ) → root_at cells e ≡ Some r → HasRoot cells e r
+has_root cells e r h =
+    elim (home_of cells e) as (λ o. home_of cells e ≡ o → option_and_then (root_of (graph_of cells)) (option_map (λ h. h.0) o) ≡ Some r → HasRoot cells e r) [
+      | None ↦ λ k m. absurd (cc)
+      | Some home ↦ λ k m. record { home = home; home_is = k; root_is = m }
+    ] refl h
+
+meets : (cells : Cells) (e owner : EndPort) → in_one_component cells e owner ≡ true → Meets cells e owner
+meets cells e owner h =
+    let one = is_one_root (root_at cells e) (root_at cells owner) in
+    let wire = leads_to (across cells e.node e.port) owner in
+    elim (is_same_end e owner) as (λ t. is_same_end e owner ≡ t → (t || one || wire) ≡ true → Meets cells e owner) [
+      | true ↦ λ s k. itself (sym (same_ends e owner s))
+      | false ↦ λ s k. (elim one as (λ t. one ≡ t → (t || wire) ≡ true → Meets cells e owner) [
+        | true ↦ λ r m.
+            let its = roots (root_at cells e) (root_at cells owner) r in
+            of_root its.0 (has_root cells e its.0 its.1) (has_root cells owner its.0 its.2)
+        | false ↦ λ r m. by_wire (led owner (across cells e.node e.port) m)
+      ] refl k)
+    ] refl h
+
+pub plans_arrive : (facts : Facts) → AreInRange facts → ¬ (IsNoRoom 0 (cells_of facts)) → EachArrives (cells_of facts) (held_plan (plan_of up_and_down 0 (cells_of facts)))
+plans_arrive facts range has_room =
     let cells = cells_of facts in
-    let held = held_plan (plan_of up_and_down 0 cells) in
-    let end = end_for cells held line.lid e in
-    elim (is_at line.port end) as (λ t. is_at line.port end ≡ t → IsBrought cells held line.lid e (Some (Taken line.port))) [
-      | true ↦ λ q. subst (IsBrought cells held line.lid e) (at_is line.port end q) (end_is cells held line.lid e)
-      | false ↦ λ q. absurd (plans_pass facts room f connected seen (record { line = line; source = e; end = end }) (record {
-        is_held = is_held;
-        fails = record {
-          is_source = is_end;
-          is_end_port = there;
-          brought = end_is cells held line.lid e;
-          elsewhere = λ same. (let is : is_at line.port end ≡ true = ap (is_at line.port) same ∙ same_itself line.port in cc);
-        };
-      }))
+    let told : Option ℕ → HeldPlan = λ o.
+    option_map_or (λ top. made cells top) o nothing_held in
+    elim (top_of (lids 0 cells)) as (λ o. top_of (lids 0 cells) ≡ o → EachArrives cells (told o)) [
+      | None ↦ λ is line h. absurd (contains_none line h)
+      | Some top ↦ λ is line h e is_end listed together. brought facts range has_room top is line h is_end e listed (meets cells e line.port together)
     ] refl

@@ -1,7 +1,8 @@
 //! The law of audits.
-ghost use Rattle.audit_report.specs.Laws.{PlansArrive};
+ghost use Rattle.audit_report.specs.Laws.{PlansPass};
 
-/// Where a connected fabric is as a view with room says, and holds the text of the view's plan, each packet arrives.
-pub fn plans_arrive()
-    ensures law { PlansArrive }
+/// The plan of each view with room passes an audit by its own text: each packet that an end port sends to a LID of its
+/// component arrives, and channels can be numbered so that the numbers rise on every way.
+pub fn plans_pass()
+    ensures law { PlansPass }
 {}

@@ -94,7 +94,7 @@ module _ (facts : Facts) (range : AreInRange facts) where
   node_small g h = known_small g (find key_cmp (key.Node g) cells) refl h
 
   -- both ends of a wire
-  wire_small : (g p h q : ℕ) → across cells g p ≡ Some (h, q) → (p ≤ 254) × (q ≤ 254)
+  pub wire_small : (g p h q : ℕ) → across cells g p ≡ Some (h, q) → (p ≤ 254) × (q ≤ 254)
   wire_small g p h q e =
       let w = (wire_law cells g p h q).0 e in
       let (kind, ports, known, low, high, up, rest) = w.first in

@@ -1,0 +1,181 @@
+-- By the plan's entries a packet goes from switch to switch by the ports of the rule.
+use Rattle.std.proofs.Common.{◌≡◌, ℕ, zero, suc, ◌<◌, true, false, List, [], ◌∷◌, get_or, Option, None, Some}
+use Rattle.std.proofs.Common.{refl, sym, ap, ◌∙◌, subst, arith, inl, inr, cond, ◌==◌}
+use Rattle.std.specs.Prelude.{slice_get, slice_index_or, map, Contains, unwrap_or, option_and_then}
+use Rattle.std.specs.Option.{option_map_or}
+use Rattle.std.proofs.lemmas.Bool.{cases_lt, eqb-true, eqb-false, false_from_ne_true}
+use Rattle.std.proofs.lemmas.List.{get_or_past}
+use Rattle.std.proofs.lemmas.List.FromFn.{length-map-range_with_len, get_or-map-range_with_len}
+use Rattle.std.proofs.lemmas.List.Quantifiers.{position-Some}
+use Rattle.std.proofs.lemmas.Option.{same_Some, slice_get-get_or}
+use Rattle.fact_store.specs.View.{Facts, cells_of}
+use Rattle.subnet_view.specs.declared.end_port.EndPort.{EndPort}
+use Rattle.subnet_view.specs.Reading.{Cells, is_usable, switches}
+use Rattle.subnet_view.specs.Wires.{across, attached}
+use Rattle.subnet_view.proofs.Attachments.{attached_law}
+use Rattle.subnet_view.proofs.Members.{contains_here, contains_later}
+use Rattle.subnet_view.proofs.WireEnds.{linked, across_back}
+use Rattle.subnet_view.proofs.WireLaws.{wire_law}
+use Rattle.port_graph.specs.declared.exit.Exit.{Exit}
+use Rattle.lid_assign.specs.Lids.{lids, owner_of}
+use Rattle.updown_routes.specs.Graph.{graph_of}
+use Rattle.updown_routes.specs.Routing.{Routing, updown}
+use Rattle.updown_routes.proofs.Graphs.{wire_end}
+use Rattle.updown_routes.proofs.Switches.{switch_usable}
+use Rattle.lft_blocks.specs.Entries.{home_of, port_to}
+use Rattle.lft_blocks.proofs.HeldEntries.{entry_of as planned_entry, entry_by_home}
+use Rattle.audit.specs.Exits.{exit_to, exit_by}
+use Rattle.audit.specs.Network.{far_at, far_to, far_of, row_of, index_in}
+use Rattle.audit.specs.declared.far.Far.{Far}
+use Rattle.audit.specs.declared.far.Far.TheVariants.{Nothing, Switch, Port}
+
+pub contains_at : {X : Type 0} (xs : List X) (i : ℕ) (x : X) → slice_get xs i ≡ Some x → Contains xs x
+contains_at [] i x e = cc
+contains_at (y ∷ xs) zero x e = subst (λ z. Contains (y ∷ xs) z) (same_Some y x e) (contains_here y xs)
+contains_at (y ∷ xs) (suc i) x e = contains_later y x xs (contains_at xs i x e)
+
+-- what stands at the index of a number
+pub index_is : (guids : List ℕ) (g i : ℕ) → index_in guids g ≡ Some i → slice_get guids i ≡ Some g
+index_is guids g i e =
+    let found = position-Some (λ x. x == g) guids i g e in
+    slice_get-get_or guids i g found.0 ∙ ap (λ x. Some x) (eqb-true (get_or guids i g) g found.1)
+
+-- an exit of a column is that of the switch there
+pub of_column : (F : ℕ → Option Exit) (guids : List ℕ) (i : ℕ) (x : Exit) → slice_index_or (map F guids) i None ≡ Some x
+    → (g : ℕ) × (slice_get guids i ≡ Some g) × (F g ≡ Some x)
+of_column F [] i x e = cc
+of_column F (g ∷ guids) zero x e = (g, refl, e)
+of_column F (g ∷ guids) (suc i) x e = of_column F guids i x e
+
+-- a packet leaves a switch by its entry, over a wire to the usable switch at an index
+pub record LeavesBy (cells : Cells) (g entry : ℕ) (x : Exit) : Type 0 where
+  pub port_is : x.port ≡ entry
+  pub below : entry < 256
+  pub end : ℕ × ℕ
+  pub wire : across cells g entry ≡ Some end
+  pub index : slice_get (switches cells) x.to ≡ Some end.0
+
+module _ (cells : Cells) where
+  far_leads : (far : Option (ℕ × ℕ)) (i : ℕ) → far_to (switches cells) far ≡ Switch i
+      → (q : ℕ × ℕ) × (far ≡ Some q) × (slice_get (switches cells) i ≡ Some q.0)
+  far_leads None i h = absurd (cc)
+  far_leads (Some q) i h =
+      elim (index_in (switches cells) q.0) as (λ o. index_in (switches cells) q.0 ≡ o → far_at q o ≡ Switch i
+      → (p : ℕ × ℕ) × (Some q ≡ Some p) × (slice_get (switches cells) i ≡ Some p.0)) [
+        | None ↦ λ e k. absurd (cc)
+        | Some j ↦ λ e k. (q, refl, at j e k)
+      ] refl h
+    where
+      at : (j : ℕ) → index_in (switches cells) q.0 ≡ Some j → Switch j ≡ Switch i → slice_get (switches cells) i ≡ Some q.0
+      at j e k = let same : j ≡ i = cc in ap (slice_get (switches cells)) (sym same) ∙ index_is (switches cells) q.0 j e
+
+  in_row : (g entry i : ℕ) → slice_index_or (row_of cells g) entry Nothing ≡ Switch i → (entry < 256) × (far_of cells g entry ≡ Switch i)
+  in_row g entry i h =
+      elim (cases_lt entry 256) [
+        | inl less ↦ (less, sym (get_or-map-range_with_len (far_of cells g) 0 256 entry entry Nothing less (omega arith)) ∙ h)
+        | inr past ↦
+            let none : slice_index_or (row_of cells g) entry Nothing ≡ Nothing =
+            get_or_past (row_of cells g) entry Nothing (omega (arith, length-map-range_with_len (far_of cells g) 0 256, past)) in
+            absurd (cc)
+      ]
+
+  by_far : (g entry : ℕ) (x : Exit) (far : Far) → slice_index_or (row_of cells g) entry Nothing ≡ far → exit_to entry far ≡ Some x → LeavesBy cells g entry x
+  by_far g entry x Nothing e h = absurd (cc)
+  by_far g entry x (Port p) e h = absurd (cc)
+  by_far g entry x (Switch i) e h =
+      let made : Exit = record { port = entry; to = i } in
+      let same : made ≡ x = same_Some made x h in
+      let (below, is) = in_row g entry i e in
+      let (end, wire, index) = far_leads (across cells g entry) i is in
+      record {
+        port_is = ap (λ (y : Exit). y.port) (sym same);
+        below = below;
+        end = end;
+        wire = wire;
+        index = ap (λ (y : Exit). slice_get (switches cells) y.to) (sym same) ∙ index;
+      }
+
+  pub leaves : (g entry : ℕ) (x : Exit) → exit_by (row_of cells g) entry ≡ Some x → LeavesBy cells g entry x
+  leaves g entry x h =
+      elim (entry == 0) as (λ t. cond t None (exit_to entry (slice_index_or (row_of cells g) entry Nothing)) ≡ Some x → LeavesBy cells g entry x) [
+        | true ↦ λ k. absurd (cc)
+        | false ↦ λ k. by_far g entry x (slice_index_or (row_of cells g) entry Nothing) refl k
+      ] h
+
+-- a switch sends packets for a LID on by the rule's port towards the home of its owner
+pub record OnWay (cells : Cells) (lid : ℕ) (e : EndPort) (g entry : ℕ) : Type 0 where
+  pub home : ℕ × ℕ
+  pub home_is : home_of cells e ≡ Some home
+  pub apart : (g == home.0) ≡ false
+  pub next : (updown (graph_of cells)).next lid g home.0 ≡ Some entry
+
+-- no wire is in a port 0
+pub no_wire_at_0 : (cells : Cells) (g : ℕ) (q : ℕ × ℕ) → across cells g 0 ≡ Some q → ⊥
+no_wire_at_0 cells g q e = let from = (wire_end cells g 0 (linked cells g 0 q e).here).is_port.0 in omega arith
+
+module _ (facts : Facts) (unwired : (g : ℕ) (q : ℕ × ℕ) → across (cells_of facts) g 255 ≡ Some q → ⊥) (lid : ℕ) (e : EndPort)
+    (owned : owner_of (lids 0 (cells_of facts)) lid ≡ Some e) where
+  abbrev cells : Cells
+  cells = cells_of facts
+
+  abbrev rule : Routing
+  rule = updown (graph_of cells)
+
+  -- the wire in the home's port leads to the owner, which is no usable switch
+  at_home : (home end : ℕ × ℕ) → home_of cells e ≡ Some home → across cells home.0 home.1 ≡ Some end → Contains (switches cells) end.0 → ⊥
+  at_home home end h wire there =
+      elim (is_usable cells e.node) as (λ t. is_usable cells e.node ≡ t → cond t (Some (e.node, 0)) (attached cells e.node e.port) ≡ Some home → ⊥) [
+        | true ↦ λ u k.
+            let own : ℕ × ℕ = (e.node, 0) in
+            let same : own ≡ home = same_Some own home k in
+            let zero_port : home.1 ≡ 0 = ap (λ (x : ℕ × ℕ). x.1) (sym same) in
+            no_wire_at_0 cells home.0 end (ap (across cells home.0) (sym zero_port) ∙ wire)
+        | false ↦ λ u k.
+            let its = (attached_law cells e.node e.port home.0 home.1).0 k in
+            let back = across_back cells e.node e.port home ((wire_law cells e.node e.port home.0 home.1).1 its.wire) in
+            let owner : ℕ × ℕ = (e.node, e.port) in
+            let same : end ≡ owner = same_Some end owner (sym wire ∙ back) in
+            let usable = switch_usable facts e.node (subst (λ (x : ℕ × ℕ). Contains (switches cells) x.0) same there) in
+            cc
+      ] refl h
+
+  no_way : (g entry : ℕ) (end : ℕ × ℕ) → entry ≡ 255 → across cells g entry ≡ Some end → ⊥
+  no_way g entry end e wire = unwired g end (ap (across cells g) (sym e) ∙ wire)
+
+  by_home : (g entry : ℕ) (home end : ℕ × ℕ) → planned_entry rule 0 cells g lid ≡ entry → across cells g entry ≡ Some end
+      → Contains (switches cells) end.0 → home_of cells e ≡ Some home → OnWay cells lid e g entry
+  by_home g entry home end is wire there home_is =
+      elim (home.0 == g) as (λ t. (home.0 == g) ≡ t → OnWay cells lid e g entry) [
+        | true ↦ λ s.
+            let here : home.0 ≡ g = eqb-true home.0 g s in
+            let port : home.1 ≡ entry = sym (planned ∙ ap (λ t. cond t home.1 (unwrap_or (rule.next lid g home.0) 255)) s) ∙ is in
+            absurd (at_home home end home_is ((λ i. across cells (here i) (port i)) ∙ wire) there)
+        | false ↦ λ s. (elim (rule.next lid g home.0) as (λ o. rule.next lid g home.0 ≡ o → OnWay cells lid e g entry) [
+          | None ↦ λ n. absurd (no_way g entry end (sym (elsewhere s) ∙ ap (λ o. unwrap_or o 255) n) wire)
+          | Some p ↦ λ n.
+              let port : p ≡ entry = sym (ap (λ o. unwrap_or o 255) n) ∙ elsewhere s in
+              record {
+                home = home;
+                home_is = home_is;
+                apart = false_from_ne_true (g == home.0) (λ k. eqb-false home.0 g s (sym (eqb-true g home.0 k)));
+                next = n ∙ ap (λ x. Some x) port;
+              }
+        ] refl)
+      ] refl
+    where
+      planned : planned_entry rule 0 cells g lid ≡ cond (home.0 == g) home.1 (unwrap_or (rule.next lid g home.0) 255)
+      planned = entry_by_home rule 0 cells g lid e home owned home_is
+
+      elsewhere : (home.0 == g) ≡ false → unwrap_or (rule.next lid g home.0) 255 ≡ entry
+      elsewhere s = sym (planned ∙ ap (λ t. cond t home.1 (unwrap_or (rule.next lid g home.0) 255)) s) ∙ is
+
+  pub on_way : (g entry : ℕ) (end : ℕ × ℕ) → planned_entry rule 0 cells g lid ≡ entry → across cells g entry ≡ Some end
+      → Contains (switches cells) end.0 → OnWay cells lid e g entry
+  on_way g entry end is wire there =
+      elim (home_of cells e) as (λ o. home_of cells e ≡ o → OnWay cells lid e g entry) [
+        | None ↦ λ k.
+            let none : planned_entry rule 0 cells g lid ≡ 255 =
+            ap (λ o. option_map_or (port_to rule.next lid g) o 255) (ap (option_and_then (home_of cells)) owned ∙ k) in
+            absurd (no_way g entry end (sym is ∙ none) wire)
+        | Some home ↦ λ k. by_home g entry home end is wire there k
+      ] refl
