@@ -1,6 +1,6 @@
 -- GUIDs as the numbers of words are read.
-use Rattle.std.proofs.Common.{◌≡◌, ℕ, ◌-◌, ◌==◌, ◌<◌, ◌≤◌, ◌^◌, ◌&&◌, true, false, leb, List, ◌++◌, length, min, None, Some, Option, Ok, Err, refl, sym, ap, ◌∙◌, arith}
-use Rattle.std.specs.Prelude.{codes, option_map, not, nat_le}
+use Rattle.std.proofs.Common.{◌≡◌, ℕ, ◌-◌, ◌==◌, ◌<◌, ◌≤◌, ◌^◌, true, false, leb, List, ◌++◌, length, min, None, Some, Option, Ok, Err, refl, ◌∙◌, arith}
+use Rattle.std.specs.Prelude.{codes, option_map}
 use Rattle.text_words.specs.Number.{number_of, guid_of}
 use Rattle.text_words.proofs.Digits.{guid_is, is_within, not_within}
 use Rattle.roots_file.specs.Line.{guid_by}
