@@ -15,8 +15,8 @@ use Rattle.sm_cli.specs.declared.fault.Fault.TheVariants.{Open, File, Text, NoRo
 use Rattle.sm_cli.specs.declared.text_fault.TextFault.{TextFault}
 use Rattle.sm_cli.specs.declared.text_fault.TextFault.TheVariants as texts
 use Rattle.sm_cli.specs.Run.{HasRead, RefusesFile}
-use Rattle.audit_run.specs.declared.fault.AuditFault.{AuditFault}
-use Rattle.audit_run.specs.declared.fault.AuditFault.TheVariants.{Tables, Files}
+use Rattle.sm_cli.specs.declared.whose_fault.WhoseFault.{WhoseFault}
+use Rattle.sm_cli.specs.declared.whose_fault.WhoseFault.TheVariants as whose
 
 -- the source was read to its end, and its text has no fault and says these tables
 pub record IsTables {S : Type 0} (left : S → Option (List ℕ)) (has_failed : S → Bool) (old new : S) (held : HeldPlan) : Type 0 where
@@ -95,8 +95,8 @@ IsFilesFault left has_failed interruptions floor tables tables' olds news sink_f
     FailsToAudit left has_failed floor tables tables' olds news sink_failed fault
 
 -- why an audit over open files ends early: the tables are read first
-abbrev pub IsAuditFault : {S : Type 0} → (S → Option (List ℕ)) → (S → Bool) → (S → ℕ) → ℕ → S → S → List S → List S → Bool → AuditFault → Type 0
-IsAuditFault left has_failed interruptions floor tables tables' olds news sink_failed (Tables fault) =
+abbrev pub IsAuditFault : {S : Type 0} → (S → Option (List ℕ)) → (S → Bool) → (S → ℕ) → ℕ → S → S → List S → List S → Bool → WhoseFault → Type 0
+IsAuditFault left has_failed interruptions floor tables tables' olds news sink_failed (whose.Text fault) =
     (news ≡ olds) × IsTablesFault left has_failed interruptions tables tables' fault
-IsAuditFault left has_failed interruptions floor tables tables' olds news sink_failed (Files fault) =
+IsAuditFault left has_failed interruptions floor tables tables' olds news sink_failed (whose.Files fault) =
     IsFilesFault left has_failed interruptions floor tables tables' olds news sink_failed fault

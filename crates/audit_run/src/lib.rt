@@ -2,9 +2,7 @@
 //! how packets fare.
 #![tactic(auto)]
 
-mod fault;
 mod run;
 mod tables;
 
-pub use fault::AuditFault;
 pub use run::run_audit;

@@ -2,13 +2,12 @@
 ghost use Rattle.std.specs.Prelude.{◌≡◌, ◌⊎◌, Err, IfErr, IfOk, IsTrue, OnErr, OnOk, false};
 ghost use Rattle.audit_run.specs.Run.{HasAudited, IsAnswerFault, IsAuditFault, IsAudited};
 
-use crate::fault::AuditFault;
 use crate::tables::read_tables;
 use audit_report::{Audit, write_audit};
 use fact_store::Store;
 use plan_file::Held;
 use record_file::{Sink, Source};
-use sm_cli::{Fault, read_all};
+use sm_cli::{Fault, WhoseFault, read_all};
 use smp_bytes::Generation;
 use std::alloc::Global;
 
@@ -21,24 +20,24 @@ pub fn run_audit<S: Source, W: Sink>(
     sources: &mut Vec<S>,
     floor: Generation,
     sink: &mut W,
-) -> Result<bool, AuditFault>
+) -> Result<bool, WhoseFault>
     ensures done { IfOk result (HasAudited S.left S.has_failed floor tables.old tables.new
         sources.old.items sources.new.items (W.written sink.old) (W.written sink.new)) }
     ensures flushed { OnOk result (IsTrue (W.is_flushed sink.new)) }
     ensures sink_works { OnOk result (W.has_failed sink.new ≡ false) }
     ensures refused { IfErr result (IsAuditFault S.left S.has_failed S.interruptions floor
         tables.old tables.new sources.old.items sources.new.items (W.has_failed sink.new)) }
-    ensures nothing_written { OnErr result ((result ≡ Err (AuditFault.Files Fault.Write))
+    ensures nothing_written { OnErr result ((result ≡ Err (WhoseFault.Files Fault.Write))
         ⊎ (sink.new ≡ sink.old)) }
 {
     let held = match read_tables(alloc, tables) {
         Ok(held) => held,
-        Err(fault) => return Err(AuditFault::Tables(fault)),
+        Err(fault) => return Err(WhoseFault::Text(fault)),
     };
     let store = match read_all(alloc, sources, floor) {
         Ok(store) => store,
         Err(refused) => {
-            return Err(AuditFault::Files(Fault::File {
+            return Err(WhoseFault::Files(Fault::File {
                 place: refused.place,
                 fault: refused.fault,
             }));
@@ -46,7 +45,7 @@ pub fn run_audit<S: Source, W: Sink>(
     };
     match answer(alloc, sink, &store, &held) {
         Ok(passed) => Ok(passed),
-        Err(fault) => Err(AuditFault::Files(fault)),
+        Err(fault) => Err(WhoseFault::Files(fault)),
     }
 }
 

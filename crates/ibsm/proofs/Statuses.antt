@@ -9,7 +9,10 @@ use Rattle.sm_cli.specs.declared.fault.Fault.{Fault}
 use Rattle.sm_cli.specs.declared.fault.Fault.TheVariants.{Open, File, Text, NoRoom, Write, Memory}
 use Rattle.sm_cli.specs.declared.exit_status.ExitStatus.{ExitStatus}
 use Rattle.sm_cli.specs.declared.exit_status.ExitStatus.TheVariants.{Done, Failed, Refused, Memory as NoMemory}
+use Rattle.sm_cli.specs.declared.whose_fault.WhoseFault.{WhoseFault}
+use Rattle.sm_cli.specs.declared.whose_fault.WhoseFault.TheVariants as whose
 use Rattle.ibsm.specs.Ending.{SaysWhy}
+use Rattle.ibsm.specs.Whose.{SaysWhose, status_of_whose}
 
 of_file : (fault : FileFault) → file_status fault ≡ Failed → ⊥
 of_file Magic e = cc
@@ -38,3 +41,13 @@ pub not_failed : (names : List (Bor (List ℕ))) (IsFault : Fault → Type 0) (s
     → (status ≡ Done) ⊎ SaysWhy names IsFault status errors errors' errors_failed → status ≡ Failed → ⊥
 not_failed names IsFault status errors errors' errors_failed (inl done) e = cc
 not_failed names IsFault status errors errors' errors_failed (inr says) e = never_failed says.fault (sym says.ends ∙ e)
+
+whose_never_failed : (fault : WhoseFault) → status_of_whose fault ≡ Failed → ⊥
+whose_never_failed (whose.Text fault) e = never_failed fault e
+whose_never_failed (whose.Files fault) e = never_failed fault e
+
+pub whose_not_failed : (text : Bor (List ℕ)) (names : List (Bor (List ℕ))) (IsFault : WhoseFault → Type 0) (status : ExitStatus)
+    (errors errors' : Option (List ℕ)) (errors_failed : Bool)
+    → (status ≡ Done) ⊎ SaysWhose text names IsFault status errors errors' errors_failed → status ≡ Failed → ⊥
+whose_not_failed text names IsFault status errors errors' errors_failed (inl done) e = cc
+whose_not_failed text names IsFault status errors errors' errors_failed (inr says) e = whose_never_failed says.fault (sym says.ends ∙ e)

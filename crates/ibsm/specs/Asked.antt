@@ -10,6 +10,7 @@ use Rattle.clap.specs.declared.parser.matches.ArgMatches.{ArgMatches}
 use Rattle.sm_cli.specs.declared.run.Command.{Command}
 use Rattle.sm_cli.specs.declared.run.Output.{Output}
 use Rattle.sm_cli.specs.declared.run.Output.TheVariants.{Facts, Join, Plan}
+use Rattle.sm_cli.specs.declared.rooted.RootedPlan.{RootedPlan}
 use Rattle.sm_cli.specs.declared.run.RuleKind.{RuleKind}
 use Rattle.sm_cli.specs.declared.run.RuleKind.TheVariants.{UpDown, Spread}
 use Rattle.sm_cli.specs.Kinds.{value_of_kind}
@@ -18,6 +19,7 @@ use Rattle.sm_manager.specs.Planning.{Planning}
 use Rattle.ibsm.specs.declared.opener.OpenFault.{OpenFault}
 use Rattle.ibsm.specs.Audits.{AuditsFiles}
 use Rattle.ibsm.specs.Ending.{AnswersFiles, RunsFiles}
+use Rattle.ibsm.specs.Plans.{PlansFiles}
 
 -- the subcommand that asks for an output
 abbrev pub word_of : Output → List ℕ
@@ -75,6 +77,12 @@ HasRule word Facts = Unit {0}
 HasRule word Join = Unit {0}
 HasRule word (Plan lmc kind) = IsRule word kind
 
+-- and from no roots
+abbrev pub HasNoRoots : Option (List ℕ) → Output → Type 0
+HasNoRoots word Facts = Unit {0}
+HasNoRoots word Join = Unit {0}
+HasNoRoots word (Plan lmc kind) = word ≡ None
+
 -- the words ask for a command, and the files that they name were read and answered
 pub record AnswersWords {S : Type 0} (answers : List ℕ → Result S OpenFault → Type 0) (left : S → Option (List ℕ)) (has_failed : S → Bool)
     (matches : ArgMatches) (written written' : Option (List ℕ)) : Type 0 where
@@ -83,6 +91,7 @@ pub record AnswersWords {S : Type 0} (answers : List ℕ → Result S OpenFault 
   pub floor : IsFloor (word_named (codes "floor") matches) command.floor
   pub lmc : HasLmc (word_named (codes "lmc") matches) command.output
   pub rule : HasRule (word_named (codes "routing") matches) command.output
+  pub no_roots : HasNoRoots (word_named (codes "roots") matches) command.output
   pub names : List (Bor (List ℕ))
   pub named : files_named matches ≡ Some (map (λ name. name.now) names)
   pub answered : AnswersFiles answers left has_failed command names written written'
@@ -111,3 +120,17 @@ pub record AuditsWords {S : Type 0} (answers : List ℕ → Result S OpenFault �
   pub names : List (Bor (List ℕ))
   pub named : files_named matches ≡ Some (map (λ name. name.now) names)
   pub audited : AuditsFiles answers left has_failed floor tables names written written' passed
+
+-- the words ask for a plan from roots by the rule that spreads, and the roots and the files that they name were read, and the plan was written
+pub record PlansWords {S : Type 0} (answers : List ℕ → Result S OpenFault → Type 0) (left : S → Option (List ℕ)) (has_failed : S → Bool)
+    (matches : ArgMatches) (written written' : Option (List ℕ)) : Type 0 where
+  pub command : subcommand_name_of matches ≡ Some (codes "plan")
+  pub asked : RootedPlan
+  pub floor : IsFloor (word_named (codes "floor") matches) asked.floor
+  pub lmc : IsLmc (word_named (codes "lmc") matches) asked.lmc
+  pub rule : word_named (codes "routing") matches ≡ Some (codes "spread")
+  pub roots : Bor (List ℕ)
+  pub roots_named : word_named (codes "roots") matches ≡ Some roots.now
+  pub names : List (Bor (List ℕ))
+  pub named : files_named matches ≡ Some (map (λ name. name.now) names)
+  pub planned : PlansFiles answers left has_failed asked roots names written written'

@@ -2,3 +2,5 @@ pub mod Asked
 pub mod Audits
 pub mod Ending
 pub mod Opening
+pub mod Plans
+pub mod Whose

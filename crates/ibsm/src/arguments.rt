@@ -1,5 +1,6 @@
 //! The command line.
-use clap::{Arg, ArgAction, Command, value_parser};
+use clap::error::ErrorKind;
+use clap::{Arg, ArgAction, Command, Error, value_parser};
 use std::alloc::{AllocError, Global};
 
 /// The subcommand that prints facts.
@@ -32,7 +33,15 @@ pub(crate) const LMC: &str = "lmc";
 /// The rule of routing that a plan goes by.
 pub(crate) const ROUTING: &str = "routing";
 
-const RULES: [&str; 2] = ["updown", "spread"];
+/// The file of roots.
+pub(crate) const ROOTS: &str = "roots";
+
+/// The rule that takes roots, and the other one.
+pub(crate) const SPREAD: &str = "spread";
+
+pub(crate) const UPDOWN: &str = "updown";
+
+const RULES: [&str; 2] = [UPDOWN, SPREAD];
 
 /// The text of a fabric, and the text of what is run in it.
 pub(crate) const TOPOLOGY: &str = "TOPOLOGY";
@@ -83,7 +92,8 @@ fn plan<'a>(alloc: Global) -> Result<Command<'a>, AllocError> {
         .arg(files(alloc))?
         .arg(floor(alloc))?
         .arg(lmc(alloc))?
-        .arg(routing(alloc))
+        .arg(routing(alloc))?
+        .arg(roots(alloc))
 }
 
 fn audit<'a>(alloc: Global) -> Result<Command<'a>, AllocError> {
@@ -157,6 +167,25 @@ fn routing<'a>(alloc: Global) -> Arg<'a> {
         )
         .value_parser(RULES.as_slice())
         .action(ArgAction::Set)
+}
+
+/// A file of roots.
+fn roots<'a>(alloc: Global) -> Arg<'a> {
+    Arg::new(alloc, ROOTS)
+        .long(ROOTS)
+        .value_name("FILE")
+        .help(
+            "With --routing spread: begins at the switches that FILE names, a GUID a line, in place of those in the middle",
+        )
+        .action(ArgAction::Set)
+}
+
+/// What is wrong where roots are named, and another rule of routing than the one that takes them.
+pub(crate) fn roots_without_spread(alloc: Global) -> Result<Error, AllocError> {
+    plan(alloc)?.bin_name("ibsm plan")?.error(
+        ErrorKind::ArgumentConflict,
+        "the argument '--roots <FILE>' cannot be used without '--routing spread'",
+    )
 }
 
 /// At least one file.

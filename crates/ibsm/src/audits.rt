@@ -1,13 +1,13 @@
 //! The subcommand that audits tables.
 ghost use Rattle.std.specs.Prelude.{◌≡◌, ◌⊎◌, Err, IfErr, IfOk, IsTrue, OnErr, OnOk, false, true};
-ghost use Rattle.ibsm.specs.Audits.{AuditsFiles, IsAuditsFault, SaysAuditWhy, audit_fault_line, status_after, status_of_audit};
-ghost use Rattle.ibsm.specs.Ending.{IsSaid};
+ghost use Rattle.ibsm.specs.Audits.{AuditsFiles, IsAuditsFault, status_after};
+ghost use Rattle.ibsm.specs.Whose.{SaysWhose};
 
-use crate::files::{open_all, say};
+use crate::files::{open_all, say_whose};
 use crate::opener::Opener;
-use audit_run::{AuditFault, run_audit};
+use audit_run::run_audit;
 use record_file::{Sink, ToWrite};
-use sm_cli::{ExitStatus, Fault};
+use sm_cli::{ExitStatus, Fault, WhoseFault};
 use smp_bytes::Generation;
 use std::io::Write;
 
@@ -31,7 +31,7 @@ where
     ensures failed { result ≡ ExitStatus.Failed → AuditsFiles (R.answers rt.now)
         R.Opened.left R.Opened.has_failed floor tables.entry names.now
         (⟦<ToWrite<O> as Sink>⟧.written output.old) (⟦<ToWrite<O> as Sink>⟧.written output.new) false }
-    ensures says_why { (result ≡ ExitStatus.Done) ⊎ (result ≡ ExitStatus.Failed) ⊎ SaysAuditWhy tables.entry names.now
+    ensures says_why { (result ≡ ExitStatus.Done) ⊎ (result ≡ ExitStatus.Failed) ⊎ SaysWhose tables.entry names.now
         (IsAuditsFault (R.answers rt.now) R.Opened.left R.Opened.has_failed R.Opened.interruptions
         floor tables.entry names.now (⟦<ToWrite<O> as Sink>⟧.has_failed output.new))
         result (⟦<ToWrite<E> as Sink>⟧.written errors.old)
@@ -39,7 +39,7 @@ where
 {
     match audit(rt, floor, tables, names, output) {
         Ok(passed) => status_after(passed),
-        Err(fault) => say_audit(errors, tables, names, &fault),
+        Err(fault) => say_whose(errors, tables, names, &fault),
     }
 }
 
@@ -54,23 +54,6 @@ fn status_after(passed: bool) -> ExitStatus
     }
 }
 
-/// Says the fault of an audit, and what the program ends with.
-fn say_audit<E: Write>(
-    errors: &mut ToWrite<E>,
-    tables: &str,
-    names: &[&str],
-    fault: &AuditFault,
-) -> ExitStatus
-    ensures status { result ≡ status_of_audit fault.now }
-    ensures said { IsSaid (⟦<ToWrite<E> as Sink>⟧.written errors.old) (⟦<ToWrite<E> as Sink>⟧.written errors.new)
-        (⟦<ToWrite<E> as Sink>⟧.has_failed errors.new) (audit_fault_line tables.entry names.now fault.now) }
-{
-    match fault {
-        AuditFault::Tables(fault) => say(errors, &[tables], fault),
-        AuditFault::Files(fault) => say(errors, names, fault),
-    }
-}
-
 /// Writes how packets fare by the tables, in the subnet that the files with these names describe.
 fn audit<R, O>(
     rt: &R,
@@ -78,7 +61,7 @@ fn audit<R, O>(
     tables: &str,
     names: &[&str],
     output: &mut ToWrite<O>,
-) -> Result<bool, AuditFault>
+) -> Result<bool, WhoseFault>
 where
     R: Opener + AllocGlobal,
     O: Write,
@@ -89,14 +72,14 @@ where
     ensures refused { IfErr result (IsAuditsFault (R.answers rt.now)
         R.Opened.left R.Opened.has_failed R.Opened.interruptions
         floor tables.entry names.now (⟦<ToWrite<O> as Sink>⟧.has_failed output.new)) }
-    ensures nothing_written { OnErr result ((result ≡ Err (AuditFault.Files Fault.Write)) ⊎ (output.new ≡ output.old)) }
+    ensures nothing_written { OnErr result ((result ≡ Err (WhoseFault.Files Fault.Write)) ⊎ (output.new ≡ output.old)) }
 {
     let mut texts = match open_all(rt, &[tables]) {
         Ok(texts) => texts,
-        Err(fault) => return Err(AuditFault::Tables(fault)),
+        Err(fault) => return Err(WhoseFault::Text(fault)),
     };
     match open_all(rt, names) {
         Ok(mut files) => run_audit(rt.alloc(), &mut texts[0], &mut files, floor, output),
-        Err(fault) => Err(AuditFault::Files(fault)),
+        Err(fault) => Err(WhoseFault::Files(fault)),
     }
 }

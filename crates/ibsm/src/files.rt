@@ -5,10 +5,11 @@ ghost use Rattle.sm_run.specs.Prints.{Prints, PrintsSome};
 ghost use Rattle.ibsm.specs.Ending.{AnswersFiles, IsAnswersFault, IsRunsFault, IsSaid, RunsFiles, SaysWhy};
 ghost use Rattle.ibsm.specs.Ending.{fault_line, name_of};
 ghost use Rattle.ibsm.specs.Opening.{AreOpened, IsOpenFault};
+ghost use Rattle.ibsm.specs.Whose.{status_of_whose, whose_line};
 
 use crate::opener::{OpenFault, Opener};
 use record_file::{Sink, ToWrite};
-use sm_cli::{Command, ExitStatus, Fault, run_files, write_fault};
+use sm_cli::{Command, ExitStatus, Fault, WhoseFault, run_files, write_fault};
 use sm_manager::Planning;
 use sm_run::run_schedule;
 use std::io::Write;
@@ -122,6 +123,23 @@ pub(crate) fn say<E: Write>(errors: &mut ToWrite<E>, names: &[&str], fault: &Fau
 {
     let _ = write_fault(errors, fault, name_of(names, fault));
     fault.status()
+}
+
+/// Says the fault of a run over a text and the files with these names, and what the program ends with.
+pub(crate) fn say_whose<E: Write>(
+    errors: &mut ToWrite<E>,
+    text: &str,
+    names: &[&str],
+    fault: &WhoseFault,
+) -> ExitStatus
+    ensures status { result ≡ status_of_whose fault.now }
+    ensures said { IsSaid (⟦<ToWrite<E> as Sink>⟧.written errors.old) (⟦<ToWrite<E> as Sink>⟧.written errors.new)
+        (⟦<ToWrite<E> as Sink>⟧.has_failed errors.new) (whose_line text.entry names.now fault.now) }
+{
+    match fault {
+        WhoseFault::Text(fault) => say(errors, &[text], fault),
+        WhoseFault::Files(fault) => say(errors, names, fault),
+    }
 }
 
 /// Writes what the command asks for of all that the files with these names say.

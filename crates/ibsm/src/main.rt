@@ -5,6 +5,7 @@ mod arguments;
 mod audits;
 mod files;
 mod opener;
+mod plans;
 mod run;
 
 use std::process::ExitCode;

@@ -3,20 +3,21 @@ ghost use Rattle.std.specs.Prelude.{◌≡◌, ◌⊎◌, Some, IfSome, IsSome, 
 ghost use Rattle.clap.specs.Matches.{subcommand_name_of};
 ghost use Rattle.clap.specs.Matches.{first_value, found_of};
 ghost use Rattle.sm_run.specs.Prints.{Prints};
-ghost use Rattle.ibsm.specs.Asked.{AnswersWords, AsksRule, AuditsWords, HasLmc, HasRule, IsFloor, IsLmc, IsRule, RunsWords, files_named, word_named, word_of};
+ghost use Rattle.ibsm.specs.Asked.{AnswersWords, AsksRule, AuditsWords, HasLmc, HasNoRoots, HasRule, IsFloor, IsLmc, IsRule, PlansWords, RunsWords, files_named, word_named, word_of};
 
 use crate::arguments::{
-    AUDIT, FACTS, FILE, FLOOR, JOIN, LMC, PLAN, ROUTING, RUN, SCHEDULE, TABLES, TOPOLOGY,
-    command_line,
+    AUDIT, FACTS, FILE, FLOOR, JOIN, LMC, PLAN, ROOTS, ROUTING, RUN, SCHEDULE, SPREAD, TABLES,
+    TOPOLOGY, UPDOWN, command_line, roots_without_spread,
 };
 use crate::audits::audit_or_explain;
 use crate::files::{answer_or_explain, run_or_explain, say};
 use crate::opener::Opener;
+use crate::plans::plan_or_explain;
 use attr_codec::Lmc;
 use clap::error::ErrorKind;
 use clap::{ArgMatches, Error};
 use record_file::{Sink, ToWrite};
-use sm_cli::{Command, ExitStatus, Fault, Output, RuleKind, rule_of_kind};
+use sm_cli::{Command, ExitStatus, Fault, Output, RootedPlan, RuleKind, rule_of_kind};
 use sm_manager::Planning;
 use smp_bytes::Generation;
 use std::alloc::{AllocError, Global};
@@ -50,6 +51,9 @@ where
     };
     let writer = BufWriter::new(rt.alloc(), output).map_err(|_| AllocError)?;
     match command_line(rt.alloc())?.try_get_matches_from(words.as_slice()) {
+        Ok(matches) if has_roots_without_spread(&matches) => {
+            explain(rt, &roots_without_spread(rt.alloc())?, errors)
+        }
         Ok(matches) => Ok(obey(rt, &matches, &mut ToWrite::new(writer), errors)),
         Err(error) => explain(rt, &error, errors),
     }
@@ -67,6 +71,17 @@ fn words<R: Env + Eprint + AllocGlobal>(rt: &R) -> Result<Option<Vec<String>>, A
     }
 }
 
+/// Whether roots are named, and another rule of routing than the one that takes them.
+fn has_roots_without_spread(matches: &ArgMatches<'_>) -> bool {
+    match matches.subcommand() {
+        Some((_, words)) => {
+            words.get_str(ROOTS).is_some() && words.get_str(ROUTING) != Some(SPREAD)
+        }
+        None => false,
+    }
+}
+
+#[tactic(auto, using(crate::proofs::Statuses::not_failed, crate::proofs::Statuses::whose_not_failed))]
 /// Does what the words ask for, and says on `errors` why it cannot.
 fn obey<R, O, E>(
     rt: &R,
@@ -84,7 +99,9 @@ where
         ⊎ AnswersWords (R.answers rt.now) R.Opened.left R.Opened.has_failed matches.now
         (⟦<ToWrite<O> as Sink>⟧.written output.old) (⟦<ToWrite<O> as Sink>⟧.written output.new)
         ⊎ AuditsWords (R.answers rt.now) R.Opened.left R.Opened.has_failed matches.now
-        (⟦<ToWrite<O> as Sink>⟧.written output.old) (⟦<ToWrite<O> as Sink>⟧.written output.new) true }
+        (⟦<ToWrite<O> as Sink>⟧.written output.old) (⟦<ToWrite<O> as Sink>⟧.written output.new) true
+        ⊎ PlansWords (R.answers rt.now) R.Opened.left R.Opened.has_failed matches.now
+        (⟦<ToWrite<O> as Sink>⟧.written output.old) (⟦<ToWrite<O> as Sink>⟧.written output.new) }
     ensures failed { result ≡ ExitStatus.Failed
         → AuditsWords (R.answers rt.now) R.Opened.left R.Opened.has_failed matches.now
         (⟦<ToWrite<O> as Sink>⟧.written output.old) (⟦<ToWrite<O> as Sink>⟧.written output.new) false }
@@ -94,6 +111,9 @@ where
     }
     if let Some((tables, floor, names)) = audit_asked(matches) {
         return audit_or_explain(rt, floor, tables, names, output, errors);
+    }
+    if let Some((asked, roots, names)) = rooted_asked(matches) {
+        return plan_or_explain(rt, asked, roots, names, output, errors);
     }
     match asked(matches) {
         Some((command, names)) => answer_or_explain(rt, command, names, output, errors),
@@ -107,6 +127,7 @@ pub(crate) fn asked<'m, 'a>(matches: &'m ArgMatches<'a>) -> Option<(Command, &'m
     ensures floor { IfSome result (λ asked. IsFloor (word_named (codes "floor") matches.now) asked.0.floor) }
     ensures lmc { IfSome result (λ asked. HasLmc (word_named (codes "lmc") matches.now) asked.0.output) }
     ensures rule { IfSome result (λ asked. HasRule (word_named (codes "routing") matches.now) asked.0.output) }
+    ensures no_roots { IfSome result (λ asked. HasNoRoots (word_named (codes "roots") matches.now) asked.0.output) }
     ensures files { IfSome result (λ asked. files_named matches.now ≡ Some (map (λ n. n.now) asked.1.now)) }
 {
     let (name, words) = matches.subcommand()?;
@@ -120,11 +141,17 @@ fn output_of(name: &str, words: &ArgMatches<'_>) -> Option<Output>
     ensures name { IfSome result (λ output. name.now ≡ word_of output) }
     ensures lmc { IfSome result (HasLmc (first_value (found_of words.now) (codes "lmc"))) }
     ensures rule { IfSome result (HasRule (first_value (found_of words.now) (codes "routing"))) }
+    ensures no_roots { IfSome result (HasNoRoots (first_value (found_of words.now) (codes "roots"))) }
 {
     match name {
         FACTS => Some(Output::Facts),
         JOIN => Some(Output::Join),
-        PLAN => Some(Output::Plan(lmc_of(words)?, rule_of(words)?)),
+        PLAN => {
+            if words.get_str(ROOTS).is_some() {
+                return None;
+            }
+            Some(Output::Plan(lmc_of(words)?, rule_of(words)?))
+        }
         _ => None,
     }
 }
@@ -157,8 +184,8 @@ fn rule_of(words: &ArgMatches<'_>) -> Option<RuleKind>
 {
     match words.get_str(ROUTING) {
         None => Some(RuleKind::UpDown),
-        Some("updown") => Some(RuleKind::UpDown),
-        Some("spread") => Some(RuleKind::Spread),
+        Some(UPDOWN) => Some(RuleKind::UpDown),
+        Some(SPREAD) => Some(RuleKind::Spread),
         Some(_) => None,
     }
 }
@@ -184,6 +211,32 @@ pub(crate) fn run_asked<'a>(
     let rule = rule_of_kind(alloc, kind);
     let planning = Planning::new(lmc, rule);
     Some((topology, words.get_str(SCHEDULE)?, planning))
+}
+
+/// The plan from roots that the words of the command line ask for, and the names of the file of roots and of the
+/// others.
+pub(crate) fn rooted_asked<'m, 'a>(
+    matches: &'m ArgMatches<'a>,
+) -> Option<(RootedPlan, &'a str, &'m [&'a str])>
+    ensures command { IsSome result → subcommand_name_of matches.now ≡ Some (codes "plan") }
+    ensures floor { IfSome result (λ asked. IsFloor (word_named (codes "floor") matches.now) asked.0.floor) }
+    ensures lmc { IfSome result (λ asked. IsLmc (word_named (codes "lmc") matches.now) asked.0.lmc) }
+    ensures rule { IsSome result → word_named (codes "routing") matches.now ≡ Some (codes "spread") }
+    ensures roots { IfSome result (λ asked. word_named (codes "roots") matches.now ≡ Some asked.1.now) }
+    ensures files { IfSome result (λ asked. files_named matches.now ≡ Some (map (λ n. n.now) asked.2.now)) }
+{
+    let (name, words) = matches.subcommand()?;
+    if name != PLAN {
+        return None;
+    }
+    let roots = words.get_str(ROOTS)?;
+    let rule = words.get_str(ROUTING)?;
+    if rule != SPREAD {
+        return None;
+    }
+    let lmc = lmc_of(words)?;
+    let floor = floor_of(words)?;
+    Some((RootedPlan { lmc, floor }, roots, words.get_strs(FILE)?))
 }
 
 /// The tables, the floor and the files that the words of the command line ask to be audited.

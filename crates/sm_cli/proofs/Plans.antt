@@ -7,8 +7,9 @@ use Rattle.lid_assign.specs.declared.fault.NoRoom.{NoRoom as Room}
 use Rattle.lid_assign.specs.declared.fault.LidFault.{LidFault}
 use Rattle.lid_assign.specs.declared.fault.LidFault.TheVariants as lids
 use Rattle.sm_cli.specs.Faults.{fault_of_lids}
-use Rattle.sm_cli.specs.Run.{IsAnswerFault}
+use Rattle.sm_cli.specs.Run.{IsAnswerFault, IsWritingFault}
 use Rattle.sm_cli.specs.declared.fault.Fault.{Fault}
+use Rattle.sm_cli.specs.declared.fault.Fault.TheVariants.{Open, File, Text, NoRoom, Write, Memory}
 use Rattle.sm_cli.specs.declared.run.Output.TheVariants as output
 use Rattle.sm_cli.specs.declared.run.RuleKind.{RuleKind}
 
@@ -25,8 +26,18 @@ pub has_room : (lmc : ℕ) (facts : Facts) → lid_fault (no_room lmc (cells_of 
 has_room lmc facts e = none_lacks (no_room lmc (cells_of facts)) e
 
 -- and where there is none, there is no room, or memory was refused though there is
-pub plan_fault : (lmc : ℕ) (kind : RuleKind) (facts : Facts) (sink_failed : Bool) (why : LidFault) (fault : Fault)
+pub plan_fault : (lmc : ℕ) (facts : Facts) (sink_failed : Bool) (why : LidFault) (fault : Fault)
     → lid_fault (no_room lmc (cells_of facts)) ≡ (if is_memory why then None else Some why) → fault ≡ fault_of_lids why
+    → IsWritingFault lmc facts sink_failed fault
+plan_fault lmc facts sink_failed (lids.NoRoom why) fault e f = rw f (one_lacks (no_room lmc (cells_of facts)) why e)
+plan_fault lmc facts sink_failed lids.Memory fault e f = rw f (none_lacks (no_room lmc (cells_of facts)) e)
+
+-- so it is with the plan that is asked for
+pub asked_plan : (lmc : ℕ) (kind : RuleKind) (facts : Facts) (sink_failed : Bool) (fault : Fault) → IsWritingFault lmc facts sink_failed fault
     → IsAnswerFault (output.Plan lmc kind) facts sink_failed fault
-plan_fault lmc kind facts sink_failed (lids.NoRoom why) fault e f = rw f (one_lacks (no_room lmc (cells_of facts)) why e)
-plan_fault lmc kind facts sink_failed lids.Memory fault e f = rw f (none_lacks (no_room lmc (cells_of facts)) e)
+asked_plan lmc kind facts sink_failed (Open place) h = h
+asked_plan lmc kind facts sink_failed (File place fault) h = h
+asked_plan lmc kind facts sink_failed (Text place fault) h = h
+asked_plan lmc kind facts sink_failed (NoRoom why) h = h
+asked_plan lmc kind facts sink_failed Write h = h
+asked_plan lmc kind facts sink_failed Memory h = h

@@ -48,6 +48,13 @@ IsPlanned output.Facts facts why = ⊥
 IsPlanned output.Join facts why = ⊥
 IsPlanned (output.Plan lmc kind) facts why = no_room lmc (cells_of facts) ≡ why
 
+-- why a plan of facts is not written
+abbrev pub IsWritingFault : ℕ → Facts → Bool → Fault → Type 0
+IsWritingFault lmc facts sink_failed (NoRoom why) = no_room lmc (cells_of facts) ≡ Some why
+IsWritingFault lmc facts sink_failed Write = IsTrue sink_failed
+IsWritingFault lmc facts sink_failed Memory = no_room lmc (cells_of facts) ≡ None
+IsWritingFault lmc facts sink_failed fault = ⊥
+
 -- why the facts are not answered
 abbrev pub IsAnswerFault : Output → Facts → Bool → Fault → Type 0
 IsAnswerFault what facts sink_failed (Open place) = ⊥

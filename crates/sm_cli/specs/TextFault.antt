@@ -6,26 +6,41 @@ use Rattle.schedule_file.specs.declared.fault.ScheduleFault.TheVariants as sched
 use Rattle.schedule_file.specs.ScheduleFault as schedules
 use Rattle.plan_file.specs.declared.fault.TextFault.TheVariants as tables
 use Rattle.plan_file.specs.TextFault as plans
+use Rattle.roots_file.specs.declared.fault.TextFault.TheVariants as roots
+use Rattle.roots_file.specs.TextFault as root_texts
+use Rattle.smp_bytes.specs.Text.{guid_text}
 use Rattle.sm_cli.specs.declared.text_fault.TextFault.{TextFault}
-use Rattle.sm_cli.specs.declared.text_fault.TextFault.TheVariants.{NotUtf8, Topology, Schedule, Tables}
+use Rattle.sm_cli.specs.declared.text_fault.TextFault.TheVariants.{NotUtf8, Topology, Schedule, Tables, Roots, NoRoot, NoSwitch}
 
 abbrev pub text_fault_line : TextFault → Option ℕ
 text_fault_line NotUtf8 = None
 text_fault_line (Topology fault) = topologies.fault_line fault
 text_fault_line (Schedule fault) = schedules.fault_line fault
 text_fault_line (Tables fault) = plans.fault_line fault
+text_fault_line (Roots fault) = root_texts.fault_line fault
+text_fault_line NoRoot = None
+text_fault_line (NoSwitch guid) = None
 
 abbrev pub text_fault_word : TextFault → List ℕ
 text_fault_word NotUtf8 = codes "not UTF-8"
 text_fault_word (Topology fault) = topologies.fault_word fault
 text_fault_word (Schedule fault) = schedules.fault_word fault
 text_fault_word (Tables fault) = plans.fault_word fault
+text_fault_word (Roots fault) = root_texts.fault_word fault
+text_fault_word NoRoot = codes "no root"
+text_fault_word (NoSwitch guid) = codes "no usable switch"
+
+-- the GUID that the fault speaks of
+abbrev pub text_fault_guid : TextFault → Option ℕ
+text_fault_guid (NoSwitch guid) = Some guid
+text_fault_guid _ = None
 
 -- want of memory is not the text's
 abbrev pub is_of_text : TextFault → Bool
 is_of_text (Topology topology.Memory) = false
 is_of_text (Schedule schedule.Memory) = false
 is_of_text (Tables tables.Memory) = false
+is_of_text (Roots roots.Memory) = false
 is_of_text _ = true
 
 -- the line, before what is said of it
@@ -33,5 +48,10 @@ abbrev pub line_text : Option ℕ → List ℕ
 line_text None = []
 line_text (Some line) = codes "line " ++ decimal line ++ codes ": "
 
+-- the GUID, behind that
+abbrev pub guid_behind : Option ℕ → List ℕ
+guid_behind None = []
+guid_behind (Some guid) = codes " " ++ guid_text guid
+
 abbrev pub said_of_text : TextFault → List ℕ
-said_of_text fault = line_text (text_fault_line fault) ++ text_fault_word fault
+said_of_text fault = line_text (text_fault_line fault) ++ text_fault_word fault ++ guid_behind (text_fault_guid fault)

@@ -1,13 +1,14 @@
 //! What the program says of a fault, one line that begins with its own name.
 ghost use Rattle.record_file.specs.Writes.{Writes};
 ghost use Rattle.sm_cli.specs.FaultText.{name_text, number_text, cause_text, words_of, file_fault_text, text_fault_text, count_text, no_room_text, fault_text, program_line};
-ghost use Rattle.sm_cli.specs.TextFault.{line_text, said_of_text};
+ghost use Rattle.sm_cli.specs.TextFault.{guid_behind, line_text, said_of_text};
 
 use crate::fault::Fault;
 use crate::text_fault::TextFault;
 use fact_store::ReportFault;
 use lid_assign::NoRoom;
-use record_file::{FileFault, Sink, WriteFault, write_number};
+use record_file::{FileFault, Sink, WriteFault, write_guid, write_number};
+use smp_bytes::Guid;
 
 /// Writes the line of a fault; `name` is that of the file that it speaks of.
 pub fn write_fault<W: Sink>(sink: &mut W, fault: &Fault, name: &str) -> Result<(), WriteFault>
@@ -29,7 +30,7 @@ fn write_fault_text<W: Sink>(sink: &mut W, fault: &Fault, name: &[u8]) -> Result
             sink.write(b"cannot open")
         }
         Fault::File { fault, .. } => write_file_fault(sink, fault, name),
-        Fault::Text { fault, .. } => write_text_fault(sink, *fault, name),
+        Fault::Text { fault, .. } => write_text_fault(sink, fault, name),
         Fault::NoRoom(why) => write_no_room(sink, *why),
         Fault::Write => sink.write(b"write failed"),
         Fault::Memory => sink.write(b"out of memory"),
@@ -96,9 +97,9 @@ fn write_cause<W: Sink>(sink: &mut W, fault: Option<ReportFault>) -> Result<(), 
     }
 }
 
-fn write_text_fault<W: Sink>(sink: &mut W, fault: TextFault, name: &[u8]) -> Result<(), WriteFault>
+fn write_text_fault<W: Sink>(sink: &mut W, fault: &TextFault, name: &[u8]) -> Result<(), WriteFault>
     ensures writes { Writes W.written W.has_failed result sink.old sink.new
-        (text_fault_text name.now fault) }
+        (text_fault_text name.now fault.now) }
 {
     if fault.is_of_text() {
         write_name(sink, name)?;
@@ -107,11 +108,12 @@ fn write_text_fault<W: Sink>(sink: &mut W, fault: TextFault, name: &[u8]) -> Res
 }
 
 /// Writes what is said of a text, apart from whose it is.
-fn write_said<W: Sink>(sink: &mut W, fault: TextFault) -> Result<(), WriteFault>
-    ensures writes { Writes W.written W.has_failed result sink.old sink.new (said_of_text fault) }
+fn write_said<W: Sink>(sink: &mut W, fault: &TextFault) -> Result<(), WriteFault>
+    ensures writes { Writes W.written W.has_failed result sink.old sink.new (said_of_text fault.now) }
 {
     write_line_if_any(sink, fault.line())?;
-    sink.write(fault.word().as_bytes())
+    sink.write(fault.word().as_bytes())?;
+    write_guid_if_any(sink, fault.guid())
 }
 
 /// Writes the line that has a fault.
@@ -123,6 +125,19 @@ fn write_line_if_any<W: Sink>(sink: &mut W, line: Option<usize>) -> Result<(), W
             sink.write(b"line ")?;
             write_number(sink, line as u64)?;
             sink.write(b": ")
+        }
+        None => sink.write(b""),
+    }
+}
+
+/// Writes the GUID that a fault speaks of.
+fn write_guid_if_any<W: Sink>(sink: &mut W, guid: Option<Guid>) -> Result<(), WriteFault>
+    ensures writes { Writes W.written W.has_failed result sink.old sink.new (guid_behind guid) }
+{
+    match guid {
+        Some(guid) => {
+            sink.write(b" ")?;
+            write_guid(sink, guid)
         }
         None => sink.write(b""),
     }

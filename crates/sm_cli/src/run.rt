@@ -1,20 +1,19 @@
-ghost use Rattle.std.specs.Prelude.{◌≡◌, ◌⊎◌, Err, false, OnOk, OnErr, IfOk, IfErr, IsTrue};
+ghost use Rattle.std.specs.Prelude.{◌≡◌, ◌⊎◌, Err, None, false, OnOk, OnErr, IfOk, IfErr, IsTrue};
 ghost use Rattle.std.specs.Io.KnownBytes.{Appends};
 ghost use Rattle.fact_store.specs.View.{cells_of};
-ghost use Rattle.smp_bytes.specs.Judges.{JudgesButFor};
 ghost use Rattle.subnet_view.specs.Reading.{Cells};
-ghost use Rattle.lid_assign.specs.LidFault.{is_memory, lid_fault, no_room};
+ghost use Rattle.lid_assign.specs.LidFault.{no_room};
 ghost use Rattle.spread_rule.specs.Rules.{rule_of, value_of};
-ghost use Rattle.lft_blocks.specs.Arrival.{EveryPacketArrivesBy};
 ghost use Rattle.lft_blocks.specs.Plan.{plan_by};
+ghost use Rattle.lft_blocks.specs.PlanText.{plan_text};
 ghost use Rattle.sm_cli.specs.Kinds.{rule_of_kind, value_of_kind};
-ghost use Rattle.sm_cli.specs.Run.{HasAnswered, HasRead, IsAnswered, IsAnswerFault, IsFaultOf, ReadsInto, Refuses, RefusesFile, answer_to};
+ghost use Rattle.sm_cli.specs.Run.{HasAnswered, HasRead, IsAnswered, IsAnswerFault, IsFaultOf, IsWritingFault, ReadsInto, Refuses, RefusesFile, answer_to};
 
 use crate::facts_text::write_facts;
 use crate::fault::Fault;
 use attr_codec::Lmc;
 use fact_store::Store;
-use lft_blocks::{Plan, PlanFault, Rule, write_plan};
+use lft_blocks::{Plan, Rule, write_plan};
 use record_file::{FileFault, Sink, Source, absorb, write_store};
 use smp_bytes::Generation;
 use std::alloc::Global;
@@ -100,7 +99,7 @@ fn write_answer<W: Sink>(
 }
 
 /// Writes the plan of the facts that a store holds, and flushes.
-#[tactic(auto, using(crate::proofs::Plans::has_room, crate::proofs::Plans::plan_fault))]
+#[tactic(auto, using(crate::proofs::Plans::asked_plan))]
 fn answer_plan<W: Sink>(
     alloc: Global,
     sink: &mut W,
@@ -116,21 +115,30 @@ fn answer_plan<W: Sink>(
     ensures refused { IfErr result (IsAnswerFault (Output.Plan lmc kind) store.now (W.has_failed sink.new)) }
     ensures nothing_written { OnErr result ((result ≡ Err Fault.Write) ⊎ (sink.new ≡ sink.old)) }
 {
-    let plan = plan_by(alloc, store, lmc, kind)?;
-    write_plan(sink, &plan)?;
-    Ok(())
+    let rule = rule_of_kind(alloc, kind);
+    write_plan_by(alloc, sink, store, lmc, &rule)
 }
 
-/// The plan of the facts that a store holds, under an LMC and by a rule.
-fn plan_by(alloc: Global, store: &Store, lmc: Lmc, kind: RuleKind) -> Result<Plan, PlanFault>
-    ensures judged { JudgesButFor is_memory result (lid_fault (no_room lmc (cells_of store.now))) }
-    ensures plan { IfOk result (λ plan.
-        plan ≡ plan_by (rule_of_kind kind (cells_of store.now)) lmc (cells_of store.now)) }
-    ensures arrives { IfOk result (λ plan. EveryPacketArrivesBy
-        (rule_of_kind kind (cells_of store.now)) (cells_of store.now) plan) }
+/// Writes the plan of the facts that a store holds, under an LMC and by a rule, and flushes.
+#[tactic(auto, using(crate::proofs::Plans::has_room, crate::proofs::Plans::plan_fault))]
+pub(crate) fn write_plan_by<W: Sink>(
+    alloc: Global,
+    sink: &mut W,
+    store: &Store,
+    lmc: Lmc,
+    rule: &Rule,
+) -> Result<(), Fault>
+    ensures written { OnOk result (Appends (W.written sink.old) (W.written sink.new) (plan_text
+        (plan_by (rule_of rule.now (cells_of store.now)) lmc (cells_of store.now)))) }
+    ensures has_room { OnOk result (no_room lmc (cells_of store.now) ≡ None) }
+    ensures flushed { OnOk result (IsTrue (W.is_flushed sink.new)) }
+    ensures sink_works { OnOk result (W.has_failed sink.new ≡ false) }
+    ensures refused { IfErr result (IsWritingFault lmc store.now (W.has_failed sink.new)) }
+    ensures nothing_written { OnErr result ((result ≡ Err Fault.Write) ⊎ (sink.new ≡ sink.old)) }
 {
-    let rule = rule_of_kind(alloc, kind);
-    Plan::of(alloc, store, lmc, &rule)
+    let plan = Plan::of(alloc, store, lmc, rule)?;
+    write_plan(sink, &plan)?;
+    Ok(())
 }
 
 /// The rule itself; the one that spreads has no roots.

@@ -1,6 +1,6 @@
 use Rattle.std.proofs.Common.{sym, subst}
 use Rattle.std.specs.Prelude.{codes}
-use Rattle.ibsm.specs.Asked.{HasLmc, HasRule, IsFloor, IsLmc, IsRule, word_named}
+use Rattle.ibsm.specs.Asked.{HasLmc, HasNoRoots, HasRule, IsFloor, IsLmc, IsRule, word_named}
 use Rattle.clap.specs.Matches.{found_of}
 use Rattle.clap.specs.Simple.{subcommand_rows_of}
 use Rattle.ibsm.proofs.Words.{first_is, named}
@@ -20,3 +20,7 @@ returns-clause-lmc c =
 pub returns-clause-rule : goal.returns-clause-rule
 returns-clause-rule c =
     subst (λ o. HasRule o c.in_ok-output.output) (sym (first_is (subcommand_rows_of c.args.matches.now) (found_of c.in_ok-name.words.now) (codes "routing") c.in_ok-name.ensures.rows)) c.in_ok-output.ensures.rule
+
+pub returns-clause-no_roots : goal.returns-clause-no_roots
+returns-clause-no_roots c =
+    subst (λ o. HasNoRoots o c.in_ok-output.output) (sym (first_is (subcommand_rows_of c.args.matches.now) (found_of c.in_ok-name.words.now) (codes "roots") c.in_ok-name.ensures.rows)) c.in_ok-output.ensures.no_roots

@@ -1,0 +1,22 @@
+use Rattle.std.proofs.Common.{sym, subst}
+use Rattle.std.specs.Prelude.{codes}
+use Rattle.ibsm.specs.Asked.{IsFloor, IsLmc}
+use Rattle.clap.specs.Matches.{found_of}
+use Rattle.clap.specs.Simple.{subcommand_rows_of}
+use Rattle.ibsm.proofs.Words.{first_is, first_named, named}
+use Rattle.ibsm.proofs.run.rooted_asked.Goals as goal
+
+pub returns-clause-files : goal.returns-clause-files
+returns-clause-files c = named (subcommand_rows_of c.args.matches.now) (found_of c.in_ok-name.words.now) (codes "FILE") _ c.in_ok-name.ensures.rows c.in_ok-get_strs.ensures
+
+pub returns-clause-floor : goal.returns-clause-floor
+returns-clause-floor c =
+    subst (λ o. IsFloor o c.in_ok-floor.floor) (sym (first_is (subcommand_rows_of c.args.matches.now) (found_of c.in_ok-name.words.now) (codes "floor") c.in_ok-name.ensures.rows)) c.in_ok-floor.ensures
+
+pub returns-clause-lmc : goal.returns-clause-lmc
+returns-clause-lmc c =
+    subst (λ o. IsLmc o c.in_ok-lmc.lmc) (sym (first_is (subcommand_rows_of c.args.matches.now) (found_of c.in_ok-name.words.now) (codes "lmc") c.in_ok-name.ensures.rows)) c.in_ok-lmc.ensures
+
+pub returns-clause-roots : goal.returns-clause-roots
+returns-clause-roots c =
+    first_named (subcommand_rows_of c.args.matches.now) (found_of c.in_ok-name.words.now) (codes "roots") _ c.in_ok-name.ensures.rows c.in_ok-roots.ensures

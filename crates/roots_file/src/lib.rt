@@ -1,0 +1,10 @@
+//! The text of roots: GUIDs of switches, one a line.
+#![tactic(auto)]
+
+mod fault;
+mod line;
+mod roots;
+mod text;
+
+pub use fault::{LineFault, TextFault, Wrong};
+pub use text::parse;

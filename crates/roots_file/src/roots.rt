@@ -1,0 +1,65 @@
+ghost use Rattle.std.specs.Prelude.{◌≡◌, []};
+ghost use Rattle.roots_file.specs.Reading.{root_more};
+ghost use Rattle.roots_file.specs.TextFault.{Reads};
+
+use crate::fault::{LineFault, TextFault, Wrong};
+use smp_bytes::Guid;
+use std::alloc::Global;
+use std::collections::BTreeSet;
+use std::marker::Model;
+
+/// Roots in the order of their lines, none twice.
+#[derive(Drop)]
+pub(crate) struct Roots {
+    guids: Vec<Guid>,
+    /// The same, by which one that is there is found.
+    seen: BTreeSet<Guid>,
+}
+
+impl Model for Roots {
+    ghost use Rattle.std.specs.Prelude.{ℕ, List};
+    ghost use Rattle.roots_file.specs.Seen.{HasSeen};
+
+    ghost Value = { List ℕ };
+
+    ghost view = { λ a. a.guids.items };
+
+    ghost invariant = { λ a. HasSeen a.guids.items a.seen };
+}
+
+impl Roots {
+    /// No roots.
+    pub(crate) fn new(alloc: Global) -> Self
+        ensures { result ≡ [] }
+    {
+        Roots {
+            guids: Vec::new(alloc),
+            seen: BTreeSet::new(alloc),
+        }
+    }
+
+    /// These roots and that of the line of a number. Takes a search.
+    pub(crate) fn with(self, line: usize, root: Guid) -> Result<Self, TextFault>
+        ensures { Reads result (root_more line self root) }
+    {
+        let Roots {
+            mut guids,
+            mut seen,
+        } = self;
+        if !seen.insert(root)? {
+            return Err(TextFault::Line(LineFault {
+                line,
+                wrong: Wrong::Repeated,
+            }));
+        }
+        guids.push(root)?;
+        Ok(Roots { guids, seen })
+    }
+
+    /// The roots alone.
+    pub(crate) fn into_guids(self) -> Vec<Guid>
+        ensures { result.items ≡ self }
+    {
+        self.guids
+    }
+}

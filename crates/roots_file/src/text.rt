@@ -1,0 +1,138 @@
+ghost use Rattle.std.specs.Prelude.{◌≡◌, ◌≤◌, Ok, IfOk, length, option_map, take};
+ghost use Rattle.std.specs.List.{list_any};
+ghost use Rattle.std.specs.Result.{result_err};
+ghost use Rattle.smp_bytes.specs.Judges.{JudgesButFor};
+ghost use Rattle.text_words.specs.Text.{lines};
+ghost use Rattle.roots_file.specs.Line.{root_on};
+ghost use Rattle.roots_file.specs.Reading.{names, roots_of, with_line, wrong_below};
+ghost use Rattle.roots_file.specs.TextFault.{Reads, is_memory};
+
+use crate::fault::{LineFault, TextFault, Wrong};
+use crate::line::root_on;
+use crate::roots::Roots;
+use smp_bytes::Guid;
+use std::alloc::Global;
+use text_words::split_line;
+
+/// Reads a text of roots: one GUID a line, as 1 to 16 hex digits, or the same behind `0x`. Lines end with LF or
+/// CR LF, empty ones are skipped, and `#` begins a comment:
+///
+/// ```text
+/// # the cores
+/// 0x0002c903000010a0
+/// 2c903000010b0
+/// ```
+///
+/// Takes a step for each byte and a search for each line; where memory is refused, a walk over the lines above
+/// for each line besides.
+///
+/// # Errors
+///
+/// The first fault of its lines, and `Memory` where they have none.
+pub fn parse(alloc: Global, text: &[u8]) -> Result<Vec<Guid>, TextFault>
+    ensures judged { JudgesButFor is_memory result
+        (option_map TextFault.Line (result_err (roots_of text.now))) }
+    ensures roots { IfOk result (λ roots. roots_of text.now ≡ Ok roots.items) }
+{
+    match read_lines(alloc, text) {
+        Ok(roots) => Ok(roots.into_guids()),
+        Err(TextFault::Line(fault)) => Err(TextFault::Line(fault)),
+        Err(TextFault::Memory) => match first_fault(text) {
+            Some(fault) => Err(TextFault::Line(fault)),
+            None => Err(TextFault::Memory),
+        },
+    }
+}
+
+#[tactic(auto, using(crate::proofs::Folds::reading))]
+/// What the lines of a text say.
+fn read_lines(alloc: Global, text: &[u8]) -> Result<Roots, TextFault>
+    ensures { Reads result (roots_of text.now) }
+{
+    let mut roots = Roots::new(alloc);
+    let mut number = 0;
+    let mut rest = text;
+    while let Some((line, later)) = split_line(rest) {
+        number += 1;
+        roots = with_line(roots, number, line)?;
+        rest = later;
+    }
+    Ok(roots)
+}
+
+/// Roots, and that of the line of a number.
+fn with_line(roots: Roots, number: usize, line: &[u8]) -> Result<Roots, TextFault>
+    ensures { Reads result (with_line number roots line.now) }
+{
+    match root_on(line) {
+        Ok(None) => Ok(roots),
+        Ok(Some(root)) => roots.with(number, root),
+        Err(wrong) => Err(TextFault::Line(LineFault {
+            line: number,
+            wrong,
+        })),
+    }
+}
+
+#[tactic(auto, using(crate::proofs::Folds::judging))]
+/// The first fault of a text. Takes no memory.
+fn first_fault(text: &[u8]) -> Option<LineFault>
+    ensures { result ≡ result_err (roots_of text.now) }
+{
+    let mut above = 0;
+    let mut rest = text;
+    while let Some((line, later)) = split_line(rest) {
+        if let Some(wrong) = wrong_below(text, above, line) {
+            let line = above + 1;
+            return Some(LineFault { line, wrong });
+        }
+        above += 1;
+        rest = later;
+    }
+    None
+}
+
+/// What is wrong with a line below the first lines of a text.
+fn wrong_below(text: &[u8], above: usize, line: &[u8]) -> Option<Wrong>
+    ensures { result ≡ wrong_below (take above (lines text.now)) (root_on line.now) }
+{
+    match root_on(line) {
+        Ok(None) => None,
+        Ok(Some(root)) => {
+            if is_named(text, above, root) {
+                Some(Wrong::Repeated)
+            } else {
+                None
+            }
+        }
+        Err(wrong) => Some(wrong),
+    }
+}
+
+#[tactic(auto, using(crate::proofs::Folds::naming))]
+/// Whether one of the first lines of a text names a root.
+fn is_named(text: &[u8], count: usize, root: Guid) -> bool
+    ensures { result ≡ list_any (names root) (take count (lines text.now)) }
+{
+    let mut rest = text;
+    for _ in 0..count {
+        let Some((line, later)) = split_line(rest) else {
+            return false;
+        };
+        if names(line, root) {
+            return true;
+        }
+        rest = later;
+    }
+    false
+}
+
+/// Whether a line names a root.
+fn names(line: &[u8], root: Guid) -> bool
+    ensures { result ≡ names root line.now }
+{
+    match root_on(line) {
+        Ok(Some(named)) => named == root,
+        _ => false,
+    }
+}

@@ -1,0 +1,104 @@
+"""Texts of roots for plans by the rule that spreads, and how the plans end. Faults and plans were worked out from docs/FORMATS.md
+and docs/MODEL.md, apart from the program."""
+from built_program import prints, refused, says
+
+TREE = (
+    (0x10, 0x20, 0x30, 0x40, 0x50), (0x100, 0x110, 0x120, 0x200, 0x210, 0x300),
+    "10/1-30/1 10/2-40/1 10/3-50/1 20/1-30/2 20/2-40/2 20/3-50/2 30/3-100/1 30/4-110/1 40/3-120/1 40/4-200/1 50/3-210/1 50/4-300/1",
+)
+TREE_LIDS = "1 10/0 2 20/0 3 30/0 4 40/0 5 50/0 6 100/1 7 110/1 8 120/1 9 200/1 10 210/1 11 300/1"
+RINGS = (
+    (0x10, 0x20, 0x30, 0x40, 0x50, 0x60, 0x70, 0x80), (0x100, 0x200, 0x300),
+    "10/1-20/1 20/2-30/1 30/2-40/1 40/2-50/1 50/2-10/2 10/3-100/1 30/3-200/1 60/1-70/1 70/2-80/1 80/2-60/2 80/3-300/1",
+)
+RINGS_LIDS = "1 10/0 2 20/0 3 30/0 4 40/0 5 50/0 6 60/0 7 70/0 8 80/0 9 100/1 10 200/1 11 300/1"
+
+
+def plans(plan):
+    """Each with its title, the subnet, texts of its roots, and its plan."""
+    # From both switches above it grows as from the middle, where it begins without roots too.
+    middle = (
+        "10 0 1 1 2 3 1 1 2 2 3 3", "20 1 0 1 2 3 1 1 2 2 3 3", "30 1 2 0 2 1 3 4 2 1 2 1",
+        "40 1 2 2 0 2 1 2 3 4 1 2", "50 1 2 2 1 0 1 2 1 2 3 4",
+    )
+    yield "a tree from both switches above", TREE, ("10\n20", "20\n10\n"), plan(TREE_LIDS, *middle)
+    one = (
+        "10 0 1 1 2 3 1 1 2 2 3 3", "20 3 0 1 2 3 1 1 2 2 3 3", "30 1 2 0 2 2 3 4 2 2 2 2",
+        "40 1 2 2 0 2 2 2 3 4 2 2", "50 1 2 2 2 0 2 2 2 2 3 4",
+    )
+    texts = (
+        "20", "0x20\n", "0000000000000020", "0x0000000000000020 # the other one\r\n", "# 10\n\n\t \n \t20\t \r\n#30",
+        "20# 10", "\r\n20\r\n",
+    )
+    yield "a tree from one switch above", TREE, texts, plan(TREE_LIDS, *one)
+    below = (
+        "10 0 2 1 2 3 1 1 2 2 3 3", "20 2 0 1 2 3 1 1 2 2 3 3", "30 1 2 0 2 1 3 4 2 1 2 1",
+        "40 1 2 2 0 1 1 2 3 4 1 1", "50 1 2 2 1 0 1 2 1 1 3 4",
+    )
+    yield "a tree from two switches below", TREE, ("50\n40", "0x40\n50"), plan(TREE_LIDS, *below)
+    rings = (
+        "10 0 1 2 2 2 - - - 3 2 -", "20 1 0 2 2 1 - - - 1 2 -", "30 2 1 0 2 2 - - - 2 3 -", "40 2 1 1 0 2 - - - 2 1 -",
+        "50 2 2 1 1 0 - - - 2 1 -", "60 - - - - - 0 1 2 - - 2", "70 - - - - - 1 0 2 - - 2", "80 - - - - - 2 1 0 - - 3",
+    )
+    yield "two rings with a root of one", RINGS, ("40",), plan(RINGS_LIDS, *rings)
+
+
+# A text of roots for the tree, and what is wrong with it.
+FAULTS = (
+    ("20 30", "line 1: syntax"),
+    ("20 # 30\n20 30", "line 2: syntax"),
+    ("0x", "line 1: syntax"),
+    ("0X20", "line 1: syntax"),
+    ("x20", "line 1: syntax"),
+    ("2g", "line 1: syntax"),
+    ("-1", "line 1: syntax"),
+    ("+20", "line 1: syntax"),
+    ("20,30", "line 1: syntax"),
+    ('"20"', "line 1: syntax"),
+    ("20\x0b", "line 1: syntax"),
+    ("0x0x20", "line 1: syntax"),
+    ("10\n20\n\n30 x", "line 4: syntax"),
+    ("0", "line 1: guid"),
+    ("0x0", "line 1: guid"),
+    ("20\r\n0000000000000000", "line 2: guid"),
+    ("10000000000000000", "line 1: guid"),
+    ("0x10000000000000000", "line 1: guid"),
+    ("0x00000000000000020", "line 1: guid"),
+    ("f" * 100, "line 1: guid"),
+    ("10\n0x10", "line 2: repeated"),
+    ("20\n30\n\n0x0000000000000020 # again\n0", "line 4: repeated"),
+    ("aB\nAb\nx", "line 2: repeated"),
+    ("ffffffffffffffff\n10\nffffffffffffffff\n", "line 3: repeated"),
+    ("", "no root"),
+    ("# none\r\n\r\n \n\t#10", "no root"),
+    ("100", "no usable switch 0000000000000100"),
+    ("10\n51\n20\n100", "no usable switch 0000000000000051"),
+    ("20\n30\nFFFFFFFFFFFFFFFF", "no usable switch ffffffffffffffff"),
+)
+
+
+def orders():
+    """Command lines in which more than one file has a fault, with the text of roots and how they end. `SPREAD` is a store file of
+    the tree, `CROWDED` one that leaves room for 10 LIDs in it, `EMPTY` a file that is none, and there is no file `NONE`."""
+    spread = "plan --routing spread --roots"
+    yield f"{spread} NONE SPREAD", "20", says(4, "NONE: cannot open")
+    yield f"{spread} NONE NONE", "20", says(4, "NONE: cannot open")
+    yield f"{spread} missing NONE", "20", says(4, "missing: cannot open")
+    yield f"{spread} ROOTS NONE", "20 30", says(4, "NONE: cannot open")
+    yield f"{spread} . SPREAD", "", says(4, ".: read failed")
+    yield f"{spread} . EMPTY", "", says(4, ".: read failed")
+    yield f"{spread} ROOTS EMPTY", "20\n20", refused("ROOTS: line 2: repeated")
+    yield f"{spread} ROOTS SPREAD EMPTY", "", refused("EMPTY: bad magic")
+    yield f"{spread} ROOTS EMPTY SPREAD", "100", refused("EMPTY: bad magic")
+    yield f"{spread} ROOTS ADAPTER", "100", refused("ROOTS: no usable switch 0000000000000100")
+    yield f"{spread} ROOTS ADAPTER", "", refused("ROOTS: no root")
+    yield f"{spread} ROOTS SPREAD CROWDED", "", refused("ROOTS: no root")
+    yield f"{spread} ROOTS SPREAD CROWDED", "11", refused("ROOTS: no usable switch 0000000000000011")
+    yield f"{spread} ROOTS SPREAD CROWDED", "10", refused("no room: 11 end ports, room 11")
+
+
+def long_text(count):
+    """So many roots, none of which is a switch, and the same with the last one again, and how both end."""
+    lines = [f"0x{number:x}" for number in range(0x10000, 0x10000 + count)]
+    yield "\n".join(lines), refused(f"ROOTS: no usable switch {0x10000:016x}")
+    yield "\n".join([*lines, lines[0]]), refused(f"ROOTS: line {count + 1}: repeated")
