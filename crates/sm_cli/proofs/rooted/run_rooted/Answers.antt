@@ -9,7 +9,10 @@ pub returns-in-Some-clause-refused : goal.returns-in-Some-clause-refused
 returns-in-Some-clause-refused g c =
     let value = c.deref.ensures.value in
     let same : c.in-Ok.roots.items ≡ c.deref.result.now = cc in
-    inr (refl, refused g.S.Source.left g.S.Source.has_failed c.args.asked.floor c.args.roots.now c.read_roots.new.roots c.args.sources.now.items
-    c.read_all.new.sources.items c.in-Ok.roots.items c.in-Ok-read_all.store c.in-Some.fault
-    (record { roots_read = c.in-Ok.ensures.read; files_read = c.in-Ok-read_all.ensures.read })
-    (ap (λ roots. roots_fault roots (cells_of c.in-Ok-read_all.store)) same ∙ sym c.roots_fault.ensures ∙ c.in-Some.is))
+    inr (
+      refl,
+      refused g.S.Source.left g.S.Source.has_failed c.args.asked.floor c.args.roots.now c.read_roots.new.roots c.args.sources.now.items
+          c.read_all.new.sources.items c.in-Ok.roots.items c.in-Ok-read_all.store c.in-Some.fault
+          (record { roots_read = c.in-Ok.ensures.read; files_read = c.in-Ok-read_all.ensures.read })
+          (ap (λ roots. roots_fault roots (cells_of c.in-Ok-read_all.store)) same ∙ sym c.roots_fault.ensures ∙ c.in-Some.is),
+    )
