@@ -37,6 +37,10 @@ def lost(at, *packets):
     return "".join(f"lost {packet} at {at}\n" for packet in packets)
 
 
+# How far packets between the adapters go, and the loads of channels: 10/1 and 20/1 here, and ten of the ring.
+BOTH = "hops max 3 mean 3.00\nload max 1 mean 1.00\n"
+ONE = "hops max 3 mean 3.00\nload max 1 mean 0.50\n"
+NEITHER = "hops none\nload max 0 mean 0.00\n"
 AT_10, AT_20, AT_100 = f"{0x10:016x}", f"{0x20:016x}", f"{0x100:016x}"
 
 
@@ -44,31 +48,31 @@ def tables(plan):
     """Each with its title, the text of tables, and how the audit ends."""
     good = plan(LIDS, *GOOD).printed.decode()
     lines = good.splitlines()
-    yield "tables by which all arrive", good, prints("pairs 16 arrive 16\ncircle none\n")
+    yield "tables by which all arrive", good, prints("pairs 16 arrive 16\n" + BOTH + "circle none\n")
     yield (
         "an entry to a port without a wire",
         plan(LIDS, "10 0 1 2 3", GOOD[1]).printed.decode(),
-        found("pairs 16 arrive 14\n" + lost(f"{AT_10} by 3", "10/0 4", "100/1 4") + "circle none\n"),
+        found("pairs 16 arrive 14\n" + lost(f"{AT_10} by 3", "10/0 4", "100/1 4") + ONE + "circle none\n"),
     )
     yield (
         "an entry to the wrong neighbour",
         plan(LIDS, "10 0 2 2 1", GOOD[1]).printed.decode(),
-        found("pairs 16 arrive 14\n" + lost(AT_100, "10/0 2", "100/1 2") + "circle none\n"),
+        found("pairs 16 arrive 14\n" + lost(AT_100, "10/0 2", "100/1 2") + BOTH + "circle none\n"),
     )
     yield (
         "round between two switches",
         plan(LIDS, GOOD[0], "20 1 0 1 1").printed.decode(),
-        found("pairs 16 arrive 13\nround 10/0 4\nround 20/0 4\nround 100/1 4\ncircle 10/1 20/1\n"),
+        found("pairs 16 arrive 13\nround 10/0 4\nround 20/0 4\nround 100/1 4\n" + ONE + "circle 10/1 20/1\n"),
     )
     all_lost = "20/0 1", "200/1 1", "10/0 2", "20/0 2", "100/1 2", "200/1 2", "20/0 3", "200/1 3", "10/0 4", "20/0 4", "100/1 4"
-    without = found("pairs 16 arrive 5\n" + lost(f"{AT_20} by 255", *all_lost) + "circle none\n")
+    without = found("pairs 16 arrive 5\n" + lost(f"{AT_20} by 255", *all_lost) + NEITHER + "circle none\n")
     yield "a switch without its block", "\n".join(lines[:-1]) + "\n", without
-    tableless = without.printed.decode().replace("circle", f"tableless {AT_20}\ncircle")
+    tableless = without.printed.decode().replace("hops", f"tableless {AT_20}\nhops")
     yield "a switch without tables", "\n".join(lines[:-2]) + "\n", found(tableless)
     yield (
         "a top too low",
         good.replace(f"switch {AT_10} top 4", f"switch {AT_10} top 3"),
-        found("pairs 16 arrive 14\n" + lost(f"{AT_10} by 255", "10/0 4", "100/1 4") + "circle none\n"),
+        found("pairs 16 arrive 14\n" + lost(f"{AT_10} by 255", "10/0 4", "100/1 4") + ONE + "circle none\n"),
     )
     twice = good.replace("lid 4 ", "lid 3 ")
     misdelivered = "200/1 3 at 200/1", "10/0 3 at 100/1", "20/0 3 at 100/1", "100/1 3 at 100/1"
@@ -77,7 +81,7 @@ def tables(plan):
         twice,
         found(
             "pairs 16 arrive 12\n" + "".join(f"misdelivered {line}\n" for line in misdelivered)
-            + "twice 3 100/1\ntwice 3 200/1\ncircle none\n"
+            + "twice 3 100/1\ntwice 3 200/1\n" + NEITHER + "circle none\n"
         ),
     )
     # A port and a switch that the facts don't know are told, and change nothing.
@@ -85,9 +89,9 @@ def tables(plan):
     yield (
         "a port and a switch that the facts don't know",
         strange,
-        prints(spelled(f"pairs 16 arrive 16\nunowned 5 300/1\nunknown {0x30:016x}\ncircle none\n")),
+        prints(spelled(f"pairs 16 arrive 16\nunowned 5 300/1\nunknown {0x30:016x}\n" + BOTH + "circle none\n")),
     )
-    yield "nothing", "", prints(f"pairs 0 arrive 0\ntableless {AT_10}\ntableless {AT_20}\ncircle none\n")
+    yield "nothing", "", prints(f"pairs 0 arrive 0\ntableless {AT_10}\ntableless {AT_20}\n" + NEITHER + "circle none\n")
 
 
 def rings(plan):
@@ -97,9 +101,37 @@ def rings(plan):
     yield (
         "the short way both ways",
         plan(RING_LIDS, *short).printed.decode(),
-        found("pairs 25 arrive 25\ncircle 10/1 20/1 30/1 40/1 50/1\n"),
+        found("pairs 25 arrive 25\n" + NEITHER + "circle 10/1 20/1 30/1 40/1 50/1\n"),
     )
-    yield "not across one wire", plan(RING_LIDS, *cut).printed.decode(), prints("pairs 25 arrive 25\ncircle none\n")
+    yield "not across one wire", plan(RING_LIDS, *cut).printed.decode(), prints("pairs 25 arrive 25\n" + NEITHER + "circle none\n")
+
+
+# Two adapters with a wire between them, and no switch.
+PAIR_WIRES = "100/1-200/1"
+
+
+def pairs(plan):
+    lids = f"lid 3 {0x100:016x}/1\nlid 4 {0x200:016x}/1\n"
+    yield "two adapters and no switch", lids, prints("pairs 4 arrive 4\nhops max 1 mean 1.00\nload none\ncircle none\n")
+
+
+# Switches 10, 20 and 30 in a row, with the adapters 100 and 300 at 10 and 200 at 30: six pairs of adapters, of which two take
+# two wires and four take four, and four channels, of which each has two packets.
+ROW = (0x10, 0x20, 0x30)
+ROW_ADAPTERS = (0x100, 0x200, 0x300)
+ROW_WIRES = "10/1-20/2 20/1-30/2 10/3-100/1 10/4-300/1 30/3-200/1"
+
+
+def rows(plan):
+    lids = "1 100/1 2 200/1 3 300/1"
+    all_arrive = plan(lids, "10 3 1 4", "20 2 1 2", "30 2 3 2").printed.decode()
+    yield "three in a row", all_arrive, prints("pairs 18 arrive 18\nhops max 4 mean 3.33\nload max 2 mean 2.00\ncircle none\n")
+    # What is for 200 is lost at 20, and counts nowhere.
+    cut = plan(lids, "10 3 1 4", "20 2 9 2", "30 2 3 2").printed.decode()
+    there = lost(f"{AT_20} by 9", "10/0 2", "20/0 2", "100/1 2", "300/1 2")
+    yield "three in a row, the middle one without a way to 200", cut, found(
+        "pairs 18 arrive 14\n" + there + "hops max 4 mean 3.00\nload max 2 mean 1.00\ncircle none\n"
+    )
 
 
 # What is wrong with a text of tables.

@@ -2,6 +2,7 @@ pub mod Brought
 pub mod Ended
 pub mod FabricParts
 pub mod FabricsJudged
+pub mod Fars
 pub mod Gathered
 pub mod HeldPlans
 pub mod HeldTables

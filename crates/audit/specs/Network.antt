@@ -1,5 +1,6 @@
 -- The usable switches of a view and what their ports lead to, by index.
-use Rattle.std.specs.Prelude.{◌≡◌, ℕ, ◌==◌, List, Option, None, Some, map}
+use Rattle.std.specs.Prelude.{◌≡◌, ℕ, ◌/◌, ◌%◌, ◌==◌, List, Option, None, Some, map, slice_get, slice_index_or}
+use Rattle.std.specs.Option.{option_map_or}
 use Rattle.std.specs.List.{position, range_with_len}
 use Rattle.subnet_view.specs.declared.end_port.EndPort.{EndPort}
 use Rattle.subnet_view.specs.Reading.{Cells, switches}
@@ -36,6 +37,10 @@ far_of cells g p = far_to (switches cells) (across cells g p)
 -- where the wires in the ports from 0 to 255 of a node lead
 abbrev pub row_of : Cells → ℕ → List Far
 row_of cells g = map (far_of cells g) (range_with_len 0 256)
+
+-- where the wire leads in port n % 256 of the usable switch at index n / 256
+abbrev pub far_by : Cells → ℕ → Far
+far_by cells n = option_map_or (λ g. slice_index_or (row_of cells g) (n % 256) Nothing) (slice_get (switches cells) (n / 256)) Nothing
 
 -- an end port as a source: the index of its switch, where it is one's, and where its wire leads
 abbrev pub source_of : Cells → EndPort → Source

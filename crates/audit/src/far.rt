@@ -9,7 +9,7 @@ use subnet_view::{EndPort, Wires};
 
 /// Where the wire in a port leads.
 #[derive(Clone, Copy, Debug, PartialEq, Eq)]
-pub(crate) enum Far {
+pub enum Far {
     /// There is no wire.
     Nothing,
     /// To the usable switch of an index, by rising GUID.
@@ -42,12 +42,13 @@ pub(crate) fn index(guids: &[Guid], guid: Guid) -> Option<usize>
 
 /// An end port that sends packets.
 #[derive(Clone, Copy, Debug, PartialEq, Eq)]
-pub(crate) struct Source {
-    pub(crate) port: EndPort,
+pub struct Source {
+    /// The end port.
+    pub port: EndPort,
     /// The index of its switch, where it is a usable switch's.
-    pub(crate) switch: Option<usize>,
+    pub switch: Option<usize>,
     /// Where its wire leads.
-    pub(crate) far: Far,
+    pub far: Far,
 }
 
 /// The end ports as sources.

@@ -16,6 +16,7 @@ mod walks;
 
 pub use arrival::first_failure;
 pub use end::{End, Failure};
+pub use far::{Far, Source};
 pub use network::{Blocks, Network};
 
 #[cfg(test)]

@@ -1,9 +1,10 @@
-ghost use Rattle.std.specs.Prelude.{◌≡◌, ◌↔◌, ◌<◌, ◌/◌, Contains, IfOk, IsTrue, length, slice_get};
+ghost use Rattle.std.specs.Prelude.{◌≡◌, ◌↔◌, ◌<◌, ◌/◌, Contains, IfOk, IsTrue, length, map, slice_get};
 ghost use Rattle.std.specs.List.{list_any};
 ghost use Rattle.fact_store.specs.View.{cells_of};
 ghost use Rattle.subnet_view.specs.EndPorts.{end_ports};
 ghost use Rattle.subnet_view.specs.Reading.{switches};
 ghost use Rattle.audit.specs.Exits.{exits_of};
+ghost use Rattle.audit.specs.Network.{far_by, source_of};
 ghost use Rattle.audit.specs.Steps.{AreBlocks, AreBrought, entry_by};
 ghost use Rattle.audit.specs.Tables.{is_same_end};
 
@@ -11,7 +12,7 @@ use crate::blocks::blocks;
 use crate::column::{brought, exits, owners_of, steps};
 use crate::end::End;
 use crate::entry::entry_for;
-use crate::far::{Source, sources};
+use crate::far::{Far, Source, sources};
 use crate::node::{Node, nodes};
 use crate::walks::ends;
 use fact_store::{Refused, Store};
@@ -143,6 +144,24 @@ impl<'a> Network<'a> {
     {
         let node = self.nodes.get(index)?;
         Some(node.guid)
+    }
+
+    /// Where the wire in a port of a usable switch leads: of the number 256 times the switch's index, and the port. Takes
+    /// one step.
+    pub fn far(&self, number: usize) -> Far
+        ensures { result ≡ far_by (cells_of self.now.facts) number }
+    {
+        match self.nodes.get(number / 256) {
+            Some(node) => node.row.far((number % 256) as u8),
+            None => Far::Nothing,
+        }
+    }
+
+    /// The end ports as sources, in their order.
+    pub fn sources(&self) -> &[Source]
+        ensures { result.now ≡ map (source_of (cells_of self.now.facts)) (end_ports (cells_of self.now.facts)) }
+    {
+        &self.sources
     }
 
     /// The LIDs that are held, with their end ports.

@@ -20,6 +20,7 @@ use Rattle.audit.specs.Tables.{is_owner, is_same_end}
 use Rattle.audit.proofs.InTime.{end_found, end_is}
 use Rattle.audit.proofs.Judged.{same_ends, same_itself, at_is}
 use Rattle.audit_circles.proofs.Orders.{never_both}
+use Rattle.audit_ways.specs.declared.ways.WayFigures.{WayFigures}
 use Rattle.audit.specs.Steps.{IsBrought}
 use Rattle.audit_report.specs.declared.packet.Packet.{Packet}
 use Rattle.audit_report.specs.declared.tally.Tally.{Tally}
@@ -133,9 +134,9 @@ module _ (cells : Cells) (held : HeldPlan) where
   can_rise [] h e = h
   can_rise (channel ∷ later) h e = absurd (omega arith)
 
-pub passes_is : (seen : Seen) (tally : Tally) (unmatched : Unmatched) (circle : List ℕ) (b : Bool) → IsFound seen tally unmatched circle
+pub passes_is : (seen : Seen) (tally : Tally) (unmatched : Unmatched) (ways : WayFigures) (circle : List ℕ) (b : Bool) → IsFound seen tally unmatched ways circle
     → b ≡ ((tally.arrived == tally.sent) && (length circle == 0)) → IsTrue b ↔ Passes (cells_of seen.facts) seen.held
-passes_is seen tally unmatched circle b found is =
+passes_is seen tally unmatched ways circle b found is =
     let cells = cells_of seen.facts in
     let held = seen.held in
     let counted = found.counted in (

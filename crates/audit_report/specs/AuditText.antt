@@ -11,6 +11,9 @@ use Rattle.plan_file.specs.Held.{HeldPlan}
 use Rattle.audit.specs.declared.end.End.{End}
 use Rattle.audit.specs.declared.end.End.TheVariants.{Taken, Lost}
 use Rattle.audit.specs.Steps.{entry_by}
+use Rattle.audit_ways.specs.declared.figures.Figures.{Figures}
+use Rattle.audit_ways.specs.Figures.{figures_of}
+use Rattle.audit_ways.specs.Ways.{hops_of, loads_of}
 use Rattle.audit_report.specs.declared.packet.Packet.{Packet}
 use Rattle.audit_report.specs.Packets.{arrives, goes_round, is_lost, is_misdelivered, packets_of}
 use Rattle.audit_report.specs.Passing.{Audited}
@@ -64,6 +67,22 @@ switch_line word guid = word ++ codes " " ++ guid_text guid ++ codes "\n"
 abbrev pub switches_text : List ℕ → List ℕ → List ℕ
 switches_text word guids = flat_map (switch_line word) guids
 
+-- a number of hundredths, with a point and two digits
+abbrev pub hundredths_text : ℕ → List ℕ
+hundredths_text n = decimal (n / 100) ++ codes "." ++ decimal (n / 10 % 10) ++ decimal (n % 10)
+
+-- the greatest of some numbers, and their mean
+abbrev pub figures_text : Option Figures → List ℕ
+figures_text None = codes " none"
+figures_text (Some figures) = codes " max " ++ decimal figures.most ++ codes " mean " ++ hundredths_text figures.hundredths
+
+abbrev pub figures_line : List ℕ → Option Figures → List ℕ
+figures_line word figures = word ++ figures_text figures ++ codes "\n"
+
+-- of the wires that packets between adapter ports take, and of the loads of channels
+abbrev pub ways_text : Option Figures → Option Figures → List ℕ
+ways_text hops load = figures_line (codes "hops") hops ++ figures_line (codes "load") load
+
 -- the switch and the port of a channel
 abbrev pub channel_text : Cells → ℕ → List ℕ
 channel_text cells channel = codes " " ++ port_text (slice_index (switches cells) (channel / 256)) (channel % 256)
@@ -97,9 +116,13 @@ packets_told cells held packets =
 abbrev pub unmatched_told : Cells → HeldPlan → List ℕ
 unmatched_told cells held = unmatched_text (unowned cells held) (twice held) (unknown cells held) (tableless cells held)
 
--- the packets, where tables and facts differ, and the circle
+-- how far packets go between adapter ports, and how evenly they load the channels
+abbrev pub ways_told : Cells → HeldPlan → List ℕ
+ways_told cells held = ways_text (figures_of (hops_of cells held)) (figures_of (loads_of cells held))
+
+-- the packets, where tables and facts differ, ways and loads, and the circle
 abbrev pub text_of : Cells → HeldPlan → List ℕ → List ℕ
-text_of cells held circle = packets_told cells held (packets_of cells held) ++ unmatched_told cells held ++ circle_line cells circle
+text_of cells held circle = packets_told cells held (packets_of cells held) ++ unmatched_told cells held ++ ways_told cells held ++ circle_line cells circle
 
 abbrev pub audit_text : Audited → List ℕ
 audit_text audit = text_of (cells_of audit.facts) audit.held audit.circle

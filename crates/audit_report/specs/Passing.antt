@@ -15,6 +15,8 @@ use Rattle.audit.specs.declared.end.End.TheVariants.{Taken}
 use Rattle.audit.specs.Network.{Seen}
 use Rattle.audit.specs.Steps.{IsBrought}
 use Rattle.audit_circles.specs.Waiting.{RiseOnWays, WaitInCircle}
+use Rattle.audit_ways.specs.declared.ways.WayFigures.{WayFigures}
+use Rattle.audit_ways.specs.Ways.{IsToldOfWays}
 use Rattle.audit_report.specs.declared.tally.Tally.{Tally}
 use Rattle.audit_report.specs.declared.unmatched.Unmatched.{Unmatched}
 use Rattle.audit_report.specs.Packets.{packets_of}
@@ -58,7 +60,8 @@ audited_code =
     (λ p. record { facts = p.0; held = p.1.0; circle = p.1.1 }) (λ _. refl)
 
 -- what is found of facts and tables
-pub record IsFound (seen : Seen) (tally : Tally) (unmatched : Unmatched) (circle : List ℕ) : Type 0 where
+pub record IsFound (seen : Seen) (tally : Tally) (unmatched : Unmatched) (ways : WayFigures) (circle : List ℕ) : Type 0 where
   pub counted : IsTally (packets_of (cells_of seen.facts) seen.held) tally
   pub differ : IsUnmatched (cells_of seen.facts) seen.held unmatched
+  pub told : IsToldOfWays (cells_of seen.facts) seen.held ways
   pub waits : IsCircle (cells_of seen.facts) seen.held circle

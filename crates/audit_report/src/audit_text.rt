@@ -6,6 +6,7 @@ ghost use Rattle.subnet_view.specs.Reading.{switches};
 ghost use Rattle.record_file.specs.Writes.{Writes};
 ghost use Rattle.lft_blocks.specs.WritesPart.{WritesPart};
 ghost use Rattle.audit_report.specs.AuditText.{audit_text, channel_text, channels_text, circle_line, counts_line};
+ghost use Rattle.audit_report.specs.AuditText.{figures_line, figures_text, hundredths_text, ways_text};
 ghost use Rattle.audit_report.specs.AuditText.{end_text, entry_text, lid_line, lids_text, packet_line, packets_text};
 ghost use Rattle.audit_report.specs.AuditText.{lost_text, missed_text, sent_text, switch_line, switches_text, taken_text, unmatched_text};
 
@@ -14,14 +15,15 @@ use crate::report::Audit;
 use crate::tally::Tally;
 use crate::unmatched::Unmatched;
 use audit::{End, Network};
+use audit_ways::{Figures, WayFigures};
 use plan_file::HeldLid;
 use record_file::{Sink, WriteFault, write_guid, write_number, write_port};
 use smp_bytes::{Guid, Lid, PortNum};
 use subnet_view::EndPort;
 
 /// Writes how many packets there are and how many arrive; the first 20 of each kind that do not, by rising LID and then by
-/// the order of end ports; the first 20 of each kind in which tables and facts differ; and a circle of channels, if there
-/// is one; and flushes. It takes no memory.
+/// the order of end ports; the first 20 of each kind in which tables and facts differ; the wires that packets between
+/// adapter ports take, and the loads of channels; and a circle of channels, if there is one; and flushes. It takes no memory.
 pub fn write_audit<W: Sink>(sink: &mut W, audit: &Audit) -> Result<(), WriteFault>
     ensures writes { Writes W.written W.has_failed result sink.old sink.new (audit_text audit.now) }
     ensures flushed { OnOk result (IsTrue (W.is_flushed sink.new)) }
@@ -29,6 +31,7 @@ pub fn write_audit<W: Sink>(sink: &mut W, audit: &Audit) -> Result<(), WriteFaul
     write_counts(sink, &audit.tally)?;
     write_missed(sink, &audit.network, &audit.tally)?;
     write_unmatched(sink, &audit.unmatched)?;
+    write_ways(sink, &audit.ways)?;
     write_circle(sink, &audit.network, &audit.circle)?;
     sink.flush()
 }
@@ -202,6 +205,52 @@ fn write_switch<W: Sink>(sink: &mut W, word: &str, guid: Guid) -> Result<(), Wri
     sink.write(b" ")?;
     write_guid(sink, guid)?;
     sink.write(b"\n")
+}
+
+/// Writes the wires that packets take, and the loads of channels.
+fn write_ways<W: Sink>(sink: &mut W, ways: &WayFigures) -> Result<(), WriteFault>
+    ensures { WritesPart W.written W.has_failed result sink.old sink.new (ways_text ways.now.hops ways.now.load) }
+{
+    write_line(sink, "hops", &ways.hops)?;
+    write_line(sink, "load", &ways.load)
+}
+
+/// Writes a line of figures.
+fn write_line<W: Sink>(
+    sink: &mut W,
+    word: &str,
+    figures: &Option<Figures>,
+) -> Result<(), WriteFault>
+    ensures { WritesPart W.written W.has_failed result sink.old sink.new (figures_line word.now figures.now) }
+{
+    sink.write(word.as_bytes())?;
+    write_figures(sink, figures)?;
+    sink.write(b"\n")
+}
+
+/// Writes the greatest of some numbers, and their mean.
+fn write_figures<W: Sink>(sink: &mut W, figures: &Option<Figures>) -> Result<(), WriteFault>
+    ensures { WritesPart W.written W.has_failed result sink.old sink.new (figures_text figures.now) }
+{
+    match figures {
+        None => sink.write(b" none"),
+        Some(figures) => {
+            sink.write(b" max ")?;
+            write_number(sink, figures.most)?;
+            sink.write(b" mean ")?;
+            write_hundredths(sink, figures.hundredths)
+        }
+    }
+}
+
+/// Writes a number of hundredths, with a point and two digits.
+fn write_hundredths<W: Sink>(sink: &mut W, number: u64) -> Result<(), WriteFault>
+    ensures { Writes W.written W.has_failed result sink.old sink.new (hundredths_text number) }
+{
+    write_number(sink, number / 100)?;
+    sink.write(b".")?;
+    write_number(sink, number / 10 % 10)?;
+    write_number(sink, number % 10)
 }
 
 /// Writes the line of a circle, each channel as the switch and the port by which packets take it.

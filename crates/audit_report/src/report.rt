@@ -8,6 +8,7 @@ use crate::tally::Tally;
 use crate::unmatched::Unmatched;
 use audit::Network;
 use audit_circles::channel_order;
+use audit_ways::{WayFigures, figures_of_ways};
 use channel_order::ChannelOrder;
 use fact_store::{Refused, Store};
 use plan_file::Held;
@@ -20,6 +21,8 @@ pub struct Audit<'a> {
     pub(crate) network: Network<'a>,
     pub(crate) tally: Tally,
     pub(crate) unmatched: Unmatched,
+    /// How far packets go between adapter ports, and the loads of channels.
+    pub(crate) ways: WayFigures,
     /// Channels that wait for each other in a circle; none where there is no circle.
     pub(crate) circle: Vec<usize>,
 }
@@ -33,13 +36,14 @@ impl<'a> Model for Audit<'a> {
 
     ghost view = { λ a. record { facts = a.network.facts; held = a.network.held; circle = a.circle.items } };
 
-    ghost invariant = { λ a. IsFound a.network a.tally a.unmatched a.circle.items };
+    ghost invariant = { λ a. IsFound a.network a.tally a.unmatched a.ways a.circle.items };
 }
 
 impl<'a> Audit<'a> {
     /// Follows the packets that the end ports of the view send to the LIDs which are held, each from every end port of the
-    /// component in which the LID's end port lies, by these tables; and orders channels. Takes what `Network::ends`
-    /// and `Network::exits` do for each LID, and a step for each two end ports.
+    /// component in which the LID's end port lies, by these tables; counts the wires and the channels that those between
+    /// adapter ports take; and orders channels. Takes what `Network::ends` and `Network::exits` do for each LID twice, and a
+    /// step or two for each two end ports.
     pub fn of(alloc: Global, store: &'a Store, held: &'a Held) -> Result<Self, Refused>
         ensures facts { IfOk result (λ audit. audit.facts ≡ store.now) }
         ensures held { IfOk result (λ audit. audit.held ≡ held.now) }
@@ -49,11 +53,13 @@ impl<'a> Audit<'a> {
         let seats = seats(alloc, store)?;
         let tally = survey(alloc, &network, &seats)?;
         let unmatched = Unmatched::of(alloc, store, held, &seats)?;
+        let ways = figures_of_ways(alloc, &network)?;
         let circle = circle_of(alloc, &network)?;
         Ok(Audit {
             network,
             tally,
             unmatched,
+            ways,
             circle,
         })
     }

@@ -19,7 +19,7 @@ returns-then-self c =
     let Judges = λ (x : Audited). IsTrue b ↔ Passes (cells_of x.facts) x.held in
     let long : vec_len a.circle ≡ length a.circle.items = omega (arith, a.circle.ok.0) in
     subst Judges c.self.view_is
-    (passes_is a.network a.tally a.unmatched a.circle.items b c.self.invariant
+    (passes_is a.network a.tally a.unmatched a.ways a.circle.items b c.self.invariant
     (c.is_empty.ensures ∙ ap (λ n. n == 0) long
     ∙ sym (ap (λ t. t && (length a.circle.items == 0)) (eq-eqb a.tally.arrived a.tally.sent c.if-self.true))))
 
@@ -29,5 +29,5 @@ returns-else-self c =
     let b = (a.tally.arrived == a.tally.sent) in
     let Judges = λ (x : Audited). IsTrue b ↔ Passes (cells_of x.facts) x.held in
     subst Judges c.self.view_is
-    (passes_is a.network a.tally a.unmatched a.circle.items b c.self.invariant
+    (passes_is a.network a.tally a.unmatched a.ways a.circle.items b c.self.invariant
     (not_both (a.tally.arrived == a.tally.sent) (length a.circle.items == 0) (ne_eqb a.tally.arrived a.tally.sent c.if-self.false)))

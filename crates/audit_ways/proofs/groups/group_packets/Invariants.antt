@@ -1,0 +1,7 @@
+-- The packets of the end ports so far.
+use Rattle.fact_store.specs.View.{cells_of}
+use Rattle.audit_ways.proofs.Grouped.{GroupedSoFar}
+use Rattle.audit_ways.proofs.groups.group_packets.Given as goal
+
+abbrev pub invariant-loop-place : goal.invariant-loop-place
+invariant-loop-place l = GroupedSoFar (cells_of l.network.facts) l.network.held l.line l.place l.weights l.direct

@@ -1,0 +1,3 @@
+pub mod Figures
+pub mod Tally
+pub mod Ways
