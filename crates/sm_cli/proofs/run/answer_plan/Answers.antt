@@ -13,4 +13,4 @@ returns-clause-answered g c =
     let cells = cells_of c.args.store.now in
     let Written : Routing → Type 0 = λ rule. OnOk c.write_plan_by.result
     (Appends (g.W.Sink.written c.args.sink.now) (g.W.Sink.written c.write_plan_by.new.sink) (plan_text (plan_by rule c.args.lmc cells))) in
-    subst Written (c.rule_of_kind-rule.ensures cells) c.write_plan_by.ensures.written
+    subst Written (c.rule_of_kind-rule.ensures.routing cells) c.write_plan_by.ensures.written
