@@ -30,34 +30,20 @@ pub fn write_audit<W: Sink>(sink: &mut W, audit: &Audit) -> Result<(), WriteFaul
 {
     write_tally(sink, &audit.network, &audit.tally)?;
     write_unmatched(sink, &audit.unmatched)?;
-    write_channels_told(sink, &audit.network, &audit.ways, &audit.circle)?;
+    write_ways(sink, &audit.ways)?;
+    write_circle(sink, &audit.network, &audit.circle)?;
     sink.flush()
 }
 
 /// Writes how many packets there are, how many arrive, and the first of each kind that do not.
 fn write_tally<W: Sink>(sink: &mut W, network: &Network, tally: &Tally) -> Result<(), WriteFault>
-    ensures { Writes W.written W.has_failed result sink.old sink.new
+    ensures { WritesPart W.written W.has_failed result sink.old sink.new
         (counts_line tally.now.sent tally.now.arrived
         ++ missed_text (cells_of network.now.facts) network.now.held
         tally.now.lost.items tally.now.misdelivered.items tally.now.round.items) }
 {
     write_counts(sink, tally)?;
     write_missed(sink, network, tally)
-}
-
-/// Writes what is told of ways and of the loads of channels, and a circle of these.
-fn write_channels_told<W: Sink>(
-    sink: &mut W,
-    network: &Network,
-    ways: &WayFigures,
-    circle: &[usize],
-) -> Result<(), WriteFault>
-    ensures { Writes W.written W.has_failed result sink.old sink.new
-        (ways_text ways.now.hops ways.now.load
-        ++ circle_line (cells_of network.now.facts) circle.now) }
-{
-    write_ways(sink, ways)?;
-    write_circle(sink, network, circle)
 }
 
 /// Writes how many packets there are, and how many arrive.
