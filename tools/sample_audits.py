@@ -94,6 +94,45 @@ def tables(plan):
     yield "nothing", "", prints(f"pairs 0 arrive 0\ntableless {AT_10}\ntableless {AT_20}\n" + NEITHER + "circle none\n")
 
 
+def ranges(plan):
+    """The same where each adapter's port has two LIDs: 100/1 has 4 and 5, 200/1 has 6 and 7."""
+    good = plan("1 10/0 2 20/0 4 100/1 6 200/1", *GOOD, lmc=1).printed.decode()
+    all_four = "hops max 3 mean 3.00\nload max 2 mean 2.00\n"
+    yield "tables for two LIDs a port", good, prints("pairs 24 arrive 24\n" + all_four + "circle none\n")
+    yield "the same, told one by one", one_by_one(good), prints("pairs 24 arrive 24\n" + all_four + "circle none\n")
+    table = good.index(f"switch {AT_10}")
+    entry = good.index("block 0 ", table) + len("block 0 ") + 2 * 7
+    yield (
+        "the second LID of a port leads to no wire",
+        good[:entry] + "03" + good[entry + 2 :],
+        found(
+            "pairs 24 arrive 22\n" + lost(f"{AT_10} by 3", "10/0 7", "100/1 7")
+            + "hops max 3 mean 3.00\nload max 2 mean 1.50\ncircle none\n"
+        ),
+    )
+    yield (
+        "ranges that have a LID in common",
+        good.replace("lid 6 ", "lid 5 "),
+        # What is for 5 comes to 100/1, and nothing is for 7.
+        found(
+            "pairs 24 arrive 20\nmisdelivered 200/1 5 at 200/1\nmisdelivered 10/0 5 at 100/1\nmisdelivered 20/0 5 at 100/1\n"
+            "misdelivered 100/1 5 at 100/1\ntwice 5 100/1\ntwice 5 200/1\nhops max 3 mean 3.00\nload max 1 mean 1.00\ncircle none\n"
+        ),
+    )
+
+
+def one_by_one(text):
+    """The text with a line for each LID of a range."""
+    lines = []
+    for line in text.splitlines():
+        words = line.split()
+        if words[0] == "lid" and len(words) == 5:
+            lines += [f"lid {number} {words[2]}" for number in range(int(words[1]), int(words[1]) + 2 ** int(words[4]))]
+        else:
+            lines.append(line)
+    return "\n".join(lines) + "\n"
+
+
 def rings(plan):
     """The same of the ring: the short way both ways, and not across the wire from the last to the first."""
     short = ring("0 1 1 2 2", "2 0 1 1 2", "2 2 0 1 1", "1 2 2 0 1", "1 1 2 2 0")
@@ -139,6 +178,9 @@ FAULTS = (
     ("lid 1", "line 1: syntax"),
     ("lid 0 10/0", "line 1: lid"),
     ("lid 1 10/255", "line 1: port"),
+    ("lid 4 10/1 lmc 8", "line 1: lmc"),
+    ("lid 4 10/1 lmc", "line 1: syntax"),
+    ("lid 49025 10/1 lmc 7", "line 1: lid"),
     ("# tables\nlid 2 10/0\nlid 1 20/0", "line 3: lid"),
     ("switch 20 top 1\nswitch 10 top 1", "line 2: switch"),
     (f"switch 10 top 1\nblock 768 {'f' * 128}", "line 2: block"),

@@ -1,59 +1,39 @@
--- The text of a view's plan under LMC 0 says the plan's LIDs with their owners, and its entries.
+-- The text of a view's plan says the plan's LIDs with their owners, and its entries.
 use Rattle.std.proofs.Common.{◌≡◌, ℕ, zero, suc, ◌+◌, ◌*◌, ◌/◌, ◌%◌, ◌≤◌, false, ◌||◌, List, [], ◌∷◌}
 use Rattle.std.proofs.Common.{get_or, Option, None, Some, refl, sym, ap, ◌∙◌, arith, cond}
 use Rattle.std.specs.Prelude.{slice_get, map, Contains, option_and_then, option_map, nat_lt, ◌==◌}
 use Rattle.std.specs.Option.{option_map_or}
-use Rattle.std.specs.List.{find, filter_map}
+use Rattle.std.specs.List.{find}
 use Rattle.std.proofs.lemmas.Bool.{cond_both, eqb-true, eq-eqb, le-ltb, ne_eqb, or_from}
 use Rattle.std.proofs.lemmas.Option.{same_Some}
-use Rattle.smp_bytes.specs.LidRange.{has_lid}
-use Rattle.smp_bytes.proofs.LidRanges.{has_one_lid}
 use Rattle.fact_store.specs.View.{Facts, cells_of}
-use Rattle.subnet_view.specs.declared.end_port.EndPort.{EndPort}
 use Rattle.subnet_view.specs.Reading.{Cells, switches}
 use Rattle.subnet_view.proofs.Apart.{contains_map}
-use Rattle.subnet_view.proofs.Taken.{taken_from}
 use Rattle.subnet_view.proofs.UsableSwitches.{switches_law}
-use Rattle.lid_assign.specs.Lids.{Given, IsNoRoom, lids, lid_of, lmc_of, owner_of, rising_lids}
+use Rattle.lid_assign.specs.Lids.{Given, IsNoRoom, lids, owner_of}
 use Rattle.lid_assign.specs.Lids.{top_of as lid_top}
 use Rattle.lid_assign.proofs.LidLaws.{lids_law}
-use Rattle.lid_assign.proofs.Owners.{owners_are_inverse}
-use Rattle.updown_routes.specs.Graph.{graph_of}
-use Rattle.updown_routes.specs.Routing.{updown}
-use Rattle.spread_rule.specs.Rules.{up_and_down}
+use Rattle.subnet_view.specs.declared.end_port.EndPort.{EndPort}
+use Rattle.updown_routes.specs.Routing.{Routing}
+use Rattle.spread_rule.specs.Rules.{RuleValue, routing_by}
 use Rattle.lft_blocks.specs.Entries.{Next, home_of_lid, blocks, block_count}
 use Rattle.lft_blocks.specs.Plan.{SwitchTable, PlanValue, plan_of, tables_of}
 use Rattle.lft_blocks.specs.PlanLaws.{HasBlock, block_of}
 use Rattle.lft_blocks.proofs.BlockLaws.{made_at}
 use Rattle.lft_blocks.proofs.HeldEntries.{planned_block, owned_to_top, owned_from_one}
 use Rattle.lft_blocks.proofs.HeldEntries.{entry_of as planned_entry}
-use Rattle.plan_file.specs.declared.held.HeldLid.{HeldLid}
 use Rattle.plan_file.specs.Held.{HeldPlan}
-use Rattle.plan_file.specs.Printed.{owned_lid, blocks_of, with_top}
+use Rattle.plan_file.specs.Printed.{owned_lids, blocks_of, with_top}
 use Rattle.audit.specs.Tables.{counted, place_of, entry_in, entry_at, entry_for, entry_of, top_at}
 use Rattle.audit.proofs.HeldTables.{found, block_found, placed, slice_mapped}
 
 -- the plan's tables and LIDs as they are held
-abbrev pub made : Cells → ℕ → HeldPlan
-made cells top = record {
-  lids = filter_map (owned_lid (lids 0 cells)) (rising_lids (lids 0 cells));
-  switches = map (with_top top) (plan_of up_and_down 0 cells).tables;
-  blocks = blocks_of 0 (plan_of up_and_down 0 cells).tables;
+abbrev pub made : RuleValue → ℕ → Cells → ℕ → HeldPlan
+made rule lmc cells top = record {
+  lids = owned_lids (lids lmc cells);
+  switches = map (with_top top) (plan_of rule lmc cells).tables;
+  blocks = blocks_of 0 (plan_of rule lmc cells).tables;
 }
-
-pub line_lid : (n : ℕ) (line : HeldLid) (o : Option EndPort) → option_map (λ port. record { lid = n; port = port }) o ≡ Some line → line.lid ≡ n
-line_lid n line None e = absurd (cc)
-line_lid n line (Some x) e =
-    let told : HeldLid = record { lid = n; port = x } in let same : told ≡ line = same_Some told line e in sym (ap (λ (z : HeldLid). z.lid) same)
-
-pub line_port : (n : ℕ) (line : HeldLid) (o : Option EndPort) → option_map (λ port. record { lid = n; port = port }) o ≡ Some line → o ≡ Some line.port
-line_port n line None e = absurd (cc)
-line_port n line (Some x) e =
-    let told : HeldLid = record { lid = n; port = x } in let same : told ≡ line = same_Some told line e in ap (λ (z : HeldLid). Some z.port) same
-
--- with LMC 0 an end port owns its LID alone
-pub lmc_0 : (cells : Cells) (e : EndPort) → lmc_of (lids 0 cells) e ≡ 0
-lmc_0 cells e = cond_both (e.port == 0) 0 0 (λ n. n ≡ 0) (λ _. refl) (λ _. refl)
 
 -- a switch has its table of the plan
 pub table_there : (guids : List ℕ) (homes : ℕ → Option (ℕ × ℕ)) (next : Next) (count g : ℕ) → Contains guids g
@@ -74,71 +54,57 @@ at_place [] i x d e = cc
 at_place (y ∷ xs) zero x d e = same_Some y x e
 at_place (y ∷ xs) (suc i) x d e = at_place xs i x d e
 
-module _ (facts : Facts) (has_room : ¬ (IsNoRoom 0 (cells_of facts))) where
+module _ (rule : RuleValue) (lmc : ℕ) (facts : Facts) (has_room : ¬ (IsNoRoom lmc (cells_of facts))) where
   abbrev pub given : Given
-  given = lids 0 (cells_of facts)
+  given = lids lmc (cells_of facts)
 
-  pub owner_is : (e : EndPort) (n : ℕ) → lid_of given e ≡ Some n → owner_of given n ≡ Some e
-  owner_is e n h =
-      (owners_are_inverse 0 facts has_room e n).1
-      (n, h, ap (λ m. has_lid n m n) (lmc_0 (cells_of facts) e) ∙ has_one_lid n n ∙ eq-eqb n n refl)
+  abbrev routing : Routing
+  routing = routing_by rule (cells_of facts)
 
-  pub lid_of_owner : (e : EndPort) (n : ℕ) → owner_of given n ≡ Some e → lid_of given e ≡ Some n
-  lid_of_owner e n h =
-      let (lid, is, has) = (owners_are_inverse 0 facts has_room e n).0 h in
-      is ∙ ap (λ m. Some m) (eqb-true lid n (sym (has_one_lid lid n) ∙ ap (λ m. has_lid lid m n) (sym (lmc_0 (cells_of facts) e)) ∙ has))
-
-  module _ (top : ℕ) (top_is : lid_top (lids 0 (cells_of facts)) ≡ Some top) where
+  module _ (top : ℕ) (top_is : lid_top (lids lmc (cells_of facts)) ≡ Some top) where
     abbrev pub cells : Cells
     cells = cells_of facts
 
     abbrev pub held : HeldPlan
-    held = made cells top
+    held = made rule lmc cells top
 
     abbrev pub plan : PlanValue
-    plan = plan_of up_and_down 0 cells
-
-    -- a line that is held tells the owner of its LID
-    pub line_owned : (line : HeldLid) → Contains held.lids line → owner_of given line.lid ≡ Some line.port
-    line_owned line h =
-        let (n, there, is) = taken_from (owned_lid given) (rising_lids given) line h in
-        ap (owner_of given) (line_lid n line (owner_of given n) is) ∙ line_port n line (owner_of given n) is
+    plan = plan_of rule lmc cells
 
     -- a usable switch has the greatest LID as its top
     pub top_of_switch : (g : ℕ) → Contains (switches cells) g → top_at held (place_of held g) ≡ top
     top_of_switch g there =
-        let (table, is) = table_there (switches cells) (home_of_lid cells given) (updown (graph_of cells)).next (block_count (lid_top given)) g there in
+        let (table, is) = table_there (switches cells) (home_of_lid cells given) routing.next (block_count (lid_top given)) g there in
         let (k, placed_is, table_is) = placed top plan.tables g table is in
         ap (top_at held) placed_is
         ∙ ap (λ o. option_map_or (λ s. s.top) o 0) (slice_mapped (with_top top) plan.tables k table table_is)
 
     -- and the plan's entry at each LID up to that
-    pub entry_held : (g lid : ℕ) → Contains (switches cells) g → lid ≤ top → entry_of held g lid ≡ planned_entry (updown (graph_of cells)) 0 cells g lid
+    pub entry_held : (g lid : ℕ) → Contains (switches cells) g → lid ≤ top → entry_of held g lid ≡ planned_entry routing lmc cells g lid
     entry_held g lid there low =
-        let rule = updown (graph_of cells) in
         let b = lid / 64 in
         let count : block_count (lid_top given) ≡ suc (top / 64) = ap block_count top_is in
-        let has : HasBlock 0 cells g b = (((switches_law facts).0 g).0 there, omega (arith, count, low)) in
-        let block = block_of rule 0 cells g b in
-        let (table, is, its_block) = of_find b block (find (λ t. t.guid == g) plan.tables) (planned_block rule 0 facts g b has) in
+        let has : HasBlock lmc cells g b = (((switches_law facts).0 g).0 there, omega (arith, count, low)) in
+        let block = block_of routing lmc cells g b in
+        let (table, is, its_block) = of_find b block (find (λ t. t.guid == g) plan.tables) (planned_block routing lmc facts g b has) in
         let (k, placed_is, table_is) = placed top plan.tables g table is in
         let (y, found_is, entries_is) = block_found plan.tables k b table block table_is its_block in
-        let stands : slice_get block (lid % 64) ≡ Some (planned_entry rule 0 cells g (64 * b + (0 + lid % 64))) =
-        made_at (λ i. planned_entry rule 0 cells g (64 * b + i)) 0 64 (lid % 64) (omega arith) in
+        let stands : slice_get block (lid % 64) ≡ Some (planned_entry routing lmc cells g (64 * b + (0 + lid % 64))) =
+        made_at (λ i. planned_entry routing lmc cells g (64 * b + i)) 0 64 (lid % 64) (omega arith) in
         let whole : 64 * b + (0 + lid % 64) ≡ lid = omega arith in
         ap (λ o. entry_at held o lid) placed_is
         ∙ ap (λ o. entry_in o (lid % 64)) found_is
         ∙ ap (λ es. get_or es (lid % 64) 255) entries_is
-        ∙ at_place block (lid % 64) (planned_entry rule 0 cells g (64 * b + (0 + lid % 64))) 255 stands
-        ∙ ap (planned_entry rule 0 cells g) whole
+        ∙ at_place block (lid % 64) (planned_entry routing lmc cells g (64 * b + (0 + lid % 64))) 255 stands
+        ∙ ap (planned_entry routing lmc cells g) whole
 
     -- which counts where the LID is owned
     pub entry_counts : (g lid : ℕ) (e : EndPort) → Contains (switches cells) g → owner_of given lid ≡ Some e
-        → entry_for held lid g ≡ planned_entry (updown (graph_of cells)) 0 cells g lid
+        → entry_for held lid g ≡ planned_entry routing lmc cells g lid
     entry_counts g lid e there owned =
         let (most, most_is, low) = owned_to_top given e lid owned in
         let same : most ≡ top = same_Some most top (sym most_is ∙ top_is) in
-        let from_one = owned_from_one 0 cells (lids_law 0 facts has_room) lid e owned in
+        let from_one = owned_from_one lmc cells (lids_law lmc facts has_room) lid e owned in
         let inside : (lid == 0 || nat_lt top lid) ≡ false =
         or_from (lid == 0) (nat_lt top lid) (ne_eqb lid 0 (λ z. omega (arith, z, from_one))) (le-ltb top lid (omega (arith, same, low))) in
         ap (λ t. counted lid t (entry_of held g lid)) (top_of_switch g there)

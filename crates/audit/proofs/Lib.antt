@@ -12,4 +12,5 @@ pub mod Mapped
 pub mod PlanPackets
 pub mod PlanSteps
 pub mod PlansPass
+pub mod SameRanges
 pub mod Told

@@ -22,11 +22,12 @@ use Rattle.updown_routes.specs.Crossing.{Crossing}
 use Rattle.updown_routes.specs.Graph.{graph_of}
 use Rattle.updown_routes.specs.GraphLaws.{IsSwitch}
 use Rattle.updown_routes.specs.Ranks.{in_one_component, root_of}
-use Rattle.updown_routes.specs.Routing.{Routing, Passes, FollowsRule, updown}
-use Rattle.updown_routes.proofs.Components.{component_itself, component_symm, component_trans, cost_in_component, joined, rooted}
+use Rattle.updown_routes.specs.Routing.{Routing, Passes, FollowsRule}
+use Rattle.updown_routes.proofs.Components.{component_itself, component_symm, component_trans, joined, rooted}
 use Rattle.updown_routes.proofs.Graphs.{exit_is_wire, exit_to_usable, graph_law, wire_end}
-use Rattle.updown_routes.proofs.Routed.{updown_is_routing}
 use Rattle.updown_routes.proofs.Switches.{graph_guids, switch_usable, usable_switch}
+use Rattle.spread_rule.specs.Rules.{RuleValue, routing_by}
+use Rattle.spread_rule.proofs.Whole.{rules_are_routings}
 use Rattle.lft_blocks.specs.Entries.{home_of}
 use Rattle.lft_blocks.proofs.HeldEntries.{entry_of as planned_entry, entry_by_home}
 use Rattle.lft_blocks.proofs.HomeSwitches.{home_is_switch}
@@ -43,7 +44,8 @@ use Rattle.audit.specs.Tables.{entry_for, is_owner, owners_of}
 use Rattle.audit.specs.Walks.{after, onward}
 use Rattle.audit.proofs.FabricParts.{index_there}
 use Rattle.audit.proofs.FabricsJudged.{owner_line, line_owner}
-use Rattle.audit.proofs.HeldPlans.{made, line_owned, entry_counts}
+use Rattle.plan_file.proofs.OwnedLids.{line_owned}
+use Rattle.audit.proofs.HeldPlans.{made, entry_counts}
 use Rattle.audit.proofs.HeldTables.{get_mapped}
 use Rattle.audit.proofs.PlanSteps.{contains_at, index_is, no_wire_at_0}
 
@@ -72,20 +74,20 @@ indexed cells g there =
       | Some i ↦ λ e. record { index = i; is = e; at = index_is (switches cells) g i e }
     ] refl
 
-module _ (facts : Facts) (range : AreInRange facts) (has_room : ¬ (IsNoRoom 0 (cells_of facts)))
-    (top : ℕ) (top_is : top_of (lids 0 (cells_of facts)) ≡ Some top)
-    (line : HeldLid) (is_held : Contains (made (cells_of facts) top).lids line) (is_end : Contains (end_ports (cells_of facts)) line.port) where
+module _ (by : RuleValue) (lmc : ℕ) (facts : Facts) (range : AreInRange facts) (has_room : ¬ (IsNoRoom lmc (cells_of facts)))
+    (top : ℕ) (top_is : top_of (lids lmc (cells_of facts)) ≡ Some top)
+    (line : HeldLid) (is_held : Contains (made by lmc (cells_of facts) top).lids line) (is_end : Contains (end_ports (cells_of facts)) line.port) where
   abbrev cells : Cells
   cells = cells_of facts
 
   abbrev held : HeldPlan
-  held = made cells top
+  held = made by lmc cells top
 
   abbrev graph : List Crossing
   graph = graph_of cells
 
   abbrev rule : Routing
-  rule = updown graph
+  rule = routing_by by cells
 
   abbrev lid : ℕ
   lid = line.lid
@@ -113,8 +115,8 @@ module _ (facts : Facts) (range : AreInRange facts) (has_room : ¬ (IsNoRoom 0 (
   comes_by s t e c = subst Comes (sym e) c
 
   -- the owner alone holds the LID
-  owned : owner_of (lids 0 cells) lid ≡ Some owner
-  owned = line_owned facts has_room top top_is line is_held
+  owned : owner_of (lids lmc cells) lid ≡ Some owner
+  owned = line_owned lmc facts has_room line is_held
 
   owner_holds : is_owner owners owner ≡ true
   owner_holds = line_owner held.lids line is_held
@@ -122,8 +124,8 @@ module _ (facts : Facts) (range : AreInRange facts) (has_room : ¬ (IsNoRoom 0 (
   only_owner : (e : EndPort) → is_owner owners e ≡ true → e ≡ owner
   only_owner e h =
       let l = owner_line held.lids lid e h in
-      let its = line_owned facts has_room top top_is l.line l.is_held in
-      sym l.port_is ∙ same_Some l.line.port owner (sym its ∙ ap (owner_of (lids 0 cells)) l.lid_is ∙ owned)
+      let its = line_owned lmc facts has_room l.line l.is_held in
+      sym l.port_is ∙ same_Some l.line.port owner (sym its ∙ ap (owner_of (lids lmc cells)) l.lid_is ∙ owned)
 
   owner_takes : at_port owners owner ≡ Taken owner
   owner_takes = ap (λ t. cond t (Taken owner) (Lost owner.node)) owner_holds
@@ -137,11 +139,11 @@ module _ (facts : Facts) (range : AreInRange facts) (has_room : ¬ (IsNoRoom 0 (
       subst (λ t. MatchBool t (e.port ≡ 0) ((1 ≤ e.port) × (e.port ≤ ports))) is place
 
   -- what a switch does is by the plan's entry
-  at_index : (i g entry : ℕ) → slice_get (switches cells) i ≡ Some g → planned_entry rule 0 cells g lid ≡ entry
+  at_index : (i g entry : ℕ) → slice_get (switches cells) i ≡ Some g → planned_entry rule lmc cells g lid ≡ entry
       → onward steps (To i) ≡ by_entry owners g (row_of cells g) entry
   at_index i g entry at is =
       get_mapped (λ g. by_entry owners g (row_of cells g) (entry_for held lid g)) (switches cells) i g (To i) at
-      ∙ ap (by_entry owners g (row_of cells g)) (entry_counts facts has_room top top_is g lid owner (contains_at (switches cells) i g at) owned ∙ is)
+      ∙ ap (by_entry owners g (row_of cells g)) (entry_counts by lmc facts has_room top top_is g lid owner (contains_at (switches cells) i g at) owned ∙ is)
 
   -- over a wire
   over_wire : (g p : ℕ) (q : ℕ × ℕ) → across cells g p ≡ Some q
@@ -171,9 +173,9 @@ module _ (facts : Facts) (range : AreInRange facts) (has_room : ¬ (IsNoRoom 0 (
 
   -- at the home of the owner its switch takes the packet, or sends it to the owner
   module _ (home : ℕ × ℕ) (home_is : home_of cells owner ≡ Some home) where
-    entry_home : planned_entry rule 0 cells home.0 lid ≡ home.1
+    entry_home : planned_entry rule lmc cells home.0 lid ≡ home.1
     entry_home =
-        entry_by_home rule 0 cells home.0 lid owner home owned home_is
+        entry_by_home rule lmc cells home.0 lid owner home owned home_is
         ∙ ap (λ t. cond t home.1 (unwrap_or (rule.next lid home.0 home.0) 255)) (eq-eqb home.0 home.0 refl)
 
     at_home : by_entry owners home.0 (row_of cells home.0) home.1 ≡ end
@@ -200,8 +202,8 @@ module _ (facts : Facts) (range : AreInRange facts) (has_room : ¬ (IsNoRoom 0 (
         (at_index i home.0 home.1 (at ∙ ap (λ x. Some x) follows) entry_home ∙ at_home) (0, refl))
     along (e ∷ es) s i at (apart, next, follows) (there, passes) =
         let x = exit_is_wire cells s e there in
-        let entry : planned_entry rule 0 cells s lid ≡ e.port =
-        entry_by_home rule 0 cells s lid owner home owned home_is
+        let entry : planned_entry rule lmc cells s lid ≡ e.port =
+        entry_by_home rule lmc cells s lid owner home owned home_is
         ∙ ap (λ t. cond t home.1 (unwrap_or (rule.next lid s home.0) 255))
         (false_from_ne_true (home.0 == s) (λ k. eqb-false s home.0 apart (sym (eqb-true home.0 s k))))
         ∙ ap (λ o. unwrap_or o 255) next in
@@ -219,10 +221,9 @@ module _ (facts : Facts) (range : AreInRange facts) (has_room : ¬ (IsNoRoom 0 (
     -- from a switch of the component
     from_switch : (s i : ℕ) → slice_get (switches cells) i ≡ Some s → in_one_component graph s home.0 ≡ true → Comes (To i)
     from_switch s i at together =
-        let good = graph_law facts in
         let there = is_in_graph s (contains_at (switches cells) i s at) in
-        let (n, cost) = cost_in_component graph good s home.0 there home_there together in
-        let way = (updown_is_routing graph good).leads lid s home.0 n there cost in
+        let (n, cost) = (rules_are_routings by facts).reaches s home.0 there home_there together in
+        let way = (rules_are_routings by facts).leads lid s home.0 n there cost in
         along way.exits s i at way.by_rule way.passes
 
     -- of one root, of one component

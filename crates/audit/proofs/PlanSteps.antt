@@ -18,8 +18,7 @@ use Rattle.subnet_view.proofs.WireEnds.{linked, across_back}
 use Rattle.subnet_view.proofs.WireLaws.{wire_law}
 use Rattle.port_graph.specs.declared.exit.Exit.{Exit}
 use Rattle.lid_assign.specs.Lids.{lids, owner_of}
-use Rattle.updown_routes.specs.Graph.{graph_of}
-use Rattle.updown_routes.specs.Routing.{Routing, updown}
+use Rattle.updown_routes.specs.Routing.{Routing}
 use Rattle.updown_routes.proofs.Graphs.{wire_end}
 use Rattle.updown_routes.proofs.Switches.{switch_usable}
 use Rattle.lft_blocks.specs.Entries.{home_of, port_to}
@@ -103,23 +102,20 @@ module _ (cells : Cells) where
       ] h
 
 -- a switch sends packets for a LID on by the rule's port towards the home of its owner
-pub record OnWay (cells : Cells) (lid : ℕ) (e : EndPort) (g entry : ℕ) : Type 0 where
+pub record OnWay (rule : Routing) (cells : Cells) (lid : ℕ) (e : EndPort) (g entry : ℕ) : Type 0 where
   pub home : ℕ × ℕ
   pub home_is : home_of cells e ≡ Some home
   pub apart : (g == home.0) ≡ false
-  pub next : (updown (graph_of cells)).next lid g home.0 ≡ Some entry
+  pub next : rule.next lid g home.0 ≡ Some entry
 
 -- no wire is in a port 0
 pub no_wire_at_0 : (cells : Cells) (g : ℕ) (q : ℕ × ℕ) → across cells g 0 ≡ Some q → ⊥
 no_wire_at_0 cells g q e = let from = (wire_end cells g 0 (linked cells g 0 q e).here).is_port.0 in omega arith
 
-module _ (facts : Facts) (unwired : (g : ℕ) (q : ℕ × ℕ) → across (cells_of facts) g 255 ≡ Some q → ⊥) (lid : ℕ) (e : EndPort)
-    (owned : owner_of (lids 0 (cells_of facts)) lid ≡ Some e) where
+module _ (rule : Routing) (lmc : ℕ) (facts : Facts) (unwired : (g : ℕ) (q : ℕ × ℕ) → across (cells_of facts) g 255 ≡ Some q → ⊥) (lid : ℕ) (e : EndPort)
+    (owned : owner_of (lids lmc (cells_of facts)) lid ≡ Some e) where
   abbrev cells : Cells
   cells = cells_of facts
-
-  abbrev rule : Routing
-  rule = updown (graph_of cells)
 
   -- the wire in the home's port leads to the owner, which is no usable switch
   at_home : (home end : ℕ × ℕ) → home_of cells e ≡ Some home → across cells home.0 home.1 ≡ Some end → Contains (switches cells) end.0 → ⊥
@@ -142,15 +138,15 @@ module _ (facts : Facts) (unwired : (g : ℕ) (q : ℕ × ℕ) → across (cells
   no_way : (g entry : ℕ) (end : ℕ × ℕ) → entry ≡ 255 → across cells g entry ≡ Some end → ⊥
   no_way g entry end e wire = unwired g end (ap (across cells g) (sym e) ∙ wire)
 
-  by_home : (g entry : ℕ) (home end : ℕ × ℕ) → planned_entry rule 0 cells g lid ≡ entry → across cells g entry ≡ Some end
-      → Contains (switches cells) end.0 → home_of cells e ≡ Some home → OnWay cells lid e g entry
+  by_home : (g entry : ℕ) (home end : ℕ × ℕ) → planned_entry rule lmc cells g lid ≡ entry → across cells g entry ≡ Some end
+      → Contains (switches cells) end.0 → home_of cells e ≡ Some home → OnWay rule cells lid e g entry
   by_home g entry home end is wire there home_is =
-      elim (home.0 == g) as (λ t. (home.0 == g) ≡ t → OnWay cells lid e g entry) [
+      elim (home.0 == g) as (λ t. (home.0 == g) ≡ t → OnWay rule cells lid e g entry) [
         | true ↦ λ s.
             let here : home.0 ≡ g = eqb-true home.0 g s in
             let port : home.1 ≡ entry = sym (planned ∙ ap (λ t. cond t home.1 (unwrap_or (rule.next lid g home.0) 255)) s) ∙ is in
             absurd (at_home home end home_is ((λ i. across cells (here i) (port i)) ∙ wire) there)
-        | false ↦ λ s. (elim (rule.next lid g home.0) as (λ o. rule.next lid g home.0 ≡ o → OnWay cells lid e g entry) [
+        | false ↦ λ s. (elim (rule.next lid g home.0) as (λ o. rule.next lid g home.0 ≡ o → OnWay rule cells lid e g entry) [
           | None ↦ λ n. absurd (no_way g entry end (sym (elsewhere s) ∙ ap (λ o. unwrap_or o 255) n) wire)
           | Some p ↦ λ n.
               let port : p ≡ entry = sym (ap (λ o. unwrap_or o 255) n) ∙ elsewhere s in
@@ -163,18 +159,18 @@ module _ (facts : Facts) (unwired : (g : ℕ) (q : ℕ × ℕ) → across (cells
         ] refl)
       ] refl
     where
-      planned : planned_entry rule 0 cells g lid ≡ cond (home.0 == g) home.1 (unwrap_or (rule.next lid g home.0) 255)
-      planned = entry_by_home rule 0 cells g lid e home owned home_is
+      planned : planned_entry rule lmc cells g lid ≡ cond (home.0 == g) home.1 (unwrap_or (rule.next lid g home.0) 255)
+      planned = entry_by_home rule lmc cells g lid e home owned home_is
 
       elsewhere : (home.0 == g) ≡ false → unwrap_or (rule.next lid g home.0) 255 ≡ entry
       elsewhere s = sym (planned ∙ ap (λ t. cond t home.1 (unwrap_or (rule.next lid g home.0) 255)) s) ∙ is
 
-  pub on_way : (g entry : ℕ) (end : ℕ × ℕ) → planned_entry rule 0 cells g lid ≡ entry → across cells g entry ≡ Some end
-      → Contains (switches cells) end.0 → OnWay cells lid e g entry
+  pub on_way : (g entry : ℕ) (end : ℕ × ℕ) → planned_entry rule lmc cells g lid ≡ entry → across cells g entry ≡ Some end
+      → Contains (switches cells) end.0 → OnWay rule cells lid e g entry
   on_way g entry end is wire there =
-      elim (home_of cells e) as (λ o. home_of cells e ≡ o → OnWay cells lid e g entry) [
+      elim (home_of cells e) as (λ o. home_of cells e ≡ o → OnWay rule cells lid e g entry) [
         | None ↦ λ k.
-            let none : planned_entry rule 0 cells g lid ≡ 255 =
+            let none : planned_entry rule lmc cells g lid ≡ 255 =
             ap (λ o. option_map_or (port_to rule.next lid g) o 255) (ap (option_and_then (home_of cells)) owned ∙ k) in
             absurd (no_way g entry end (sym is ∙ none) wire)
         | Some home ↦ λ k. by_home g entry home end is wire there k

@@ -1,33 +1,30 @@
 -- Where a connected fabric holds the plan of its view, no packet fails.
-use Rattle.std.proofs.Common.{◌≡◌, ℕ, ◌+◌, ◌*◌, ◌/◌, ◌%◌, ◌≤◌, true, List, length, get_or, Option, None, Some, refl, sym, ap, ◌∙◌, subst, arith}
+use Rattle.std.proofs.Common.{◌≡◌, ℕ, ◌+◌, ◌*◌, ◌/◌, ◌%◌, ◌≤◌, true, false, List, length, get_or, Option, None, Some, refl, sym, ap, ◌∙◌, subst, arith}
 use Rattle.std.specs.Prelude.{Contains, option_map, ◌==◌}
 use Rattle.std.specs.Option.{option_map_or}
 use Rattle.std.specs.List.{find}
-use Rattle.std.proofs.lemmas.Bool.{and_parts}
+use Rattle.std.proofs.lemmas.Bool.{and_parts, false_from_ne_true}
 use Rattle.std.proofs.lemmas.Option.{same_Some, slice_get-get_or}
 use Rattle.smp_bytes.specs.declared.cable.NodePort.{NodePort}
 use Rattle.smp_bytes.specs.NodeType.{is_switch}
 use Rattle.smp_bytes.specs.Fabric.{Node, Fabric, IsNodeAt, IsEndPort, range_at, owns}
 use Rattle.smp_bytes.specs.FabricWalks.{IsConnected}
-use Rattle.smp_bytes.proofs.LidRanges.{one_lid}
 use Rattle.fact_store.specs.View.{Facts, cells_of}
 use Rattle.subnet_view.specs.declared.end_port.EndPort.{EndPort}
 use Rattle.subnet_view.specs.Reading.{Cells, switches, is_usable, is_switch_node, cap_of}
 use Rattle.subnet_view.proofs.Members.{contains_none}
 use Rattle.subnet_view.proofs.Apart.{contains-from_map}
-use Rattle.spread_rule.specs.Rules.{up_and_down}
+use Rattle.spread_rule.specs.Rules.{RuleValue, routing_by}
 use Rattle.lft_blocks.specs.Plan.{PlanValue, plan_of}
-use Rattle.plan_file.specs.declared.held.HeldLid.{HeldLid}
 use Rattle.plan_file.specs.Held.{HeldPlan, nothing_held}
-use Rattle.plan_file.specs.Printed.{owned_lid}
-use Rattle.lid_assign.specs.Lids.{Given, IsNoRoom, lids, lid_of, lmc_of, range_of, owner_of, rising_lids}
+use Rattle.plan_file.proofs.OwnedLids.{line_owned, owner_at, owner_listed}
+use Rattle.lid_assign.specs.Ranges.{is_in}
+use Rattle.lid_assign.specs.Ranges.{range_at as lid_range}
+use Rattle.lid_assign.specs.Lids.{Given, IsNoRoom, lids, lmc_of, range_of, owner_of}
 use Rattle.lid_assign.specs.Lids.{top_of as lid_top}
 use Rattle.lid_assign.proofs.LidLaws.{lids_law, ports_apart}
-use Rattle.lid_assign.proofs.Owners.{lid-from_given}
-use Rattle.lid_assign.proofs.RisingLids.{rising_lids_law}
-use Rattle.subnet_view.proofs.Taken.{is_taken, taken_from}
-use Rattle.updown_routes.specs.Graph.{graph_of}
-use Rattle.updown_routes.specs.Routing.{updown}
+use Rattle.lid_assign.proofs.Owners.{given-from_owner, lid-from_given}
+use Rattle.lid_assign.proofs.Ranges.{in_from_test, test_from_in}
 use Rattle.lft_blocks.specs.Entries.{home_of_lid}
 use Rattle.lft_blocks.specs.Entries.{entry as table_entry}
 use Rattle.std.specs.Prelude.{MatchOption, is_some}
@@ -42,78 +39,91 @@ use Rattle.subnet_view.specs.Agreement.{WholeFabric, IsEndPortIn}
 use Rattle.audit.specs.declared.end.Failure.{Failure}
 use Rattle.audit.specs.Steps.{IsHeldFailure}
 use Rattle.audit.specs.Fabrics.{IsSeen, HoldsLids, PlansPass}
-use Rattle.audit.specs.Tables.{entry_in, entry_at}
+use Rattle.audit.specs.Tables.{entry_in, entry_at, is_owner, owners_of}
 use Rattle.audit.specs.Tables.{block_at as held_block}
-use Rattle.audit.proofs.HeldPlans.{made, line_lid, line_port, lmc_0, of_find, owner_is, lid_of_owner, top_of_switch}
+use Rattle.lft_blocks.proofs.HeldEntries.{owned_from_one}
+use Rattle.audit.proofs.HeldPlans.{made, of_find, top_of_switch}
+use Rattle.audit.proofs.SameRanges.{same_range}
 use Rattle.audit.proofs.HeldTables.{block_found, placed}
 use Rattle.audit.proofs.FabricParts.{usable, known_type}
 use Rattle.subnet_view.proofs.UsableSwitches.{switches_law, usable_law}
 use Rattle.audit.proofs.FabricsJudged.{end_listed, owner_line, line_owner, miss, one_port}
 
-module _ (facts : Facts) (has_room : ¬ (IsNoRoom 0 (cells_of facts))) (f : Fabric) (top : ℕ) (top_is : lid_top (lids 0 (cells_of facts)) ≡ Some top)
-    (seen : IsSeen (cells_of facts) (made (cells_of facts) top) f) where
+module _ (by : RuleValue) (lmc : ℕ) (facts : Facts) (has_room : ¬ (IsNoRoom lmc (cells_of facts))) (f : Fabric)
+    (top : ℕ) (top_is : lid_top (lids lmc (cells_of facts)) ≡ Some top) (seen : IsSeen (cells_of facts) (made by lmc (cells_of facts) top) f) where
   abbrev cells : Cells
   cells = cells_of facts
 
   abbrev given : Given
-  given = lids 0 cells
+  given = lids lmc cells
 
   abbrev held : HeldPlan
-  held = made cells top
+  held = made by lmc cells top
 
   abbrev plan : PlanValue
-  plan = plan_of up_and_down 0 cells
+  plan = plan_of by lmc cells
 
-  -- the LID of an end port, and that it owns this one and no other
+  -- by the lines an end port has the numbers of its range, and no others
+  range_told : (e : EndPort) (first n : ℕ) → Contains given.ports (e, first) → is_owner (owners_of held n) e ≡ is_in (lid_range lmc e first) n
+  range_told e first n there =
+      let range = lid_range lmc e first in
+      elim (is_in range n) as (λ t. is_in range n ≡ t → is_owner (owners_of held n) e ≡ t) [
+        | true ↦ λ h.
+            let within = in_from_test range n h in
+            let owned = owner_at lmc facts has_room e first n there within.0 within.1 in
+            line_owner held.lids (record { lid = n; port = e }) (owner_listed lmc facts has_room e n owned)
+        | false ↦ λ h. false_from_ne_true (is_owner (owners_of held n) e) (λ k. not_told h k)
+      ] refl
+    where
+      not_told : is_in (lid_range lmc e first) n ≡ false → is_owner (owners_of held n) e ≡ true → ⊥
+      not_told h k =
+          let l = owner_line held.lids n e k in
+          let owned : owner_of given n ≡ Some e =
+          ap (owner_of given) (sym l.lid_is) ∙ line_owned lmc facts has_room l.line l.is_held ∙ ap (λ x. Some x) l.port_is in
+          let (its, is_given, within) = given-from_owner given e n owned in
+          let alone = ports_apart lmc facts has_room in
+          let same : its ≡ first = same_Some its first (sym (lid-from_given given alone e its is_given) ∙ lid-from_given given alone e first there) in
+          let is : is_in (lid_range lmc e first) n ≡ true =
+          ap (λ m. is_in (lid_range lmc e m) n) (sym same) ∙ test_from_in (lid_range lmc e its) n within in
+          cc
+
+  -- the LID of an end port, and that it owns the numbers of its range and no others
   record HasLid (port : NodePort) (e : EndPort) : Type 0 where
     pub lid : ℕ
+    pub is_given : Contains given.ports (e, lid)
     pub some : 1 ≤ lid
-    pub lid_is : lid_of given e ≡ Some lid
-    pub own : owns f port lid ≡ true
-    pub only : (n : ℕ) → 1 ≤ n → owns f port n ≡ true → n ≡ lid
+    pub owned : (n : ℕ) → 1 ≤ n → owns f port n ≡ is_in (lid_range lmc e lid) n
 
   lid_held : (port : NodePort) (node : Node) → IsNodeAt f port.node node → IsEndPort f port → HasLid port (record { node = node.guid; port = port.port })
   lid_held port node at is_end =
       let e : EndPort = record { node = node.guid; port = port.port } in
       let listed = end_listed facts held f seen port node at is_end in
-      let good = lids_law 0 facts has_room in
+      let good = lids_law lmc facts has_room in
       let (x, there, same) = contains-from_map (λ (y : EndPort × ℕ). y.0) given.ports e (subst (λ (xs : List EndPort). Contains xs e) (sym good.end_ports_in_order) listed) in
-      let n = x.1 in
-      let is_given : Contains given.ports (e, n) = subst (λ (z : EndPort). Contains given.ports (z, n)) same there in
-      let lid_is : lid_of given e ≡ Some n = lid-from_given given (ports_apart 0 facts has_room) e n is_given in
-      let owner : owner_of given n ≡ Some e = owner_is facts has_room e n lid_is in
-      let rising : Contains (rising_lids given) n = ((rising_lids_law given).0 n).1 (e, is_given) in
-      let line : HeldLid = record { lid = n; port = e } in
-      let told : Contains held.lids line = is_taken (owned_lid given) (rising_lids given) n line rising (ap (option_map (λ port. record { lid = n; port = port })) owner) in
-      let own : owns f port n ≡ true = seen.holds.lids port node n at is_end (good.each_fits e n is_given).not_0 ∙ line_owner held.lids line told in
+      let is_given : Contains given.ports (e, x.1) = subst (λ (z : EndPort). Contains given.ports (z, x.1)) same there in
       record {
-        lid = n;
-        some = (good.each_fits e n is_given).not_0;
-        lid_is = lid_is;
-        own = own;
-        only = λ m from owned.
-            let l = owner_line held.lids m e (sym (seen.holds.lids port node m at is_end from) ∙ owned) in
-            let (k, _, is) = taken_from (owned_lid given) (rising_lids given) l.line l.is_held in
-            let number : m ≡ k = sym l.lid_is ∙ line_lid k l.line (owner_of given k) is in
-            let its : owner_of given m ≡ Some e = ap (owner_of given) number ∙ line_port k l.line (owner_of given k) is ∙ ap (λ x. Some x) l.port_is in
-            same_Some m n (sym (lid_of_owner facts has_room e m its) ∙ lid_is);
+        lid = x.1;
+        is_given = is_given;
+        some = (good.each_fits e x.1 is_given).not_0;
+        owned = λ n from. seen.holds.lids port node n at is_end from ∙ range_told e x.1 n is_given;
       }
 
   -- so it holds its LID and its LMC
   range_held : (port : NodePort) (node : Node) → IsNodeAt f port.node node → IsEndPort f port
       → range_of given (record { node = node.guid; port = port.port }) ≡ Some (range_at f port)
   range_held port node at is_end =
+      let e : EndPort = record { node = node.guid; port = port.port } in
       let has = lid_held port node at is_end in
-      let (base_is, lmc_is) = one_lid (f.base_lid port) (f.lmc port) has.lid has.some has.own has.only in
-      ap (option_map (λ n. (n, lmc_of given (record { node = node.guid; port = port.port })))) has.lid_is
-      ∙ (λ i. Some (sym base_is i, (lmc_0 cells (record { node = node.guid; port = port.port }) ∙ sym lmc_is) i))
+      let (base_is, lmc_is) = same_range (f.base_lid port) (f.lmc port) has.lid (lmc_of given e) has.some has.owned in
+      ap (option_map (λ n. (n, lmc_of given e))) (lid-from_given given (ports_apart lmc facts has_room) e has.lid has.is_given)
+      ∙ (λ i. Some (sym base_is i, sym lmc_is i))
 
   -- a switch has the greatest LID as its top
   top_held : (place : ℕ) (node : Node) → IsNodeAt f place node → is_switch node.kind ≡ true → f.top place ≡ top
   top_held place node at kind =
       let g = node.guid in
       let there : Contains (switches cells) g = ((switches_law facts).0 g).1 ((usable_law cells g).0 (usable facts held f seen place node at kind)) in
-      seen.holds.tops place node at kind ∙ top_of_switch facts has_room top top_is g there
+      seen.holds.tops place node at kind ∙ top_of_switch by lmc facts has_room top top_is g there
 
   -- a block of the plan stands in the switch's table
   block_held : (place : ℕ) (node : Node) (b : ℕ) (block : List ℕ) → IsNodeAt f place node → is_switch node.kind ≡ true
@@ -138,9 +148,9 @@ module _ (facts : Facts) (has_room : ¬ (IsNoRoom 0 (cells_of facts))) (f : Fabr
       → HoldsBlock f port.node b block
   blocks_held port node here b block there =
       let g = node.guid in
-      let rule = updown (graph_of cells) in
-      let of = subst (λ (o : Option (List ℕ)). MatchOption o (¬ (HasBlock 0 cells g b)) (λ x. HasBlock 0 cells g b × (x ≡ block_of rule 0 cells g b))) there
-      (blocks_are_of_switches rule 0 facts g b) in
+      let rule = routing_by by cells in
+      let of = subst (λ (o : Option (List ℕ)). MatchOption o (¬ (HasBlock lmc cells g b)) (λ x. HasBlock lmc cells g b × (x ≡ block_of rule lmc cells g b))) there
+      (blocks_are_of_switches rule lmc facts g b) in
       let test : is_usable cells g ≡ true = (usable_law cells g).1 of.0.0 in
       let kind : is_switch node.kind ≡ true =
       sym (known_type facts held f seen port node here) ∙ (and_parts (is_switch_node cells g) (is_some (cap_of cells g)) test).0 in
@@ -159,12 +169,7 @@ module _ (facts : Facts) (has_room : ¬ (IsNoRoom 0 (cells_of facts))) (f : Fabr
   }
 
   has_lids : HoldsLids held
-  has_lids line h =
-      let (n, there, is) = taken_from (owned_lid given) (rising_lids given) line h in
-      let lid = line_lid n line (owner_of given n) is in
-      let (e, given_there) = ((rising_lids_law given).0 n).0 there in
-      let some = ((lids_law 0 facts has_room).each_fits e n given_there).not_0 in
-      omega arith
+  has_lids line h = owned_from_one lmc cells (lids_law lmc facts has_room) line.lid line.port (line_owned lmc facts has_room line h)
 
   no_failure : IsConnected f → (failure : Failure) → ¬ (IsHeldFailure cells held failure)
   no_failure connected failure h =
@@ -173,19 +178,19 @@ module _ (facts : Facts) (has_room : ¬ (IsNoRoom 0 (cells_of facts))) (f : Fabr
       let e : EndPort = record { node = t.guid; port = missed.target.port } in
       let lid = missed.lid in
       let has = lid_held missed.target t at missed.is_target in
-      let owner : owner_of given lid ≡ Some e =
-      owner_is facts has_room e lid (has.lid_is ∙ ap (λ n. Some n) (sym (has.only lid missed.is_lid missed.owned))) in
-      let arrives = packets_arrive_if_connected up_and_down 0 facts has_room f connected
+      let within = in_from_test (lid_range lmc e has.lid) lid (sym (has.owned lid missed.is_lid) ∙ missed.owned) in
+      let owner = owner_at lmc facts has_room e has.lid lid has.is_given within.0 within.1 in
+      let arrives = packets_arrive_if_connected by lmc facts has_room f connected
       (record { is_fabric = seen.is_fabric; agrees = seen.agrees; holds = plan_held }) missed.source missed.is_source lid e owner in
       let same : arrives.target ≡ missed.target = one_port facts held f seen arrives.target missed.target t e arrives.is_owner at refl in
       missed.misses (record { hops = arrives.hops; delivered = subst (IsDelivered f lid missed.source arrives.hops) same arrives.delivered })
 
 pub plans_pass : PlansPass
-plans_pass facts has_room f connected seen failure h =
+plans_pass by lmc facts has_room f connected seen failure h =
     let cells = cells_of facts in
     let told : Option ℕ → HeldPlan = λ o.
-    option_map_or (λ top. made cells top) o nothing_held in
-    elim (lid_top (lids 0 cells)) as (λ o. lid_top (lids 0 cells) ≡ o → IsSeen cells (told o) f → IsHeldFailure cells (told o) failure → ⊥) [
+    option_map_or (λ top. made by lmc cells top) o nothing_held in
+    elim (lid_top (lids lmc cells)) as (λ o. lid_top (lids lmc cells) ≡ o → IsSeen cells (told o) f → IsHeldFailure cells (told o) failure → ⊥) [
       | None ↦ λ e s g. contains_none failure.line g.is_held
-      | Some top ↦ λ e s g. no_failure facts has_room f top e s connected failure g
+      | Some top ↦ λ e s g. no_failure by lmc facts has_room f top e s connected failure g
     ] refl seen h

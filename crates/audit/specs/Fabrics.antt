@@ -11,7 +11,7 @@ use Rattle.subnet_view.specs.Reading.{Cells}
 use Rattle.subnet_view.specs.Agreement.{WholeFabric, IsPortNamed, AgreesOn}
 use Rattle.smp_bytes.specs.FabricWalks.{IsConnected}
 use Rattle.lid_assign.specs.Lids.{IsNoRoom}
-use Rattle.spread_rule.specs.Rules.{up_and_down}
+use Rattle.spread_rule.specs.Rules.{RuleValue}
 use Rattle.lft_blocks.specs.Plan.{plan_of}
 use Rattle.plan_file.specs.Printed.{held_plan}
 use Rattle.plan_file.specs.Held.{HeldPlan}
@@ -81,7 +81,9 @@ pub record JudgesFabrics (facts : Facts) (held : HeldPlan) (f : Fabric) : Type 0
 abbrev pub FabricsAreJudged : Type 0
 FabricsAreJudged = (facts : Facts) (held : HeldPlan) (f : Fabric) → HoldsLids held → IsSeen (cells_of facts) held f → JudgesFabrics facts held f
 
--- where a connected fabric is as a view with room says, and holds the text of the view's plan under LMC 0, no packet fails
+-- where a connected fabric is as a view with room says, and holds the text of the view's plan by a rule, no packet fails
 abbrev pub PlansPass : Type 0
-PlansPass = (facts : Facts) → ¬ (IsNoRoom 0 (cells_of facts)) → (f : Fabric) → IsConnected f → IsSeen (cells_of facts) (held_plan (plan_of up_and_down 0 (cells_of facts))) f
-    → (failure : Failure) → ¬ (IsHeldFailure (cells_of facts) (held_plan (plan_of up_and_down 0 (cells_of facts))) failure)
+PlansPass =
+    (rule : RuleValue) (lmc : ℕ) (facts : Facts) → ¬ (IsNoRoom lmc (cells_of facts)) → (f : Fabric) → IsConnected f
+    → IsSeen (cells_of facts) (held_plan (plan_of rule lmc (cells_of facts))) f
+    → (failure : Failure) → ¬ (IsHeldFailure (cells_of facts) (held_plan (plan_of rule lmc (cells_of facts))) failure)

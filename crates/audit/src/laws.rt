@@ -20,8 +20,8 @@ pub fn fabrics_are_judged()
     ensures law { FabricsAreJudged }
 {}
 
-/// Where a connected fabric is as a view with room says, and holds the text of the view's plan, no packet fails: then
-/// `first_failure` answers None.
+/// Where a connected fabric is as a view with room says, and holds the text of the view's plan, by whichever rule and under
+/// whichever LMC, no packet fails: then `first_failure` answers None.
 pub fn plans_pass()
     ensures law { PlansPass }
 {}

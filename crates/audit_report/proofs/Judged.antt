@@ -3,7 +3,6 @@ use Rattle.std.proofs.Common.{◌≡◌, ◌+◌, ℕ, List, [], ◌∷◌, refl
 use Rattle.std.specs.Prelude.{Contains, Some, IsTrue, ◌↔◌, ◌&&◌, ◌==◌, count_by, filter}
 use Rattle.std.specs.List.{flat_map}
 use Rattle.std.proofs.lemmas.Bool.{and_parts, and_from, eqb-true, eq-eqb}
-use Rattle.std.proofs.lemmas.List.Elements.{Contains-append_left, Contains-append_right, Contains-append_cases}
 use Rattle.std.proofs.lemmas.List.Sums.{sum_by-cons, count_by-le-length}
 use Rattle.fact_store.specs.View.{cells_of}
 use Rattle.subnet_view.specs.declared.end_port.EndPort.{EndPort}
@@ -13,6 +12,7 @@ use Rattle.subnet_view.proofs.Members.{contains_here, contains_later, contains_c
 use Rattle.subnet_view.proofs.Apart.{contains_map, contains-from_map}
 use Rattle.plan_file.specs.declared.held.HeldLid.{HeldLid}
 use Rattle.plan_file.specs.Held.{HeldPlan}
+use Rattle.plan_file.proofs.Lists.{in_lists, from_lists}
 use Rattle.audit.specs.declared.end.End.TheVariants.{Taken}
 use Rattle.audit.specs.Network.{Seen}
 use Rattle.audit.specs.Steps.{end_for, is_at}
@@ -28,23 +28,6 @@ use Rattle.audit_report.specs.declared.unmatched.Unmatched.{Unmatched}
 use Rattle.audit_report.specs.Packets.{arrives, packet_of, packets_for, packets_of, sent_to}
 use Rattle.audit_report.specs.Passing.{EachArrives, CanRise, Passes, IsCircle, IsFound}
 use Rattle.audit_report.specs.Seats.{in_one_component}
-
--- a list of lists has what one of them has
-in_lists : (f : HeldLid → List Packet) (lines : List HeldLid) (line : HeldLid) (p : Packet) → Contains lines line → Contains (f line) p → Contains (flat_map f lines) p
-in_lists f [] line p h k = absurd (contains_none line h)
-in_lists f (x ∷ lines) line p h k =
-    elim (contains_cases x line lines h) [
-      | inl e ↦ Contains-append_left (f x) (flat_map f lines) p (subst (λ (y : HeldLid). Contains (f y) p) (sym e) k)
-      | inr later ↦ Contains-append_right (f x) (flat_map f lines) p (in_lists f lines line p later k)
-    ]
-
-from_lists : (f : HeldLid → List Packet) (lines : List HeldLid) (p : Packet) → Contains (flat_map f lines) p → (line : HeldLid) × Contains lines line × Contains (f line) p
-from_lists f [] p h = absurd (contains_none p h)
-from_lists f (x ∷ lines) p h =
-    elim (Contains-append_cases (f x) (flat_map f lines) p h) [
-      | inl k ↦ (x, contains_here x lines, k)
-      | inr later ↦ let i = from_lists f lines p later in (i.0, contains_later x i.0 lines i.1, i.2)
-    ]
 
 -- counting all ------------------------------------------------------------------------
 

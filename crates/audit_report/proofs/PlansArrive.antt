@@ -13,7 +13,7 @@ use Rattle.subnet_view.proofs.WireEnds.{same_port}
 use Rattle.lid_assign.specs.Lids.{IsNoRoom, lids, top_of}
 use Rattle.updown_routes.specs.Graph.{graph_of}
 use Rattle.updown_routes.specs.Ranks.{root_of}
-use Rattle.spread_rule.specs.Rules.{up_and_down}
+use Rattle.spread_rule.specs.Rules.{RuleValue}
 use Rattle.lft_blocks.specs.Entries.{home_of}
 use Rattle.lft_blocks.specs.Plan.{plan_of}
 use Rattle.plan_file.specs.Held.{HeldPlan, nothing_held}
@@ -55,12 +55,14 @@ meets cells e owner h =
       ] refl k)
     ] refl h
 
-pub plans_arrive : (facts : Facts) → AreInRange facts → ¬ (IsNoRoom 0 (cells_of facts)) → EachArrives (cells_of facts) (held_plan (plan_of up_and_down 0 (cells_of facts)))
-plans_arrive facts range has_room =
+pub plans_arrive : (rule : RuleValue) (lmc : ℕ) (facts : Facts) → AreInRange facts → ¬ (IsNoRoom lmc (cells_of facts))
+    → EachArrives (cells_of facts) (held_plan (plan_of rule lmc (cells_of facts)))
+plans_arrive rule lmc facts range has_room =
     let cells = cells_of facts in
     let told : Option ℕ → HeldPlan = λ o.
-    option_map_or (λ top. made cells top) o nothing_held in
-    elim (top_of (lids 0 cells)) as (λ o. top_of (lids 0 cells) ≡ o → EachArrives cells (told o)) [
+    option_map_or (λ top. made rule lmc cells top) o nothing_held in
+    elim (top_of (lids lmc cells)) as (λ o. top_of (lids lmc cells) ≡ o → EachArrives cells (told o)) [
       | None ↦ λ is line h. absurd (contains_none line h)
-      | Some top ↦ λ is line h e is_end listed together. brought facts range has_room top is line h is_end e listed (meets cells e line.port together)
+      | Some top ↦ λ is line h e is_end listed together.
+          brought rule lmc facts range has_room top is line h is_end e listed (meets cells e line.port together)
     ] refl

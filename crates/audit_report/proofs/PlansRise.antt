@@ -7,7 +7,7 @@ use Rattle.std.specs.List.{range_with_len}
 use Rattle.std.specs.List.Sorted.{IsStrictlyIncreasing}
 use Rattle.std.proofs.lemmas.Bool.{eqb-false}
 use Rattle.std.proofs.lemmas.List.FromFn.{length-map-range_with_len, get_or-map-range_with_len}
-use Rattle.std.proofs.lemmas.Option.{same_Some, slice_get_within, slice_get-get_or, none-some}
+use Rattle.std.proofs.lemmas.Option.{same_Some, slice_get_within, slice_get-get_or}
 use Rattle.fact_store.specs.Sighting.{AreInRange}
 use Rattle.fact_store.specs.View.{Facts, cells_of}
 use Rattle.subnet_view.specs.Reading.{Cells, switches}
@@ -15,56 +15,55 @@ use Rattle.subnet_view.specs.Wires.{across}
 use Rattle.subnet_view.proofs.Members.{contains_none}
 use Rattle.port_graph.specs.declared.exit.Exit.{Exit}
 use Rattle.lid_assign.specs.Lids.{IsNoRoom, lids, top_of}
-use Rattle.updown_routes.specs.Channels.{channel_number, numbers_along}
+use Rattle.updown_routes.specs.Channels.{numbers_along}
 use Rattle.updown_routes.specs.Crossing.{Crossing}
 use Rattle.updown_routes.specs.Graph.{graph_of}
 use Rattle.updown_routes.specs.GraphLaws.{IsSwitch}
-use Rattle.updown_routes.specs.Ranks.{in_one_component}
-use Rattle.updown_routes.specs.Routing.{Routing, Leads, Passes, FollowsRule, updown}
-use Rattle.updown_routes.proofs.Components.{cost_in_component}
-use Rattle.updown_routes.proofs.Graphs.{exit_is_wire, graph_law}
-use Rattle.updown_routes.proofs.LeastCosts.{no_cost_between}
-use Rattle.updown_routes.proofs.Routed.{updown_is_routing}
+use Rattle.updown_routes.specs.Routing.{Routing, Leads, Passes, FollowsRule}
+use Rattle.updown_routes.proofs.Graphs.{exit_is_wire}
 use Rattle.updown_routes.proofs.Switches.{graph_guids}
 use Rattle.lft_blocks.proofs.HomeSwitches.{home_is_switch}
-use Rattle.spread_rule.specs.Rules.{up_and_down}
+use Rattle.spread_rule.specs.Rules.{RuleValue, routing_by}
+use Rattle.spread_rule.proofs.Whole.{rules_are_routings}
 use Rattle.lft_blocks.specs.Plan.{plan_of}
 use Rattle.plan_file.specs.Held.{HeldPlan, nothing_held}
 use Rattle.plan_file.specs.Printed.{held_plan}
+use Rattle.plan_file.proofs.NextPorts.{next_has_cost}
+use Rattle.plan_file.proofs.OwnedLids.{line_owned}
 use Rattle.plan_file.proofs.PlanRanges.{wire_small}
 use Rattle.audit.specs.Exits.{exit_by}
 use Rattle.audit.specs.Network.{row_of}
 use Rattle.audit.specs.Tables.{entry_for}
-use Rattle.audit.proofs.HeldPlans.{made, line_owned, entry_counts}
+use Rattle.audit.proofs.HeldPlans.{made, entry_counts}
 use Rattle.audit_circles.specs.Waiting.{WaitsFor}
 use Rattle.audit_report.specs.Passing.{CanRise}
 use Rattle.audit.proofs.PlanSteps.{contains_at, of_column, leaves, on_way}
 
 -- the number of a channel: the rule's, where its wire leads somewhere
-abbrev number_at : Cells → ℕ → ℕ → ℕ
-number_at cells g port = option_map_or (λ end. channel_number (graph_of cells) g end.0) (across cells g port) 0
+abbrev number_at : Routing → Cells → ℕ → ℕ → ℕ
+number_at rule cells g port = option_map_or (λ end. rule.channel g end.0) (across cells g port) 0
 
-abbrev number_of : Cells → ℕ → ℕ
-number_of cells channel = number_at cells (slice_index_or (switches cells) (channel / 256) 0) (channel % 256)
+abbrev number_of : Routing → Cells → ℕ → ℕ
+number_of rule cells channel = number_at rule cells (slice_index_or (switches cells) (channel / 256) 0) (channel % 256)
 
-abbrev numbers : Cells → List ℕ
-numbers cells = map (number_of cells) (range_with_len 0 (256 * length (switches cells)))
+abbrev numbers : Routing → Cells → List ℕ
+numbers rule cells = map (number_of rule cells) (range_with_len 0 (256 * length (switches cells)))
 
-numbered : (cells : Cells) (i port g : ℕ) (end : ℕ × ℕ) → slice_get (switches cells) i ≡ Some g → port < 256 → across cells g port ≡ Some end
-    → slice_index_or (numbers cells) (256 * i + port) 0 ≡ channel_number (graph_of cells) g end.0
-numbered cells i port g end at low wire =
+numbered : (rule : Routing) (cells : Cells) (i port g : ℕ) (end : ℕ × ℕ) → slice_get (switches cells) i ≡ Some g → port < 256 → across cells g port ≡ Some end
+    → slice_index_or (numbers rule cells) (256 * i + port) 0 ≡ rule.channel g end.0
+numbered rule cells i port g end at low wire =
     let channel = 256 * i + port in
     let within = slice_get_within (switches cells) i g at in
     let is : get_or (switches cells) i 0 ≡ g = same_Some (get_or (switches cells) i 0) g (sym (slice_get-get_or (switches cells) i 0 within) ∙ at) in
     let index : channel / 256 ≡ i = omega arith in
     let rest : channel % 256 ≡ port = omega arith in
-    get_or-map-range_with_len (number_of cells) 0 (256 * length (switches cells)) channel channel 0 (omega arith) (omega arith)
-    ∙ (λ k. number_at cells (slice_index_or (switches cells) (index k) 0) (rest k))
-    ∙ ap (λ z. number_at cells z port) is
-    ∙ ap (λ o. option_map_or (λ (q : ℕ × ℕ). channel_number (graph_of cells) g q.0) o 0) wire
+    get_or-map-range_with_len (number_of rule cells) 0 (256 * length (switches cells)) channel channel 0 (omega arith) (omega arith)
+    ∙ (λ k. number_at rule cells (slice_index_or (switches cells) (index k) 0) (rest k))
+    ∙ ap (λ z. number_at rule cells z port) is
+    ∙ ap (λ o. option_map_or (λ (q : ℕ × ℕ). rule.channel g q.0) o 0) wire
 
 -- numbers rise from one port of the rule to the next
-module _ (facts : Facts) (lid t : ℕ) (t_there : Contains (switches (cells_of facts)) t) where
+module _ (by : RuleValue) (facts : Facts) (lid t : ℕ) (t_there : Contains (switches (cells_of facts)) t) where
   abbrev cells : Cells
   cells = cells_of facts
 
@@ -72,7 +71,7 @@ module _ (facts : Facts) (lid t : ℕ) (t_there : Contains (switches (cells_of f
   graph = graph_of cells
 
   abbrev rule : Routing
-  rule = updown graph
+  rule = routing_by by cells
 
   is_switch : (s : ℕ) → Contains (switches cells) s → IsSwitch graph s
   is_switch s h = subst (λ (xs : List ℕ). Contains xs s) (sym (graph_guids cells)) h
@@ -80,13 +79,8 @@ module _ (facts : Facts) (lid t : ℕ) (t_there : Contains (switches (cells_of f
   -- where there is a next port there is a way
   way_there : (s p : ℕ) → Contains (switches cells) s → rule.next lid s t ≡ Some p → (n : ℕ) × Leads graph rule lid s t n
   way_there s p there next =
-      let good = graph_law facts in
-      elim (in_one_component graph s t) as (λ b. in_one_component graph s t ≡ b → (n : ℕ) × Leads graph rule lid s t n) [
-        | true ↦ λ j.
-            let (n, cost) = cost_in_component graph good s t (is_switch s there) (is_switch t t_there) j in
-            (n, (updown_is_routing graph good).leads lid s t n (is_switch s there) cost)
-        | false ↦ λ j. absurd (none-some p (sym (no_cost_between graph good s t (is_switch s there) j).1 ∙ next))
-      ] refl
+      let (n, cost) = next_has_cost by facts lid s t p (is_switch s there) (is_switch t t_there) next in
+      (n, (rules_are_routings by facts).leads lid s t n (is_switch s there) cost)
 
   exit_end : (s p : ℕ) (q : ℕ × ℕ) (e : Exit) → Passes graph s (e ∷ []) → rule.next lid s t ≡ Some e.port → rule.next lid s t ≡ Some p
       → across cells s p ≡ Some q → e.to ≡ q.0
@@ -99,7 +93,7 @@ module _ (facts : Facts) (lid t : ℕ) (t_there : Contains (switches (cells_of f
   along : (s p r : ℕ) (a b : ℕ × ℕ) (es : List Exit) → FollowsRule rule lid t s es → Passes graph s es
       → IsStrictlyIncreasing (numbers_along rule.channel s es) → (s == t) ≡ false → (a.0 == t) ≡ false
       → rule.next lid s t ≡ Some p → rule.next lid a.0 t ≡ Some r → across cells s p ≡ Some a → across cells a.0 r ≡ Some b
-      → channel_number graph s a.0 < channel_number graph a.0 b.0
+      → rule.channel s a.0 < rule.channel a.0 b.0
   along s p r a b [] follows passes rises apart past next then wire more = absurd (eqb-false s t apart follows)
   along s p r a b (e ∷ []) (_, its, end) passes rises apart past next then wire more =
       absurd (eqb-false a.0 t past (sym (exit_end s p a e (passes.0, tt) its next wire) ∙ end))
@@ -107,32 +101,35 @@ module _ (facts : Facts) (lid t : ℕ) (t_there : Contains (switches (cells_of f
       let to : e.to ≡ a.0 = exit_end s p a e (there, tt) its next wire in
       let on = subst (λ (x : ℕ). Passes graph x (d ∷ [])) to (further, tt) in
       let end : d.to ≡ b.0 = exit_end a.0 r b d on (ap (λ x. rule.next lid x t) (sym to) ∙ that) then more in
-      let less : channel_number graph s e.to < channel_number graph e.to d.to = rises 0 (omega arith) in
-      subst (λ (x : ℕ × ℕ). channel_number graph s x.0 < channel_number graph x.0 x.1) (λ k. (to k, end k)) less
+      let less : rule.channel s e.to < rule.channel e.to d.to = rises 0 (omega arith) in
+      subst (λ (x : ℕ × ℕ). rule.channel s x.0 < rule.channel x.0 x.1) (λ k. (to k, end k)) less
 
   pub rises : (s p r : ℕ) (a b : ℕ × ℕ) → Contains (switches cells) s → (s == t) ≡ false → (a.0 == t) ≡ false
       → rule.next lid s t ≡ Some p → rule.next lid a.0 t ≡ Some r → across cells s p ≡ Some a → across cells a.0 r ≡ Some b
-      → channel_number graph s a.0 < channel_number graph a.0 b.0
+      → rule.channel s a.0 < rule.channel a.0 b.0
   rises s p r a b there apart past next then wire more =
       let (n, way) = way_there s p there next in
       along s p r a b way.exits way.by_rule way.passes way.channels_rise apart past next then wire more
 
-module _ (facts : Facts) (range : AreInRange facts) (has_room : ¬ (IsNoRoom 0 (cells_of facts)))
-    (top : ℕ) (top_is : top_of (lids 0 (cells_of facts)) ≡ Some top) where
+module _ (by : RuleValue) (lmc : ℕ) (facts : Facts) (range : AreInRange facts) (has_room : ¬ (IsNoRoom lmc (cells_of facts)))
+    (top : ℕ) (top_is : top_of (lids lmc (cells_of facts)) ≡ Some top) where
   abbrev its_cells : Cells
   its_cells = cells_of facts
 
+  abbrev its_rule : Routing
+  its_rule = routing_by by its_cells
+
   abbrev held : HeldPlan
-  held = made its_cells top
+  held = made by lmc its_cells top
 
   no_wire_at_255 : (g : ℕ) (q : ℕ × ℕ) → across its_cells g 255 ≡ Some q → ⊥
   no_wire_at_255 g q e = let small = (wire_small facts range g 255 q.0 q.1 e).0 in omega arith
 
-  pub rise_in_turn : (a b : ℕ) → WaitsFor its_cells held a b → slice_index_or (numbers its_cells) a 0 < slice_index_or (numbers its_cells) b 0
+  pub rise_in_turn : (a b : ℕ) → WaitsFor its_cells held a b → slice_index_or (numbers its_rule its_cells) a 0 < slice_index_or (numbers its_rule its_cells) b 0
   rise_in_turn a b w =
       let lid = w.line.lid in
       let e = w.line.port in
-      let owned = line_owned facts has_room top top_is w.line w.is_held in
+      let owned = line_owned lmc facts has_room w.line w.is_held in
       let takes = w.takes in
       let exit : ℕ → Option Exit = λ g. exit_by (row_of its_cells g) (entry_for held lid g) in
       let (g, at, exits) = of_column exit (switches its_cells) w.switch takes.first takes.leaves in
@@ -142,36 +139,38 @@ module _ (facts : Facts) (range : AreInRange facts) (has_room : ¬ (IsNoRoom 0 (
       let here : first.end.0 ≡ h = same_Some first.end.0 h (sym first.index ∙ at_next) in
       let g_there = contains_at (switches its_cells) w.switch g at in
       let h_there = contains_at (switches its_cells) takes.first.to h at_next in
-      let way = on_way facts no_wire_at_255 lid e owned g (entry_for held lid g) first.end
-      (sym (entry_counts facts has_room top top_is g lid e g_there owned)) first.wire
+      let way = on_way its_rule lmc facts no_wire_at_255 lid e owned g (entry_for held lid g) first.end
+      (sym (entry_counts by lmc facts has_room top top_is g lid e g_there owned)) first.wire
       (contains_at (switches its_cells) takes.first.to first.end.0 first.index) in
-      let on = on_way facts no_wire_at_255 lid e owned h (entry_for held lid h) second.end
-      (sym (entry_counts facts has_room top top_is h lid e h_there owned)) second.wire
+      let on = on_way its_rule lmc facts no_wire_at_255 lid e owned h (entry_for held lid h) second.end
+      (sym (entry_counts by lmc facts has_room top top_is h lid e h_there owned)) second.wire
       (contains_at (switches its_cells) takes.second.to second.end.0 second.index) in
       let t = way.home.0 in
       let same : on.home ≡ way.home = same_Some on.home way.home (sym on.home_is ∙ way.home_is) in
       let apart : (first.end.0 == t) ≡ false = (λ k. here k == (sym same k).0) ∙ on.apart in
-      let next = (λ k. (updown (graph_of its_cells)).next lid (here k) (sym same k).0) ∙ on.next in
-      let less = rises facts lid t (home_is_switch facts e way.home way.home_is) g (entry_for held lid g) (entry_for held lid h) first.end second.end
+      let next = (λ k. its_rule.next lid (here k) (sym same k).0) ∙ on.next in
+      let less = rises by facts lid t (home_is_switch facts e way.home way.home_is) g (entry_for held lid g) (entry_for held lid h) first.end second.end
       g_there way.apart apart way.next next first.wire (ap (λ x. across its_cells x (entry_for held lid h)) here ∙ second.wire) in
       let a_is : a ≡ 256 * w.switch + entry_for held lid g = takes.channel_is ∙ ap (λ p. 256 * w.switch + p) first.port_is in
       let b_is : b ≡ 256 * takes.first.to + entry_for held lid h = takes.next_is ∙ ap (λ p. 256 * takes.first.to + p) second.port_is in
-      let a_number = ap (λ c. slice_index_or (numbers its_cells) c 0) a_is
-      ∙ numbered its_cells w.switch (entry_for held lid g) g first.end at first.below first.wire in
-      let b_number = ap (λ c. slice_index_or (numbers its_cells) c 0) b_is
-      ∙ numbered its_cells takes.first.to (entry_for held lid h) h second.end at_next second.below second.wire
-      ∙ ap (λ x. channel_number (graph_of its_cells) x second.end.0) (sym here) in
+      let a_number = ap (λ c. slice_index_or (numbers its_rule its_cells) c 0) a_is
+      ∙ numbered its_rule its_cells w.switch (entry_for held lid g) g first.end at first.below first.wire in
+      let b_number = ap (λ c. slice_index_or (numbers its_rule its_cells) c 0) b_is
+      ∙ numbered its_rule its_cells takes.first.to (entry_for held lid h) h second.end at_next second.below second.wire
+      ∙ ap (λ x. its_rule.channel x second.end.0) (sym here) in
       omega (arith, less, a_number, b_number)
 
-as_many : (cells : Cells) → length (numbers cells) ≡ 256 * length (switches cells)
-as_many cells = length-map-range_with_len (number_of cells) 0 (256 * length (switches cells))
+as_many : (rule : Routing) (cells : Cells) → length (numbers rule cells) ≡ 256 * length (switches cells)
+as_many rule cells = length-map-range_with_len (number_of rule cells) 0 (256 * length (switches cells))
 
-pub plans_rise : (facts : Facts) → AreInRange facts → ¬ (IsNoRoom 0 (cells_of facts)) → CanRise (cells_of facts) (held_plan (plan_of up_and_down 0 (cells_of facts)))
-plans_rise facts range has_room =
+pub plans_rise : (rule : RuleValue) (lmc : ℕ) (facts : Facts) → AreInRange facts → ¬ (IsNoRoom lmc (cells_of facts))
+    → CanRise (cells_of facts) (held_plan (plan_of rule lmc (cells_of facts)))
+plans_rise by lmc facts range has_room =
     let cells = cells_of facts in
+    let rule = routing_by by cells in
     let told : Option ℕ → HeldPlan = λ o.
-    option_map_or (λ top. made cells top) o nothing_held in
-    elim (top_of (lids 0 cells)) as (λ o. top_of (lids 0 cells) ≡ o → CanRise cells (told o)) [
-      | None ↦ λ e. (numbers cells, record { as_many = as_many cells; rises = λ a b w. absurd (contains_none w.line w.is_held) })
-      | Some top ↦ λ e. (numbers cells, record { as_many = as_many cells; rises = rise_in_turn facts range has_room top e })
+    option_map_or (λ top. made by lmc cells top) o nothing_held in
+    elim (top_of (lids lmc cells)) as (λ o. top_of (lids lmc cells) ≡ o → CanRise cells (told o)) [
+      | None ↦ λ e. (numbers rule cells, record { as_many = as_many rule cells; rises = λ a b w. absurd (contains_none w.line w.is_held) })
+      | Some top ↦ λ e. (numbers rule cells, record { as_many = as_many rule cells; rises = rise_in_turn by lmc facts range has_room top e })
     ] refl

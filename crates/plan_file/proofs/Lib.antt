@@ -1,6 +1,9 @@
 pub mod BareGuids
 pub mod Folds
 pub mod LinesPrinted
+pub mod Lists
+pub mod NextPorts
+pub mod OwnedLids
 pub mod Passes
 pub mod PlanRanges
 pub mod Printed

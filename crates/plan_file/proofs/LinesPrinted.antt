@@ -1,11 +1,11 @@
 -- The lines of a plan's text pass, and say what they were printed from.
-use Rattle.std.proofs.Common.{◌≡◌, ℕ, ◌+◌, ◌<◌, ◌≤◌, ◌^◌, true, false, ltb, List, [], ◌∷◌, ◌++◌, Option, None, Some, Ok, refl, sym, subst, arith, append_assoc}
+use Rattle.std.proofs.Common.{◌≡◌, ℕ, zero, suc, ◌+◌, ◌<◌, ◌≤◌, ◌^◌, true, false, ltb, List, [], ◌∷◌, ◌++◌, Option, None, Some, Ok, refl, sym, subst, arith, append_assoc}
 use Rattle.std.specs.Prelude.{codes, decimal}
 use Rattle.std.specs.List.{AllByRecursion}
 use Rattle.hex.specs.Hex.{encode_lower}
 use Rattle.smp_bytes.specs.Text.{guid_text, port_text}
 use Rattle.subnet_view.specs.declared.end_port.EndPort.{EndPort}
-use Rattle.lft_blocks.specs.PlanText.{lid_line, switch_line, block_line}
+use Rattle.lft_blocks.specs.PlanText.{lid_line, lmc_text, switch_line, block_line}
 use Rattle.text_words.specs.Printed.{line_text}
 use Rattle.text_words.proofs.Digits.{is_below}
 use Rattle.text_words.proofs.NumbersPrinted.{count_is_read, guid_is_read}
@@ -15,9 +15,10 @@ use Rattle.plan_file.specs.declared.item.Item.TheVariants.{Lid, Switch, Block}
 use Rattle.plan_file.specs.declared.judge.Place.{Place}
 use Rattle.plan_file.specs.declared.held.HeldLid.{HeldLid}
 use Rattle.plan_file.specs.declared.held.HeldSwitch.{HeldSwitch}
-use Rattle.plan_file.specs.Line.{line_in}
+use Rattle.plan_file.specs.Held.{LidRange}
+use Rattle.plan_file.specs.Line.{line_in, lmc_line}
 use Rattle.plan_file.specs.Printed.{IsBlock}
-use Rattle.plan_file.specs.Reading.{place_after, item_of, lid_after, switch_after, block_with}
+use Rattle.plan_file.specs.Reading.{place_after, item_of, lid_after, lid_in_room, switch_after, block_with}
 use Rattle.plan_file.proofs.Passes.{Passes, passes_line}
 use Rattle.plan_file.proofs.WordsPrinted.{guid_is_word, port_is_word, small_is_read, port_is_read, entries_are_word, entries_are_read}
 
@@ -41,37 +42,68 @@ joined a b c = simp append_assoc
 joined_four : (a b c d : List ℕ) → (((a ++ 32 ∷ []) ++ b) ++ 32 ∷ (c ++ 32 ∷ [])) ++ d ++ 10 ∷ [] ≡ (a ++ 32 ∷ (b ++ 32 ∷ (c ++ 32 ∷ d))) ++ 10 ∷ []
 joined_four a b c d = simp append_assoc
 
--- and nothing behind the last of them
+-- and nothing behind the last of them, or two words more
 joined_alone : (a b c : List ℕ) → (((a ++ 32 ∷ []) ++ b) ++ 32 ∷ []) ++ c ++ [] ++ 10 ∷ [] ≡ (a ++ 32 ∷ (b ++ 32 ∷ c)) ++ 10 ∷ []
 joined_alone a b c = simp append_assoc
 
--- the line of a LID
-abbrev lid_words : ℕ → EndPort → List (List ℕ)
-lid_words lid e = codes "lid" ∷ decimal lid ∷ port_text e.node e.port ∷ []
+joined_five : (a b c d e : List ℕ) → (((a ++ 32 ∷ []) ++ b) ++ 32 ∷ []) ++ c ++ (32 ∷ (d ++ 32 ∷ []) ++ e) ++ 10 ∷ []
+    ≡ (a ++ 32 ∷ (b ++ 32 ∷ (c ++ 32 ∷ (d ++ 32 ∷ e)))) ++ 10 ∷ []
+joined_five a b c d e = simp append_assoc
 
-lid_words_are : (lid : ℕ) (e : EndPort) → lid ≤ 0xBFFF → e.port ≤ 254 → AllByRecursion IsWord (lid_words lid e)
-lid_words_are lid e most port =
-    (record { some = omega arith; on = refl; plain = refl }, (decimal_word lid (omega arith), (port_is_word e.node e.port port, tt)))
+-- the words of an LMC
+abbrev lmc_words : ℕ → List (List ℕ)
+lmc_words zero = []
+lmc_words (suc n) = codes "lmc" ∷ decimal (suc n) ∷ []
 
-lid_text : (lid : ℕ) (e : EndPort) → lid_line (lid, 0, e) ≡ line_text (lid_words lid e) ++ 10 ∷ []
-lid_text lid e = joined_alone (codes "lid") (decimal lid) (port_text e.node e.port)
+lmc_words_are : (lmc : ℕ) → lmc ≤ 7 → AllByRecursion IsWord (lmc_words lmc)
+lmc_words_are zero small = tt
+lmc_words_are (suc n) small = (record { some = omega arith; on = refl; plain = refl }, (decimal_word (suc n) (omega arith), tt))
 
-lid_follows : (number : ℕ) (last : Option HeldLid) (held : HeldLid) → IsBelow last held.lid → lid_after number last held ≡ Ok (Lid held)
-lid_follows number None held below = refl
-lid_follows number (Some last) held below = rw (not_below held.lid last.lid (omega arith), is_below last.lid held.lid below) refl
+lmc_is_read : (lmc : ℕ) → lmc ≤ 7 → lmc_line (lmc_words lmc) ≡ Some (Some lmc)
+lmc_is_read zero small = refl
+lmc_is_read (suc n) small = small_is_read 7 (suc n) (omega arith) small
 
-lid_is_said : (number : ℕ) (place : Place) (lid : ℕ) (e : EndPort) → 1 ≤ lid → lid ≤ 0xBFFF → e.node < 2 ^ 64 → e.port ≤ 254 → IsBelow place.lid lid
-    → item_of number place (line_in (lid_words lid e)) ≡ Ok (Lid (record { lid = lid; port = e }))
-lid_is_said number place lid e some most node port below =
-    rw (count_is_read 0xBFFF lid (omega arith) some most, port_is_read e.node e.port node port) (lid_follows number place.lid (record { lid = lid; port = e }) below)
+-- the line of an end port's LIDs
+abbrev lid_words : LidRange → List (List ℕ)
+lid_words r = codes "lid" ∷ decimal r.first.lid ∷ port_text r.first.port.node r.first.port.port ∷ lmc_words r.lmc
 
-pub lid_passes : (place : Place) (lid : ℕ) (e : EndPort) → 1 ≤ lid → lid ≤ 0xBFFF → e.node < 2 ^ 64 → e.port ≤ 254 → IsBelow place.lid lid
-    → Passes place (lid_line (lid, 0, e)) (Lid (record { lid = lid; port = e }) ∷ []) (place_after place (Lid (record { lid = lid; port = e })))
-lid_passes place lid e some most node port below =
-    let held : HeldLid = record { lid = lid; port = e } in
-    let P : List ℕ → Type 0 = λ t. Passes place t (Lid held ∷ []) (place_after place (Lid held)) in
-    subst P (sym (lid_text lid e))
-    (passes_line place (lid_words lid e) (Lid held) (lid_words_are lid e most port) (λ number. lid_is_said number place lid e some most node port below))
+lid_words_are : (r : LidRange) → r.first.lid ≤ 0xBFFF → r.first.port.port ≤ 254 → r.lmc ≤ 7 → AllByRecursion IsWord (lid_words r)
+lid_words_are r most port small = (
+  record { some = omega arith; on = refl; plain = refl },
+  (decimal_word r.first.lid (omega arith), (port_is_word r.first.port.node r.first.port.port port, lmc_words_are r.lmc small)),
+)
+
+lid_text : (lid lmc : ℕ) (e : EndPort) → lid_line (lid, lmc, e) ≡ line_text (lid_words (record { first = record { lid = lid; port = e }; lmc = lmc })) ++ 10 ∷ []
+lid_text lid zero e = joined_alone (codes "lid") (decimal lid) (port_text e.node e.port)
+lid_text lid (suc n) e = joined_five (codes "lid") (decimal lid) (port_text e.node e.port) (codes "lmc") (decimal (suc n))
+
+lid_follows : (number : ℕ) (last : Option HeldLid) (r : LidRange) → IsBelow last r.first.lid → lid_after number last r ≡ Ok (Lid r)
+lid_follows number None r below = refl
+lid_follows number (Some last) r below = rw (not_below r.first.lid last.lid (omega arith), is_below last.lid r.first.lid below) refl
+
+-- the numbers of an end port's LIDs are in their ranges
+pub record IsRangeRight (r : LidRange) : Type 0 where
+  pub some : 1 ≤ r.first.lid
+  pub most : r.first.lid ≤ 0xBFFF
+  pub node : r.first.port.node < 2 ^ 64
+  pub port : r.first.port.port ≤ 254
+  pub lmc : r.lmc ≤ 7
+  pub last : r.first.lid + 2 ^ r.lmc ≤ 0xC000
+
+lid_is_said : (number : ℕ) (place : Place) (r : LidRange) → IsRangeRight r → IsBelow place.lid r.first.lid
+    → item_of number place (line_in (lid_words r)) ≡ Ok (Lid r)
+lid_is_said number place r is below =
+    let e = r.first.port in
+    rw (count_is_read 0xBFFF r.first.lid (omega (arith, is.most)) is.some is.most, port_is_read e.node e.port is.node is.port, lmc_is_read r.lmc is.lmc,
+      not_below 0xC000 (r.first.lid + 2 ^ r.lmc) is.last)
+    (lid_follows number place.lid r below)
+
+pub lid_passes : (place : Place) (r : LidRange) → IsRangeRight r → IsBelow place.lid r.first.lid
+    → Passes place (lid_line (r.first.lid, r.lmc, r.first.port)) (Lid r ∷ []) (place_after place (Lid r))
+lid_passes place r is below =
+    let P : List ℕ → Type 0 = λ t. Passes place t (Lid r ∷ []) (place_after place (Lid r)) in
+    subst P (sym (lid_text r.first.lid r.lmc r.first.port))
+    (passes_line place (lid_words r) (Lid r) (lid_words_are r is.most is.port is.lmc) (λ number. lid_is_said number place r is below))
 
 -- the line of a switch
 abbrev switch_words : ℕ → ℕ → List (List ℕ)

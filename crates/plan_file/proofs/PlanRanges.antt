@@ -1,10 +1,10 @@
 -- The numbers of the plan of a view are in their ranges.
 use Rattle.std.proofs.Common.{◌≡◌, ℕ, zero, suc, ◌+◌, ◌*◌, ◌<◌, ◌≤◌, ◌^◌, Bool, true, false, cond, List, [], ◌∷◌, length, get_or, Option, None, Some, refl, sym, ap, ◌∙◌, subst, arith, inl, inr}
-use Rattle.std.specs.Prelude.{map, Contains, MatchOption, MatchBool, unwrap_or, option_and_then, slice_index, nat_le, ◌==◌, ◌&&◌, is_some}
+use Rattle.std.specs.Prelude.{map, Contains, MatchBool, unwrap_or, option_and_then, slice_index, nat_le, ◌==◌, ◌&&◌, is_some}
 use Rattle.std.specs.Option.{option_map_or}
 use Rattle.std.specs.List.{AllByRecursion, range_with_len}
 use Rattle.std.specs.FinMap.{find}
-use Rattle.std.proofs.lemmas.Bool.{and_parts, cases_lt, ltb-true, leb-true}
+use Rattle.std.proofs.lemmas.Bool.{and_parts, cases_lt, eqb-false, eqb-true, false_from_ne_true, ltb-true, leb-true}
 use Rattle.std.proofs.lemmas.List.FromFn.{length-map-range_with_len, get_or-map-range_with_len}
 use Rattle.fact_join.specs.declared.cell.Cell.{Cell}
 use Rattle.fact_join.specs.declared.cell.Cell.TheVariants.{Known, Disputed}
@@ -22,7 +22,7 @@ use Rattle.smp_bytes.specs.NodeType.{is_switch}
 use Rattle.subnet_view.specs.declared.end_port.EndPort.{EndPort}
 use Rattle.subnet_view.specs.Reading.{Cells, node_of, port_count_of, switches}
 use Rattle.subnet_view.specs.Wires.{across, attached}
-use Rattle.subnet_view.proofs.Members.{contains_here, contains_later, contains-from_filter}
+use Rattle.subnet_view.proofs.Members.{contains_here, contains_later}
 use Rattle.subnet_view.proofs.Taken.{found_in}
 use Rattle.subnet_view.proofs.WireLaws.{wire_law}
 use Rattle.std.proofs.lemmas.Option.{same_Some}
@@ -43,16 +43,14 @@ use Rattle.subnet_view.proofs.EndPortList.{end_ports_law}
 use Rattle.subnet_view.proofs.UsableSwitches.{switches_law}
 use Rattle.lft_blocks.specs.Plan.{tables_of, plan_of}
 use Rattle.port_graph.specs.declared.exit.Exit.{Exit}
-use Rattle.port_graph.specs.Routes.{IsNextPort}
-use Rattle.updown_routes.specs.Graph.{graph_of, guids_of, exits_at}
-use Rattle.updown_routes.specs.Ranks.{slopes_of, is_before}
-use Rattle.updown_routes.specs.Routing.{updown}
-use Rattle.spread_rule.specs.Rules.{up_and_down}
-use Rattle.updown_routes.proofs.Before.{ups_filter, downs_filter}
-use Rattle.updown_routes.proofs.Graphs.{exit_is_wire, graph_law}
-use Rattle.updown_routes.proofs.NextPorts.{next_port_law}
+use Rattle.updown_routes.specs.Graph.{graph_of, exits_at}
+use Rattle.updown_routes.specs.GraphLaws.{IsSwitch}
+use Rattle.spread_rule.specs.Rules.{RuleValue, routing_by}
+use Rattle.updown_routes.proofs.Graphs.{exit_is_wire}
 use Rattle.updown_routes.proofs.Switches.{graph_guids, switches_rise}
 use Rattle.lft_blocks.specs.Entries.{home_of, home_of_lid, port_to, entry, block, block_count}
+use Rattle.lft_blocks.proofs.HomeSwitches.{home_is_switch}
+use Rattle.plan_file.proofs.NextPorts.{next_is_exit}
 use Rattle.plan_file.specs.Printed.{IsLidInRange, IsBlock, IsTableInRange, IsPlanInRange}
 
 -- of all elements
@@ -129,146 +127,142 @@ module _ (facts : Facts) (range : AreInRange facts) where
   exit_small : (s : ℕ) (x : Exit) → Contains (exits_at (graph_of cells) s) x → x.port ≤ 254
   exit_small s x there = let is = exit_is_wire cells s x there in (wire_small s x.port x.to is.end_port is.wire).0
 
-  next_small : (lid s t p : ℕ) → Contains (switches cells) s → (updown (graph_of cells)).next lid s t ≡ Some p → p ≤ 254
-  next_small lid s t p there e =
-      let graph = graph_of cells in
-      let switch : Contains (guids_of graph) s = subst (λ (xs : List ℕ). Contains xs s) (sym (graph_guids cells)) there in
-      let law = next_port_law graph (graph_law facts) s t switch in
-      let is : IsNextPort (slopes_of graph) s t p =
-      subst (λ (o : Option ℕ). MatchOption o ((q : ℕ) → IsNextPort (slopes_of graph) s t q → ⊥) (IsNextPort (slopes_of graph) s t)) e law in
-      elim is.1 [
-        | inl down ↦
-            let x : Exit = record { port = p; to = down.to } in
-            exit_small s x (contains-from_filter (λ y. is_before graph s y.to) (exits_at graph s) x
-            (subst (λ (xs : List Exit). Contains xs x) (downs_filter graph graph s) down.wire)).0
-        | inr up ↦
-            let x : Exit = record { port = p; to = up.to } in
-            exit_small s x (contains-from_filter (λ y. is_before graph y.to s) (exits_at graph s) x
-            (subst (λ (xs : List Exit). Contains xs x) (ups_filter graph graph s) up.wire)).0
-      ]
+  -- under a rule and an LMC
+  module _ (rule : RuleValue) (lmc : ℕ) where
+    abbrev next : ℕ → ℕ → ℕ → Option ℕ
+    next = (routing_by rule cells).next
 
-  -- entries
-  abbrev next : ℕ → ℕ → ℕ → Option ℕ
-  next = (updown (graph_of cells)).next
+    is_switch_of : (s : ℕ) → Contains (switches cells) s → IsSwitch (graph_of cells) s
+    is_switch_of s there = subst (λ (xs : List ℕ). Contains xs s) (sym (graph_guids cells)) there
 
-  next_or : (lid s t : ℕ) → Contains (switches cells) s → unwrap_or (next lid s t) 255 < 256
-  next_or lid s t there =
-      elim (next lid s t) as (λ o. next lid s t ≡ o → unwrap_or o 255 < 256) [
-        | None ↦ λ e. omega arith
-        | Some p ↦ λ e. let small = next_small lid s t p there e in omega arith
-      ] refl
-
-  entry_small : (s lid : ℕ) → Contains (switches cells) s → entry (home_of_lid cells (lids 0 cells)) next s lid < 256
-  entry_small s lid there =
-      elim (owner_of (lids 0 cells) lid) as (λ o. option_map_or (port_to next lid s) (option_and_then (home_of cells) o) 255 < 256) [
-        | None ↦ omega arith
-        | Some e ↦ (elim (home_of cells e) as (λ o. home_of cells e ≡ o → option_map_or (port_to next lid s) o 255 < 256) [
-          | None ↦ λ k. omega arith
-          | Some home ↦ λ k. by_switch home (home.0 == s) (home_small e home k)
-        ] refl)
-      ]
-    where
-      by_switch : (home : ℕ × ℕ) (t : Bool) → home.1 ≤ 254 → cond t home.1 (unwrap_or (next lid s home.0) 255) < 256
-      by_switch home true small = omega arith
-      by_switch home false small = next_or lid s home.0 there
-
-  -- blocks
-  block_at_most : (s b i : ℕ) → Contains (switches cells) s → slice_index (block (home_of_lid cells (lids 0 cells)) next s b) i < 256
-  block_at_most s b i there =
-      let f : ℕ → ℕ = λ j. entry (home_of_lid cells (lids 0 cells)) next s (64 * b + j) in
-      elim (cases_lt i 64) [
-        | inl less ↦ let at : get_or (map f (range_with_len 0 64)) i 0 ≡ f i = get_or-map-range_with_len f 0 64 i i 0 less (omega arith) in
-            let small = entry_small s (64 * b + i) there in omega arith
-        | inr more ↦ let at : get_or (map f (range_with_len 0 64)) i 0 ≡ 0 = past (map f (range_with_len 0 64)) i (omega (arith, length-map-range_with_len f 0 64)) in
-            omega arith
-      ]
-    where
-      past : (xs : List ℕ) (n : ℕ) → length xs ≤ n → get_or xs n 0 ≡ 0
-      past [] n h = refl
-      past (x ∷ xs) zero h = absurd (omega arith)
-      past (x ∷ xs) (suc n) h = past xs n (omega arith)
-
-  is_block : (s b : ℕ) → Contains (switches cells) s → IsBlock (block (home_of_lid cells (lids 0 cells)) next s b)
-  is_block s b there =
-      record { whole = length-map-range_with_len (λ j. entry (home_of_lid cells (lids 0 cells)) next s (64 * b + j)) 0 64; bytes = λ i. block_at_most s b i there }
-
-  all_blocks : (s : ℕ) (bs : List ℕ) → Contains (switches cells) s → AllByRecursion IsBlock (map (block (home_of_lid cells (lids 0 cells)) next s) bs)
-  all_blocks s [] there = tt
-  all_blocks s (b ∷ bs) there = (is_block s b there, all_blocks s bs there)
-
-  switch_small : (s : ℕ) → Contains (switches cells) s → s < 2 ^ 64
-  switch_small s there = let usable = ((switches_law facts).0 s).0 there in node_small s (ap is_some usable.1)
-
-  all_tables : (count : ℕ) (guids : List ℕ) → count ≤ 768 → ((s : ℕ) → Contains guids s → Contains (switches cells) s)
-      → AllByRecursion IsTableInRange (tables_of (home_of_lid cells (lids 0 cells)) next count guids)
-  all_tables count [] few in_all = tt
-  all_tables count (s ∷ guids) few in_all =
-      let there = in_all s (contains_here s guids) in (
-        record {
-          guid = switch_small s there;
-          blocks = all_blocks s (range_with_len 0 count) there;
-          few = omega (arith, length-map-range_with_len (block (home_of_lid cells (lids 0 cells)) next s) 0 count);
-        },
-        all_tables count guids few (λ x c. in_all x (contains_later s x guids c)),
-      )
-
-  guids_are : (count : ℕ) (guids : List ℕ) → map (λ t. t.guid) (tables_of (home_of_lid cells (lids 0 cells)) next count guids) ≡ guids
-  guids_are count [] = refl
-  guids_are count (s ∷ guids) = ap (λ gs. s ∷ gs) (guids_are count guids)
-
-  -- LIDs
-  module _ (has_room : ¬ (IsNoRoom 0 cells)) where
-    good : AreLids 0 cells (lids 0 cells).ports
-    good = lids_law 0 facts has_room
-
-    room_most : room cells ≤ 0xC000
-    room_most = at_most (filter_map (cap_of cells) (switches cells))
-
-    end_small : (e : EndPort) (n : ℕ) → Contains (lids 0 cells).ports (e, n) → (e.node < 2 ^ 64) × (e.port ≤ 254)
-    end_small e n there =
-        let listed = subst (λ (xs : List EndPort). Contains xs e) good.end_ports_in_order (contains_map (λ (x : EndPort × ℕ). x.0) (lids 0 cells).ports (e, n) there) in
-        let (kind, ports, known, number, guid) = ((end_ports_law facts).0 e).0 listed in
-        let count : port_count_of cells e.node ≡ ports = ap (λ o. option_map_or (λ x. x.1) o 0) known in (
-          node_small e.node (ap is_some known),
-          (elim (is_switch kind) as (λ t. MatchBool t (e.port ≡ 0) ((1 ≤ e.port) × (e.port ≤ ports)) → e.port ≤ 254) [
-            | true ↦ λ z. omega arith
-            | false ↦ λ m. omega (arith, m.1, count, count_small e.node)
-          ] number),
-        )
-
-    lid_range : (n : ℕ) → Contains (rising_lids (lids 0 cells)) n → IsLidInRange (lids 0 cells) n
-    lid_range n there =
-        let given = ((rising_lids_law (lids 0 cells)).0 n).0 there in
-        let within = good.each_fits given.0 n given.1 in
-        let below = room_most in
-        record {
-          some = within.not_0;
-          most = omega (arith, within.in_room, below, pow_pos (lmc_at 0 given.0));
-          node = λ e owned. let its = given-from_owner (lids 0 cells) e n owned in (end_small e its.0 its.1).0;
-          port = λ e owned. let its = given-from_owner (lids 0 cells) e n owned in (end_small e its.0 its.1).1;
-        }
-
-    top_most : (top : ℕ) → top_of (lids 0 cells) ≡ Some top → top ≤ 0xBFFF
-    top_most top e =
-        let less = top_below 0 (lids 0 cells).ports (room cells) top (λ x n there. (good.each_fits x n there).in_room) e in
-        let below = room_most in
-        omega arith
-
-    few_blocks : block_count (top_of (lids 0 cells)) ≤ 768
-    few_blocks =
-        elim (top_of (lids 0 cells)) as (λ o. top_of (lids 0 cells) ≡ o → block_count o ≤ 768) [
+    next_or : (lid s t : ℕ) → Contains (switches cells) s → Contains (switches cells) t → (s == t) ≡ false → unwrap_or (next lid s t) 255 < 256
+    next_or lid s t there others apart =
+        elim (next lid s t) as (λ o. next lid s t ≡ o → unwrap_or o 255 < 256) [
           | None ↦ λ e. omega arith
-          | Some top ↦ λ e. let most = top_most top e in omega arith
+          | Some p ↦ λ e.
+              let (x, is_exit, port) = next_is_exit rule facts lid s t p (is_switch_of s there) (is_switch_of t others) apart e in
+              let small = exit_small s x is_exit in
+              omega arith
         ] refl
 
-    in_range : IsPlanInRange (plan_of up_and_down 0 cells)
-    in_range = record {
-      lmc = refl;
-      lids = all_of (IsLidInRange (lids 0 cells)) (rising_lids (lids 0 cells)) lid_range;
-      top = top_most;
-      rising = subst IsStrictlyIncreasing (graph_guids cells ∙ sym (guids_are (block_count (top_of (lids 0 cells))) (switches cells))) (switches_rise facts);
-      tables = all_tables (block_count (top_of (lids 0 cells))) (switches cells) few_blocks (λ s there. there);
-    }
+    entry_small : (s lid : ℕ) → Contains (switches cells) s → entry (home_of_lid cells (lids lmc cells)) next s lid < 256
+    entry_small s lid there =
+        elim (owner_of (lids lmc cells) lid) as (λ o. option_map_or (port_to next lid s) (option_and_then (home_of cells) o) 255 < 256) [
+          | None ↦ omega arith
+          | Some e ↦ (elim (home_of cells e) as (λ o. home_of cells e ≡ o → option_map_or (port_to next lid s) o 255 < 256) [
+            | None ↦ λ k. omega arith
+            | Some home ↦ λ k. by_switch home (home.0 == s) refl (home_small e home k) (home_is_switch facts e home k)
+          ] refl)
+        ]
+      where
+        by_switch : (home : ℕ × ℕ) (t : Bool) → (home.0 == s) ≡ t → home.1 ≤ 254 → Contains (switches cells) home.0
+            → cond t home.1 (unwrap_or (next lid s home.0) 255) < 256
+        by_switch home true e small known = omega arith
+        by_switch home false e small known =
+            next_or lid s home.0 there known (false_from_ne_true (s == home.0) (λ k. eqb-false home.0 s e (sym (eqb-true s home.0 k))))
 
-pub plans_in_range : (facts : Facts) → AreInRange facts → ¬ (IsNoRoom 0 (cells_of facts)) → IsPlanInRange (plan_of up_and_down 0 (cells_of facts))
-plans_in_range facts range has_room = in_range facts range has_room
+    -- blocks
+    block_at_most : (s b i : ℕ) → Contains (switches cells) s → slice_index (block (home_of_lid cells (lids lmc cells)) next s b) i < 256
+    block_at_most s b i there =
+        let f : ℕ → ℕ = λ j. entry (home_of_lid cells (lids lmc cells)) next s (64 * b + j) in
+        elim (cases_lt i 64) [
+          | inl less ↦ let at : get_or (map f (range_with_len 0 64)) i 0 ≡ f i = get_or-map-range_with_len f 0 64 i i 0 less (omega arith) in
+              let small = entry_small s (64 * b + i) there in omega arith
+          | inr more ↦ let at : get_or (map f (range_with_len 0 64)) i 0 ≡ 0 = past (map f (range_with_len 0 64)) i (omega (arith, length-map-range_with_len f 0 64)) in
+              omega arith
+        ]
+      where
+        past : (xs : List ℕ) (n : ℕ) → length xs ≤ n → get_or xs n 0 ≡ 0
+        past [] n h = refl
+        past (x ∷ xs) zero h = absurd (omega arith)
+        past (x ∷ xs) (suc n) h = past xs n (omega arith)
+
+    is_block : (s b : ℕ) → Contains (switches cells) s → IsBlock (block (home_of_lid cells (lids lmc cells)) next s b)
+    is_block s b there =
+        record { whole = length-map-range_with_len (λ j. entry (home_of_lid cells (lids lmc cells)) next s (64 * b + j)) 0 64; bytes = λ i. block_at_most s b i there }
+
+    all_blocks : (s : ℕ) (bs : List ℕ) → Contains (switches cells) s → AllByRecursion IsBlock (map (block (home_of_lid cells (lids lmc cells)) next s) bs)
+    all_blocks s [] there = tt
+    all_blocks s (b ∷ bs) there = (is_block s b there, all_blocks s bs there)
+
+    switch_small : (s : ℕ) → Contains (switches cells) s → s < 2 ^ 64
+    switch_small s there = let usable = ((switches_law facts).0 s).0 there in node_small s (ap is_some usable.1)
+
+    all_tables : (count : ℕ) (guids : List ℕ) → count ≤ 768 → ((s : ℕ) → Contains guids s → Contains (switches cells) s)
+        → AllByRecursion IsTableInRange (tables_of (home_of_lid cells (lids lmc cells)) next count guids)
+    all_tables count [] few in_all = tt
+    all_tables count (s ∷ guids) few in_all =
+        let there = in_all s (contains_here s guids) in (
+          record {
+            guid = switch_small s there;
+            blocks = all_blocks s (range_with_len 0 count) there;
+            few = omega (arith, length-map-range_with_len (block (home_of_lid cells (lids lmc cells)) next s) 0 count);
+          },
+          all_tables count guids few (λ x c. in_all x (contains_later s x guids c)),
+        )
+
+    guids_are : (count : ℕ) (guids : List ℕ) → map (λ t. t.guid) (tables_of (home_of_lid cells (lids lmc cells)) next count guids) ≡ guids
+    guids_are count [] = refl
+    guids_are count (s ∷ guids) = ap (λ gs. s ∷ gs) (guids_are count guids)
+
+    -- LIDs
+    module _ (has_room : ¬ (IsNoRoom lmc cells)) where
+      good : AreLids lmc cells (lids lmc cells).ports
+      good = lids_law lmc facts has_room
+
+      room_most : room cells ≤ 0xC000
+      room_most = at_most (filter_map (cap_of cells) (switches cells))
+
+      end_small : (e : EndPort) (n : ℕ) → Contains (lids lmc cells).ports (e, n) → (e.node < 2 ^ 64) × (e.port ≤ 254)
+      end_small e n there =
+          let listed = subst (λ (xs : List EndPort). Contains xs e) good.end_ports_in_order (contains_map (λ (x : EndPort × ℕ). x.0) (lids lmc cells).ports (e, n) there) in
+          let (kind, ports, known, number, guid) = ((end_ports_law facts).0 e).0 listed in
+          let count : port_count_of cells e.node ≡ ports = ap (λ o. option_map_or (λ x. x.1) o 0) known in (
+            node_small e.node (ap is_some known),
+            (elim (is_switch kind) as (λ t. MatchBool t (e.port ≡ 0) ((1 ≤ e.port) × (e.port ≤ ports)) → e.port ≤ 254) [
+              | true ↦ λ z. omega arith
+              | false ↦ λ m. omega (arith, m.1, count, count_small e.node)
+            ] number),
+          )
+
+      lid_range : (n : ℕ) → Contains (rising_lids (lids lmc cells)) n → IsLidInRange (lids lmc cells) n
+      lid_range n there =
+          let given = ((rising_lids_law (lids lmc cells)).0 n).0 there in
+          let within = good.each_fits given.0 n given.1 in
+          let below = room_most in
+          record {
+            some = within.not_0;
+            most = omega (arith, within.in_room, below, pow_pos (lmc_at lmc given.0));
+            node = λ e owned. let its = given-from_owner (lids lmc cells) e n owned in (end_small e its.0 its.1).0;
+            port = λ e owned. let its = given-from_owner (lids lmc cells) e n owned in (end_small e its.0 its.1).1;
+            last = λ e owned.
+                let its = given-from_owner (lids lmc cells) e n owned in
+                let same : e ≡ given.0 = good.apart e given.0 its.0 n n its.1 given.1 (its.2, (omega arith, omega (arith, pow_pos (lmc_at lmc given.0)))) in
+                subst (λ (x : EndPort). n + 2 ^ lmc_at lmc x ≤ 0xC000) (sym same) (omega (arith, within.in_room, below));
+          }
+
+      top_most : (top : ℕ) → top_of (lids lmc cells) ≡ Some top → top ≤ 0xBFFF
+      top_most top e =
+          let less = top_below lmc (lids lmc cells).ports (room cells) top (λ x n there. (good.each_fits x n there).in_room) e in
+          let below = room_most in
+          omega arith
+
+      few_blocks : block_count (top_of (lids lmc cells)) ≤ 768
+      few_blocks =
+          elim (top_of (lids lmc cells)) as (λ o. top_of (lids lmc cells) ≡ o → block_count o ≤ 768) [
+            | None ↦ λ e. omega arith
+            | Some top ↦ λ e. let most = top_most top e in omega arith
+          ] refl
+
+      in_range : lmc ≤ 7 → IsPlanInRange (plan_of rule lmc cells)
+      in_range small = record {
+        lmc = small;
+        lids = all_of (IsLidInRange (lids lmc cells)) (rising_lids (lids lmc cells)) lid_range;
+        top = top_most;
+        rising = subst IsStrictlyIncreasing (graph_guids cells ∙ sym (guids_are (block_count (top_of (lids lmc cells))) (switches cells))) (switches_rise facts);
+        tables = all_tables (block_count (top_of (lids lmc cells))) (switches cells) few_blocks (λ s there. there);
+      }
+
+pub plans_in_range : (rule : RuleValue) (lmc : ℕ) (facts : Facts) → lmc ≤ 7 → AreInRange facts → ¬ (IsNoRoom lmc (cells_of facts))
+    → IsPlanInRange (plan_of rule lmc (cells_of facts))
+plans_in_range rule lmc facts small range has_room = in_range facts range rule lmc has_room small

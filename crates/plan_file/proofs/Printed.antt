@@ -18,10 +18,10 @@ use Rattle.plan_file.specs.declared.held.HeldBlock.{HeldBlock}
 use Rattle.plan_file.specs.declared.item.Item.{Item}
 use Rattle.plan_file.specs.declared.item.Item.TheVariants.{Lid, Switch, Block}
 use Rattle.plan_file.specs.declared.judge.Place.{Place}
-use Rattle.plan_file.specs.Held.{HeldPlan, nothing_held}
-use Rattle.plan_file.specs.Printed.{owned_lid, blocks_from, blocks_of, with_top, held_plan, IsLidInRange, IsBlock, IsTableInRange, IsPlanInRange, PrintedPlansAreRead}
+use Rattle.plan_file.specs.Held.{HeldPlan, LidRange, lids_of, nothing_held}
+use Rattle.plan_file.specs.Printed.{range_from, owned_range, owned_lids, blocks_from, blocks_of, with_top, held_plan, IsLidInRange, IsBlock, IsTableInRange, IsPlanInRange, PrintedPlansAreRead}
 use Rattle.plan_file.specs.Reading.{start, place_after, first_fault_from, items_from, held_with, held_by, first_fault, held_of}
-use Rattle.plan_file.proofs.LinesPrinted.{IsBelow, IsBeforeSwitch, lid_passes, switch_passes, block_passes}
+use Rattle.plan_file.proofs.LinesPrinted.{IsBelow, IsBeforeSwitch, IsRangeRight, lid_passes, switch_passes, block_passes}
 use Rattle.plan_file.proofs.Passes.{Passes, passes_none, passes_then}
 
 -- numbers that rise from above another
@@ -57,30 +57,41 @@ record LidsPass (place : Place) (text : List ℕ) (items : List Item) : Type 0 w
   last : Option HeldLid
   passes : Passes place text items (record place { lid = last })
 
--- with LMC 0 each end port has it
-no_lmc : (given : Given) (e : EndPort) → given.lmc ≡ 0 → lmc_of given e ≡ 0
-no_lmc given e none = cond_both (e.port == 0) 0 given.lmc (λ n. n ≡ 0) (λ _. refl) (λ _. none)
+-- an end port's LMC is at most the subnet's
+small_lmc : (given : Given) (e : EndPort) → given.lmc ≤ 7 → lmc_of given e ≤ 7
+small_lmc given e small = cond_both (e.port == 0) 0 given.lmc (λ n. n ≤ 7) (λ _. omega arith) (λ _. small)
 
-owner_passes : (given : Given) (place : Place) (low n : ℕ) (owner : Option EndPort) (text : List ℕ) (held : List HeldLid)
-    → given.lmc ≡ 0 → owner_of given n ≡ owner → IsLidInRange given n → IsUpTo place.lid low → low < n
+owner_passes : (given : Given) (place : Place) (low n : ℕ) (owner : Option EndPort) (text : List ℕ) (held : List LidRange)
+    → given.lmc ≤ 7 → owner_of given n ≡ owner → IsLidInRange given n → IsUpTo place.lid low → low < n
     → ((p : Place) → IsUpTo p.lid n → LidsPass p text (map Lid held))
     → LidsPass place (option_map_or (λ port. lid_line (n, lmc_of given port, port)) owner [] ++ text)
-    (map Lid (cons_option (option_map (λ port. record { lid = n; port = port }) owner) held))
-owner_passes given place low n None text held none e range is above later = later place (up_to_more place.lid low n above is)
-owner_passes given place low n (Some port) text held none e range is above later =
-    let here : HeldLid = record { lid = n; port = port } in
+    (map Lid (cons_option (option_map (range_from given n) owner) held))
+owner_passes given place low n None text held small e range is above later = later place (up_to_more place.lid low n above is)
+owner_passes given place low n (Some port) text held small e range is above later =
+    let here = range_from given n port in
     let next : Place = place_after place (Lid here) in
     let rest = later next (omega arith) in
-    let first : Passes place (lid_line (n, lmc_of given port, port)) (Lid here ∷ []) next =
-    subst (λ (m : ℕ). Passes place (lid_line (n, m, port)) (Lid here ∷ []) next) (sym (no_lmc given port none)) (lid_passes place n port range.some range.most (range.node port e) (range.port port e) (is_below place.lid low n above is)) in
-    record { last = rest.last; passes = passes_then place next (record place { lid = rest.last }) (lid_line (n, lmc_of given port, port)) text (Lid here ∷ []) (map Lid held) first rest.passes }
+    let right : IsRangeRight here = record {
+      some = range.some;
+      most = range.most;
+      node = range.node port e;
+      port = range.port port e;
+      lmc = small_lmc given port small;
+      last = range.last port e;
+    } in
+    let first = lid_passes place here right (is_below place.lid low n above is) in
+    let behind : Place = record place { lid = rest.last } in
+    record {
+      last = rest.last;
+      passes = passes_then place next behind (lid_line (n, lmc_of given port, port)) text (Lid here ∷ []) (map Lid held) first rest.passes;
+    }
 
-lids_pass : (given : Given) (place : Place) (low : ℕ) (ns : List ℕ) → given.lmc ≡ 0 → AllByRecursion (IsLidInRange given) ns → IsUpTo place.lid low → Rises low ns
-    → LidsPass place (flat_map (owner_line given) ns) (map Lid (filter_map (owned_lid given) ns))
-lids_pass given place low [] none range is rises = record { last = place.lid; passes = passes_none place }
-lids_pass given place low (n ∷ ns) none range is rises =
-    owner_passes given place low n (owner_of given n) (flat_map (owner_line given) ns) (filter_map (owned_lid given) ns) none refl range.0 is rises.0
-    (λ p h. lids_pass given p n ns none range.1 h rises.1)
+lids_pass : (given : Given) (place : Place) (low : ℕ) (ns : List ℕ) → given.lmc ≤ 7 → AllByRecursion (IsLidInRange given) ns → IsUpTo place.lid low → Rises low ns
+    → LidsPass place (flat_map (owner_line given) ns) (map Lid (filter_map (owned_range given) ns))
+lids_pass given place low [] small range is rises = record { last = place.lid; passes = passes_none place }
+lids_pass given place low (n ∷ ns) small range is rises =
+    owner_passes given place low n (owner_of given n) (flat_map (owner_line given) ns) (filter_map (owned_range given) ns) small refl range.0 is rises.0
+    (λ p h. lids_pass given p n ns small range.1 h rises.1)
 
 -- the blocks of a switch
 abbrev block_item : ℕ × List ℕ → Item
@@ -149,10 +160,10 @@ held_append : (h : HeldPlan) (is js : List Item) → held_by h (is ++ js) ≡ he
 held_append h [] js = refl
 held_append h (i ∷ is) js = held_append (held_with h i) is js
 
-held_lids : (h : HeldPlan) (ls : List HeldLid) → held_by h (map Lid ls) ≡ record h { lids = h.lids ++ ls }
+held_lids : (h : HeldPlan) (rs : List LidRange) → held_by h (map Lid rs) ≡ record h { lids = h.lids ++ flat_map lids_of rs }
 held_lids h [] = ap (λ ls. record h { lids = ls }) (sym (append-nil h.lids))
-held_lids h (l ∷ ls) =
-    held_lids (record h { lids = h.lids ++ l ∷ [] }) ls ∙ ap (λ xs. record h { lids = xs }) (append_assoc h.lids (l ∷ []) ls)
+held_lids h (r ∷ rs) =
+    held_lids (record h { lids = h.lids ++ lids_of r }) rs ∙ ap (λ xs. record h { lids = xs }) (append_assoc h.lids (lids_of r) (flat_map lids_of rs))
 
 abbrev at_switch : ℕ → ℕ × List ℕ → HeldBlock
 at_switch place x = record { switch = place; number = x.0; entries = x.1 }
@@ -196,7 +207,7 @@ held_tables h top (table ∷ tables) =
 
 -- all of it
 abbrev plan_items : ℕ → PlanValue → List Item
-plan_items top plan = map Lid (filter_map (owned_lid plan.given) (rising_lids plan.given)) ++ flat_map (table_items top) plan.tables
+plan_items top plan = map Lid (filter_map (owned_range plan.given) (rising_lids plan.given)) ++ flat_map (table_items top) plan.tables
 
 above_zero : (given : Given) (ns : List ℕ) (k : ℕ) → AllByRecursion (IsLidInRange given) ns → k < length ns → 0 < get_or ns k 0
 above_zero given [] k all h = absurd (omega arith)
@@ -213,7 +224,7 @@ whole_passes plan top range most =
     let tables = tables_pass middle top plan.tables most range.tables (follow plan.tables range.rising) in (
       tables.after,
       passes_then start middle tables.after (lids_text given) (flat_map (table_text top) plan.tables)
-          (map Lid (filter_map (owned_lid given) (rising_lids given))) (flat_map (table_items top) plan.tables) lids.passes tables.passes,
+          (map Lid (filter_map (owned_range given) (rising_lids given))) (flat_map (table_items top) plan.tables) lids.passes tables.passes,
     )
 
 -- a text that passes is read to its end
@@ -228,12 +239,12 @@ all_passes text items after h =
     )
 
 held_whole : (plan : PlanValue) (top : ℕ) → held_by nothing_held (plan_items top plan)
-    ≡ record { lids = filter_map (owned_lid plan.given) (rising_lids plan.given); switches = map (with_top top) plan.tables; blocks = blocks_of 0 plan.tables }
+    ≡ record { lids = owned_lids plan.given; switches = map (with_top top) plan.tables; blocks = blocks_of 0 plan.tables }
 held_whole plan top =
-    let lids = filter_map (owned_lid plan.given) (rising_lids plan.given) in
-    held_append nothing_held (map Lid lids) (flat_map (table_items top) plan.tables)
-    ∙ ap (λ h. held_by h (flat_map (table_items top) plan.tables)) (held_lids nothing_held lids)
-    ∙ held_tables (record { lids = lids; switches = []; blocks = [] }) top plan.tables
+    let ranges = filter_map (owned_range plan.given) (rising_lids plan.given) in
+    held_append nothing_held (map Lid ranges) (flat_map (table_items top) plan.tables)
+    ∙ ap (λ h. held_by h (flat_map (table_items top) plan.tables)) (held_lids nothing_held ranges)
+    ∙ held_tables (record { lids = owned_lids plan.given; switches = []; blocks = [] }) top plan.tables
 
 read_with_top : (plan : PlanValue) (top : ℕ) → top_of plan.given ≡ Some top → IsPlanInRange plan
     → (first_fault (plan_text plan) ≡ None) × (held_of (plan_text plan) ≡ held_plan plan)

@@ -1,5 +1,6 @@
 -- What a plan's text says: who holds which LID, and the forwarding tables of switches.
-use Rattle.std.specs.Prelude.{List, []}
+use Rattle.std.specs.Prelude.{ℕ, ◌+◌, ◌^◌, List, [], map}
+use Rattle.std.specs.List.{range_with_len}
 use Rattle.plan_file.specs.declared.held.HeldLid.{HeldLid}
 use Rattle.plan_file.specs.declared.held.HeldSwitch.{HeldSwitch}
 use Rattle.plan_file.specs.declared.held.HeldBlock.{HeldBlock}
@@ -12,3 +13,15 @@ pub record HeldPlan : Type 0 where
 
 abbrev pub nothing_held : HeldPlan
 nothing_held = record { lids = []; switches = []; blocks = [] }
+
+-- the LIDs of an end port: 2^LMC, from its first one on
+pub record LidRange : Type 0 where
+  pub first : HeldLid
+  pub lmc : ℕ
+
+-- the LID that is some numbers further
+abbrev pub lid_at : HeldLid → ℕ → HeldLid
+lid_at first step = record { lid = first.lid + step; port = first.port }
+
+abbrev pub lids_of : LidRange → List HeldLid
+lids_of range = map (lid_at range.first) (range_with_len 0 (2 ^ range.lmc))

@@ -15,11 +15,23 @@ abbrev pub both : List (List ℕ) → Option (List ℕ × List ℕ)
 both (one ∷ other ∷ []) = Some (one, other)
 both _ = None
 
--- a LID, and the port that holds it
+-- 'lmc' and a number, and whether that is not over 7
+abbrev pub lmc_in : List ℕ × List ℕ → Option (Option ℕ)
+lmc_in x = if bytes_eq x.0 (codes "lmc") then small_of 7 x.1 else None
+
+-- the LMC, 0 where nothing is told
+abbrev pub lmc_line : List (List ℕ) → Option (Option ℕ)
+lmc_line [] = Some (Some 0)
+lmc_line (word ∷ rest) = option_and_then lmc_in (both (word ∷ rest))
+
+-- a LID, the port that holds it, and its LMC
+abbrev pub lid_of_port : Option ℕ → List (List ℕ) → ℕ × Option ℕ → Option LidLine
+lid_of_port lid rest p = option_map (λ lmc. record { lid = lid; node = p.0; port = p.1; lmc = lmc }) (lmc_line rest)
+
 abbrev pub lid_line : List (List ℕ) → Option LidLine
-lid_line words =
-    option_and_then (λ x. option_and_then (λ lid. option_map (λ p. record { lid = lid; node = p.0; port = p.1 }) (port_of x.1)) (count_of 0xBFFF x.0))
-    (both words)
+lid_line [] = None
+lid_line (lid ∷ []) = None
+lid_line (lid ∷ port ∷ rest) = option_and_then (λ n. option_and_then (lid_of_port n rest) (port_of port)) (count_of 0xBFFF lid)
 
 -- a switch's GUID; 'top', and its top
 abbrev pub top_line : List ℕ → List ℕ × List ℕ → Option SwitchLine

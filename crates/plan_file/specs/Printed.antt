@@ -1,26 +1,33 @@
 -- What the text of a plan says.
-use Rattle.std.specs.Prelude.{◌≡◌, ℕ, suc, ◌<◌, ◌≤◌, ◌^◌, List, [], ◌∷◌, ◌++◌, map, length, Option, None, Some}
+use Rattle.std.specs.Prelude.{◌≡◌, ℕ, suc, ◌+◌, ◌<◌, ◌≤◌, ◌^◌, List, [], ◌∷◌, ◌++◌, map, length, Option, None, Some}
 use Rattle.std.specs.Option.{option_map_or}
-use Rattle.std.specs.List.{AllByRecursion, enumerate_from, filter_map}
+use Rattle.std.specs.List.{AllByRecursion, enumerate_from, filter_map, flat_map}
 use Rattle.std.specs.List.Sorted.{IsStrictlyIncreasing}
 use Rattle.std.specs.Prelude.{option_map}
 use Rattle.hex.specs.Hex.{IsBytes}
 use Rattle.subnet_view.specs.declared.end_port.EndPort.{EndPort}
 use Rattle.fact_store.specs.Sighting.{AreInRange}
 use Rattle.fact_store.specs.View.{Facts, cells_of}
-use Rattle.lid_assign.specs.Lids.{Given, IsNoRoom, owner_of, top_of, rising_lids}
-use Rattle.spread_rule.specs.Rules.{up_and_down}
+use Rattle.lid_assign.specs.Lids.{Given, IsNoRoom, lmc_of, owner_of, top_of, rising_lids}
+use Rattle.spread_rule.specs.Rules.{RuleValue}
 use Rattle.lft_blocks.specs.Plan.{SwitchTable, PlanValue, plan_of}
 use Rattle.lft_blocks.specs.PlanText.{plan_text}
 use Rattle.plan_file.specs.declared.held.HeldLid.{HeldLid}
 use Rattle.plan_file.specs.declared.held.HeldSwitch.{HeldSwitch}
 use Rattle.plan_file.specs.declared.held.HeldBlock.{HeldBlock}
-use Rattle.plan_file.specs.Held.{HeldPlan, nothing_held}
+use Rattle.plan_file.specs.Held.{HeldPlan, LidRange, lids_of, nothing_held}
 use Rattle.plan_file.specs.Reading.{first_fault, held_of}
 
--- the LID with the end port that has it
-abbrev pub owned_lid : Given → ℕ → Option HeldLid
-owned_lid given lid = option_map (λ port. record { lid = lid; port = port }) (owner_of given lid)
+-- the LIDs of the end port that has this one as its first, with its LMC
+abbrev pub range_from : Given → ℕ → EndPort → LidRange
+range_from given lid port = record { first = record { lid = lid; port = port }; lmc = lmc_of given port }
+
+abbrev pub owned_range : Given → ℕ → Option LidRange
+owned_range given lid = option_map (range_from given lid) (owner_of given lid)
+
+-- the LIDs of all end ports
+abbrev pub owned_lids : Given → List HeldLid
+owned_lids given = flat_map lids_of (filter_map (owned_range given) (rising_lids given))
 
 -- the blocks of the switch at a place, that count from a number on
 abbrev pub blocks_from : ℕ → ℕ → List (List ℕ) → List HeldBlock
@@ -39,17 +46,18 @@ with_top top table = record { guid = table.guid; top = top }
 abbrev pub held_plan : PlanValue → HeldPlan
 held_plan plan =
     option_map_or (λ top. record {
-      lids = filter_map (owned_lid plan.given) (rising_lids plan.given);
+      lids = owned_lids plan.given;
       switches = map (with_top top) plan.tables;
       blocks = blocks_of 0 plan.tables;
     }) (top_of plan.given) nothing_held
 
--- a LID and its end port
+-- a LID that is an end port's first one, with that end port
 pub record IsLidInRange (given : Given) (lid : ℕ) : Type 0 where
   pub some : 1 ≤ lid
   pub most : lid ≤ 0xBFFF
   pub node : (e : EndPort) → owner_of given lid ≡ Some e → e.node < 2 ^ 64
   pub port : (e : EndPort) → owner_of given lid ≡ Some e → e.port ≤ 254
+  pub last : (e : EndPort) → owner_of given lid ≡ Some e → lid + 2 ^ lmc_of given e ≤ 0xC000
 
 -- a block has 64 entries, each a byte
 pub record IsBlock (entries : List ℕ) : Type 0 where
@@ -63,7 +71,7 @@ pub record IsTableInRange (table : SwitchTable) : Type 0 where
 
 -- the numbers of a plan fit their types, each port has one LID, and its switches rise
 pub record IsPlanInRange (plan : PlanValue) : Type 0 where
-  pub lmc : plan.given.lmc ≡ 0
+  pub lmc : plan.given.lmc ≤ 7
   pub lids : AllByRecursion (IsLidInRange plan.given) (rising_lids plan.given)
   pub top : (top : ℕ) → top_of plan.given ≡ Some top → top ≤ 0xBFFF
   pub rising : IsStrictlyIncreasing (map (λ table. table.guid) plan.tables)
@@ -76,6 +84,8 @@ IsRead plan = (first_fault (plan_text plan) ≡ None) × (held_of (plan_text pla
 abbrev pub PrintedPlansAreRead : Type 0
 PrintedPlansAreRead = (plan : PlanValue) → IsPlanInRange plan → IsRead plan
 
--- so is that of the plan under LMC 0 of each view whose facts are in range, where there is room for its LIDs
+-- so is that of the plan, by each rule and under each LMC, of a view whose facts are in range, where there is room for its LIDs
 abbrev pub PlansAreRead : Type 0
-PlansAreRead = (facts : Facts) → AreInRange facts → ¬ (IsNoRoom 0 (cells_of facts)) → IsRead (plan_of up_and_down 0 (cells_of facts))
+PlansAreRead =
+    (rule : RuleValue) (lmc : ℕ) (facts : Facts) → lmc ≤ 7 → AreInRange facts → ¬ (IsNoRoom lmc (cells_of facts))
+    → IsRead (plan_of rule lmc (cells_of facts))

@@ -1,5 +1,5 @@
 -- What a text says: what its lines say in turn, or its first fault.
-use Rattle.std.specs.Prelude.{ℕ, ◌+◌, ◌-◌, ◌==◌, ◌||◌, ◌&&◌, Bool, List, [], ◌∷◌, ◌++◌, Option, None, Some, Result, Ok, Err, length, nat_lt, if◌then◌else◌}
+use Rattle.std.specs.Prelude.{ℕ, ◌+◌, ◌-◌, ◌^◌, ◌==◌, ◌||◌, ◌&&◌, Bool, List, [], ◌∷◌, ◌++◌, Option, None, Some, Result, Ok, Err, length, nat_lt, if◌then◌else◌}
 use Rattle.text_words.specs.Text.{lines}
 use Rattle.plan_file.specs.declared.fault.Wrong.{Wrong}
 use Rattle.plan_file.specs.declared.fault.Wrong.TheVariants as wrong
@@ -11,7 +11,7 @@ use Rattle.plan_file.specs.declared.item.Item.TheVariants.{Nothing, Lid, Switch,
 use Rattle.plan_file.specs.declared.judge.Place.{Place}
 use Rattle.plan_file.specs.declared.held.HeldLid.{HeldLid}
 use Rattle.plan_file.specs.declared.held.HeldSwitch.{HeldSwitch}
-use Rattle.plan_file.specs.Held.{HeldPlan, nothing_held}
+use Rattle.plan_file.specs.Held.{HeldPlan, LidRange, lids_of, nothing_held}
 use Rattle.plan_file.specs.Line.{line_of}
 
 -- above all lines
@@ -21,7 +21,7 @@ start = record { lid = None; switch = None; block = 0 }
 -- what a line leaves for the order of those to come
 abbrev pub place_after : Place → Item → Place
 place_after place Nothing = place
-place_after place (Lid held) = record place { lid = Some held }
+place_after place (Lid range) = record place { lid = Some range.first }
 place_after place (Switch switch) = record place { switch = Some switch.guid; block = 0 }
 place_after place (Block number entries) = record place { block = number + 1 }
 
@@ -34,21 +34,28 @@ abbrev pub is_behind : HeldLid → HeldLid → Bool
 is_behind last held =
     nat_lt last.lid held.lid || nat_lt last.port.node held.port.node || (last.port.node == held.port.node && nat_lt last.port.port held.port.port)
 
--- a LID behind the last one
-abbrev pub lid_behind : ℕ → HeldLid → HeldLid → Result Item LineFault
-lid_behind number last held =
-    if nat_lt held.lid last.lid then fault_at number wrong.Lid
-    else if is_behind last held then Ok (Lid held)
+-- the LIDs of an end port behind the last one's
+abbrev pub lid_behind : ℕ → HeldLid → LidRange → Result Item LineFault
+lid_behind number last range =
+    if nat_lt range.first.lid last.lid then fault_at number wrong.Lid
+    else if is_behind last range.first then Ok (Lid range)
     else fault_at number wrong.Port
 
-abbrev pub lid_after : ℕ → Option HeldLid → HeldLid → Result Item LineFault
-lid_after number None held = Ok (Lid held)
-lid_after number (Some last) held = lid_behind number last held
+abbrev pub lid_after : ℕ → Option HeldLid → LidRange → Result Item LineFault
+lid_after number None range = Ok (Lid range)
+lid_after number (Some last) range = lid_behind number last range
 
-abbrev pub lid_with : ℕ → Option HeldLid → Option ℕ → ℕ → Option ℕ → Result Item LineFault
-lid_with number last None node port = fault_at number wrong.Lid
-lid_with number last (Some lid) node None = fault_at number wrong.Port
-lid_with number last (Some lid) node (Some port) = lid_after number last (record { lid = lid; port = record { node = node; port = port } })
+-- where the last of them is one of an end port
+abbrev pub lid_in_room : ℕ → Option HeldLid → LidRange → Result Item LineFault
+lid_in_room number last range =
+    if nat_lt 0xC000 (range.first.lid + 2 ^ range.lmc) then fault_at number wrong.Lid else lid_after number last range
+
+abbrev pub lid_with : ℕ → Option HeldLid → Option ℕ → ℕ → Option ℕ → Option ℕ → Result Item LineFault
+lid_with number last None node port lmc = fault_at number wrong.Lid
+lid_with number last (Some lid) node None lmc = fault_at number wrong.Port
+lid_with number last (Some lid) node (Some port) None = fault_at number wrong.Lmc
+lid_with number last (Some lid) node (Some port) (Some lmc) =
+    lid_in_room number last (record { first = record { lid = lid; port = record { node = node; port = port } }; lmc = lmc })
 
 -- a switch behind the last one
 abbrev pub switch_after : ℕ → Option ℕ → HeldSwitch → Result Item LineFault
@@ -75,7 +82,7 @@ block_with number place block entries = block_below number place.switch place.bl
 abbrev pub item_of : ℕ → Place → Option Line → Result Item LineFault
 item_of number place None = fault_at number wrong.Syntax
 item_of number place (Some line.Empty) = Ok Nothing
-item_of number place (Some (line.Lid l)) = lid_with number place.lid l.lid l.node l.port
+item_of number place (Some (line.Lid l)) = lid_with number place.lid l.lid l.node l.port l.lmc
 item_of number place (Some (line.Switch l)) = switch_with number place.switch l.guid l.top
 item_of number place (Some (line.Block l)) = block_with number place l.number l.entries
 
@@ -99,7 +106,7 @@ items_from number place (l ∷ later) =
 -- what is held, with what a line more says: a block is of the last switch
 abbrev pub held_with : HeldPlan → Item → HeldPlan
 held_with held Nothing = held
-held_with held (Lid lid) = record held { lids = held.lids ++ lid ∷ [] }
+held_with held (Lid range) = record held { lids = held.lids ++ lids_of range }
 held_with held (Switch switch) = record held { switches = held.switches ++ switch ∷ [] }
 held_with held (Block number entries) =
     record held { blocks = held.blocks ++ record { switch = length held.switches - 1; number = number; entries = entries } ∷ [] }

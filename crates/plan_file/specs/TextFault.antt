@@ -1,7 +1,7 @@
 -- What is said of a fault: its line, and a word.
 use Rattle.std.specs.Prelude.{ℕ, List, Bool, true, false, ◌++◌, Option, None, Some, codes, decimal}
 use Rattle.plan_file.specs.declared.fault.Wrong.{Wrong}
-use Rattle.plan_file.specs.declared.fault.Wrong.TheVariants.{Syntax, Lid, Port, Switch, Block}
+use Rattle.plan_file.specs.declared.fault.Wrong.TheVariants.{Syntax, Lid, Port, Lmc, Switch, Block}
 use Rattle.plan_file.specs.declared.fault.TextFault.{TextFault}
 use Rattle.plan_file.specs.declared.fault.TextFault.TheVariants.{Line, Memory}
 
@@ -14,6 +14,7 @@ abbrev pub wrong_word : Wrong → List ℕ
 wrong_word Syntax = codes "syntax"
 wrong_word Lid = codes "lid"
 wrong_word Port = codes "port"
+wrong_word Lmc = codes "lmc"
 wrong_word Switch = codes "switch"
 wrong_word Block = codes "block"
 

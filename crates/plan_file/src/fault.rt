@@ -9,10 +9,13 @@ use std::fmt;
 pub enum Wrong {
     /// It is none of the grammar's, or a block above all switches.
     Syntax,
-    /// A LID outside 1 to 49,151, a top over that, or a LID below that of the line before.
+    /// A LID outside 1 to 49,151, a range of LIDs that ends over that, a top over that, or a LID below that of the line
+    /// before.
     Lid,
     /// A port over 254, or one that does not come after that of the line before with the same LID.
     Port,
+    /// An LMC over 7.
+    Lmc,
     /// A switch that does not come after the one before.
     Switch,
     /// A block over 767, or one that does not come after the one before of its switch.
@@ -30,6 +33,7 @@ impl Wrong {
             Wrong::Syntax => "syntax",
             Wrong::Lid => "lid",
             Wrong::Port => "port",
+            Wrong::Lmc => "lmc",
             Wrong::Switch => "switch",
             Wrong::Block => "block",
         }

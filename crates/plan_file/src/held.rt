@@ -1,8 +1,8 @@
-ghost use Rattle.std.specs.Prelude.{◌≡◌, IfOk};
-ghost use Rattle.plan_file.specs.Held.{nothing_held};
+ghost use Rattle.std.specs.Prelude.{◌≡◌, ◌++◌, IfOk, OnOk};
+ghost use Rattle.plan_file.specs.Held.{lids_of, nothing_held};
 ghost use Rattle.plan_file.specs.Reading.{held_with};
 
-use crate::item::Item;
+use crate::item::{HeldRange, Item};
 use smp_bytes::{Guid, Lid};
 use std::alloc::{AllocError, Global};
 use std::marker::Model;
@@ -68,7 +68,7 @@ impl Held {
         }
     }
 
-    /// The LIDs, rising, each with an end port that holds it.
+    /// The LIDs, each with an end port that holds it: by the first LID of that one, and then by end port.
     pub fn lids(&self) -> &[HeldLid]
         ensures { result.now ≡ self.now.lids }
     {
@@ -100,7 +100,7 @@ impl Held {
         } = self;
         match item {
             Item::Nothing => {}
-            Item::Lid(lid) => lids.push(lid)?,
+            Item::Lid(range) => push_range(&mut lids, range)?,
             Item::Switch(switch) => switches.push(switch)?,
             Item::Block(number, entries) => {
                 let switch = switches.len().saturating_sub(1);
@@ -117,4 +117,18 @@ impl Held {
             blocks,
         })
     }
+}
+
+/// The LIDs of an end port more.
+fn push_range(lids: &mut Vec<HeldLid>, range: HeldRange) -> Result<(), AllocError>
+    ensures { OnOk result (lids.new.items ≡ lids.old.items ++ lids_of range) }
+{
+    let first = range.first;
+    for step in 0..range.lmc.width() {
+        lids.push(HeldLid {
+            lid: Lid::new(first.lid.number() + step),
+            port: first.port,
+        })?;
+    }
+    Ok(())
 }

@@ -1,10 +1,34 @@
+ghost use Rattle.std.specs.Prelude.{◌≡◌};
+
 use crate::held::{HeldLid, HeldSwitch};
+use attr_codec::Lmc;
+use std::marker::Model;
+
+/// The LIDs of an end port: 2^LMC, from its first one on; the last is at most 49,151.
+#[derive(Clone, Copy)]
+pub(crate) struct HeldRange {
+    pub(crate) first: HeldLid,
+    pub(crate) lmc: Lmc,
+}
+
+impl Model for HeldRange {
+    ghost use Rattle.std.specs.Prelude.{◌+◌, ◌^◌, ◌≤◌};
+    ghost use Rattle.plan_file.specs.Held.{LidRange};
+
+    ghost Value = { LidRange };
+
+    ghost view = { λ a. record { first = a.first; lmc = a.lmc } };
+
+    ghost invariant = { λ a. a.first.lid + 2 ^ a.lmc ≤ 0xC000 };
+
+    ghost inverse = { λ r. record { first = r.first; lmc = r.lmc } };
+}
 
 /// What a line without a fault says.
 #[derive(Clone, Copy)]
 pub(crate) enum Item {
     Nothing,
-    Lid(HeldLid),
+    Lid(HeldRange),
     Switch(HeldSwitch),
     /// The number of a block of the switch above, and its entries.
     Block(u16, [u8; 64]),

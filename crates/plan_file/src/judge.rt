@@ -1,19 +1,22 @@
 ghost use Rattle.std.specs.Prelude.{◌≡◌};
 ghost use Rattle.plan_file.specs.Line.{line_of};
 ghost use Rattle.plan_file.specs.Reading.{start, item_of, place_after};
-ghost use Rattle.plan_file.specs.Reading.{lid_with, lid_behind, is_behind, switch_with, block_with};
+ghost use Rattle.plan_file.specs.Reading.{lid_with, lid_after, lid_behind, is_behind, switch_with, block_with};
 
 use crate::fault::{LineFault, Wrong};
 use crate::held::{HeldLid, HeldSwitch};
-use crate::item::Item;
+use crate::item::{HeldRange, Item};
 use crate::line::{BlockLine, LidLine, Line, SwitchLine, read_line};
 use smp_bytes::{Guid, Lid};
 use subnet_view::EndPort;
 
+/// The first number that is no LID of an end port.
+const LID_END: u32 = 0xC000;
+
 /// What the lines before leave for the order of those to come.
 #[derive(Clone, Copy)]
 pub(crate) struct Place {
-    /// The last line of a LID.
+    /// The first LID of the last line of an end port.
     pub(crate) lid: Option<HeldLid>,
     /// The last switch.
     pub(crate) switch: Option<Guid>,
@@ -65,8 +68,8 @@ impl Place {
     {
         match item {
             Item::Nothing => *self,
-            Item::Lid(held) => Place {
-                lid: Some(*held),
+            Item::Lid(range) => Place {
+                lid: Some(range.first),
                 ..*self
             },
             Item::Switch(held) => Place {
@@ -91,7 +94,7 @@ fn wrong(line: usize, wrong: Wrong) -> Result<Item, LineFault>
 
 /// What the line of a LID says behind the last one.
 fn lid(number: usize, last: Option<HeldLid>, line: LidLine) -> Result<Item, LineFault>
-    ensures { result ≡ lid_with number last line.lid line.node line.port }
+    ensures { result ≡ lid_with number last line.lid line.node line.port line.lmc }
 {
     let Some(lid) = line.lid else {
         return wrong(number, Wrong::Lid);
@@ -99,25 +102,39 @@ fn lid(number: usize, last: Option<HeldLid>, line: LidLine) -> Result<Item, Line
     let Some(port) = line.port else {
         return wrong(number, Wrong::Port);
     };
+    let Some(lmc) = line.lmc else {
+        return wrong(number, Wrong::Lmc);
+    };
+    if LID_END < u32::from(lid) + u32::from(lmc.width()) {
+        return wrong(number, Wrong::Lid);
+    }
     let node = line.node;
-    let held = HeldLid {
+    let first = HeldLid {
         lid: Lid::new(lid),
         port: EndPort { node, port },
     };
+    lid_after(number, last, HeldRange { first, lmc })
+}
+
+/// What a line of a LID says behind the last one, if there is one.
+fn lid_after(number: usize, last: Option<HeldLid>, range: HeldRange) -> Result<Item, LineFault>
+    ensures { result ≡ lid_after number last range }
+{
     match last {
-        Some(last) => lid_behind(number, last, held),
-        None => Ok(Item::Lid(held)),
+        Some(last) => lid_behind(number, last, range),
+        None => Ok(Item::Lid(range)),
     }
 }
 
 /// What a line of a LID says behind another.
-fn lid_behind(number: usize, last: HeldLid, held: HeldLid) -> Result<Item, LineFault>
-    ensures { result ≡ lid_behind number last held }
+fn lid_behind(number: usize, last: HeldLid, range: HeldRange) -> Result<Item, LineFault>
+    ensures { result ≡ lid_behind number last range }
 {
+    let held = range.first;
     if held.lid < last.lid {
         wrong(number, Wrong::Lid)
     } else if is_behind(last, held) {
-        Ok(Item::Lid(held))
+        Ok(Item::Lid(range))
     } else {
         wrong(number, Wrong::Port)
     }

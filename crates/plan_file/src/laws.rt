@@ -1,14 +1,14 @@
 //! The laws of plans' texts.
 ghost use Rattle.plan_file.specs.Printed.{PlansAreRead, PrintedPlansAreRead};
 
-/// The text of a plan whose numbers are in their ranges has no fault, and is read as the LIDs of that plan
-/// with the end ports that have them, and its tables, each with the greatest LID as its top.
+/// The text of a plan whose numbers are in their ranges has no fault, and is read as the LIDs of that plan, each number
+/// of a range with the end port that has it, and its tables, each with the greatest LID as its top.
 pub fn printed_plans_are_read()
     ensures law { PrintedPlansAreRead }
 {}
 
-/// So is the text of the plan of each view with room, as a store holds it: what `lft_blocks::write_plan` writes is read
-/// as the plan.
+/// So is the text of the plan of each view with room, as a store holds it, by each rule and under each LMC: what
+/// `lft_blocks::write_plan` writes is read as the plan.
 pub fn plans_are_read()
     ensures law { PlansAreRead }
 {}

@@ -1,8 +1,9 @@
 ghost use Rattle.std.specs.Prelude.{◌≡◌, ◌∷◌, option_map};
 ghost use Rattle.text_words.specs.Text.{words};
-ghost use Rattle.plan_file.specs.Line.{line_of, both, lid_line, switch_line, block_line};
+ghost use Rattle.plan_file.specs.Line.{line_of, both, lid_line, lmc_line, switch_line, block_line};
 
-use crate::words::{bare_guid, entries, node_port, small};
+use crate::words::{bare_guid, entries, lmc_of, node_port, small};
+use attr_codec::Lmc;
 use smp_bytes::{Guid, Lid, PortNum};
 use text_words::{count, is_word, split_word};
 
@@ -29,6 +30,8 @@ pub(crate) struct LidLine {
     pub(crate) node: Guid,
     /// Up to 254.
     pub(crate) port: Option<PortNum>,
+    /// Up to 7; 0 where the line tells none.
+    pub(crate) lmc: Option<Lmc>,
 }
 
 /// A switch and its top, as its line tells it.
@@ -82,10 +85,33 @@ fn two_words(line: &[u8]) -> Option<(&[u8], &[u8])>
 fn lid_line(line: &[u8]) -> Option<LidLine>
     ensures { result ≡ lid_line (words line.now) }
 {
-    let (lid, port) = two_words(line)?;
+    let (lid, line) = split_word(line)?;
+    let (port, line) = split_word(line)?;
     let lid = count(lid, MAX_LID)?;
     let (node, port) = node_port(port)?;
-    Some(LidLine { lid, node, port })
+    let lmc = lmc_line(line)?;
+    Some(LidLine {
+        lid,
+        node,
+        port,
+        lmc,
+    })
+}
+
+/// What the line of a LID tells behind the end port: `lmc` and a number, or nothing. Inside it is `None` where the
+/// number is over 7.
+fn lmc_line(line: &[u8]) -> Option<Option<Lmc>>
+    ensures { result ≡ lmc_line (words line.now) }
+{
+    if split_word(line).is_none() {
+        return Some(lmc_of(Some(0)));
+    }
+    let (word, number) = two_words(line)?;
+    if !is_word(word, "lmc") {
+        return None;
+    }
+    let number = small(number, 7)?;
+    Some(lmc_of(number))
 }
 
 /// The rest of the line of a switch.

@@ -39,6 +39,16 @@ fn faults_with_their_lines(rt: HostRuntime) -> Result<(), Fail> {
         ("\nlid 49152 10/1", 2, Wrong::Lid),
         ("lid 99999999999999999999999 10/255", 1, Wrong::Lid),
         ("lid 1 10/255", 1, Wrong::Port),
+        ("lid 4 10/1 lmc", 1, Wrong::Syntax),
+        ("lid 4 10/1 LMC 1", 1, Wrong::Syntax),
+        ("lid 4 10/1 lmc 1 1", 1, Wrong::Syntax),
+        ("lid 4 10/1 lmc x", 1, Wrong::Syntax),
+        ("lid 4 10/1 lmc 8", 1, Wrong::Lmc),
+        ("lid 0 10/1 lmc 8", 1, Wrong::Lid),
+        ("lid 49151 10/255 lmc 8", 1, Wrong::Port),
+        ("lid 49151 10/1 lmc 1", 1, Wrong::Lid),
+        ("lid 49025 10/1 lmc 7", 1, Wrong::Lid),
+        ("lid 4 10/1 lmc 1\nlid 4 10/1 lmc 0", 2, Wrong::Port),
         ("lid 2 10/1\nlid 1 20/1", 2, Wrong::Lid),
         ("lid 1 20/1\nlid 1 10/2", 2, Wrong::Port),
         ("lid 1 10/1\r\nlid 1 10/1\nlid 0 10/1", 2, Wrong::Port),
@@ -99,6 +109,23 @@ fn a_plan_is_read(rt: HostRuntime) -> Result<(), Fail> {
             entries,
         };
         assert!(rt; held.blocks().get(at) == Some(&block));
+    }
+    Ok(())
+}
+
+#[test]
+fn a_port_holds_the_lids_of_its_range(rt: HostRuntime) -> Result<(), Fail> {
+    for (text, first, count, last) in [
+        (&b"lid 4 10/1 lmc 1"[..], 4, 2, 5),
+        (&b"lid 5 10/1 lmc 2\r"[..], 5, 4, 8),
+        (&b"lid 7 10/0 lmc 0 # alone"[..], 7, 1, 7),
+        (&b"lid 49024 10/1 lmc 7\nlid 49024 10/2"[..], 49024, 129, 49024),
+        (&b"lid 1 10/1\nlid 2 10/2 lmc 1"[..], 1, 3, 3),
+    ] {
+        let held = parse(rt.alloc(), text)?;
+        let lids = held.lids();
+        let ends = (lids.first().map(|held| held.lid), lids.last().map(|held| held.lid));
+        assert!(rt; lids.len() == count && ends == (Some(Lid::new(first)), Some(Lid::new(last))));
     }
     Ok(())
 }

@@ -10,17 +10,18 @@ use crate::judge::Place;
 use std::alloc::Global;
 use text_words::split_line;
 
-/// Reads a plan's text: a line for each LID, rising, with the end port that holds it, and of each switch, by
-/// rising GUID, its line and those of its blocks, by rising number. Lines end with LF or CR LF, empty ones
+/// Reads a plan's text: a line for each end port, by its first LID and with its LMC where that is told, and of each
+/// switch, by rising GUID, its line and those of its blocks, by rising number. Lines end with LF or CR LF, empty ones
 /// are skipped, and `#` begins a comment:
 ///
 /// ```text
-/// lid 1 0000000000000100/1
-/// switch 0000000000000010 top 1
-/// block 0 ff03ff..
+/// lid 1 0000000000000010/0
+/// lid 2 0000000000000100/1 lmc 1
+/// switch 0000000000000010 top 3
+/// block 0 ff000303ff..
 /// ```
 ///
-/// Takes a step for each byte, and twice as many where memory is refused.
+/// Takes a step for each byte and each LID, and twice as many where memory is refused.
 ///
 /// # Errors
 ///

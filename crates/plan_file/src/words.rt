@@ -3,6 +3,7 @@ ghost use Rattle.std.specs.Prelude.{◌≡◌, ◌≤◌, ◌==◌, IfSome, opti
 ghost use Rattle.text_words.specs.Quoted.{until};
 ghost use Rattle.plan_file.specs.Words.{small_of, bare_guid_of, port_of, entries_of};
 
+use attr_codec::Lmc;
 use smp_bytes::{Guid, PortNum};
 use text_words::number;
 
@@ -47,6 +48,17 @@ fn port_num(number: Option<u16>) -> Option<PortNum>
 {
     match number {
         Some(number) => Some(PortNum::new(number as u8)),
+        None => None,
+    }
+}
+
+/// The LMC of a number.
+pub(crate) fn lmc_of(number: Option<u16>) -> Option<Lmc>
+    requires { IfSome number (λ n. n ≤ 7) }
+    ensures { result ≡ number }
+{
+    match number {
+        Some(number) => Lmc::new(number as u8),
         None => None,
     }
 }

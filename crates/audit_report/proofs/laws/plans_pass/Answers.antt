@@ -3,4 +3,4 @@ use Rattle.audit_report.proofs.PlansRise.{plans_rise}
 use Rattle.audit_report.proofs.laws.plans_pass.Goals as goal
 
 pub returns : goal.returns
-returns c = record { law = λ facts range room. record { arrive = plans_arrive facts range room; rise = plans_rise facts range room } }
+returns c = record { law = λ rule lmc facts range room. record { arrive = plans_arrive rule lmc facts range room; rise = plans_rise rule lmc facts range room } }

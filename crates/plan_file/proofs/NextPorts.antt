@@ -1,0 +1,65 @@
+-- A rule of routing has a port only where it has a cost, and the port is one of a wire between switches.
+use Rattle.std.proofs.Common.{◌≡◌, ℕ, true, false, List, [], ◌∷◌, Option, None, Some, refl, sym, ap, ◌∙◌, ◌==◌}
+use Rattle.std.specs.Prelude.{Contains, option_map}
+use Rattle.std.proofs.lemmas.Bool.{eqb-false}
+use Rattle.std.proofs.lemmas.Option.{same_Some, none-some}
+use Rattle.fact_store.specs.View.{Facts, cells_of}
+use Rattle.port_graph.specs.declared.exit.Exit.{Exit}
+use Rattle.updown_routes.specs.Crossing.{Crossing}
+use Rattle.updown_routes.specs.Graph.{exits_at, graph_of}
+use Rattle.updown_routes.specs.GraphLaws.{IsSwitch}
+use Rattle.updown_routes.specs.Ranks.{in_one_component}
+use Rattle.updown_routes.specs.Routing.{Routing, FollowsRule, Passes}
+use Rattle.updown_routes.proofs.Components.{cost_in_component}
+use Rattle.updown_routes.proofs.Graphs.{graph_law}
+use Rattle.updown_routes.proofs.LeastCosts.{no_cost_between}
+use Rattle.spread_routes.specs.declared.mark.Mark.{Mark}
+use Rattle.spread_routes.specs.EveryPair.{grown}
+use Rattle.spread_routes.specs.Labels.{candidates_by, marks}
+use Rattle.spread_rule.specs.Bearing.{bearing_of}
+use Rattle.spread_rule.specs.Rule.{Spreading, by_places, place, taken}
+use Rattle.spread_rule.specs.Rules.{RuleValue, routing_by}
+use Rattle.spread_rule.specs.Spread.{grading_of, keys_by, number_there, spread_by}
+use Rattle.spread_rule.proofs.Whole.{rules_are_routings}
+
+abbrev HasCost : Routing → ℕ → ℕ → Type 0
+HasCost rule s t = (n : ℕ) × (rule.cost s t ≡ Some n)
+
+-- candidates are of a vertex with a mark
+marked : (exits : List (List Exit)) (by : Spreading) (lid p q port : ℕ) (mark : Option Mark)
+    → option_map (λ (e : Exit). e.port) (taken by lid p (candidates_by exits q p mark)) ≡ Some port → (n : ℕ) × (option_map (λ (m : Mark). m.cost) mark ≡ Some n)
+marked exits by lid p q port None h = absurd (cc)
+marked exits by lid p q port (Some m) h = (m.cost, refl)
+
+spread_has_cost : (graph : List Crossing) (bearing roots : List ℕ) (lid s t port : ℕ) → (spread_by graph bearing roots).next lid s t ≡ Some port
+    → HasCost (spread_by graph bearing roots) s t
+unfolding spread_by
+spread_has_cost graph bearing roots lid s t port h =
+    let keys = keys_by graph bearing roots in
+    let exits = by_places graph keys in
+    let by : Spreading = record { keys = keys; number = number_there (grading_of graph bearing roots) } in
+    marked exits by lid (place graph keys s) (place graph keys t) port (marks exits (place graph keys t) (place graph keys s)) h
+
+pub next_has_cost : (rule : RuleValue) (facts : Facts) (lid s t port : ℕ) → IsSwitch (graph_of (cells_of facts)) s → IsSwitch (graph_of (cells_of facts)) t
+    → (routing_by rule (cells_of facts)).next lid s t ≡ Some port → HasCost (routing_by rule (cells_of facts)) s t
+next_has_cost None facts lid s t port is_s is_t h =
+    let graph = graph_of (cells_of facts) in
+    let good = graph_law facts in
+    elim (in_one_component graph s t) as (λ b. in_one_component graph s t ≡ b → HasCost (routing_by None (cells_of facts)) s t) [
+      | true ↦ λ j. cost_in_component graph good s t is_s is_t j
+      | false ↦ λ j. absurd (none-some port (sym (no_cost_between graph good s t is_s j).1 ∙ h))
+    ] refl
+next_has_cost (Some roots) facts lid s t port is_s is_t h = spread_has_cost (graph_of (cells_of facts)) (bearing_of (cells_of facts)) roots lid s t port h
+
+first_exit : (graph : List Crossing) (rule : Routing) (lid s t port : ℕ) (es : List Exit) → (s == t) ≡ false → rule.next lid s t ≡ Some port
+    → FollowsRule rule lid t s es → Passes graph s es → (e : Exit) × Contains (exits_at graph s) e × (e.port ≡ port)
+first_exit graph rule lid s t port [] apart h follows passes = absurd (eqb-false s t apart follows)
+first_exit graph rule lid s t port (e ∷ es) apart h (_, its, _) (there, _) = (e, there, same_Some e.port port (sym its ∙ h))
+
+pub next_is_exit : (rule : RuleValue) (facts : Facts) (lid s t port : ℕ) → IsSwitch (graph_of (cells_of facts)) s → IsSwitch (graph_of (cells_of facts)) t
+    → (s == t) ≡ false → (routing_by rule (cells_of facts)).next lid s t ≡ Some port
+    → (e : Exit) × Contains (exits_at (graph_of (cells_of facts)) s) e × (e.port ≡ port)
+next_is_exit rule facts lid s t port is_s is_t apart h =
+    let (n, cost) = next_has_cost rule facts lid s t port is_s is_t h in
+    let way = (rules_are_routings rule facts).leads lid s t n is_s cost in
+    first_exit (graph_of (cells_of facts)) (routing_by rule (cells_of facts)) lid s t port way.exits apart h way.by_rule way.passes
