@@ -117,7 +117,7 @@ fn a_plan_is_read(rt: HostRuntime) -> Result<(), Fail> {
 fn a_port_holds_the_lids_of_its_range(rt: HostRuntime) -> Result<(), Fail> {
     for (text, first, count, last) in [
         (&b"lid 4 10/1 lmc 1"[..], 4, 2, 5),
-        (&b"lid 5 10/1 lmc 2\r"[..], 5, 4, 8),
+        (&b"lid 5 10/1 lmc 2"[..], 5, 4, 8),
         (&b"lid 7 10/0 lmc 0 # alone"[..], 7, 1, 7),
         (&b"lid 49024 10/1 lmc 7\nlid 49024 10/2"[..], 49024, 129, 49024),
         (&b"lid 1 10/1\nlid 2 10/2 lmc 1"[..], 1, 3, 3),
