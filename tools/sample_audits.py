@@ -48,7 +48,15 @@ def tables(plan):
     """Each with its title, the text of tables, and how the audit ends."""
     good = plan(LIDS, *GOOD).printed.decode()
     lines = good.splitlines()
-    yield "tables by which all arrive", good, prints("pairs 16 arrive 16\n" + BOTH + "circle none\n")
+    all_arrive = prints("pairs 16 arrive 16\n" + BOTH + "circle none\n")
+    yield "tables by which all arrive", good, all_arrive
+    yield "the same, spelled otherwise", otherwise(good), all_arrive
+    # The greatest LID and the last block say nothing here.
+    edges = [*lines, f"block 767 {'f' * 128}"]
+    edges.insert(4, f"lid 49151 {0x200:016x}/1")
+    yield "with the greatest LID", "\n".join(edges), found(
+        "pairs 20 arrive 17\n" + lost(f"{AT_10} by 255", "10/0 49151", "100/1 49151") + lost(f"{AT_20} by 255", "20/0 49151") + BOTH + "circle none\n"
+    )
     yield (
         "an entry to a port without a wire",
         plan(LIDS, "10 0 1 2 3", GOOD[1]).printed.decode(),
@@ -121,6 +129,16 @@ def ranges(plan):
     )
 
 
+def otherwise(text):
+    """The text with CRLF, comments, empty lines, blanks, tabs, short GUIDs and upper case."""
+    lines = []
+    for line in text.splitlines():
+        head, *rest = line.split()
+        rest = [word.upper() if len(word) == 128 else word.lstrip("0") if len(word) > 15 else word for word in rest]
+        lines += ["# " + head, "\t" + head + " \t " + "  ".join(rest) + "\t# as above", " "]
+    return "\r\n".join(lines)
+
+
 def one_by_one(text):
     """The text with a line for each LID of a range."""
     lines = []
@@ -173,20 +191,50 @@ def rows(plan):
     )
 
 
-# What is wrong with a text of tables.
+# A text of tables and what is wrong with it; `%` stands for the entries of a block.
 FAULTS = (
     ("lid 1", "line 1: syntax"),
+    ("LID 1 10/1", "line 1: syntax"),
+    ("lid 1 10/1 x", "line 1: syntax"),
+    ("lid 1 10", "line 1: syntax"),
+    ("lid 1 /1", "line 1: syntax"),
+    ("lid 1 10/", "line 1: syntax"),
+    ("lid 1 10/1/1", "line 1: syntax"),
+    ("lid -1 10/1", "line 1: syntax"),
+    ("lid 1 0x10/1", "line 1: syntax"),
+    ("lid 1 00000000000000001/1", "line 1: syntax"),
+    ("lid 4 10/1 lmc", "line 1: syntax"),
+    ("lid 4 10/1 LMC 1", "line 1: syntax"),
+    ("lid 4 10/1 lmc 1 1", "line 1: syntax"),
+    ("lid 4 10/1 lmc x", "line 1: syntax"),
     ("lid 0 10/0", "line 1: lid"),
+    ("\nlid 49152 10/1", "line 2: lid"),
+    (f"lid {'9' * 23} 10/255", "line 1: lid"),
     ("lid 1 10/255", "line 1: port"),
     ("lid 4 10/1 lmc 8", "line 1: lmc"),
-    ("lid 4 10/1 lmc", "line 1: syntax"),
+    ("lid 0 10/1 lmc 8", "line 1: lid"),
+    ("lid 49151 10/255 lmc 8", "line 1: port"),
+    ("lid 49151 10/1 lmc 1", "line 1: lid"),
     ("lid 49025 10/1 lmc 7", "line 1: lid"),
     ("# tables\nlid 2 10/0\nlid 1 20/0", "line 3: lid"),
+    ("lid 1 20/1\nlid 1 10/2", "line 2: port"),
+    ("lid 1 10/1\r\nlid 1 10/1\nlid 0 10/1", "line 2: port"),
+    ("lid 4 10/1 lmc 1\nlid 4 10/1 lmc 0", "line 2: port"),
+    ("switch 10 top", "line 1: syntax"),
+    ("switch 10 Top 1", "line 1: syntax"),
+    ("switch g top 1", "line 1: syntax"),
+    ("switch 10 top 49152", "line 1: lid"),
+    ("switch 10 top 1\nswitch 10 top 1", "line 2: switch"),
     ("switch 20 top 1\nswitch 10 top 1", "line 2: switch"),
-    (f"switch 10 top 1\nblock 768 {'f' * 128}", "line 2: block"),
+    ("block 0 %", "line 1: syntax"),
+    ("switch 10 top 1\nblock 0 %f", "line 2: syntax"),
+    ("switch 10 top 1\nblock 0 f", "line 2: syntax"),
+    ("switch 10 top 1\nblock 768 %", "line 2: block"),
+    ("switch 10 top 1\nblock 1 %\nblock 1 %", "line 3: block"),
+    ("switch 10 top 1\nblock 1 %\nblock 0 %", "line 3: block"),
 )
 
 
 def faults():
     for text, said in FAULTS:
-        yield text, refused(f"TABLES: {said}")
+        yield text.replace("%", "f" * 128), refused(f"TABLES: {said}")

@@ -13,6 +13,3 @@ mod words;
 pub use fault::{LineFault, TextFault, Wrong};
 pub use held::{Held, HeldBlock, HeldLid, HeldSwitch};
 pub use text::parse;
-
-#[cfg(test)]
-mod tests;
