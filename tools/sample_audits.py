@@ -55,7 +55,8 @@ def tables(plan):
     edges = [*lines, f"block 767 {'f' * 128}"]
     edges.insert(4, f"lid 49151 {0x200:016x}/1")
     yield "with the greatest LID", "\n".join(edges), found(
-        "pairs 20 arrive 17\n" + lost(f"{AT_10} by 255", "10/0 49151", "100/1 49151") + lost(f"{AT_20} by 255", "20/0 49151") + BOTH + "circle none\n"
+        "pairs 20 arrive 17\n" + lost(f"{AT_10} by 255", "10/0 49151") + lost(f"{AT_20} by 255", "20/0 49151")
+        + lost(f"{AT_10} by 255", "100/1 49151") + BOTH + "circle none\n"
     )
     yield (
         "an entry to a port without a wire",
