@@ -161,6 +161,11 @@ def rings(plan):
         plan(RING_LIDS, *short).printed.decode(),
         found("pairs 25 arrive 25\n" + NEITHER + "circle 10/1 20/1 30/1 40/1 50/1\n"),
     )
+    # Each to those beside it alone: no packet takes two channels in turn.
+    beside = ring("0 1 - - 2", "2 0 1 - -", "- 2 0 1 -", "- - 2 0 1", "1 - - 2 0")
+    far = (0x30, 1), (0x40, 1), (0x40, 2), (0x50, 2), (0x10, 3), (0x50, 3), (0x10, 4), (0x20, 4), (0x20, 5), (0x30, 5)
+    missing = "".join(f"lost {guid:x}/0 {lid} at {guid:016x} by 255\n" for guid, lid in far)
+    yield "one wire far", plan(RING_LIDS, *beside).printed.decode(), found("pairs 25 arrive 15\n" + missing + NEITHER + "circle none\n")
     yield "not across one wire", plan(RING_LIDS, *cut).printed.decode(), prints("pairs 25 arrive 25\n" + NEITHER + "circle none\n")
 
 

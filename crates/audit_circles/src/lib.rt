@@ -7,6 +7,3 @@ mod order;
 mod waits;
 
 pub use order::channel_order;
-
-#[cfg(test)]
-mod tests;

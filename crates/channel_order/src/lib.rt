@@ -11,6 +11,3 @@ mod waits;
 pub use column::add_column;
 pub use order::{ChannelOrder, order_channels};
 pub use waits::Waits;
-
-#[cfg(test)]
-mod tests;
