@@ -10,6 +10,3 @@ mod split;
 pub use iter::Iter;
 pub use page_list::PageList;
 pub use split::{Pages, Split};
-
-#[cfg(test)]
-mod tests;

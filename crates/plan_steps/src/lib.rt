@@ -10,6 +10,3 @@ mod tables;
 
 pub use phase::{Phase, phases};
 pub use step::Step;
-
-#[cfg(test)]
-mod tests;

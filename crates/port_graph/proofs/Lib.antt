@@ -12,4 +12,3 @@ pub mod CostSteps
 pub mod NextPorts
 pub mod Named
 pub mod DistanceLaws
-pub mod SampleSlopes

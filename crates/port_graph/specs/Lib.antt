@@ -5,4 +5,3 @@ pub mod Spans
 pub mod Heads
 pub mod Searches
 pub mod Indexed
-pub mod Sample

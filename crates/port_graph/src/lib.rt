@@ -13,6 +13,3 @@ pub use distance::distances;
 pub use exit::Exit;
 pub use exits::Exits;
 pub use next_port::next_ports;
-
-#[cfg(test)]
-mod tests;

@@ -16,6 +16,3 @@ pub use command::{Command, Which};
 pub use fault::ScheduleFault;
 pub use manager_name::ManagerName;
 pub use schedule::{Schedule, Seat, parse};
-
-#[cfg(test)]
-mod tests;

@@ -11,6 +11,3 @@ pub use name::NodeName;
 pub use numbers::{count, guid, number, port_number};
 pub use quoted::{bracketed_port, enclosed, named_port, quoted_name};
 pub use text::{is_word, split_line, split_word};
-
-#[cfg(test)]
-mod tests;

@@ -15,6 +15,3 @@ pub use fault::TopoFault;
 pub use node::Node;
 pub use text_words::NodeName;
 pub use topology::{Topology, parse};
-
-#[cfg(test)]
-mod tests;
