@@ -10,7 +10,7 @@ use Rattle.text_words.specs.Printed.{line_text}
 use Rattle.text_words.proofs.Digits.{is_below}
 use Rattle.text_words.proofs.NumbersPrinted.{count_is_read, guid_is_read}
 use Rattle.text_words.proofs.Printed.{IsWord, decimal_word}
-use Rattle.std.proofs.lemmas.Bool.{ltb-true}
+use Rattle.std.proofs.lemmas.Bool.{ltb-true, ne_eqb}
 use Rattle.plan_file.specs.declared.item.Item.TheVariants.{Lid, Switch, Block}
 use Rattle.plan_file.specs.declared.judge.Place.{Place}
 use Rattle.plan_file.specs.declared.held.HeldLid.{HeldLid}
@@ -75,7 +75,7 @@ lid_words_are r most port small = (
 
 lid_text : (lid lmc : ℕ) (e : EndPort) → lid_line (lid, lmc, e) ≡ line_text (lid_words (record { first = record { lid = lid; port = e }; lmc = lmc })) ++ 10 ∷ []
 lid_text lid zero e = joined_alone (codes "lid") (decimal lid) (port_text e.node e.port)
-lid_text lid (suc n) e = joined_five (codes "lid") (decimal lid) (port_text e.node e.port) (codes "lmc") (decimal (suc n))
+lid_text lid (suc n) e = rw (ne_eqb (suc n) 0 (λ z. omega (arith, z))) (joined_five (codes "lid") (decimal lid) (port_text e.node e.port) (codes "lmc") (decimal (suc n)))
 
 lid_follows : (number : ℕ) (last : Option HeldLid) (r : LidRange) → IsBelow last r.first.lid → lid_after number last r ≡ Ok (Lid r)
 lid_follows number None r below = refl
@@ -94,8 +94,12 @@ lid_is_said : (number : ℕ) (place : Place) (r : LidRange) → IsRangeRight r �
     → item_of number place (line_in (lid_words r)) ≡ Ok (Lid r)
 lid_is_said number place r is below =
     let e = r.first.port in
-    rw (count_is_read 0xBFFF r.first.lid (omega (arith, is.most)) is.some is.most, port_is_read e.node e.port is.node is.port, lmc_is_read r.lmc is.lmc,
-      not_below 0xC000 (r.first.lid + 2 ^ r.lmc) is.last)
+    rw (
+      count_is_read 0xBFFF r.first.lid (omega (arith, is.most)) is.some is.most,
+      port_is_read e.node e.port is.node is.port,
+      lmc_is_read r.lmc is.lmc,
+      not_below 0xC000 (r.first.lid + 2 ^ r.lmc) is.last,
+    )
     (lid_follows number place.lid r below)
 
 pub lid_passes : (place : Place) (r : LidRange) → IsRangeRight r → IsBelow place.lid r.first.lid

@@ -1,8 +1,9 @@
-ghost use Rattle.std.specs.Prelude.{◌≡◌, ◌++◌, IfOk, OnOk};
+ghost use Rattle.std.specs.Prelude.{◌≡◌, ◌+◌, ◌^◌, ◌≤◌, ◌++◌, IfOk, OnOk};
 ghost use Rattle.plan_file.specs.Held.{lids_of, nothing_held};
 ghost use Rattle.plan_file.specs.Reading.{held_with};
 
 use crate::item::{HeldRange, Item};
+use attr_codec::Lmc;
 use smp_bytes::{Guid, Lid};
 use std::alloc::{AllocError, Global};
 use std::marker::Model;
@@ -123,8 +124,17 @@ impl Held {
 fn push_range(lids: &mut Vec<HeldLid>, range: HeldRange) -> Result<(), AllocError>
     ensures { OnOk result (lids.new.items ≡ lids.old.items ++ lids_of range) }
 {
-    let first = range.first;
-    for step in 0..range.lmc.width() {
+    let HeldRange { first, lmc } = range;
+    push_lids(lids, &first, lmc)
+}
+
+/// As many LIDs more as an LMC says, from this one on.
+fn push_lids(lids: &mut Vec<HeldLid>, first: &HeldLid, lmc: Lmc) -> Result<(), AllocError>
+    requires { first.now.lid + 2 ^ lmc ≤ 0xC000 }
+    ensures { OnOk result (lids.new.items
+        ≡ lids.old.items ++ lids_of (record { first = first.now; lmc = lmc })) }
+{
+    for step in 0..lmc.width() {
         lids.push(HeldLid {
             lid: Lid::new(first.lid.number() + step),
             port: first.port,
