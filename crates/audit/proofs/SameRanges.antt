@@ -1,9 +1,9 @@
 -- A port that has the LIDs of a range, and no others, has its LID and its LMC.
-use Rattle.std.proofs.Common.{◌≡◌, ℕ, zero, suc, ◌+◌, ◌<◌, ◌≤◌, ◌^◌, true, inl, inr, sym, ◌∙◌, arith}
-use Rattle.std.proofs.lemmas.Bool.{cases_lt, eqb-true}
+use Rattle.std.proofs.Common.{◌≡◌, ℕ, zero, suc, ◌+◌, ◌<◌, ◌≤◌, ◌^◌, true, inl, inr, sym, ap, ◌∙◌, arith, cond, ◌==◌}
+use Rattle.std.proofs.lemmas.Bool.{cases_lt, eqb-true, ne_eqb}
 use Rattle.std.proofs.lemmas.Nat.{pow_below, pow_pos}
 use Rattle.smp_bytes.specs.LidRange.{has_lid, is_among}
-use Rattle.lid_assign.specs.Ranges.{Range, IsIn}
+use Rattle.lid_assign.specs.Ranges.{Range, IsIn, is_in}
 use Rattle.lid_assign.proofs.Ranges.{in_from_test, test_from_in}
 
 module _ (b k first n : ℕ) (some : 1 ≤ first) (h : (m : ℕ) → 1 ≤ m → has_lid (suc b) k m ≡ is_among first (2 ^ n) m) where
@@ -13,11 +13,14 @@ module _ (b k first n : ℕ) (some : 1 ≤ first) (h : (m : ℕ) → 1 ≤ m →
   abbrev range : Range
   range = record { first = first; width = 2 ^ n }
 
+  is_one : (m : ℕ) → has_lid (suc b) k m ≡ is_in its m
+  is_one m = ap (λ t. cond t (m == 0) (is_in its m)) (ne_eqb (suc b) 0 (λ z. omega (arith, z)))
+
   over : (m : ℕ) → 1 ≤ m → IsIn its m → IsIn range m
-  over m low is = in_from_test range m (sym (h m low) ∙ test_from_in its m is)
+  over m low is = in_from_test range m (sym (h m low) ∙ is_one m ∙ test_from_in its m is)
 
   back : (m : ℕ) → 1 ≤ m → IsIn range m → IsIn its m
-  back m low is = in_from_test its m (h m low ∙ test_from_in range m is)
+  back m low is = in_from_test its m (sym (is_one m) ∙ h m low ∙ test_from_in range m is)
 
   first_is : suc b ≡ first
   first_is =
