@@ -113,10 +113,10 @@ class Routes:
         return found
 
     def carried(self):
-        """For each channel how many routes it carries, of each adapter port's packets to each other one."""
+        """For each channel how many routes it carries, of each adapter port's packets to each LID of each other one."""
         ends = self.ends()
         carried = dict.fromkeys(ends, 0)
-        sources = collections.Counter(self.home[end][0] for end in self.owners.values() if end in self.home)
+        sources = collections.Counter(self.home[end][0] for end in set(self.owners.values()) if end in self.home)
         for (home, column), lids in self.groups.items():
             count = sum(self.owners[lid] in self.home for lid in lids)
             if count and home is not None:

@@ -194,3 +194,65 @@ def two_ports(count):
         fabric.join(host, switches[i])
         fabric.join(host, switches[count + i])
     return fabric
+
+
+def torus(rows, columns):
+    """Switches in rows and columns that close to rings, with an adapter at each."""
+    fabric = Fabric()
+    switches = fabric.switches(rows * columns)
+    fabric.hosts(switches)
+    for i, switch in enumerate(switches):
+        row, column = divmod(i, columns)
+        fabric.join(switch, switches[row * columns + (column + 1) % columns])
+        fabric.join(switch, switches[(row + 1) % rows * columns + column])
+    return fabric
+
+
+def two_levels(low, high, hosts):
+    """Each switch of the lower level wired to each of the higher, and so many adapters at each of the lower."""
+    fabric = Fabric()
+    switches = fabric.switches(low + high)
+    fabric.hosts([switch for switch in switches[:low] for _ in range(hosts)])
+    for one in switches[:low]:
+        for other in switches[low:]:
+            fabric.join(one, other)
+    return fabric
+
+
+def apart():
+    """A ring of five and a ladder of two rings, with no wire between them, and an adapter at every second switch."""
+    fabric = Fabric()
+    switches = fabric.switches(15)
+    fabric.hosts(switches[::2])
+    ring, rest = switches[::3], switches[1::3] + switches[2::3]
+    for one, other in zip(ring, ring[1:] + ring[:1]):
+        fabric.join(one, other)
+    for i, switch in enumerate(rest):
+        row, column = divmod(i, 5)
+        fabric.join(switch, rest[row * 5 + (column + 1) % 5])
+        if row == 0:
+            fabric.join(switch, rest[5 + column])
+    return fabric
+
+
+def without_adapters(count):
+    """Switches in a ring, and further wires between those that stand apart by three."""
+    fabric = Fabric()
+    switches = fabric.switches(count)
+    for step in (1, 3):
+        for i, switch in enumerate(switches):
+            fabric.join(switch, switches[(i + step) % count])
+    return fabric
+
+
+def with_double_wires():
+    """A tree of two levels, each wire of it twice, and a switch with a wire to itself."""
+    fabric = Fabric()
+    switches = fabric.switches(6)
+    fabric.hosts([switch for switch in switches[:4] for _ in range(3)])
+    for one in switches[:4]:
+        for other in switches[4:]:
+            fabric.join(one, other)
+            fabric.join(one, other)
+    fabric.join(switches[4], switches[4])
+    return fabric

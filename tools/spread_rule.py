@@ -1,0 +1,124 @@
+"""The rule of routing that spreads, worked out from its definitions in docs/MODEL.md, apart from the program.
+
+A graph is for each usable switch, by its GUID, the exits of its ports: pairs of a port and the switch that the wire leads
+to, by rising port.
+"""
+import collections
+import heapq
+
+NO_WAY = 255
+
+
+def distances(graph, starts):
+    """How many wires each switch that they reach is from the nearest of these."""
+    far = dict.fromkeys(starts, 0)
+    waiting = collections.deque(far)
+    while waiting:
+        switch = waiting.popleft()
+        for _, to in graph[switch]:
+            if to not in far:
+                far[to] = far[switch] + 1
+                waiting.append(to)
+    return far
+
+
+def class_of(far, bearing, roots):
+    """The class of a switch, by the distances from it."""
+    to_roots = [far[root] for root in roots if root in far]
+    if to_roots:
+        return min(to_roots)
+    to_bearing = [far[switch] for switch in bearing if switch in far]
+    return 4 * sum(to_bearing) // len(to_bearing) if to_bearing else 0
+
+
+def keys_of(graph, bearing, roots):
+    """By class, distance from the first of the component, and GUID."""
+    far = {switch: distances(graph, [switch]) for switch in graph}
+    classes = {switch: class_of(far[switch], bearing, roots) for switch in graph}
+    keys = {}
+    for switch in graph:
+        first = min(far[switch], key=lambda one: (classes[one], one))
+        keys[switch] = classes[switch], far[first][switch], switch
+    return keys
+
+
+def places_of(graph, keys):
+    """The place of each switch in the order that grows by these keys."""
+    places, left, beside = {}, sorted(graph, key=keys.get, reverse=True), []
+    while left:
+        switch = heapq.heappop(beside)[1] if beside else left.pop()
+        if switch in places:
+            continue
+        places[switch] = len(places)
+        for _, to in graph[switch]:
+            if to not in places:
+                heapq.heappush(beside, (keys[to], to))
+    return places
+
+
+def rounds(graph, places, target):
+    """The round in which each switch that has a way to the target is labelled, and those that are labelled Down."""
+    cost, down, last = {target: 0}, {target}, [target]
+    while last:
+        found = collections.defaultdict(bool)
+        for switch in last:
+            for _, before in graph[switch]:
+                if before in cost:
+                    continue
+                # From there the wire leads up, or else down to this switch.
+                if places[before] > places[switch]:
+                    found[before] = True
+                elif places[before] < places[switch] and switch in down:
+                    found[before] |= False
+        for switch, leads_up in found.items():
+            cost[switch] = cost[last[0]] + 1
+            if not leads_up:
+                down.add(switch)
+        last = list(found)
+    return cost, down
+
+
+def candidates(graph, places, cost, down, switch):
+    """The exits that gave a switch its label, by rising port."""
+    return [
+        (port, to) for port, to in graph[switch]
+        if to in cost and cost[to] < cost[switch] and (places[to] < places[switch] or places[to] > places[switch] and to in down)
+    ]
+
+
+def units_of(graph, heights):
+    """The unit of each height."""
+    widths = collections.defaultdict(lambda: 1)
+    for switch, exits in graph.items():
+        taller = sum(heights[to] > heights[switch] for _, to in exits)
+        widths[heights[switch]] = max(widths[heights[switch]], taller)
+    units = [1]
+    for height in range(max(heights.values(), default=0)):
+        units.append(min(units[-1] * widths[height], 65536))
+    return units
+
+
+def tables(graph, bearing, homes, roots=()):
+    """The port by which packets for each LID leave each switch. `homes` has the switch of each LID's owner and the port by which
+    packets leave that one."""
+    places = places_of(graph, keys_of(graph, bearing, roots))
+    heights = dict.fromkeys(graph, 0) | distances(graph, bearing)
+    units = units_of(graph, heights)
+    found = {switch: {} for switch in graph}
+    by_home = collections.defaultdict(list)
+    for lid, (home, _) in homes.items():
+        by_home[home].append(lid)
+    for home, lids in by_home.items():
+        cost, down = rounds(graph, places, home)
+        for switch in graph:
+            if switch == home:
+                found[switch].update((lid, homes[lid][1]) for lid in lids)
+            elif switch not in cost:
+                found[switch].update((lid, NO_WAY) for lid in lids)
+            else:
+                exits = candidates(graph, places, cost, down, switch)
+                taller = any(heights[to] > heights[switch] for _, to in exits)
+                unit = units[heights[switch]] if taller else 1
+                for lid in lids:
+                    found[switch][lid] = exits[(lid // unit + switch % 31) % len(exits)][0]
+    return found
