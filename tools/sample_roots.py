@@ -1,5 +1,5 @@
-"""Texts of roots for plans by the rule that spreads, and how the plans end. Faults and plans were worked out from docs/FORMATS.md
-and docs/MODEL.md, apart from the program."""
+"""Texts of roots for plans and runs by the rule that spreads, and how these end. Faults and plans were worked out from
+docs/FORMATS.md and docs/MODEL.md, apart from the program."""
 from built_program import prints, refused, says
 
 TREE = (
@@ -12,6 +12,21 @@ RINGS = (
     "10/1-20/1 20/2-30/1 30/2-40/1 40/2-50/1 50/2-10/2 10/3-100/1 30/3-200/1 60/1-70/1 70/2-80/1 80/2-60/2 80/3-300/1",
 )
 RINGS_LIDS = "1 10/0 2 20/0 3 30/0 4 40/0 5 50/0 6 60/0 7 70/0 8 80/0 9 100/1 10 200/1 11 300/1"
+
+# The ring of 10 to 50 alone, as a manager in it knows it.
+RING_LIDS = "1 10/0 2 20/0 3 30/0 4 40/0 5 50/0 6 100/1 7 200/1"
+# A manager at the adapter 100 of either, which sweeps and prints its plan.
+SWEPT = 'manager M "100"[1] 1\nsweep M\ndrain 1000\nplan M\n'
+
+
+def topology(switches, adapters, wires):
+    """The text of a fabric of switches of four ports and adapters of one, whose nodes are named by their GUIDs."""
+    links = {}
+    for cable in wires.split():
+        (near, port), (far, at) = (end.split("/") for end in cable.split("-"))
+        links.setdefault(near, []).append(f'[{port}] "{far}"[{at}]\n')
+    nodes = [(guid, "Switch 4") for guid in switches] + [(guid, "Hca 1") for guid in adapters]
+    return "".join(f'{kind} "{guid:x}" guid 0x{guid:x}\n' + "".join(links.get(f"{guid:x}", [])) for guid, kind in nodes)
 
 
 def plans(plan):
@@ -95,6 +110,60 @@ def orders():
     yield f"{spread} ROOTS SPREAD CROWDED", "", refused("ROOTS: no root")
     yield f"{spread} ROOTS SPREAD CROWDED", "11", refused("ROOTS: no usable switch 0000000000000011")
     yield f"{spread} ROOTS SPREAD CROWDED", "10", refused("no room: 11 end ports, room 11")
+
+
+def runs(plan):
+    """Each with its title, the subnet, a text of its roots, the options besides, and the plan of a manager at the adapter 100."""
+    for title, of, texts, ends in plans(plan):
+        if of is TREE:
+            for text in texts:
+                yield title, of, text, "", ends
+    # Each adapter's switch is where its two LIDs lead, and no switch on the way has two exits to choose from.
+    one = (
+        "10 0 1 1 2 3 1 1 2 2 3 3", "20 3 0 1 2 3 1 1 2 2 3 3", "30 1 2 0 2 2 3 4 2 2 2 2",
+        "40 1 2 2 0 2 2 2 3 4 2 2", "50 1 2 2 2 0 2 2 2 2 3 4",
+    )
+    lids = "1 10/0 2 20/0 3 30/0 4 40/0 5 50/0 6 100/1 8 110/1 10 120/1 12 200/1 14 210/1 16 300/1"
+    yield "a tree from one switch above, two LIDs an adapter port", TREE, "20", "--lmc 1", plan(lids, *one, lmc=1)
+    # What is a switch of the fabric, and stands in a ring that the manager does not reach, changes nothing.
+    ring = "10 0 1 2 2 2 3 2", "20 1 0 2 2 1 1 2", "30 2 1 0 2 2 2 3", "40 2 1 1 0 2 2 1", "50 2 2 1 1 0 2 1"
+    for text in "40", "40\n70", "60\n40":
+        yield "a ring from one switch of it", RINGS, text, "", plan(RING_LIDS, *ring)
+
+
+# Topologies in which a switch and an adapter have one GUID.
+TWINS = (
+    'Switch 1 "S" guid 0x10\nHca 1 "H" guid 0x10\n',
+    'Hca 1 "H" guid 0x10\nSwitch 1 "S" guid 0x10\n',
+)
+
+
+def run_orders():
+    """Command lines of runs, with the text of roots and how they end. `FABRIC_OF_TREE` is the topology of the tree; the other files
+    are those of `sample_files.py`: `TOPOLOGY` has an adapter alone, `FAULTY` and `BYTES` are refused as either text, `EMPTY` is none's
+    fault, and there is no file `NONE`."""
+    spread = "run --routing spread --roots"
+    yield f"{spread} NONE TOPOLOGY SCHEDULE", "20", says(4, "NONE: cannot open")
+    yield f"{spread} missing NONE NONE", "20", says(4, "missing: cannot open")
+    yield f"{spread} ROOTS NONE missing", "20 30", says(4, "NONE: cannot open")
+    yield f"{spread} ROOTS FABRIC_OF_TREE NONE", "20 30", says(4, "NONE: cannot open")
+    yield f"{spread} ROOTS . NONE", "", says(4, "NONE: cannot open")
+    yield f"{spread} . TOPOLOGY SCHEDULE", "", says(4, ".: read failed")
+    yield f"{spread} . FAULTY BYTES", "", says(4, ".: read failed")
+    yield f"{spread} ROOTS . SCHEDULE", "20 30", refused("ROOTS: line 1: syntax")
+    yield f"{spread} ROOTS . SCHEDULE", "", says(4, ".: read failed")
+    yield f"{spread} ROOTS FAULTY .", "", says(4, ".: read failed")
+    yield f"{spread} ROOTS FAULTY BYTES", "20\n20", refused("ROOTS: line 2: repeated")
+    yield f"{spread} ROOTS FAULTY BYTES", "", refused("FAULTY: line 1: syntax")
+    yield f"{spread} ROOTS BYTES FAULTY", "100", refused("BYTES: not UTF-8")
+    yield f"{spread} ROOTS FABRIC_OF_TREE FAULTY", "100", refused("FAULTY: line 2: syntax")
+    yield f"{spread} ROOTS FABRIC_OF_TREE BYTES", "", refused("BYTES: not UTF-8")
+    yield f"{spread} ROOTS FABRIC_OF_TREE SWEPT", "", refused("ROOTS: no root")
+    yield f"{spread} ROOTS TOPOLOGY SCHEDULE", "100", refused("ROOTS: no usable switch 0000000000000100")
+    yield f"{spread} ROOTS TOPOLOGY SCHEDULE", "", refused("ROOTS: no root")
+    yield f"{spread} ROOTS EMPTY EMPTY", "20", refused("ROOTS: no usable switch 0000000000000020")
+    yield f"{spread} ROOTS EMPTY EMPTY", "", refused("ROOTS: no root")
+    yield f"{spread} ROOTS FABRIC_OF_TREE EMPTY", "20", prints("")
 
 
 def long_text(count):

@@ -106,3 +106,9 @@ pub two_opened : {S : Type 0} (answers : List ℕ → Result S OpenFault → Typ
 two_opened {S} answers names files front back one other opened two parts f =
     let Opened : List S → Type 0 = AreOpened answers names in
     subst Opened (parts ∙ two_are front back one other f (ap length (sym parts) ∙ opened.one_each ∙ two)) opened
+
+-- the one file that was opened by a name
+pub one_opened : {S : Type 0} (answers : List ℕ → Result S OpenFault → Type 0) (name : Bor (List ℕ)) (files : List S)
+    → AreOpened answers (name ∷ []) files → (file : S) × answers name.now (Ok file)
+one_opened answers name [] opened = let none = opened.one_each in absurd (omega arith)
+one_opened answers name (file ∷ files) opened = (file, opened.opened 0 name file refl refl)

@@ -1,6 +1,6 @@
 -- What the words of the command line name.
-use Rattle.std.proofs.Common.{◌≡◌, ℕ, List, [], ◌∷◌, true, false, Option, None, Some, refl, sym, ap, ◌∙◌}
-use Rattle.std.specs.Prelude.{find, map, option_map, option_and_then, slice_get, if◌then◌else◌}
+use Rattle.std.proofs.Common.{◌≡◌, ℕ, Bool, List, [], ◌∷◌, true, false, IsTrue, ◌↔◌, Option, None, Some, refl, subst, sym, ap, ◌∙◌}
+use Rattle.std.specs.Prelude.{codes, find, is_some, map, option_map, option_and_then, slice_get, if◌then◌else◌}
 use Rattle.std.proofs.lemmas.Option.{slice_get-map}
 use Rattle.std.specs.Str.{bytes_eq}
 use Rattle.clap.specs.Facts.{Entry}
@@ -8,7 +8,7 @@ use Rattle.clap.specs.Matches.{first_value, matched_of, raw_values}
 use Rattle.clap.specs.Walk.{Row, row_of, rows_of, Text}
 use Rattle.clap.specs.declared.parser.matches.Found.{Found}
 use Rattle.clap.specs.declared.parser.matches.MatchedArg.{MatchedArg}
-use Rattle.ibsm.specs.Asked.{values_in}
+use Rattle.ibsm.specs.Asked.{RootsLackSpread, values_in}
 
 found_values : (name : List ℕ) (es : List Entry)
     → option_map raw_values (option_map (λ e. e.1) (find (λ e. bytes_eq e.0.now name) es)) ≡ values_in name (map row_of es)
@@ -47,3 +47,31 @@ pub first_named : (o : Option (Text × List Row)) (found : Found) (name value : 
     → Some value ≡ first_value found name
     → option_and_then (λ s. option_and_then (λ vs. slice_get vs 0) (values_in name s.1)) o ≡ Some value
 first_named o found name value e f = first_is o found name e ∙ sym f
+
+no_value : (o : Option (List ℕ)) → is_some o ≡ false → o ≡ None
+no_value None e = refl
+no_value (Some value) e = absurd (cc)
+
+-- and that there is none
+pub none_named : (o : Option (Text × List Row)) (found : Found) (name : List ℕ) → Some (rows_of found) ≡ option_map (λ p. p.1) o
+    → is_some (first_value found name) ≡ false
+    → option_and_then (λ s. option_and_then (λ vs. slice_get vs 0) (values_in name s.1)) o ≡ None
+none_named o found name e f = first_is o found name e ∙ no_value (first_value found name) f
+
+-- roots that lack their rule there lack it among the words that are named
+pub lack_named : (o : Option (Text × List Row)) (found : Found) (b : Bool) → Some (rows_of found) ≡ option_map (λ p. p.1) o
+    → IsTrue b ↔ RootsLackSpread (first_value found (codes "roots")) (first_value found (codes "routing"))
+    → IsTrue b ↔ RootsLackSpread (option_and_then (λ s. option_and_then (λ vs. slice_get vs 0) (values_in (codes "roots") s.1)) o)
+    (option_and_then (λ s. option_and_then (λ vs. slice_get vs 0) (values_in (codes "routing") s.1)) o)
+lack_named o found b e h =
+    let Roots : Option (List ℕ) → Type 0 = λ w. IsTrue b ↔ RootsLackSpread w (first_value found (codes "routing")) in
+    let roots = option_and_then (λ s. option_and_then (λ vs. slice_get vs 0) (values_in (codes "roots") s.1)) o in
+    let Rule : Option (List ℕ) → Type 0 = λ w. IsTrue b ↔ RootsLackSpread roots w in
+    subst Rule (sym (first_is o found (codes "routing") e)) (subst Roots (sym (first_is o found (codes "roots") e)) h)
+
+-- without a subcommand no roots are named
+pub none_lack : (o : Option (Text × List Row)) → None ≡ option_map (λ p. p.1) o
+    → IsTrue false ↔ RootsLackSpread (option_and_then (λ s. option_and_then (λ vs. slice_get vs 0) (values_in (codes "roots") s.1)) o)
+    (option_and_then (λ s. option_and_then (λ vs. slice_get vs 0) (values_in (codes "routing") s.1)) o)
+none_lack None e = (λ t. absurd (cc), λ h. let is = h.0 in absurd (cc))
+none_lack (Some p) e = absurd (cc)

@@ -1,5 +1,5 @@
 -- What the command line asks for.
-use Rattle.std.specs.Prelude.{◌≡◌, Bool, List, [], ◌∷◌, ℕ, Option, None, Some, Result, codes, find, map, option_map, option_and_then, slice_get}
+use Rattle.std.specs.Prelude.{◌≡◌, ◌≢◌, Bool, List, [], ◌∷◌, ℕ, Option, None, Some, IsSome, Result, codes, find, map, option_map, option_and_then, slice_get}
 use Rattle.std.specs.Borrow.{Bor}
 use Rattle.std.specs.Str.{bytes_eq}
 use Rattle.std.specs.Str.Parse.{digits_value, without_leading_plus}
@@ -20,6 +20,7 @@ use Rattle.ibsm.specs.declared.opener.OpenFault.{OpenFault}
 use Rattle.ibsm.specs.Audits.{AuditsFiles}
 use Rattle.ibsm.specs.Ending.{AnswersFiles, RunsFiles}
 use Rattle.ibsm.specs.Plans.{PlansFiles}
+use Rattle.ibsm.specs.RootedRuns.{RunsRootedFiles}
 
 -- the subcommand that asks for an output
 abbrev pub word_of : Output → List ℕ
@@ -83,6 +84,10 @@ HasNoRoots word Facts = Unit {0}
 HasNoRoots word Join = Unit {0}
 HasNoRoots word (Plan lmc kind) = word ≡ None
 
+-- roots are named, and another rule than the one that takes them, or none
+abbrev pub RootsLackSpread : Option (List ℕ) → Option (List ℕ) → Type 0
+RootsLackSpread roots rule = IsSome roots × (rule ≢ Some (codes "spread"))
+
 -- the words ask for a command, and the files that they name were read and answered
 pub record AnswersWords {S : Type 0} (answers : List ℕ → Result S OpenFault → Type 0) (left : S → Option (List ℕ)) (has_failed : S → Bool)
     (matches : ArgMatches) (written written' : Option (List ℕ)) : Type 0 where
@@ -107,6 +112,7 @@ pub record RunsWords {S : Type 0} (answers : List ℕ → Result S OpenFault →
   pub planning : Planning
   pub lmc_asked : IsLmc (word_named (codes "lmc") matches) planning.lmc
   pub rule_asked : AsksRule (word_named (codes "routing") matches) planning.rule
+  pub no_roots : word_named (codes "roots") matches ≡ None
   pub run : RunsFiles answers left has_failed (topology ∷ schedule ∷ []) planning prints
 
 -- the words ask for an audit, and the tables and the files that they name were read, and how packets fare was written
@@ -134,3 +140,18 @@ pub record PlansWords {S : Type 0} (answers : List ℕ → Result S OpenFault �
   pub names : List (Bor (List ℕ))
   pub named : files_named matches ≡ Some (map (λ name. name.now) names)
   pub planned : PlansFiles answers left has_failed asked roots names written written'
+
+-- the words ask for a run from roots by the rule that spreads, and those that they name were read and run; this holds of what the run prints
+pub record RunsRootedWords {S : Type 0} (answers : List ℕ → Result S OpenFault → Type 0) (left : S → Option (List ℕ)) (has_failed : S → Bool)
+    (matches : ArgMatches) (prints : List ℕ → Type 0) : Type 0 where
+  pub command : subcommand_name_of matches ≡ Some (codes "run")
+  pub lmc : ℕ
+  pub lmc_asked : IsLmc (word_named (codes "lmc") matches) lmc
+  pub rule : word_named (codes "routing") matches ≡ Some (codes "spread")
+  pub roots : Bor (List ℕ)
+  pub roots_named : word_named (codes "roots") matches ≡ Some roots.now
+  pub topology : Bor (List ℕ)
+  pub schedule : Bor (List ℕ)
+  pub topology_named : word_named (codes "TOPOLOGY") matches ≡ Some topology.now
+  pub schedule_named : word_named (codes "SCHEDULE") matches ≡ Some schedule.now
+  pub run : RunsRootedFiles answers left has_failed lmc roots (topology ∷ schedule ∷ []) prints

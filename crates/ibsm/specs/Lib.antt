@@ -3,4 +3,5 @@ pub mod Audits
 pub mod Ending
 pub mod Opening
 pub mod Plans
+pub mod RootedRuns
 pub mod Whose

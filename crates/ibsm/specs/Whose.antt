@@ -1,5 +1,5 @@
 -- How a run ends that reads a text before its files: the fault of the text or of the files, its status, and the line that says it.
-use Rattle.std.specs.Prelude.{◌≡◌, List, [], ◌∷◌, ℕ, Bool, Option, Result}
+use Rattle.std.specs.Prelude.{◌≡◌, List, [], ◌∷◌, ℕ, Bool, Option, Result, Ok}
 use Rattle.std.specs.Borrow.{Bor}
 use Rattle.sm_cli.specs.ExitStatus.{status_of}
 use Rattle.sm_cli.specs.declared.exit_status.ExitStatus.{ExitStatus}
@@ -9,10 +9,10 @@ use Rattle.ibsm.specs.declared.opener.OpenFault.{OpenFault}
 use Rattle.ibsm.specs.Ending.{IsSaid, fault_line}
 use Rattle.ibsm.specs.Opening.{IsOpenFault}
 
--- why the file of the text, or one of the others, is not open
+-- why the file of the text is not open, or, where it is, one of the others
 abbrev pub IsOpenFaultOf : {S : Type 0} → (List ℕ → Result S OpenFault → Type 0) → Bor (List ℕ) → List (Bor (List ℕ)) → WhoseFault → Type 0
 IsOpenFaultOf answers text names (Text fault) = IsOpenFault answers (text ∷ []) fault
-IsOpenFaultOf answers text names (Files fault) = IsOpenFault answers names fault
+IsOpenFaultOf {S} answers text names (Files fault) = ((file : S) × answers text.now (Ok file)) × IsOpenFault answers names fault
 
 -- the line that says the fault
 abbrev pub whose_line : Bor (List ℕ) → List (Bor (List ℕ)) → WhoseFault → List ℕ

@@ -126,7 +126,8 @@ fn run<'a>(alloc: Global) -> Result<Command<'a>, AllocError> {
             "The managers and the commands that are run",
         ))?
         .arg(lmc(alloc))?
-        .arg(routing(alloc))
+        .arg(routing(alloc))?
+        .arg(roots(alloc))
 }
 
 /// A file of its own.
@@ -180,9 +181,13 @@ fn roots<'a>(alloc: Global) -> Arg<'a> {
         .action(ArgAction::Set)
 }
 
-/// What is wrong where roots are named, and another rule of routing than the one that takes them.
-pub(crate) fn roots_without_spread(alloc: Global) -> Result<Error, AllocError> {
-    plan(alloc)?.bin_name("ibsm plan")?.error(
+/// What is wrong where roots are named behind the subcommand, and another rule of routing than the one that takes them.
+pub(crate) fn roots_without_spread(alloc: Global, name: Option<&str>) -> Result<Error, AllocError> {
+    let command = match name {
+        Some(RUN) => run(alloc)?.bin_name("ibsm run")?,
+        _ => plan(alloc)?.bin_name("ibsm plan")?,
+    };
+    command.error(
         ErrorKind::ArgumentConflict,
         "the argument '--roots <FILE>' cannot be used without '--routing spread'",
     )

@@ -3,7 +3,7 @@ ghost use Rattle.std.specs.Prelude.{◌≡◌, ◌⊎◌, Err, IfErr, IfOk, IsTr
 ghost use Rattle.ibsm.specs.Audits.{AuditsFiles, IsAuditsFault, status_after};
 ghost use Rattle.ibsm.specs.Whose.{SaysWhose};
 
-use crate::files::{open_all, say_whose};
+use crate::files::{open_behind_text, say_whose};
 use crate::opener::Opener;
 use audit_run::run_audit;
 use record_file::{Sink, ToWrite};
@@ -74,12 +74,10 @@ where
         floor tables.entry names.now (⟦<ToWrite<O> as Sink>⟧.has_failed output.new)) }
     ensures nothing_written { OnErr result ((result ≡ Err (WhoseFault.Files Fault.Write)) ⊎ (output.new ≡ output.old)) }
 {
-    let mut texts = match open_all(rt, &[tables]) {
-        Ok(texts) => texts,
-        Err(fault) => return Err(WhoseFault::Text(fault)),
-    };
-    match open_all(rt, names) {
-        Ok(mut files) => run_audit(rt.alloc(), &mut texts[0], &mut files, floor, output),
-        Err(fault) => Err(WhoseFault::Files(fault)),
+    match open_behind_text(rt, tables, names) {
+        Ok((mut texts, mut files)) => {
+            run_audit(rt.alloc(), &mut texts[0], &mut files, floor, output)
+        }
+        Err(fault) => Err(fault),
     }
 }

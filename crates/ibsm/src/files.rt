@@ -1,11 +1,11 @@
 //! The subcommands that read files.
-ghost use Rattle.std.specs.Prelude.{◌≡◌, ◌⊎◌, Err, length, IfOk, IfErr, OnOk, OnErr, IsTrue};
+ghost use Rattle.std.specs.Prelude.{◌≡◌, ◌⊎◌, [], ◌∷◌, Err, length, IfOk, IfErr, OnOk, OnErr, IsTrue};
 ghost use Rattle.sm_cli.specs.ExitStatus.{status_of};
 ghost use Rattle.sm_run.specs.Prints.{Prints, PrintsSome};
 ghost use Rattle.ibsm.specs.Ending.{AnswersFiles, IsAnswersFault, IsRunsFault, IsSaid, RunsFiles, SaysWhy};
 ghost use Rattle.ibsm.specs.Ending.{fault_line, name_of};
 ghost use Rattle.ibsm.specs.Opening.{AreOpened, IsOpenFault};
-ghost use Rattle.ibsm.specs.Whose.{status_of_whose, whose_line};
+ghost use Rattle.ibsm.specs.Whose.{IsOpenFaultOf, status_of_whose, whose_line};
 
 use crate::opener::{OpenFault, Opener};
 use record_file::{Sink, ToWrite};
@@ -169,7 +169,7 @@ where
 
 /// Opens the files with these names, in their order. Where memory is wanting the names behind are
 /// still asked for: one that is missing counts first.
-pub(crate) fn open_all<R>(rt: &R, names: &[&str]) -> Result<Vec<R::Opened>, Fault>
+fn open_all<R>(rt: &R, names: &[&str]) -> Result<Vec<R::Opened>, Fault>
 where
     R: Opener + AllocGlobal,
     ensures opened { IfOk result (λ files. AreOpened (R.answers rt.now) names.now files.items) }
@@ -188,6 +188,28 @@ where
         Ok(files)
     } else {
         Err(Fault::Memory)
+    }
+}
+
+/// Opens the file of a text, and then those with these names.
+pub(crate) fn open_behind_text<R>(
+    rt: &R,
+    text: &str,
+    names: &[&str],
+) -> Result<(Vec<R::Opened>, Vec<R::Opened>), WhoseFault>
+where
+    R: Opener + AllocGlobal,
+    ensures text { IfOk result (λ opened. AreOpened (R.answers rt.now) (text.entry ∷ []) opened.0.items) }
+    ensures files { IfOk result (λ opened. AreOpened (R.answers rt.now) names.now opened.1.items) }
+    ensures refused { IfErr result (IsOpenFaultOf (R.answers rt.now) text.entry names.now) }
+{
+    let texts = match open_all(rt, &[text]) {
+        Ok(texts) => texts,
+        Err(fault) => return Err(WhoseFault::Text(fault)),
+    };
+    match open_all(rt, names) {
+        Ok(files) => Ok((texts, files)),
+        Err(fault) => Err(WhoseFault::Files(fault)),
     }
 }
 

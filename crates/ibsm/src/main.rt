@@ -6,6 +6,7 @@ mod audits;
 mod files;
 mod opener;
 mod plans;
+mod rooted_runs;
 mod run;
 
 use std::process::ExitCode;

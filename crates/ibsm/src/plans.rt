@@ -3,7 +3,7 @@ ghost use Rattle.std.specs.Prelude.{◌≡◌, ◌⊎◌, Err, IfErr, IsTrue, On
 ghost use Rattle.ibsm.specs.Plans.{IsPlansFault, PlansFiles};
 ghost use Rattle.ibsm.specs.Whose.{SaysWhose};
 
-use crate::files::{open_all, say_whose};
+use crate::files::{open_behind_text, say_whose};
 use crate::opener::Opener;
 use record_file::{Sink, ToWrite};
 use sm_cli::{ExitStatus, Fault, RootedPlan, WhoseFault, run_rooted};
@@ -62,12 +62,10 @@ where
         asked roots.entry names.now (⟦<ToWrite<O> as Sink>⟧.has_failed output.new)) }
     ensures nothing_written { OnErr result ((result ≡ Err (WhoseFault.Files Fault.Write)) ⊎ (output.new ≡ output.old)) }
 {
-    let mut texts = match open_all(rt, &[roots]) {
-        Ok(texts) => texts,
-        Err(fault) => return Err(WhoseFault::Text(fault)),
-    };
-    match open_all(rt, names) {
-        Ok(mut files) => run_rooted(rt.alloc(), asked, &mut texts[0], &mut files, output),
-        Err(fault) => Err(WhoseFault::Files(fault)),
+    match open_behind_text(rt, roots, names) {
+        Ok((mut texts, mut files)) => {
+            run_rooted(rt.alloc(), asked, &mut texts[0], &mut files, output)
+        }
+        Err(fault) => Err(fault),
     }
 }

@@ -1,9 +1,10 @@
 //! One run of the program.
-ghost use Rattle.std.specs.Prelude.{◌≡◌, ◌⊎◌, Some, IfSome, IsSome, codes, map, length, slice_get, false, true};
+ghost use Rattle.std.specs.Prelude.{◌≡◌, ◌⊎◌, ◌↔◌, None, Some, IfSome, IsSome, IsTrue, codes, is_some, map, length, slice_get, false, true};
 ghost use Rattle.clap.specs.Matches.{subcommand_name_of};
 ghost use Rattle.clap.specs.Matches.{first_value, found_of};
 ghost use Rattle.sm_run.specs.Prints.{Prints};
-ghost use Rattle.ibsm.specs.Asked.{AnswersWords, AsksRule, AuditsWords, HasLmc, HasNoRoots, HasRule, IsFloor, IsLmc, IsRule, PlansWords, RunsWords, files_named, word_named, word_of};
+ghost use Rattle.ibsm.specs.Asked.{AnswersWords, AsksRule, AuditsWords, HasLmc, HasNoRoots, HasRule, IsFloor, IsLmc, IsRule, PlansWords};
+ghost use Rattle.ibsm.specs.Asked.{RootsLackSpread, RunsRootedWords, RunsWords, files_named, word_named, word_of};
 
 use crate::arguments::{
     AUDIT, FACTS, FILE, FLOOR, JOIN, LMC, PLAN, ROOTS, ROUTING, RUN, SCHEDULE, SPREAD, TABLES,
@@ -13,6 +14,7 @@ use crate::audits::audit_or_explain;
 use crate::files::{answer_or_explain, run_or_explain, say};
 use crate::opener::Opener;
 use crate::plans::plan_or_explain;
+use crate::rooted_runs::run_rooted_or_explain;
 use attr_codec::Lmc;
 use clap::error::ErrorKind;
 use clap::{ArgMatches, Error};
@@ -52,7 +54,8 @@ where
     let writer = BufWriter::new(rt.alloc(), output).map_err(|_| AllocError)?;
     match command_line(rt.alloc())?.try_get_matches_from(words.as_slice()) {
         Ok(matches) if has_roots_without_spread(&matches) => {
-            explain(rt, &roots_without_spread(rt.alloc())?, errors)
+            let error = roots_without_spread(rt.alloc(), matches.subcommand_name())?;
+            explain(rt, &error, errors)
         }
         Ok(matches) => Ok(obey(rt, &matches, &mut ToWrite::new(writer), errors)),
         Err(error) => explain(rt, &error, errors),
@@ -72,11 +75,37 @@ fn words<R: Env + Eprint + AllocGlobal>(rt: &R) -> Result<Option<Vec<String>>, A
 }
 
 /// Whether roots are named, and another rule of routing than the one that takes them.
-fn has_roots_without_spread(matches: &ArgMatches<'_>) -> bool {
+fn has_roots_without_spread(matches: &ArgMatches<'_>) -> bool
+    ensures { IsTrue result
+        ↔ RootsLackSpread (word_named (codes "roots") matches.now) (word_named (codes "routing") matches.now) }
+{
     match matches.subcommand() {
-        Some((_, words)) => {
-            words.get_str(ROOTS).is_some() && words.get_str(ROUTING) != Some(SPREAD)
-        }
+        Some((_, words)) => lacks_spread(words),
+        None => false,
+    }
+}
+
+/// Whether the words behind a subcommand name a file of roots, and another rule, or none.
+fn lacks_spread(words: &ArgMatches<'_>) -> bool
+    ensures { IsTrue result ↔ RootsLackSpread (first_value (found_of words.now) (codes "roots"))
+        (first_value (found_of words.now) (codes "routing")) }
+{
+    has_roots(words) && !is_spread(words)
+}
+
+/// Whether they name a file of roots.
+fn has_roots(words: &ArgMatches<'_>) -> bool
+    ensures { result ≡ is_some (first_value (found_of words.now) (codes "roots")) }
+{
+    words.get_str(ROOTS).is_some()
+}
+
+/// Whether they ask for the rule that takes roots.
+fn is_spread(words: &ArgMatches<'_>) -> bool
+    ensures { IsTrue result ↔ (first_value (found_of words.now) (codes "routing") ≡ Some (codes "spread")) }
+{
+    match words.get_str(ROUTING) {
+        Some(rule) => rule == SPREAD,
         None => false,
     }
 }
@@ -101,13 +130,18 @@ where
         ⊎ AuditsWords (R.answers rt.now) R.Opened.left R.Opened.has_failed matches.now
         (⟦<ToWrite<O> as Sink>⟧.written output.old) (⟦<ToWrite<O> as Sink>⟧.written output.new) true
         ⊎ PlansWords (R.answers rt.now) R.Opened.left R.Opened.has_failed matches.now
-        (⟦<ToWrite<O> as Sink>⟧.written output.old) (⟦<ToWrite<O> as Sink>⟧.written output.new) }
+        (⟦<ToWrite<O> as Sink>⟧.written output.old) (⟦<ToWrite<O> as Sink>⟧.written output.new)
+        ⊎ RunsRootedWords (R.answers rt.now) R.Opened.left R.Opened.has_failed matches.now
+        (Prints ⟦<ToWrite<O> as Sink>⟧.written ⟦<ToWrite<O> as Sink>⟧.has_failed output.old output.new) }
     ensures failed { result ≡ ExitStatus.Failed
         → AuditsWords (R.answers rt.now) R.Opened.left R.Opened.has_failed matches.now
         (⟦<ToWrite<O> as Sink>⟧.written output.old) (⟦<ToWrite<O> as Sink>⟧.written output.new) false }
 {
     if let Some((topology, schedule, planning)) = run_asked(rt.alloc(), matches) {
         return run_or_explain(rt, &[topology, schedule], &planning, output, errors);
+    }
+    if let Some((lmc, roots, topology, schedule)) = rooted_run_asked(matches) {
+        return run_rooted_or_explain(rt, lmc, roots, &[topology, schedule], output, errors);
     }
     if let Some((tables, floor, names)) = audit_asked(matches) {
         return audit_or_explain(rt, floor, tables, names, output, errors);
@@ -147,7 +181,7 @@ fn output_of(name: &str, words: &ArgMatches<'_>) -> Option<Output>
         FACTS => Some(Output::Facts),
         JOIN => Some(Output::Join),
         PLAN => {
-            if words.get_str(ROOTS).is_some() {
+            if has_roots(words) {
                 return None;
             }
             Some(Output::Plan(lmc_of(words)?, rule_of(words)?))
@@ -200,17 +234,57 @@ pub(crate) fn run_asked<'a>(
     ensures schedule { IfSome result (λ names. word_named (codes "SCHEDULE") matches.now ≡ Some names.1.now) }
     ensures lmc { IfSome result (λ names. IsLmc (word_named (codes "lmc") matches.now) names.2.lmc) }
     ensures rule { IfSome result (λ names. AsksRule (word_named (codes "routing") matches.now) names.2.rule) }
+    ensures no_roots { IsSome result → word_named (codes "roots") matches.now ≡ None }
+{
+    let (name, words) = matches.subcommand()?;
+    if name != RUN || has_roots(words) {
+        return None;
+    }
+    let (topology, schedule, lmc) = texts_of(words)?;
+    let kind = rule_of(words)?;
+    let rule = rule_of_kind(alloc, kind);
+    let planning = Planning::new(lmc, rule);
+    Some((topology, schedule, planning))
+}
+
+/// The names of the topology and of the schedule behind a subcommand, and the LMC.
+fn texts_of<'a>(words: &ArgMatches<'a>) -> Option<(&'a str, &'a str, Lmc)>
+    ensures topology { IfSome result (λ texts. first_value (found_of words.now) (codes "TOPOLOGY") ≡ Some texts.0.now) }
+    ensures schedule { IfSome result (λ texts. first_value (found_of words.now) (codes "SCHEDULE") ≡ Some texts.1.now) }
+    ensures lmc { IfSome result (λ texts. IsLmc (first_value (found_of words.now) (codes "lmc")) texts.2) }
+{
+    let topology = words.get_str(TOPOLOGY)?;
+    let schedule = words.get_str(SCHEDULE)?;
+    Some((topology, schedule, lmc_of(words)?))
+}
+
+/// The name of the file of roots behind a subcommand, where the rule that takes roots is asked for.
+fn roots_of<'a>(words: &ArgMatches<'a>) -> Option<&'a str>
+    ensures named { IfSome result (λ roots. first_value (found_of words.now) (codes "roots") ≡ Some roots.now) }
+    ensures rule { IsSome result → first_value (found_of words.now) (codes "routing") ≡ Some (codes "spread") }
+{
+    let roots = words.get_str(ROOTS)?;
+    if is_spread(words) { Some(roots) } else { None }
+}
+
+/// The LMC, the file of roots, the topology and the schedule that the words of the command line ask to be run.
+pub(crate) fn rooted_run_asked<'a>(
+    matches: &ArgMatches<'a>,
+) -> Option<(Lmc, &'a str, &'a str, &'a str)>
+    ensures command { IsSome result → subcommand_name_of matches.now ≡ Some (codes "run") }
+    ensures lmc { IfSome result (λ asked. IsLmc (word_named (codes "lmc") matches.now) asked.0) }
+    ensures rule { IsSome result → word_named (codes "routing") matches.now ≡ Some (codes "spread") }
+    ensures roots { IfSome result (λ asked. word_named (codes "roots") matches.now ≡ Some asked.1.now) }
+    ensures topology { IfSome result (λ asked. word_named (codes "TOPOLOGY") matches.now ≡ Some asked.2.now) }
+    ensures schedule { IfSome result (λ asked. word_named (codes "SCHEDULE") matches.now ≡ Some asked.3.now) }
 {
     let (name, words) = matches.subcommand()?;
     if name != RUN {
         return None;
     }
-    let topology = words.get_str(TOPOLOGY)?;
-    let lmc = lmc_of(words)?;
-    let kind = rule_of(words)?;
-    let rule = rule_of_kind(alloc, kind);
-    let planning = Planning::new(lmc, rule);
-    Some((topology, words.get_str(SCHEDULE)?, planning))
+    let roots = roots_of(words)?;
+    let (topology, schedule, lmc) = texts_of(words)?;
+    Some((lmc, roots, topology, schedule))
 }
 
 /// The plan from roots that the words of the command line ask for, and the names of the file of roots and of the
@@ -229,11 +303,7 @@ pub(crate) fn rooted_asked<'m, 'a>(
     if name != PLAN {
         return None;
     }
-    let roots = words.get_str(ROOTS)?;
-    let rule = words.get_str(ROUTING)?;
-    if rule != SPREAD {
-        return None;
-    }
+    let roots = roots_of(words)?;
     let lmc = lmc_of(words)?;
     let floor = floor_of(words)?;
     Some((RootedPlan { lmc, floor }, roots, words.get_strs(FILE)?))

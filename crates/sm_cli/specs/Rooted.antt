@@ -2,7 +2,7 @@
 use Rattle.std.specs.Prelude.{◌≡◌, ◌⊎◌, ℕ, Bool, List, [], ◌∷◌, Option, None, Some, Ok, Err, find, not, option_map}
 use Rattle.std.specs.Io.KnownBytes.{Appends}
 use Rattle.fact_store.specs.View.{Facts, cells_of}
-use Rattle.subnet_view.specs.Reading.{Cells, is_usable}
+use Rattle.subnet_view.specs.Reading.{is_usable}
 use Rattle.record_file.specs.Whole.{IsReadWhole, FailsToRead}
 use Rattle.record_file.specs.declared.file_fault.FileFault.{FileFault}
 use Rattle.roots_file.specs.Reading.{roots_of}
@@ -23,14 +23,18 @@ use Rattle.sm_cli.specs.Run.{HasRead, IsWritingFault, RefusesFile}
 
 -- roots -----------------------------------------------------------------------------------------
 
--- the first root that is no usable switch
-abbrev pub first_unusable : Cells → List ℕ → Option ℕ
-first_unusable cells roots = find (λ root. not (is_usable cells root)) roots
+-- the first root that is no usable switch, by what says which GUIDs are some
+abbrev pub first_unusable : (ℕ → Bool) → List ℕ → Option ℕ
+first_unusable usable roots = find (λ root. not (usable root)) roots
+
+-- why no plan goes by roots of which this is the first that is no usable switch, if so: there is no root, or there is that one
+abbrev pub fault_of_first : List ℕ → Option ℕ → Option TextFault
+fault_of_first [] unusable = Some texts.NoRoot
+fault_of_first (root ∷ roots) unusable = option_map texts.NoSwitch unusable
 
 -- why no plan goes by some roots, if so: there is none, or one is no usable switch
-abbrev pub roots_fault : List ℕ → Cells → Option TextFault
-roots_fault [] cells = Some texts.NoRoot
-roots_fault (root ∷ roots) cells = option_map texts.NoSwitch (first_unusable cells (root ∷ roots))
+abbrev pub roots_fault : (ℕ → Bool) → List ℕ → Option TextFault
+roots_fault usable roots = fault_of_first roots (first_unusable usable roots)
 
 -- the source was read to its end, and its text has no fault and names these roots
 pub record IsRoots {S : Type 0} (left : S → Option (List ℕ)) (has_failed : S → Bool) (old new : S) (roots : List ℕ) : Type 0 where
@@ -77,7 +81,7 @@ pub record HasPlanned {S : Type 0} (left : S → Option (List ℕ)) (has_failed 
   pub roots : List ℕ
   pub facts : Facts
   pub read : AreRead left has_failed asked.floor old new olds news roots facts
-  pub sound : roots_fault roots (cells_of facts) ≡ None
+  pub sound : roots_fault (is_usable (cells_of facts)) roots ≡ None
   pub has_room : no_room asked.lmc (cells_of facts) ≡ None
   pub planned : Appends written written' (rooted_text asked.lmc roots facts)
 
@@ -89,7 +93,7 @@ pub record RefusesToPlan {S : Type 0} (left : S → Option (List ℕ)) (has_fail
   pub roots : List ℕ
   pub facts : Facts
   pub read : AreRead left has_failed floor old new olds news roots facts
-  pub refused : roots_fault roots (cells_of facts) ≡ Some fault
+  pub refused : roots_fault (is_usable (cells_of facts)) roots ≡ Some fault
 
 -- all were read, each root is a usable switch, and the plan is not written
 pub record FailsToPlan {S : Type 0} (left : S → Option (List ℕ)) (has_failed : S → Bool) (asked : RootedPlan) (old new : S) (olds news : List S)
@@ -97,7 +101,7 @@ pub record FailsToPlan {S : Type 0} (left : S → Option (List ℕ)) (has_failed
   pub roots : List ℕ
   pub facts : Facts
   pub read : AreRead left has_failed asked.floor old new olds news roots facts
-  pub sound : roots_fault roots (cells_of facts) ≡ None
+  pub sound : roots_fault (is_usable (cells_of facts)) roots ≡ None
   pub fails : IsWritingFault asked.lmc facts sink_failed fault
 
 -- the roots were read, and a file is refused
@@ -107,13 +111,11 @@ pub record RefusesOneFile {S : Type 0} (left : S → Option (List ℕ)) (has_fai
   pub roots_read : IsRoots left has_failed old new roots
   pub refused : RefusesFile left has_failed interruptions olds news place fault
 
--- a fault of the text of roots: of the text alone, before any file is read, or of the roots that it names, once all are
-abbrev pub IsFaultOfRoots : {S : Type 0} → (S → Option (List ℕ)) → (S → Bool) → (S → ℕ) → ℕ → S → S → List S → List S → Fault → Type 0
-IsFaultOfRoots left has_failed interruptions floor old new olds news (Text place fault) =
-    ((news ≡ olds) × IsRootsFault left has_failed interruptions old new (Text place fault))
-    ⊎ ((place ≡ 0) × RefusesToPlan left has_failed floor old new olds news fault)
-IsFaultOfRoots left has_failed interruptions floor old new olds news fault =
-    (news ≡ olds) × IsRootsFault left has_failed interruptions old new fault
+-- a fault of the text of roots: of the text alone, while nothing else was touched, or of the roots that it names, for such a reason
+abbrev pub IsFaultOfRoots : {S : Type 0} → (S → Option (List ℕ)) → (S → Bool) → (S → ℕ) → S → S → Type 0 → (TextFault → Type 0) → Fault → Type 0
+IsFaultOfRoots left has_failed interruptions old new untouched refuses (Text place fault) =
+    (untouched × IsRootsFault left has_failed interruptions old new (Text place fault)) ⊎ ((place ≡ 0) × refuses fault)
+IsFaultOfRoots left has_failed interruptions old new untouched refuses fault = untouched × IsRootsFault left has_failed interruptions old new fault
 
 abbrev pub IsFaultOfFiles : {S : Type 0} → (S → Option (List ℕ)) → (S → Bool) → (S → ℕ) → RootedPlan → S → S → List S → List S → Bool → Fault → Type 0
 IsFaultOfFiles left has_failed interruptions asked old new olds news sink_failed (File place fault) =
@@ -124,6 +126,6 @@ IsFaultOfFiles left has_failed interruptions asked old new olds news sink_failed
 -- why a plan from roots ends early over open files
 abbrev pub IsRootedFault : {S : Type 0} → (S → Option (List ℕ)) → (S → Bool) → (S → ℕ) → RootedPlan → S → S → List S → List S → Bool → WhoseFault → Type 0
 IsRootedFault left has_failed interruptions asked old new olds news sink_failed (whose.Text fault) =
-    IsFaultOfRoots left has_failed interruptions asked.floor old new olds news fault
+    IsFaultOfRoots left has_failed interruptions old new (news ≡ olds) (RefusesToPlan left has_failed asked.floor old new olds news) fault
 IsRootedFault left has_failed interruptions asked old new olds news sink_failed (whose.Files fault) =
     IsFaultOfFiles left has_failed interruptions asked old new olds news sink_failed fault

@@ -15,7 +15,7 @@ pub use exit_status::ExitStatus;
 pub use facts_text::{write_cell, write_facts};
 pub use fault::Fault;
 pub use fault_text::write_fault;
-pub use rooted::{RootedPlan, run_rooted};
+pub use rooted::{RootedPlan, fault_of_first, read_roots, run_rooted};
 pub use run::{Command, Output, RefusedFile, RuleKind, read_all, rule_of_kind, run_files};
 pub use text_fault::TextFault;
 pub use whose_fault::WhoseFault;

@@ -3,8 +3,10 @@ ghost use Rattle.std.specs.Prelude.{◌≡◌, ◌⊎◌, Err, None, false, IfEr
 ghost use Rattle.std.specs.Io.KnownBytes.{Appends};
 ghost use Rattle.fact_store.specs.View.{cells_of};
 ghost use Rattle.lid_assign.specs.LidFault.{no_room};
-ghost use Rattle.sm_cli.specs.Rooted.{HasPlanned, IsRootedFault, IsRoots, IsRootsFault, first_unusable, roots_fault, rooted_text};
+ghost use Rattle.sm_cli.specs.Rooted.{HasPlanned, IsRootedFault, IsRoots, IsRootsFault};
+ghost use Rattle.sm_cli.specs.Rooted.{fault_of_first, first_unusable, roots_fault, rooted_text};
 ghost use Rattle.sm_cli.specs.Run.{IsWritingFault};
+ghost use Rattle.subnet_view.specs.Reading.{is_usable};
 
 use crate::fault::Fault;
 use crate::run::{read_all, write_plan_by};
@@ -70,8 +72,8 @@ pub fn run_rooted<S: Source, W: Sink>(
     }
 }
 
-/// The roots that a text names.
-fn read_roots<S: Source>(alloc: Global, roots: &mut S) -> Result<Vec<Guid>, Fault>
+/// The roots that a text names, which is read to its end.
+pub fn read_roots<S: Source>(alloc: Global, roots: &mut S) -> Result<Vec<Guid>, Fault>
     ensures read { IfOk result (λ found.
         IsRoots S.left S.has_failed roots.old roots.new found.items) }
     ensures refused { IfErr result
@@ -90,15 +92,23 @@ fn read_roots<S: Source>(alloc: Global, roots: &mut S) -> Result<Vec<Guid>, Faul
     }
 }
 
-#[tactic(auto, using(crate::proofs::RootFaults::some_named))]
 /// Why no plan goes by some roots, if so: there is none, or one is no usable switch.
 fn roots_fault(roots: &[Guid], store: &Store) -> Option<TextFault>
-    ensures { result ≡ roots_fault roots.now (cells_of store.now) }
+    ensures { result ≡ roots_fault (is_usable (cells_of store.now)) roots.now }
+{
+    fault_of_first(roots, first_unusable(roots, store))
+}
+
+#[tactic(auto, using(crate::proofs::RootFaults::some_named))]
+/// Why no plan goes by some roots, if so, by the first of them that is no usable switch: there is no root, or there is
+/// that one.
+pub fn fault_of_first(roots: &[Guid], unusable: Option<Guid>) -> Option<TextFault>
+    ensures { result ≡ fault_of_first roots.now unusable }
 {
     if roots.is_empty() {
         return Some(TextFault::NoRoot);
     }
-    match first_unusable(roots, store) {
+    match unusable {
         Some(root) => Some(TextFault::NoSwitch(root)),
         None => None,
     }
@@ -106,7 +116,7 @@ fn roots_fault(roots: &[Guid], store: &Store) -> Option<TextFault>
 
 /// The first of some roots that is no usable switch. Takes some searches for each.
 fn first_unusable(roots: &[Guid], store: &Store) -> Option<Guid>
-    ensures { result ≡ first_unusable (cells_of store.now) roots.now }
+    ensures { result ≡ first_unusable (is_usable (cells_of store.now)) roots.now }
 {
     roots.iter().copied().find(|root| !is_usable(store, *root))
 }

@@ -26,7 +26,7 @@ pub enum TextFault {
     /// It names no root.
     #[error("no root")]
     NoRoot,
-    /// It names a root that is no usable switch of the facts.
+    /// It names a root that is no usable switch of the facts, or no switch of the topology.
     #[error("no usable switch {0}")]
     NoSwitch(Guid),
 }

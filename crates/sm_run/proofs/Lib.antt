@@ -4,6 +4,7 @@ pub mod Merging
 pub mod Order
 pub mod Ports
 pub mod Printing
+pub mod Rooted
 pub mod Running
 pub mod Seating
 pub mod Seats

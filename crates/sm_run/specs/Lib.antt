@@ -3,6 +3,7 @@ pub mod Flights
 pub mod Lines
 pub mod Prints
 pub mod Refusals
+pub mod Rooted
 pub mod Run
 pub mod Tables
 pub mod World

@@ -17,7 +17,7 @@ use Rattle.schedule_file.specs.declared.fault.ScheduleFault.{ScheduleFault}
 use Rattle.schedule_file.specs.declared.fault.ScheduleFault.TheVariants as schedules
 use Rattle.sm_cli.specs.TextFault.{is_of_text}
 use Rattle.sm_cli.specs.declared.fault.Fault.{Fault}
-use Rattle.sm_cli.specs.declared.fault.Fault.TheVariants.{Open, File, Text, NoRoom, Write, Memory}
+use Rattle.sm_cli.specs.declared.fault.Fault.TheVariants.{File, Text, Write, Memory}
 use Rattle.sm_cli.specs.declared.text_fault.TextFault.TheVariants.{NotUtf8, Topology, Schedule}
 use Rattle.sm_run.specs.Commands.{run_text}
 use Rattle.sm_run.specs.declared.run_fault.RunFault.{RunFault}
@@ -122,6 +122,12 @@ pub record AreSound {T S : Type 0} (left : T → Option (List ℕ)) (has_failed 
   pub read : AreRead left has_failed left' has_failed' old new old' new' topology schedule
   pub sound : input_fault topology schedule ≡ None
 
+-- they are so, and this is what they tell
+pub record AreTold {T S : Type 0} (left : T → Option (List ℕ)) (has_failed : T → Bool) (left' : S → Option (List ℕ)) (has_failed' : S → Bool)
+    (old new : T) (old' new' : S) (layout : Layout) (script : Script) : Type 0 where
+  pub texts : AreSound left has_failed left' has_failed' old new old' new'
+  pub tells : Tells texts.topology texts.schedule layout script
+
 -- they are so, and this holds of what their run under an LMC prints
 pub record HasRun {T S : Type 0} (left : T → Option (List ℕ)) (has_failed : T → Bool) (left' : S → Option (List ℕ)) (has_failed' : S → Bool)
     (old new : T) (old' new' : S) (planning : Planning)
@@ -137,6 +143,15 @@ pub record IsRefusedInput {T S : Type 0} (left : T → Option (List ℕ)) (has_f
   pub schedule : List ℕ
   pub read : AreRead left has_failed left' has_failed' old new old' new' topology schedule
   pub refuses : RefusesTexts topology schedule fault
+
+-- why nothing is run: a source can't be read whole, or what both say is refused
+abbrev pub IsInputFault :
+    {T S : Type 0} → (T → Option (List ℕ)) → (T → Bool) → (T → ℕ) → (S → Option (List ℕ)) → (S → Bool) → (S → ℕ) → T → T → S → S → Fault → Type 0
+IsInputFault left has_failed interruptions left' has_failed' interruptions' old new old' new' (File place fault) =
+    FailsToReadThem left has_failed interruptions left' has_failed' interruptions' old new old' new' (File place fault)
+IsInputFault left has_failed interruptions left' has_failed' interruptions' old new old' new' (Text place fault) =
+    IsRefusedInput left has_failed left' has_failed' old new old' new' (Text place fault)
+IsInputFault left has_failed interruptions left' has_failed' interruptions' old new old' new' fault = ⊥
 
 -- the texts are sound, and the output failed as they were run
 pub record FailsToWrite {T S : Type 0} (left : T → Option (List ℕ)) (has_failed : T → Bool) (left' : S → Option (List ℕ)) (has_failed' : S → Bool)
@@ -154,13 +169,9 @@ fault_of_run runs.Memory = Memory
 abbrev pub IsRunFault :
     {T S : Type 0} → (T → Option (List ℕ)) → (T → Bool) → (T → ℕ) → (S → Option (List ℕ)) → (S → Bool) → (S → ℕ) → T → T → S → S → Planning → (List ℕ → Type 0)
     → Bool → Fault → Type 0
-IsRunFault left has_failed interruptions left' has_failed' interruptions' old new old' new' planning prints sink_failed (Open place) = ⊥
-IsRunFault left has_failed interruptions left' has_failed' interruptions' old new old' new' planning prints sink_failed (File place fault) =
-    FailsToReadThem left has_failed interruptions left' has_failed' interruptions' old new old' new' (File place fault)
-IsRunFault left has_failed interruptions left' has_failed' interruptions' old new old' new' planning prints sink_failed (Text place fault) =
-    IsRefusedInput left has_failed left' has_failed' old new old' new' (Text place fault)
-IsRunFault left has_failed interruptions left' has_failed' interruptions' old new old' new' planning prints sink_failed (NoRoom why) = ⊥
 IsRunFault left has_failed interruptions left' has_failed' interruptions' old new old' new' planning prints sink_failed Write =
     FailsToWrite left has_failed left' has_failed' old new old' new' sink_failed
 IsRunFault left has_failed interruptions left' has_failed' interruptions' old new old' new' planning prints sink_failed Memory =
     HasRun left has_failed left' has_failed' old new old' new' planning prints
+IsRunFault left has_failed interruptions left' has_failed' interruptions' old new old' new' planning prints sink_failed fault =
+    IsInputFault left has_failed interruptions left' has_failed' interruptions' old new old' new' fault

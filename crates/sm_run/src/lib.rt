@@ -7,10 +7,12 @@ mod lines;
 mod managers;
 mod packets;
 mod refusals;
+mod rooted;
 mod run;
 mod run_fault;
 mod tables;
 mod texts;
 mod world;
 
+pub use rooted::run_rooted_schedule;
 pub use run::run_schedule;

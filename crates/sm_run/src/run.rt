@@ -7,7 +7,7 @@ ghost use Rattle.sm_run.specs.Run.{HasRun, IsRunFault};
 ghost use Rattle.sm_run.specs.World.{value_of};
 
 use crate::run_fault::RunFault;
-use crate::texts::{Setting, judge, read_texts};
+use crate::texts::{Setting, read_setting};
 use crate::world::World;
 use record_file::{Sink, Source};
 use schedule_file::Command;
@@ -49,14 +49,13 @@ pub fn run_schedule<T: Source, S: Source, W: Sink>(
     ensures nothing_written { OnErr result ((result ≡ Err Fault.Write)
         ⊎ (result ≡ Err Fault.Memory) ⊎ (sink.new ≡ sink.old)) }
 {
-    let texts = read_texts(alloc, topology, schedule)?;
-    let setting = judge(alloc, &texts)?;
+    let setting = read_setting(alloc, topology, schedule)?;
     run(alloc, &setting, planning, sink)?;
     Ok(())
 }
 
 /// Runs the commands of a schedule, and flushes.
-fn run<W: Sink>(
+pub(crate) fn run<W: Sink>(
     alloc: Global,
     setting: &Setting,
     planning: &Planning,

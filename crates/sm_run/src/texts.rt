@@ -1,7 +1,7 @@
 //! The two texts of a run: they are read, and then judged.
 ghost use Rattle.std.specs.Prelude.{◌≡◌, ℕ, List, IfOk, IfErr, Ok, OnOk, None};
 ghost use Rattle.schedule_file.specs.Schedule.{IsScript, schedule_of};
-ghost use Rattle.sm_run.specs.Run.{AreRead, FailsToReadThem, RefusesScript, RefusesTexts, Tells};
+ghost use Rattle.sm_run.specs.Run.{AreRead, AreTold, FailsToReadThem, IsInputFault, RefusesScript, RefusesTexts, Tells};
 ghost use Rattle.sm_run.specs.Run.{TellsTopology, input_fault, schedule_fault};
 
 use record_file::{Source, read_whole};
@@ -18,9 +18,9 @@ const SCHEDULE: usize = 1;
 
 /// The bytes of a topology and of a schedule.
 #[derive(Drop)]
-pub(crate) struct Texts {
-    pub(crate) topology: Vec<u8>,
-    pub(crate) schedule: Vec<u8>,
+struct Texts {
+    topology: Vec<u8>,
+    schedule: Vec<u8>,
 }
 
 /// What the texts tell.
@@ -30,8 +30,25 @@ pub(crate) struct Setting {
     pub(crate) schedule: Schedule,
 }
 
+/// What both texts tell, or their first fault. Both are read to their ends, the topology first, and then judged.
+pub(crate) fn read_setting<T: Source, S: Source>(
+    alloc: Global,
+    topology: &mut T,
+    schedule: &mut S,
+) -> Result<Setting, Fault>
+    ensures told { IfOk result (λ setting. AreTold T.left T.has_failed S.left S.has_failed
+        topology.old topology.new schedule.old schedule.new
+        setting.topology setting.schedule) }
+    ensures script { IfOk result (λ setting. IsScript setting.topology.nodes setting.schedule) }
+    ensures refused { IfErr result (IsInputFault T.left T.has_failed T.interruptions
+        S.left S.has_failed S.interruptions topology.old topology.new schedule.old schedule.new) }
+{
+    let texts = read_texts(alloc, topology, schedule)?;
+    judge(alloc, &texts)
+}
+
 /// The bytes of both texts, the topology's first.
-pub(crate) fn read_texts<T: Source, S: Source>(
+fn read_texts<T: Source, S: Source>(
     alloc: Global,
     topology: &mut T,
     schedule: &mut S,
@@ -61,7 +78,7 @@ pub(crate) fn read_texts<T: Source, S: Source>(
 
 #[tactic(auto, using(crate::proofs::Judging::behind, crate::proofs::Judging::refused_behind))]
 /// What both texts tell, or their first fault: the topology is judged first.
-pub(crate) fn judge(alloc: Global, texts: &Texts) -> Result<Setting, Fault>
+fn judge(alloc: Global, texts: &Texts) -> Result<Setting, Fault>
     ensures sound { OnOk result
         (input_fault texts.now.topology.items texts.now.schedule.items ≡ None) }
     ensures told { IfOk result (λ setting. Tells texts.now.topology.items

@@ -1,5 +1,5 @@
-use Rattle.std.proofs.Common.{rules, ◌≡◌, ◌∙◌, ℕ, List, ap, sym, subst}
-use Rattle.std.specs.Prelude.{Some, codes}
+use Rattle.std.proofs.Common.{refl, sym, subst}
+use Rattle.std.specs.Prelude.{codes}
 use Rattle.ibsm.specs.Asked.{IsFloor, IsLmc}
 use Rattle.clap.specs.Matches.{found_of}
 use Rattle.clap.specs.Simple.{subcommand_rows_of}
@@ -19,10 +19,9 @@ returns-clause-lmc c =
 
 pub returns-clause-roots : goal.returns-clause-roots
 returns-clause-roots c =
-    first_named (subcommand_rows_of c.args.matches.now) (found_of c.in_ok-name.words.now) (codes "roots") _ c.in_ok-name.ensures.rows c.in_ok-roots.ensures
+    first_named (subcommand_rows_of c.args.matches.now) (found_of c.in_ok-name.words.now) (codes "roots") _ c.in_ok-name.ensures.rows (sym c.in_ok-roots.ensures.named)
 
 pub returns-clause-rule : goal.returns-clause-rule
 returns-clause-rule c = λ is.
-    let spread : c.in_ok-rule.rule.now ≡ codes "spread" = search rules in
-    first_named (subcommand_rows_of c.args.matches.now) (found_of c.in_ok-name.words.now) (codes "routing") _ c.in_ok-name.ensures.rows c.in_ok-rule.ensures
-    ∙ ap (λ (w : List ℕ). Some w) spread
+    first_named (subcommand_rows_of c.args.matches.now) (found_of c.in_ok-name.words.now) (codes "routing") _ c.in_ok-name.ensures.rows
+    (sym (c.in_ok-roots.ensures.rule refl))

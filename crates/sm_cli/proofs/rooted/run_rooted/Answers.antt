@@ -1,6 +1,7 @@
 -- A root is refused.
 use Rattle.std.proofs.Common.{◌≡◌, ◌∙◌, ap, inr, refl, sym}
 use Rattle.fact_store.specs.View.{cells_of}
+use Rattle.subnet_view.specs.Reading.{is_usable}
 use Rattle.sm_cli.specs.Rooted.{roots_fault}
 use Rattle.sm_cli.proofs.RootFaults.{refused}
 use Rattle.sm_cli.proofs.rooted.run_rooted.Goals as goal
@@ -14,5 +15,5 @@ returns-in-Some-clause-refused g c =
       refused g.S.Source.left g.S.Source.has_failed c.args.asked.floor c.args.roots.now c.read_roots.new.roots c.args.sources.now.items
           c.read_all.new.sources.items c.in-Ok.roots.items c.in-Ok-read_all.store c.in-Some.fault
           (record { roots_read = c.in-Ok.ensures.read; files_read = c.in-Ok-read_all.ensures.read })
-          (ap (λ roots. roots_fault roots (cells_of c.in-Ok-read_all.store)) same ∙ sym c.roots_fault.ensures ∙ c.in-Some.is),
+          (ap (roots_fault (is_usable (cells_of c.in-Ok-read_all.store))) same ∙ sym c.roots_fault.ensures ∙ c.in-Some.is),
     )

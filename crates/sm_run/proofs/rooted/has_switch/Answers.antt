@@ -1,0 +1,23 @@
+use Rattle.std.proofs.Common.{◌∙◌, ◌≤◌, length, sym, ap, arith}
+use Rattle.std.specs.List.{list_any}
+use Rattle.std.specs.Option.{option_copied}
+use Rattle.std.proofs.lemmas.List.{take_all}
+use Rattle.sm_run.specs.Rooted.{is_switch_with}
+use Rattle.sm_run.proofs.Rooted.{none_more, one_found}
+use Rattle.sm_run.proofs.rooted.has_switch.Goals as goal
+
+pub loop-place-preserved : goal.loop-place-preserved
+loop-place-preserved c =
+    none_more c.args.topology.now.nodes c.args.guid c.loop-place.place c.unwrap.result.now (sym c.node.ensures.node ∙ ap option_copied c.unwrap.ensures)
+    (sym c.is_switch_with.ensures ∙ c.if-is_switch_with.false) c.loop-place.invariant
+
+pub returns-then-is_switch_with : goal.returns-then-is_switch_with
+returns-then-is_switch_with c =
+    sym (one_found c.args.topology.now.nodes c.args.guid c.loop-place.place c.unwrap.result.now (sym c.node.ensures.node ∙ ap option_copied c.unwrap.ensures)
+    (sym c.is_switch_with.ensures ∙ c.if-is_switch_with.true))
+
+pub returns : goal.returns
+returns c =
+    let nodes = c.args.topology.now.nodes in
+    let all : length nodes ≤ c.loop-place.place = omega (arith, c.count-place-end.ensures.count) in
+    sym c.loop-place.invariant ∙ ap (list_any (is_switch_with c.args.guid)) (take_all c.loop-place.place nodes all)
