@@ -3,6 +3,7 @@ pub mod Marking
 pub mod Rounds
 pub mod Tallies
 pub mod RoundSteps
+pub mod Giving
 pub mod Nearer
 pub mod Unique
 pub mod Reach
@@ -12,6 +13,7 @@ pub mod Rising
 pub mod Growing
 pub mod Earlier
 pub mod Numbers
+pub mod FromFirst
 pub mod Widths
 pub mod PlaceSteps
 pub mod OrderSteps

@@ -17,7 +17,7 @@ use Rattle.spread_routes.proofs.Rounds.{gave, gave_all, given_known, known_gives
 use Rattle.spread_routes.proofs.RoundSteps.{same_filter}
 
 -- tests that pass alike are one
-alike : (a b : Bool) → (a ≡ true → b ≡ true) → (b ≡ true → a ≡ true) → a ≡ b
+pub alike : (a b : Bool) → (a ≡ true → b ≡ true) → (b ≡ true → a ≡ true) → a ≡ b
 alike true b to from = sym (to refl)
 alike false true to from = from refl
 alike false false to from = refl

@@ -18,19 +18,6 @@ use Rattle.spread_routes.specs.declared.mark.Mark.{Mark}
 use Rattle.spread_routes.specs.Labels.{Marks, gives, gives_from, givers, leads_up, mark_by, mark_or, marks_after}
 use Rattle.spread_routes.specs.RoundMarks.{AreMarksAfter, IsRound, gives_at, is_of, mark_at}
 
--- one more vertex has its mark
-pub round_more : (exits : List (List Exit)) (round : ℕ) (old : List (Option Mark)) (count : ℕ) (new new' : List (Option Mark)) (m : Option Mark)
-    → IsRound exits round old count new → new' ≡ new ++ m ∷ [] → m ≡ mark_or (slice_index_or old count None) (mark_at round count old (exits_at exits count))
-    → IsRound exits round old (count + 1) new'
-round_more exits round old count new new' m r is e = subst (IsRound exits round old (count + 1)) (sym is) (record {
-  all = omega (arith, length-append new (m ∷ []), r.all);
-  each = λ s h. elim (cases_eq s count) [
-    | inl same ↦ subst (λ (k : ℕ). slice_index_or (new ++ m ∷ []) k None ≡ mark_or (slice_index_or old k None) (mark_at round k old (exits_at exits k))) (sym same)
-        (ap (λ k. slice_index_or (new ++ m ∷ []) k None) (sym r.all) ∙ get_or-append_seam new m [] None ∙ e)
-    | inr other ↦ let below : s < count = grind arith in get_or-append new (m ∷ []) None s (omega (arith, r.all)) ∙ r.each s below
-  ];
-})
-
 -- given by a list as by what it says of each vertex -------------------------------------------
 
 abbrev has_some : List Exit → Bool

@@ -118,6 +118,9 @@ module _ (exits : List (List Exit)) (t : ℕ) where
             absurd (omega (arith, b.0))
       ] refl
 
+  pub not_later : (r s : ℕ) (m : Mark) → after r s ≡ Some m → m.cost ≤ r
+  not_later r s m h = (made r s m h).0
+
   -- labelled by the exits that give in its round
   pub born : (n s : ℕ) (m : Mark) (r : ℕ) → after n s ≡ Some m → m.cost ≡ suc r → mark_by (suc r) s (givers exits (after r) s) ≡ Some m
   born n s m r e c =
@@ -134,6 +137,20 @@ module _ (exits : List (List Exit)) (t : ℕ) where
       some_mark : (es : List Exit) → Contains es e → (m : Mark) × (mark_by (suc r) s es ≡ Some m)
       some_mark [] h = absurd (contains_none e h)
       some_mark (x ∷ es) h = (_, refl)
+
+  -- an exit gives a label to a vertex without one only from the last round
+  pub newest : (r s : ℕ) (e : Exit) → after r s ≡ None → Contains (exits_at exits s) e → gives (after r) s e ≡ true → (m : Mark) × (after r e.to ≡ Some m) × (m.cost ≡ r)
+  newest r s e none h g =
+      let k = given_known s e (after r e.to) g in
+      let a = made r e.to k.0 k.1 in
+      let same : k.0.cost ≡ r = elim (cases_lt k.0.cost r) [
+        | inr above ↦ omega (arith, a.0)
+        | inl less ↦
+            let c = k.0.cost in
+            let x = next_has c s e (contains_filter (gives (after c) s) (exits_at exits s) e h (ap (gives_from s e) a.1 ∙ known_gives s e k.0 k.2)) in
+            absurd (none-some x.0 (sym none ∙ later (suc c) r s x.0 (omega arith) x.1))
+      ] in
+      (k.0, k.1, same)
 
   -- an exit that gives in words gives by the labels of its round and later
   gives_after : (n s : ℕ) (e : Exit) (c r : ℕ) → Gives exits (after n) s e c → c ≤ r → Contains (givers exits (after r) s) e

@@ -1,5 +1,6 @@
 pub mod Labels
 pub mod RoundMarks
+pub mod Giving
 pub mod Candidates
 pub mod LabelLaws
 pub mod Ways

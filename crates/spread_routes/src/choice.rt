@@ -1,28 +1,30 @@
 //! The exits that gave a vertex its mark, and which of them is taken.
-ghost use Rattle.std.specs.Prelude.{◌≡◌, ◌<◌, length, All, filter, IfOk};
+ghost use Rattle.std.specs.Prelude.{◌≡◌, ◌<◌, length, All, filter, OnOk};
 ghost use Rattle.spread_routes.specs.Candidates.{chosen, is_nearer};
 
 use crate::mark::{Label, Mark};
 use port_graph::Exit;
-use std::alloc::{AllocError, Global};
+use std::alloc::AllocError;
 
-/// Of the exits of a vertex those that gave it its mark, in their order. None at the target and where there is no mark. Takes a step
-/// for each exit.
+/// Finds, of the exits of a vertex, those that gave it its mark, in their order: they take the place of what was found before. There
+/// are none at the target and where there is no mark. Takes a step for each exit.
 pub fn candidates(
-    alloc: Global,
+    found: &mut Vec<Exit>,
     exits: &[Exit],
     vertex: usize,
     marks: &[Option<Mark>],
-) -> Result<Vec<Exit>, AllocError>
+) -> Result<(), AllocError>
     requires vertex { vertex < length marks.now }
     requires lead { All (λ exit. exit.to < length marks.now) exits.now }
-    ensures { IfOk result (λ found. found.items ≡ filter (is_nearer vertex marks.now) exits.now) }
+    ensures { OnOk result (found.new.items ≡ filter (is_nearer vertex marks.now) exits.now) }
 {
-    exits
-        .iter()
-        .copied()
-        .filter(|exit| is_nearer(exit, vertex, marks))
-        .collect(alloc)
+    found.clear();
+    for exit in exits {
+        if is_nearer(exit, vertex, marks) {
+            found.push(*exit)?;
+        }
+    }
+    Ok(())
 }
 
 /// Of some exits the one with this number, counted round: `choice` modulo how many there are. None of none.

@@ -1,7 +1,8 @@
 //! The keys of vertices by their classes.
 ghost use Rattle.std.specs.Prelude.{◌≡◌, ◌<◌, length, IfOk, MatchOption};
-ghost use Rattle.port_graph.specs.Heads.{LeadToVertices};
-ghost use Rattle.spread_routes.specs.Firsts.{by_class, first_among, from_first, keys_of};
+ghost use Rattle.port_graph.specs.Heads.{AreDistances, LeadToVertices};
+ghost use Rattle.spread_routes.specs.Firsts.{AreFar, FillsIn, by_class, first_among, first_at, keys_of};
+ghost use Rattle.spread_routes.specs.LabelLaws.{IsSymmetric};
 
 use crate::key::Key;
 use crate::ordering::earlier;
@@ -9,19 +10,20 @@ use port_graph::{Exits, distances};
 use std::alloc::{AllocError, Global};
 
 /// The key of each vertex: its class, and its distance from the first of its component, which is the one of the least class, and of
-/// those the least. Takes a search in breadth from each vertex.
+/// those the least. Takes two searches in breadth for each component.
 pub fn keys(alloc: Global, exits: &Exits, classes: &[u128]) -> Result<Vec<Key>, AllocError>
     requires lead { LeadToVertices exits.now }
+    requires symmetric { IsSymmetric exits.now }
     requires all { length classes.now ≡ length exits.now }
     ensures { IfOk result (λ keys. keys.items ≡ keys_of exits.now classes.now) }
 {
     let by_class = by_class(alloc, classes)?;
+    let far = far(alloc, exits, &by_class)?;
     let mut keys = Vec::with_capacity(alloc, exits.len())?;
     for vertex in 0..exits.len() {
-        let distances = distances(alloc, exits, vertex)?;
         keys.push(Key {
             class: classes[vertex],
-            distance: from_first(&by_class, &distances),
+            distance: far[vertex].unwrap_or(0),
         })?;
     }
     Ok(keys)
@@ -38,14 +40,47 @@ fn by_class(alloc: Global, classes: &[u128]) -> Result<Vec<Key>, AllocError>
     keys.collect(alloc)
 }
 
-/// The distance of the first vertex that has one.
-fn from_first(keys: &[Key], distances: &[Option<usize>]) -> usize
-    requires { length distances.now ≡ length keys.now }
-    ensures { result ≡ from_first keys.now distances.now }
+/// How far each vertex is from the first of its component.
+fn far(alloc: Global, exits: &Exits, keys: &[Key]) -> Result<Vec<Option<usize>>, AllocError>
+    requires lead { LeadToVertices exits.now }
+    requires symmetric { IsSymmetric exits.now }
+    requires all { length keys.now ≡ length exits.now }
+    ensures { IfOk result (λ far. AreFar exits.now keys.now (length exits.now) far.items) }
 {
-    match first(keys, distances) {
-        Some(first) => distances[first].unwrap_or(0),
-        None => 0,
+    let mut far = vec![in alloc; None; exits.len()]?;
+    for vertex in 0..exits.len() {
+        if far[vertex].is_none() {
+            let found = from_first(alloc, exits, keys, vertex)?;
+            fill(&mut far, &found);
+        }
+    }
+    Ok(far)
+}
+
+/// The distances of all vertices from the first of a vertex's component.
+fn from_first(
+    alloc: Global,
+    exits: &Exits,
+    keys: &[Key],
+    vertex: usize,
+) -> Result<Vec<Option<usize>>, AllocError>
+    requires lead { LeadToVertices exits.now }
+    requires all { length keys.now ≡ length exits.now }
+    requires vertex { vertex < length exits.now }
+    ensures { IfOk result (λ found. AreDistances exits.now (first_at exits.now keys.now vertex) found.items) }
+{
+    let near = distances(alloc, exits, vertex)?;
+    let first = first(keys, &near).unwrap_or(vertex);
+    distances(alloc, exits, first)
+}
+
+/// Puts the distance of each vertex where there is none yet.
+fn fill(far: &mut [Option<usize>], found: &[Option<usize>])
+    requires { length far.old ≡ length found.now }
+    ensures { FillsIn far.old found.now far.new }
+{
+    for (i, place) in far.iter_mut().enumerate() {
+        *place = place.or(found[i]);
     }
 }
 

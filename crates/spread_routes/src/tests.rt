@@ -122,6 +122,7 @@ fn unplaced(alloc: Global) -> Result<Exits, AllocError>
 /// The sample's vertices.
 fn sample(alloc: Global) -> Result<Exits, AllocError>
     ensures lead { IfOk result (λ exits. LeadToVertices exits) }
+    ensures symmetric { IfOk result (λ exits. IsSymmetric exits) }
     ensures all { IfOk result (λ exits. length exits ≡ 6) }
 {
     let exits = vertices(alloc, &EXITS)?;
@@ -183,7 +184,8 @@ fn ports_of(
     requires all { length marks.now ≡ length exits.now }
     requires vertex { vertex < length exits.now }
 {
-    let found = candidates(alloc, exits.at(vertex), vertex, marks)?;
+    let mut found = Vec::new(alloc);
+    candidates(&mut found, exits.at(vertex), vertex, marks)?;
     let taken = [chosen(&found, 0), chosen(&found, 5)];
     Ok(taken.map(|exit| exit.map_or(0, |exit| exit.port.number())))
 }

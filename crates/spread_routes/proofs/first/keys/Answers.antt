@@ -1,11 +1,17 @@
-use Rattle.std.proofs.Common.{◌≡◌, ◌<◌, ◌++◌, [], ◌∷◌, sym, ap, ap₂, ◌∙◌, arith, length, map, List, ℕ}
-use Rattle.std.specs.Prelude.{slice_index}
+use Rattle.std.proofs.Common.{◌≡◌, ◌<◌, ◌++◌, [], ◌∷◌, sym, ap, ◌∙◌, arith, length, map, List, ℕ}
+use Rattle.std.proofs.lemmas.List.{get_or_default}
+use Rattle.std.specs.Prelude.{None, slice_index, unwrap_or}
+use Rattle.port_graph.proofs.Counts.{length_map}
 use Rattle.spread_routes.specs.declared.key.Key.{Key}
 use Rattle.spread_routes.specs.Firsts.{by_class, distances_from, from_first, key_of}
 use Rattle.spread_routes.specs.Orders.{numbers_from}
-use Rattle.spread_routes.proofs.Numbers.{distances_are}
+use Rattle.spread_routes.proofs.FromFirst.{far_is}
 use Rattle.spread_routes.proofs.Tallies.{classes_more}
 use Rattle.spread_routes.proofs.first.keys.Goals as goal
+
+pub far-requires-clause-all : goal.far-requires-clause-all
+far-requires-clause-all c =
+    ap length (c.deref.ensures.value ∙ c.in_ok-by_class.ensures) ∙ length_map (λ (k : ℕ). record { class = k; distance = 0 }) c.args.classes.now ∙ c.requires.all
 
 pub loop-vertex-preserved : goal.loop-vertex-preserved
 loop-vertex-preserved c =
@@ -13,7 +19,12 @@ loop-vertex-preserved c =
     let classes = c.args.classes.now in
     let v = c.loop-vertex.vertex in
     let f = key_of exits classes in
-    let far = c.from_first.ensures
-    ∙ ap₂ from_first (c.deref.ensures.value ∙ c.in_ok-by_class.ensures) (c.deref-in-loop-vertex.ensures.value ∙ distances_are exits v c.in_ok-distances.distances.items c.in_ok-distances.ensures) in
-    c.in_ok-push.ensures.items ∙ ap (λ xs. xs ++ record { class = slice_index classes v; distance = c.from_first.result } ∷ []) c.loop-vertex.invariant
-    ∙ ap (λ x. map f (numbers_from 0 v) ++ record { class = slice_index classes v; distance = x } ∷ []) far ∙ sym (classes_more f v)
+    let below : v < length exits = omega (arith, c.loop-vertex-test.true, c.len-vertex-end.ensures) in
+    let all = c.in_ok-far.ensures in
+    let found : c.unwrap_or.result ≡ from_first (by_class classes) (distances_from exits v) =
+    c.unwrap_or.ensures
+    ∙ ap (λ o. unwrap_or o 0) (c.index.ensures ∙ sym (get_or_default c.in_ok-far.far.items v None c.index.result.now (omega (arith, all.all))))
+    ∙ far_is exits c.deref.result.now c.in_ok-far.far.items all v below
+    ∙ ap (λ ks. from_first ks (distances_from exits v)) (c.deref.ensures.value ∙ c.in_ok-by_class.ensures) in
+    c.in_ok-push.ensures.items ∙ ap (λ xs. xs ++ record { class = slice_index classes v; distance = c.unwrap_or.result } ∷ []) c.loop-vertex.invariant
+    ∙ ap (λ x. map f (numbers_from 0 v) ++ record { class = slice_index classes v; distance = x } ∷ []) found ∙ sym (classes_more f v)

@@ -1,0 +1,42 @@
+-- A round as it is gone through: the vertices that were marked in the round before give marks over their exits.
+use Rattle.std.specs.Prelude.{ℕ, zero, suc, Bool, ◌&&◌, ◌||◌, ◌==◌, nat_lt, List, [], ◌∷◌, Option, None, Some, slice_index_or, slice_set, if◌then◌else◌}
+use Rattle.port_graph.specs.declared.exit.Exit.{Exit}
+use Rattle.port_graph.specs.Heads.{exits_at}
+use Rattle.spread_routes.specs.declared.mark.Label.{Label}
+use Rattle.spread_routes.specs.declared.mark.Label.TheVariants.{Up, Down}
+use Rattle.spread_routes.specs.declared.mark.Mark.{Mark}
+use Rattle.spread_routes.specs.Labels.{is_down}
+
+-- the label of a mark, where a round gave it
+abbrev pub label_of : ℕ → Option Mark → Option Label
+label_of round None = None
+label_of round (Some m) = if m.cost == round then Some m.label else None
+
+-- a mark after one more was given in a round: the first stays, but for Up in place of Down where the round gave both
+abbrev pub given : ℕ → Bool → Option Mark → Option Mark
+given round up None = Some (record { cost = round; label = if up then Up else Down })
+given round up (Some m) = if up && (m.cost == round) then Some (record { cost = round; label = Up }) else Some m
+
+-- v gives a mark to the vertex to which an exit of it leads, where the exit back leads up, or v is labelled Down
+abbrev pub give : ℕ → Label → ℕ → List (Option Mark) → Exit → List (Option Mark)
+give v label round marks e =
+    if nat_lt v e.to || is_down label then slice_set marks e.to (given round (nat_lt v e.to) (slice_index_or marks e.to None)) else marks
+
+-- over each of these exits
+abbrev pub give_all : ℕ → Label → ℕ → List (Option Mark) → List Exit → List (Option Mark)
+give_all v label round marks [] = marks
+give_all v label round marks (e ∷ es) = give_all v label round (give v label round marks e) es
+
+-- v gives marks, where it has this label
+abbrev pub give_by : List (List Exit) → ℕ → ℕ → List (Option Mark) → Option Label → List (Option Mark)
+give_by exits v round marks None = marks
+give_by exits v round marks (Some label) = give_all v label (suc round) marks (exits_at exits v)
+
+-- v gives marks, where the round gave it one
+abbrev pub give_from : List (List Exit) → ℕ → List (Option Mark) → ℕ → List (Option Mark)
+give_from exits round marks v = give_by exits v round marks (label_of round (slice_index_or marks v None))
+
+-- so many vertices give marks, one after another
+abbrev pub give_first : List (List Exit) → ℕ → List (Option Mark) → ℕ → List (Option Mark)
+give_first exits round marks zero = marks
+give_first exits round marks (suc v) = give_from exits round (give_first exits round marks v) v
