@@ -1,5 +1,5 @@
 -- The ends that are found are those of the walks by the tables held.
-use Rattle.std.proofs.Common.{◌≡◌, ℕ, zero, suc, ◌/◌, ◌%◌, List, [], ◌∷◌, length, Option, None, Some, Result, Ok, Err, refl, sym, ap, ◌∙◌, subst, arith}
+use Rattle.std.proofs.Common.{◌≡◌, Bool, ℕ, zero, suc, ◌/◌, ◌%◌, List, [], ◌∷◌, length, Option, None, Some, Result, Ok, Err, refl, sym, ap, ◌∙◌, subst, arith}
 use Rattle.std.specs.Prelude.{map, slice_get, IfOk, ◌==◌}
 use Rattle.std.proofs.lemmas.List.Quantifiers.{position-Some}
 use Rattle.subnet_view.specs.declared.end_port.EndPort.{EndPort}
@@ -63,9 +63,9 @@ module _ (cells : Cells) (held : HeldPlan) (lid number : ℕ) (rows : List (List
   }
 
   pub brought_is : (nodes : List Node) (sources : List Source) (owners : List EndPort) (steps ends : List Step) (result : List (Option End))
-      → IsNetwork cells held nodes sources → owners ≡ owners_of held lid → steps ≡ map (step_of owners rows lid) nodes → HaveEnded steps ends
+      (firsts : List (Option ℕ)) (begin : Bool) → IsNetwork cells held nodes sources firsts begin → owners ≡ owners_of held lid → steps ≡ map (step_of owners rows lid) nodes → HaveEnded steps ends
       → result ≡ map (λ source. end_of (onward ends (first_step owners source))) sources → AreBrought cells held lid result
-  brought_is nodes sources owners steps ends result network own are ended result_is =
+  brought_is nodes sources owners steps ends result firsts begin network own are ended result_is =
       let all : steps ≡ steps_of cells held lid =
       are ∙ ap (λ o. map (step_of o rows lid) nodes) own ∙ ap (map (step_of (owners_of held lid) rows lid)) network.nodes_are ∙ steps_are (switches cells) in
       let found : result ≡ map (end_by ends) (map (source_of cells) (end_ports cells)) =

@@ -1,9 +1,11 @@
 -- A walk that ends does so in no more steps than there are switches.
-use Rattle.std.proofs.Common.{◌≡◌, ℕ, zero, suc, ◌+◌, ◌-◌, ◌≤◌, true, List, [], ◌∷◌, length, refl, sym, ap, ◌∙◌, subst, arith, inl, inr, ◌⊎◌}
+use Rattle.std.proofs.Common.{◌≡◌, ℕ, zero, suc, ◌+◌, ◌-◌, ◌<◌, ◌≤◌, true, List, [], ◌∷◌, length, get_or, refl, sym, ap, ◌∙◌, subst, arith, inl, inr, ◌⊎◌}
 use Rattle.std.specs.Prelude.{map, slice_index_or, Option, None, Some}
 use Rattle.std.proofs.lemmas.Bool.{cases_lt}
+use Rattle.std.proofs.lemmas.Option.{slice_get-get_or}
 use Rattle.subnet_view.specs.declared.end_port.EndPort.{EndPort}
 use Rattle.subnet_view.specs.Reading.{Cells, switches}
+use Rattle.subnet_view.specs.EndPorts.{end_ports}
 use Rattle.plan_file.specs.Held.{HeldPlan}
 use Rattle.audit.specs.declared.end.End.{End}
 use Rattle.audit.specs.declared.step.Step.{Step}
@@ -11,7 +13,7 @@ use Rattle.audit.specs.declared.step.Step.TheVariants.{To, Ends}
 use Rattle.audit.specs.Network.{row_of, source_of}
 use Rattle.audit.specs.Tables.{owners_of, entry_for}
 use Rattle.audit.specs.Walks.{onward, after, IsEndOf, is_to, end_of, HaveEnded, AreAfter}
-use Rattle.audit.specs.Steps.{by_entry, steps_of, first_step, IsBrought, end_for, EndsAreFound}
+use Rattle.audit.specs.Steps.{by_entry, steps_of, first_step, AreBrought, IsBrought, end_for, EndsAreFound}
 use Rattle.audit.proofs.Ended.{after_add, after_ended, within, past, long, tos, tos_less, stays_ended, same_left, over_none, have_ended, GoOn}
 
 -- one end ------------------------------------------------------------------------------
@@ -184,6 +186,16 @@ end_is cells held lid e =
 pub end_found : (cells : Cells) (held : HeldPlan) (lid : ℕ) (e : EndPort) (end : Option End) → IsBrought cells held lid e end → end ≡ end_for cells held lid e
 end_found cells held lid e end h =
     one_end (steps_of cells held lid) (first_step (owners_of held lid) (source_of cells e)) end (end_for cells held lid e) h (end_is cells held lid e)
+
+-- the end that is found for the packet of the end port at a place
+pub found_at : (cells : Cells) (held : HeldPlan) (lid : ℕ) (ends : List (Option End)) (n : ℕ) (d : EndPort) → AreBrought cells held lid ends
+    → n < length (end_ports cells) → get_or ends n None ≡ end_for cells held lid (get_or (end_ports cells) n d)
+found_at cells held lid ends n d h less =
+    let as_many = h.as_many in
+    let within : n < length ends = omega arith in
+    let e = get_or (end_ports cells) n d in
+    let end : Option End = get_or ends n None in
+    end_found cells held lid e end (h.brought n e end (slice_get-get_or (end_ports cells) n d less) (slice_get-get_or ends n None within))
 
 pub ends_are_found : EndsAreFound
 ends_are_found cells held lid e end = (end_found cells held lid e end, λ q. subst (IsBrought cells held lid e) (sym q) (end_is cells held lid e))

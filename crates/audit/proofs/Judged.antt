@@ -87,11 +87,11 @@ not_at line end h same = let is : is_at line.port end ≡ true = ap (is_at line.
 
 pub one_elsewhere : (cells : Cells) (held : HeldPlan) (line : HeldLid) (ends : List (Option End)) (place : ℕ) (source : EndPort) (end : Option End)
     → AreBrought cells held line.lid ends → Contains (end_ports cells) line.port → position (λ x. not (is_at line.port x)) ends ≡ Some place
-    → slice_get (end_ports cells) place ≡ Some source → end ≡ get_or ends place end
+    → slice_get (end_ports cells) place ≡ Some source → end ≡ get_or ends place None
     → IsFailureOf cells held line (record { line = line; source = source; end = end })
 one_elsewhere cells held line ends place source end are is_end e this is =
-    let found = position-Some (λ x. not (is_at line.port x)) ends place end e in
-    let there : slice_get ends place ≡ Some end = at_place ends place end found.0 ∙ ap (λ x. Some x) (sym is) in
+    let found = position-Some (λ x. not (is_at line.port x)) ends place None e in
+    let there : slice_get ends place ≡ Some end = at_place ends place None found.0 ∙ ap (λ x. Some x) (sym is) in
     let other : not (is_at line.port end) ≡ true = ap (λ x. not (is_at line.port x)) is ∙ found.1 in
     record {
       line_is = refl;

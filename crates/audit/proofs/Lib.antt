@@ -1,3 +1,4 @@
+pub mod Arrivals
 pub mod Brought
 pub mod Ended
 pub mod FabricParts

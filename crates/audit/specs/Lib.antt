@@ -1,3 +1,4 @@
+pub mod Ends
 pub mod Exits
 pub mod Fabrics
 pub mod Network

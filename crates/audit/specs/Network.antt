@@ -1,7 +1,7 @@
 -- The usable switches of a view and what their ports lead to, by index.
-use Rattle.std.specs.Prelude.{◌≡◌, ℕ, ◌/◌, ◌%◌, ◌==◌, List, Option, None, Some, map, slice_get, slice_index_or}
+use Rattle.std.specs.Prelude.{◌≡◌, ℕ, ◌/◌, ◌%◌, ◌==◌, Bool, false, List, Option, None, Some, length, map, nat_lt, slice_get, slice_index_or}
 use Rattle.std.specs.Option.{option_map_or}
-use Rattle.std.specs.List.{position, range_with_len}
+use Rattle.std.specs.List.{list_all, position, range_with_len}
 use Rattle.subnet_view.specs.declared.end_port.EndPort.{EndPort}
 use Rattle.subnet_view.specs.Reading.{Cells, switches}
 use Rattle.subnet_view.specs.EndPorts.{end_ports}
@@ -46,6 +46,29 @@ far_by cells n = option_map_or (λ g. slice_index_or (row_of cells g) (n % 256) 
 abbrev pub source_of : Cells → EndPort → Source
 source_of cells e = record { port = e; switch = index_in (switches cells) e.node; far = far_of cells e.node e.port }
 
+-- the index of the usable switch to which a wire leads
+abbrev pub switch_over : Far → Option ℕ
+switch_over Nothing = None
+switch_over (Switch index) = Some index
+switch_over (Port e) = None
+
+-- the index of the switch to which a source's packets come first: its own, or that to which its wire leads
+abbrev pub first_by : Option ℕ → Far → Option ℕ
+first_by (Some index) far = Some index
+first_by None far = switch_over far
+
+abbrev pub first_switch : Source → Option ℕ
+first_switch source = first_by source.switch source.far
+
+-- one of so many switches
+abbrev pub is_among : ℕ → Option ℕ → Bool
+is_among count None = false
+is_among count (Some index) = nat_lt index count
+
+-- the packets of each source come first to one
+abbrev pub all_begin : ℕ → List (Option ℕ) → Bool
+all_begin count firsts = list_all (is_among count) firsts
+
 -- a usable switch: where the wires in its ports lead, its place among the switches that are held, and its top
 abbrev pub node_of : Cells → HeldPlan → ℕ → Node
 node_of cells held g = record { guid = g; row = row_of cells g; place = place_of held g; top = top_of held g }
@@ -59,7 +82,9 @@ pub record Seen : Type 0 where
 abbrev pub seen_code : Coded Seen
 seen_code = code_by (Facts × HeldPlan) (coded× facts_code (held.the_row).coded) (λ s. (s.facts, s.held)) (λ p. record { facts = p.0; held = p.1 }) (λ _. refl)
 
--- the usable switches by rising GUID, and the end ports as sources, in their order
-pub record IsNetwork (cells : Cells) (held : HeldPlan) (nodes : List Node) (sources : List Source) : Type 0 where
+-- the usable switches by rising GUID, the end ports as sources, in their order, the switches to which their packets come first, and whether each has one
+pub record IsNetwork (cells : Cells) (held : HeldPlan) (nodes : List Node) (sources : List Source) (firsts : List (Option ℕ)) (begin : Bool) : Type 0 where
   pub nodes_are : nodes ≡ map (node_of cells held) (switches cells)
   pub sources_are : sources ≡ map (source_of cells) (end_ports cells)
+  pub firsts_are : firsts ≡ map first_switch sources
+  pub begin_is : begin ≡ all_begin (length nodes) firsts

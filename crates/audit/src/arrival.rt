@@ -1,13 +1,12 @@
 //! The first packet that does not come to the end port that holds its LID.
-ghost use Rattle.std.specs.Prelude.{◌≡◌, ◌/◌, IfOk, MatchOption, not, position};
+ghost use Rattle.std.specs.Prelude.{◌≡◌, ◌/◌, IfOk, MatchOption};
 ghost use Rattle.fact_store.specs.View.{cells_of};
-ghost use Rattle.audit.specs.Steps.{AllArrive, AreBlocks, IsFailureOf, IsHeldFailure, LineIsRight, is_at};
+ghost use Rattle.audit.specs.Steps.{AllArrive, AreBlocks, IsFailureOf, IsHeldFailure, LineIsRight};
 
-use crate::end::{End, Failure};
+use crate::end::Failure;
 use crate::network::{Blocks, Network};
 use plan_file::HeldLid;
 use std::alloc::{AllocError, Global};
-use subnet_view::EndPort;
 
 #[tactic(auto, using(crate::proofs::Judged::right_none))]
 /// The first packet, by the order of LIDs and then of end ports, that an end port of the view sends to a LID which
@@ -46,30 +45,13 @@ fn failure_of(
     if !network.has_end_port(&line.port) {
         return Ok(None);
     }
-    let ends = network.ends(alloc, blocks, line.lid)?;
-    match place_elsewhere(&ends, &line.port) {
+    let ends = network.ends(alloc, blocks, line)?;
+    match ends.first_elsewhere() {
         None => Ok(None),
         Some(place) => Ok(Some(Failure {
             line: *line,
             source: network.end_port(place),
-            end: ends[place],
+            end: ends.at(place),
         })),
-    }
-}
-
-/// The place of the first packet that does not end at a port.
-fn place_elsewhere(ends: &[Option<End>], port: &EndPort) -> Option<usize>
-    ensures { result ≡ position (λ end. not (is_at port.now end)) ends.now }
-{
-    ends.iter().position(|end| !is_at(port, end))
-}
-
-/// Whether a packet ends at a port.
-fn is_at(port: &EndPort, end: &Option<End>) -> bool
-    ensures { result ≡ is_at port.now end.now }
-{
-    match end {
-        Some(End::Taken(at)) => at.node == port.node && at.port == port.port,
-        _ => false,
     }
 }

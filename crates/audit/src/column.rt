@@ -3,13 +3,11 @@ ghost use Rattle.std.specs.Prelude.{◌≡◌, IfOk, map};
 ghost use Rattle.audit.specs.Steps.{at_port, entry_among, first_step, over, step_of};
 ghost use Rattle.audit.specs.Exits.{exit_of, exit_to};
 ghost use Rattle.audit.specs.Tables.{counted, is_owner, owners_of};
-ghost use Rattle.audit.specs.Walks.{end_of, onward};
 
 use crate::end::End;
 use crate::far::{Far, Source};
 use crate::node::Node;
 use crate::step::Step;
-use crate::walks::{end_of, onward};
 use plan_file::Held;
 use port_graph::Exit;
 use smp_bytes::{Guid, Lid, PortNum};
@@ -151,24 +149,8 @@ fn at_port(owners: &[EndPort], port: &EndPort) -> End
     }
 }
 
-/// Where the packets of each source end.
-pub(crate) fn brought(
-    alloc: Global,
-    sources: &[Source],
-    owners: &[EndPort],
-    ends: &[Step],
-) -> Result<Vec<Option<End>>, AllocError>
-    ensures { IfOk result (λ brought. brought.items
-        ≡ map (λ source. end_of (onward ends.now (first_step owners.now source))) sources.now) }
-{
-    sources
-        .iter()
-        .map(|source| end_of(onward(ends, first_step(owners, source))))
-        .collect(alloc)
-}
-
 /// Where a source's packet begins.
-fn first_step(owners: &[EndPort], source: &Source) -> Step
+pub(crate) fn first_step(owners: &[EndPort], source: &Source) -> Step
     ensures { result ≡ first_step owners.now source.now }
 {
     let Some(index) = source.switch else {

@@ -1,7 +1,7 @@
 ghost use Rattle.std.specs.Prelude.{◌≡◌, ◌==◌, IfOk, map};
 ghost use Rattle.fact_store.specs.View.{cells_of};
 ghost use Rattle.subnet_view.specs.Reading.{switches};
-ghost use Rattle.audit.specs.Network.{index_in, far_of, source_of};
+ghost use Rattle.audit.specs.Network.{all_begin, far_of, first_switch, index_in, is_among, source_of, switch_over};
 
 use smp_bytes::{Guid, PortNum};
 use std::alloc::{AllocError, Global};
@@ -72,4 +72,51 @@ pub(crate) fn sources(
         })?;
     }
     Ok(sources)
+}
+
+/// For each source the index of the switch to which its packets come first.
+pub(crate) fn firsts(alloc: Global, sources: &[Source]) -> Result<Vec<Option<usize>>, AllocError>
+    ensures { IfOk result (λ firsts. firsts.items ≡ map first_switch sources.now) }
+{
+    sources
+        .iter()
+        .map(|source| first_switch(source))
+        .collect(alloc)
+}
+
+/// The index of the switch to which a source's packets come first.
+fn first_switch(source: &Source) -> Option<usize>
+    ensures { result ≡ first_switch source.now }
+{
+    match source.switch {
+        Some(index) => Some(index),
+        None => switch_over(source.far),
+    }
+}
+
+/// The index of the usable switch to which a wire leads.
+fn switch_over(far: Far) -> Option<usize>
+    ensures { result ≡ switch_over far }
+{
+    match far {
+        Far::Switch(index) => Some(index),
+        _ => None,
+    }
+}
+
+/// Whether the packets of each source come first to one of so many switches.
+pub(crate) fn all_begin(count: usize, firsts: &[Option<usize>]) -> bool
+    ensures { result ≡ all_begin count firsts.now }
+{
+    firsts.iter().all(|first| is_among(count, *first))
+}
+
+/// Whether it is one of so many switches.
+fn is_among(count: usize, first: Option<usize>) -> bool
+    ensures { result ≡ is_among count first }
+{
+    match first {
+        Some(index) => index < count,
+        None => false,
+    }
 }

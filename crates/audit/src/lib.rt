@@ -5,6 +5,7 @@ mod arrival;
 mod blocks;
 mod column;
 mod end;
+mod ends;
 mod entry;
 mod far;
 pub mod laws;
@@ -16,6 +17,7 @@ mod walks;
 
 pub use arrival::first_failure;
 pub use end::{End, Failure};
+pub use ends::Ends;
 pub use far::{Far, Source};
 pub use network::{Blocks, Network};
 

@@ -9,10 +9,10 @@ ghost use Rattle.audit.specs.Steps.{AreBlocks, AreBrought, entry_by};
 ghost use Rattle.audit.specs.Tables.{is_same_end};
 
 use crate::blocks::blocks;
-use crate::column::{brought, exits, owners_of, steps};
-use crate::end::End;
+use crate::column::{exits, owners_of, steps};
+use crate::ends::Ends;
 use crate::entry::entry_for;
-use crate::far::{Far, Source, sources};
+use crate::far::{Far, Source, all_begin, firsts, sources};
 use crate::node::{Node, nodes};
 use crate::walks::ends;
 use fact_store::{Refused, Store};
@@ -32,6 +32,10 @@ pub struct Network<'a> {
     nodes: Vec<Node>,
     /// The end ports, in their order.
     sources: Vec<Source>,
+    /// For each source the index of the switch to which its packets come first.
+    firsts: Vec<Option<usize>>,
+    /// Whether each has one.
+    begin: bool,
 }
 
 impl<'a> Model for Network<'a> {
@@ -44,7 +48,7 @@ impl<'a> Model for Network<'a> {
 
     ghost view = { λ a. record { facts = a.store.now; held = a.held.now } };
 
-    ghost invariant = { λ a. IsNetwork (cells_of a.store.now) a.held.now a.nodes.items a.sources.items };
+    ghost invariant = { λ a. IsNetwork (cells_of a.store.now) a.held.now a.nodes.items a.sources.items a.firsts.items a.begin };
 }
 
 /// The blocks of a number that switches hold.
@@ -67,11 +71,15 @@ impl<'a> Network<'a> {
         let nodes = nodes(alloc, &wires, &guids, held)?;
         let ports = end_ports(alloc, store)?;
         let sources = sources(alloc, &wires, &guids, &ports)?;
+        let firsts = firsts(alloc, &sources)?;
+        let begin = all_begin(nodes.len(), &firsts);
         Ok(Network {
             store,
             held,
             nodes,
             sources,
+            firsts,
+            begin,
         })
     }
 
@@ -97,23 +105,32 @@ impl<'a> Network<'a> {
         self.blocks(alloc, number)
     }
 
-    /// Where forwarding brings a packet for a LID, for each end port that sends it, in their order; None is that it
-    /// goes round for ever. Takes a walk over the LIDs that are held, and for each switch and each end port some
-    /// steps, by the number of digits of the longest way's length.
-    pub fn ends(
-        &self,
+    /// Where forwarding brings a packet for the LID of a line, for each end port that sends it, in their order; None is
+    /// that it goes round for ever. Takes a walk over the LIDs that are held, and for each switch some steps, by the
+    /// number of digits of the longest way's length.
+    pub fn ends<'s>(
+        &'s self,
         alloc: Global,
         blocks: &Blocks,
-        lid: Lid,
-    ) -> Result<Vec<Option<End>>, AllocError>
+        line: &HeldLid,
+    ) -> Result<Ends<'s>, AllocError>
         requires held { AreBlocks self.now.held blocks.now.number blocks.now.rows.items }
-        requires number { blocks.now.number ≡ lid / 64 }
-        ensures { IfOk result (λ ends. AreBrought (cells_of self.now.facts) self.now.held lid ends.items) }
+        requires number { blocks.now.number ≡ line.now.lid / 64 }
+        ensures { IfOk result (λ ended. AreBrought (cells_of self.now.facts) self.now.held line.now.lid ended.ends
+            × (ended.port ≡ line.now.port)) }
     {
-        let owners = owners_of(alloc, self.held, lid)?;
-        let steps = steps(alloc, &self.nodes, &owners, &blocks.rows, lid)?;
-        let ends = ends(alloc, steps)?;
-        brought(alloc, &self.sources, &owners, &ends)
+        let owners = owners_of(alloc, self.held, line.lid)?;
+        let steps = steps(alloc, &self.nodes, &owners, &blocks.rows, line.lid)?;
+        let walks = ends(alloc, steps)?;
+        Ends::new(
+            alloc,
+            line.port,
+            &self.sources,
+            &self.firsts,
+            self.begin,
+            owners,
+            walks,
+        )
     }
 
     /// For each usable switch, by rising GUID, the port by which it sends packets for a LID on to another usable

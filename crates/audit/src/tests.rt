@@ -84,8 +84,12 @@ fn audited(
 
 fn first_end(alloc: Global, network: &Network) -> Result<Option<End>, Fail> {
     let blocks = network.blocks(alloc, 0)?;
-    let ends = network.ends(alloc, &blocks, Lid::new(3))?;
-    Ok(ends.first().copied().flatten())
+    let line = HeldLid {
+        lid: Lid::new(3),
+        port: at(0x100, 1),
+    };
+    let ends = network.ends(alloc, &blocks, &line)?;
+    Ok(ends.at(0))
 }
 
 /// The LIDs of the four end ports.

@@ -8,11 +8,13 @@ use Rattle.audit.proofs.arrival.failure_of.Goals as goal
 
 pub returns-in-None : goal.returns-in-None
 returns-in-None c =
-    none_elsewhere (cells_of c.args.network.now.facts) c.args.network.now.held c.args.line.now c.in_ok-ends.ends.items c.in_ok-ends.ensures
-    (sym (c.in-None.ensures ∙ ap (position (λ end. not (is_at c.args.line.now.port end))) c.deref.ensures.value))
+    let ends = c.in_ok-ends.ends.ends in
+    none_elsewhere (cells_of c.args.network.now.facts) c.args.network.now.held c.args.line.now ends c.in_ok-ends.ensures.0
+    (sym (c.in-None.ensures ∙ ap (λ port. position (λ end. not (is_at port end)) ends) c.in_ok-ends.ensures.1))
 
 pub returns : goal.returns
 returns c =
-    one_elsewhere (cells_of c.args.network.now.facts) c.args.network.now.held c.args.line.now c.in_ok-ends.ends.items c.in-Some.place c.end_port.result
-    c.index.result.now c.in_ok-ends.ensures (c.has_end_port.ensures.0 c.if-not-has_end_port.false)
-    (sym (c.in-Some.ensures ∙ ap (position (λ end. not (is_at c.args.line.now.port end))) c.deref.ensures.value)) c.end_port.ensures c.index.ensures
+    let ends = c.in_ok-ends.ends.ends in
+    one_elsewhere (cells_of c.args.network.now.facts) c.args.network.now.held c.args.line.now ends c.in-Some.place c.end_port.result
+    c.at.result c.in_ok-ends.ensures.0 (c.has_end_port.ensures.0 c.if-not-has_end_port.false)
+    (sym (c.in-Some.ensures ∙ ap (λ port. position (λ end. not (is_at port end)) ends) c.in_ok-ends.ensures.1)) c.end_port.ensures c.at.ensures

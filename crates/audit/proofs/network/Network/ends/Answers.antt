@@ -1,37 +1,52 @@
 -- By the network's switches and sources, and the blocks of the LID's number.
-use Rattle.std.proofs.Common.{◌≡◌, ◌∙◌, sym, subst}
+use Rattle.std.proofs.Common.{◌≡◌, ◌∙◌, length, sym, subst, ap}
+use Rattle.std.proofs.lemmas.List.{length-map}
 use Rattle.std.specs.Prelude.{IfOk, map}
 use Rattle.fact_store.specs.View.{cells_of}
-use Rattle.audit.specs.Network.{Seen}
-use Rattle.audit.specs.Steps.{AreBlocks, AreBrought, first_step, step_of}
-use Rattle.audit.specs.Walks.{end_of, onward}
+use Rattle.audit.specs.Ends.{end_from}
+use Rattle.audit.specs.declared.node.Node.{Node}
+use Rattle.audit.specs.declared.step.Step.{Step}
+use Rattle.audit.specs.Network.{Seen, all_begin, first_switch}
+use Rattle.audit.specs.Steps.{AreBlocks, AreBrought, step_of}
 use Rattle.audit.proofs.Brought.{brought_is, if_ok}
 use Rattle.audit.proofs.network.Network.ends.Goals as goal
 
+pub new-requires-clause-firsts : goal.new-requires-clause-firsts
+new-requires-clause-firsts c = c.deref-5.ensures.value ∙ c.self.invariant.firsts_are ∙ ap (map first_switch) (sym c.deref-4.ensures.value)
+
+pub new-requires-clause-begin : goal.new-requires-clause-begin
+new-requires-clause-begin c =
+    let nodes = c.self.inside.nodes.items in
+    let steps = c.in_ok-steps.steps.items in
+    let line = c.args.line.now in
+    let step : Node → Step = step_of c.deref-2.result.now c.deref-3.result.now line.lid in
+    let long : length steps ≡ length nodes = ap length c.in_ok-steps.ensures ∙ length-map c.deref.result.now step ∙ ap length c.deref.ensures.value in
+    let count : length nodes ≡ length c.in_ok-walks.walks.items = sym (c.in_ok-walks.ensures.as_many ∙ long) in
+    c.self.invariant.begin_is ∙ ap (λ n. all_begin n c.self.inside.firsts.items) count
+    ∙ ap (all_begin (length c.in_ok-walks.walks.items)) (sym c.deref-5.ensures.value)
+
 pub returns : goal.returns
 returns c =
-    let a = c.args in
+    let line = c.args.line.now in
+    let rows = c.args.blocks.now.rows.items in
+    let number = c.args.blocks.now.number in
     let inside : Seen = record { facts = c.self.inside.store.now; held = c.self.inside.held.now } in
     let cells = cells_of inside.facts in
-    let Found : Seen → Type 0 = λ s. IfOk c.brought.result (λ ends. AreBrought (cells_of s.facts) s.held a.lid ends.items) in
-    let Gathered : Seen → Type 0 = λ s. AreBlocks s.held a.blocks.now.number a.blocks.now.rows.items in
+    let Found : Seen → Type 0 = λ s. IfOk c.new.result (λ ended. AreBrought (cells_of s.facts) s.held line.lid ended.ends × (ended.port ≡ line.port)) in
+    let Gathered : Seen → Type 0 = λ s. AreBlocks s.held number rows in
     let blocks = subst Gathered (sym c.self.view_is) c.requires.held in
     let owners = c.in_ok-owners.owners.items in
-    let rows = a.blocks.now.rows.items in
-    let steps = c.in_ok-steps.ensures ∙ (λ i. map (step_of (c.deref-2.ensures.value i) (c.deref-3.ensures.value i) a.lid) (c.deref.ensures.value i)) in
+    let walks = c.in_ok-walks.walks.items in
+    let steps = c.in_ok-steps.ensures ∙ (λ i. map (step_of (c.deref-2.ensures.value i) (c.deref-3.ensures.value i) line.lid) (c.deref.ensures.value i)) in
     subst Found c.self.view_is
     (if_ok
-    (λ found. found.items ≡ map (λ source. end_of (onward c.deref-6.result.now (first_step c.deref-5.result.now source))) c.deref-4.result.now)
-    (λ ends. AreBrought cells inside.held a.lid ends.items)
-    c.brought.result
-    c.brought.ensures
-    (λ found e.
-    brought_is cells inside.held a.lid a.blocks.now.number rows blocks c.requires.number c.self.inside.nodes.items c.self.inside.sources.items owners
-    c.in_ok-steps.steps.items
-    c.in_ok-ends.ends.items
-    found.items
-    c.self.invariant
-    c.in_ok-owners.ensures
-    steps
-    c.in_ok-ends.ensures
-    (e ∙ (λ i. map (λ source. end_of (onward (c.deref-6.ensures.value i) (first_step (c.deref-5.ensures.value i) source))) (c.deref-4.ensures.value i)))))
+    (λ ended. (ended.port ≡ line.port) × (ended.ends ≡ map (end_from owners walks) c.deref-4.result.now))
+    (λ ended. AreBrought cells inside.held line.lid ended.ends × (ended.port ≡ line.port))
+    c.new.result
+    c.new.ensures
+    (λ ended e. (
+      brought_is cells inside.held line.lid number rows blocks c.requires.number c.self.inside.nodes.items c.self.inside.sources.items owners
+          c.in_ok-steps.steps.items walks ended.ends c.self.inside.firsts.items c.self.inside.begin c.self.invariant c.in_ok-owners.ensures steps c.in_ok-walks.ensures
+          (e.1 ∙ ap (map (end_from owners walks)) c.deref-4.ensures.value),
+      e.0,
+    )))

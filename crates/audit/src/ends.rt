@@ -1,0 +1,218 @@
+//! Where packets for the LID of an end port end.
+ghost use Rattle.std.specs.Prelude.{◌≡◌, ◌&&◌, IfOk, None, length, map, not, position, slice_index_or};
+ghost use Rattle.std.specs.List.{list_all};
+ghost use Rattle.audit.specs.Ends.{all_come, arrivals, comes_by, end_from, is_sole};
+ghost use Rattle.audit.specs.Network.{all_begin, first_switch};
+ghost use Rattle.audit.specs.Steps.{is_at};
+ghost use Rattle.audit.specs.Tables.{is_same_end};
+
+use crate::column::first_step;
+use crate::end::End;
+use crate::far::Source;
+use crate::step::Step;
+use crate::walks::{end_of, onward};
+use std::alloc::{AllocError, Global};
+use std::marker::Model;
+use subnet_view::EndPort;
+
+/// Where packets for the LID of an end port end, for each end port that sends one, in their order.
+#[derive(Drop)]
+pub struct Ends<'a> {
+    /// The end port.
+    port: EndPort,
+    sources: &'a [Source],
+    /// For each source the index of the switch to which its packet comes first.
+    firsts: &'a [Option<usize>],
+    /// The end ports that hold the LID.
+    owners: Vec<EndPort>,
+    /// What the walks from the switches come to.
+    walks: Vec<Step>,
+    /// Whether that is the end port.
+    arrive: Vec<bool>,
+    /// Whether no other end port holds the LID.
+    sole: bool,
+    /// Whether all packets are seen to end at the end port by these.
+    all: bool,
+}
+
+impl<'a> Model for Ends<'a> {
+    ghost use Rattle.std.specs.Prelude.{map};
+    ghost use Rattle.audit.specs.Ends.{AreEnds, Ended, end_from};
+
+    ghost Value = { Ended };
+
+    ghost view = { λ a. record { port = a.port; ends = map (end_from a.owners.items a.walks.items) a.sources.now } };
+
+    ghost invariant = { λ a. AreEnds a.port a.sources.now a.firsts.now a.owners.items a.walks.items a.arrive.items a.sole a.all };
+}
+
+impl<'a> Ends<'a> {
+    /// By the end ports that hold the LID, and what the walks from the switches come to.
+    pub(crate) fn new(
+        alloc: Global,
+        port: EndPort,
+        sources: &'a [Source],
+        firsts: &'a [Option<usize>],
+        begin: bool,
+        owners: Vec<EndPort>,
+        walks: Vec<Step>,
+    ) -> Result<Self, AllocError>
+        requires firsts { firsts.now ≡ map first_switch sources.now }
+        requires begin { begin ≡ all_begin (length walks.items) firsts.now }
+        ensures { IfOk result (λ ended. (ended.port ≡ port)
+            × (ended.ends ≡ map (end_from owners.items walks.items) sources.now)) }
+    {
+        let sole = is_sole(&port, &owners);
+        let arrive = arrivals(alloc, &port, &walks)?;
+        let all = all_come(begin, &arrive, sole);
+        Ok(Ends {
+            port,
+            sources,
+            firsts,
+            owners,
+            walks,
+            arrive,
+            sole,
+            all,
+        })
+    }
+
+    /// Where the packet of the end port at a place ends; None is that it goes round for ever. Takes some steps.
+    pub fn at(&self, place: usize) -> Option<End>
+        ensures { result ≡ slice_index_or self.now.ends place None }
+    {
+        end_at(&self.owners, &self.walks, self.sources, place)
+    }
+
+    /// Whether it ends at the port. Takes a step or two where it does, and no other end port holds the LID.
+    pub fn arrives(&self, place: usize) -> bool
+        ensures { result ≡ is_at self.now.port (slice_index_or self.now.ends place None) }
+    {
+        if comes_there(self.sole, self.firsts, &self.arrive, place) {
+            return true;
+        }
+        is_at(&self.port, &self.at(place))
+    }
+
+    /// The place of the first that does not end at the port; None where all do. Takes one step where all come first to a
+    /// switch, each walk from a switch comes to the port, and no other end port holds the LID; else what `arrives` does
+    /// for each.
+    pub fn first_elsewhere(&self) -> Option<usize>
+        ensures { result ≡ position (λ end. not (is_at self.now.port end)) self.now.ends }
+    {
+        if self.all {
+            return None;
+        }
+        self.look_elsewhere()
+    }
+
+    /// The same, by looking at each.
+    fn look_elsewhere(&self) -> Option<usize>
+        ensures { result ≡ position (λ end. not (is_at self.now.port end)) self.now.ends }
+    {
+        for place in 0..self.count() {
+            if !self.arrives(place) {
+                return Some(place);
+            }
+        }
+        None
+    }
+
+    /// How many there are.
+    fn count(&self) -> usize
+        ensures { result ≡ length self.now.ends }
+    {
+        self.sources.len()
+    }
+}
+
+#[tactic(auto, using(crate::proofs::Arrivals::found_there, crate::proofs::Arrivals::none_there))]
+/// Where the packet of the source at a place ends, and None where there is none.
+fn end_at(owners: &[EndPort], walks: &[Step], sources: &[Source], place: usize) -> Option<End>
+    ensures { result ≡ slice_index_or (map (end_from owners.now walks.now) sources.now) place None }
+{
+    if place < sources.len() {
+        end_from(owners, walks, &sources[place])
+    } else {
+        None
+    }
+}
+
+/// Where the packet of a source ends.
+fn end_from(owners: &[EndPort], walks: &[Step], source: &Source) -> Option<End>
+    ensures { result ≡ end_from owners.now walks.now source.now }
+{
+    end_of(onward(walks, first_step(owners, source)))
+}
+
+/// Whether the walk from the first switch comes to the port, which alone holds the LID.
+fn comes_there(sole: bool, firsts: &[Option<usize>], arrive: &[bool], place: usize) -> bool
+    ensures { result ≡ (sole && comes_by (slice_index_or firsts.now place None) arrive.now) }
+{
+    sole && comes_by(first_at(firsts, place), arrive)
+}
+
+/// The index of the switch to which the packet of the source at a place comes first.
+fn first_at(firsts: &[Option<usize>], place: usize) -> Option<usize>
+    ensures { result ≡ slice_index_or firsts.now place None }
+{
+    firsts.get(place).copied().flatten()
+}
+
+/// Whether the walk from a switch comes to the port, by what each does.
+fn comes_by(first: Option<usize>, arrive: &[bool]) -> bool
+    ensures { result ≡ comes_by first arrive.now }
+{
+    match first {
+        Some(index) => arrive.get(index).copied().unwrap_or(false),
+        None => false,
+    }
+}
+
+/// Whether what each walk comes to is the port.
+fn arrivals(alloc: Global, port: &EndPort, walks: &[Step]) -> Result<Vec<bool>, AllocError>
+    ensures { IfOk result (λ arrive. arrive.items ≡ arrivals port.now walks.now) }
+{
+    walks
+        .iter()
+        .map(|walk| is_at(port, &end_of(*walk)))
+        .collect(alloc)
+}
+
+/// Whether no other end port is one of these.
+fn is_sole(port: &EndPort, owners: &[EndPort]) -> bool
+    ensures { result ≡ is_sole port.now owners.now }
+{
+    owners.iter().all(|owner| is_same_end(port, owner))
+}
+
+/// Whether all packets are seen to end at the port.
+fn all_come(begin: bool, arrive: &[bool], sole: bool) -> bool
+    ensures { result ≡ all_come begin arrive.now sole }
+{
+    begin && sole && all_arrive(arrive)
+}
+
+/// Whether all walks come to the port.
+fn all_arrive(arrive: &[bool]) -> bool
+    ensures { result ≡ list_all (λ arrives. arrives) arrive.now }
+{
+    arrive.iter().all(|arrives| *arrives)
+}
+
+/// Whether a packet ends at a port.
+fn is_at(port: &EndPort, end: &Option<End>) -> bool
+    ensures { result ≡ is_at port.now end.now }
+{
+    match end {
+        Some(End::Taken(at)) => is_same_end(port, at),
+        _ => false,
+    }
+}
+
+/// Whether two end ports are one.
+fn is_same_end(port: &EndPort, other: &EndPort) -> bool
+    ensures { result ≡ is_same_end port.now other.now }
+{
+    other.node == port.node && other.port == port.port
+}
