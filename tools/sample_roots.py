@@ -1,7 +1,8 @@
-"""Texts of roots for plans and runs by the rule that spreads, and how these end. Faults and plans were worked out from
+"""Plans and runs by the rule that spreads, texts of roots for them, and how these end. Faults and plans were worked out from
 docs/FORMATS.md and docs/MODEL.md, apart from the program."""
 from built_program import prints, refused, says
 
+THREE = (0x10, 0x20, 0x30)
 TREE = (
     (0x10, 0x20, 0x30, 0x40, 0x50), (0x100, 0x110, 0x120, 0x200, 0x210, 0x300),
     "10/1-30/1 10/2-40/1 10/3-50/1 20/1-30/2 20/2-40/2 20/3-50/2 30/3-100/1 30/4-110/1 40/3-120/1 40/4-200/1 50/3-210/1 50/4-300/1",
@@ -27,6 +28,45 @@ def topology(switches, adapters, wires):
         links.setdefault(near, []).append(f'[{port}] "{far}"[{at}]\n')
     nodes = [(guid, "Switch 4") for guid in switches] + [(guid, "Hca 1") for guid in adapters]
     return "".join(f'{kind} "{guid:x}" guid 0x{guid:x}\n' + "".join(links.get(f"{guid:x}", [])) for guid, kind in nodes)
+
+
+def spread(plan):
+    """Subnets whose packets are spread over the wires without roots: the title, switches, adapters, wires, and the plan."""
+    yield "the triangle", THREE, (0x100, 0x200), "10/1-20/1 10/2-30/1 20/2-30/2 20/3-100/1 30/3-200/1", plan(
+        "1 10/0 2 20/0 3 30/0 4 100/1 5 200/1", "10 0 1 2 1 2", "20 1 0 2 3 2", "30 1 2 0 2 3",
+    )
+    # In a mesh without adapters each goes to each over a wire of its own, or by its GUID.
+    yield (
+        "no adapters", TREE[0], (),
+        "10/1-20/1 10/2-30/1 10/3-40/1 10/4-50/1 20/2-30/2 30/3-40/2 40/3-50/2",
+        plan(
+            "1 10/0 2 20/0 3 30/0 4 40/0 5 50/0",
+            "10 0 1 2 3 4", "20 1 0 2 2 1", "30 1 2 0 3 1", "40 1 1 2 0 3", "50 1 1 2 2 0",
+        ),
+    )
+    # Two switches above three that bear adapters: from below LIDs in a row go up by either.
+    yield "a tree of two levels", *TREE, plan(
+        TREE_LIDS,
+        "10 0 1 1 2 3 1 1 2 2 3 3", "20 1 0 1 2 3 1 1 2 2 3 3", "30 1 2 0 2 1 3 4 2 1 2 1",
+        "40 1 2 2 0 2 1 2 3 4 1 2", "50 1 2 2 1 0 1 2 1 2 3 4",
+    )
+    one = "1 10/0 2 20/0 3 30/0 4 100/1"
+    yield (
+        "two wires between each two of a chain", THREE, (0x100,),
+        "10/1-20/1 10/2-20/2 20/3-30/1 20/4-30/2 30/3-100/1",
+        plan(one, "10 0 1 2 1", "20 2 0 3 4", "30 1 2 0 3"),
+    )
+    yield (
+        "two components", THREE, (0x100,), "10/1-20/1 10/2-20/2 20/3-20/4 30/1-100/1",
+        plan(one, "10 0 1 - -", "20 1 0 - -", "30 - - 0 1"),
+    )
+    yield (
+        "a ring of five", TREE[0], (0x100, 0x200), "10/1-20/1 20/2-30/1 30/2-40/1 40/2-50/1 50/2-10/2 10/3-100/1 30/3-200/1",
+        plan(
+            RING_LIDS,
+            "10 0 1 1 2 2 3 1", "20 1 0 2 2 1 1 2", "30 1 1 0 2 1 1 3", "40 2 1 1 0 2 2 1", "50 2 2 2 1 0 2 2",
+        ),
+    )
 
 
 def plans(plan):

@@ -21,6 +21,3 @@ pub use labelling::marks;
 pub use mark::{Label, Mark};
 pub use ordering::grown_order;
 pub use place::{by_places, places};
-
-#[cfg(test)]
-mod tests;
