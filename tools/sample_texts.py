@@ -1,5 +1,6 @@
 """Texts of topologies and of schedules, what is wrong with some of them, and others that are taken. Worked out by hand from
 docs/FORMATS.md."""
+import sample_fabrics
 
 # A topology, and the fault of its first line.
 NO_GRAMMAR = (
@@ -91,3 +92,7 @@ def runs():
         yield FABRIC, text, f"LINES: {fault}", None
     for line, printed in LINES:
         yield FABRIC, MANAGERS + line, None, printed.replace("%", "f" * 128)
+    # A path has at most 63 ports, and the last of 64 switches in a row is one further.
+    for count, far in (63, 0), (64, 1):
+        swept = 'manager M "H1"[1] 1\nsweep M\ndrain 100000\nprogress M\n'
+        yield sample_fabrics.line(count).topology(), swept, None, f"progress M done unanswered 0 toofar {far}\n"

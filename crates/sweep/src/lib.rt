@@ -19,6 +19,3 @@ pub use fault::SweepFault;
 pub use reached::{Reached, SeenState};
 pub use request::{Question, Request};
 pub use sweep::Sweep;
-
-#[cfg(test)]
-mod tests;
