@@ -14,7 +14,7 @@ use Rattle.plan_file.specs.declared.held.HeldLid.{HeldLid}
 use Rattle.plan_file.specs.Held.{HeldPlan}
 use Rattle.audit.specs.Exits.{exits_of}
 use Rattle.audit.specs.Steps.{AreBlocks}
-use Rattle.audit_circles.specs.Waiting.{WaitsFor, AreWaits}
+use Rattle.audit_circles.specs.Waiting.{WaitsFor, AreWaits, IsAdded}
 
 -- a product that fits
 pub some_is : (P : Type 0) (o : Option ℕ) (n v : ℕ) → SomeIff o P v → o ≡ Some n → n ≡ v
@@ -99,6 +99,31 @@ more cells held before number index old rows waits new line column h blocks line
               subst (λ (xs : List (Option Exit)). TakesInTurn xs t.switch a b) (ap (λ (l : HeldLid). exits_of cells held l.lid) same ∙ sym column_is) t.takes in
               inr (t.switch, within column t.switch its.first its.leaves, its)
         ]
+
+-- a column that has been added, and again
+pub none_added : (waits : List (List ℕ)) → IsAdded [] waits
+none_added waits switch channel next t = let leaves = t.leaves in absurd (cc)
+
+pub again : (column : List (Option Exit)) (waits : List (List ℕ)) → IsAdded column waits → IsWithColumn waits column waits
+again column waits h = record { as_many = refl; follows = λ a b. ((λ f. inl f), back a b) }
+  where
+    back : (a b : ℕ) → Follows waits a b ⊎ ((vertex : ℕ) × (vertex < length column) × TakesInTurn column vertex a b) → Follows waits a b
+    back a b (inl f) = f
+    back a b (inr t) = h t.0 a b t.2
+
+pub is_added : (column : List (Option Exit)) (old new : List (List ℕ)) → IsWithColumn old column new → IsAdded column new
+is_added column old new h switch channel next t = (h.follows channel next).1 (inr (switch, within column switch t.first t.leaves, t))
+
+-- two columns that agree at each place
+pub same_columns : (column other : List (Option Exit)) → length column ≡ length other
+    → ((k : ℕ) → k < length column → slice_index_or column k None ≡ slice_index_or other k None) → column ≡ other
+same_columns [] [] e h = refl
+same_columns [] (x ∷ other) e h = absurd (omega arith)
+same_columns (x ∷ column) [] e h = absurd (omega arith)
+same_columns (x ∷ column) (y ∷ other) e h =
+    let first : x ≡ y = h 0 (omega arith) in
+    let rest = same_columns column other (omega arith) (λ k less. h (suc k) (omega arith)) in
+    λ i. first i ∷ rest i
 
 at_contains : (xs : List HeldLid) (k : ℕ) (x : HeldLid) → slice_get xs k ≡ Some x → Contains xs x
 at_contains [] k x e = cc

@@ -1,6 +1,7 @@
 -- Channels that packets take in turn by the tables held, and the order of channels.
 -- InfiniBand Architecture Specification, Volume 1: switches, unicast forwarding by the linear forwarding table; link layer, flow control by credits.
-use Rattle.std.specs.Prelude.{◌≡◌, ◌↔◌, ◌<◌, ◌*◌, ℕ, List, [], ◌∷◌, Contains, length, slice_index_or}
+use Rattle.std.specs.Prelude.{◌≡◌, ◌↔◌, ◌<◌, ◌*◌, ℕ, List, [], ◌∷◌, Contains, Option, length, slice_index_or}
+use Rattle.port_graph.specs.declared.exit.Exit.{Exit}
 use Rattle.channel_order.specs.Orders.{Follows}
 use Rattle.channel_order.specs.Columns.{TakesInTurn}
 use Rattle.channel_order.specs.declared.order.ChannelOrder.{ChannelOrder}
@@ -21,6 +22,10 @@ pub record WaitsFor (cells : Cells) (held : HeldPlan) (channel next : ℕ) : Typ
 pub record AreWaits (cells : Cells) (held : HeldPlan) (waits : List (List ℕ)) : Type 0 where
   pub as_many : length waits ≡ 256 * length (switches cells)
   pub follows : (a b : ℕ) → Follows waits a b ↔ WaitsFor cells held a b
+
+-- the channels that packets take in turn by a column follow each other
+abbrev pub IsAdded : List (Option Exit) → List (List ℕ) → Type 0
+IsAdded column waits = (switch channel next : ℕ) → TakesInTurn column switch channel next → Follows waits channel next
 
 -- each channel of each switch has a number, and those that packets take next have greater ones
 pub record RiseOnWays (cells : Cells) (held : HeldPlan) (numbers : List ℕ) : Type 0 where

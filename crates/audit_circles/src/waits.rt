@@ -1,9 +1,11 @@
-ghost use Rattle.std.specs.Prelude.{IfOk};
+ghost use Rattle.std.specs.Prelude.{◌≡◌, ◌<◌, ◌*◌, ◌^◌, ◌↔◌, IfOk, IsTrue, OnOk, length};
 ghost use Rattle.fact_store.specs.View.{cells_of};
-ghost use Rattle.audit_circles.specs.Waiting.{AreWaits};
+ghost use Rattle.channel_order.specs.Columns.{IsWithColumn};
+ghost use Rattle.audit_circles.specs.Waiting.{AreWaits, IsAdded};
 
 use audit::Network;
 use channel_order::{Waits, add_column};
+use port_graph::Exit;
 use std::alloc::{AllocError, Global};
 
 /// For each channel those that packets take next.
@@ -13,10 +15,44 @@ pub(crate) fn waits(alloc: Global, network: &Network) -> Result<Waits, AllocErro
     let count = network.switch_count().checked_mul(256).ok_or(AllocError)?;
     let mut waits = Waits::new(alloc, count)?;
     let mut blocks = network.blocks(alloc, 0)?;
+    let mut before = Vec::new(alloc);
     for line in network.lids() {
         blocks = network.blocks_for(alloc, blocks, line.lid)?;
         let column = network.exits(alloc, &blocks, line.lid)?;
-        add_column(&mut waits, &column)?;
+        add_after(&mut waits, &before, &column)?;
+        before = column;
     }
     Ok(waits)
+}
+
+/// Adds a column, unless it is the one before, which has been added.
+fn add_after(
+    waits: &mut Waits,
+    before: &[Option<Exit>],
+    column: &[Option<Exit>],
+) -> Result<(), AllocError>
+    requires added { IsAdded before.now waits.old }
+    requires channels { length waits.old ≡ 256 * length column.now }
+    requires room { 256 * length column.now < 2 ^ 64 }
+    ensures { OnOk result (IsWithColumn waits.old column.now waits.new) }
+{
+    if is_same(column, before) {
+        return Ok(());
+    }
+    add_column(waits, column)
+}
+
+/// Whether two columns are one.
+fn is_same(column: &[Option<Exit>], other: &[Option<Exit>]) -> bool
+    ensures { IsTrue result ↔ (column.now ≡ other.now) }
+{
+    if column.len() != other.len() {
+        return false;
+    }
+    for (vertex, exit) in column.iter().enumerate() {
+        if *exit != other[vertex] {
+            return false;
+        }
+    }
+    true
 }

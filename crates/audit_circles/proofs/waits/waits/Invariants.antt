@@ -1,7 +1,11 @@
 -- The LIDs so far.
 use Rattle.fact_store.specs.View.{cells_of}
+use Rattle.audit_circles.specs.Waiting.{IsAdded}
 use Rattle.audit_circles.proofs.Waiting.{SoFar}
 use Rattle.audit_circles.proofs.waits.waits.Given as goal
 
 abbrev pub invariant-loop-line : goal.invariant-loop-line
-invariant-loop-line l = SoFar l.line-index (cells_of l.network.facts) l.network.held l.blocks.number l.blocks.rows.items l.waits
+invariant-loop-line l = record {
+  so_far : SoFar l.line-index (cells_of l.network.facts) l.network.held l.blocks.number l.blocks.rows.items l.waits;
+  added : IsAdded l.before.items l.waits;
+}
