@@ -1,5 +1,5 @@
 //! Tables by the rule that spreads.
-ghost use Rattle.std.specs.Prelude.{◌≡◌, ◌<◌, ◌≤◌, ◌*◌, All, IfOk, length, map, replicate};
+ghost use Rattle.std.specs.Prelude.{◌≡◌, ◌<◌, ◌≤◌, ◌*◌, [], All, IfOk, length, map, replicate};
 ghost use Rattle.std.specs.List.{range_with_len};
 ghost use Rattle.fact_store.specs.View.{cells_of};
 ghost use Rattle.updown_routes.specs.Graph.{graph_of, guids_of};
@@ -12,7 +12,7 @@ ghost use Rattle.lft_blocks.specs.Rows.{AreRows, placed_home, table_of_row};
 use crate::home::Home;
 use crate::row::{Row, lids_at, write_rows};
 use crate::table::Table;
-use smp_bytes::Guid;
+use smp_bytes::{Guid, PortNum};
 use spread_rule::{Spread, bearing_switches};
 use std::alloc::{AllocError, Global};
 use std::mem;
@@ -57,9 +57,10 @@ fn rows(
         (guids_of spread.now.graph) homes.now switches rows.items) }
 {
     let mut rows = no_ways(alloc, switches, homes.len())?;
+    let mut ports = no_ports(alloc, switches)?;
     for target in 0..switches {
         let lids = lids_at(alloc, homes, target)?;
-        let ports = spread.ports_to(alloc, target, &lids)?;
+        spread.ports_to(alloc, target, &lids, &mut ports)?;
         write_rows(&mut rows, homes, &lids, &ports, target);
     }
     Ok(rows)
@@ -72,6 +73,17 @@ fn no_ways(alloc: Global, switches: usize, len: usize) -> Result<Vec<Row>, Alloc
     let mut rows = Vec::with_capacity(alloc, switches)?;
     for _ in 0..switches {
         rows.push(Row::new(alloc, len)?)?;
+    }
+    Ok(rows)
+}
+
+/// So many rows of no ports.
+fn no_ports(alloc: Global, switches: usize) -> Result<Vec<Vec<Option<PortNum>>>, AllocError>
+    ensures { IfOk result (λ rows. map (λ row. row.items) rows.items ≡ replicate switches []) }
+{
+    let mut rows = Vec::with_capacity(alloc, switches)?;
+    for _ in 0..switches {
+        rows.push(Vec::new(alloc))?;
     }
     Ok(rows)
 }

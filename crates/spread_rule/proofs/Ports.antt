@@ -1,7 +1,8 @@
 -- The ports of all switches towards one, by what is held.
-use Rattle.std.proofs.Common.{◌≡◌, ◌<◌, ℕ, suc, zero, List, [], ◌∷◌, refl, sym, ap, ◌∙◌, subst, arith, length, map, true, false, Bool, ◌||◌}
-use Rattle.std.proofs.lemmas.List.{ext_get_or, get_or-map}
-use Rattle.std.specs.Prelude.{All, Contains, Option, filter, nat_lt, option_map, slice_index, slice_index_or, min, ◌*◌, ◌+◌, ◌==◌}
+use Rattle.std.proofs.Common.{◌≡◌, ◌<◌, ℕ, suc, zero, List, [], ◌∷◌, inl, inr, refl, sym, ap, ◌∙◌, subst, arith, length, map, true, false, Bool, ◌||◌}
+use Rattle.std.proofs.lemmas.Bool.{cases_eq}
+use Rattle.std.proofs.lemmas.List.{ext_get_or, get_or-map, get_or-set_other, get_or-set_same, length-set}
+use Rattle.std.specs.Prelude.{All, Contains, Option, filter, nat_lt, option_map, slice_index, slice_index_or, slice_set, min, ◌*◌, ◌+◌, ◌==◌}
 use Rattle.std.specs.List.{list_any, range_with_len}
 use Rattle.smp_bytes.proofs.Members.{contains-from_filter, contains_here, contains_later}
 use Rattle.port_graph.specs.declared.exit.Exit.{Exit}
@@ -11,6 +12,7 @@ use Rattle.port_graph.proofs.SearchSteps.{all_from_contained}
 use Rattle.spread_routes.specs.declared.mark.Mark.{Mark}
 use Rattle.spread_routes.specs.Candidates.{is_nearer}
 use Rattle.spread_routes.specs.Labels.{candidates}
+use Rattle.spread_routes.specs.LabelLaws.{IsSymmetric}
 use Rattle.spread_routes.specs.Heights.{rises_at, unit_of, width_of}
 use Rattle.spread_routes.specs.Orders.{numbers_from, place_of}
 use Rattle.spread_routes.specs.RoundMarks.{AreMarksAfter}
@@ -27,6 +29,28 @@ use Rattle.spread_rule.specs.Spread.{Grading, goes_higher, number_there, spread_
 use Rattle.spread_rule.specs.Tables.{no_standing, ports_among, ports_between, ports_towards}
 use Rattle.spread_rule.proofs.Indices.{index_of_switch}
 use Rattle.spread_rule.proofs.Names.{all_placed, grows, is_grown_graph}
+
+-- the ports of the switch at a place, by marks
+abbrev pub row_at : Grading → List ℕ → List (Option Mark) → ℕ → List (Option ℕ)
+row_at by lids marks p = ports_among by lids p (filter (is_nearer p marks) (exits_at (by_places by.graph by.keys) p))
+
+-- the rows of so many switches are there
+pub record AreSoFar (by : Grading) (lids : List ℕ) (marks : List (Option Mark)) (places : List ℕ) (count : ℕ) (rows : List (List (Option ℕ))) : Type 0 where
+  pub all : length rows ≡ length by.graph
+  pub each : (i : ℕ) → i < count → slice_index_or rows i [] ≡ row_at by lids marks (slice_index places i)
+
+-- one more is
+pub row_more : (by : Grading) (lids : List ℕ) (marks : List (Option Mark)) (places : List ℕ) (i : ℕ) (row : List (Option ℕ)) (old new : List (List (Option ℕ)))
+    → i < length by.graph → new ≡ slice_set old i row → row ≡ row_at by lids marks (slice_index places i)
+    → AreSoFar by lids marks places i old → AreSoFar by lids marks places (i + 1) new
+row_more by lids marks places i row old new h is are so = subst (AreSoFar by lids marks places (i + 1)) (sym is) (record {
+  all = length-set old i row ∙ so.all;
+  each = λ k l. elim (cases_eq k i) [
+    | inl same ↦ subst (λ (x : ℕ). slice_index_or (slice_set old i row) x [] ≡ row_at by lids marks (slice_index places x)) (sym same)
+        (get_or-set_same old i row [] (omega (arith, so.all)) ∙ are)
+    | inr other ↦ let below : k < i = grind arith in get_or-set_other old i k row [] other ∙ so.each k below
+  ];
+})
 
 module _ (by : Grading) (good : IsGraph by.graph) where
   abbrev exits : List (List Exit)
@@ -46,6 +70,9 @@ module _ (by : Grading) (good : IsGraph by.graph) where
 
   pub lead : LeadToVertices exits
   lead = (is_grown_graph by.graph by.keys good).lead
+
+  pub symmetric : IsSymmetric exits
+  symmetric = (is_grown_graph by.graph by.keys good).symmetric
 
   -- by the index of a switch
   place_of_switch : (i : ℕ) → i < length by.graph → place_of order i ≡ place by.graph by.keys (switch_at by.graph i)
@@ -68,15 +95,24 @@ module _ (by : Grading) (good : IsGraph by.graph) where
   -- of all switches
   pub rows_are : (lids : List ℕ) (target : ℕ) (marks : List (Option Mark)) (places : List ℕ) → target < length by.graph → length places ≡ length by.graph
       → ((i : ℕ) → i < length by.graph → slice_index places i ≡ place_of order i) → AreMarksAfter exits (place_of order target) (length exits) marks
-      → map (λ p. ports_among by lids p (filter (is_nearer p marks) (exits_at exits p))) places ≡ ports_towards by lids target
+      → map (row_at by lids marks) places ≡ ports_towards by lids target
   rows_are lids target marks places t all each are =
-      let f : ℕ → List (Option ℕ) = λ p. ports_among by lids p (filter (is_nearer p marks) (exits_at exits p)) in
+      let f : ℕ → List (Option ℕ) = row_at by lids marks in
       let g : ℕ → List (Option ℕ) = ports_between (spread_at by) lids (switch_at by.graph target) in
       let guids = length_map (λ (c : Crossing). c.guid) by.graph in
       ext_get_or [] (map f places) (map g (guids_of by.graph)) (length_map f places ∙ all ∙ sym guids ∙ sym (length_map g (guids_of by.graph)))
       (λ i h. let l : i < length by.graph = omega (arith, length_map f places) in
       get_or-map f places i 0 [] (omega arith) ∙ ap f (each i l) ∙ ports_are lids target i marks t l are
       ∙ sym (get_or-map g (guids_of by.graph) i 0 [] (omega (arith, guids))))
+
+  -- once all rows are there, they are the ports towards the target
+  pub rows_are_there : (lids : List ℕ) (target : ℕ) (marks : List (Option Mark)) (places : List ℕ) (rows : List (List (Option ℕ))) → target < length by.graph
+      → length places ≡ length by.graph → ((i : ℕ) → i < length by.graph → slice_index places i ≡ place_of order i)
+      → AreMarksAfter exits (place_of order target) (length exits) marks → AreSoFar by lids marks places (length by.graph) rows → rows ≡ ports_towards by lids target
+  rows_are_there lids target marks places rows t all each are so =
+      ext_get_or [] rows (map (row_at by lids marks) places) (so.all ∙ sym all ∙ sym (length_map (row_at by lids marks) places))
+      (λ i h. so.each i (omega (arith, so.all)) ∙ sym (get_or-map (row_at by lids marks) places i 0 [] (omega (arith, so.all, all))))
+      ∙ rows_are lids target marks places t all each are
 
   -- the exits at a place lead to places, and so do those of them that pass a test
   pub row_leads : (n p : ℕ) (es : List Exit) → n ≡ length exits → es ≡ exits_at exits p → All (λ e. e.to < n) es

@@ -1,8 +1,9 @@
-ghost use Rattle.std.specs.Prelude.{◌≡◌, ◌<◌, IfOk, All, filter, length, map, option_map};
+ghost use Rattle.std.specs.Prelude.{◌≡◌, ◌<◌, IfOk, OnOk, All, filter, length, map, option_map};
 ghost use Rattle.port_graph.specs.Heads.{LeadToVertices, exits_at};
 ghost use Rattle.spread_routes.specs.Candidates.{chosen, is_nearer};
 ghost use Rattle.spread_routes.specs.Classes.{classes_of};
 ghost use Rattle.spread_routes.specs.Firsts.{keys_of};
+ghost use Rattle.spread_routes.specs.LabelLaws.{IsSymmetric};
 ghost use Rattle.updown_routes.specs.GraphLaws.{IsGraph};
 ghost use Rattle.spread_rule.specs.Rule.{by_index, by_places};
 ghost use Rattle.spread_rule.specs.Spread.{grading_of, number_by};
@@ -101,45 +102,50 @@ impl<'g> Spread<'g> {
         })
     }
 
-    /// The ports by which packets for these LIDs leave each switch, by rising GUID, for the one at an index. None at that one, and
-    /// where no way leads there. Takes a step for each switch and each wire in each of as many rounds as the greatest cost, and
-    /// then one for each exit and for each LID at each switch.
+    /// The ports by which packets for these LIDs leave each switch, by rising GUID, for the one at an index: they take the place of
+    /// what the rows held. None at that one, and where no way leads there. Takes a step for each exit, and for each switch in each of
+    /// as many rounds as the greatest cost; and then one for each exit and for each LID at each switch.
     pub fn ports_to(
         &self,
         alloc: Global,
         target: usize,
         lids: &[Lid],
-    ) -> Result<Vec<Vec<Option<PortNum>>>, AllocError>
-        requires { target < length self.now.graph }
-        ensures { IfOk result (λ rows.
-            map (λ row. row.items) rows.items ≡ ports_towards self.now lids.now target) }
+        rows: &mut [Vec<Option<PortNum>>],
+    ) -> Result<(), AllocError>
+        requires target { target < length self.now.graph }
+        requires rows { length rows.old ≡ length self.now.graph }
+        ensures { OnOk result
+            (map (λ row. row.items) rows.new ≡ ports_towards self.now lids.now target) }
     {
         let marks = marks(alloc, &self.exits, self.places[target])?;
-        let mut rows = Vec::with_capacity(alloc, self.places.len())?;
-        for place in &self.places {
-            rows.push(self.ports_at(alloc, &marks, *place, lids)?)?;
+        let mut exits = Vec::new(alloc);
+        let places = self.places.as_slice();
+        for (index, place) in places.iter().enumerate() {
+            self.ports_at(&marks, *place, lids, &mut exits, &mut rows[index])?;
         }
-        Ok(rows)
+        Ok(())
     }
 
-    /// The ports that LIDs take at the switch at a place, by these marks.
+    /// The ports that LIDs take at the switch at a place, by these marks, in place of what the row held. The exits that gave its mark
+    /// take the place of those that were found before.
     fn ports_at(
         &self,
-        alloc: Global,
         marks: &[Option<Mark>],
         place: usize,
         lids: &[Lid],
-    ) -> Result<Vec<Option<PortNum>>, AllocError>
+        exits: &mut Vec<Exit>,
+        row: &mut Vec<Option<PortNum>>,
+    ) -> Result<(), AllocError>
         requires place { place < length (by_places self.now.graph self.now.keys) }
         requires marks { length marks.now ≡ length (by_places self.now.graph self.now.keys) }
-        ensures { IfOk result (λ ports. ports.items ≡ ports_among self.now lids.now place
+        ensures { OnOk result (row.new.items ≡ ports_among self.now lids.now place
             (filter (is_nearer place marks.now)
             (exits_at (by_places self.now.graph self.now.keys) place))) }
     {
-        let exits = candidates(alloc, self.exits.at(place), place, marks)?;
+        candidates(exits, self.exits.at(place), place, marks)?;
         let standing = self.standings[place];
-        let is_higher = is_higher(&self.standings, &standing, &exits);
-        ports_of(alloc, &exits, &standing, is_higher, lids)
+        let is_higher = is_higher(&self.standings, &standing, exits);
+        ports_of(row, exits, &standing, is_higher, lids)
     }
 }
 
@@ -151,6 +157,7 @@ fn keys_by(
     roots: &[usize],
 ) -> Result<Vec<Key>, AllocError>
     requires lead { LeadToVertices exits.now }
+    requires symmetric { IsSymmetric exits.now }
     requires bearing { All (λ a. a < length exits.now) bearing.now }
     requires roots { All (λ a. a < length exits.now) roots.now }
     ensures { IfOk result (λ keys.
@@ -160,21 +167,23 @@ fn keys_by(
     keys(alloc, exits, &classes)
 }
 
-/// The ports of the exits that LIDs take.
+/// The ports of the exits that LIDs take, in place of what the row held.
 fn ports_of(
-    alloc: Global,
+    row: &mut Vec<Option<PortNum>>,
     exits: &[Exit],
     standing: &Standing,
     is_higher: bool,
     lids: &[Lid],
-) -> Result<Vec<Option<PortNum>>, AllocError>
+) -> Result<(), AllocError>
     requires { 0 < standing.now.unit }
-    ensures { IfOk result (λ ports. ports.items ≡ map (λ lid. option_map (λ exit. exit.port)
+    ensures { OnOk result (row.new.items ≡ map (λ lid. option_map (λ exit. exit.port)
         (chosen exits.now (number_by standing.now is_higher lid))) lids.now) }
 {
-    lids.iter()
-        .map(|lid| port_of(exits, standing, is_higher, *lid))
-        .collect(alloc)
+    row.clear();
+    for lid in lids {
+        row.push(port_of(exits, standing, is_higher, *lid))?;
+    }
+    Ok(())
 }
 
 /// The port of the exit that a LID takes.

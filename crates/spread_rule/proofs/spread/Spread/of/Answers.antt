@@ -1,13 +1,18 @@
-use Rattle.std.proofs.Common.{◌≡◌, ap, ◌∙◌, subst, length}
+use Rattle.std.proofs.Common.{◌≡◌, ap, sym, ◌∙◌, subst, length}
 use Rattle.std.specs.Prelude.{IfOk}
 use Rattle.spread_routes.specs.Classes.{classes_of}
 use Rattle.spread_routes.specs.Firsts.{key_of, keys_of}
 use Rattle.spread_routes.specs.Heights.{height_of, heights_of}
 use Rattle.spread_routes.proofs.Numbers.{numbers_long}
+use Rattle.spread_routes.specs.LabelLaws.{IsSymmetric}
 use Rattle.spread_rule.specs.Rule.{by_index}
 use Rattle.spread_rule.specs.Spread.{Grading, indices_of, keys_by}
+use Rattle.spread_rule.proofs.Indices.{there_and_back}
 use Rattle.spread_rule.proofs.Places.{indexed}
 use Rattle.spread_rule.proofs.spread.Spread.of.Goals as goal
+
+pub keys_by-requires-clause-symmetric : goal.keys_by-requires-clause-symmetric
+keys_by-requires-clause-symmetric c = subst IsSymmetric (sym c.in_ok-exits.ensures.exits) (there_and_back c.args.graph.now c.in_ok-exits.ensures.is_graph)
 
 pub placed-requires-clause-keys : goal.placed-requires-clause-keys
 placed-requires-clause-keys c =

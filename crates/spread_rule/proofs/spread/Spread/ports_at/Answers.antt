@@ -1,6 +1,6 @@
 use Rattle.std.proofs.Common.{◌≡◌, ◌<◌, ℕ, List, sym, ap, ◌∙◌, subst, arith, length, map}
 use Rattle.std.proofs.lemmas.List.{get_or_default}
-use Rattle.std.specs.Prelude.{Contains, IfOk, Option, filter, option_map, slice_index_or}
+use Rattle.std.specs.Prelude.{Contains, OnOk, Option, filter, option_map, slice_index_or}
 use Rattle.port_graph.specs.declared.exit.Exit.{Exit}
 use Rattle.port_graph.specs.Heads.{exits_at}
 use Rattle.port_graph.proofs.SearchSteps.{all_from_contained}
@@ -38,7 +38,7 @@ is_higher-is_higher-requires c =
     let inside = c.self.inside in
     let is = subst (Is inside.exits inside.places.items inside.standings.items) c.self.view_is c.self.invariant in
     let es : c.deref-2.result.now ≡ filter (is_nearer p c.args.marks.now) (exits_at (by_places by.graph by.keys) p) =
-    c.deref-2.ensures.value ∙ c.in_ok-exits.ensures ∙ ap (filter (is_nearer p c.args.marks.now)) (c.at.ensures ∙ ap (λ (xs : List (List Exit)). exits_at xs p) is.by_place) in
+    c.deref-2.ensures.value ∙ c.in_ok-candidates.ensures ∙ ap (filter (is_nearer p c.args.marks.now)) (c.at.ensures ∙ ap (λ (xs : List (List Exit)). exits_at xs p) is.by_place) in
     all_from_contained (λ (e : Exit). e.to < length c.deref.result.now) c.deref-2.result.now
     (λ e h. omega (
       arith,
@@ -66,8 +66,8 @@ returns c =
     let inside = c.self.inside in
     let is = subst (Is inside.exits inside.places.items inside.standings.items) c.self.view_is c.self.invariant in
     let test = is_nearer p c.args.marks.now in
-    let es : c.in_ok-exits.exits.items ≡ filter test (exits_at (by_places by.graph by.keys) p) =
-    c.in_ok-exits.ensures ∙ ap (filter test) (c.at.ensures ∙ ap (λ (xs : List (List Exit)). exits_at xs p) is.by_place) in
+    let es : c.candidates.new.found.items ≡ filter test (exits_at (by_places by.graph by.keys) p) =
+    c.in_ok-candidates.ensures ∙ ap (filter test) (c.at.ensures ∙ ap (λ (xs : List (List Exit)). exits_at xs p) is.by_place) in
     let below : p < length inside.exits = omega (arith, c.requires.place, ap length is.by_place) in
     let standing : c.index.result.now ≡ standing_there by p =
     c.index.ensures ∙ sym (get_or_default inside.standings.items p no_standing c.index.result.now (omega (arith, below, is.all_standings))) ∙ is.standing p below in
@@ -77,5 +77,5 @@ returns c =
     (λ q h. ap (λ xs. slice_index_or xs q no_standing) c.deref.ensures.value ∙ is.standing q (omega (arith, h, ap length is.by_place)))
     (λ e h. passing_lead by is.is_graph p test e (subst (λ (xs : List Exit). Contains xs e) (c.deref-2.ensures.value ∙ es) h))
     ∙ ap (goes_higher by p) (c.deref-2.ensures.value ∙ es) in
-    subst (λ (ports : List (Option ℕ)). IfOk c.ports_of.result (λ found. found.items ≡ ports))
+    subst (λ (ports : List (Option ℕ)). OnOk c.ports_of.result (c.ports_of.new.row.items ≡ ports))
     (λ i. map (λ lid. option_map (λ (e : Exit). e.port) (chosen ((c.deref-3.ensures.value ∙ es) i) (number_by (standing i) (higher i) lid))) c.args.lids.now) c.ports_of.ensures
