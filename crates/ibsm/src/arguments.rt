@@ -183,7 +183,7 @@ fn roots<'a>(alloc: Global) -> Arg<'a> {
 
 /// What is wrong where roots are named behind the subcommand, and another rule of routing than the one that takes them.
 pub(crate) fn roots_without_spread(alloc: Global, name: Option<&str>) -> Result<Error, AllocError> {
-    let command = match name {
+    let mut command = match name {
         Some(RUN) => run(alloc)?.bin_name("ibsm run")?,
         _ => plan(alloc)?.bin_name("ibsm plan")?,
     };

@@ -1,10 +1,10 @@
+pub mod FromRoots
 pub mod Held
 pub mod Judging
 pub mod Merging
 pub mod Order
 pub mod Ports
 pub mod Printing
-pub mod Rooted
 pub mod Running
 pub mod Seating
 pub mod Seats

@@ -44,7 +44,8 @@ pub(crate) fn read_setting<T: Source, S: Source>(
         S.left S.has_failed S.interruptions topology.old topology.new schedule.old schedule.new) }
 {
     let texts = read_texts(alloc, topology, schedule)?;
-    judge(alloc, &texts)
+    let setting = judge(alloc, &texts)?;
+    Ok(setting)
 }
 
 /// The bytes of both texts, the topology's first.

@@ -3,7 +3,7 @@ use Rattle.std.specs.List.{list_any}
 use Rattle.std.specs.Option.{option_copied}
 use Rattle.std.proofs.lemmas.List.{take_all}
 use Rattle.sm_run.specs.Rooted.{is_switch_with}
-use Rattle.sm_run.proofs.Rooted.{none_more, one_found}
+use Rattle.sm_run.proofs.FromRoots.{none_more, one_found}
 use Rattle.sm_run.proofs.rooted.has_switch.Goals as goal
 
 pub loop-place-preserved : goal.loop-place-preserved

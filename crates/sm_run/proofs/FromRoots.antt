@@ -28,10 +28,10 @@ use Rattle.sm_run.proofs.Running.{runs_text}
 -- one more node that is none with the GUID
 pub none_more : (nodes : List Node) (guid place : ℕ) (node : Node) → slice_get nodes place ≡ Some node → is_switch_with guid node ≡ false
     → list_any (is_switch_with guid) (take place nodes) ≡ false → list_any (is_switch_with guid) (take (place + 1) nodes) ≡ false
-none_more nodes guid place node at no none =
+none_more nodes guid place node at other none =
     let here : get_or nodes place node ≡ node = get_or_from_slice_get nodes place node node at in
     list_any_more (is_switch_with guid) nodes place node (slice_get_within nodes place node at)
-    ∙ ap (λ b. b || is_switch_with guid (get_or nodes place node)) none ∙ ap (is_switch_with guid) here ∙ no
+    ∙ ap (λ b. b || is_switch_with guid (get_or nodes place node)) none ∙ ap (is_switch_with guid) here ∙ other
 
 -- or one that is
 pub one_found : (nodes : List Node) (guid place : ℕ) (node : Node) → slice_get nodes place ≡ Some node → is_switch_with guid node ≡ true
