@@ -1,13 +1,16 @@
 -- The seats of end ports, and which of them is that of a port.
-use Rattle.std.proofs.Common.{◌≡◌, ◌<◌, ℕ, zero, suc, List, [], ◌∷◌, refl, sym, ap, ◌∙◌, Bool, true, false, cond, ◌||◌, length, get_or, arith}
-use Rattle.std.specs.Prelude.{None, Some, find, is_some, map}
+use Rattle.std.proofs.Common.{◌≡◌, ◌<◌, ℕ, zero, suc, List, [], ◌∷◌, refl, sym, ap, subst, ◌∙◌, Bool, true, false, cond, ◌||◌, length, get_or, arith}
+use Rattle.std.specs.Prelude.{Contains, Option, None, Some, count_by, find, is_some, map}
+use Rattle.std.proofs.lemmas.Bool.{eq-eqb, eqb-true}
+use Rattle.std.proofs.lemmas.List.Sums.{sum_by-cons}
 use Rattle.std.proofs.lemmas.Option.{same_Some}
+use Rattle.smp_bytes.proofs.Members.{contains_here, contains_later, list_all_at}
 use Rattle.subnet_view.specs.declared.end_port.EndPort.{EndPort}
 use Rattle.subnet_view.specs.Reading.{Cells}
 use Rattle.audit.specs.Tables.{is_owner, is_same_end}
 use Rattle.audit.proofs.Judged.{same_ends}
 use Rattle.audit_report.specs.declared.seat.Seat.{Seat}
-use Rattle.audit_report.specs.Seats.{seat_of}
+use Rattle.audit_report.specs.Seats.{are_joined, are_one_component, first_root, is_one_root, leads_to, seat_of}
 
 module _ (cells : Cells) (port : EndPort) where
   abbrev at : Seat → Bool
@@ -47,3 +50,43 @@ pub seat_there : (cells : Cells) (ports : List EndPort) (place : ℕ) (seat : Se
 seat_there cells [] place seat d h e = absurd (omega arith)
 seat_there cells (x ∷ ports) zero seat d h e = e
 seat_there cells (x ∷ ports) (suc place) seat d h e = seat_there cells ports place seat d (omega arith) e
+
+-- where all lie in one component -----------------------------------------------------------------
+
+found_listed : {X : Type 0} (p : X → Bool) (xs : List X) (x : X) → find p xs ≡ Some x → Contains xs x
+found_listed p [] x e = absurd (cc)
+found_listed p (y ∷ xs) x e =
+    elim (p y) as (λ t. cond t (Some y) (find p xs) ≡ Some x → Contains (y ∷ xs) x) [
+      | true ↦ λ k. subst (λ z. Contains (y ∷ xs) z) (same_Some y x k) (contains_here y xs)
+      | false ↦ λ k. contains_later y x xs (found_listed p xs x k)
+    ] e
+
+pub seat_listed : (port : EndPort) (seats : List Seat) (seat : Seat) → find (λ seat. is_same_end port seat.port) seats ≡ Some seat → Contains seats seat
+seat_listed port seats seat e = found_listed (λ (s : Seat). is_same_end port s.port) seats seat e
+
+one_root : (a b r : Option ℕ) → is_one_root a r ≡ true → is_one_root b r ≡ true → is_one_root a b ≡ true
+one_root None b r h k = absurd (cc)
+one_root (Some x) None r h k = absurd (cc)
+one_root (Some x) (Some y) None h k = absurd (cc)
+one_root (Some x) (Some y) (Some r) h k = eq-eqb x y (eqb-true x r h ∙ sym (eqb-true y r k))
+
+or_true : (a b : Bool) → ((a || true) || b) ≡ true
+or_true true b = refl
+or_true false b = refl
+
+count_all : {X : Type 0} (p : X → Bool) (xs : List X) → ((x : X) → Contains xs x → p x ≡ true) → length xs ≡ count_by p xs
+count_all p [] h = refl
+count_all p (x ∷ xs) h =
+    let rest = count_all p xs (λ y c. h y (contains_later x y xs c)) in
+    let one : ◌≡◌ {A = ℕ} (cond (p x) 1 0) 1 = ap (λ t. cond t 1 0) (h x (contains_here x xs)) in
+    omega (arith, rest, one) ∙ sym (sum_by-cons (λ y. cond (p y) 1 0) x xs)
+
+pub whole_joined : (seats : List Seat) (owner : Seat) → are_one_component seats ≡ true → Contains seats owner
+    → length seats ≡ count_by (λ seat. are_joined seat owner) seats
+whole_joined seats owner whole listed =
+    let rooted : (seat : Seat) → Contains seats seat → is_one_root seat.root (first_root seats) ≡ true =
+    λ seat c. list_all_at (λ (s : Seat). is_one_root s.root (first_root seats)) seats whole seat c in
+    count_all (λ (seat : Seat). are_joined seat owner) seats
+    (λ seat c. (
+    let one = one_root seat.root owner.root (first_root seats) (rooted seat c) (rooted owner listed) in
+    ap (λ t. (is_same_end seat.port owner.port || t) || leads_to seat.across owner.port) one ∙ or_true (is_same_end seat.port owner.port) (leads_to seat.across owner.port)))

@@ -1,24 +1,26 @@
 -- The packets of a line, end port by end port, and those of all lines.
-use Rattle.std.proofs.Common.{◌≡◌, ◌<◌, ◌≤◌, ◌+◌, ℕ, List, [], ◌∷◌, ◌++◌, refl, sym, ap, ◌∙◌, subst, arith, Bool, true, false, cond, length, get_or, map, take, append_assoc}
-use Rattle.std.specs.Prelude.{Option, Some, filter}
-use Rattle.std.specs.List.{flat_map}
+use Rattle.std.proofs.Common.{◌≡◌, ◌<◌, ◌≤◌, ◌+◌, ℕ, suc, List, [], ◌∷◌, ◌++◌, refl, sym, ap, ◌∙◌, subst, arith, Bool, true, false, cond, length, get_or, map, take, append_assoc}
+use Rattle.std.specs.Prelude.{Option, None, Some, count_by, filter, not, ◌&&◌}
+use Rattle.std.specs.List.{flat_map, list_all, position}
 use Rattle.std.proofs.lemmas.List.{append-nil, map-append, take_all, take_more}
 use Rattle.std.proofs.lemmas.List.Concat.{flat_map-append}
 use Rattle.std.proofs.lemmas.List.Elements.{filter-append}
-use Rattle.std.proofs.lemmas.Option.{slice_get-get_or}
+use Rattle.std.proofs.lemmas.List.Sums.{sum_by-cons}
 use Rattle.subnet_view.specs.declared.end_port.EndPort.{EndPort}
 use Rattle.subnet_view.specs.EndPorts.{end_ports}
 use Rattle.subnet_view.specs.Reading.{Cells}
 use Rattle.plan_file.specs.declared.held.HeldLid.{HeldLid}
 use Rattle.plan_file.specs.Held.{HeldPlan}
 use Rattle.audit.specs.declared.end.End.{End}
-use Rattle.audit.specs.Steps.{AreBlocks, AreBrought, end_for}
+use Rattle.audit.specs.Steps.{AreBlocks, AreBrought, end_for, is_at}
 use Rattle.audit.specs.Tables.{is_owner}
-use Rattle.audit.proofs.InTime.{end_found}
+use Rattle.audit.proofs.Arrivals.{all_there}
+use Rattle.audit.proofs.InTime.{found_at}
 use Rattle.audit_report.specs.declared.packet.Packet.{Packet}
 use Rattle.audit_report.specs.declared.tally.Tally.{Tally}
-use Rattle.audit_report.specs.Packets.{packet_of, packets_for, packets_of, sent_to}
-use Rattle.audit_report.specs.Seats.{in_one_component}
+use Rattle.audit_report.specs.Packets.{arrives, packet_of, packets_for, packets_of, sent_to}
+use Rattle.audit_report.specs.declared.seat.Seat.{Seat}
+use Rattle.audit_report.specs.Seats.{are_joined, in_one_component, seat_of}
 use Rattle.audit_report.specs.Tally.{IsTally, IsWith}
 use Rattle.audit_report.proofs.Counted.{tally_more}
 
@@ -74,12 +76,54 @@ module _ (cells : Cells) (held : HeldPlan) (line : HeldLid) where
 
   -- the end that is found for an end port's packet
   pub end_there : (ends : List (Option End)) (n : ℕ) (e : EndPort) (end : Option End) → AreBrought cells held line.lid ends → n < length (end_ports cells)
-      → e ≡ get_or (end_ports cells) n e → end ≡ get_or ends n end → end ≡ end_for cells held line.lid e
-  end_there ends n e end h less is there =
+      → e ≡ get_or (end_ports cells) n e → end ≡ get_or ends n None → end ≡ end_for cells held line.lid e
+  end_there ends n e end h less is there = there ∙ found_at cells held line.lid ends n e h less ∙ ap (end_for cells held line.lid) (sym is)
+
+  -- where all end at the line's port, its packets arrive
+  each_arrives : (ports : List EndPort) → ((k : ℕ) → k < length ports → is_at line.port (end_for cells held line.lid (get_or ports k line.port)) ≡ true)
+      → list_all arrives (map (packet_of cells held line) (filter (λ e. in_one_component cells e line.port) ports)) ≡ true
+  each_arrives [] h = refl
+  each_arrives (x ∷ ports) h =
+      let joined : EndPort → Bool = λ e. in_one_component cells e line.port in
+      let rest = each_arrives ports (λ k less. h (suc k) (omega arith)) in
+      elim (joined x) as (λ t. list_all arrives (map (packet_of cells held line) (cond t (x ∷ filter joined ports) (filter joined ports))) ≡ true) [
+        | true ↦ ap (λ b. b && list_all arrives (map (packet_of cells held line) (filter joined ports))) (h 0 (omega arith)) ∙ rest
+        | false ↦ rest
+      ]
+
+  pub sent_arrive : (port : EndPort) (ends : List (Option End)) → AreBrought cells held line.lid ends → port ≡ line.port
+      → position (λ end. not (is_at port end)) ends ≡ None → list_all arrives (sent_to cells held line) ≡ true
+  sent_arrive port ends h own none =
+      each_arrives (end_ports cells)
+      (λ k less. (
       let as_many = h.as_many in
-      let within : n < length ends = omega arith in
-      end_found cells held line.lid e end
-      (h.brought n e end (slice_get-get_or (end_ports cells) n e less ∙ ap (λ x. Some x) (sym is)) (slice_get-get_or ends n end within ∙ ap (λ x. Some x) (sym there)))
+      let there = all_there port ends none k (omega arith) in
+      ap (is_at line.port) (sym (found_at cells held line.lid ends k line.port h less)) ∙ ap (λ p. is_at p (get_or ends k None)) (sym own) ∙ there))
+
+  -- as many as end ports are joined to that of the line
+  joined_sent : (owner : Seat) (ports : List EndPort) → owner ≡ seat_of cells line.port
+      → count_by (λ seat. are_joined seat owner) (map (seat_of cells) ports)
+      ≡ length (map (packet_of cells held line) (filter (λ e. in_one_component cells e line.port) ports))
+  joined_sent owner [] own = refl
+  joined_sent owner (x ∷ ports) own =
+      let joined : EndPort → Bool = λ e. in_one_component cells e line.port in
+      let rest = joined_sent owner ports own in
+      let split = sum_by-cons (λ (seat : Seat). cond (are_joined seat owner) 1 0) (seat_of cells x) (map (seat_of cells) ports) in
+      let same : are_joined (seat_of cells x) owner ≡ joined x = ap (are_joined (seat_of cells x)) own in
+      let one : ◌≡◌ {A = ℕ} (cond (are_joined (seat_of cells x) owner) 1 0) (cond (joined x) 1 0) = ap (λ t. cond t 1 0) same in
+      let sent : length (map (packet_of cells held line) (filter joined (x ∷ ports)))
+      ≡ cond (joined x) 1 0 + length (map (packet_of cells held line) (filter joined ports)) =
+      elim (joined x) as (λ t. length (map (packet_of cells held line) (cond t (x ∷ filter joined ports) (filter joined ports)))
+      ≡ cond t 1 0 + length (map (packet_of cells held line) (filter joined ports))) [
+        | true ↦ omega arith
+        | false ↦ omega arith
+      ] in
+      split ∙ omega (arith, rest, one, sent)
+
+  pub all_sent : (owner : Seat) (seats : List Seat) (count : ℕ) → owner ≡ seat_of cells line.port → seats ≡ map (seat_of cells) (end_ports cells)
+      → count ≡ count_by (λ seat. are_joined seat owner) seats → count ≡ length (sent_to cells held line)
+  all_sent owner seats count own are is =
+      is ∙ ap (count_by (λ seat. are_joined seat owner)) are ∙ joined_sent owner (end_ports cells) own
 
 -- line by line --------------------------------------------------------------------------
 

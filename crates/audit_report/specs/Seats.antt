@@ -1,5 +1,6 @@
 -- Which end ports lie in one component: those at switches of one, and two adapter ports with a wire between them.
-use Rattle.std.specs.Prelude.{ℕ, Bool, false, ◌==◌, ◌||◌, Option, None, Some, option_map, option_and_then}
+use Rattle.std.specs.Prelude.{ℕ, Bool, false, ◌==◌, ◌||◌, List, [], ◌∷◌, Option, None, Some, option_map, option_and_then}
+use Rattle.std.specs.List.{list_all}
 use Rattle.std.specs.Option.{option_map_or}
 use Rattle.subnet_view.specs.declared.end_port.EndPort.{EndPort}
 use Rattle.subnet_view.specs.Reading.{Cells}
@@ -38,3 +39,12 @@ are_joined a b = is_same_end a.port b.port || is_one_root a.root b.root || leads
 -- two end ports lie in one component
 abbrev pub in_one_component : Cells → EndPort → EndPort → Bool
 in_one_component cells e x = are_joined (seat_of cells e) (seat_of cells x)
+
+-- the root of the first end port's component
+abbrev pub first_root : List Seat → Option ℕ
+first_root [] = None
+first_root (seat ∷ seats) = seat.root
+
+-- all lie in the component of that root
+abbrev pub are_one_component : List Seat → Bool
+are_one_component seats = list_all (λ seat. is_one_root seat.root (first_root seats)) seats

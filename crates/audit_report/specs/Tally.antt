@@ -1,5 +1,5 @@
 -- What is counted of packets.
-use Rattle.std.specs.Prelude.{◌≡◌, ◌+◌, List, length, count_by, if◌then◌else◌}
+use Rattle.std.specs.Prelude.{◌≡◌, ◌+◌, ℕ, List, length, count_by, if◌then◌else◌}
 use Rattle.audit_report.specs.declared.packet.Packet.{Packet}
 use Rattle.audit_report.specs.declared.tally.Tally.{Tally}
 use Rattle.audit_report.specs.Packets.{arrives, goes_round, is_lost, is_misdelivered}
@@ -30,3 +30,11 @@ pub record IsWith (old : Tally) (packet : Packet) (new : Tally) : Type 0 where
   pub told : IsTold old packet new
   pub sent : new.sent ≡ old.sent + 1
   pub arrived : new.arrived ≡ old.arrived + (if arrives packet then 1 else 0)
+
+-- so many packets more, which arrive
+pub record IsWithArrived (old : Tally) (count : ℕ) (new : Tally) : Type 0 where
+  pub sent : new.sent ≡ old.sent + count
+  pub arrived : new.arrived ≡ old.arrived + count
+  pub lost : new.lost.items ≡ old.lost.items
+  pub misdelivered : new.misdelivered.items ≡ old.misdelivered.items
+  pub round : new.round.items ≡ old.round.items

@@ -1,11 +1,11 @@
 //! Where end ports lie: which of them are in one component.
-ghost use Rattle.std.specs.Prelude.{◌≡◌, IfOk, find, map};
+ghost use Rattle.std.specs.Prelude.{◌≡◌, Contains, IfOk, count_by, find, map};
 ghost use Rattle.fact_store.specs.View.{cells_of};
 ghost use Rattle.subnet_view.specs.EndPorts.{end_ports};
 ghost use Rattle.updown_routes.specs.Graph.{graph_of, guids_of};
 ghost use Rattle.updown_routes.specs.Ranks.{root_of};
 ghost use Rattle.audit.specs.Tables.{is_same_end};
-ghost use Rattle.audit_report.specs.Seats.{are_joined, is_one_root, leads_to, root_at, seat_of, switch_of};
+ghost use Rattle.audit_report.specs.Seats.{are_joined, are_one_component, first_root, is_one_root, leads_to, root_at, seat_of, switch_of};
 
 use fact_store::{Refused, Store};
 use smp_bytes::{Guid, PortNum};
@@ -59,6 +59,36 @@ fn leads_to(far: Option<(Guid, PortNum)>, port: &EndPort) -> bool
         Some((node, number)) => port.node == node && port.port == number,
         None => false,
     }
+}
+
+/// Whether all end ports lie in the component of a root.
+pub(crate) fn are_one_component(seats: &[Seat]) -> bool
+    ensures { result ≡ are_one_component seats.now }
+{
+    let root = first_root(seats);
+    seats.iter().all(|seat| is_one_root(seat.root, root))
+}
+
+/// The root of the first end port's component.
+fn first_root(seats: &[Seat]) -> Option<Guid>
+    ensures { result ≡ first_root seats.now }
+{
+    match seats {
+        [] => None,
+        [seat, ..] => seat.root,
+    }
+}
+
+/// How many end ports lie in the component of this one, by whether all lie in one. Takes a step, or else one for each.
+pub(crate) fn joined_count(seats: &[Seat], owner: &Seat, whole: bool) -> usize
+    requires whole { whole ≡ are_one_component seats.now }
+    requires listed { Contains seats.now owner.now }
+    ensures { result ≡ count_by (λ seat. are_joined seat owner.now) seats.now }
+{
+    if whole {
+        return seats.len();
+    }
+    seats.iter().filter(|seat| seat.is_joined_to(owner)).count()
 }
 
 /// The end ports of the view, in their order. Takes what a graph of the switches takes, and some seven searches for each.

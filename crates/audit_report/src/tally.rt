@@ -19,7 +19,7 @@ pub(crate) struct Tally {
 
 impl Tally {
     ghost use Rattle.audit_report.specs.Packets.{arrives};
-    ghost use Rattle.audit_report.specs.Tally.{IsMissed, IsTally, IsWith};
+    ghost use Rattle.audit_report.specs.Tally.{IsMissed, IsTally, IsWith, IsWithArrived};
 
     /// No packet.
     pub(crate) fn new(alloc: Global) -> Self
@@ -44,6 +44,15 @@ impl Tally {
             return Ok(());
         }
         self.miss(packet)
+    }
+
+    /// So many packets more, which arrive.
+    pub(crate) fn add_arrived(&mut self, count: u64) -> Result<(), AllocError>
+        ensures { OnOk result (IsWithArrived self.old count self.new) }
+    {
+        self.sent = self.sent.checked_add(count).ok_or(AllocError)?;
+        self.arrived += count;
+        Ok(())
     }
 
     /// Tells a packet that does not arrive.

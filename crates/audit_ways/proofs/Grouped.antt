@@ -19,14 +19,13 @@ use Rattle.audit.specs.Exits.{exit_by, exits_of}
 use Rattle.audit.specs.Network.{far_at, far_of, far_to, index_in, row_of, source_of}
 use Rattle.audit.specs.declared.end.End.{End}
 use Rattle.audit.specs.declared.far.Source.{Source}
-use Rattle.audit.specs.Steps.{AreBrought, end_for}
+use Rattle.audit.specs.Steps.{AreBrought, end_for, is_at}
 use Rattle.audit.specs.Tables.{entry_for}
-use Rattle.audit.proofs.InTime.{end_found}
+use Rattle.audit.proofs.InTime.{found_at}
 use Rattle.port_graph.proofs.Counts.{length_map}
-use Rattle.std.proofs.lemmas.Option.{slice_get-get_or}
 use Rattle.audit_ways.specs.declared.tally.Tally.{Tally}
 use Rattle.audit_ways.specs.Tally.{AreGrouped, IsCounted, IsCountedMore, grouped, weighed}
-use Rattle.audit_ways.specs.Ways.{Way, one_wire, reaches, way_from, way_of, way_over, ways_to}
+use Rattle.audit_ways.specs.Ways.{Way, one_wire, reaches, reaches_if, way_from, way_of, way_over, ways_to}
 use Rattle.audit_ways.proofs.Counted.{counted_as, none_weighed, weighed_set}
 
 -- a wire leads to a switch that there is
@@ -178,14 +177,13 @@ module _ (cells : Cells) (held : HeldPlan) (line : HeldLid) where
       let long = h.as_many ∙ exits_long in
       omega (arith, less, long)
 
-  -- the end that is found for an end port's packet
-  pub end_there : (ends : List (Option End)) (n : ℕ) (e : EndPort) (end : Option End) → AreBrought cells held line.lid ends → n < length (end_ports cells)
-      → e ≡ get_or (end_ports cells) n e → end ≡ get_or ends n end → end ≡ end_for cells held line.lid e
-  end_there ends n e end h less is there =
-      let as_many = h.as_many in
-      let within : n < length ends = omega arith in
-      end_found cells held line.lid e end
-      (h.brought n e end (slice_get-get_or (end_ports cells) n e less ∙ ap (λ x. Some x) (sym is)) (slice_get-get_or ends n end within ∙ ap (λ x. Some x) (sym there)))
+  -- whether the packet of an end port arrives, by the end that is found
+  pub arrives_there : (port : EndPort) (ends : List (Option End)) (n : ℕ) (e : EndPort) (arrives : Bool) → AreBrought cells held line.lid ends → port ≡ line.port
+      → n < length (end_ports cells) → e ≡ get_or (end_ports cells) n e → arrives ≡ is_at port (get_or ends n None)
+      → reaches cells held line e ≡ reaches_if line e arrives
+  arrives_there port ends n e arrives h own less is found =
+      let end = found_at cells held line.lid ends n e h less ∙ ap (end_for cells held line.lid) (sym is) in
+      ap (reaches_if line e) (ap (is_at line.port) (sym end) ∙ ap (λ p. is_at p (get_or ends n None)) (sym own) ∙ sym found)
 
   pub past_all : (sources : List Source) (n : ℕ) → sources ≡ map (source_of cells) (end_ports cells) → length sources ≤ n → length (end_ports cells) ≤ n
   past_all sources n are past = let long = ap length are ∙ length_map (source_of cells) (end_ports cells) in omega (arith, long, past)

@@ -48,9 +48,13 @@ way_over exits (Port e) = one_wire
 abbrev pub is_adapter : EndPort → Bool
 is_adapter e = not (e.port == 0)
 
--- an adapter port sends the packet to another port, at which it ends
+-- an adapter port sends the packet to another port, by whether it ends there
+abbrev pub reaches_if : HeldLid → EndPort → Bool → Bool
+reaches_if line e arrives = is_adapter e && not (is_same_end line.port e) && arrives
+
+-- by where it ends
 abbrev pub reaches_by : HeldLid → EndPort → Option End → Bool
-reaches_by line e end = is_adapter e && not (is_same_end line.port e) && is_at line.port end
+reaches_by line e end = reaches_if line e (is_at line.port end)
 
 -- a packet for the LID of a line, from an adapter port, is delivered at the line's port, which is another
 abbrev pub reaches : Cells → HeldPlan → HeldLid → EndPort → Bool

@@ -4,13 +4,13 @@ ghost use Rattle.std.specs.List.{list_any};
 ghost use Rattle.fact_store.specs.View.{cells_of};
 ghost use Rattle.subnet_view.specs.Reading.{switches};
 ghost use Rattle.audit.specs.Exits.{exits_of};
-ghost use Rattle.audit.specs.Steps.{AreBrought, is_at};
+ghost use Rattle.audit.specs.Steps.{AreBrought};
 ghost use Rattle.audit.specs.Tables.{is_same_end};
 ghost use Rattle.audit_ways.specs.Tally.{AreGrouped};
-ghost use Rattle.audit_ways.specs.Ways.{is_adapter, is_target, reaches_by, ways_to};
+ghost use Rattle.audit_ways.specs.Ways.{is_adapter, is_target, reaches_if, ways_to};
 
 use crate::walk::load_channel;
-use audit::{End, Far, Network, Source};
+use audit::{Ends, Far, Network, Source};
 use plan_file::HeldLid;
 use std::alloc::AllocError;
 use subnet_view::EndPort;
@@ -22,17 +22,18 @@ pub(crate) fn group_packets(
     weights: &mut [u64],
     network: &Network,
     line: &HeldLid,
-    ends: &[Option<End>],
+    ends: &Ends,
 ) -> Result<u64, AllocError>
     requires blank { weights.old ≡ replicate (length (switches (cells_of network.now.facts))) 0 }
-    requires brought { AreBrought (cells_of network.now.facts) network.now.held line.now.lid ends.now }
+    requires brought { AreBrought (cells_of network.now.facts) network.now.held line.now.lid ends.now.ends }
+    requires port { ends.now.port ≡ line.now.port }
     ensures { IfOk result (AreGrouped
         (exits_of (cells_of network.now.facts) network.now.held line.now.lid)
         (ways_to (cells_of network.now.facts) network.now.held line.now) weights.new) }
 {
     let mut direct: u64 = 0;
     for (place, source) in network.sources().iter().enumerate() {
-        if reaches(line, &source.port, &ends[place]) {
+        if reaches(line, &source.port, ends.arrives(place)) {
             match source.far {
                 Far::Switch(first) => load_channel(weights, first, 1)?,
                 _ => direct = one_more(direct)?,
@@ -49,11 +50,11 @@ fn one_more(count: u64) -> Result<u64, AllocError>
     count.checked_add(1).ok_or(AllocError)
 }
 
-/// Whether an adapter port sends the packet to another port, at which it ends.
-fn reaches(line: &HeldLid, port: &EndPort, end: &Option<End>) -> bool
-    ensures { result ≡ reaches_by line.now port.now end.now }
+/// Whether an adapter port sends the packet to another port, by whether it ends there.
+fn reaches(line: &HeldLid, port: &EndPort, arrives: bool) -> bool
+    ensures { result ≡ reaches_if line.now port.now arrives }
 {
-    is_adapter(port) && !is_same_end(&line.port, port) && is_at(&line.port, end)
+    is_adapter(port) && !is_same_end(&line.port, port) && arrives
 }
 
 /// Whether it is an end port of an adapter.
@@ -68,16 +69,6 @@ fn is_same_end(port: &EndPort, other: &EndPort) -> bool
     ensures { result ≡ is_same_end port.now other.now }
 {
     other.node == port.node && other.port == port.port
-}
-
-/// Whether a packet ends at a port.
-fn is_at(port: &EndPort, end: &Option<End>) -> bool
-    ensures { result ≡ is_at port.now end.now }
-{
-    match end {
-        Some(End::Taken(at)) => is_same_end(port, at),
-        _ => false,
-    }
 }
 
 /// Whether it is an adapter port of the network.

@@ -67,7 +67,7 @@ fn add_ways(
     ensures { OnOk result (IsCountedMore (256 * length (switches (cells_of network.now.facts))) tally.old
         (λ number. sum_by number (ways_to (cells_of network.now.facts) network.now.held line.now)) tally.new) }
 {
-    let ends = network.ends(alloc, blocks, line.lid)?;
+    let ends = network.ends(alloc, blocks, line)?;
     let exits = network.exits(alloc, blocks, line.lid)?;
     let mut weights = vec![in alloc; 0u64; network.switch_count()]?;
     let direct = group_packets(&mut weights, network, line, &ends)?;

@@ -1,5 +1,6 @@
 -- An end port more.
 use Rattle.std.proofs.Common.{◌≡◌, ◌<◌, ◌+◌, ◌∙◌, sym, ap, subst, arith, length, get_or}
+use Rattle.std.proofs.lemmas.Result.{on_ok_weaker}
 use Rattle.fact_store.specs.View.{cells_of}
 use Rattle.port_graph.proofs.Counts.{length_map}
 use Rattle.subnet_view.specs.declared.end_port.EndPort.{EndPort}
@@ -8,7 +9,9 @@ use Rattle.audit_report.specs.declared.seat.Seat.{Seat}
 use Rattle.audit_report.specs.declared.tally.Tally.{Tally}
 use Rattle.audit_report.specs.Seats.{are_joined, seat_of}
 use Rattle.audit_report.proofs.Seated.{seat_there}
-use Rattle.audit_report.proofs.Surveyed.{AreCounted, one_counted, none_more, end_there}
+use Rattle.audit_report.specs.Packets.{sent_to}
+use Rattle.audit_report.proofs.Counted.{tally_arrived}
+use Rattle.audit_report.proofs.Surveyed.{AreCounted, all_counted, all_sent, one_counted, none_more, end_there, sent_arrive}
 use Rattle.audit_report.proofs.survey.add_packets.Goals as goal
 use Rattle.audit_report.proofs.survey.add_packets.Goals.{then-is_joined_to+in_ok-add, else-is_joined_to}
 
@@ -31,8 +34,29 @@ loop-place-preserved c =
     elim c.if-is_joined_to.branch [
       | then-is_joined_to+in_ok-add w ↦
           subst Counted (sym w.tally-is)
-          (one_counted cells held line c.args.tally.now c.loop-place.tally w.add.new.self n e (record { line = line; source = e; end = w.index.result.now })
-          c.loop-place.invariant less is (sym joined ∙ sym w.if-is_joined_to.ensures) (λ i. record { line = line; source = e; end = end_there cells held line c.in_ok-ends.ends.items n e w.index.result.now c.in_ok-ends.ensures less is w.index.ensures i })
+          (one_counted cells held line c.args.tally.now c.loop-place.tally w.add.new.self n e (record { line = line; source = e; end = w.at.result })
+          c.loop-place.invariant less is (sym joined ∙ sym w.if-is_joined_to.ensures) (λ i. record { line = line; source = e; end = end_there cells held line c.in_ok-ends.ends.ends n e w.at.result c.in_ok-ends.ensures.0 less is w.at.ensures i })
           w.in_ok-add.ensures)
       | else-is_joined_to w ↦ subst Counted (sym w.tally-is) (none_more cells held line c.args.tally.now c.loop-place.tally n e c.loop-place.invariant less is (sym joined ∙ sym w.if-is_joined_to.ensures))
     ]
+
+pub returns-in-None : goal.returns-in-None
+returns-in-None c =
+    let cells = cells_of c.args.network.now.facts in
+    let held = c.args.network.now.held in
+    let line = c.args.line.now in
+    let count = c.joined_count.result in
+    let none = sym c.in-None.ensures in
+    on_ok_weaker c.add_arrived.result
+    (λ w. λ packets before.
+    tally_arrived packets (sent_to cells held line) c.args.tally.now c.add_arrived.new.self count before
+    (sent_arrive cells held line c.in_ok-ends.ends.port c.in_ok-ends.ends.ends c.in_ok-ends.ensures.0 c.in_ok-ends.ensures.1 none)
+    (all_sent cells held line c.args.owner.now c.args.seats.now count c.requires.owner c.requires.seats c.joined_count.ensures) w)
+    c.add_arrived.ensures
+
+pub returns : goal.returns
+returns c =
+    let cells = cells_of c.args.network.now.facts in
+    let ports = end_ports cells in
+    all_counted cells c.args.network.now.held c.args.line.now c.args.tally.now c.loop-place.tally c.loop-place.place c.loop-place.invariant
+    (omega (arith, c.loop-place-test.false, ap length c.requires.seats, length_map (seat_of cells) ports))

@@ -6,7 +6,7 @@ use Rattle.subnet_view.specs.EndPorts.{end_ports}
 use Rattle.audit.specs.Tables.{is_same_end}
 use Rattle.audit_report.specs.declared.seat.Seat.{Seat}
 use Rattle.audit_report.specs.declared.tally.Tally.{Tally}
-use Rattle.audit_report.proofs.Seated.{seat_is, no_seat}
+use Rattle.audit_report.proofs.Seated.{seat_is, seat_listed, no_seat}
 use Rattle.audit_report.proofs.Surveyed.{AreSurveyed, line_surveyed, line_passed}
 use Rattle.audit_report.proofs.survey.survey.Goals as goal
 use Rattle.audit_report.proofs.survey.survey.Goals.{in-Some+in_ok-add_packets-in-Some, in-None}
@@ -17,6 +17,10 @@ add_packets-requires-clause-owner c =
     let port = c.line-item.result.port in
     (seat_is cells port (end_ports cells) c.in-Some.owner
     (sym (ap (find (λ (seat : Seat). is_same_end port seat.port)) c.requires) ∙ sym c.seat_at.ensures ∙ c.in-Some.is)).0
+
+pub add_packets-requires-clause-listed : goal.add_packets-requires-clause-listed
+add_packets-requires-clause-listed c =
+    seat_listed c.line-item.result.port c.args.seats.now c.in-Some.owner (sym c.seat_at.ensures ∙ c.in-Some.is)
 
 pub loop-line-preserved : goal.loop-line-preserved
 loop-line-preserved c =

@@ -4,8 +4,8 @@ use Rattle.std.specs.Prelude.{◌&&◌, not}
 use Rattle.fact_store.specs.View.{cells_of}
 use Rattle.subnet_view.specs.Reading.{switches}
 use Rattle.audit.specs.Exits.{exits_of}
-use Rattle.audit_ways.specs.Ways.{reaches_by, way_over}
-use Rattle.audit_ways.proofs.Grouped.{end_there, exits_long, none_grouped, none_more, one_at_switch, one_direct, over_one_wire, source_at, within_weights}
+use Rattle.audit_ways.specs.Ways.{way_over}
+use Rattle.audit_ways.proofs.Grouped.{arrives_there, exits_long, none_grouped, none_more, one_at_switch, one_direct, over_one_wire, source_at, within_weights}
 use Rattle.audit_ways.proofs.groups.group_packets.Goals as goal
 use Rattle.audit_ways.proofs.groups.group_packets.Goals.{then-reaches+in-Switch+in_ok-load_channel-in-Switch, then-reaches+in_default+in_ok-direct-in_default, else-reaches}
 
@@ -34,8 +34,9 @@ loop-place-preserved c =
     let weights = c.loop-place.weights in
     let direct = c.loop-place.direct in
     let at = source_at cells c.sources-source-items.result.now n source c.sources-source-items.ensures c.loop-place-test.true c.source-item.is in
-    let end = end_there cells held line c.args.ends.now n e c.index-ends-place.result c.requires.brought at.less at.port_is c.index-ends-place.is in
-    let tests = sym (ap (reaches_by line e) end) in
+    let tests =
+    arrives_there cells held line c.args.ends.now.port c.args.ends.now.ends n e c.arrives.result c.requires.brought c.requires.port at.less at.port_is
+    c.arrives.ensures in
     elim c.if-reaches.branch [
       | then-reaches+in-Switch+in_ok-load_channel-in-Switch w ↦
           one_at_switch cells held line n e weights c.if-reaches.weights direct c.if-reaches.direct w.in-Switch.first c.loop-place.invariant at.less at.port_is

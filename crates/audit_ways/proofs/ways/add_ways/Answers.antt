@@ -21,10 +21,10 @@ returns c =
     omega (arith, c.group_packets.auto.weights, ap length c.deref_mut.ensures.value, c.in_ok-weights.weights.ok.0) in
     let kept : take c.in_ok-weights.weights.len (new ++ rest) ≡ new = ap (λ n. take n (new ++ rest)) long ∙ take-append_seam new rest in
     let grouped =
-    subst (λ (xs : List ℕ). AreGrouped (exits_of cells held line.lid) (ways_to cells held line) xs direct) (sym (c.deref-3.ensures.value ∙ kept))
+    subst (λ (xs : List ℕ). AreGrouped (exits_of cells held line.lid) (ways_to cells held line) xs direct) (sym (c.deref-2.ensures.value ∙ kept))
     c.in_ok-direct.ensures in
     on_ok_weaker c.add.result
     (λ more.
-    counted_ways cells held line c.deref-2.result.now c.deref-3.result.now direct c.args.tally.now c.add.new.self
-    (c.deref-2.ensures.value ∙ c.in_ok-exits.ensures) grouped more)
+    counted_ways cells held line c.deref.result.now c.deref-2.result.now direct c.args.tally.now c.add.new.self
+    (c.deref.ensures.value ∙ c.in_ok-exits.ensures) grouped more)
     c.add.ensures
