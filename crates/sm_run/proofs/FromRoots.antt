@@ -43,7 +43,6 @@ one_found nodes guid place node at is =
 -- runs ------------------------------------------------------------------------------------------
 
 module _ {S : Type 0} (left : S → Option (List ℕ)) (has_failed : S → Bool) (interruptions : S → ℕ) (lmc : ℕ) (roots roots' : S) where
-
   -- the text of roots is refused before the topology is read
   pub roots_not_read : (topology schedule : S) (prints : List ℕ → Type 0) (sink_failed : Bool) (fault : Fault)
       → IsRootsFault left has_failed interruptions roots roots' fault
@@ -53,7 +52,6 @@ module _ {S : Type 0} (left : S → Option (List ℕ)) (has_failed : S → Bool)
       (RefusesToRun left has_failed roots roots' topology topology schedule schedule) fault (refl, refl) h
 
   module _ (topology topology' schedule schedule' : S) (named : List ℕ) (read : IsRoots left has_failed roots roots' named) where
-
     -- topology or schedule is refused
     pub not_told : (prints : List ℕ → Type 0) (sink_failed : Bool) (fault : Fault)
         → IsInputFault left has_failed interruptions left has_failed interruptions topology topology' schedule schedule' fault
@@ -67,7 +65,6 @@ module _ {S : Type 0} (left : S → Option (List ℕ)) (has_failed : S → Bool)
 
     module _ (layout : Layout) (script : Script)
         (told : AreTold left has_failed left has_failed topology topology' schedule schedule' layout script) where
-
       -- there is no root, or one is no switch
       pub no_switch : (prints : List ℕ → Type 0) (sink_failed : Bool) (fault : TextFault) → roots_fault (has_switch layout.nodes) named ≡ Some fault
           → IsRootedRunFault left has_failed interruptions lmc roots roots' topology topology' schedule schedule' prints sink_failed
@@ -83,7 +80,6 @@ module _ {S : Type 0} (left : S → Option (List ℕ)) (has_failed : S → Bool)
       )
 
       module _ (sound : roots_fault (has_switch layout.nodes) named ≡ None) (planning : Planning) (from : planning ≡ planning_from lmc named) where
-
         pub has_run_rooted : (prints : List ℕ → Type 0) → prints (script_text planning layout script)
             → HasRunRooted left has_failed lmc roots roots' topology topology' schedule schedule' prints
         has_run_rooted prints p =

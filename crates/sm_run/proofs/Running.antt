@@ -20,7 +20,6 @@ runs_text planning topology schedule layout script tells =
 
 module _ {T S : Type 0} (left : T → Option (List ℕ)) (has_failed : T → Bool) (left' : S → Option (List ℕ)) (has_failed' : S → Bool)
     (old new : T) (old' new' : S) where
-
   -- a run of what is refused would end so too
   pub not_run : (interruptions : T → ℕ) (interruptions' : S → ℕ) (planning : Planning) (prints : List ℕ → Type 0) (sink_failed : Bool) (fault : Fault)
       → IsInputFault left has_failed interruptions left' has_failed' interruptions' old new old' new' fault
@@ -34,7 +33,6 @@ module _ {T S : Type 0} (left : T → Option (List ℕ)) (has_failed : T → Boo
 
   module _ (planning : Planning) (layout : Layout) (script : Script)
       (told : AreTold left has_failed left' has_failed' old new old' new' layout script) where
-
     pub has_run : (prints : List ℕ → Type 0) → prints (script_text planning layout script)
         → HasRun left has_failed left' has_failed' old new old' new' planning prints
     has_run prints p = record {

@@ -69,7 +69,10 @@ fn roots_fault(roots: &[Guid], topology: &Topology) -> Option<TextFault>
 fn first_unusable(roots: &[Guid], topology: &Topology) -> Option<Guid>
     ensures { result ≡ first_unusable (has_switch topology.now.nodes) roots.now }
 {
-    roots.iter().copied().find(|root| !has_switch(topology, *root))
+    roots
+        .iter()
+        .copied()
+        .find(|root| !has_switch(topology, *root))
 }
 
 /// Whether a node of a topology is a switch with this GUID. A walk over the nodes.
