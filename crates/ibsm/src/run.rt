@@ -240,22 +240,21 @@ pub(crate) fn run_asked<'a>(
     if name != RUN || has_roots(words) {
         return None;
     }
-    let (topology, schedule, lmc) = texts_of(words)?;
+    let (topology, schedule) = texts_of(words)?;
+    let lmc = lmc_of(words)?;
     let kind = rule_of(words)?;
     let rule = rule_of_kind(alloc, kind);
     let planning = Planning::new(lmc, rule);
     Some((topology, schedule, planning))
 }
 
-/// The names of the topology and of the schedule behind a subcommand, and the LMC.
-fn texts_of<'a>(words: &ArgMatches<'a>) -> Option<(&'a str, &'a str, Lmc)>
+/// The names of the topology and of the schedule behind a subcommand.
+fn texts_of<'a>(words: &ArgMatches<'a>) -> Option<(&'a str, &'a str)>
     ensures topology { IfSome result (λ texts. first_value (found_of words.now) (codes "TOPOLOGY") ≡ Some texts.0.now) }
     ensures schedule { IfSome result (λ texts. first_value (found_of words.now) (codes "SCHEDULE") ≡ Some texts.1.now) }
-    ensures lmc { IfSome result (λ texts. IsLmc (first_value (found_of words.now) (codes "lmc")) texts.2) }
 {
     let topology = words.get_str(TOPOLOGY)?;
-    let schedule = words.get_str(SCHEDULE)?;
-    Some((topology, schedule, lmc_of(words)?))
+    Some((topology, words.get_str(SCHEDULE)?))
 }
 
 /// The name of the file of roots behind a subcommand, where the rule that takes roots is asked for.
@@ -283,7 +282,8 @@ pub(crate) fn rooted_run_asked<'a>(
         return None;
     }
     let roots = roots_of(words)?;
-    let (topology, schedule, lmc) = texts_of(words)?;
+    let (topology, schedule) = texts_of(words)?;
+    let lmc = lmc_of(words)?;
     Some((lmc, roots, topology, schedule))
 }
 

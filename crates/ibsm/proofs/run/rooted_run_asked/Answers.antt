@@ -8,8 +8,8 @@ use Rattle.ibsm.proofs.run.rooted_run_asked.Goals as goal
 
 pub returns-clause-lmc : goal.returns-clause-lmc
 returns-clause-lmc c =
-    subst (λ o. IsLmc o c.in_ok-topology.lmc) (sym (first_is (subcommand_rows_of c.args.matches.now) (found_of c.in_ok-name.words.now) (codes "lmc") c.in_ok-name.ensures.rows))
-    c.in_ok-topology.ensures.lmc
+    subst (λ o. IsLmc o c.in_ok-lmc.lmc) (sym (first_is (subcommand_rows_of c.args.matches.now) (found_of c.in_ok-name.words.now) (codes "lmc") c.in_ok-name.ensures.rows))
+    c.in_ok-lmc.ensures
 
 pub returns-clause-rule : goal.returns-clause-rule
 returns-clause-rule c = λ is.

@@ -20,7 +20,7 @@ returns-clause-schedule c =
 pub returns-clause-lmc : goal.returns-clause-lmc
 returns-clause-lmc c =
     subst (λ (p : Planning). IsLmc (word_named (codes "lmc") c.args.matches.now) p.lmc) (sym c.new-planning.ensures)
-    (subst (λ o. IsLmc o c.in_ok-topology.lmc) (sym (first_is (subcommand_rows_of c.args.matches.now) (found_of c.in_ok-name.words.now) (codes "lmc") c.in_ok-name.ensures.rows)) c.in_ok-topology.ensures.lmc)
+    (subst (λ o. IsLmc o c.in_ok-lmc.lmc) (sym (first_is (subcommand_rows_of c.args.matches.now) (found_of c.in_ok-name.words.now) (codes "lmc") c.in_ok-name.ensures.rows)) c.in_ok-lmc.ensures)
 
 pub returns-clause-rule : goal.returns-clause-rule
 returns-clause-rule c =
