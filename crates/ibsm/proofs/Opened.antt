@@ -112,3 +112,12 @@ pub one_opened : {S : Type 0} (answers : List ℕ → Result S OpenFault → Typ
     → AreOpened answers (name ∷ []) files → (file : S) × answers name.now (Ok file)
 one_opened answers name [] opened = let none = opened.one_each in absurd (omega arith)
 one_opened answers name (file ∷ files) opened = (file, opened.opened 0 name file refl refl)
+
+-- and it as the first of its list
+pub one_at : {S : Type 0} (answers : List ℕ → Result S OpenFault → Type 0) (name : Bor (List ℕ)) (files : List S) (x : S)
+    → AreOpened answers (name ∷ []) files → x ≡ get_or files 0 x → AreOpened answers (name ∷ []) (x ∷ [])
+one_at answers name [] x opened e = let none = opened.one_each in absurd (omega arith)
+one_at {S} answers name (file ∷ []) x opened e =
+    let Opened : S → Type 0 = λ f. AreOpened answers (name ∷ []) (f ∷ []) in
+    subst Opened (sym e) opened
+one_at answers name (file ∷ other ∷ files) x opened e = let two = opened.one_each in absurd (omega arith)

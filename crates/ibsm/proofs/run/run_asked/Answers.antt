@@ -1,4 +1,4 @@
-use Rattle.std.proofs.Common.{sym, subst}
+use Rattle.std.proofs.Common.{rules, ◌≡◌, ◌∙◌, false, sym, subst}
 use Rattle.std.specs.Prelude.{codes}
 use Rattle.sm_manager.specs.Planning.{Planning}
 use Rattle.ibsm.specs.Asked.{AsksRule, IsLmc, IsRule, word_named}
@@ -34,5 +34,6 @@ returns-clause-rule c =
 
 pub returns-clause-no_roots : goal.returns-clause-no_roots
 returns-clause-no_roots c = λ is.
-    none_named (subcommand_rows_of c.args.matches.now) (found_of c.in_ok-name.words.now) (codes "roots") c.in_ok-name.ensures.rows c.has_roots.ensures
-    c.if-name.false
+    let none : c.has_roots.result ≡ false = search rules in
+    none_named (subcommand_rows_of c.args.matches.now) (found_of c.in_ok-name.words.now) (codes "roots") c.in_ok-name.ensures.rows
+    (sym c.has_roots.ensures ∙ none)
