@@ -1,13 +1,13 @@
 -- Where packets end whose walks come to a port, and the first that ends elsewhere.
-use Rattle.std.proofs.Common.{◌≡◌, ◌<◌, ◌≤◌, ℕ, zero, suc, Bool, true, false, cond, List, [], ◌∷◌, length, get_or, Option, None, Some, refl, sym, ap, ◌∙◌, subst, arith, map}
+use Rattle.std.proofs.Common.{◌≡◌, ◌<◌, ◌≤◌, ℕ, zero, suc, Bool, true, false, cond, List, [], ◌∷◌, length, get_or, Option, None, Some, refl, sym, ap, ◌∙◌, arith, map}
 use Rattle.std.specs.Prelude.{nat_lt, not, slice_index_or, ◌&&◌, ◌||◌}
-use Rattle.std.specs.List.{list_all, list_any, position, position_or_len}
+use Rattle.std.specs.List.{list_all, position, position_or_len}
 use Rattle.std.proofs.lemmas.Bool.{and_parts, lt-ltb, le-ltb, ltb-false, ltb-true}
 use Rattle.std.proofs.lemmas.List.{length-map}
 use Rattle.std.proofs.lemmas.List.Sums.{AllPass-from_list_all, fails_before_first, position_or_len_is}
 use Rattle.subnet_view.specs.declared.end_port.EndPort.{EndPort}
 use Rattle.audit.specs.declared.end.End.{End}
-use Rattle.audit.specs.declared.end.End.TheVariants.{Taken, Lost}
+use Rattle.audit.specs.declared.end.End.TheVariants.{Taken}
 use Rattle.audit.specs.declared.far.Far.{Far}
 use Rattle.audit.specs.declared.far.Far.TheVariants.{Nothing, Switch, Port}
 use Rattle.audit.specs.declared.far.Source.{Source}
@@ -15,7 +15,7 @@ use Rattle.audit.specs.declared.step.Step.{Step}
 use Rattle.audit.specs.declared.step.Step.TheVariants.{To, Ends}
 use Rattle.audit.specs.Ends.{AreEnds, all_come, arrivals, comes_by, end_from, is_sole}
 use Rattle.audit.specs.Network.{all_begin, first_by, first_switch, is_among}
-use Rattle.audit.specs.Steps.{is_at, over, sent}
+use Rattle.audit.specs.Steps.{is_at, sent}
 use Rattle.audit.specs.Tables.{is_owner, is_same_end}
 use Rattle.audit.specs.Walks.{end_of, onward}
 use Rattle.audit.proofs.Judged.{same_ends}

@@ -12,6 +12,7 @@ use Rattle.audit.specs.declared.far.Source.{Source}
 use Rattle.audit.specs.declared.node.Node.{Node}
 use Rattle.audit.specs.declared.step.Step.{Step}
 use Rattle.audit.specs.Exits.{exit_by, exit_of}
+use Rattle.audit.specs.declared.owners.Owner.{Owner}
 use Rattle.audit.specs.Network.{row_of, node_of, source_of, IsNetwork}
 use Rattle.audit.specs.Steps.{by_entry, steps_of, entry_among, step_of, first_step, AreBrought, AreBlocks}
 use Rattle.audit.specs.Tables.{owners_of, place_of, top_of, block_at, entry_in, entry_at, entry_for, counted}
@@ -63,9 +64,9 @@ module _ (cells : Cells) (held : HeldPlan) (lid number : ℕ) (rows : List (List
   }
 
   pub brought_is : (nodes : List Node) (sources : List Source) (owners : List EndPort) (steps ends : List Step) (result : List (Option End))
-      (firsts : List (Option ℕ)) (begin : Bool) → IsNetwork cells held nodes sources firsts begin → owners ≡ owners_of held lid → steps ≡ map (step_of owners rows lid) nodes → HaveEnded steps ends
+      (firsts : List (Option ℕ)) (begin : Bool) (numbers : List ℕ) (by_lid : List Owner) → IsNetwork cells held nodes sources firsts begin numbers by_lid → owners ≡ owners_of held lid → steps ≡ map (step_of owners rows lid) nodes → HaveEnded steps ends
       → result ≡ map (λ source. end_of (onward ends (first_step owners source))) sources → AreBrought cells held lid result
-  brought_is nodes sources owners steps ends result firsts begin network own are ended result_is =
+  brought_is nodes sources owners steps ends result firsts begin numbers by_lid network own are ended result_is =
       let all : steps ≡ steps_of cells held lid =
       are ∙ ap (λ o. map (step_of o rows lid) nodes) own ∙ ap (map (step_of (owners_of held lid) rows lid)) network.nodes_are ∙ steps_are (switches cells) in
       let found : result ≡ map (end_by ends) (map (source_of cells) (end_ports cells)) =

@@ -1,10 +1,14 @@
 -- The blocks of a number, gathered block by block.
-use Rattle.std.proofs.Common.{◌≡◌, ℕ, zero, suc, ◌+◌, ◌<◌, List, [], ◌∷◌, ◌++◌, length, take, Option, refl, ap, ◌∙◌, arith, length-append}
-use Rattle.std.specs.Prelude.{slice_index_or, reverse, replicate}
+use Rattle.std.proofs.Common.{◌≡◌, ℕ, zero, suc, ◌+◌, ◌<◌, Bool, true, false, cond, List, [], ◌∷◌, ◌++◌, length, get_or, take, Option, Some, refl, sym, ap, ◌∙◌, arith, inl, inr, length-append}
+use Rattle.std.specs.Prelude.{slice_get, slice_index_or, slice_set, reverse, replicate, ◌==◌, ◌&&◌}
+use Rattle.std.proofs.lemmas.Bool.{and_right, cases_eq, eq-eqb, ne_eqb}
+use Rattle.std.proofs.lemmas.Grind.{get_or-set_at}
+use Rattle.std.proofs.lemmas.List.{get_or-set_other, length-set, reverse-append, take_more}
+use Rattle.std.proofs.lemmas.Option.{slice_get-get_or}
 use Rattle.std.specs.List.{find}
 use Rattle.plan_file.specs.declared.held.HeldBlock.{HeldBlock}
 use Rattle.plan_file.specs.Held.{HeldPlan}
-use Rattle.audit.specs.Steps.{AreBlank}
+use Rattle.audit.specs.Steps.{AreBlank, with_block}
 use Rattle.audit.specs.Tables.{is_block_of, entry_in}
 
 -- the last of some blocks that is of the number and of the switch at a place
@@ -44,3 +48,65 @@ blank_more count rows row h e =
 
 pub none_gathered : (held : HeldPlan) (number : ℕ) (rows : List (List ℕ)) → AreBlank (length held.switches) rows → AreGathered held number rows 0
 none_gathered held number rows h = record { as_many = h.as_many; entry = λ place i less. h.entry place i }
+
+and_true : (b : Bool) → (b && true) ≡ b
+and_true true = refl
+and_true false = refl
+
+-- the last of the blocks with one more
+last_more : (blocks : List HeldBlock) (k : ℕ) (d : HeldBlock) (place number : ℕ) → k < length blocks
+    → last_of (take (k + 1) blocks) place number ≡ cond (is_block_of place number (get_or blocks k d)) (Some (get_or blocks k d)) (last_of (take k blocks) place number)
+last_more blocks k d place number less =
+    ap (λ xs. find (is_block_of place number) (reverse xs)) (take_more blocks k d less)
+    ∙ ap (find (is_block_of place number)) (reverse-append (take k blocks) (get_or blocks k d ∷ []))
+
+-- a block of another number
+pub other_more : (held : HeldPlan) (number : ℕ) (rows : List (List ℕ)) (k : ℕ) (d : HeldBlock) → AreGathered held number rows k → k < length held.blocks
+    → ((get_or held.blocks k d).number ≡ number → ⊥) → AreGathered held number rows (k + 1)
+other_more held number rows k d h less other =
+    let b : HeldBlock = get_or held.blocks k d in
+    record {
+      as_many = h.as_many;
+      entry = λ place i within.
+          h.entry place i within
+          ∙ sym (ap (λ x. entry_in x i) (last_more held.blocks k d place number less
+          ∙ ap (λ t. cond t (Some b) (last_of (take k held.blocks) place number))
+          (ap (λ t. (b.switch == place) && t) (ne_eqb b.number number other) ∙ and_right (b.switch == place) false refl)));
+    }
+
+-- a block of the number
+pub block_more : (held : HeldPlan) (number : ℕ) (rows new : List (List ℕ)) (k : ℕ) (d : HeldBlock) → AreGathered held number rows k → k < length held.blocks
+    → (get_or held.blocks k d).number ≡ number → new ≡ with_block rows (slice_get held.blocks k) → AreGathered held number new (k + 1)
+block_more held number rows new k d h less same put = record { as_many = as_many; entry = entry }
+  where
+    b : HeldBlock
+    b = get_or held.blocks k d
+
+    e : new ≡ slice_set rows b.switch b.entries
+    e = put ∙ ap (with_block rows) (slice_get-get_or held.blocks k d less)
+
+    as_many : length new ≡ length held.switches
+    as_many = ap length e ∙ length-set rows b.switch b.entries ∙ h.as_many
+
+    last_is : (place : ℕ) → last_of (take (k + 1) held.blocks) place number ≡ cond (b.switch == place) (Some b) (last_of (take k held.blocks) place number)
+    last_is place =
+        last_more held.blocks k d place number less
+        ∙ ap (λ t. cond ((b.switch == place) && t) (Some b) (last_of (take k held.blocks) place number)) (eq-eqb b.number number same)
+        ∙ ap (λ t. cond t (Some b) (last_of (take k held.blocks) place number)) (and_true (b.switch == place))
+
+    entry : (place i : ℕ) → place < length new → slice_index_or (slice_index_or new place []) i 255 ≡ entry_in (last_of (take (k + 1) held.blocks) place number) i
+    entry place i within =
+        let long = length-set rows b.switch b.entries in
+        let longer = ap length e in
+        let inside : place < length rows = omega arith in
+        let stands = ap (λ xs. slice_index_or (slice_index_or xs place []) i 255) e in
+        elim (cases_eq place b.switch) [
+          | inl here ↦ (
+              stands ∙ ap (λ row. slice_index_or row i 255) (get_or-set_at rows b.switch place b.entries [] here (omega arith))
+              ∙ sym (ap (λ x. entry_in x i) (last_is place
+              ∙ ap (λ t. cond t (Some b) (last_of (take k held.blocks) place number)) (eq-eqb b.switch place (sym here)))))
+          | inr apart ↦ (
+              stands ∙ ap (λ row. slice_index_or row i 255) (get_or-set_other rows b.switch place b.entries [] apart) ∙ h.entry place i inside
+              ∙ sym (ap (λ x. entry_in x i) (last_is place
+              ∙ ap (λ t. cond t (Some b) (last_of (take k held.blocks) place number)) (ne_eqb b.switch place (λ q. apart (sym q))))))
+        ]

@@ -1,10 +1,10 @@
 -- The text of a view's plan says the plan's LIDs with their owners, and its entries.
 use Rattle.std.proofs.Common.{◌≡◌, ℕ, zero, suc, ◌+◌, ◌*◌, ◌/◌, ◌%◌, ◌≤◌, false, ◌||◌, List, [], ◌∷◌}
 use Rattle.std.proofs.Common.{get_or, Option, None, Some, refl, sym, ap, ◌∙◌, arith, cond}
-use Rattle.std.specs.Prelude.{slice_get, map, Contains, option_and_then, option_map, nat_lt, ◌==◌}
+use Rattle.std.specs.Prelude.{slice_get, map, Contains, option_and_then, nat_lt, ◌==◌}
 use Rattle.std.specs.Option.{option_map_or}
 use Rattle.std.specs.List.{find}
-use Rattle.std.proofs.lemmas.Bool.{cond_both, eqb-true, eq-eqb, le-ltb, ne_eqb, or_from}
+use Rattle.std.proofs.lemmas.Bool.{eq-eqb, le-ltb, ne_eqb, or_from}
 use Rattle.std.proofs.lemmas.Option.{same_Some}
 use Rattle.fact_store.specs.View.{Facts, cells_of}
 use Rattle.subnet_view.specs.Reading.{Cells, switches}

@@ -1,27 +1,28 @@
 -- Whether all packets arrive, from where each ends.
-use Rattle.std.proofs.Common.{◌≡◌, ◌≢◌, ℕ, zero, suc, ◌+◌, ◌<◌, ◌≤◌, Bool, true, false, ◌||◌, List, [], ◌∷◌, length, get_or, Option, None, Some, refl, sym, ap, ◌∙◌, subst, arith, inl, inr}
-use Rattle.std.specs.Prelude.{slice_get, map, Contains, IsTrue, ◌==◌, ◌↔◌}
-use Rattle.std.specs.List.{list_any}
+use Rattle.std.proofs.Common.{◌≡◌, ◌≢◌, ℕ, zero, suc, ◌+◌, ◌<◌, ◌≤◌, Bool, true, false, List, [], ◌∷◌, length, get_or, Option, None, Some, refl, sym, ap, ◌∙◌, subst, arith, inl, inr}
+use Rattle.std.specs.Prelude.{slice_get, Contains, IsTrue, ◌==◌, ◌↔◌}
 use Rattle.std.proofs.lemmas.Bool.{and_parts, cases_lt, eqb-true, eq-eqb}
 use Rattle.std.proofs.lemmas.Option.{same_Some, slice_get-get_or}
 use Rattle.subnet_view.specs.declared.end_port.EndPort.{EndPort}
 use Rattle.subnet_view.specs.Reading.{Cells}
-use Rattle.subnet_view.specs.EndPorts.{end_ports}
+use Rattle.fact_store.specs.View.{Facts, cells_of}
+use Rattle.subnet_view.specs.EndPorts.{end_ports, is_end_port}
+use Rattle.subnet_view.proofs.EndPortList.{end_ports_law}
+use Rattle.subnet_view.proofs.WireLaws.{end_port_law}
 use Rattle.subnet_view.proofs.Members.{contains_here, contains_later, list_any_true, list_any_at}
 use Rattle.plan_file.specs.declared.held.HeldLid.{HeldLid}
 use Rattle.plan_file.specs.Held.{HeldPlan}
 use Rattle.audit.specs.declared.end.End.{End}
 use Rattle.audit.specs.declared.end.End.TheVariants.{Taken, Lost}
-use Rattle.audit.specs.declared.far.Source.{Source}
 use Rattle.std.specs.Prelude.{not}
 use Rattle.std.specs.List.{position, position_or_len}
 use Rattle.std.proofs.lemmas.Bool.{ltb-false}
 use Rattle.std.proofs.lemmas.List.Sums.{fails_before_first}
 use Rattle.std.proofs.lemmas.List.Quantifiers.{position-Some}
 use Rattle.text_words.proofs.Splits.{unfound}
-use Rattle.audit.specs.Network.{source_of}
+use Rattle.updown_routes.proofs.Components.{same_tests}
 use Rattle.audit.specs.Steps.{AreBrought, AreBlocks, IsBrought, LineIsRight, AllArrive, IsFailureOf, is_at}
-use Rattle.audit.specs.Tables.{is_same_end}
+use Rattle.audit.specs.Tables.{is_owner, is_same_end}
 
 pub same_ends : (e x : EndPort) → is_same_end e x ≡ true → x ≡ e
 same_ends e x h =
@@ -36,21 +37,20 @@ same_itself e =
     let port : (e.port == e.port) ≡ true = eq-eqb e.port e.port refl in
     rw (node, port) refl
 
--- the end ports among the sources
-any_source : (cells : Cells) (e : EndPort) (ports : List EndPort)
-    → list_any (λ (s : Source). is_same_end e s.port) (map (source_of cells) ports) ≡ list_any (is_same_end e) ports
-any_source cells e [] = refl
-any_source cells e (x ∷ ports) = ap (λ t. is_same_end e x || t) (any_source cells e ports)
+-- one of some end ports
+pub owned : (ports : List EndPort) (e : EndPort) → IsTrue (is_owner ports e) ↔ Contains ports e
+owned ports e = (
+  λ t. let found = list_any_at (is_same_end e) ports t in subst (λ (x : EndPort). Contains ports x) (same_ends e found.0 found.2) found.1,
+  λ c. list_any_true (is_same_end e) ports e c (same_itself e),
+)
 
-pub is_listed : (cells : Cells) (e : EndPort) (sources : List Source) (b : Bool) → sources ≡ map (source_of cells) (end_ports cells)
-    → b ≡ list_any (λ (s : Source). is_same_end e s.port) sources → IsTrue b ↔ Contains (end_ports cells) e
-is_listed cells e sources b are is =
-    let same : b ≡ list_any (is_same_end e) (end_ports cells) =
-    is ∙ ap (list_any (λ (s : Source). is_same_end e s.port)) are ∙ any_source cells e (end_ports cells) in (
-      λ t. let found = list_any_at (is_same_end e) (end_ports cells) (sym same ∙ t) in
-          subst (λ (x : EndPort). Contains (end_ports cells) x) (same_ends e found.0 found.2) found.1,
-      λ c. same ∙ list_any_true (is_same_end e) (end_ports cells) e c (same_itself e),
-    )
+-- an end port of the facts
+pub listed : (facts : Facts) (e : EndPort) → is_end_port (cells_of facts) e.node e.port ≡ is_owner (end_ports (cells_of facts)) e
+listed facts e =
+    let ports : List EndPort = end_ports (cells_of facts) in
+    let law = end_port_law (cells_of facts) e.node e.port in
+    let has = (end_ports_law facts).0 e in
+    same_tests (is_end_port (cells_of facts) e.node e.port) (is_owner ports e) (λ t. (owned ports e).1 (has.1 (law.0 t))) (λ t. law.1 (has.0 ((owned ports e).0 t)))
 
 -- where packets end that all end at a port
 pub at_is : (e : EndPort) (end : Option End) → is_at e end ≡ true → end ≡ Some (Taken e)

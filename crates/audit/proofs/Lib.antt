@@ -10,6 +10,7 @@ pub mod HeldTables
 pub mod InTime
 pub mod Judged
 pub mod Mapped
+pub mod Owned
 pub mod PlanPackets
 pub mod PlanSteps
 pub mod PlansPass

@@ -1,5 +1,5 @@
 -- A port that has the LIDs of a range, and no others, has its LID and its LMC.
-use Rattle.std.proofs.Common.{◌≡◌, ℕ, zero, suc, ◌+◌, ◌<◌, ◌≤◌, ◌^◌, true, inl, inr, sym, ap, ◌∙◌, arith, cond, ◌==◌}
+use Rattle.std.proofs.Common.{◌≡◌, ℕ, zero, suc, ◌+◌, ◌≤◌, ◌^◌, inl, inr, sym, ap, ◌∙◌, arith, cond, ◌==◌}
 use Rattle.std.proofs.lemmas.Bool.{cases_lt, eqb-true, ne_eqb}
 use Rattle.std.proofs.lemmas.Nat.{pow_below, pow_pos}
 use Rattle.smp_bytes.specs.LidRange.{has_lid, is_among}

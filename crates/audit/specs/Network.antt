@@ -12,8 +12,10 @@ use Rattle.fact_store.specs.View.{Facts}
 use Rattle.fact_store.specs.Coded.{facts_code}
 use Rattle.plan_file.specs.contracts.held.Held as held
 use Rattle.plan_file.specs.Held.{HeldPlan}
-use Rattle.audit.specs.Tables.{place_of, top_of}
+use Rattle.audit.specs.Tables.{number_of, place_of, top_of}
+use Rattle.audit.specs.Owners.{AreOwners}
 use Rattle.audit.specs.declared.node.Node.{Node}
+use Rattle.audit.specs.declared.owners.Owner.{Owner}
 use Rattle.audit.specs.declared.far.Far.{Far}
 use Rattle.audit.specs.declared.far.Far.TheVariants.{Nothing, Switch, Port}
 use Rattle.audit.specs.declared.far.Source.{Source}
@@ -82,9 +84,11 @@ pub record Seen : Type 0 where
 abbrev pub seen_code : Coded Seen
 seen_code = code_by (Facts × HeldPlan) (coded× facts_code (held.the_row).coded) (λ s. (s.facts, s.held)) (λ p. record { facts = p.0; held = p.1 }) (λ _. refl)
 
--- the usable switches by rising GUID, the end ports as sources, in their order, the switches to which their packets come first, and whether each has one
-pub record IsNetwork (cells : Cells) (held : HeldPlan) (nodes : List Node) (sources : List Source) (firsts : List (Option ℕ)) (begin : Bool) : Type 0 where
+-- the usable switches by rising GUID, the end ports as sources, in their order, the switches to which their packets come first, whether each has one, the numbers of the blocks, and who holds each LID
+pub record IsNetwork (cells : Cells) (held : HeldPlan) (nodes : List Node) (sources : List Source) (firsts : List (Option ℕ)) (begin : Bool) (numbers : List ℕ) (owners : List Owner) : Type 0 where
   pub nodes_are : nodes ≡ map (node_of cells held) (switches cells)
   pub sources_are : sources ≡ map (source_of cells) (end_ports cells)
   pub firsts_are : firsts ≡ map first_switch sources
   pub begin_is : begin ≡ all_begin (length nodes) firsts
+  pub numbers_are : numbers ≡ map number_of held.blocks
+  pub owners_are : AreOwners held.lids owners

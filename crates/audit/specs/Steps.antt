@@ -1,8 +1,9 @@
 -- What becomes of a packet for a LID at each switch, and at the port that sends it.
-use Rattle.std.specs.Prelude.{◌≡◌, ◌≢◌, ◌↔◌, Bool, false, Contains, ℕ, ◌<◌, ◌%◌, ◌==◌, List, [], Option, None, Some, length, map, slice_get, slice_index_or, if◌then◌else◌}
+use Rattle.std.specs.Prelude.{◌≡◌, ◌≢◌, ◌↔◌, Bool, false, Contains, ℕ, ◌<◌, ◌%◌, ◌==◌, List, [], Option, None, Some, length, map, slice_get, slice_index_or, slice_set, if◌then◌else◌}
 use Rattle.std.specs.Option.{option_map_or}
 use Rattle.subnet_view.specs.declared.end_port.EndPort.{EndPort}
 use Rattle.subnet_view.specs.Reading.{Cells, is_usable, switches}
+use Rattle.plan_file.specs.declared.held.HeldBlock.{HeldBlock}
 use Rattle.plan_file.specs.declared.held.HeldLid.{HeldLid}
 use Rattle.plan_file.specs.Held.{HeldPlan}
 use Rattle.subnet_view.specs.EndPorts.{end_ports}
@@ -84,6 +85,14 @@ pub record AreBlank (count : ℕ) (rows : List (List ℕ)) : Type 0 where
 pub record AreBlocks (held : HeldPlan) (number : ℕ) (rows : List (List ℕ)) : Type 0 where
   pub as_many : length rows ≡ length held.switches
   pub entry : (place i : ℕ) → place < length rows → slice_index_or (slice_index_or rows place []) i 255 ≡ entry_in (block_at held place number) i
+
+-- with a block where that of its switch is
+abbrev pub with_row : List (List ℕ) → HeldBlock → List (List ℕ)
+with_row rows block = slice_set rows block.switch block.entries
+
+-- the same, if there is one
+abbrev pub with_block : List (List ℕ) → Option HeldBlock → List (List ℕ)
+with_block rows block = option_map_or (with_row rows) block rows
 
 -- the packets of every end port for a LID come to an end port that holds it
 abbrev pub LineArrives : Cells → HeldPlan → HeldLid → Type 0

@@ -25,6 +25,9 @@ place_of held g = position (λ s. s.guid == g) held.switches
 abbrev pub top_at : HeldPlan → Option ℕ → ℕ
 top_at held place = option_map_or (λ s. s.top) (option_and_then (slice_get held.switches) place) 0
 
+abbrev pub number_of : HeldBlock → ℕ
+number_of x = x.number
+
 -- the block of a number of the switch at a place
 abbrev pub is_block_of : ℕ → ℕ → HeldBlock → Bool
 is_block_of place number x = x.switch == place && x.number == number

@@ -1,22 +1,58 @@
-ghost use Rattle.std.specs.Prelude.{IfOk, length};
-ghost use Rattle.audit.specs.Steps.{AreBlank, AreBlocks};
+ghost use Rattle.std.specs.Prelude.{◌≡◌, IfOk, length, map, slice_get};
+ghost use Rattle.audit.specs.Steps.{AreBlank, AreBlocks, with_block, with_row};
+ghost use Rattle.audit.specs.Tables.{number_of};
 
-use plan_file::Held;
+use plan_file::{Held, HeldBlock};
 use std::alloc::{AllocError, Global};
 
 #[tactic(auto, using(crate::proofs::Gathered::none_gathered))]
 /// The blocks of a number, by the places of their switches among those that are held; entries that are not held
-/// are 255. Takes a walk over all blocks.
-pub(crate) fn blocks(alloc: Global, held: &Held, number: u16) -> Result<Vec<[u8; 64]>, AllocError>
+/// are 255. Takes a walk over the numbers of all blocks.
+pub(crate) fn blocks(
+    alloc: Global,
+    held: &Held,
+    numbers: &[u16],
+    number: u16,
+) -> Result<Vec<[u8; 64]>, AllocError>
+    requires { numbers.now ≡ map number_of held.now.blocks }
     ensures { IfOk result (λ rows. AreBlocks held.now number rows.items) }
 {
     let mut rows = no_blocks(alloc, held)?;
-    for block in held.blocks() {
-        if block.number == number && block.switch < rows.len() {
-            rows[block.switch] = block.entries;
+    for (place, other) in numbers.iter().enumerate() {
+        if *other == number {
+            put_block(&mut rows, held.blocks(), place);
         }
     }
     Ok(rows)
+}
+
+/// Puts the block at a place where that of its switch is.
+fn put_block(rows: &mut Vec<[u8; 64]>, blocks: &[HeldBlock], place: usize)
+    ensures { rows.new.items ≡ with_block rows.old.items (slice_get blocks.now place) }
+{
+    match blocks.get(place) {
+        Some(block) => put_row(rows, block),
+        None => {}
+    }
+}
+
+/// Puts a block where that of its switch is.
+fn put_row(rows: &mut Vec<[u8; 64]>, block: &HeldBlock)
+    ensures { rows.new.items ≡ with_row rows.old.items block.now }
+{
+    if block.switch < rows.len() {
+        rows[block.switch] = block.entries;
+    }
+}
+
+/// The numbers of the blocks that are held.
+pub(crate) fn numbers(alloc: Global, held: &Held) -> Result<Vec<u16>, AllocError>
+    ensures { IfOk result (λ numbers. numbers.items ≡ map number_of held.now.blocks) }
+{
+    held.blocks()
+        .iter()
+        .map(|block| block.number)
+        .collect(alloc)
 }
 
 #[tactic(auto, using(crate::proofs::Gathered::no_rows, crate::proofs::Gathered::blank_more))]

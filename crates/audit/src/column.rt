@@ -2,28 +2,16 @@
 ghost use Rattle.std.specs.Prelude.{◌≡◌, IfOk, map};
 ghost use Rattle.audit.specs.Steps.{at_port, entry_among, first_step, over, step_of};
 ghost use Rattle.audit.specs.Exits.{exit_of, exit_to};
-ghost use Rattle.audit.specs.Tables.{counted, is_owner, owners_of};
+ghost use Rattle.audit.specs.Tables.{counted, is_owner};
 
 use crate::end::End;
 use crate::far::{Far, Source};
 use crate::node::Node;
 use crate::step::Step;
-use plan_file::Held;
 use port_graph::Exit;
 use smp_bytes::{Guid, Lid, PortNum};
 use std::alloc::{AllocError, Global};
 use subnet_view::EndPort;
-
-/// The end ports that hold a LID. Takes a walk over all that do.
-pub(crate) fn owners_of(alloc: Global, held: &Held, lid: Lid) -> Result<Vec<EndPort>, AllocError>
-    ensures { IfOk result (λ owners. owners.items ≡ owners_of held.now lid) }
-{
-    held.lids()
-        .iter()
-        .filter(|held| held.lid == lid)
-        .map(|held| held.port)
-        .collect(alloc)
-}
 
 /// Whether an end port is one of these.
 pub(crate) fn is_owner(owners: &[EndPort], port: &EndPort) -> bool

@@ -11,6 +11,7 @@ mod far;
 pub mod laws;
 mod network;
 mod node;
+mod owners;
 mod row;
 mod step;
 mod walks;

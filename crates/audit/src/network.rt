@@ -1,19 +1,19 @@
-ghost use Rattle.std.specs.Prelude.{◌≡◌, ◌↔◌, ◌<◌, ◌/◌, Contains, IfOk, IsTrue, length, map, slice_get};
-ghost use Rattle.std.specs.List.{list_any};
+ghost use Rattle.std.specs.Prelude.{◌≡◌, ◌<◌, ◌/◌, IfOk, length, map, slice_get};
 ghost use Rattle.fact_store.specs.View.{cells_of};
 ghost use Rattle.subnet_view.specs.EndPorts.{end_ports};
 ghost use Rattle.subnet_view.specs.Reading.{switches};
 ghost use Rattle.audit.specs.Exits.{exits_of};
 ghost use Rattle.audit.specs.Network.{far_by, source_of};
 ghost use Rattle.audit.specs.Steps.{AreBlocks, AreBrought, entry_by};
-ghost use Rattle.audit.specs.Tables.{is_same_end};
+ghost use Rattle.audit.specs.Tables.{is_owner};
 
-use crate::blocks::blocks;
-use crate::column::{exits, owners_of, steps};
+use crate::blocks::{blocks, numbers};
+use crate::column::{exits, steps};
 use crate::ends::Ends;
 use crate::entry::entry_for;
 use crate::far::{Far, Source, all_begin, firsts, sources};
 use crate::node::{Node, nodes};
+use crate::owners::{Owner, owners, owners_of};
 use crate::walks::ends;
 use fact_store::{Refused, Store};
 use plan_file::{Held, HeldLid};
@@ -21,7 +21,7 @@ use port_graph::Exit;
 use smp_bytes::{Guid, Lid};
 use std::alloc::{AllocError, Global};
 use std::marker::Model;
-use subnet_view::{EndPort, Wires, end_ports, is_usable, switches};
+use subnet_view::{EndPort, Wires, end_ports, is_end_port, is_usable, switches};
 
 /// What a view says of a subnet, with the forwarding tables that its switches hold.
 #[derive(Drop)]
@@ -36,6 +36,10 @@ pub struct Network<'a> {
     firsts: Vec<Option<usize>>,
     /// Whether each has one.
     begin: bool,
+    /// The numbers of the blocks that are held.
+    numbers: Vec<u16>,
+    /// Who holds each LID.
+    owners: Vec<Owner>,
 }
 
 impl<'a> Model for Network<'a> {
@@ -48,7 +52,7 @@ impl<'a> Model for Network<'a> {
 
     ghost view = { λ a. record { facts = a.store.now; held = a.held.now } };
 
-    ghost invariant = { λ a. IsNetwork (cells_of a.store.now) a.held.now a.nodes.items a.sources.items a.firsts.items a.begin };
+    ghost invariant = { λ a. IsNetwork (cells_of a.store.now) a.held.now a.nodes.items a.sources.items a.firsts.items a.begin a.numbers.items a.owners.items };
 }
 
 /// The blocks of a number that switches hold.
@@ -73,6 +77,8 @@ impl<'a> Network<'a> {
         let sources = sources(alloc, &wires, &guids, &ports)?;
         let firsts = firsts(alloc, &sources)?;
         let begin = all_begin(nodes.len(), &firsts);
+        let numbers = numbers(alloc, held)?;
+        let owners = owners(alloc, held)?;
         Ok(Network {
             store,
             held,
@@ -80,15 +86,18 @@ impl<'a> Network<'a> {
             sources,
             firsts,
             begin,
+            numbers,
+            owners,
         })
     }
 
-    /// The blocks of a number: LIDs from 64 times the number on. Takes a walk over all blocks.
+    /// The blocks of a number: LIDs from 64 times the number on. Takes a walk over the numbers of all
+    /// blocks.
     pub fn blocks(&self, alloc: Global, number: u16) -> Result<Blocks, AllocError>
         ensures { IfOk result (λ blocks. AreBlocks self.now.held blocks.number blocks.rows.items
             × (blocks.number ≡ number)) }
     {
-        let rows = blocks(alloc, self.held, number)?;
+        let rows = blocks(alloc, self.held, &self.numbers, number)?;
         Ok(Blocks { number, rows })
     }
 
@@ -106,8 +115,8 @@ impl<'a> Network<'a> {
     }
 
     /// Where forwarding brings a packet for the LID of a line, for each end port that sends it, in their order; None is
-    /// that it goes round for ever. Takes a walk over the LIDs that are held, and for each switch some steps, by the
-    /// number of digits of the longest way's length.
+    /// that it goes round for ever. Takes for each switch some steps, by the number of digits of the longest way's length; and
+    /// where several end ports hold the LID, a walk over the LIDs that are held.
     pub fn ends<'s>(
         &'s self,
         alloc: Global,
@@ -119,7 +128,7 @@ impl<'a> Network<'a> {
         ensures { IfOk result (λ ended. AreBrought (cells_of self.now.facts) self.now.held line.now.lid ended.ends
             × (ended.port ≡ line.now.port)) }
     {
-        let owners = owners_of(alloc, self.held, line.lid)?;
+        let owners = owners_of(alloc, self.held, &self.owners, line.lid)?;
         let steps = steps(alloc, &self.nodes, &owners, &blocks.rows, line.lid)?;
         let walks = ends(alloc, steps)?;
         Ends::new(
@@ -207,17 +216,10 @@ impl<'a> Network<'a> {
         self.sources[place].port
     }
 
-    /// Whether the port is an end port of the view. Takes a walk over them.
-    pub(crate) fn has_end_port(&self, port: &EndPort) -> bool
-        ensures { IsTrue result ↔ Contains (end_ports (cells_of self.now.facts)) port.now }
+    /// Whether the port is an end port of the view. Takes two searches.
+    pub fn has_end_port(&self, port: &EndPort) -> bool
+        ensures { result ≡ is_owner (end_ports (cells_of self.now.facts)) port.now }
     {
-        has_port(&self.sources, port)
+        is_end_port(self.store, port.node, port.port)
     }
-}
-
-/// Whether a port is one of these sources.
-fn has_port(sources: &[Source], port: &EndPort) -> bool
-    ensures { result ≡ list_any (λ source. is_same_end port.now source.port) sources.now }
-{
-    sources.iter().any(|source| source.port.node == port.node && source.port.port == port.port)
 }

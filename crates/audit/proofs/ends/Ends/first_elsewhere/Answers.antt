@@ -1,5 +1,5 @@
 -- All come to the port.
-use Rattle.std.proofs.Common.{◌≡◌, ◌<◌, ℕ, Bool, length, sym, ap, ◌∙◌, subst, arith}
+use Rattle.std.proofs.Common.{◌≡◌, length, ap, subst, arith}
 use Rattle.std.specs.Prelude.{None, Option, map, not, position}
 use Rattle.std.proofs.lemmas.List.{length-map}
 use Rattle.audit.specs.declared.end.End.{End}

@@ -1,5 +1,5 @@
 -- An end port more, the first that fails, and none.
-use Rattle.std.proofs.Common.{◌≡◌, ◌<◌, ℕ, Bool, false, sym, ap, ◌∙◌, arith, get_or, below_more}
+use Rattle.std.proofs.Common.{sym, ap, ◌∙◌, arith, below_more}
 use Rattle.std.specs.Prelude.{None, Option, not}
 use Rattle.audit.specs.declared.end.End.{End}
 use Rattle.audit.specs.Steps.{is_at}

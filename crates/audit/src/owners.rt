@@ -1,0 +1,102 @@
+//! Who holds each LID.
+ghost use Rattle.std.specs.Prelude.{◌≡◌, [], ◌∷◌, IfOk, slice_index_or, slice_set};
+ghost use Rattle.audit.specs.declared.owners.Owner.TheVariants.{Several};
+ghost use Rattle.audit.specs.Owners.{AreOwners, owner_more};
+ghost use Rattle.audit.specs.Tables.{owners_of};
+
+use plan_file::{Held, HeldLid};
+use smp_bytes::Lid;
+use std::alloc::{AllocError, Global};
+use subnet_view::EndPort;
+
+/// Who holds a LID.
+#[derive(Clone, Copy, Debug, PartialEq, Eq)]
+pub(crate) enum Owner {
+    Nobody,
+    /// This end port alone.
+    Sole(EndPort),
+    Several,
+}
+
+/// More than the greatest LID that an end port can hold.
+const LIDS: usize = 0xC000;
+
+/// Who holds each LID. Takes a step for each that is held.
+pub(crate) fn owners(alloc: Global, held: &Held) -> Result<Vec<Owner>, AllocError>
+    ensures { IfOk result (λ owners. AreOwners held.now.lids owners.items) }
+{
+    let mut owners = vec![in alloc; Owner::Nobody; LIDS]?;
+    for line in held.lids() {
+        add_owner(&mut owners, line);
+    }
+    Ok(owners)
+}
+
+/// An end port more that holds a LID.
+fn add_owner(owners: &mut Vec<Owner>, line: &HeldLid)
+    ensures { owners.new.items ≡ slice_set owners.old.items line.now.lid
+        (owner_more (slice_index_or owners.old.items line.now.lid Several) line.now.port) }
+{
+    let lid = usize::from(line.lid.number());
+    if lid < owners.len() {
+        owners[lid] = owner_more(owners[lid], line.port);
+    }
+}
+
+/// What is told of a LID that one end port more holds.
+fn owner_more(owner: Owner, port: EndPort) -> Owner
+    ensures { result ≡ owner_more owner port }
+{
+    match owner {
+        Owner::Nobody => Owner::Sole(port),
+        _ => Owner::Several,
+    }
+}
+
+/// The end ports that hold a LID, by who holds each. Takes a step or two where there are not several, and else a walk over
+/// all LIDs that are held.
+pub(crate) fn owners_of(
+    alloc: Global,
+    held: &Held,
+    owners: &[Owner],
+    lid: Lid,
+) -> Result<Vec<EndPort>, AllocError>
+    requires { AreOwners held.now.lids owners.now }
+    ensures { IfOk result (λ ports. ports.items ≡ owners_of held.now lid) }
+{
+    match owner_at(owners, lid) {
+        Owner::Nobody => Ok(Vec::new(alloc)),
+        Owner::Sole(port) => one(alloc, port),
+        Owner::Several => all_owners_of(alloc, held, lid),
+    }
+}
+
+/// Who holds a LID, and several where that is not told.
+fn owner_at(owners: &[Owner], lid: Lid) -> Owner
+    ensures { result ≡ slice_index_or owners.now lid Several }
+{
+    match owners.get(usize::from(lid.number())) {
+        Some(owner) => *owner,
+        None => Owner::Several,
+    }
+}
+
+/// One end port.
+fn one(alloc: Global, port: EndPort) -> Result<Vec<EndPort>, AllocError>
+    ensures { IfOk result (λ ports. ports.items ≡ port ∷ []) }
+{
+    let mut ports = Vec::with_capacity(alloc, 1)?;
+    ports.push(port)?;
+    Ok(ports)
+}
+
+/// The end ports that hold a LID. Takes a walk over all LIDs that are held.
+fn all_owners_of(alloc: Global, held: &Held, lid: Lid) -> Result<Vec<EndPort>, AllocError>
+    ensures { IfOk result (λ owners. owners.items ≡ owners_of held.now lid) }
+{
+    held.lids()
+        .iter()
+        .filter(|held| held.lid == lid)
+        .map(|held| held.port)
+        .collect(alloc)
+}
