@@ -7,7 +7,7 @@ ghost use Rattle.channel_order.specs.Orders.{AreWith};
 use crate::known::Known;
 use std::alloc::{AllocError, Global};
 
-/// Channels in the order in which they came, each once. Some of them are known, and found with no walk.
+/// Channels in the order in which they came. Some of them are known, and found with no walk.
 #[derive(Drop)]
 pub(crate) struct Following {
     channels: Vec<usize>,
@@ -59,8 +59,8 @@ fn put(channels: &mut Vec<usize>, channel: usize) -> Result<(), AllocError>
 }
 
 /// Whether a channel is one of these.
-fn is_among(following: &[usize], channel: usize) -> bool
-    ensures { result ≡ list_any (λ c. channel == c) following.now }
+fn is_among(channels: &[usize], channel: usize) -> bool
+    ensures { result ≡ list_any (λ c. channel == c) channels.now }
 {
-    following.iter().any(|c| channel == *c)
+    channels.iter().any(|c| channel == *c)
 }

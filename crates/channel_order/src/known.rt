@@ -28,7 +28,8 @@ impl Known {
     pub(crate) fn with(self, channel: usize) -> Self
         ensures kept { (other : ℕ) → Knows self other → Knows result other }
         ensures only { (other : ℕ) → Knows result other → Knows self other ⊎ (other ≡ channel) }
-        ensures known { self.row ≡ channel / 64 → Knows result channel }
+        ensures of_row { self.row ≡ channel / 64 → Knows result channel }
+        ensures first { self.bits ≡ 0 → Knows result channel }
     {
         let row = channel / 64;
         if self.row != row && self.bits != 0 {

@@ -18,5 +18,8 @@ returns-clause-only c =
       | else-self-row-via-else-self-row w ↦ knows_no_other c.args.self _ c.args.channel refl refl w.if-self-row.false
     ]
 
-pub returns-clause-known : goal.returns-clause-known
-returns-clause-known c = λ same. knows_this c.args.self _ c.args.channel refl refl
+pub returns-clause-of_row : goal.returns-clause-of_row
+returns-clause-of_row c = λ same. knows_this c.args.self _ c.args.channel refl refl
+
+pub returns-clause-first : goal.returns-clause-first
+returns-clause-first c = λ none. knows_this c.args.self _ c.args.channel refl refl
