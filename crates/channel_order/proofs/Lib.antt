@@ -1,3 +1,4 @@
+pub mod Bits
 pub mod Columns
 pub mod Given
 pub mod Made

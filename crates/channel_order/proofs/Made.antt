@@ -2,10 +2,10 @@
 use Rattle.std.proofs.Common.{◌≡◌, ◌<◌, ℕ, zero, suc, true, List, [], ◌∷◌, ◌++◌, length, replicate, refl, sym, ap, ◌∙◌, subst, arith, inl, inr, ◌⊎◌, slice_set}
 use Rattle.std.specs.Prelude.{Contains, map, slice_index_or, ◌==◌}
 use Rattle.std.specs.List.{list_any}
-use Rattle.std.proofs.lemmas.Bool.{eqb-true, cases_lt}
+use Rattle.std.proofs.lemmas.Bool.{eqb-true, eq-eqb, cases_lt}
 use Rattle.smp_bytes.proofs.Members.{contains_here, contains_later, contains_cases, contains_none}
-use Rattle.channel_order.specs.Orders.{Follows, LeadToChannels, IsWith}
-use Rattle.channel_order.proofs.Passing.{found}
+use Rattle.channel_order.specs.Orders.{AreWith, Follows, LeadToChannels, IsWith}
+use Rattle.channel_order.proofs.Passing.{found, list_any_true}
 
 blank : (n i : ℕ) → slice_index_or (replicate {A = List ℕ} n []) i [] ≡ []
 blank zero i = refl
@@ -36,6 +36,34 @@ last : (xs : List ℕ) (y : ℕ) → Contains (xs ++ y ∷ []) y
 last [] y = contains_here y []
 last (z ∷ xs) y = contains_later z y (xs ++ y ∷ []) (last xs y)
 
+-- a channel behind others
+pub with_behind : (xs : List ℕ) (y : ℕ) → AreWith xs y (xs ++ y ∷ [])
+with_behind xs y c = (behind xs y c, back)
+  where
+    back : Contains xs c ⊎ (c ≡ y) → Contains (xs ++ y ∷ []) c
+    back (inl h) = before xs y c h
+    back (inr e) = subst (λ (x : ℕ). Contains (xs ++ y ∷ []) x) (sym e) (last xs y)
+
+-- a channel that is there already
+with_there : (xs : List ℕ) (y : ℕ) → Contains xs y → AreWith xs y xs
+with_there xs y there c = ((λ h. inl h), back)
+  where
+    back : Contains xs c ⊎ (c ≡ y) → Contains xs c
+    back (inl h) = h
+    back (inr e) = subst (λ (x : ℕ). Contains xs x) (sym e) there
+
+pub with_found : (xs : List ℕ) (y : ℕ) → list_any (λ c. y == c) xs ≡ true → AreWith xs y xs
+with_found xs y e =
+    let f = found (λ c. y == c) xs e in
+    let same : y ≡ f.x = eqb-true y f.x f.passes in with_there xs y (subst (λ (x : ℕ). Contains xs x) (sym same) f.there)
+
+-- a channel that was found, or came, is found then
+pub any_with : (old : List ℕ) (channel : ℕ) (new : List ℕ) → AreWith old channel new → (c : ℕ)
+    → (list_any (λ x. c == x) old ≡ true) ⊎ (c ≡ channel) → list_any (λ x. c == x) new ≡ true
+any_with old channel new with_it c (inl e) =
+    let f = found (λ x. c == x) old e in list_any_true (λ x. c == x) new f.x ((with_it f.x).1 (inl f.there)) f.passes
+any_with old channel new with_it c (inr e) = list_any_true (λ x. c == x) new c ((with_it c).1 (inr e)) (eq-eqb c c refl)
+
 module _ {V : Type 0} (items : V → List ℕ) where
   long : (vs : List V) (i : ℕ) (v : V) → length (map items (slice_set vs i v)) ≡ length (map items vs)
   long [] i v = refl
@@ -56,13 +84,14 @@ module _ {V : Type 0} (items : V → List ℕ) where
 
   -- with one more that follows a channel
   pub is_with : (vs : List V) (channel next : ℕ) (v : V) → channel < length (map items vs)
-      → items v ≡ slice_index_or (map items vs) channel [] ++ next ∷ [] → IsWith (map items vs) channel next (map items (slice_set vs channel v))
-  is_with vs channel next v less e = record { as_many = long vs channel v; follows = λ a b. (there a b, back a b) }
+      → AreWith (slice_index_or (map items vs) channel []) next (items v) → IsWith (map items vs) channel next (map items (slice_set vs channel v))
+  is_with vs channel next v less with_it = record { as_many = long vs channel v; follows = λ a b. (there a b, back a b) }
     where
-      here : (a : ℕ) → a ≡ channel → slice_index_or (map items (slice_set vs channel v)) a [] ≡ slice_index_or (map items vs) a [] ++ next ∷ []
-      here a same =
-          ap (λ (k : ℕ). slice_index_or (map items (slice_set vs channel v)) k []) same ∙ at_it vs channel v less ∙ e
-          ∙ sym (ap (λ (k : ℕ). slice_index_or (map items vs) k [] ++ next ∷ []) same)
+      here : (a : ℕ) → a ≡ channel → slice_index_or (map items (slice_set vs channel v)) a [] ≡ items v
+      here a same = ap (λ (k : ℕ). slice_index_or (map items (slice_set vs channel v)) k []) same ∙ at_it vs channel v less
+
+      was : (a : ℕ) → a ≡ channel → slice_index_or (map items vs) a [] ≡ slice_index_or (map items vs) channel []
+      was a same = ap (λ (k : ℕ). slice_index_or (map items vs) k []) same
 
       either : (a : ℕ) → (a ≡ channel) ⊎ (a ≡ channel → ⊥)
       either a = elim (cases_lt a channel) [
@@ -73,8 +102,8 @@ module _ {V : Type 0} (items : V → List ℕ) where
       there : (a b : ℕ) → Follows (map items (slice_set vs channel v)) a b → Follows (map items vs) a b ⊎ ((a ≡ channel) × (b ≡ next))
       there a b h =
           elim (either a) [
-            | inl same ↦ (elim (behind (slice_index_or (map items vs) a []) next b (subst (λ (xs : List ℕ). Contains xs b) (here a same) h)) [
-              | inl old ↦ inl old
+            | inl same ↦ (elim ((with_it b).0 (subst (λ (xs : List ℕ). Contains xs b) (here a same) h)) [
+              | inl old ↦ inl (subst (λ (xs : List ℕ). Contains xs b) (sym (was a same)) old)
               | inr new ↦ inr (same, new)
             ])
             | inr apart ↦ inl (subst (λ (xs : List ℕ). Contains xs b) (elsewhere vs channel a v apart) h)
@@ -83,25 +112,10 @@ module _ {V : Type 0} (items : V → List ℕ) where
       back : (a b : ℕ) → Follows (map items vs) a b ⊎ ((a ≡ channel) × (b ≡ next)) → Follows (map items (slice_set vs channel v)) a b
       back a b (inl old) =
           elim (either a) [
-            | inl same ↦ subst (λ (xs : List ℕ). Contains xs b) (sym (here a same)) (before (slice_index_or (map items vs) a []) next b old)
+            | inl same ↦ subst (λ (xs : List ℕ). Contains xs b) (sym (here a same)) ((with_it b).1 (inl (subst (λ (xs : List ℕ). Contains xs b) (was a same) old)))
             | inr apart ↦ subst (λ (xs : List ℕ). Contains xs b) (sym (elsewhere vs channel a v apart)) old
           ]
-      back a b (inr new) =
-          subst (λ (xs : List ℕ). Contains xs b) (sym (here a new.0))
-          (subst (λ (x : ℕ). Contains (slice_index_or (map items vs) a [] ++ next ∷ []) x) (sym new.1) (last (slice_index_or (map items vs) a []) next))
-
--- the same, where it follows already
-pub is_with_it : (waits : List (List ℕ)) (channel next : ℕ) → list_any (λ c. next == c) (slice_index_or waits channel []) ≡ true
-    → IsWith waits channel next waits
-is_with_it waits channel next e = record { as_many = refl; follows = λ a b. ((λ h. inl h), back a b) }
-  where
-    back : (a b : ℕ) → Follows waits a b ⊎ ((a ≡ channel) × (b ≡ next)) → Follows waits a b
-    back a b (inl old) = old
-    back a b (inr new) =
-        let f = found (λ c. next == c) (slice_index_or waits channel []) e in
-        let same : f.x ≡ next = sym (eqb-true next f.x f.passes) in
-        subst (λ (k : ℕ). Follows waits k b) (sym new.0)
-        (subst (λ (x : ℕ). Contains (slice_index_or waits channel []) x) (same ∙ sym new.1) f.there)
+      back a b (inr new) = subst (λ (xs : List ℕ). Contains xs b) (sym (here a new.0)) ((with_it b).1 (inr new.1))
 
 -- whatever follows is still a channel
 pub leads_with : (old : List (List ℕ)) (channel next : ℕ) (new : List (List ℕ)) → LeadToChannels old → next < length old

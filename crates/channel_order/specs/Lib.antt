@@ -1,3 +1,4 @@
 pub mod Columns
+pub mod Known
 pub mod Numbers
 pub mod Orders

@@ -11,6 +11,10 @@ Follows waits channel next = Contains (slice_index_or waits channel []) next
 abbrev pub LeadToChannels : List (List ℕ) → Type 0
 LeadToChannels waits = (channel next : ℕ) → Follows waits channel next → next < length waits
 
+-- the same channels, and another
+abbrev pub AreWith : List ℕ → ℕ → List ℕ → Type 0
+AreWith old channel new = (c : ℕ) → Contains new c ↔ (Contains old c ⊎ (c ≡ channel))
+
 -- the same, and that one channel follows another
 pub record IsWith (old : List (List ℕ)) (channel next : ℕ) (new : List (List ℕ)) : Type 0 where
   pub as_many : length new ≡ length old

@@ -8,8 +8,8 @@ use std::alloc::AllocError;
 
 #[tactic(auto, using(crate::proofs::Columns::none_so_far, crate::proofs::Columns::nothing_more, crate::proofs::Columns::one_more))]
 /// That the channels by which packets for a LID leave follow each other, by the exit of each vertex for it. The channel
-/// of a vertex's exit has the number 256 times the vertex, and the exit's port. Takes a step for each vertex and each
-/// channel that follows its own.
+/// of a vertex's exit has the number 256 times the vertex, and the exit's port. Takes a step for each vertex, and a walk
+/// over the channels that follow its own where the next is not known to.
 pub fn add_column(waits: &mut Waits, column: &[Option<Exit>]) -> Result<(), AllocError>
     requires channels { length waits.old ≡ 256 * length column.now }
     requires room { 256 * length column.now < 2 ^ 64 }

@@ -3,6 +3,8 @@
 
 mod circle;
 mod column;
+mod following;
+mod known;
 pub mod laws;
 mod numbers;
 mod order;

@@ -1,8 +1,7 @@
 ghost use Rattle.std.specs.Prelude.{◌≡◌, ◌<◌, [], IfOk, OnOk, length, replicate, slice_index_or};
-ghost use Rattle.std.specs.Prelude.{◌==◌};
-ghost use Rattle.std.specs.List.{list_any};
 ghost use Rattle.channel_order.specs.Orders.{IsWith, LeadToChannels};
 
+use crate::following::Following;
 use std::alloc::{AllocError, Global};
 use std::marker::Model;
 
@@ -10,7 +9,7 @@ use std::marker::Model;
 /// numbers from 0 on.
 #[derive(Drop)]
 pub struct Waits {
-    following: Vec<Vec<usize>>,
+    channels: Vec<Following>,
 }
 
 impl Model for Waits {
@@ -19,9 +18,9 @@ impl Model for Waits {
 
     ghost Value = { List (List ℕ) };
 
-    ghost view = { λ a. map (λ x. x.items) a.following.items };
+    ghost view = { λ a. map (λ x. x.channels.items) a.channels.items };
 
-    ghost invariant = { λ a. LeadToChannels (map (λ x. x.items) a.following.items) };
+    ghost invariant = { λ a. LeadToChannels (map (λ x. x.channels.items) a.channels.items) };
 }
 
 impl Waits {
@@ -29,11 +28,11 @@ impl Waits {
     pub fn new(alloc: Global, count: usize) -> Result<Self, AllocError>
         ensures { IfOk result (λ waits. waits ≡ replicate count []) }
     {
-        let mut following = Vec::with_capacity(alloc, count)?;
+        let mut channels = Vec::with_capacity(alloc, count)?;
         for _channel in 0..count {
-            following.push(Vec::new(alloc))?;
+            channels.push(Following::new(alloc))?;
         }
-        Ok(Waits { following })
+        Ok(Waits { channels })
     }
 
     /// How many channels there are.
@@ -41,35 +40,26 @@ impl Waits {
         ensures count { result ≡ length self.now }
         ensures channels { LeadToChannels self.now }
     {
-        self.following.len()
+        self.channels.len()
     }
 
     /// The channels that follow a channel. Takes one step.
     pub fn at(&self, channel: usize) -> &[usize]
         ensures { result.now ≡ slice_index_or self.now channel [] }
     {
-        match self.following.get(channel) {
-            Some(following) => following,
+        match self.channels.get(channel) {
+            Some(following) => following.channels(),
             None => &[],
         }
     }
 
-    /// That one channel follows another. Takes a walk over those that follow it.
+    /// That one channel follows another. Takes one step where that is known, and else a walk over those that follow it.
     pub fn add(&mut self, channel: usize, next: usize) -> Result<(), AllocError>
         requires channel { channel < length self.old }
         requires next { next < length self.old }
         ensures { OnOk result (IsWith self.old channel next self.new) }
     {
-        if !is_among(self.at(channel), next) {
-            self.following[channel].push(next)?;
-        }
+        self.channels[channel].add(next)?;
         Ok(())
     }
-}
-
-/// Whether a channel is one of these.
-fn is_among(following: &[usize], channel: usize) -> bool
-    ensures { result ≡ list_any (λ c. channel == c) following.now }
-{
-    following.iter().any(|c| channel == *c)
 }

@@ -4,4 +4,4 @@ use Rattle.std.specs.Prelude.{map}
 use Rattle.channel_order.proofs.waits.Waits.new.Given as goal
 
 abbrev pub invariant-loop-channel : goal.invariant-loop-channel
-invariant-loop-channel l = map (λ x. x.items) l.following.items ≡ replicate l._channel []
+invariant-loop-channel l = map (λ x. x.channels.items) l.channels.items ≡ replicate l._channel []
