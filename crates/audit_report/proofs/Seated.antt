@@ -35,15 +35,6 @@ module _ (cells : Cells) (port : EndPort) where
         | false ↦ λ k. no_seat ports k
       ] e
 
-  -- one is found exactly where the port is one of these
-  pub owner_found : (ports : List EndPort) → is_some (find at (map (seat_of cells) ports)) ≡ is_owner ports port
-  owner_found [] = refl
-  owner_found (x ∷ ports) =
-      elim (is_same_end port x) as (λ t. is_some (cond t (Some (seat_of cells x)) (find at (map (seat_of cells) ports))) ≡ (t || is_owner ports port)) [
-        | true ↦ refl
-        | false ↦ owner_found ports
-      ]
-
 -- the seat at a place is that of the end port there
 pub seat_there : (cells : Cells) (ports : List EndPort) (place : ℕ) (seat : Seat) (d : EndPort) → place < length ports
     → seat ≡ get_or (map (seat_of cells) ports) place seat → seat ≡ seat_of cells (get_or ports place d)

@@ -52,7 +52,7 @@ impl<'a> Audit<'a> {
         let network = Network::of(alloc, store, held)?;
         let seats = seats(alloc, store)?;
         let tally = survey(alloc, &network, &seats)?;
-        let unmatched = Unmatched::of(alloc, store, held, &seats)?;
+        let unmatched = Unmatched::of(alloc, store, held)?;
         let ways = figures_of_ways(alloc, &network)?;
         let circle = circle_of(alloc, &network)?;
         Ok(Audit {

@@ -1,17 +1,14 @@
 //! Where the tables that are held and the facts of the subnet differ.
-ghost use Rattle.std.specs.Prelude.{◌≡◌, IfOk, map};
+ghost use Rattle.std.specs.Prelude.{◌≡◌, IfOk};
 ghost use Rattle.fact_store.specs.View.{cells_of};
-ghost use Rattle.subnet_view.specs.EndPorts.{end_ports};
-ghost use Rattle.audit_report.specs.Seats.{seat_of};
 ghost use Rattle.audit_report.specs.Unmatched.{IsUnmatched, is_held, is_twice, tableless_among, twice, unknown, unowned};
 
-use crate::seat::{Seat, seat_at};
 use crate::told::note;
 use fact_store::{Refused, Store};
 use plan_file::{Held, HeldLid};
 use smp_bytes::Guid;
 use std::alloc::{AllocError, Global};
-use subnet_view::{is_usable, switches};
+use subnet_view::{is_end_port, is_usable, switches};
 
 /// The first of each kind in which tables and facts differ.
 #[derive(Drop)]
@@ -27,19 +24,13 @@ pub(crate) struct Unmatched {
 }
 
 impl Unmatched {
-    /// The first of each kind. Takes a walk over the end ports and one over the LIDs for each LID that is held, and one
-    /// over the switches that are held for each switch.
-    pub(crate) fn of(
-        alloc: Global,
-        store: &Store,
-        held: &Held,
-        seats: &[Seat],
-    ) -> Result<Self, Refused>
-        requires { seats.now ≡ map (seat_of (cells_of store.now)) (end_ports (cells_of store.now)) }
+    /// The first of each kind. Takes two searches and a walk over the LIDs for each LID that is held, and a walk over the
+    /// switches that are held for each switch.
+    pub(crate) fn of(alloc: Global, store: &Store, held: &Held) -> Result<Self, Refused>
         ensures { IfOk result (IsUnmatched (cells_of store.now) held.now) }
     {
         let guids = switches(alloc, store)?;
-        let unowned = unowned(alloc, held, store, seats)?;
+        let unowned = unowned(alloc, held, store)?;
         let twice = twice(alloc, held)?;
         let unknown = unknown(alloc, held, store)?;
         let tableless = tableless(alloc, held, &guids)?;
@@ -53,18 +44,12 @@ impl Unmatched {
 }
 
 /// The first LIDs with ports that are no end ports of the facts.
-fn unowned(
-    alloc: Global,
-    held: &Held,
-    store: &Store,
-    seats: &[Seat],
-) -> Result<Vec<HeldLid>, AllocError>
-    requires { seats.now ≡ map (seat_of (cells_of store.now)) (end_ports (cells_of store.now)) }
+fn unowned(alloc: Global, held: &Held, store: &Store) -> Result<Vec<HeldLid>, AllocError>
     ensures { IfOk result (λ told. told.items ≡ unowned (cells_of store.now) held.now) }
 {
     let mut told = Vec::new(alloc);
     for line in held.lids() {
-        if seat_at(seats, &line.port).is_none() {
+        if !is_end_port(store, line.port.node, line.port.port) {
             note(&mut told, *line)?;
         }
     }

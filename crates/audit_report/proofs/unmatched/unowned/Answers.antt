@@ -1,16 +1,15 @@
 -- A LID more.
 use Rattle.std.proofs.Common.{◌≡◌, ◌∙◌, Bool, sym, ap, arith}
-use Rattle.std.specs.Prelude.{not, find, is_some}
+use Rattle.std.specs.Prelude.{not}
 use Rattle.fact_store.specs.View.{cells_of}
 use Rattle.plan_file.specs.declared.held.HeldLid.{HeldLid}
 use Rattle.subnet_view.specs.EndPorts.{end_ports}
-use Rattle.audit.specs.Tables.{is_owner, is_same_end}
-use Rattle.audit_report.specs.declared.seat.Seat.{Seat}
+use Rattle.audit.specs.Tables.{is_owner}
 use Rattle.audit_report.specs.Told.{first_of}
 use Rattle.audit_report.proofs.Firsts.{told_more, told_same, told_all}
-use Rattle.audit_report.proofs.Seated.{owner_found}
+use Rattle.audit.proofs.Judged.{listed}
 use Rattle.audit_report.proofs.unmatched.unowned.Goals as goal
-use Rattle.audit_report.proofs.unmatched.unowned.Goals.{then-is_none+in_ok-note, else-is_none}
+use Rattle.audit_report.proofs.unmatched.unowned.Goals.{then-not-is_end_port+in_ok-note, else-not-is_end_port}
 
 pub loop-line-preserved : goal.loop-line-preserved
 loop-line-preserved c =
@@ -18,15 +17,14 @@ loop-line-preserved c =
     let cells = cells_of c.args.store.now in
     let p : HeldLid → Bool = λ line. not (is_owner (end_ports cells) line.port) in
     let line = c.line-item.result in
-    let found : is_some c.seat_at.result ≡ is_owner (end_ports cells) line.port =
-    ap is_some (c.seat_at.ensures ∙ ap (find (λ (seat : Seat). is_same_end line.port seat.port)) c.requires) ∙ owner_found cells line.port (end_ports cells) in
-    elim c.if-is_none.branch [
-      | then-is_none+in_ok-note w ↦
-          told_more p lines c.loop-line.line-index line c.loop-line.told.items c.if-is_none.told.items c.loop-line.invariant c.loop-line-test.true c.line-item.is
-          (ap not (sym found ∙ w.if-is_none.ensures)) (ap (λ v. v.items) w.told-is ∙ w.in_ok-note.ensures)
-      | else-is_none w ↦
-          told_same p lines c.loop-line.line-index line c.loop-line.told.items c.if-is_none.told.items c.loop-line.invariant c.loop-line-test.true c.line-item.is
-          (ap not (sym found ∙ w.if-is_none.ensures)) (ap (λ v. v.items) w.told-is)
+    let found = c.is_end_port.ensures ∙ listed c.args.store.now line.port in
+    elim c.if-not-is_end_port.branch [
+      | then-not-is_end_port+in_ok-note w ↦
+          told_more p lines c.loop-line.line-index line c.loop-line.told.items c.if-not-is_end_port.told.items c.loop-line.invariant c.loop-line-test.true c.line-item.is
+          (ap not (sym found ∙ w.if-not-is_end_port.true)) (ap (λ v. v.items) w.told-is ∙ w.in_ok-note.ensures)
+      | else-not-is_end_port w ↦
+          told_same p lines c.loop-line.line-index line c.loop-line.told.items c.if-not-is_end_port.told.items c.loop-line.invariant c.loop-line-test.true c.line-item.is
+          (ap not (sym found ∙ w.if-not-is_end_port.false)) (ap (λ v. v.items) w.told-is)
     ]
 
 pub returns : goal.returns
