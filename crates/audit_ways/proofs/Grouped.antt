@@ -2,9 +2,9 @@
 use Rattle.std.proofs.Common.{◌≡◌, ◌<◌, ◌≤◌, ◌+◌, ◌*◌, ℕ, zero, suc, Bool, true, false, cond, List, [], ◌∷◌, ◌++◌, length, get_or, set, take, map, replicate, refl, sym, ap, ◌∙◌, subst, arith}
 use Rattle.std.specs.Prelude.{filter, Option, None, Some, ◌==◌}
 use Rattle.std.specs.List.{sum_by}
-use Rattle.std.proofs.lemmas.List.{append-nil, length-set, map-append, take_all, take_more}
+use Rattle.std.proofs.lemmas.List.{append-nil, length-set, take_all, take_more}
 use Rattle.std.proofs.lemmas.List.Elements.{filter-append}
-use Rattle.std.proofs.lemmas.List.Sums.{sum_by_push}
+use Rattle.std.proofs.lemmas.List.Sums.{sum_by-cons, sum_by_push}
 use Rattle.std.proofs.lemmas.List.Quantifiers.{position-Some}
 use Rattle.subnet_view.specs.declared.end_port.EndPort.{EndPort}
 use Rattle.subnet_view.specs.EndPorts.{end_ports}
@@ -16,7 +16,7 @@ use Rattle.port_graph.specs.declared.exit.Exit.{Exit}
 use Rattle.audit.specs.declared.far.Far.{Far}
 use Rattle.audit.specs.declared.far.Far.TheVariants.{Nothing, Switch, Port}
 use Rattle.audit.specs.Exits.{exit_by, exits_of}
-use Rattle.audit.specs.Network.{far_at, far_of, far_to, index_in, row_of, source_of}
+use Rattle.audit.specs.Network.{far_at, far_of, far_to, index_in, row_of, source_of, switch_over}
 use Rattle.audit.specs.declared.end.End.{End}
 use Rattle.audit.specs.declared.far.Source.{Source}
 use Rattle.audit.specs.Steps.{AreBrought, end_for, is_at}
@@ -25,9 +25,9 @@ use Rattle.audit.proofs.InTime.{found_at}
 use Rattle.port_graph.proofs.Counts.{length_map}
 use Rattle.audit_ways.specs.declared.tally.Tally.{Tally}
 use Rattle.audit_ways.specs.declared.groups.Groups.{Groups}
-use Rattle.audit_ways.specs.Groups.{AreGrouped, IsGroupedWith, IsWithin, way_by}
+use Rattle.audit_ways.specs.Groups.{AreGrouped, IsGroupedWith, IsWithin, by_switch, packets_at}
 use Rattle.audit_ways.specs.Tally.{IsCounted, IsCountedMore, Sum, grouped, weighed}
-use Rattle.audit_ways.specs.Ways.{Way, one_wire, reaches, reaches_if, way_from, way_over, ways_to}
+use Rattle.audit_ways.specs.Ways.{Way, one_wire, reaches, reaches_if, way_from, way_of, way_over, ways_to}
 use Rattle.audit_ways.proofs.Counted.{counted_as, none_weighed, weighed_set}
 
 -- a wire leads to a switch that there is
@@ -49,10 +49,10 @@ far_within cells g p index e =
     same_switch k index h = cc
 
 -- a wire that leads to no switch
-pub over_one_wire : (column : List (Option Exit)) (far : Far) → ((index : ℕ) → far ≡ Switch index → ⊥) → way_over column far ≡ one_wire
-over_one_wire column Nothing h = refl
-over_one_wire column (Switch index) h = absurd (h index refl)
-over_one_wire column (Port e) h = refl
+over_none : (far : Far) → ((index : ℕ) → far ≡ Switch index → ⊥) → switch_over far ≡ None
+over_none Nothing h = refl
+over_none (Switch index) h = absurd (h index refl)
+over_none (Port e) h = refl
 
 -- the end port at a place, as a source
 pub record IsSourceAt (cells : Cells) (n : ℕ) (source : Source) : Type 0 where
@@ -95,10 +95,10 @@ is_within cells groups ports far g p h leads index is =
 pub none_grouped : (cells : Cells) (groups : Groups) (n : ℕ) → groups.weights.items ≡ replicate n 0 → groups.direct ≡ 0 → n ≡ length (switches cells) → AreGrouped cells [] groups
 none_grouped cells groups n are none all = record {
   as_many = ap length are ∙ long n ∙ all;
-  sums = λ exits number. (
-      let nothing = none_weighed (λ i. number (way_from exits i)) n in
-      let same = ap (weighed (λ i. number (way_from exits i))) are in
-      let product : groups.direct * number one_wire ≡ 0 = ap (λ d. d * number one_wire) none ∙ (let z : 0 * number one_wire ≡ 0 = omega arith in z) in
+  sums = λ number. (
+      let nothing = none_weighed (λ i. number (Some i)) n in
+      let same = ap (weighed (λ i. number (Some i))) are in
+      let product : groups.direct * number None ≡ 0 = ap (λ d. d * number None) none ∙ (let z : 0 * number None ≡ 0 = omega arith in z) in
       omega (arith, nothing, same, product));
 }
   where
@@ -106,17 +106,17 @@ none_grouped cells groups n are none all = record {
     long zero = refl
     long (suc k) = ap suc (long k)
 
--- one packet more or less at a switch
+-- one packet more at a switch
 pub one_at_switch : (old new : Groups) (far : Far) (index : ℕ) → far ≡ Switch index → index < length old.weights.items
     → new.weights.items ≡ set old.weights.items index (get_or old.weights.items index 0 + 1) → new.direct ≡ old.direct → IsGroupedWith old far new
 one_at_switch old new far index is within put stays = record {
   as_many = ap length put ∙ length-set old.weights.items index (get_or old.weights.items index 0 + 1);
-  sums = λ exits number. (
-      let way : number (way_over exits far) ≡ number (way_from exits index) = ap (λ f. number (way_over exits f)) is in
-      let same = ap (weighed (λ i. number (way_from exits i))) put in
-      let one = weighed_set (λ i. number (way_from exits i)) old.weights.items index within in
-      let direct_same = ap (λ d. d * number one_wire) stays in
-      omega (arith, way, same, one, direct_same));
+  sums = λ number. (
+      let there : number (switch_over far) ≡ number (Some index) = ap (λ f. number (switch_over f)) is in
+      let same = ap (weighed (λ i. number (Some i))) put in
+      let one = weighed_set (λ i. number (Some i)) old.weights.items index within in
+      let direct_same = ap (λ d. d * number None) stays in
+      omega (arith, there, same, one, direct_same));
 }
 
 -- or over one wire
@@ -124,13 +124,23 @@ pub one_direct : (old new : Groups) (far : Far) → ((index : ℕ) → far ≡ S
     → IsGroupedWith old far new
 one_direct old new far not_switch stays put = record {
   as_many = ap length stays;
-  sums = λ exits number. (
-      let way : number (way_over exits far) ≡ number one_wire = ap number (over_one_wire exits far not_switch) in
-      let same = ap (weighed (λ i. number (way_from exits i))) stays in
-      let one : (old.direct + 1) * number one_wire ≡ old.direct * number one_wire + number one_wire = omega arith in
-      let direct_more = ap (λ d. d * number one_wire) put in
-      omega (arith, way, same, one, direct_more));
+  sums = λ number. (
+      let there : number (switch_over far) ≡ number None = ap number (over_none far not_switch) in
+      let same = ap (weighed (λ i. number (Some i))) stays in
+      let one : (old.direct + 1) * number None ≡ old.direct * number None + number None = omega arith in
+      let direct_more = ap (λ d. d * number None) put in
+      omega (arith, there, same, one, direct_more));
 }
+
+-- what is over 0 is in the list
+pub in_list : (weights : List ℕ) (index : ℕ) → 1 ≤ get_or weights index 0 → index < length weights
+in_list [] index some = absurd (omega arith)
+in_list (w ∷ weights) zero some = omega arith
+in_list (w ∷ weights) (suc index) some = let rest = in_list weights index some in omega arith
+
+-- where a packet is
+pub at_switch : (groups : Groups) (far : Far) (index : ℕ) → far ≡ Switch index → 1 ≤ packets_at groups (switch_over far) → 1 ≤ get_or groups.weights.items index 0
+at_switch groups far index is some = subst (λ (f : Far). 1 ≤ packets_at groups (switch_over f)) is some
 
 -- the first end ports that pass a test
 module _ (cells : Cells) (test : EndPort → Bool) where
@@ -146,13 +156,12 @@ module _ (cells : Cells) (test : EndPort → Bool) where
       → test e ≡ true → far ≡ far_of cells e.node e.port → IsGroupedWith old far new → AreGrouped cells (first_of (n + 1)) new
   one_more n e far old new h less is does leads w = record {
     as_many = w.as_many ∙ h.as_many;
-    sums = λ exits number. (
-        let way : EndPort → Way = way_by cells exits in
-        let more = ap (λ ps. sum_by number (map way ps)) (first_more n e less is ∙ ap (λ t. first_of n ++ cond t (e ∷ []) []) does)
-        ∙ ap (sum_by number) (map-append way (first_of n) (e ∷ [])) ∙ sum_by_push number (map way (first_of n)) (way e) in
-        let own : number (way_over exits far) ≡ number (way e) = ap (λ f. number (way_over exits f)) leads in
-        let before = h.sums exits number in
-        let with_it = w.sums exits number in
+    sums = λ number. (
+        let its : EndPort → ℕ = by_switch cells number in
+        let more = ap (sum_by its) (first_more n e less is ∙ ap (λ t. first_of n ++ cond t (e ∷ []) []) does) ∙ sum_by_push its (first_of n) e in
+        let own : number (switch_over far) ≡ its e = ap (λ f. number (switch_over f)) leads in
+        let before = h.sums number in
+        let with_it = w.sums number in
         omega (arith, more, own, before, with_it));
   }
 
@@ -184,6 +193,25 @@ module _ (cells : Cells) (held : HeldPlan) (line : HeldLid) where
       let end = found_at cells held line.lid ends n e h less ∙ ap (end_for cells held line.lid) (sym is) in
       ap (reaches_if line e) (ap (is_at line.port) (sym end) ∙ ap (λ p. is_at p (get_or ends n None)) (sym own) ∙ sym found)
 
+  -- the number for the way of a packet
+  abbrev over_ways : (Way → ℕ) → Option ℕ → ℕ
+  over_ways number None = number one_wire
+  over_ways number (Some index) = number (way_from exits index)
+
+  by_way : (number : Way → ℕ) (far : Far) → number (way_over exits far) ≡ over_ways number (switch_over far)
+  by_way number Nothing = refl
+  by_way number (Switch index) = refl
+  by_way number (Port e) = refl
+
+  over_ports : (number : Way → ℕ) (ports : List EndPort) → sum_by number (map (way_of cells held line) ports) ≡ sum_by (by_switch cells (over_ways number)) ports
+  over_ports number [] = refl
+  over_ports number (e ∷ ports) =
+      let rest = over_ports number ports in
+      let here = by_way number (far_of cells e.node e.port) in
+      let ways = sum_by-cons number (way_of cells held line e) (map (way_of cells held line) ports) in
+      let these = sum_by-cons (by_switch cells (over_ways number)) e ports in
+      omega (arith, rest, here, ways, these)
+
   -- the groups are counted
   pub counted_ways : (column : List (Option Exit)) (weights : List ℕ) (groups : Groups) (old new : Tally) → column ≡ exits → weights ≡ groups.weights.items
       → AreGrouped cells delivered groups → IsCountedMore (256 * length column) old (grouped column weights groups.direct) new
@@ -195,6 +223,7 @@ module _ (cells : Cells) (held : HeldPlan) (line : HeldLid) where
       subst (λ (xs : List (Option Exit)). IsCountedMore (256 * length xs) old (grouped xs weights groups.direct) new) are more in
       counted_as (256 * length (switches cells)) (λ number. sums number + these number)
       (λ number. sums number + sum_by number (ways_to cells held line)) new
-      (λ number. ap (λ k. sums number + k) (ap (λ ws. grouped exits ws groups.direct number) same ∙ sym (g.sums exits number)))
+      (λ number. ap (λ k. sums number + k)
+      (ap (λ ws. grouped exits ws groups.direct number) same ∙ sym (over_ports number delivered ∙ g.sums (over_ways number))))
       (subst (λ (k : ℕ). IsCounted k (λ number. sums number + these number) new) all
       (here sums (subst (λ (k : ℕ). IsCounted k sums old) (sym all) before)))

@@ -1,5 +1,5 @@
 -- Sums over a list that leave out an element which stands there once.
-use Rattle.std.proofs.Common.{◌≡◌, ◌+◌, ◌*◌, ℕ, suc, Bool, true, false, cond, List, [], ◌∷◌, inl, inr, map, refl, ap, ◌∙◌, subst, arith}
+use Rattle.std.proofs.Common.{◌≡◌, ◌+◌, ◌*◌, ℕ, suc, Bool, true, false, cond, List, [], ◌∷◌, inl, inr, refl, ap, ◌∙◌, subst, arith}
 use Rattle.std.specs.Prelude.{Contains, count_by, filter, not, ◌&&◌}
 use Rattle.std.specs.List.{AllPairs, sum_by}
 use Rattle.std.proofs.lemmas.List.Sums.{sum_by-cons}
@@ -52,36 +52,36 @@ module _ {X : Type 0} (e : X) (same : X → Bool) (exact : (x : X) → same x �
       later : AllPairs IsBefore xs
       later i j d less within = pairs (suc i) (suc j) d (omega arith) (omega arith)
 
-  module _ {Y : Type 0} (number : Y → ℕ) (way : X → Y) (p : X → Bool) (passes : p e ≡ true) where
+  module _ (number : X → ℕ) (p : X → Bool) (passes : p e ≡ true) where
     abbrev other : X → Bool
     other x = p x && not (same x)
 
     abbrev over : (X → Bool) → List X → ℕ
-    over test xs = sum_by number (map way (filter test xs))
+    over test xs = sum_by number (filter test xs)
 
-    kept : (test : X → Bool) (x : X) (xs : List X) → test x ≡ true → over test (x ∷ xs) ≡ number (way x) + over test xs
-    kept test x xs is = ap (λ t. sum_by number (map way (cond t (x ∷ filter test xs) (filter test xs)))) is ∙ sum_by-cons number (way x) (map way (filter test xs))
+    kept : (test : X → Bool) (x : X) (xs : List X) → test x ≡ true → over test (x ∷ xs) ≡ number x + over test xs
+    kept test x xs is = ap (λ t. sum_by number (cond t (x ∷ filter test xs) (filter test xs))) is ∙ sum_by-cons number x (filter test xs)
 
     left : (test : X → Bool) (x : X) (xs : List X) → test x ≡ false → over test (x ∷ xs) ≡ over test xs
-    left test x xs is = ap (λ t. sum_by number (map way (cond t (x ∷ filter test xs) (filter test xs)))) is
+    left test x xs is = ap (λ t. sum_by number (cond t (x ∷ filter test xs) (filter test xs))) is
 
     -- the sum is that over the others and, as often as it stands there, the element's own number
-    pub sum_with : (xs : List X) → over p xs ≡ over other xs + count_by same xs * number (way e)
+    pub sum_with : (xs : List X) → over p xs ≡ over other xs + count_by same xs * number e
     sum_with [] = omega arith
     sum_with (x ∷ xs) =
         let rest = sum_with xs in
-        elim (same x) as (λ t. same x ≡ t → over p (x ∷ xs) ≡ over other (x ∷ xs) + count_by same (x ∷ xs) * number (way e)) [
+        elim (same x) as (λ t. same x ≡ t → over p (x ∷ xs) ≡ over other (x ∷ xs) + count_by same (x ∷ xs) * number e) [
           | true ↦ λ is.
               let at = exact x is in
               let here = kept p x xs (ap p at ∙ passes) in
-              let own : number (way x) ≡ number (way e) = ap (λ y. number (way y)) at in
+              let own : number x ≡ number e = ap number at in
               let gone = left other x xs (ap (λ t. p x && not t) is ∙ ap (λ t. t && false) (ap p at ∙ passes)) in
-              let times : count_by same (x ∷ xs) * number (way e) ≡ count_by same xs * number (way e) + number (way e) =
-              ap (λ n. n * number (way e)) (counted_here x xs is) ∙ omega arith in
+              let times : count_by same (x ∷ xs) * number e ≡ count_by same xs * number e + number e =
+              ap (λ n. n * number e) (counted_here x xs is) ∙ omega arith in
               omega (arith, rest, here, own, gone, times)
           | false ↦ λ is.
-              let times : count_by same (x ∷ xs) * number (way e) ≡ count_by same xs * number (way e) = ap (λ n. n * number (way e)) (counted_later x xs is) in
-              (elim (p x) as (λ t. p x ≡ t → over p (x ∷ xs) ≡ over other (x ∷ xs) + count_by same (x ∷ xs) * number (way e)) [
+              let times : count_by same (x ∷ xs) * number e ≡ count_by same xs * number e = ap (λ n. n * number e) (counted_later x xs is) in
+              (elim (p x) as (λ t. p x ≡ t → over p (x ∷ xs) ≡ over other (x ∷ xs) + count_by same (x ∷ xs) * number e) [
                 | true ↦ λ does.
                     let here = kept p x xs does in
                     let there = kept other x xs (ap (λ t. t && not (same x)) does ∙ ap not is) in

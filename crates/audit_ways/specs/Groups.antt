@@ -1,41 +1,47 @@
 -- Packets by where their senders' wires lead, and what a roster of the end ports says of these wires.
-use Rattle.std.specs.Prelude.{◌≡◌, ◌<◌, ◌+◌, ◌&&◌, ℕ, true, false, List, Option, None, Some, Contains, filter, length, map}
+use Rattle.std.specs.Prelude.{◌≡◌, ◌<◌, ◌+◌, ◌*◌, ◌&&◌, ℕ, true, false, List, Option, None, Some, Contains, filter, length, map, slice_index}
 use Rattle.std.specs.List.{list_any, sum_by}
 use Rattle.std.specs.List.Sorted.{IsPermutation, IsSortedByKey}
 use Rattle.std.specs.Ordering.{nat_cmp, ordering_then}
 use Rattle.std.specs.declared.cmp.Ordering.{Ordering}
-use Rattle.port_graph.specs.declared.exit.Exit.{Exit}
 use Rattle.subnet_view.specs.declared.end_port.EndPort.{EndPort}
 use Rattle.subnet_view.specs.EndPorts.{end_ports}
 use Rattle.subnet_view.specs.Reading.{Cells, switches}
 use Rattle.audit.specs.declared.far.Far.{Far}
 use Rattle.audit.specs.declared.far.Far.TheVariants.{Switch}
 use Rattle.audit.specs.declared.far.Source.{Source}
-use Rattle.audit.specs.Network.{far_of, source_of}
+use Rattle.audit.specs.Network.{far_of, source_of, switch_over}
 use Rattle.audit.specs.Tables.{is_same_end}
 use Rattle.audit_ways.specs.declared.groups.Groups.{Groups}
-use Rattle.audit_ways.specs.Tally.{grouped}
-use Rattle.audit_ways.specs.Ways.{Way, is_adapter, way_over}
+use Rattle.audit_ways.specs.Tally.{weighed}
+use Rattle.audit_ways.specs.Ways.{is_adapter}
 
 -- a wire leads to none but the first switches
 abbrev pub IsWithin : ℕ → Far → Type 0
 IsWithin count far = (index : ℕ) → far ≡ Switch index → index < count
 
--- a packet more, whatever the exits of the switches
+-- the sum of a number over packets, by the switches to which they come first; None is an adapter, over one wire
+abbrev pub total : (Option ℕ → ℕ) → Groups → ℕ
+total number groups = weighed (λ i. number (Some i)) groups.weights.items + groups.direct * number None
+
+-- a packet more
 pub record IsGroupedWith (old : Groups) (far : Far) (new : Groups) : Type 0 where
   pub as_many : length new.weights.items ≡ length old.weights.items
-  pub sums : (exits : List (Option Exit)) (number : Way → ℕ)
-      → grouped exits new.weights.items new.direct number ≡ grouped exits old.weights.items old.direct number + number (way_over exits far)
+  pub sums : (number : Option ℕ → ℕ) → total number new ≡ total number old + number (switch_over far)
 
--- the way of a packet from an end port, by the exits of the switches
-abbrev pub way_by : Cells → List (Option Exit) → EndPort → Way
-way_by cells exits e = way_over exits (far_of cells e.node e.port)
+-- how many packets come there
+abbrev pub packets_at : Groups → Option ℕ → ℕ
+packets_at groups None = groups.direct
+packets_at groups (Some index) = slice_index groups.weights.items index
 
--- those from these end ports, whatever the exits of the switches
+-- the number for the packet of an end port
+abbrev pub by_switch : Cells → (Option ℕ → ℕ) → EndPort → ℕ
+by_switch cells number e = number (switch_over (far_of cells e.node e.port))
+
+-- the packets of these end ports
 pub record AreGrouped (cells : Cells) (ports : List EndPort) (groups : Groups) : Type 0 where
   pub as_many : length groups.weights.items ≡ length (switches cells)
-  pub sums : (exits : List (Option Exit)) (number : Way → ℕ)
-      → sum_by number (map (way_by cells exits) ports) ≡ grouped exits groups.weights.items groups.direct number
+  pub sums : (number : Option ℕ → ℕ) → sum_by (by_switch cells number) ports ≡ total number groups
 
 -- the adapter ports of the facts
 abbrev pub adapters : Cells → List EndPort

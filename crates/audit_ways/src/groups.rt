@@ -1,11 +1,12 @@
 //! Packets for one LID, by the switches to which they come first.
-ghost use Rattle.std.specs.Prelude.{◌≡◌, ◌<◌, ◌+◌, [], IfOk, OnOk, filter, length, slice_index, slice_set};
+ghost use Rattle.std.specs.Prelude.{◌≡◌, ◌<◌, ◌≤◌, ◌+◌, [], IfOk, OnOk, filter, length, slice_index, slice_set};
 ghost use Rattle.fact_store.specs.View.{cells_of};
 ghost use Rattle.subnet_view.specs.EndPorts.{end_ports};
 ghost use Rattle.subnet_view.specs.Reading.{switches};
+ghost use Rattle.audit.specs.Network.{switch_over};
 ghost use Rattle.audit.specs.Steps.{AreBrought};
 ghost use Rattle.audit.specs.Tables.{is_same_end};
-ghost use Rattle.audit_ways.specs.Groups.{AreGrouped, IsGroupedWith, IsWithin, adapters};
+ghost use Rattle.audit_ways.specs.Groups.{AreGrouped, IsGroupedWith, IsWithin, adapters, packets_at};
 ghost use Rattle.audit_ways.specs.Ways.{is_adapter, reaches, reaches_if};
 
 use crate::walk::load_channel;
@@ -54,34 +55,24 @@ impl Groups {
         Ok(())
     }
 
-    /// A packet less; refused where there is none whose sender's wire leads there.
-    pub(crate) fn leave(&mut self, far: &Far) -> Result<(), AllocError>
-        requires { IsWithin (length self.old.weights.items) far.now }
-        ensures { OnOk result (IsGroupedWith self.new far.now self.old) }
+    /// A packet less, where there is one whose sender's wire leads there.
+    pub(crate) fn leave(&mut self, far: &Far)
+        requires { 1 ≤ packets_at self.old (switch_over far.now) }
+        ensures { IsGroupedWith self.new far.now self.old }
     {
         match *far {
             Far::Switch(first) => unload(&mut self.weights, first),
-            _ => self.leave_direct(),
+            _ => self.direct -= 1,
         }
-    }
-
-    /// A packet less over one wire.
-    fn leave_direct(&mut self) -> Result<(), AllocError>
-        ensures direct { OnOk result (self.old.direct ≡ self.new.direct + 1) }
-        ensures weights { self.new.weights ≡ self.old.weights }
-    {
-        self.direct = self.direct.checked_sub(1).ok_or(AllocError)?;
-        Ok(())
     }
 }
 
 /// One from a weight.
-fn unload(weights: &mut [u64], first: usize) -> Result<(), AllocError>
-    requires { first < length weights.old }
-    ensures { OnOk result (weights.old ≡ slice_set weights.new first (slice_index weights.new first + 1)) }
+fn unload(weights: &mut [u64], first: usize)
+    requires { 1 ≤ slice_index weights.old first }
+    ensures { weights.old ≡ slice_set weights.new first (slice_index weights.new first + 1) }
 {
-    weights[first] = weights[first].checked_sub(1).ok_or(AllocError)?;
-    Ok(())
+    weights[first] -= 1;
 }
 
 /// A packet from each adapter port. Takes a step for each end port.

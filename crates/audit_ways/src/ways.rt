@@ -94,7 +94,7 @@ fn add_ways(
         let groups = group_packets(alloc, network, line, &ends)?;
         return tally.add(&exits, &groups.weights, groups.direct);
     }
-    senders.leave(far)?;
+    senders.leave(far);
     tally.add(&exits, &senders.weights, senders.direct)?;
     senders.join(far)
 }

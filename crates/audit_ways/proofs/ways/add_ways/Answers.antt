@@ -1,9 +1,10 @@
 -- The packets are grouped by the network's exits.
-use Rattle.std.proofs.Common.{◌∙◌, sym}
+use Rattle.std.proofs.Common.{◌∙◌, sym, subst}
 use Rattle.std.proofs.lemmas.Result.{on_ok_weaker}
 use Rattle.fact_store.specs.View.{cells_of}
-use Rattle.audit_ways.proofs.Grouped.{counted_ways}
-use Rattle.audit_ways.proofs.Senders.{none_is, without_own}
+use Rattle.audit_ways.specs.Groups.{IsWithin, adapters}
+use Rattle.audit_ways.proofs.Grouped.{counted_ways, is_within}
+use Rattle.audit_ways.proofs.Senders.{none_is, own_there, without_own}
 use Rattle.audit_ways.proofs.ways.add_ways.Goals as goal
 
 pub returns-then-is_some-clause-ways : goal.returns-then-is_some-clause-ways
@@ -13,6 +14,17 @@ returns-then-is_some-clause-ways c =
     (counted_ways cells c.args.network.now.held c.args.line.now c.deref.result.now c.deref-then-is_some.result.now c.in_ok-groups.groups c.args.tally.now c.add.new.self
     (c.deref.ensures.value ∙ c.in_ok-exits.ensures) c.deref-then-is_some.ensures.value c.in_ok-groups.ensures)
     c.add.ensures
+
+pub leave-requires : goal.leave-requires
+leave-requires c =
+    own_there c.args.network.now.facts c.args.network.now.held c.args.line.now c.args.far.now c.requires.target c.requires.far c.args.senders.now c.requires.senders
+
+pub join-requires : goal.join-requires
+join-requires c =
+    let cells = cells_of c.args.network.now.facts in
+    let port = c.args.line.now.port in
+    subst (λ count. IsWithin count c.args.far.now) c.leave.ensures.as_many
+    (is_within cells c.args.senders.now (adapters cells) c.args.far.now port.node port.port c.requires.senders c.requires.far)
 
 pub returns-clause-ways : goal.returns-clause-ways
 returns-clause-ways c =
@@ -24,7 +36,7 @@ returns-clause-ways c =
     let none = sym c.first_elsewhere.ensures ∙ none_is c.first_elsewhere.result (sym c.is_some.ensures ∙ c.if-is_some.false) in
     let grouped =
     without_own facts held line c.args.far.now c.requires.target c.requires.far c.args.senders.now less ends.port ends.ends c.in_ok-ends.ensures.0
-    c.in_ok-ends.ensures.1 none c.requires.senders c.in_ok-leave.ensures in
+    c.in_ok-ends.ensures.1 none c.requires.senders c.leave.ensures in
     on_ok_weaker c.join.result
     (λ back.
     counted_ways (cells_of facts) held line c.deref-2.result.now c.deref-3.result.now less c.args.tally.now c.add-2.new.self
