@@ -1,10 +1,10 @@
 -- The packets for a LID by the switches at which they come first, end port by end port.
 use Rattle.std.proofs.Common.{◌≡◌, ◌<◌, ◌≤◌, ◌+◌, ◌*◌, ℕ, zero, suc, Bool, true, false, cond, List, [], ◌∷◌, ◌++◌, length, get_or, set, take, map, replicate, refl, sym, ap, ◌∙◌, subst, arith}
 use Rattle.std.specs.Prelude.{filter, Option, None, Some, ◌==◌}
-use Rattle.std.specs.List.{sum_by, list_any}
-use Rattle.std.proofs.lemmas.List.{append-nil, length-set, map-append, take_all, take_more}
+use Rattle.std.specs.List.{sum_by}
+use Rattle.std.proofs.lemmas.List.{append-nil, length-set, take_all, take_more}
 use Rattle.std.proofs.lemmas.List.Elements.{filter-append}
-use Rattle.std.proofs.lemmas.List.Sums.{sum_by_push}
+use Rattle.std.proofs.lemmas.List.Sums.{sum_by-cons, sum_by_push}
 use Rattle.std.proofs.lemmas.List.Quantifiers.{position-Some}
 use Rattle.subnet_view.specs.declared.end_port.EndPort.{EndPort}
 use Rattle.subnet_view.specs.EndPorts.{end_ports}
@@ -16,7 +16,7 @@ use Rattle.port_graph.specs.declared.exit.Exit.{Exit}
 use Rattle.audit.specs.declared.far.Far.{Far}
 use Rattle.audit.specs.declared.far.Far.TheVariants.{Nothing, Switch, Port}
 use Rattle.audit.specs.Exits.{exit_by, exits_of}
-use Rattle.audit.specs.Network.{far_at, far_of, far_to, index_in, row_of, source_of}
+use Rattle.audit.specs.Network.{far_at, far_of, far_to, index_in, row_of, source_of, switch_over}
 use Rattle.audit.specs.declared.end.End.{End}
 use Rattle.audit.specs.declared.far.Source.{Source}
 use Rattle.audit.specs.Steps.{AreBrought, end_for, is_at}
@@ -24,7 +24,9 @@ use Rattle.audit.specs.Tables.{entry_for}
 use Rattle.audit.proofs.InTime.{found_at}
 use Rattle.port_graph.proofs.Counts.{length_map}
 use Rattle.audit_ways.specs.declared.tally.Tally.{Tally}
-use Rattle.audit_ways.specs.Tally.{AreGrouped, IsCounted, IsCountedMore, grouped, weighed}
+use Rattle.audit_ways.specs.declared.groups.Groups.{Groups}
+use Rattle.audit_ways.specs.Groups.{AreGrouped, IsGroupedWith, IsWithin, by_switch, packets_at}
+use Rattle.audit_ways.specs.Tally.{IsCounted, IsCountedMore, Sum, grouped, weighed}
 use Rattle.audit_ways.specs.Ways.{Way, one_wire, reaches, reaches_if, way_from, way_of, way_over, ways_to}
 use Rattle.audit_ways.proofs.Counted.{counted_as, none_weighed, weighed_set}
 
@@ -47,10 +49,10 @@ far_within cells g p index e =
     same_switch k index h = cc
 
 -- a wire that leads to no switch
-pub over_one_wire : (column : List (Option Exit)) (far : Far) → ((index : ℕ) → far ≡ Switch index → ⊥) → way_over column far ≡ one_wire
-over_one_wire column Nothing h = refl
-over_one_wire column (Switch index) h = absurd (h index refl)
-over_one_wire column (Port e) h = refl
+over_none : (far : Far) → ((index : ℕ) → far ≡ Switch index → ⊥) → switch_over far ≡ None
+over_none Nothing h = refl
+over_none (Switch index) h = absurd (h index refl)
+over_none (Port e) h = refl
 
 -- the end port at a place, as a source
 pub record IsSourceAt (cells : Cells) (n : ℕ) (source : Source) : Type 0 where
@@ -78,104 +80,110 @@ source_at cells sources n source are within is =
       far_is = ap (λ (s : Source). s.far) at ∙ ap (λ (e : EndPort). far_of cells e.node e.port) (sym port_is);
     }
 
+-- the lengths of what is grouped
+pub exits_long : (cells : Cells) (held : HeldPlan) (lid : ℕ) → length (exits_of cells held lid) ≡ length (switches cells)
+exits_long cells held lid = length_map (λ g. exit_by (row_of cells g) (entry_for held lid g)) (switches cells)
+
+pub is_within : (cells : Cells) (groups : Groups) (ports : List EndPort) (far : Far) (g p : ℕ) → AreGrouped cells ports groups → far ≡ far_of cells g p
+    → IsWithin (length groups.weights.items) far
+is_within cells groups ports far g p h leads index is =
+    let less = far_within cells g p index (sym leads ∙ is) in
+    let long = h.as_many in
+    omega (arith, less, long)
+
+-- no packets
+pub none_grouped : (cells : Cells) (groups : Groups) (n : ℕ) → groups.weights.items ≡ replicate n 0 → groups.direct ≡ 0 → n ≡ length (switches cells) → AreGrouped cells [] groups
+none_grouped cells groups n are none all = record {
+  as_many = ap length are ∙ long n ∙ all;
+  sums = λ number. (
+      let nothing = none_weighed (λ i. number (Some i)) n in
+      let same = ap (weighed (λ i. number (Some i))) are in
+      let product : groups.direct * number None ≡ 0 = ap (λ d. d * number None) none ∙ (let z : 0 * number None ≡ 0 = omega arith in z) in
+      omega (arith, nothing, same, product));
+}
+  where
+    long : (k : ℕ) → length (replicate {A = ℕ} k 0) ≡ k
+    long zero = refl
+    long (suc k) = ap suc (long k)
+
+-- one packet more at a switch
+pub one_at_switch : (old new : Groups) (far : Far) (index : ℕ) → far ≡ Switch index → index < length old.weights.items
+    → new.weights.items ≡ set old.weights.items index (get_or old.weights.items index 0 + 1) → new.direct ≡ old.direct → IsGroupedWith old far new
+one_at_switch old new far index is within put stays = record {
+  as_many = ap length put ∙ length-set old.weights.items index (get_or old.weights.items index 0 + 1);
+  sums = λ number. (
+      let there : number (switch_over far) ≡ number (Some index) = ap (λ f. number (switch_over f)) is in
+      let same = ap (weighed (λ i. number (Some i))) put in
+      let one = weighed_set (λ i. number (Some i)) old.weights.items index within in
+      let direct_same = ap (λ d. d * number None) stays in
+      omega (arith, there, same, one, direct_same));
+}
+
+-- or over one wire
+pub one_direct : (old new : Groups) (far : Far) → ((index : ℕ) → far ≡ Switch index → ⊥) → new.weights.items ≡ old.weights.items → new.direct ≡ old.direct + 1
+    → IsGroupedWith old far new
+one_direct old new far not_switch stays put = record {
+  as_many = ap length stays;
+  sums = λ number. (
+      let there : number (switch_over far) ≡ number None = ap number (over_none far not_switch) in
+      let same = ap (weighed (λ i. number (Some i))) stays in
+      let one : (old.direct + 1) * number None ≡ old.direct * number None + number None = omega arith in
+      let direct_more = ap (λ d. d * number None) put in
+      omega (arith, there, same, one, direct_more));
+}
+
+-- what is over 0 is in the list
+pub in_list : (weights : List ℕ) (index : ℕ) → 1 ≤ get_or weights index 0 → index < length weights
+in_list [] index some = absurd (omega arith)
+in_list (w ∷ weights) zero some = omega arith
+in_list (w ∷ weights) (suc index) some = let rest = in_list weights index some in omega arith
+
+-- where a packet is
+pub at_switch : (groups : Groups) (far : Far) (index : ℕ) → far ≡ Switch index → 1 ≤ packets_at groups (switch_over far) → 1 ≤ get_or groups.weights.items index 0
+at_switch groups far index is some = subst (λ (f : Far). 1 ≤ packets_at groups (switch_over f)) is some
+
+-- the first end ports that pass a test
+module _ (cells : Cells) (test : EndPort → Bool) where
+  abbrev pub first_of : ℕ → List EndPort
+  first_of n = filter test (take n (end_ports cells))
+
+  first_more : (n : ℕ) (e : EndPort) → n < length (end_ports cells) → e ≡ get_or (end_ports cells) n e → first_of (n + 1) ≡ first_of n ++ cond (test e) (e ∷ []) []
+  first_more n e less is =
+      ap (filter test) (take_more (end_ports cells) n e less ∙ ap (λ x. take n (end_ports cells) ++ x ∷ []) (sym is))
+      ∙ filter-append test (take n (end_ports cells)) (e ∷ [])
+
+  pub one_more : (n : ℕ) (e : EndPort) (far : Far) (old new : Groups) → AreGrouped cells (first_of n) old → n < length (end_ports cells) → e ≡ get_or (end_ports cells) n e
+      → test e ≡ true → far ≡ far_of cells e.node e.port → IsGroupedWith old far new → AreGrouped cells (first_of (n + 1)) new
+  one_more n e far old new h less is does leads w = record {
+    as_many = w.as_many ∙ h.as_many;
+    sums = λ number. (
+        let its : EndPort → ℕ = by_switch cells number in
+        let more = ap (sum_by its) (first_more n e less is ∙ ap (λ t. first_of n ++ cond t (e ∷ []) []) does) ∙ sum_by_push its (first_of n) e in
+        let own : number (switch_over far) ≡ its e = ap (λ f. number (switch_over f)) leads in
+        let before = h.sums number in
+        let with_it = w.sums number in
+        omega (arith, more, own, before, with_it));
+  }
+
+  pub none_more : (n : ℕ) (e : EndPort) (groups : Groups) → AreGrouped cells (first_of n) groups → n < length (end_ports cells) → e ≡ get_or (end_ports cells) n e
+      → test e ≡ false → AreGrouped cells (first_of (n + 1)) groups
+  none_more n e groups h less is does_not =
+      subst (λ (ps : List EndPort). AreGrouped cells ps groups)
+      (sym (first_more n e less is ∙ ap (λ t. first_of n ++ cond t (e ∷ []) []) does_not ∙ append-nil (first_of n))) h
+
+  pub all_more : (n : ℕ) (groups : Groups) → AreGrouped cells (first_of n) groups → length (end_ports cells) ≤ n → AreGrouped cells (filter test (end_ports cells)) groups
+  all_more n groups h past = subst (λ (ps : List EndPort). AreGrouped cells (filter test ps) groups) (take_all n (end_ports cells) past) h
+
+pub past_all : (cells : Cells) (sources : List Source) (n : ℕ) → sources ≡ map (source_of cells) (end_ports cells) → length sources ≤ n → length (end_ports cells) ≤ n
+past_all cells sources n are past = let long = ap length are ∙ length_map (source_of cells) (end_ports cells) in omega (arith, long, past)
+
 module _ (cells : Cells) (held : HeldPlan) (line : HeldLid) where
   abbrev exits : List (Option Exit)
   exits = exits_of cells held line.lid
 
-  -- the ways of the packets of the first end ports
-  abbrev ways_by : ℕ → List Way
-  ways_by n = map (way_of cells held line) (filter (reaches cells held line) (take n (end_ports cells)))
-
-  pub record GroupedSoFar (n : ℕ) (weights : List ℕ) (direct : ℕ) : Type 0 where
-    pub as_many : length weights ≡ length exits
-    pub sums : (number : Way → ℕ) → sum_by number (ways_by n) ≡ weighed (λ i. number (way_from exits i)) weights + direct * number one_wire
-
-  pub none_grouped : (weights : List ℕ) (n : ℕ) → weights ≡ replicate n 0 → n ≡ length exits → GroupedSoFar 0 weights 0
-  none_grouped weights n are all = record {
-    as_many = ap length are ∙ long n ∙ all;
-    sums = λ number. (
-        let none = none_weighed (λ i. number (way_from exits i)) n in
-        let same = ap (weighed (λ i. number (way_from exits i))) are in
-        omega (arith, none, same));
-  }
-    where
-      long : (k : ℕ) → length (replicate {A = ℕ} k 0) ≡ k
-      long zero = refl
-      long (suc k) = ap suc (long k)
-
-  ways_more : (n : ℕ) (e : EndPort) → n < length (end_ports cells) → e ≡ get_or (end_ports cells) n e
-      → ways_by (n + 1) ≡ ways_by n ++ cond (reaches cells held line e) (way_of cells held line e ∷ []) []
-  ways_more n e h is =
-      let test : EndPort → Bool = reaches cells held line in
-      ap (λ xs. map (way_of cells held line) (filter test xs)) (take_more (end_ports cells) n e h ∙ ap (λ x. take n (end_ports cells) ++ x ∷ []) (sym is))
-      ∙ ap (map (way_of cells held line)) (filter-append test (take n (end_ports cells)) (e ∷ []))
-      ∙ map-append (way_of cells held line) (filter test (take n (end_ports cells))) (cond (test e) (e ∷ []) [])
-      ∙ ap (λ xs. ways_by n ++ xs) (elim (test e) as (λ t. map (way_of cells held line) (cond t (e ∷ []) []) ≡ cond t (way_of cells held line e ∷ []) []) [
-        | true ↦ refl
-        | false ↦ refl
-      ])
-
-  one_way : (n : ℕ) (e : EndPort) → n < length (end_ports cells) → e ≡ get_or (end_ports cells) n e → reaches cells held line e ≡ true
-      → (number : Way → ℕ) → sum_by number (ways_by (n + 1)) ≡ sum_by number (ways_by n) + number (way_of cells held line e)
-  one_way n e h is does number =
-      ap (sum_by number) (ways_more n e h is ∙ ap (λ t. ways_by n ++ cond t (way_of cells held line e ∷ []) []) does)
-      ∙ sum_by_push number (ways_by n) (way_of cells held line e)
-
-  pub one_at_switch : (n : ℕ) (e : EndPort) (weights new : List ℕ) (direct after index : ℕ) → GroupedSoFar n weights direct → n < length (end_ports cells)
-      → e ≡ get_or (end_ports cells) n e → reaches cells held line e ≡ true → far_of cells e.node e.port ≡ Switch index → index < length weights
-      → new ≡ set weights index (get_or weights index 0 + 1) → after ≡ direct → GroupedSoFar (n + 1) new after
-  one_at_switch n e weights new direct after index h less is does far within put stays = record {
-    as_many = ap length put ∙ length-set weights index (get_or weights index 0 + 1) ∙ h.as_many;
-    sums = λ number. (
-        let more = one_way n e less is does number in
-        let way : number (way_of cells held line e) ≡ number (way_from exits index) = ap (λ f. number (way_over exits f)) far in
-        let before = h.sums number in
-        let same = ap (weighed (λ i. number (way_from exits i))) put in
-        let one = weighed_set (λ i. number (way_from exits i)) weights index within in
-        let direct_same = ap (λ d. d * number one_wire) stays in
-        omega (arith, more, way, before, same, one, direct_same));
-  }
-
-  pub one_direct : (n : ℕ) (e : EndPort) (weights new : List ℕ) (direct after : ℕ) → GroupedSoFar n weights direct → n < length (end_ports cells)
-      → e ≡ get_or (end_ports cells) n e → reaches cells held line e ≡ true → way_over exits (far_of cells e.node e.port) ≡ one_wire
-      → new ≡ weights → after ≡ direct + 1 → GroupedSoFar (n + 1) new after
-  one_direct n e weights new direct after h less is does over stays put = record {
-    as_many = ap length stays ∙ h.as_many;
-    sums = λ number. (
-        let more = one_way n e less is does number in
-        let way : number (way_of cells held line e) ≡ number one_wire = ap number over in
-        let before = h.sums number in
-        let same = ap (weighed (λ i. number (way_from exits i))) stays in
-        let one : (direct + 1) * number one_wire ≡ direct * number one_wire + number one_wire = omega arith in
-        let direct_more = ap (λ d. d * number one_wire) put in
-        omega (arith, more, way, before, same, one, direct_more));
-  }
-
-  pub none_more : (n : ℕ) (e : EndPort) (weights new : List ℕ) (direct after : ℕ) → GroupedSoFar n weights direct → n < length (end_ports cells)
-      → e ≡ get_or (end_ports cells) n e → reaches cells held line e ≡ false → new ≡ weights → after ≡ direct → GroupedSoFar (n + 1) new after
-  none_more n e weights new direct after h less is not_it stays direct_stays = record {
-    as_many = ap length stays ∙ h.as_many;
-    sums = λ number.
-        ap (sum_by number) (ways_more n e less is ∙ ap (λ t. ways_by n ++ cond t (way_of cells held line e ∷ []) []) not_it ∙ append-nil (ways_by n))
-        ∙ h.sums number ∙ sym (λ i. weighed (λ k. number (way_from exits k)) (stays i) + direct_stays i * number one_wire);
-  }
-
-  pub all_grouped : (n : ℕ) (weights : List ℕ) (direct : ℕ) → GroupedSoFar n weights direct → length (end_ports cells) ≤ n
-      → AreGrouped exits (ways_to cells held line) weights direct
-  all_grouped n weights direct h past = record {
-    as_many = h.as_many;
-    sums = λ number. ap (λ xs. sum_by number (map (way_of cells held line) (filter (reaches cells held line) xs))) (sym (take_all n (end_ports cells) past)) ∙ h.sums number;
-  }
-
-  pub exits_long : length exits ≡ length (switches cells)
-  exits_long = length_map (λ g. exit_by (row_of cells g) (entry_for held line.lid g)) (switches cells)
-
-  pub within_weights : (n first : ℕ) (source : Source) (weights : List ℕ) (direct : ℕ) → IsSourceAt cells n source → GroupedSoFar n weights direct
-      → source.far ≡ Switch first → first < length weights
-  within_weights n first source weights direct at h is =
-      let less = far_within cells source.port.node source.port.port first (sym at.far_is ∙ is) in
-      let long = h.as_many ∙ exits_long in
-      omega (arith, less, long)
+  -- the packets that are delivered
+  abbrev pub delivered : List EndPort
+  delivered = filter (reaches cells held line) (end_ports cells)
 
   -- whether the packet of an end port arrives, by the end that is found
   pub arrives_there : (port : EndPort) (ends : List (Option End)) (n : ℕ) (e : EndPort) (arrives : Bool) → AreBrought cells held line.lid ends → port ≡ line.port
@@ -185,19 +193,37 @@ module _ (cells : Cells) (held : HeldPlan) (line : HeldLid) where
       let end = found_at cells held line.lid ends n e h less ∙ ap (end_for cells held line.lid) (sym is) in
       ap (reaches_if line e) (ap (is_at line.port) (sym end) ∙ ap (λ p. is_at p (get_or ends n None)) (sym own) ∙ sym found)
 
-  pub past_all : (sources : List Source) (n : ℕ) → sources ≡ map (source_of cells) (end_ports cells) → length sources ≤ n → length (end_ports cells) ≤ n
-  past_all sources n are past = let long = ap length are ∙ length_map (source_of cells) (end_ports cells) in omega (arith, long, past)
+  -- the number for the way of a packet
+  abbrev over_ways : (Way → ℕ) → Option ℕ → ℕ
+  over_ways number None = number one_wire
+  over_ways number (Some index) = number (way_from exits index)
 
-  -- and so they are counted
-  pub counted_ways : (column : List (Option Exit)) (weights : List ℕ) (direct : ℕ) (old new : Tally) → column ≡ exits
-      → AreGrouped exits (ways_to cells held line) weights direct → IsCountedMore (256 * length column) old (grouped column weights direct) new
+  by_way : (number : Way → ℕ) (far : Far) → number (way_over exits far) ≡ over_ways number (switch_over far)
+  by_way number Nothing = refl
+  by_way number (Switch index) = refl
+  by_way number (Port e) = refl
+
+  over_ports : (number : Way → ℕ) (ports : List EndPort) → sum_by number (map (way_of cells held line) ports) ≡ sum_by (by_switch cells (over_ways number)) ports
+  over_ports number [] = refl
+  over_ports number (e ∷ ports) =
+      let rest = over_ports number ports in
+      let here = by_way number (far_of cells e.node e.port) in
+      let ways = sum_by-cons number (way_of cells held line e) (map (way_of cells held line) ports) in
+      let these = sum_by-cons (by_switch cells (over_ways number)) e ports in
+      omega (arith, rest, here, ways, these)
+
+  -- the groups are counted
+  pub counted_ways : (column : List (Option Exit)) (weights : List ℕ) (groups : Groups) (old new : Tally) → column ≡ exits → weights ≡ groups.weights.items
+      → AreGrouped cells delivered groups → IsCountedMore (256 * length column) old (grouped column weights groups.direct) new
       → IsCountedMore (256 * length (switches cells)) old (λ number. sum_by number (ways_to cells held line)) new
-  counted_ways column weights direct old new are g more = λ sums before.
-      let all : 256 * length exits ≡ 256 * length (switches cells) = ap (λ n. 256 * n) exits_long in
-      let here : IsCountedMore (256 * length exits) old (grouped exits weights direct) new =
-      subst (λ (xs : List (Option Exit)). IsCountedMore (256 * length xs) old (grouped xs weights direct) new) are more in
-      counted_as (256 * length (switches cells)) (λ number. sums number + grouped exits weights direct number)
+  counted_ways column weights groups old new are same g more = λ sums before.
+      let all : 256 * length exits ≡ 256 * length (switches cells) = ap (λ n. 256 * n) (exits_long cells held line.lid) in
+      let these : Sum = grouped exits weights groups.direct in
+      let here : IsCountedMore (256 * length exits) old these new =
+      subst (λ (xs : List (Option Exit)). IsCountedMore (256 * length xs) old (grouped xs weights groups.direct) new) are more in
+      counted_as (256 * length (switches cells)) (λ number. sums number + these number)
       (λ number. sums number + sum_by number (ways_to cells held line)) new
-      (λ number. ap (λ k. sums number + k) (sym (g.sums number)))
-      (subst (λ (k : ℕ). IsCounted k (λ number. sums number + grouped exits weights direct number) new) all
+      (λ number. ap (λ k. sums number + k)
+      (ap (λ ws. grouped exits ws groups.direct number) same ∙ sym (over_ports number delivered ∙ g.sums (over_ways number))))
+      (subst (λ (k : ℕ). IsCounted k (λ number. sums number + these number) new) all
       (here sums (subst (λ (k : ℕ). IsCounted k sums old) (sym all) before)))

@@ -1,3 +1,4 @@
 pub mod Figures
+pub mod Groups
 pub mod Tally
 pub mod Ways

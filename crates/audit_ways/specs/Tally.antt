@@ -1,6 +1,5 @@
 -- What is counted of ways, and of packets by the switches to which they come first.
 use Rattle.std.specs.Prelude.{◌≡◌, ◌≤◌, ◌↔◌, ◌+◌, ◌*◌, ℕ, suc, List, [], ◌∷◌, Option, count_by, length, max, nat_lt, slice_index, ◌==◌, if◌then◌else◌}
-use Rattle.std.specs.List.{sum_by}
 use Rattle.port_graph.specs.declared.exit.Exit.{Exit}
 use Rattle.audit_ways.specs.declared.tally.Tally.{Tally}
 use Rattle.audit_ways.specs.Ways.{Way, one_wire, times_on, way_from}
@@ -41,11 +40,6 @@ weighed number (weight ∷ weights) = weight * number 0 + weighed (λ i. number 
 -- the sum over ways that begin at switches as often as their weights say, and over those of one wire
 abbrev pub grouped : List (Option Exit) → List ℕ → ℕ → Sum
 grouped exits weights direct number = weighed (λ i. number (way_from exits i)) weights + direct * number one_wire
-
--- some ways by the switches at which they begin
-pub record AreGrouped (exits : List (Option Exit)) (ways : List Way) (weights : List ℕ) (direct : ℕ) : Type 0 where
-  pub as_many : length weights ≡ length exits
-  pub sums : (number : Way → ℕ) → sum_by number ways ≡ grouped exits weights direct number
 
 -- more ways are counted
 abbrev pub IsCountedMore : ℕ → Tally → Sum → Tally → Type 0

@@ -4,6 +4,7 @@
 
 mod figures;
 mod groups;
+mod roster;
 mod tally;
 mod walk;
 mod ways;

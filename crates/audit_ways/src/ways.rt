@@ -1,14 +1,17 @@
-ghost use Rattle.std.specs.Prelude.{◌≡◌, ◌/◌, ◌*◌, IfOk, OnOk, length, map, slice_index};
+ghost use Rattle.std.specs.Prelude.{◌≡◌, ◌/◌, ◌*◌, true, IfOk, OnOk, length, map, slice_index};
 ghost use Rattle.std.specs.List.{sum_by};
 ghost use Rattle.fact_store.specs.View.{cells_of};
 ghost use Rattle.subnet_view.specs.Reading.{switches};
+ghost use Rattle.audit.specs.Network.{far_of};
 ghost use Rattle.audit.specs.Steps.{AreBlocks};
 ghost use Rattle.audit_ways.specs.Figures.{IsTotal};
+ghost use Rattle.audit_ways.specs.Groups.{AreGrouped, adapters};
 ghost use Rattle.audit_ways.specs.Tally.{IsCounted, IsCountedMore};
-ghost use Rattle.audit_ways.specs.Ways.{IsToldOfWays, channels_of, is_to_switch, ways_of, ways_to};
+ghost use Rattle.audit_ways.specs.Ways.{IsToldOfWays, channels_of, is_target, is_to_switch, ways_of, ways_to};
 
 use crate::figures::{Figures, Total};
-use crate::groups::{group_packets, is_target};
+use crate::groups::{Groups, group_packets, senders};
+use crate::roster::{roster, target_among};
 use crate::tally::Tally;
 use audit::{Blocks, Far, Network};
 use plan_file::HeldLid;
@@ -24,8 +27,9 @@ pub struct WayFigures {
 }
 
 /// How far packets go between adapter ports, and how evenly they load the channels. Takes what `Network::ends` and
-/// `Network::exits` do for each LID, a walk over all blocks for each 64, a step for each two adapter ports, and for each
-/// LID a walk from each switch at which an adapter lies. Refused for want of memory, and where 64 bits are too few.
+/// `Network::exits` do for each LID, a walk over all blocks for each 64, for each LID a walk from each switch at which an
+/// adapter lies, and a step for each end port where not all packets for the LID are delivered. Refused for want of memory,
+/// and where 64 bits are too few.
 pub fn figures_of_ways(alloc: Global, network: &Network) -> Result<WayFigures, AllocError>
     ensures { IfOk result (IsToldOfWays (cells_of network.now.facts) network.now.held) }
 {
@@ -43,35 +47,57 @@ fn tally_of(alloc: Global, network: &Network) -> Result<Tally, AllocError>
 {
     let channels = network.switch_count().checked_mul(256).ok_or(AllocError)?;
     let mut tally = Tally::new(alloc, channels)?;
+    let roster = roster(alloc, network)?;
+    let mut senders = senders(alloc, network)?;
     let mut blocks = network.blocks(alloc, 0)?;
     for line in network.lids() {
         blocks = network.blocks_for(alloc, blocks, line.lid)?;
-        if is_target(network, &line.port) {
-            add_ways(alloc, &mut tally, network, &blocks, line)?;
+        if let Some(far) = target_among(&roster, &line.port) {
+            add_ways(
+                alloc,
+                &mut tally,
+                &mut senders,
+                network,
+                &blocks,
+                line,
+                &far,
+            )?;
         }
     }
     Ok(tally)
 }
 
-/// Counts those for the LID of a line.
+/// Counts those for the LID of a line, the wire in whose port leads there. Takes the packets from all adapter ports, and
+/// leaves them as they were.
 fn add_ways(
     alloc: Global,
     tally: &mut Tally,
+    senders: &mut Groups,
     network: &Network,
     blocks: &Blocks,
     line: &HeldLid,
+    far: &Far,
 ) -> Result<(), AllocError>
     requires held { AreBlocks network.now.held blocks.now.number blocks.now.rows.items }
     requires number { blocks.now.number ≡ line.now.lid / 64 }
     requires channels { length tally.old.loads.items ≡ 256 * length (switches (cells_of network.now.facts)) }
-    ensures { OnOk result (IsCountedMore (256 * length (switches (cells_of network.now.facts))) tally.old
+    requires senders { AreGrouped (cells_of network.now.facts) (adapters (cells_of network.now.facts)) senders.old }
+    requires target { is_target (cells_of network.now.facts) line.now.port ≡ true }
+    requires far { far.now ≡ far_of (cells_of network.now.facts) line.now.port.node line.now.port.port }
+    ensures ways { OnOk result (IsCountedMore (256 * length (switches (cells_of network.now.facts))) tally.old
         (λ number. sum_by number (ways_to (cells_of network.now.facts) network.now.held line.now)) tally.new) }
+    ensures senders { OnOk result
+        (AreGrouped (cells_of network.now.facts) (adapters (cells_of network.now.facts)) senders.new) }
 {
     let ends = network.ends(alloc, blocks, line)?;
     let exits = network.exits(alloc, blocks, line.lid)?;
-    let mut weights = vec![in alloc; 0u64; network.switch_count()]?;
-    let direct = group_packets(&mut weights, network, line, &ends)?;
-    tally.add(&exits, &weights, direct)
+    if ends.first_elsewhere().is_some() {
+        let groups = group_packets(alloc, network, line, &ends)?;
+        return tally.add(&exits, &groups.weights, groups.direct);
+    }
+    senders.leave(far);
+    tally.add(&exits, &senders.weights, senders.direct)?;
+    senders.join(far)
 }
 
 /// Counts the loads of the channels of a network.

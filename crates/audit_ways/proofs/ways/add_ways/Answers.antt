@@ -1,30 +1,44 @@
 -- The packets are grouped by the network's exits.
-use Rattle.std.proofs.Common.{◌≡◌, ◌∙◌, ◌++◌, List, ℕ, length, take, drop, sym, ap, subst, arith}
-use Rattle.std.proofs.Math.Seq.{take-append_seam}
+use Rattle.std.proofs.Common.{◌∙◌, sym, subst}
 use Rattle.std.proofs.lemmas.Result.{on_ok_weaker}
 use Rattle.fact_store.specs.View.{cells_of}
-use Rattle.audit.specs.Exits.{exits_of}
-use Rattle.audit_ways.specs.Tally.{AreGrouped}
-use Rattle.audit_ways.specs.Ways.{ways_to}
-use Rattle.audit_ways.proofs.Grouped.{counted_ways}
+use Rattle.audit_ways.specs.Groups.{IsWithin, adapters}
+use Rattle.audit_ways.proofs.Grouped.{counted_ways, is_within}
+use Rattle.audit_ways.proofs.Senders.{none_is, own_there, without_own}
 use Rattle.audit_ways.proofs.ways.add_ways.Goals as goal
 
-pub returns : goal.returns
-returns c =
+pub returns-then-is_some-clause-ways : goal.returns-then-is_some-clause-ways
+returns-then-is_some-clause-ways c =
     let cells = cells_of c.args.network.now.facts in
+    on_ok_weaker c.add.result
+    (counted_ways cells c.args.network.now.held c.args.line.now c.deref.result.now c.deref-then-is_some.result.now c.in_ok-groups.groups c.args.tally.now c.add.new.self
+    (c.deref.ensures.value ∙ c.in_ok-exits.ensures) c.deref-then-is_some.ensures.value c.in_ok-groups.ensures)
+    c.add.ensures
+
+pub leave-requires : goal.leave-requires
+leave-requires c =
+    own_there c.args.network.now.facts c.args.network.now.held c.args.line.now c.args.far.now c.requires.target c.requires.far c.args.senders.now c.requires.senders
+
+pub join-requires : goal.join-requires
+join-requires c =
+    let cells = cells_of c.args.network.now.facts in
+    let port = c.args.line.now.port in
+    subst (λ count. IsWithin count c.args.far.now) c.leave.ensures.as_many
+    (is_within cells c.args.senders.now (adapters cells) c.args.far.now port.node port.port c.requires.senders c.requires.far)
+
+pub returns-clause-ways : goal.returns-clause-ways
+returns-clause-ways c =
+    let facts = c.args.network.now.facts in
     let held = c.args.network.now.held in
     let line = c.args.line.now in
-    let direct = c.in_ok-direct.direct in
-    let new = c.group_packets.new.weights in
-    let rest = drop (length new) c.in_ok-weights.weights.items in
-    let long : c.in_ok-weights.weights.len ≡ length new =
-    omega (arith, c.group_packets.auto.weights, ap length c.deref_mut.ensures.value, c.in_ok-weights.weights.ok.0) in
-    let kept : take c.in_ok-weights.weights.len (new ++ rest) ≡ new = ap (λ n. take n (new ++ rest)) long ∙ take-append_seam new rest in
+    let ends = c.in_ok-ends.ends in
+    let less = c.leave.new.self in
+    let none = sym c.first_elsewhere.ensures ∙ none_is c.first_elsewhere.result (sym c.is_some.ensures ∙ c.if-is_some.false) in
     let grouped =
-    subst (λ (xs : List ℕ). AreGrouped (exits_of cells held line.lid) (ways_to cells held line) xs direct) (sym (c.deref-2.ensures.value ∙ kept))
-    c.in_ok-direct.ensures in
-    on_ok_weaker c.add.result
-    (λ more.
-    counted_ways cells held line c.deref.result.now c.deref-2.result.now direct c.args.tally.now c.add.new.self
-    (c.deref.ensures.value ∙ c.in_ok-exits.ensures) grouped more)
-    c.add.ensures
+    without_own facts held line c.args.far.now c.requires.target c.requires.far c.args.senders.now less ends.port ends.ends c.in_ok-ends.ensures.0
+    c.in_ok-ends.ensures.1 none c.requires.senders c.leave.ensures in
+    on_ok_weaker c.join.result
+    (λ back.
+    counted_ways (cells_of facts) held line c.deref-2.result.now c.deref-3.result.now less c.args.tally.now c.add-2.new.self
+    (c.deref-2.ensures.value ∙ c.in_ok-exits.ensures) c.deref-3.ensures.value grouped c.in_ok-add.ensures)
+    c.join.ensures

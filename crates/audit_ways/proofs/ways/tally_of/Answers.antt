@@ -1,10 +1,26 @@
 -- A LID more.
-use Rattle.std.proofs.Common.{◌≡◌, ◌+◌, ◌∙◌, sym, subst}
+use Rattle.std.proofs.Common.{◌+◌, List, sym, subst}
 use Rattle.fact_store.specs.View.{cells_of}
+use Rattle.audit.specs.declared.far.Source.{Source}
+use Rattle.audit_ways.specs.declared.groups.Groups.{Groups}
 use Rattle.audit_ways.specs.declared.tally.Tally.{Tally}
+use Rattle.audit_ways.specs.Groups.{AreGrouped, IsRoster, adapters}
+use Rattle.audit_ways.proofs.Rosters.{a_target, no_target}
 use Rattle.audit_ways.proofs.Surveyed.{AreSurveyed, line_surveyed, line_passed}
 use Rattle.audit_ways.proofs.ways.tally_of.Goals as goal
-use Rattle.audit_ways.proofs.ways.tally_of.Goals.{then-is_target+in_ok-add_ways, else-is_target}
+use Rattle.audit_ways.proofs.ways.tally_of.Goals.{in-Some+in_ok-add_ways, in_default}
+
+pub add_ways-requires-clause-target : goal.add_ways-requires-clause-target
+add_ways-requires-clause-target c =
+    let cells = cells_of c.args.network.now.facts in
+    let roster = subst (λ (ss : List Source). IsRoster cells ss) (sym c.deref.ensures.value) c.in_ok-roster.ensures in
+    (a_target cells c.deref.result.now c.line-item.result.port roster c.in-Some.far c.in-Some.ensures).0
+
+pub add_ways-requires-clause-far : goal.add_ways-requires-clause-far
+add_ways-requires-clause-far c =
+    let cells = cells_of c.args.network.now.facts in
+    let roster = subst (λ (ss : List Source). IsRoster cells ss) (sym c.deref.ensures.value) c.in_ok-roster.ensures in
+    (a_target cells c.deref.result.now c.line-item.result.port roster c.in-Some.far c.in-Some.ensures).1
 
 pub loop-line-preserved : goal.loop-line-preserved
 loop-line-preserved c =
@@ -15,14 +31,23 @@ loop-line-preserved c =
     let n = c.loop-line.line-index in
     let rows = c.in_ok-blocks-2.blocks.rows.items in
     let number = c.in_ok-blocks-2.blocks.number in
+    let before = c.loop-line.invariant.0 in
+    let roster = subst (λ (ss : List Source). IsRoster cells ss) (sym c.deref.ensures.value) c.in_ok-roster.ensures in
     let Surveyed = λ (t : Tally). AreSurveyed cells held lines number rows (n + 1) t in
-    elim c.if-is_target.branch [
-      | then-is_target+in_ok-add_ways w ↦
-          subst Surveyed (sym w.tally-is)
-          (line_surveyed cells held lines c.loop-line.blocks.number number c.loop-line.blocks.rows.items rows n line c.loop-line.tally w.add_ways.new.tally
-          c.loop-line.invariant c.in_ok-blocks-2.ensures.0 c.loop-line-test.true c.line-item.is (sym w.if-is_target.ensures) w.in_ok-add_ways.ensures)
-      | else-is_target w ↦
-          subst Surveyed (sym w.tally-is)
-          (line_passed cells held lines c.loop-line.blocks.number number c.loop-line.blocks.rows.items rows n line c.loop-line.tally
-          c.loop-line.invariant c.in_ok-blocks-2.ensures.0 c.loop-line-test.true c.line-item.is (sym w.if-is_target.ensures))
+    let Grouped = λ (g : Groups). AreGrouped cells (adapters cells) g in
+    elim c.match-target_among.branch [
+      | in-Some+in_ok-add_ways w ↦ (
+        subst Surveyed (sym w.tally-is)
+            (line_surveyed cells held lines c.loop-line.blocks.number number c.loop-line.blocks.rows.items rows n line c.loop-line.tally w.add_ways.new.tally
+            before c.in_ok-blocks-2.ensures.0 c.loop-line-test.true c.line-item.is
+            (a_target cells c.deref.result.now line.port roster w.in-Some.far w.in-Some.ensures).0 w.in_ok-add_ways.ensures.ways),
+        subst Grouped (sym w.senders-is) w.in_ok-add_ways.ensures.senders,
+      )
+      | in_default w ↦ (
+        subst Surveyed (sym w.tally-is)
+            (line_passed cells held lines c.loop-line.blocks.number number c.loop-line.blocks.rows.items rows n line c.loop-line.tally
+            before c.in_ok-blocks-2.ensures.0 c.loop-line-test.true c.line-item.is
+            (no_target cells c.deref.result.now line.port roster c.target_among.result c.target_among.ensures w.in_default.not-Some)),
+        subst Grouped (sym w.senders-is) c.loop-line.invariant.1,
+      )
     ]
