@@ -14,8 +14,8 @@ use std::alloc::{AllocError, Global};
 /// The mark of each vertex, where it has a way to the target; the vertices are numbered by their place in an order, and up
 /// is to a lesser number. At first the target alone is `Down`, at cost 0. At each round a vertex without a mark gets one
 /// where an exit of it leads up to a vertex that was marked before the round, or down to one that was marked `Down`: `Up`
-/// where one of these exits leads up, and else `Down`. Takes at most two steps for each exit, and one for each vertex in each round; there
-/// are as many rounds as the greatest cost, and one.
+/// where one of these exits leads up, and else `Down`. Takes a step for each vertex in each round, and one or two for each exit of the
+/// vertices that the last round marked or of those that are left, whichever are fewer; there are as many rounds as the greatest cost, and one.
 pub fn marks(alloc: Global, exits: &Exits, target: usize) -> Result<MarkLists, AllocError>
     requires vertex { target < length exits.now }
     requires lead { LeadToVertices exits.now }
@@ -127,11 +127,10 @@ fn taken_marks(
 {
     let mut next = Vec::with_capacity(alloc, exits.len())?;
     for vertex in 0..exits.len() {
-        let mark = match marks[vertex] {
-            Some(mark) => Some(mark),
-            None => mark_at(exits.at(vertex), vertex, marks, round),
-        };
-        next.push(mark)?;
+        match marks[vertex] {
+            Some(_) => next.push(marks[vertex])?,
+            None => next.push(mark_at(exits.at(vertex), vertex, marks, round))?,
+        }
     }
     Ok(next)
 }

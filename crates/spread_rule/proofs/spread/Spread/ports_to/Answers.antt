@@ -1,9 +1,8 @@
-use Rattle.std.proofs.Common.{◌≡◌, ◌<◌, ◌+◌, ℕ, List, Vec, Global, sym, ap, ◌∙◌, subst, arith, length, map, get_or}
+use Rattle.std.proofs.Common.{◌≡◌, ◌<◌, ℕ, List, Vec, Global, sym, ap, ◌∙◌, subst, arith, length, map, get_or}
 use Rattle.std.proofs.lemmas.List.{get_or_default, length-map, map-set}
 use Rattle.std.specs.Prelude.{Option}
 use Rattle.port_graph.specs.declared.exit.Exit.{Exit}
 use Rattle.port_graph.specs.Heads.{LeadToVertices}
-use Rattle.spread_routes.specs.declared.mark.Mark.{Mark}
 use Rattle.spread_routes.specs.LabelLaws.{IsSymmetric}
 use Rattle.spread_routes.specs.Orders.{place_of}
 use Rattle.spread_routes.specs.RoundMarks.{AreMarksAfter}
@@ -11,7 +10,7 @@ use Rattle.spread_rule.specs.declared.standing.Standing.{Standing}
 use Rattle.spread_rule.specs.Rule.{by_places, grown_places}
 use Rattle.spread_rule.specs.Spread.{Grading}
 use Rattle.spread_rule.specs.Tables.{IsPlacedBy}
-use Rattle.spread_rule.proofs.Ports.{AreSoFar, lead, place_there, row_at, row_more, rows_are_there, symmetric}
+use Rattle.spread_rule.proofs.Ports.{AreSoFar, lead, place_there, row_more, rows_are_there, symmetric}
 use Rattle.spread_rule.proofs.spread.Spread.ports_to.Goals as goal
 
 abbrev Is : (exits : List (List Exit)) (places : List ℕ) (standings : List Standing) → Grading → Type 0
