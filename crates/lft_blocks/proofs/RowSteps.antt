@@ -1,5 +1,5 @@
 -- Rows as they are written, from target to target, and the tables that they make.
-use Rattle.std.proofs.Common.{◌≡◌, ◌≢◌, ◌<◌, ◌≤◌, ◌+◌, ◌*◌, ◌⊎◌, ◌++◌, ℕ, zero, suc, List, [], ◌∷◌, inl, inr, refl, sym, ap, ◌∙◌, subst, arith, Bool, true, false, cond, ◌==◌, length, map, get_or, replicate, All, add-one}
+use Rattle.std.proofs.Common.{◌≡◌, ◌≢◌, ◌<◌, ◌≤◌, ◌+◌, ◌*◌, ◌⊎◌, ◌++◌, ℕ, zero, suc, List, [], ◌∷◌, inl, inr, refl, sym, ap, ◌∙◌, subst, arith, Bool, true, false, cond, ◌==◌, length, map, get_or, replicate, All, add-one, append-nil}
 use Rattle.std.proofs.lemmas.Bool.{cases_eq, cases_lt, eq-eqb, eqb-true, ne_eqb, lt-ltb, le-ltb}
 use Rattle.std.proofs.lemmas.List.{get_or-map, get_or_default, get_or-replicate, get_or-set_other, get_or-set_same, length-map, length-replicate, length-set}
 use Rattle.std.proofs.lemmas.List.FromFn.{fill_by_all, get_or-map-range_with_len, length-map-range_with_len}
@@ -18,7 +18,7 @@ use Rattle.lft_blocks.specs.declared.home.Home.{Home}
 use Rattle.lft_blocks.specs.Entries.{Next, port_to, entry, blocks}
 use Rattle.lft_blocks.specs.Homes.{meant, AreWithin, ArePlaced}
 use Rattle.lft_blocks.specs.Plan.{SwitchTable, tables_of}
-use Rattle.lft_blocks.specs.Rows.{AreRows, AreWritten, IsRow, block_of_row, blocks_of_row, entry_before, entry_by, home_port, is_home_at, lids_at, placed_home, table_of_row, written}
+use Rattle.lft_blocks.specs.Rows.{AreLidsAt, AreRows, AreWritten, IsRow, block_of_row, blocks_of_row, entry_before, entry_by, home_port, is_home_at, lids_at, lids_before, placed_home, table_of_row, written}
 use Rattle.lft_blocks.proofs.HomeTables.{same_test}
 
 -- what is written of LIDs whose ports are those of a function ----------------------------------
@@ -207,6 +207,32 @@ lids_more test n b is =
     let last : 0 + n ≡ n = omega arith in
     ap (filter test) (ap (numbers_from 0) (add-one n) ∙ numbers_more 0 n ∙ ap (λ x. numbers_from 0 n ++ x ∷ []) last)
     ∙ filter_more test (numbers_from 0 n) n ∙ ap (λ c. filter test (numbers_from 0 n) ++ cond c (n ∷ []) []) is
+
+-- it is a LID at the switch of its home alone
+pub lid_added : (homes : List (Option Home)) (n switches : ℕ) (home : Home) (old new : List (List ℕ)) → slice_index_or homes n None ≡ Some home → home.switch < switches
+    → new ≡ slice_set old home.switch (get_or old home.switch [] ++ n ∷ []) → AreLidsAt homes n switches old → AreLidsAt homes (n + 1) switches new
+lid_added homes n switches home old new is below set are = subst (AreLidsAt homes (n + 1) switches) (sym set) (record {
+  all = length-set old home.switch (get_or old home.switch [] ++ n ∷ []) ∙ are.all;
+  each = λ t h. elim (cases_eq home.switch t) [
+    | inl same ↦
+        subst (λ (x : ℕ). get_or (slice_set old home.switch (get_or old home.switch [] ++ n ∷ [])) x [] ≡ lids_before homes (n + 1) x) same
+        (get_or-set_same old home.switch (get_or old home.switch [] ++ n ∷ []) [] (omega (arith, are.all))
+        ∙ ap (λ xs. xs ++ n ∷ []) (are.each home.switch below)
+        ∙ sym (lids_more (λ lid. is_home_at home.switch (slice_index_or homes lid None)) n true (ap (is_home_at home.switch) is ∙ eq-eqb home.switch home.switch refl)))
+    | inr other ↦
+        let none = ap (is_home_at t) is ∙ ne_eqb home.switch t other in
+        get_or-set_other old home.switch t (get_or old home.switch [] ++ n ∷ []) [] (λ e. other (sym e)) ∙ are.each t h
+        ∙ sym (append-nil (lids_before homes n t)) ∙ sym (lids_more (λ lid. is_home_at t (slice_index_or homes lid None)) n false none)
+  ];
+})
+
+pub lid_passed : (homes : List (Option Home)) (n switches : ℕ) (lists : List (List ℕ)) → slice_index_or homes n None ≡ None
+    → AreLidsAt homes n switches lists → AreLidsAt homes (n + 1) switches lists
+lid_passed homes n switches lists is are = record {
+  all = are.all;
+  each = λ t h. are.each t h ∙ sym (append-nil (lids_before homes n t))
+      ∙ sym (lids_more (λ lid. is_home_at t (slice_index_or homes lid None)) n false (ap (is_home_at t) is));
+}
 
 -- the LIDs at a switch have entries
 pub lids_within : (homes : List (Option Home)) (t : ℕ) → All (λ lid. lid < length homes) (lids_at homes t)

@@ -20,6 +20,15 @@ is_home_at t (Some h) = h.switch == t
 abbrev pub lids_at : List (Option Home) → ℕ → List ℕ
 lids_at homes t = filter (λ lid. is_home_at t (slice_index_or homes lid None)) (numbers_from 0 (length homes))
 
+-- those of them less than n
+abbrev pub lids_before : List (Option Home) → ℕ → ℕ → List ℕ
+lids_before homes n t = filter (λ lid. is_home_at t (slice_index_or homes lid None)) (numbers_from 0 n)
+
+-- at each of so many switches
+pub record AreLidsAt (homes : List (Option Home)) (n switches : ℕ) (lists : List (List ℕ)) : Type 0 where
+  pub all : length lists ≡ switches
+  pub each : (t : ℕ) → t < switches → slice_index_or lists t [] ≡ lids_before homes n t
+
 -- the port of a home, and 255 of none
 abbrev pub home_port : Option Home → ℕ
 home_port None = 255

@@ -1,6 +1,7 @@
 //! The entries of switches, LID by LID, written from target to target.
 ghost use Rattle.std.specs.Prelude.{◌≡◌, ◌<◌, ◌≤◌, ◌+◌, ◌*◌, [], All, IfOk, length, map, replicate};
-ghost use Rattle.lft_blocks.specs.Rows.{AreWritten, block_of_row, blocks_of_row, entry_by, home_port, is_home_at, lids_at, written};
+ghost use Rattle.lft_blocks.specs.Homes.{AreWithin};
+ghost use Rattle.lft_blocks.specs.Rows.{AreLidsAt, AreWritten, block_of_row, blocks_of_row, entry_by, home_port, written};
 
 use crate::block::NO_WAY;
 use crate::home::Home;
@@ -120,32 +121,34 @@ fn entry(homes: &[Option<Home>], is_own: bool, lid: Lid, port: Option<PortNum>) 
     }
 }
 
-/// The LIDs whose homes lie at the switch at an index, rising.
-pub(crate) fn lids_at(
+/// The LIDs whose homes lie at each of so many switches, rising.
+pub(crate) fn lids_by_switch(
     alloc: Global,
     homes: &[Option<Home>],
-    target: usize,
-) -> Result<Vec<Lid>, AllocError>
-    requires { length homes.now ≤ 65536 }
-    ensures { IfOk result (λ lids. lids.items ≡ lids_at homes.now target) }
+    switches: usize,
+) -> Result<Vec<Vec<Lid>>, AllocError>
+    requires few { length homes.now ≤ 65536 }
+    requires within { AreWithin switches homes.now }
+    ensures { IfOk result (λ lists. AreLidsAt homes.now (length homes.now) switches (map (λ lids. lids.items) lists.items)) }
 {
-    let mut lids = Vec::new(alloc);
+    let mut lists = no_lids(alloc, switches)?;
     for lid in 0..homes.len() {
-        if is_home_at(homes[lid], target) {
-            lids.push(Lid::new(lid as u16))?;
+        if let Some(home) = homes[lid] {
+            lists[home.switch].push(Lid::new(lid as u16))?;
         }
     }
-    Ok(lids)
+    Ok(lists)
 }
 
-/// Whether a home lies at the switch at an index.
-fn is_home_at(home: Option<Home>, target: usize) -> bool
-    ensures { result ≡ is_home_at target home }
+/// So many lists of no LIDs.
+fn no_lids(alloc: Global, switches: usize) -> Result<Vec<Vec<Lid>>, AllocError>
+    ensures { IfOk result (λ lists. map (λ lids. lids.items) lists.items ≡ replicate switches []) }
 {
-    match home {
-        Some(home) => home.switch == target,
-        None => false,
+    let mut lists = Vec::with_capacity(alloc, switches)?;
+    for _ in 0..switches {
+        lists.push(Vec::new(alloc))?;
     }
+    Ok(lists)
 }
 
 /// Writes the entries of all switches for these LIDs, whose homes lie at the switch at an index.

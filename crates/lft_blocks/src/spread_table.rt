@@ -10,7 +10,7 @@ ghost use Rattle.lft_blocks.specs.Plan.{tables_of};
 ghost use Rattle.lft_blocks.specs.Rows.{AreRows, placed_home, table_of_row};
 
 use crate::home::Home;
-use crate::row::{Row, lids_at, write_rows};
+use crate::row::{Row, lids_by_switch, write_rows};
 use crate::table::Table;
 use smp_bytes::{Guid, PortNum};
 use spread_rule::{Spread, bearing_switches};
@@ -52,16 +52,17 @@ fn rows(
     switches: usize,
 ) -> Result<Vec<Row>, AllocError>
     requires switches { switches ≡ length spread.now.graph }
+    requires within { AreWithin switches homes.now }
     requires few { length homes.now ≤ 65536 }
     ensures { IfOk result (λ rows. AreRows (spread_at spread.now).next
         (guids_of spread.now.graph) homes.now switches rows.items) }
 {
     let mut rows = no_ways(alloc, switches, homes.len())?;
     let mut ports = no_ports(alloc, switches)?;
+    let lids = lids_by_switch(alloc, homes, switches)?;
     for target in 0..switches {
-        let lids = lids_at(alloc, homes, target)?;
-        spread.ports_to(alloc, target, &lids, &mut ports)?;
-        write_rows(&mut rows, homes, &lids, &ports, target);
+        spread.ports_to(alloc, target, &lids[target], &mut ports)?;
+        write_rows(&mut rows, homes, &lids[target], &ports, target);
     }
     Ok(rows)
 }

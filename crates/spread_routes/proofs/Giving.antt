@@ -1,38 +1,26 @@
 -- The vertices that were marked in a round give the marks of the next: those that the exits of each vertex give it.
 use Rattle.std.proofs.Common.{◌≡◌, ◌≢◌, ◌≤◌, ◌<◌, ◌⊎◌, ◌&&◌, ◌||◌, ◌==◌, ℕ, zero, suc, List, [], ◌∷◌}
 use Rattle.std.proofs.Common.{inl, inr, refl, sym, ap, ◌∙◌, subst, arith, true, false, Bool, cond, length}
-use Rattle.std.proofs.lemmas.Bool.{and_parts, cases_eq, eq-eqb, eqb-true, ltb-true}
+use Rattle.std.proofs.lemmas.Bool.{and_parts, cases_eq, eq-eqb, eqb-true}
 use Rattle.std.proofs.lemmas.Option.{none-some, same_Some}
 use Rattle.std.proofs.lemmas.List.{get_or-set_same, get_or-set_other, length-set, with_items_is}
 use Rattle.std.specs.declared.vec.Vec.{Vec}
 use Rattle.std.specs.Vec.{with_items}
-use Rattle.std.specs.Prelude.{Option, None, Some, nat_lt, Contains, slice_index_or, slice_set}
+use Rattle.std.specs.Prelude.{Option, None, Some, nat_lt, Contains, slice_set}
 use Rattle.std.specs.List.{list_any}
 use Rattle.smp_bytes.proofs.Members.{contains_cases, contains_here, contains_later, contains_none}
 use Rattle.port_graph.specs.declared.exit.Exit.{Exit}
-use Rattle.port_graph.specs.Heads.{exits_at, heads, LeadToVertices}
+use Rattle.port_graph.specs.Heads.{exits_at, LeadToVertices}
 use Rattle.port_graph.proofs.Lists.{contains_map, contains_mapped}
 use Rattle.port_graph.proofs.WalkLemmas.{list_any_at, list_any_found}
 use Rattle.spread_routes.specs.declared.mark.Label.{Label}
 use Rattle.spread_routes.specs.declared.mark.Label.TheVariants.{Up, Down}
 use Rattle.spread_routes.specs.declared.mark.Mark.{Mark}
-use Rattle.spread_routes.specs.Giving.{give, give_all, give_by, give_first, give_from, given, label_of}
+use Rattle.spread_routes.specs.Giving.{IsFront, give, give_all, give_by, give_first, give_from, given, known, label_of}
 use Rattle.spread_routes.specs.LabelLaws.{IsSymmetric}
 use Rattle.spread_routes.specs.Labels.{gives_from, is_down, mark_or}
 use Rattle.spread_routes.specs.RoundMarks.{AreMarksAfter, IsRound, gives_at, mark_at}
 use Rattle.spread_routes.proofs.Rounds.{newest, not_later}
-use Rattle.spread_routes.proofs.RoundSteps.{after_round}
-
--- the mark of a vertex in a list
-abbrev pub known : List (Option Mark) → ℕ → Option Mark
-known marks s = slice_index_or marks s None
-
--- no mark is of a later round, and where an exit gives a mark to a vertex without one it leads to a vertex that was marked in this round
-pub record IsFront (exits : List (List Exit)) (round : ℕ) (old : List (Option Mark)) : Type 0 where
-  pub all : length old ≡ length exits
-  pub older : (s : ℕ) (m : Mark) → s < length exits → known old s ≡ Some m → m.cost ≤ round
-  pub newest : (s : ℕ) (e : Exit) → s < length exits → known old s ≡ None → Contains (exits_at exits s) e → gives_at s old e ≡ true
-      → (m : Mark) × (known old e.to ≡ Some m) × (m.cost ≡ round)
 
 -- a mark that the next round may give
 record IsGivenTo (exits : List (List Exit)) (round : ℕ) (old : List (Option Mark)) (s : ℕ) (m : Mark) : Type 0 where
@@ -382,16 +370,13 @@ is_front exits t lead round marks a = record {
       (n.0, there ∙ n.1, n.2);
 }
 
--- so a round more, written over the marks, leaves those after one more
-pub a_round_more : {Z : Type 0} (exits : List (List Exit)) (t : ℕ) → LeadToVertices exits → IsSymmetric exits → (round next : ℕ) → next ≡ suc round
+-- so a round more, written over the marks, is one
+pub a_round_given : {Z : Type 0} (exits : List (List Exit)) → LeadToVertices exits → IsSymmetric exits → (round : ℕ)
     → (marks : Vec (Option Mark) Z) (seen new : List (Option Mark)) → seen ≡ marks.items → length seen ≡ marks.len → new ≡ give_first exits round seen (length exits)
-    → AreMarksAfter exits t round marks.items → AreMarksAfter exits t next (with_items marks new).items
-a_round_more exits t lead symmetric round next is marks seen new same long made a =
-    let front = is_front exits t lead round marks.items a in
+    → IsFront exits round marks.items → IsRound exits (suc round) marks.items (length exits) (with_items marks new).items
+a_round_given exits lead symmetric round marks seen new same long made front =
     let are : new ≡ give_first exits round marks.items (length exits) = made ∙ ap (λ ms. give_first exits round ms (length exits)) same in
     let kept : length new ≡ marks.len =
-    ap length are ∙ (first_amid exits lead symmetric round marks.items front (length exits) (omega arith)).all ∙ sym a.all ∙ sym (ap length same) ∙ long in
+    ap length are ∙ (first_amid exits lead symmetric round marks.items front (length exits) (omega arith)).all ∙ sym front.all ∙ sym (ap length same) ∙ long in
     let written : (with_items marks new).items ≡ give_first exits round marks.items (length exits) = with_items_is marks new kept ∙ are in
-    let done = is_round exits lead symmetric round marks.items front in
-    after_round exits t lead round next marks.items (with_items marks new).items is a
-    (subst (λ (x : ℕ × List (Option Mark)). IsRound exits x.0 marks.items (length exits) x.1) (λ i. (sym is i, sym written i)) done)
+    subst (IsRound exits (suc round) marks.items (length exits)) (sym written) (is_round exits lead symmetric round marks.items front)

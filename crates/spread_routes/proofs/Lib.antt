@@ -5,6 +5,7 @@ pub mod Tallies
 pub mod RoundSteps
 pub mod Giving
 pub mod Nearer
+pub mod Listed
 pub mod Unique
 pub mod Reach
 pub mod Steps

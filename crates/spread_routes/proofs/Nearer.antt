@@ -22,19 +22,19 @@ alike true b to from = sym (to refl)
 alike false true to from = from refl
 alike false false to from = refl
 
-none_pass : {X : Type 0} (p : X → Bool) (xs : List X) → ((x : X) → p x ≡ false) → filter p xs ≡ []
+pub none_pass : {X : Type 0} (p : X → Bool) (xs : List X) → ((x : X) → p x ≡ false) → filter p xs ≡ []
 none_pass p [] fails = refl
 none_pass p (x ∷ xs) fails = (λ i. cond (fails x i) (x ∷ filter p xs) (filter p xs)) ∙ none_pass p xs fails
 
 -- what an exit to a cost one less leads to
-nearer_known : (s : ℕ) (e : Exit) (m : Mark) (o : Option Mark) → is_nearer_by s e (Some m) o ≡ true
+pub nearer_known : (s : ℕ) (e : Exit) (m : Mark) (o : Option Mark) → is_nearer_by s e (Some m) o ≡ true
     → (to : Mark) × (o ≡ Some to) × (suc to.cost ≡ m.cost) × ((nat_lt e.to s || is_down to.label) ≡ true)
 nearer_known s e m None h = absurd (cc)
 nearer_known s e m (Some to) h =
     let both = and_parts (suc to.cost == m.cost) (nat_lt e.to s || is_down to.label) h in
     (to, refl, eqb-true (suc to.cost) m.cost both.0, both.1)
 
-not_nearer : (s : ℕ) (e : Exit) (o : Option Mark) → is_nearer_by s e None o ≡ false
+pub not_nearer : (s : ℕ) (e : Exit) (o : Option Mark) → is_nearer_by s e None o ≡ false
 not_nearer s e None = refl
 not_nearer s e (Some m) = refl
 

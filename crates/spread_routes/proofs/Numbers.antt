@@ -1,12 +1,12 @@
 -- What is made of each of the numbers below a bound.
-use Rattle.std.proofs.Common.{◌≡◌, ◌<◌, ◌+◌, ◌++◌, ℕ, zero, suc, List, [], ◌∷◌, refl, sym, ap, ◌∙◌, arith, length, map, get_or, take}
+use Rattle.std.proofs.Common.{◌≡◌, ◌<◌, ◌+◌, ◌++◌, ℕ, zero, suc, List, [], ◌∷◌, refl, sym, ap, ap₂, ◌∙◌, arith, length, map, get_or, take}
 use Rattle.std.proofs.lemmas.List.{ext_get_or, get_or-map, map-append, take_more}
 use Rattle.std.specs.Prelude.{None, Option, unwrap_or}
 use Rattle.port_graph.specs.declared.exit.Exit.{Exit}
 use Rattle.port_graph.specs.Heads.{AreDistances}
 use Rattle.port_graph.proofs.Counts.{length_map}
 use Rattle.spread_routes.specs.declared.class.Tally.{Tally}
-use Rattle.spread_routes.specs.Classes.{AreTallies, distance, untold}
+use Rattle.spread_routes.specs.Classes.{AreTallies, class_at, class_by, class_of, classes_of, distance, untold}
 use Rattle.spread_routes.specs.Firsts.{distances_from}
 use Rattle.spread_routes.specs.Heights.{height_of, heights_of}
 use Rattle.spread_routes.specs.Orders.{numbers_from}
@@ -44,3 +44,15 @@ pub heights_are : (exits : List (List Exit)) (bearing : List ℕ) (tallies : Lis
 heights_are exits bearing tallies are =
     made_all (height_of exits bearing) (length exits) (map (λ t. unwrap_or t.near 0) tallies) 0 (length_map (λ (t : Tally). unwrap_or t.near 0) tallies ∙ are.all)
     (λ i h. get_or-map (λ (t : Tally). unwrap_or t.near 0) tallies i untold 0 (omega (arith, are.all)) ∙ ap (λ t. unwrap_or t.near 0) (are.each i h))
+
+-- what is made alike of each number below a bound
+pub made_alike : (f g : ℕ → ℕ) (n : ℕ) → ((i : ℕ) → i < n → f i ≡ g i) → map f (numbers_from 0 n) ≡ map g (numbers_from 0 n)
+made_alike f g n same = made_all g n (map f (numbers_from 0 n)) 0 (numbers_long f 0 n) (λ i h. made_at f n i 0 h ∙ same i h)
+
+-- classes, by tallies
+pub classes_are : (exits : List (List Exit)) (bearing roots : List ℕ) (near_roots near_bearing : List Tally) → AreTallies exits roots near_roots
+    → AreTallies exits bearing near_bearing
+    → map (class_at near_roots near_bearing) (numbers_from 0 (length near_roots)) ≡ classes_of exits bearing roots
+classes_are exits bearing roots near_roots near_bearing one other =
+    ap (λ n. map (class_at near_roots near_bearing) (numbers_from 0 n)) one.all
+    ∙ made_alike (class_at near_roots near_bearing) (class_of exits bearing roots) (length exits) (λ s h. ap₂ class_by (one.each s h) (other.each s h))

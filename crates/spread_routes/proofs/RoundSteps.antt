@@ -1,12 +1,10 @@
 -- Round by round, over a list of marks.
-use Rattle.std.proofs.Common.{◌≡◌, ◌≤◌, ◌<◌, ◌&&◌, ◌||◌, ◌==◌, ℕ, zero, suc, ◌+◌, List, [], ◌∷◌}
-use Rattle.std.proofs.Common.{◌++◌, inl, inr, refl, sym, ap, ◌∙◌, subst, arith, true, false, Bool, cond, length, replicate}
+use Rattle.std.proofs.Common.{◌≡◌, ◌≤◌, ◌<◌, ◌&&◌, ◌||◌, ◌==◌, ℕ, zero, suc, List, [], ◌∷◌}
+use Rattle.std.proofs.Common.{inl, inr, refl, sym, ap, ◌∙◌, subst, arith, true, false, Bool, cond, length, replicate}
 use Rattle.std.proofs.lemmas.Bool.{cases_eq, eq-eqb, eqb-true}
 use Rattle.std.proofs.lemmas.Option.{same_Some}
-use Rattle.std.proofs.Math.ListN.{get_or-append}
-use Rattle.std.proofs.Math.Seq.{get_or-append_seam}
 use Rattle.std.proofs.lemmas.List.{get_or_default, get_or-replicate, get_or-set_same}
-use Rattle.std.proofs.lemmas.List.{get_or-set_other, length-append, length-replicate, length-set}
+use Rattle.std.proofs.lemmas.List.{get_or-set_other, length-replicate, length-set}
 use Rattle.std.specs.Prelude.{Option, None, Some, nat_lt, Contains, filter, slice_index_or, slice_set}
 use Rattle.std.specs.List.{list_any}
 use Rattle.smp_bytes.proofs.Members.{contains_here, contains_later}
@@ -128,7 +126,7 @@ module _ (exits : List (List Exit)) (t : ℕ) (lead : LeadToVertices exits) wher
       each = λ s l. a.each s l ∙ still (suc round) s (omega arith) l ∙ sym (still k s (omega arith) l);
     }
 
-other_test : (a b : ℕ) → (a ≡ b → ⊥) → (a == b) ≡ false
+pub other_test : (a b : ℕ) → (a ≡ b → ⊥) → (a == b) ≡ false
 other_test a b other =
     elim (a == b) as (λ r. (a == b) ≡ r → r ≡ false) [ true ↦ λ e. absurd (other (eqb-true a b e)) | false ↦ λ e. refl ] refl
 

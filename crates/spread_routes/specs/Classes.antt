@@ -38,6 +38,10 @@ quarters_of sum (suc count) = 4 * sum / suc count
 abbrev pub class_by : Tally → Tally → ℕ
 class_by roots bearing = unwrap_or roots.near (quarters_of bearing.sum bearing.count)
 
+-- by the tallies of all vertices
+abbrev pub class_at : List Tally → List Tally → ℕ → ℕ
+class_at roots bearing s = class_by (slice_index_or roots s untold) (slice_index_or bearing s untold)
+
 -- the class of a vertex
 abbrev pub class_of : List (List Exit) → List ℕ → List ℕ → ℕ → ℕ
 class_of exits bearing roots s = class_by (tally exits roots s) (tally exits bearing s)

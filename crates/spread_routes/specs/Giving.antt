@@ -1,11 +1,12 @@
 -- A round as it is gone through: the vertices that were marked in the round before give marks over their exits.
-use Rattle.std.specs.Prelude.{ℕ, zero, suc, Bool, ◌&&◌, ◌||◌, ◌==◌, nat_lt, List, [], ◌∷◌, Option, None, Some, slice_index_or, slice_set, if◌then◌else◌}
+use Rattle.std.specs.Prelude.{◌≡◌, ◌<◌, ◌≤◌, ℕ, zero, suc, Bool, true, false, length, Contains, ◌&&◌, ◌||◌, ◌==◌, nat_lt, List, [], ◌∷◌, Option, None, Some, slice_index_or, slice_set, if◌then◌else◌}
 use Rattle.port_graph.specs.declared.exit.Exit.{Exit}
 use Rattle.port_graph.specs.Heads.{exits_at}
 use Rattle.spread_routes.specs.declared.mark.Label.{Label}
 use Rattle.spread_routes.specs.declared.mark.Label.TheVariants.{Up, Down}
 use Rattle.spread_routes.specs.declared.mark.Mark.{Mark}
 use Rattle.spread_routes.specs.Labels.{is_down}
+use Rattle.spread_routes.specs.RoundMarks.{gives_at}
 
 -- the label of a mark, where a round gave it
 abbrev pub label_of : ℕ → Option Mark → Option Label
@@ -40,3 +41,19 @@ give_from exits round marks v = give_by exits v round marks (label_of round (sli
 abbrev pub give_first : List (List Exit) → ℕ → List (Option Mark) → ℕ → List (Option Mark)
 give_first exits round marks zero = marks
 give_first exits round marks (suc v) = give_from exits round (give_first exits round marks v) v
+
+-- whether a vertex is left without a mark
+abbrev pub is_left : Option Mark → Bool
+is_left None = true
+is_left (Some m) = false
+
+-- the mark of a vertex in a list
+abbrev pub known : List (Option Mark) → ℕ → Option Mark
+known marks s = slice_index_or marks s None
+
+-- no mark is of a later round, and where an exit gives a mark to a vertex without one it leads to a vertex that was marked in this round
+pub record IsFront (exits : List (List Exit)) (round : ℕ) (old : List (Option Mark)) : Type 0 where
+  pub all : length old ≡ length exits
+  pub older : (s : ℕ) (m : Mark) → s < length exits → known old s ≡ Some m → m.cost ≤ round
+  pub newest : (s : ℕ) (e : Exit) → s < length exits → known old s ≡ None → Contains (exits_at exits s) e → gives_at s old e ≡ true
+      → (m : Mark) × (known old e.to ≡ Some m) × (m.cost ≡ round)

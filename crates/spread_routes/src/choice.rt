@@ -2,7 +2,7 @@
 ghost use Rattle.std.specs.Prelude.{◌≡◌, ◌<◌, length, All, filter, OnOk};
 ghost use Rattle.spread_routes.specs.Candidates.{chosen, is_nearer};
 
-use crate::mark::{Label, Mark};
+use crate::mark_lists::MarkLists;
 use port_graph::Exit;
 use std::alloc::AllocError;
 
@@ -12,15 +12,19 @@ pub fn candidates(
     found: &mut Vec<Exit>,
     exits: &[Exit],
     vertex: usize,
-    marks: &[Option<Mark>],
+    marks: &MarkLists,
 ) -> Result<(), AllocError>
     requires vertex { vertex < length marks.now }
     requires lead { All (λ exit. exit.to < length marks.now) exits.now }
     ensures { OnOk result (found.new.items ≡ filter (is_nearer vertex marks.now) exits.now) }
 {
     found.clear();
+    let step = marks.step(vertex);
+    if step < 2 {
+        return Ok(());
+    }
     for exit in exits {
-        if is_nearer(exit, vertex, marks) {
+        if marks.is_nearer(exit, vertex, step - 1) {
             found.push(*exit)?;
         }
     }
@@ -35,21 +39,5 @@ pub fn chosen(exits: &[Exit], choice: usize) -> Option<Exit>
         None
     } else {
         exits.get(choice % exits.len()).copied()
-    }
-}
-
-/// Whether an exit of a vertex gave it its mark: it leads up, or to one marked `Down`, at a cost one less.
-fn is_nearer(exit: &Exit, vertex: usize, marks: &[Option<Mark>]) -> bool
-    requires vertex { vertex < length marks.now }
-    requires lead { exit.now.to < length marks.now }
-    ensures { result ≡ is_nearer vertex marks.now exit.now }
-{
-    match (marks[vertex], marks[exit.to]) {
-        (Some(mark), Some(to)) => {
-            to.cost < mark.cost
-                && mark.cost - to.cost == 1
-                && (exit.to < vertex || to.label == Label::Down)
-        }
-        _ => false,
     }
 }

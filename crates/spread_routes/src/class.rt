@@ -1,8 +1,11 @@
 //! How near vertices are to others, and their classes by that.
-ghost use Rattle.std.specs.Prelude.{◌≡◌, ◌<◌, ◌≤◌, ◌*◌, ◌^◌, length, All, IfOk};
+ghost use Rattle.std.specs.Prelude.{◌≡◌, ◌<◌, ◌≤◌, ◌*◌, ◌^◌, length, map, All, IfOk};
 ghost use Rattle.port_graph.specs.Heads.{LeadToVertices};
-ghost use Rattle.spread_routes.specs.Classes.{AreTallies, AreTold, HasRoom, IsTally, IsTallyOf, classes_of, class_by, quarters_of, told};
+ghost use Rattle.spread_routes.specs.Classes.{AreTallies, AreTold, HasRoom, IsTally, IsTallyOf, classes_of, class_at, class_by, quarters_of, told};
+ghost use Rattle.spread_routes.specs.Heights.{heights_of};
+ghost use Rattle.spread_routes.specs.Orders.{numbers_from};
 
+use crate::height::near_or_0;
 use port_graph::{Exits, distances};
 use std::alloc::{AllocError, Global};
 
@@ -17,25 +20,46 @@ pub(crate) struct Tally {
     pub(crate) count: usize,
 }
 
-/// The class of each vertex: its distance from the nearest root, where its component has one, else four times its mean distance
-/// from the bearing vertices of its component, cut off, and 0 where there are none. Takes a search in breadth from each root and each
-/// bearing vertex.
-pub fn classes(
+/// What vertices are ordered and led by.
+#[derive(Drop)]
+pub struct Grades {
+    /// The class of each vertex: its distance from the nearest root, where its component has one, else four times its mean distance
+    /// from the bearing vertices of its component, cut off, and 0 where there are none.
+    pub classes: Vec<u128>,
+    /// The height of each vertex: its distance from the nearest bearing vertex, and 0 where its component has none.
+    pub heights: Vec<usize>,
+}
+
+/// The classes and the heights of vertices. Takes a search in breadth from each root and each bearing vertex.
+pub fn grade(
     alloc: Global,
     exits: &Exits,
     bearing: &[usize],
     roots: &[usize],
-) -> Result<Vec<u128>, AllocError>
+) -> Result<Grades, AllocError>
     requires lead { LeadToVertices exits.now }
     requires bearing { All (λ a. a < length exits.now) bearing.now }
     requires roots { All (λ a. a < length exits.now) roots.now }
-    ensures { IfOk result (λ classes. classes.items ≡ classes_of exits.now bearing.now roots.now) }
+    ensures classes { IfOk result (λ grades. grades.classes.items ≡ classes_of exits.now bearing.now roots.now) }
+    ensures heights { IfOk result (λ grades. grades.heights.items ≡ heights_of exits.now bearing.now) }
 {
     let near_roots = tallies(alloc, exits, roots)?;
     let near_bearing = tallies(alloc, exits, bearing)?;
-    let mut classes = Vec::with_capacity(alloc, exits.len())?;
-    for vertex in 0..exits.len() {
-        classes.push(class(near_roots[vertex], near_bearing[vertex]))?;
+    let classes = classes(alloc, &near_roots, &near_bearing)?;
+    let heights = near_or_0(alloc, &near_bearing)?;
+    Ok(Grades { classes, heights })
+}
+
+/// The class of each vertex by its distances from roots and from bearing vertices.
+fn classes(alloc: Global, roots: &[Tally], bearing: &[Tally]) -> Result<Vec<u128>, AllocError>
+    requires all { length bearing.now ≡ length roots.now }
+    requires bounded { All IsTally bearing.now }
+    ensures { IfOk result (λ classes. classes.items
+        ≡ map (class_at roots.now bearing.now) (numbers_from 0 (length roots.now))) }
+{
+    let mut classes = Vec::with_capacity(alloc, roots.len())?;
+    for vertex in 0..roots.len() {
+        classes.push(class(roots[vertex], bearing[vertex]))?;
     }
     Ok(classes)
 }

@@ -1,29 +1,18 @@
 //! The heights of vertices, and the units of heights.
 ghost use Rattle.std.specs.Prelude.{◌≡◌, ◌<◌, ◌*◌, suc, map, filter, min, length, All, IfOk, unwrap_or};
 ghost use Rattle.port_graph.specs.Heads.{LeadToVertices};
-ghost use Rattle.spread_routes.specs.Heights.{greatest, heights_of, is_rise, unit_of, units_of, width_of};
+ghost use Rattle.spread_routes.specs.Heights.{greatest, is_rise, unit_of, units_of, width_of};
 ghost use Rattle.spread_routes.specs.Orders.{numbers_from};
 
-use crate::class::{Tally, tallies};
+use crate::class::Tally;
 use port_graph::{Exit, Exits};
 use std::alloc::{AllocError, Global};
 
 /// No LID is over it.
 const GREATEST_UNIT: usize = 65536;
 
-/// The height of each vertex: its distance from the nearest bearing vertex, and 0 where its component has none. Takes a search in
-/// breadth from each bearing vertex.
-pub fn heights(alloc: Global, exits: &Exits, bearing: &[usize]) -> Result<Vec<usize>, AllocError>
-    requires lead { LeadToVertices exits.now }
-    requires bearing { All (λ a. a < length exits.now) bearing.now }
-    ensures { IfOk result (λ heights. heights.items ≡ heights_of exits.now bearing.now) }
-{
-    let tallies = tallies(alloc, exits, bearing)?;
-    near_or_0(alloc, &tallies)
-}
-
 /// The least of the distances of each, and 0 where there are none.
-fn near_or_0(alloc: Global, tallies: &[Tally]) -> Result<Vec<usize>, AllocError>
+pub(crate) fn near_or_0(alloc: Global, tallies: &[Tally]) -> Result<Vec<usize>, AllocError>
     ensures { IfOk result (λ found. found.items ≡ map (λ tally. unwrap_or tally.near 0) tallies.now) }
 {
     tallies

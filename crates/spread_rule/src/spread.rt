@@ -1,9 +1,6 @@
-ghost use Rattle.std.specs.Prelude.{◌≡◌, ◌<◌, IfOk, OnOk, All, filter, length, map, option_map};
+ghost use Rattle.std.specs.Prelude.{◌≡◌, ◌<◌, IfOk, OnOk, filter, length, map, option_map};
 ghost use Rattle.port_graph.specs.Heads.{LeadToVertices, exits_at};
 ghost use Rattle.spread_routes.specs.Candidates.{chosen, is_nearer};
-ghost use Rattle.spread_routes.specs.Classes.{classes_of};
-ghost use Rattle.spread_routes.specs.Firsts.{keys_of};
-ghost use Rattle.spread_routes.specs.LabelLaws.{IsSymmetric};
 ghost use Rattle.updown_routes.specs.GraphLaws.{IsGraph};
 ghost use Rattle.spread_rule.specs.Rule.{by_index, by_places};
 ghost use Rattle.spread_rule.specs.Spread.{grading_of, number_by};
@@ -14,7 +11,7 @@ use crate::standing::{Standing, is_higher, standings};
 use port_graph::{Exit, Exits};
 use smp_bytes::{Guid, Lid, PortNum};
 use spread_routes::{
-    Key, Mark, by_places, candidates, chosen, classes, grown_order, heights, keys, marks, places,
+    Grades, Key, MarkLists, by_places, candidates, chosen, grade, grown_order, keys, marks, places,
 };
 use std::alloc::{AllocError, Global};
 use std::marker::Model;
@@ -67,8 +64,8 @@ impl<'g> Spread<'g> {
         let exits = by_index(alloc, graph)?;
         let bearing = indices(alloc, graph, bearing)?;
         let roots = indices(alloc, graph, roots)?;
-        let keys = keys_by(alloc, &exits, &bearing, &roots)?;
-        let heights = heights(alloc, &exits, &bearing)?;
+        let Grades { classes, heights } = grade(alloc, &exits, &bearing, &roots)?;
+        let keys = keys(alloc, &exits, &classes)?;
         Spread::placed(alloc, graph, &exits, keys, heights)
     }
 
@@ -130,7 +127,7 @@ impl<'g> Spread<'g> {
     /// take the place of those that were found before.
     fn ports_at(
         &self,
-        marks: &[Option<Mark>],
+        marks: &MarkLists,
         place: usize,
         lids: &[Lid],
         exits: &mut Vec<Exit>,
@@ -147,24 +144,6 @@ impl<'g> Spread<'g> {
         let is_higher = is_higher(&self.standings, &standing, exits);
         ports_of(row, exits, &standing, is_higher, lids)
     }
-}
-
-/// The keys of switches by the indices of those that bear adapters, and of roots.
-fn keys_by(
-    alloc: Global,
-    exits: &Exits,
-    bearing: &[usize],
-    roots: &[usize],
-) -> Result<Vec<Key>, AllocError>
-    requires lead { LeadToVertices exits.now }
-    requires symmetric { IsSymmetric exits.now }
-    requires bearing { All (λ a. a < length exits.now) bearing.now }
-    requires roots { All (λ a. a < length exits.now) roots.now }
-    ensures { IfOk result (λ keys.
-        keys.items ≡ keys_of exits.now (classes_of exits.now bearing.now roots.now)) }
-{
-    let classes = classes(alloc, exits, bearing, roots)?;
-    keys(alloc, exits, &classes)
 }
 
 /// The ports of the exits that LIDs take, in place of what the row held.

@@ -1,6 +1,6 @@
-use Rattle.std.proofs.Common.{◌≡◌, ◌<◌, ◌+◌, ℕ, List, Vec, Global, sym, ap, ◌∙◌, subst, arith, length, map, All}
-use Rattle.std.proofs.lemmas.List.{with_items_is}
-use Rattle.std.specs.Prelude.{Option}
+use Rattle.std.proofs.Common.{◌≡◌, ◌<◌, ◌+◌, [], ℕ, List, Vec, Global, sym, ap, ◌∙◌, subst, arith, length, map, All}
+use Rattle.std.proofs.lemmas.List.{get_or-map, length-map, with_items_is}
+use Rattle.std.specs.Prelude.{Option, slice_index_or}
 use Rattle.std.specs.Vec.{with_items}
 use Rattle.updown_routes.specs.Graph.{guids_of}
 use Rattle.updown_routes.specs.Wiring.{switch_at}
@@ -8,7 +8,8 @@ use Rattle.port_graph.proofs.Counts.{length_map}
 use Rattle.updown_routes.specs.Crossing.{Crossing}
 use Rattle.spread_rule.specs.Spread.{Grading, spread_at}
 use Rattle.spread_rule.specs.Tables.{ports_between, ports_towards}
-use Rattle.lft_blocks.specs.Rows.{AreRows, AreWritten, lids_at}
+use Rattle.lft_blocks.specs.declared.home.Home.{Home}
+use Rattle.lft_blocks.specs.Rows.{AreLidsAt, AreRows, AreWritten, lids_at}
 use Rattle.lft_blocks.proofs.RowSteps.{each_long, lids_within, rows_long, rows_more}
 use Rattle.lft_blocks.proofs.spread_table.rows.Goals as goal
 
@@ -25,12 +26,23 @@ held by lids target switches ports new all are long found =
     let count : length new ≡ switches = sym (length_map row_items new) ∙ ap length found ∙ row ∙ guids ∙ sym are in
     (count, with_items_is ports new (count ∙ sym all ∙ long))
 
+abbrev lids_items : Vec ℕ Global → List ℕ
+lids_items lids = lids.items
+
+-- a list of LIDs, as it is held
+listed : (homes : List (Option Home)) (switches t : ℕ) (lists : List (Vec ℕ Global)) (list : Vec ℕ Global) → AreLidsAt homes (length homes) switches (map lids_items lists)
+    → t < switches → list ≡ slice_index_or lists t list → list.items ≡ lids_at homes t
+listed homes switches t lists list are h is =
+    ap lids_items is ∙ sym (get_or-map lids_items lists t list [] (omega (arith, are.all, length-map lists lids_items))) ∙ are.each t h
+
 pub ports_to-requires-clause-rows : goal.ports_to-requires-clause-rows
 ports_to-requires-clause-rows c = ap length c.deref_mut.ensures.value ∙ c.loop-target.invariant.1 ∙ c.requires.switches
 
 pub write_rows-requires-clause-lids : goal.write_rows-requires-clause-lids
 write_rows-requires-clause-lids c =
-    subst (λ (xs : List ℕ). All (λ lid. lid < length c.args.homes.now) xs) (sym (c.deref-in-loop-target.ensures.value ∙ c.in_ok-lids.ensures))
+    let lids = listed c.args.homes.now c.args.switches c.loop-target.target c.in_ok-lids.lids.items c.index-in-loop-target.result.now c.in_ok-lids.ensures c.loop-target-test.true
+    c.index-in-loop-target.ensures in
+    subst (λ (xs : List ℕ). All (λ lid. lid < length c.args.homes.now) xs) (sym (c.deref-in-loop-target.ensures.value ∙ lids))
     (lids_within c.args.homes.now c.loop-target.target)
 
 pub write_rows-requires-clause-rows : goal.write_rows-requires-clause-rows
@@ -56,7 +68,11 @@ write_rows-requires-clause-ports c =
     let long : length c.loop-target.ports.items ≡ c.loop-target.ports.len = sym (ap length c.deref_mut.ensures.value) ∙ c.deref_mut.ensures.len in
     let are = held by lids c.loop-target.target c.args.switches c.loop-target.ports c.ports_to.new.rows
     c.loop-target.invariant.1 c.requires.switches long c.in_ok-ports_to.ensures in
-    let same : length lids ≡ length c.deref-in-loop-target.result.now = ap length (c.deref.ensures.value ∙ sym c.deref-in-loop-target.ensures.value) in
+    let one = listed c.args.homes.now c.args.switches c.loop-target.target c.in_ok-lids.lids.items c.index.result.now c.in_ok-lids.ensures c.loop-target-test.true c.index.ensures in
+    let two = listed c.args.homes.now c.args.switches c.loop-target.target c.in_ok-lids.lids.items c.index-in-loop-target.result.now c.in_ok-lids.ensures c.loop-target-test.true
+    c.index-in-loop-target.ensures in
+    let same : length lids ≡ length c.deref-in-loop-target.result.now =
+    ap length (c.deref.ensures.value ∙ one ∙ sym two ∙ sym c.deref-in-loop-target.ensures.value) in
     subst (λ (xs : List (Vec (Option ℕ) Global)). All (λ row. length row.items ≡ length c.deref-in-loop-target.result.now) xs) (sym (c.deref-in-loop-target-2.ensures.value ∙ are.1))
     (each_long row_items (ports_between rule lids t) c.ports_to.new.rows (guids_of by.graph) (length c.deref-in-loop-target.result.now) c.in_ok-ports_to.ensures
     (λ s. length_map (λ (lid : ℕ). rule.next lid s t) lids ∙ same))
@@ -70,13 +86,16 @@ loop-target-preserved c =
     let target = c.loop-target.target in
     let old = c.loop-target.rows in
     let new = c.write_rows.new.rows in
-    let lids = c.deref-in-loop-target.ensures.value ∙ c.in_ok-lids.ensures in
+    let lids = c.deref-in-loop-target.ensures.value
+    ∙ listed homes c.args.switches target c.in_ok-lids.lids.items c.index-in-loop-target.result.now c.in_ok-lids.ensures c.loop-target-test.true c.index-in-loop-target.ensures in
+    let asked = c.deref.ensures.value
+    ∙ listed homes c.args.switches target c.in_ok-lids.lids.items c.index.result.now c.in_ok-lids.ensures c.loop-target-test.true c.index.ensures in
     let long : length c.loop-target.ports.items ≡ c.loop-target.ports.len = sym (ap length c.deref_mut.ensures.value) ∙ c.deref_mut.ensures.len in
     let are = held by c.deref.result.now target c.args.switches c.loop-target.ports c.ports_to.new.rows
     c.loop-target.invariant.1 c.requires.switches long c.in_ok-ports_to.ensures in
     let ports : map row_items c.deref-in-loop-target-2.result.now ≡ map (ports_between (spread_at by) (lids_at homes target) (switch_at by.graph target)) guids =
     ap (map row_items) (c.deref-in-loop-target-2.ensures.value ∙ are.1) ∙ c.in_ok-ports_to.ensures
-    ∙ ap (λ (xs : List ℕ). ports_towards by xs target) (c.deref.ensures.value ∙ c.in_ok-lids.ensures) in
+    ∙ ap (λ (xs : List ℕ). ports_towards by xs target) asked in
     let to : AreWritten homes target (lids_at homes target) (map row_items c.deref-in-loop-target-2.result.now) old.items new =
     subst (λ (x : List ℕ × List (List ℕ)). AreWritten homes target x.0 (map row_items c.deref-in-loop-target-2.result.now) x.1 new)
     (λ i. (lids i, c.deref_mut-in-loop-target.ensures.value i)) c.write_rows.ensures in (

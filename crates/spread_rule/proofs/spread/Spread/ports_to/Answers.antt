@@ -1,9 +1,8 @@
-use Rattle.std.proofs.Common.{◌≡◌, ◌<◌, ◌+◌, ℕ, List, Vec, Global, sym, ap, ◌∙◌, subst, arith, length, map, get_or}
+use Rattle.std.proofs.Common.{◌≡◌, ◌<◌, ℕ, List, Vec, Global, sym, ap, ◌∙◌, subst, arith, length, map, get_or}
 use Rattle.std.proofs.lemmas.List.{get_or_default, length-map, map-set}
 use Rattle.std.specs.Prelude.{Option}
 use Rattle.port_graph.specs.declared.exit.Exit.{Exit}
 use Rattle.port_graph.specs.Heads.{LeadToVertices}
-use Rattle.spread_routes.specs.declared.mark.Mark.{Mark}
 use Rattle.spread_routes.specs.LabelLaws.{IsSymmetric}
 use Rattle.spread_routes.specs.Orders.{place_of}
 use Rattle.spread_routes.specs.RoundMarks.{AreMarksAfter}
@@ -11,7 +10,7 @@ use Rattle.spread_rule.specs.declared.standing.Standing.{Standing}
 use Rattle.spread_rule.specs.Rule.{by_places, grown_places}
 use Rattle.spread_rule.specs.Spread.{Grading}
 use Rattle.spread_rule.specs.Tables.{IsPlacedBy}
-use Rattle.spread_rule.proofs.Ports.{AreSoFar, lead, place_there, row_at, row_more, rows_are_there, symmetric}
+use Rattle.spread_rule.proofs.Ports.{AreSoFar, lead, place_there, row_more, rows_are_there, symmetric}
 use Rattle.spread_rule.proofs.spread.Spread.ports_to.Goals as goal
 
 abbrev Is : (exits : List (List Exit)) (places : List ℕ) (standings : List Standing) → Grading → Type 0
@@ -57,7 +56,7 @@ pub ports_at-requires-clause-marks : goal.ports_at-requires-clause-marks
 ports_at-requires-clause-marks c =
     let inside = c.self.inside in
     let is = subst (Is inside.exits inside.places.items inside.standings.items) c.self.view_is c.self.invariant in
-    omega (arith, ap length c.deref.ensures.value, c.in_ok-marks.ensures.all, ap length is.by_place)
+    omega (arith, c.in_ok-marks.ensures.all, ap length is.by_place)
 
 pub loop-index-init : goal.loop-index-init
 loop-index-init c = record { all = length-map c.args.rows.now row_items ∙ c.requires.rows; each = λ i h. absurd (omega arith) }
@@ -71,10 +70,8 @@ loop-index-preserved c =
     let places = c.as_slice-places.result.now in
     let below : i < length by.graph = omega (arith, c.loop-index-test.true, ap length c.as_slice-places.ensures.value, is.all_places) in
     let row = c.ports_at.new.row in
-    let are : row.items ≡ row_at by c.args.lids.now c.in_ok-marks.marks.items (get_or places i 0) =
-    c.in_ok-ports_at.ensures ∙ ap (λ (ms : List (Option Mark)). row_at by c.args.lids.now ms (get_or places i 0)) c.deref.ensures.value in
-    row_more by c.args.lids.now c.in_ok-marks.marks.items places i row.items (map row_items c.loop-index.rows) _ below (map-set row_items c.loop-index.rows i row) are
-    c.loop-index.invariant
+    row_more by c.args.lids.now c.in_ok-marks.marks places i row.items (map row_items c.loop-index.rows) _ below (map-set row_items c.loop-index.rows i row)
+    c.in_ok-ports_at.ensures c.loop-index.invariant
 
 pub returns : goal.returns
 returns c =
@@ -86,9 +83,9 @@ returns c =
     omega (arith, c.loop-index-test.false, c.loop-index.auto.index-end, ap length c.as_slice-places.ensures.value, is.all_places) in
     let at : c.index.result.now ≡ place_of (grown_places by.graph by.keys) target =
     c.index.ensures ∙ sym (get_or_default inside.places.items target 0 c.index.result.now (omega (arith, c.requires.target, is.all_places))) ∙ is.place target c.requires.target in
-    let marks : AreMarksAfter (by_places by.graph by.keys) (place_of (grown_places by.graph by.keys) target) (length (by_places by.graph by.keys)) c.in_ok-marks.marks.items =
-    subst (λ (x : List (List Exit) × ℕ). AreMarksAfter x.0 x.1 (length x.0) c.in_ok-marks.marks.items) (λ i. (is.by_place i, at i)) c.in_ok-marks.ensures in
-    let all = subst (λ (x : List ℕ × ℕ). AreSoFar by c.args.lids.now c.in_ok-marks.marks.items x.0 x.1 (map row_items c.loop-index.rows))
+    let marks : AreMarksAfter (by_places by.graph by.keys) (place_of (grown_places by.graph by.keys) target) (length (by_places by.graph by.keys)) c.in_ok-marks.marks =
+    subst (λ (x : List (List Exit) × ℕ). AreMarksAfter x.0 x.1 (length x.0) c.in_ok-marks.marks) (λ i. (is.by_place i, at i)) c.in_ok-marks.ensures in
+    let all = subst (λ (x : List ℕ × ℕ). AreSoFar by c.args.lids.now c.in_ok-marks.marks x.0 x.1 (map row_items c.loop-index.rows))
     (λ i. (c.as_slice-places.ensures.value i, ended i)) c.loop-index.invariant in
-    rows_are_there by is.is_graph c.args.lids.now target c.in_ok-marks.marks.items inside.places.items (map row_items c.loop-index.rows)
+    rows_are_there by is.is_graph c.args.lids.now target c.in_ok-marks.marks inside.places.items (map row_items c.loop-index.rows)
     c.requires.target is.all_places is.place marks all

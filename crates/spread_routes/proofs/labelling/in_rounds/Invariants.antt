@@ -1,5 +1,5 @@
 use Rattle.spread_routes.specs.RoundMarks.{AreMarksAfter}
-use Rattle.spread_routes.proofs.labelling.marks.Given as goal
+use Rattle.spread_routes.proofs.labelling.in_rounds.Given as goal
 
 -- the marks after so many rounds
 abbrev pub invariant-loop-round : goal.invariant-loop-round
