@@ -52,7 +52,7 @@ impl<'g> Model for Spread<'g> {
 
 impl<'g> Spread<'g> {
     /// The routes by the switches that bear adapters, and by roots, of which there may be none. GUIDs that are no switch of the graph
-    /// count for nothing. Takes a search in breadth from each switch, and others from each that bears adapters and each root.
+    /// count for nothing. Takes a search in breadth from each switch that bears adapters and each root, and two for each component.
     pub fn of(
         alloc: Global,
         graph: &'g Graph,
