@@ -1,5 +1,5 @@
 """Tables of two switches and of a ring of five, and how an audit of them ends. Worked out by hand from docs/FORMATS.md."""
-from built_program import Ended, prints, refused
+from built_program import Ended, prints, refused, says
 
 # Adapters 100 at port 2 of switch 10 and 200 at port 2 of switch 20, which have a wire between their ports 1.
 SWITCHES, ADAPTERS = (0x10, 0x20), (0x100, 0x200)
@@ -244,3 +244,20 @@ FAULTS = (
 def faults():
     for text, said in FAULTS:
         yield text.replace("%", "f" * 128), refused(f"TABLES: {said}")
+
+
+def orders():
+    """What is said first: all files are opened, then the tables are read and judged, then the files in turn."""
+    return [
+        ("NONE KNOWN", says(4, "NONE: cannot open")),
+        ("TABLES NONE", says(4, "NONE: cannot open")),
+        ("FAULTY NONE", says(4, "NONE: cannot open")),
+        (". KNOWN", says(4, ".: read failed")),
+        (". EMPTY", says(4, ".: read failed")),
+        ("FAULTY .", refused("FAULTY: line 1: syntax")),
+        ("FAULTY EMPTY", refused("FAULTY: line 1: syntax")),
+        ("TABLES .", says(4, ".: read failed")),
+        ("TABLES EMPTY", refused("EMPTY: bad magic")),
+        ("TABLES KNOWN EMPTY", refused("EMPTY: bad magic")),
+        ("TABLES EMPTY .", refused("EMPTY: bad magic")),
+    ]

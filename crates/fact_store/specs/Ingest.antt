@@ -1,11 +1,14 @@
--- What a store that is given a report answers.
-use Rattle.std.specs.Prelude.{◌≡◌, Option, None, Some, Result, Ok, Err}
+-- Why a store that is given a report refuses it.
+use Rattle.std.specs.Prelude.{Bool, true, false, Option, option_map}
+use Rattle.fact_store.specs.declared.report.Report.{Report}
 use Rattle.fact_store.specs.declared.ingest.IngestFault.{IngestFault}
-use Rattle.fact_store.specs.declared.ingest.IngestFault.TheVariants.{Report, Memory}
-use Rattle.fact_store.specs.declared.report_fault.ReportFault.{ReportFault}
+use Rattle.fact_store.specs.declared.ingest.IngestFault.TheVariants as refuses
+use Rattle.fact_store.specs.Report.{report_fault}
 
--- a report with a fault is refused for the first one; one without is taken, unless memory is wanting
-abbrev pub JudgesReport : {T : Type 0} → Result T IngestFault → Option ReportFault → Type 0
-JudgesReport (Ok value) fault = fault ≡ None
-JudgesReport (Err (Report first)) fault = fault ≡ Some first
-JudgesReport (Err Memory) fault = fault ≡ None
+-- the first fault of the report
+abbrev pub ingest_fault : Report → Option IngestFault
+ingest_fault report = option_map refuses.Report (report_fault report)
+
+abbrev pub is_memory : IngestFault → Bool
+is_memory refuses.Memory = true
+is_memory _ = false

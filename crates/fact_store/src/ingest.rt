@@ -1,6 +1,6 @@
 ghost use Rattle.std.specs.Prelude.{◌≡◌, OnOk, OnErr};
 ghost use Rattle.fact_store.specs.Merge.{merge};
-ghost use Rattle.fact_store.specs.Report.{report_fault, sightings_of};
+ghost use Rattle.fact_store.specs.Report.{sightings_of};
 ghost use Rattle.fact_store.specs.View.{view};
 
 use crate::report::Report;
@@ -20,11 +20,12 @@ pub enum IngestFault {
 }
 
 impl Store {
-    ghost use Rattle.fact_store.specs.Ingest.{JudgesReport};
+    ghost use Rattle.smp_bytes.specs.Judges.{JudgesButFor};
+    ghost use Rattle.fact_store.specs.Ingest.{ingest_fault, is_memory};
 
     /// Takes in what a report tells. Want of memory is the last check.
     pub fn ingest(&mut self, report: &Report) -> Result<(), IngestFault>
-        ensures judged { JudgesReport result (report_fault report.now) }
+        ensures judged { JudgesButFor is_memory result (ingest_fault report.now) }
         ensures ok { OnOk result (self.new ≡ merge self.old (view (sightings_of report.now))) }
         ensures err { OnErr result (self.new ≡ self.old) }
     {

@@ -6,9 +6,7 @@ use Rattle.schedule_file.specs.declared.fault.ScheduleFault.TheVariants.{Syntax,
 -- the fault is the text's first one, or memory was refused
 abbrev pub IsRefused : {T : Type 0} → ScheduleFault → Result T ScheduleFault → Type 0
 IsRefused Memory told = Unit {0}
-IsRefused (Syntax line) told = told ≡ Err (Syntax line)
-IsRefused (Name line) told = told ≡ Err (Name line)
-IsRefused (Seat line) told = told ≡ Err (Seat line)
+IsRefused fault told = told ≡ Err fault
 
 -- a call answers exactly what is told, a value or the first fault, unless memory was refused
 abbrev pub Reads : {T : Type 0} → Result T ScheduleFault → Result T ScheduleFault → Type 0

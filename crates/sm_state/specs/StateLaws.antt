@@ -35,7 +35,7 @@ MastersStay =
     → (Is control.Acknowledge e × ((stepped Master e).state ≡ Standby))
     ⊎ (Is control.Discover e × ((stepped Master e).state ≡ Discovering))
 
--- an acknowledgement goes out exactly where a handover came to a manager that is standby or master, which is master then
+-- an acknowledgement goes out only for a handover, and who sends it is master then
 abbrev pub OthersAreTold : Type 0
 OthersAreTold =
     (state : SmState) (e : Event) → (stepped state e).message ≡ Some message.Acknowledge

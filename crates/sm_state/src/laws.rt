@@ -8,8 +8,7 @@ pub fn wins_is_an_order()
     ensures { WinsIsAnOrder }
 {}
 
-/// An event that the state has no move for leaves the state and sends nothing, and a control is refused
-/// exactly where it is one of these.
+/// An event that the state has no move for leaves the state and sends nothing.
 pub fn nothing_else_moves()
     ensures { NothingElseMoves }
 {}
@@ -20,7 +19,7 @@ pub fn masters_stay()
     ensures { MastersStay }
 {}
 
-/// An acknowledgement is sent exactly by who is master then because a master handed over to it.
+/// An acknowledgement is sent by none but who is master then because another handed over to it.
 pub fn others_are_told()
     ensures { OthersAreTold }
 {}
