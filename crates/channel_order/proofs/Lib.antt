@@ -1,4 +1,5 @@
 pub mod Bits
+pub mod Circles
 pub mod Columns
 pub mod Given
 pub mod Made

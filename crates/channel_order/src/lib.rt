@@ -8,6 +8,7 @@ mod known;
 pub mod laws;
 mod numbers;
 mod order;
+mod shortest;
 mod waits;
 
 pub use column::add_column;

@@ -3,6 +3,7 @@ ghost use Rattle.channel_order.specs.Orders.{IsOrder};
 
 use crate::circle::circle_from;
 use crate::numbers::{first_without, numbers};
+use crate::shortest::shortest_circle;
 use crate::waits::Waits;
 use std::alloc::{AllocError, Global};
 
@@ -24,6 +25,10 @@ pub fn order_channels(alloc: Global, waits: &Waits) -> Result<ChannelOrder, Allo
     let numbers = numbers(alloc, waits)?;
     match first_without(&numbers) {
         None => Ok(ChannelOrder::Rises(numbers)),
-        Some(first) => Ok(ChannelOrder::Circle(circle_from(alloc, waits, &numbers, first)?)),
+        Some(first) => {
+            let known = circle_from(alloc, waits, &numbers, first)?;
+            let shortest = shortest_circle(alloc, waits, &numbers, known)?;
+            Ok(ChannelOrder::Circle(shortest))
+        }
     }
 }
