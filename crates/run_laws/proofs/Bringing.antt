@@ -17,7 +17,7 @@ use Rattle.written_laws.specs.Managing.{Begin, CanBe, Managing, Write, after_man
 use Rattle.written_laws.specs.Pings.{BringsUp}
 use Rattle.written_laws.specs.Sets.{IsOwnSet, OwnSets}
 use Rattle.written_laws.specs.Written.{AllKeep, plan_at}
-use Rattle.written_laws.proofs.Generations.{nothing_newest}
+use Rattle.written_laws.proofs.Generations.{nothing_found, nothing_newest}
 use Rattle.written_laws.proofs.Rests.{new_managers_rest}
 use Rattle.sm_run.specs.Commands.{command_run, commands_run, sweep_run, write_run}
 use Rattle.sm_run.specs.World.{SeatedValue, WorldValue, called_run, sent}
@@ -160,7 +160,7 @@ module _ (nodes : List Node) (w : WorldValue) (s : SeatedValue) (between after :
           writing_begins = begins;
           keep = keeps;
         };
-        knew_nothing = refl;
+        knew_nothing = nothing_found;
         alone = swept.no_sweeps;
         sweep = b.sweep;
         is_last = ap (λ (x : Manager). x.sweep) swept_is ∙ b.is_last;

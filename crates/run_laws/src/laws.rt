@@ -54,8 +54,8 @@ pub fn held_plans_are_reached()
     ensures { HeldPlansAreReached }
 {}
 
-/// So it prints where the fabric is as a manager left it that knew nothing, has swept with every
-/// answer, and has written the plan of what it was told.
+/// So it prints where the fabric is as a manager left it that held no facts, at whatever floor, has
+/// swept with every answer, and has written the plan of what it was told.
 pub fn written_plans_are_reached()
     ensures { WrittenPlansAreReached }
 {}

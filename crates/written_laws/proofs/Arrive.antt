@@ -1,34 +1,38 @@
 -- Once the plan of a sweep that has every answer is written, pings arrive.
-use Rattle.std.proofs.Common.{◌≡◌, inl, inr, ℕ, ◌+◌, true, List, [], ◌∷◌, ◌++◌, refl, sym, ap, ◌∙◌, subst, arith}
+use Rattle.std.proofs.Common.{◌≡◌, inl, inr, ℕ, ◌<◌, ◌≤◌, ◌^◌, true, List, [], ◌∷◌, ◌++◌, map, refl, sym, ap, ◌∙◌, subst, arith}
 use Rattle.std.proofs.lemmas.List.Elements.{All-nil, All-head, All-tail}
 use Rattle.std.proofs.lemmas.Option.{same_Some}
-use Rattle.std.specs.Prelude.{Some, All, is_some, max}
+use Rattle.std.specs.Prelude.{Some, All, is_some}
 use Rattle.smp_bytes.specs.Fabric as fabrics
 use Rattle.smp_bytes.specs.FabricWalks.{IsJoinedTo}
 use Rattle.fabric_sim.specs.Simulation.{fabric_of}
-use Rattle.fact_store.specs.View.{cells_of, no_facts}
+use Rattle.fact_store.specs.declared.report.Report.{Report}
+use Rattle.fact_store.specs.Seen.{newest_of}
+use Rattle.fact_store.specs.View.{cells_of, view_at}
+use Rattle.fact_store.proofs.Views.{view_of_its_cells}
 use Rattle.subnet_view.specs.Agreement.{AgreesOn}
 use Rattle.subnet_view.specs.EndPorts.{IsEndPort}
 use Rattle.lft_blocks.specs.Plan.{PlanValue}
 use Rattle.sweep.specs.Sweep.{Sweep, path_to, started}
-use Rattle.sm_manager.specs.Manager.{next_generation, with_all_sent}
+use Rattle.sm_manager.specs.Manager.{newest_held, next_generation, with_all_sent}
 use Rattle.sm_manager.specs.Writing.{is_written}
 use Rattle.sm_laws.specs.Pings.{EachPingArrives}
 use Rattle.sm_laws.specs.Scene.{Scene}
 use Rattle.sm_laws.specs.Sweeping as sweeping
 use Rattle.sm_laws.specs.Sweeping.{Sweeping, SweepEvent, Begins, after_sweep_events}
 use Rattle.sm_laws.proofs.PlannedPings.{pings_arrive}
-use Rattle.sweep_complete.specs.Complete.{HasFoundAll, IsWhole, facts_of}
+use Rattle.sweep_complete.specs.Complete.{HasFoundAll, IsWhole}
 use Rattle.sweep_complete.proofs.Alike.{end_port_along}
 use Rattle.sweep_complete.proofs.Done.{done_sweeps_are_complete, seat_end}
+use Rattle.sweep_complete.proofs.Sweeps.{told_in}
 use Rattle.written_laws.specs.Managing.{Managing, ManagerEvent, Begin, CanBe, after_manager_event, after_manager_events}
 use Rattle.written_laws.specs.Pings.{AreNoSweeps, PingsArriveOnceWritten}
 use Rattle.written_laws.specs.Written.{AllKeep, IsReached, IsWritingRun, SweepsFirst, at_end, at_first_steps, at_writing, own_sets, plan_at}
 use Rattle.written_laws.proofs.After.{Writes, event_writes}
 use Rattle.written_laws.proofs.Before.{begins_first, event_goes}
 use Rattle.written_laws.proofs.Followed.{SeenBySweeps, on_scene, runs_append, can_append, event_seen, asks, asks_can, asks_all}
-use Rattle.written_laws.proofs.Follows.{Follows, IsFollowed, event_followed}
-use Rattle.written_laws.proofs.Generations.{nothing_newest}
+use Rattle.written_laws.proofs.Follows.{Follows, IsFollowed, event_followed, holds_all}
+use Rattle.written_laws.proofs.Generations.{AreOf, floor_small}
 use Rattle.written_laws.proofs.Goes.{Goes}
 use Rattle.written_laws.proofs.Held as held
 use Rattle.written_laws.proofs.Planned.{holds_plan}
@@ -105,20 +109,31 @@ module _ (w : Managing) (before between after : List ManagerEvent) (run : IsWrit
         follows = subst (Follows (after_manager_events events (after_manager_event x event))) (sym (runs_append one.events rest.events u)) rest.follows;
       }
 
-  module _ (store : (after_manager_events before w).manager.store ≡ no_facts)
+  module _ (nothing : cells_of (after_manager_events before w).manager.store ≡ [])
       (alone : AreNoSweeps between (after_manager_event (after_manager_events before w) Begin))
       (sweep : Sweep) (sweep_is : (at_writing w before between).manager.sweep ≡ Some sweep) where
+    -- the generation of the sweep, which is the floor
+    abbrev at : ℕ
+    at = next_generation (after_manager_events before w).manager.store
+
+    generation : (1 ≤ at) × (at < 2 ^ 32)
+    generation =
+        let m = (after_manager_events before w).manager in
+        let newest : newest_held m.store ≡ 0 = ap (λ es. newest_of (map (λ e. e.1) es)) nothing in
+        let low = floor_small m.store (held.went_before w before between after run).fair.side.knows in
+        (omega arith, omega (arith, newest, low))
+
     -- the sweep that is followed
     first : Sweeping
-    first = record { scene = w.scene; seat = w.seat; sweep = started w.seat.port 1 1; asked = []; reports = [] }
+    first = record { scene = w.scene; seat = w.seat; sweep = started w.seat.port at 1; asked = []; reports = [] }
 
-    first_begins : Begins (record { scene = w.scene; seat = w.seat; sweep = started w.seat.port 1 1; asked = []; reports = [] }) 1 1
+    first_begins : Begins (record { scene = w.scene; seat = w.seat; sweep = started w.seat.port at 1; asked = []; reports = [] }) at 1
     first_begins =
         record {
           quiet = run.starts.quiet;
           distinct = run.starts.distinct;
           seat = run.starts.seat;
-          generation = (omega arith, omega arith);
+          generation = generation;
           first = omega arith;
           sweep = refl;
           asked = refl;
@@ -127,21 +142,25 @@ module _ (w : Managing) (before between after : List ManagerEvent) (run : IsWrit
 
     -- when the sweep has begun
     begun_followed : (u : Sweeping) → u ≡ on_scene first (after_manager_events before w).scene
-        → Follows (after_manager_event (after_manager_events before w) Begin) (after_sweep_events (asks (started w.seat.port 1 1).queued) u)
+        → Follows (after_manager_event (after_manager_events before w) Begin) (after_sweep_events (asks (started w.seat.port at 1).queued) u)
     unfolding first
     begun_followed u is =
         let x = after_manager_events before w in
-        let all = asks_all (started w.seat.port 1 1).queued u (ap (λ (y : Sweeping). y.sweep.queued) is) in
-        let newest : next_generation x.manager.store ≡ 1 = ap next_generation store ∙ ap (λ n. max (n + 1) 1) nothing_newest in
+        let floor = x.manager.store.floor in
+        let all = asks_all (started w.seat.port at 1).queued u (ap (λ (y : Sweeping). y.sweep.queued) is) in
+        let sweep = all.sweep ∙ ap (λ (y : Sweeping). with_all_sent y.sweep) is in
         let reports = all.reports ∙ ap (λ (y : Sweeping). y.reports) is in
         let port = (held.went_before w before between after run).fair.side.port in
-        subst (λ y. Follows y (after_sweep_events (asks (started w.seat.port 1 1).queued) u)) (sym (held.sweep_first w before between after run))
+        subst (λ y. Follows y (after_sweep_events (asks (started w.seat.port at 1).queued) u)) (sym (held.sweep_first w before between after run))
         (record {
           scene = all.scene ∙ ap (λ (y : Sweeping). y.scene) is;
           seat = all.seat ∙ ap (λ (y : Sweeping). y.seat) is ∙ sym (held.went_before w before between after run).fair.seat_is;
-          sweep = (λ j. Some (with_all_sent (started (port j) (newest j) 1)))
-              ∙ ap (λ y. Some (with_all_sent y)) (sym (ap (λ (y : Sweeping). y.sweep) is)) ∙ ap (λ y. Some y) (sym all.sweep);
-          store = store ∙ ap facts_of (sym reports);
+          sweep = (λ j. Some (with_all_sent (started (port j) at 1))) ∙ ap (λ y. Some y) (sym sweep);
+          floor = floor;
+          generation = subst (λ g. floor ≤ g) (sym (ap (λ (y : Sweep). y.generation) sweep)) (omega arith);
+          told = subst (λ (y : List Report). AreOf (λ g. floor ≤ g) (told_in y)) (sym reports) tt;
+          store = sym (view_of_its_cells x.manager.store) ∙ ap (view_at floor) nothing
+              ∙ ap (λ (y : List Report). view_at floor (told_in y)) (sym reports);
         })
 
     seen : SeenBySweeps w.scene (after_manager_events before w).scene
@@ -150,7 +169,7 @@ module _ (w : Managing) (before between after : List ManagerEvent) (run : IsWrit
         (held.starting w run.starts (plan_at (at_writing w before between))) run.before_can
 
     ready : Sweeping
-    ready = after_sweep_events (asks (started w.seat.port 1 1).queued) (after_sweep_events seen.events first)
+    ready = after_sweep_events (asks (started w.seat.port at 1).queued) (after_sweep_events seen.events first)
 
     followed : IsFollowed (at_writing w before between) ready
     unfolding ready first
@@ -191,19 +210,19 @@ module _ (w : Managing) (before between after : List ManagerEvent) (run : IsWrit
 
     -- all that happened, to the sweep
     events : List SweepEvent
-    events = seen.events ++ (asks (started w.seat.port 1 1).queued ++ (followed.events ++ later_seen.events))
+    events = seen.events ++ (asks (started w.seat.port at 1).queued ++ (followed.events ++ later_seen.events))
 
     events_can : All sweeping.CanBe events
     unfolding events
     events_can =
-        can_append seen.events _ seen.can_be (can_append (asks (started w.seat.port 1 1).queued) _ (asks_can (started w.seat.port 1 1).queued)
+        can_append seen.events _ seen.can_be (can_append (asks (started w.seat.port at 1).queued) _ (asks_can (started w.seat.port at 1).queued)
         (can_append followed.events later_seen.events followed.can_be later_seen.can_be))
 
     events_are : after_sweep_events events first ≡ on_scene there (at_end w before between after).scene
     unfolding events there ready
     events_are =
         runs_append seen.events _ first
-        ∙ runs_append (asks (started w.seat.port 1 1).queued) _ (after_sweep_events seen.events first)
+        ∙ runs_append (asks (started w.seat.port at 1).queued) _ (after_sweep_events seen.events first)
         ∙ runs_append followed.events later_seen.events ready
         ∙ later_seen.is there followed.follows.scene
 
@@ -213,7 +232,7 @@ module _ (w : Managing) (before between after : List ManagerEvent) (run : IsWrit
     found_all whole =
         let same : there.sweep ≡ sweep = same_Some _ _ (sym followed.follows.sweep ∙ sweep_is) in
         subst (HasFoundAll first) events_are
-        (done_sweeps_are_complete first 1 1 events first_begins events_can
+        (done_sweeps_are_complete first at 1 events first_begins events_can
         (subst IsWhole (sym (ap (λ (x : Sweeping). x.sweep) events_are ∙ same)) whole))
 
     -- so what the manager knows agrees with the fabric as it is at the end
@@ -222,16 +241,16 @@ module _ (w : Managing) (before between after : List ManagerEvent) (run : IsWrit
         (fabric_of (at_end w before between after).scene.fabric)
     unfolding there first
     known_agrees whole =
-        subst (λ y. AgreesOn (IsJoinedTo (fabric_of (at_end w before between after).scene.fabric) w.seat) (cells_of y)
+        subst (λ cells. AgreesOn (IsJoinedTo (fabric_of (at_end w before between after).scene.fabric) w.seat) cells
         (fabric_of (at_end w before between after).scene.fabric))
-        (sym followed.follows.store) (found_all whole).at_last
+        (sym (holds_all (at_writing w before between) there followed.follows)) (found_all whole).at_last
 
     -- and the sweep came to each end port of it
     reached_known : IsWhole sweep → (g p : ℕ) → IsEndPort (cells_of (at_writing w before between).manager.store) g p → IsReached sweep g p
     unfolding there first
     reached_known whole g p is =
         let same : there.sweep ≡ sweep = same_Some _ _ (sym followed.follows.sweep ∙ sweep_is) in
-        let way = (found_all whole).ways g p (subst (λ y. IsEndPort (cells_of y) g p) followed.follows.store is) in
+        let way = (found_all whole).ways g p (subst (λ cells. IsEndPort cells g p) (holds_all (at_writing w before between) there followed.follows) is) in
         ap (λ (x : Sweep). is_some (path_to x g p)) (sym same) ∙ ap is_some way.told
 
     -- the law -------------------------------------------------------------------------------------------------------
@@ -241,7 +260,7 @@ module _ (w : Managing) (before between after : List ManagerEvent) (run : IsWrit
     unfolding first
     seat_is_end =
         end_port_along w.scene.fabric (at_end w before between after).scene.fabric (held.at_end_along w before between after run sweep sweep_is) w.seat
-        (seat_end first 1 1 first_begins)
+        (seat_end first at 1 first_begins)
 
     pub arrives : IsWhole sweep → is_written (at_end w before between after).manager ≡ true
         → EachPingArrives (at_writing w before between).manager.planning.rule (cells_of (at_writing w before between).manager.store) (plan_at (at_writing w before between))

@@ -70,7 +70,7 @@ use Rattle.written_laws.specs.Sets.{IsOwnSet, KeepsPlan, OwnSets}
 use Rattle.written_laws.specs.Pings.{AreNoSweeps, BeginsNoSweep, BringsUp, SomeManagerBringsUp}
 use Rattle.written_laws.specs.Written.{AllKeep, at_writing, own_sets, plan_at}
 use Rattle.written_laws.proofs.AgentSets.{AsksFor}
-use Rattle.written_laws.proofs.Generations.{nothing_newest}
+use Rattle.written_laws.proofs.Generations.{nothing_found, nothing_newest}
 use Rattle.written_laws.proofs.Steps.{IsSendable}
 use Rattle.written_laws.proofs.Taken.{fits_step}
 use Rattle.written_laws.proofs.Rests.{new_managers_rest}
@@ -530,7 +530,7 @@ brings_up =
         writing_begins = subst (λ (x : Managing). writing_fault x.manager ≡ None) (sym at_is) may_write;
         keep = subst (λ (x : Managing). AllKeep (plan_at x) (own_sets beginning x) after (after_manager_event x Write)) (sym at_is) kept_then;
       };
-      knew_nothing = refl;
+      knew_nothing = nothing_found;
       alone = none_begins between (after_manager_event beginning Begin) plain_between;
       sweep = sweep_in swept.manager.sweep;
       is_last = ap (λ (x : Managing). x.manager.sweep) at_is ∙ last_sweep;

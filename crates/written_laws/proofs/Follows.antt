@@ -1,8 +1,8 @@
 -- While no other sweep begins, a manager knows what its sweep was told.
-use Rattle.std.proofs.Common.{◌≡◌, ℕ, ◌^◌, Bool, true, false, cond, List, [], ◌∷◌, ◌++◌, refl, sym, ap, ◌∙◌, subst}
+use Rattle.std.proofs.Common.{◌≡◌, ℕ, ◌≤◌, ◌^◌, Bool, true, false, cond, List, [], ◌∷◌, ◌++◌, refl, sym, ap, ◌∙◌, subst, arith}
 use Rattle.std.proofs.lemmas.Bool.{cond_both}
 use Rattle.std.proofs.lemmas.List.Elements.{All-nil, All-cons}
-use Rattle.std.specs.Prelude.{Option, Some, None, Result, Ok, Err, All, is_none, nat_le, slice_get}
+use Rattle.std.specs.Prelude.{Option, Some, None, Result, Ok, Err, All, is_none, max, nat_le, slice_get}
 use Rattle.smp_bytes.specs.declared.cable.NodePort.{NodePort}
 use Rattle.smp_bytes.specs.declared.smp_fault.SmpFault.{SmpFault}
 use Rattle.smp_bytes.specs.Cables.{is_same_port}
@@ -11,14 +11,16 @@ use Rattle.smp_bytes.specs.Packet.{attribute_modifier, fault_of, status}
 use Rattle.fabric_sim.specs.Simulation.{Simulation}
 use Rattle.fact_store.specs.declared.report.Report.{Report}
 use Rattle.fact_store.specs.Merge.{merge}
-use Rattle.fact_store.specs.View.{view, view_at}
-use Rattle.fact_store.proofs.Merges.{raised_same}
+use Rattle.fact_store.specs.Seen.{seen}
+use Rattle.fact_store.specs.View.{cells_of, view, view_at}
+use Rattle.fact_store.proofs.Merges.{at_same_floor, raised_same}
 use Rattle.fact_store.proofs.Views.{raised_is_merge, view_of_both}
 use Rattle.lft_blocks.specs.Plan.{PlanValue}
 use Rattle.sweep.specs.declared.answer.Answer.{Answer}
 use Rattle.sweep.specs.declared.fault.SweepFault.{SweepFault}
-use Rattle.sweep.specs.Sweep.{timeout_fault}
-use Rattle.sweep.specs.Replies.{judged, replied, told_by}
+use Rattle.sweep.specs.declared.request.Request.{Request}
+use Rattle.sweep.specs.Sweep.{Sweep, request_with, timed_out_of, timeout_fault}
+use Rattle.sweep.specs.Replies.{judged, replied, replied_to, request_of, told_by}
 use Rattle.sm_state.specs.declared.event.Event.TheVariants as event
 use Rattle.sm_state.specs.declared.event.Message.{Message}
 use Rattle.sm_state.specs.declared.transition.Transition.{Transition}
@@ -47,6 +49,7 @@ use Rattle.written_laws.specs.Managing.{hearing, sending, after_manager_event}
 use Rattle.written_laws.specs.Pings.{BeginsNoSweep}
 use Rattle.written_laws.proofs.Before.{is_none-none, takes_first}
 use Rattle.written_laws.proofs.Followed.{SeenBySweeps, HasAskedAll, on_scene, event_seen, asks, asks_can, asks_all}
+use Rattle.written_laws.proofs.Generations.{AreOf, answer_of, cells_above, of_both}
 use Rattle.written_laws.proofs.Goes.{Goes}
 use Rattle.written_laws.proofs.Sweeps.{Ground}
 
@@ -98,13 +101,34 @@ pub handed_keeps : (m : Manager) (lid : Option ℕ) → KeepsSweep m (handed_to 
 handed_keeps m None = kept m
 handed_keeps m (Some lid) = record { sweep = refl; store = refl }
 
+-- a sweep keeps its generation ----------------------------------------------------------------------------------
+
+replied_generation : (s : Sweep) (bytes : List ℕ) → (replied s bytes).generation ≡ s.generation
+replied_generation s bytes = by_request (request_of s bytes)
+  where
+    by_request : (m : Option Request) → (replied_to s bytes m).generation ≡ s.generation
+    by_request None = refl
+    by_request (Some r) = refl
+
+timed_generation : (s : Sweep) (m : Option Request) → (timed_out_of s m).generation ≡ s.generation
+timed_generation s None = refl
+timed_generation s (Some r) = refl
+
 -- a sweep beside a manager --------------------------------------------------------------------------------------
 
+-- its generation is not below the floor of what the manager knows, and no sighting that it was told is
 pub record Follows (w : Managing) (u : Sweeping) : Type 0 where
   pub scene : u.scene ≡ w.scene
   pub seat : u.seat ≡ w.seat
   pub sweep : w.manager.sweep ≡ Some u.sweep
-  pub store : w.manager.store ≡ facts_of u.reports
+  pub floor : ℕ
+  pub generation : floor ≤ u.sweep.generation
+  pub told : AreOf (λ g. floor ≤ g) (told_in u.reports)
+  pub store : w.manager.store ≡ view_at floor (told_in u.reports)
+
+-- so the manager holds all that it was told
+pub holds_all : (w : Managing) (u : Sweeping) → Follows w u → cells_of w.manager.store ≡ cells_of (facts_of u.reports)
+holds_all w u f = ap cells_of f.store ∙ cells_above f.floor (told_in u.reports) f.told
 
 pub record IsFollowed (after : Managing) (u : Sweeping) : Type 0 where
   pub events : List SweepEvent
@@ -119,15 +143,27 @@ quiet_followed w after u seen seat keeps f =
       events = seen.events;
       can_be = seen.can_be;
       follows = subst (Follows after) (sym (seen.is u f.scene))
-          (record { scene = refl; seat = f.seat ∙ sym seat; sweep = keeps.sweep ∙ f.sweep; store = keeps.store ∙ f.store });
+          (record {
+            scene = refl;
+            seat = f.seat ∙ sym seat;
+            sweep = keeps.sweep ∙ f.sweep;
+            floor = f.floor;
+            generation = f.generation;
+            told = f.told;
+            store = keeps.store ∙ f.store;
+          });
     }
 
 unseen : (w : Managing) → SeenBySweeps w.scene w.scene
 unseen w = record { events = []; can_be = All-nil sweeping.CanBe; is = λ u e. λ i. on_scene u (e i) }
 
 -- what an answer tells is what its report does
-facts_more : (reports : List Report) (answer : Answer) → merge (facts_of reports) (view (told_by answer)) ≡ facts_of (reports ++ reports_of answer)
-facts_more reports answer = sym (view_of_both 1 1 (told_in reports) (told_by answer)) ∙ ap view (sym (told_more reports answer))
+facts_more : (floor : ℕ) (reports : List Report) (answer : Answer)
+    → merge (view_at floor (told_in reports)) (view (told_by answer)) ≡ view_at floor (told_in (reports ++ reports_of answer))
+facts_more floor reports answer =
+    sym (view_of_both floor 1 (told_in reports) (told_by answer))
+    ∙ at_same_floor (max floor 1) floor (seen (told_in reports ++ told_by answer)) (omega arith)
+    ∙ ap (view_at floor) (sym (told_more reports answer))
 
 module _ (start : Simulation) (seat : NodePort) (plan : PlanValue) (ground : Ground start seat) where
   -- a reply that the sweep takes ---------------------------------------------------------------------------------
@@ -145,7 +181,13 @@ module _ (start : Simulation) (seat : NodePort) (plan : PlanValue) (ground : Gro
                 scene = all.scene ∙ f.scene;
                 seat = all.seat ∙ f.seat;
                 sweep = ap (λ x. Some x) (sym all.sweep);
-                store = ap (λ x. merge x (view (told_by answer))) f.store ∙ facts_more u.reports answer ∙ ap facts_of (sym all.reports);
+                floor = f.floor;
+                generation = subst (λ g. f.floor ≤ g) (sym (ap (λ (x : Sweep). x.generation) all.sweep ∙ replied_generation u.sweep bytes)) f.generation;
+                told = subst (AreOf (λ g. f.floor ≤ g)) (sym (ap told_in all.reports ∙ told_more u.reports answer))
+                    (of_both (λ g. f.floor ≤ g) (told_in u.reports) (told_by answer) f.told
+                    (answer_of (λ g. f.floor ≤ g) u.sweep bytes answer f.generation taken));
+                store = ap (λ x. merge x (view (told_by answer))) f.store ∙ facts_more f.floor u.reports answer
+                    ∙ ap (λ (reports : List Report). view_at f.floor (told_in reports)) (sym all.reports);
               }));
         }
       where
@@ -223,6 +265,10 @@ module _ (start : Simulation) (seat : NodePort) (plan : PlanValue) (ground : Gro
               scene = f.scene;
               seat = f.seat;
               sweep = refl;
+              floor = f.floor;
+              generation = subst (λ g. f.floor ≤ g)
+                  (sym (timed_generation u.sweep (request_with u.sweep.generation transaction u.sweep.outstanding))) f.generation;
+              told = f.told;
               store = f.store;
             };
           }

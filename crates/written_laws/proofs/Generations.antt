@@ -1,8 +1,9 @@
--- The generations of what a manager knows fit 32 bits.
-use Rattle.std.proofs.Common.{◌≡◌, inl, inr, ℕ, ◌<◌, ◌^◌, List, [], ◌∷◌, ◌++◌, map, refl, sym, ap, ◌∙◌, subst, arith}
-use Rattle.std.proofs.lemmas.Bool.{cond_both, and_parts, ltb-true}
+-- The generations of what a manager knows: they fit 32 bits, and what a sweep is told is of its own.
+use Rattle.std.proofs.Common.{◌≡◌, inl, inr, ℕ, ◌<◌, ◌≤◌, ◌^◌, List, [], ◌∷◌, ◌++◌, cond, map, refl, sym, ap, ◌∙◌, subst, arith}
+use Rattle.std.proofs.lemmas.Bool.{cond_both, and_parts, le-leb, ltb-true}
 use Rattle.std.proofs.lemmas.List.Elements.{All-head, All-tail}
-use Rattle.std.specs.Prelude.{Contains, Option, Some, None, All, IsTrue, max, nat_le, nat_lt, ◌==◌, ◌&&◌}
+use Rattle.std.specs.FinMap.{entries}
+use Rattle.std.specs.Prelude.{Contains, Option, Some, None, Ok, All, IsTrue, max, nat_le, nat_lt, ◌==◌, ◌&&◌}
 use Rattle.fact_join.specs.declared.cell.Cell.{Cell}
 use Rattle.fact_join.specs.Cell.{generation_of}
 use Rattle.fact_store.specs.declared.key.Key.{Key}
@@ -15,27 +16,39 @@ use Rattle.smp_bytes.specs.declared.node_type.NodeType.{NodeType}
 use Rattle.smp_bytes.specs.Header.{node_info, port_info}
 use Rattle.smp_bytes.specs.Field.{number_in}
 use Rattle.smp_bytes.specs.Packet.{attribute_id}
+use Rattle.fact_store.specs.Floor.{kept}
 use Rattle.fact_store.specs.Merge.{merge}
 use Rattle.fact_store.specs.Report.{Told, told_of_link, told_of_kind, told_by_port_info, told_by_switch_info, node_info_of, sightings_of}
 use Rattle.fact_store.specs.Sighting.{IsSighting, AreInRange, is_key, is_generation, is_cell_of}
-use Rattle.fact_store.specs.Seen.{newest_of}
-use Rattle.fact_store.specs.View.{Facts, raised, view_at, cells_of, no_facts}
+use Rattle.fact_store.specs.Seen.{newest_of, seen}
+use Rattle.fact_store.specs.View.{Facts, raised, view, view_at, cells_of, no_facts}
 use Rattle.fact_store.proofs.Entries.{entries-view}
 use Rattle.fact_store.proofs.Orders.{contained_get}
 use Rattle.fact_store.proofs.SightingRanges.{newest_at}
 use Rattle.fact_store.proofs.Seen.{get-seen, newest_there}
-use Rattle.fact_store.proofs.Views.{cell_was_seen, raised_is_merge, get-view, view_of_both, view_of_its_cells}
+use Rattle.fact_store.proofs.Views.{cell_was_seen, found_at_floor, found_of_view, raised_is_merge, get-view, view_of_both, view_of_its_cells}
 use Rattle.subnet_view.proofs.Apart.{contains-from_map}
 use Rattle.subnet_view.proofs.Members.{contains_here, contains_later, contains_cases, contains_none}
+use Rattle.sweep.specs.declared.answer.Answer.{Answer}
+use Rattle.sweep.specs.declared.request.Question.{Question}
+use Rattle.sweep.specs.declared.request.Question.TheVariants as ask
+use Rattle.sweep.specs.declared.request.Request.{Request}
+use Rattle.sweep.specs.Sweep.{Sweep}
+use Rattle.sweep.specs.Replies.{answer_by, judged, report_for, told_by}
 use Rattle.sm_manager.specs.Manager.{newest_held}
+use Rattle.sm_laws.proofs.Accepted.{accepted}
+
+-- this is so of the generation of each sighting
+abbrev pub AreOf : (ℕ → Type 0) → Told → Type 0
+AreOf P [] = Unit {0}
+AreOf P (x ∷ told) = P (generation_of x.1) × AreOf P told
+
+pub of_both : (P : ℕ → Type 0) (told more : Told) → AreOf P told → AreOf P more → AreOf P (told ++ more)
+of_both P [] more all also = also
+of_both P (x ∷ told) more all also = (all.0, of_both P told more all.1 also)
 
 abbrev pub AreSmall : Told → Type 0
-AreSmall [] = Unit {0}
-AreSmall (x ∷ told) = (generation_of x.1 < 2 ^ 32) × AreSmall told
-
-small_more : (told more : Told) → AreSmall told → AreSmall more → AreSmall (told ++ more)
-small_more [] more small also = also
-small_more (x ∷ told) more small also = (small.0, small_more told more small.1 also)
+AreSmall told = AreOf (λ g. g < 2 ^ 32) told
 
 small_there : (told : Told) (x : Key × Cell Value) → AreSmall told → Contains told x → generation_of x.1 < 2 ^ 32
 small_there [] x small there = absurd (contains_none x there)
@@ -86,7 +99,7 @@ merged_small facts floor told knows few small =
       floor = max knows.floor floor;
       told = knows.told ++ told;
       is = ap (λ x. merge x (view_at floor told)) knows.is ∙ sym (view_of_both knows.floor floor knows.told told);
-      small = small_more knows.told told knows.small small;
+      small = of_both (λ g. g < 2 ^ 32) knows.told told knows.small small;
       few = omega (arith, knows.few, few);
     }
 
@@ -113,35 +126,62 @@ newest_small facts knows = subst (λ x. newest_held x < 2 ^ 32) (sym knows.is) (
         omega (arith, small, generation, alike, newest)
 
 -- what a report tells is of its generation
-module _ (generation : ℕ) (small : generation < 2 ^ 32) where
-  link_small : (context : Context) (info : NodeInfo) → AreSmall (told_of_link generation context info)
-  link_small (Via peer port) info = (small, (small, tt))
-  link_small Start info = tt
-  link_small (About guid) info = tt
+module _ (P : ℕ → Type 0) (generation : ℕ) (is : P generation) where
+  link_of : (context : Context) (info : NodeInfo) → AreOf P (told_of_link generation context info)
+  link_of (Via peer port) info = (is, (is, tt))
+  link_of Start info = tt
+  link_of (About guid) info = tt
 
-  kind_small : (context : Context) (info : NodeInfo) (m : Option NodeType) → AreSmall (told_of_kind generation context info m)
-  kind_small context info None = tt
-  kind_small context info (Some kind) = (small, (small, link_small context info))
+  kind_of : (context : Context) (info : NodeInfo) (m : Option NodeType) → AreOf P (told_of_kind generation context info m)
+  kind_of context info None = tt
+  kind_of context info (Some kind) = (is, (is, link_of context info))
 
-  port_small : (context : Context) (packet : List ℕ) → AreSmall (told_by_port_info generation context packet)
-  port_small (About node) packet = (small, (small, tt))
-  port_small Start packet = tt
-  port_small (Via guid port) packet = tt
+  port_of : (context : Context) (packet : List ℕ) → AreOf P (told_by_port_info generation context packet)
+  port_of (About node) packet = (is, (is, tt))
+  port_of Start packet = tt
+  port_of (Via guid port) packet = tt
 
-  switch_small : (context : Context) (packet : List ℕ) → AreSmall (told_by_switch_info generation context packet)
-  switch_small (About node) packet = (small, tt)
-  switch_small Start packet = tt
-  switch_small (Via guid port) packet = tt
+  switch_of : (context : Context) (packet : List ℕ) → AreOf P (told_by_switch_info generation context packet)
+  switch_of (About node) packet = (is, tt)
+  switch_of Start packet = tt
+  switch_of (Via guid port) packet = tt
 
-  pub report_small : (context : Context) (packet : List ℕ) → AreSmall (sightings_of (record { generation = generation; context = context; bytes = packet }))
-  report_small context packet =
-      cond_both (number_in attribute_id packet == node_info) _ _ AreSmall
-      (λ _. kind_small context (node_info_of packet) (type_of_number (node_info_of packet).node_type))
-      (λ _. cond_both (number_in attribute_id packet == port_info) _ _ AreSmall (λ _. port_small context packet) (λ _. switch_small context packet))
+  report_of : (context : Context) (packet : List ℕ) → AreOf P (sightings_of (record { generation = generation; context = context; bytes = packet }))
+  report_of context packet =
+      cond_both (number_in attribute_id packet == node_info) _ _ (AreOf P)
+      (λ _. kind_of context (node_info_of packet) (type_of_number (node_info_of packet).node_type))
+      (λ _. cond_both (number_in attribute_id packet == port_info) _ _ (AreOf P) (λ _. port_of context packet) (λ _. switch_of context packet))
 
--- where nothing is known, there is none, and nothing out of range
+-- so what an answer tells is of the generation of its sweep
+pub answer_of : (P : ℕ → Type 0) (s : Sweep) (bytes : List ℕ) (answer : Answer) → P s.generation → judged s bytes ≡ Ok answer → AreOf P (told_by answer)
+answer_of P s bytes answer is taken =
+    let a = accepted s bytes answer taken in
+    subst (λ x. AreOf P (told_by x)) (sym a.answer_is) (by_question a.request a.request.question)
+  where
+    by_question : (r : Request) (q : Question) → AreOf P (told_by (answer_by q (report_for s r bytes)))
+    by_question r ask.Node = report_of P s.generation is r.context bytes
+    by_question r ask.Switch = report_of P s.generation is r.context bytes
+    by_question r (ask.Port port) = report_of P s.generation is r.context bytes
+    by_question r (ask.Manager guid port) = tt
+
+-- none is below a floor: each sighting is kept
+all_above : (floor : ℕ) (told : Told) → AreOf (λ g. floor ≤ g) told → kept floor told ≡ told
+all_above floor [] above = refl
+all_above floor (x ∷ told) above =
+    let one = above.0 in
+    ap (λ t. cond t (x ∷ kept floor told) (kept floor told)) (le-leb floor (max 1 (generation_of x.1)) (omega (arith, one)))
+    ∙ ap (λ (s : Told). x ∷ s) (all_above floor told above.1)
+
+-- so at the floor they say together what they say at floor 1
+pub cells_above : (floor : ℕ) (told : Told) → AreOf (λ g. floor ≤ g) told → cells_of (view_at floor told) ≡ cells_of (view told)
+cells_above floor told above = ap entries (found_at_floor floor told ∙ ap seen (all_above floor told above) ∙ sym (found_of_view told))
+
+-- where nothing is known, there is no cell, no generation, and nothing out of range
+pub nothing_found : cells_of no_facts ≡ []
+nothing_found = entries-view []
+
 pub nothing_newest : newest_held no_facts ≡ 0
-nothing_newest = ap (λ es. newest_of (map (λ e. e.1) es)) (entries-view [])
+nothing_newest = ap (λ es. newest_of (map (λ e. e.1) es)) nothing_found
 
 pub nothing_held : AreInRange no_facts
 nothing_held key c e = absurd (cc (sym (get-seen [] key) ∙ sym (get-view [] key) ∙ e))

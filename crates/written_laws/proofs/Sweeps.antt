@@ -1,21 +1,19 @@
 -- A manager's sweeps: what they ask leads where it should, and what they have found is so.
-use Rattle.std.proofs.Common.{◌≡◌, ◌⊎◌, inl, inr, ℕ, ◌+◌, ◌-◌, ◌<◌, ◌≤◌, ◌^◌, Bool, true, false, cond, List, [], ◌∷◌, ◌++◌, refl, sym, ap, ◌∙◌, subst, arith}
+use Rattle.std.proofs.Common.{◌≡◌, ◌⊎◌, inl, inr, ℕ, ◌-◌, ◌<◌, ◌≤◌, ◌^◌, Bool, true, false, cond, List, [], ◌∷◌, ◌++◌, refl, sym, ap, ◌∙◌, subst, arith}
 use Rattle.std.proofs.lemmas.Bool.{eqb-false}
 use Rattle.std.proofs.lemmas.List.{append-nil}
 use Rattle.std.specs.Prelude.{Option, Some, None, Result, Ok, Err, find, not, ◌==◌, ◌&&◌}
 use Rattle.smp_bytes.specs.declared.cable.NodePort.{NodePort}
 use Rattle.fact_store.specs.Merge.{merge}
-use Rattle.fact_store.specs.View.{Facts, raised, view, view_at}
+use Rattle.fact_store.specs.View.{Facts, raised, view_at}
 use Rattle.fact_store.specs.Report.{Told}
 use Rattle.fabric_sim.specs.Simulation.{Simulation, AreCables, fabric_of, port_count}
 use Rattle.fabric_sim.proofs.Courses.{IsForManager}
 use Rattle.sweep.specs.declared.answer.Answer.{Answer}
 use Rattle.sweep.specs.declared.fault.SweepFault.{SweepFault}
-use Rattle.sweep.specs.declared.request.Question.{Question}
-use Rattle.sweep.specs.declared.request.Question.TheVariants as ask
 use Rattle.sweep.specs.declared.request.Request.{Request}
 use Rattle.sweep.specs.Sweep.{Sweep, is_none_left, packet_of, request_with, timeout_fault, timed_out_of, started}
-use Rattle.sweep.specs.Replies.{answer_by, belongs, judged, replied_to, replied, report_for, request_of, told_by}
+use Rattle.sweep.specs.Replies.{belongs, judged, replied_to, replied, request_of, told_by}
 use Rattle.sm_manager.specs.declared.outgoing.Outgoing.{Outgoing}
 use Rattle.sm_manager.specs.declared.fault.ManagerFault.TheVariants as fault
 use Rattle.sm_manager.specs.Manager.{Manager, begin_fault, floor_raised, is_running, newest_held, next_generation, requests_out, sweep_begun, merged}
@@ -25,7 +23,7 @@ use Rattle.sm_laws.proofs.Replied.{FoundSound, sound_without}
 use Rattle.sm_laws.proofs.Sound.{CanBeSwept, IsSoundRequest, AreSound, IsSoundSweep, sound_append}
 use Rattle.sm_laws.proofs.Swept as swept
 use Rattle.sm_laws.proofs.TrueFacts.{IsCabled}
-use Rattle.written_laws.proofs.Generations.{KnowsSmall, AreSmall, floor_small, merged_small, newest_small, raised_small, report_small}
+use Rattle.written_laws.proofs.Generations.{KnowsSmall, AreSmall, answer_of, floor_small, merged_small, newest_small, raised_small}
 use Rattle.written_laws.proofs.Led.{IsLedSweep, finds_led}
 
 -- what is so of a fabric at the start, where a manager sits at the seat
@@ -177,14 +175,8 @@ module _ (start : Simulation) (seat : NodePort) where
           found.sound (swept.node_good g.cables g.counts g.can g.cabled s one.sound bytes is answer taken) in
           subst (λ r. IsLedSweep (fabric_of start) seat (replied_to s bytes r)) (sym a.belongs) (record { reached = finds.led; states = finds.small })
 
-      answer_small : (q : Question) → AreSmall (told_by (answer_by q (report_for s a.request bytes)))
-      answer_small ask.Node = report_small s.generation one.sound.generation.1 a.request.context bytes
-      answer_small ask.Switch = report_small s.generation one.sound.generation.1 a.request.context bytes
-      answer_small (ask.Port port) = report_small s.generation one.sound.generation.1 a.request.context bytes
-      answer_small (ask.Manager guid port) = tt
-
       told_small : AreSmall (told_by answer)
-      told_small = subst (λ x. AreSmall (told_by x)) (sym a.answer_is) (answer_small a.request.question)
+      told_small = answer_of (λ g. g < 2 ^ 32) s bytes answer one.sound.generation.1 taken
 
       reply_call : SweepCall old m (answered_by m s bytes (Ok answer)).manager
       reply_call =

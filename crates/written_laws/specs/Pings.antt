@@ -1,6 +1,6 @@
 -- Once the plan of a sweep that has every answer is written, pings arrive.
 use Rattle.std.specs.Prelude.{◌≡◌, ◌≢◌, ◌≤◌, ℕ, true, List, [], ◌∷◌, Some, None}
-use Rattle.fact_store.specs.View.{cells_of, no_facts}
+use Rattle.fact_store.specs.View.{cells_of}
 use Rattle.sweep.specs.Sweep.{Sweep}
 use Rattle.sm_manager.specs.Planning.{Planning}
 use Rattle.sm_manager.specs.Manager.{begin_fault, new_manager}
@@ -21,11 +21,11 @@ abbrev pub AreNoSweeps : List ManagerEvent → Managing → Type 0
 AreNoSweeps [] w = Unit {0}
 AreNoSweeps (event ∷ events) w = BeginsNoSweep w event × AreNoSweeps events (after_manager_event w event)
 
--- A manager that knows nothing sweeps, and writes the plan of what it was told.
+-- A manager that holds no facts sweeps, and writes the plan of what it was told.
 pub record BringsUp (w : Managing) (before between after : List ManagerEvent) : Type 0 where
   pub run : IsWritingRun w before between after
-  -- it knows nothing when the sweep begins
-  pub knew_nothing : (after_manager_events before w).manager.store ≡ no_facts
+  -- it holds no facts when the sweep begins; its floor may have been raised
+  pub knew_nothing : cells_of (after_manager_events before w).manager.store ≡ []
   -- until the writing it learns from this sweep alone
   pub alone : AreNoSweeps between (after_manager_event (after_manager_events before w) Begin)
   -- the sweep has every answer, and nothing was out of its reach

@@ -25,9 +25,9 @@ pub fn written_plans_are_held()
     ensures { WrittenPlansAreHeld }
 {}
 
-/// When a manager that knows nothing has swept, with every answer and nothing out of reach, and the
-/// plan of what it was told is written, each ping from an end port of what the manager's seat is
-/// joined to, for each LID of the plan, reaches the end port that owns the LID.
+/// When a manager that holds no facts, at whatever floor, has swept, with every answer and nothing
+/// out of reach, and the plan of what it was told is written, each ping from an end port of what the
+/// manager's seat is joined to, for each LID of the plan, reaches the end port that owns the LID.
 pub fn pings_arrive_once_written()
     ensures { PingsArriveOnceWritten }
 {}
