@@ -169,6 +169,21 @@ def rings(plan):
     yield "not across one wire", plan(RING_LIDS, *cut).printed.decode(), prints("pairs 25 arrive 25\n" + NEITHER + "circle none\n")
 
 
+# The same ring, and beside it two switches with a wire between their ports 1.
+RING_AND_TWO = *RING, 0x60, 0x70
+RING_AND_TWO_WIRES = f"{RING_WIRES} 60/1-70/1"
+
+
+def ring_and_two(plan):
+    """All packets of both arrive. What is for the ring, the two send each other, so that there is also a circle of two."""
+    short = ring("0 1 1 2 2 - -", "2 0 1 1 2 - -", "2 2 0 1 1 - -", "1 2 2 0 1 - -", "1 1 2 2 0 - -")
+    lids = f"{RING_LIDS} 6 60/0 7 70/0"
+    tables = plan(lids, *short, "60 1 - - - - 0 1", "70 1 - - - - 1 0").printed.decode()
+    yield "a ring beside a loop of two", tables, found("pairs 29 arrive 29\n" + NEITHER + "circle 60/1 70/1\n")
+    apart = plan(lids, *short, "60 - - - - - 0 1", "70 - - - - - 1 0").printed.decode()
+    yield "a ring beside two", apart, found("pairs 29 arrive 29\n" + NEITHER + "circle 10/1 20/1 30/1 40/1 50/1\n")
+
+
 # Two adapters with a wire between them, and no switch.
 PAIR_WIRES = "100/1-200/1"
 

@@ -113,6 +113,28 @@ class Fabric:
                         waiting.append(far)
         return tables
 
+    def exits(self, name):
+        """The ports of a switch with a cable to a switch, each with that."""
+        ends = ((port, self.peers.get((name, port), ("", 0))[0]) for port in range(1, self.ports(name) + 1))
+        return [(port, far) for port, far in ends if far and self.is_switch(far)]
+
+    def some_shortest(self, chance):
+        """The same, and where several ports lead nearer it is left to chance by which of them packets leave."""
+        exits = {name: self.exits(name) for name in self.nodes if self.is_switch(name)}
+        tables = {name: [255] * (len(self.ends()) // 64 + 1) * 64 for name in exits}
+        for lid, (name, port) in enumerate(self.ends(), 1):
+            home, out = (name, 0) if port == 0 else self.peers[name, port]
+            steps, reached = {home: 0}, [home]
+            for near in reached:
+                for _, far in exits[near]:
+                    if far not in steps:
+                        steps[far] = steps[near] + 1
+                        reached.append(far)
+            tables[home][lid] = out
+            for switch in reached[1:]:
+                tables[switch][lid] = chance.choice([port for port, far in exits[switch] if steps[far] < steps[switch]])
+        return tables
+
     def plan(self, tables):
         """What a fabric with these tables holds, in the form of a plan."""
         ends = self.ends()

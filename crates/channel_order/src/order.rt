@@ -12,13 +12,15 @@ use std::alloc::{AllocError, Global};
 pub enum ChannelOrder {
     /// The number of each channel: those of the channels that follow it are greater.
     Rises(Vec<usize>),
-    /// Channels of which each follows the one before, and the first follows the last; none comes twice.
+    /// Channels of which each follows the one before, and the first follows the last; none comes twice. No circle has
+    /// fewer of them: that is tested, and not proved.
     Circle(Vec<usize>),
 }
 
-/// Numbers that rise, where the channels have such, or else a circle of channels: there is never both. Takes a
+/// Numbers that rise, where the channels have such, or else a shortest circle of channels: there is never both. Takes a
 /// step for each channel and each that follows it, as often as channels follow each other in the longest way; where
-/// there is a circle also the square of the channels that are walked until one comes again.
+/// there is a circle also the square of the channels that are walked until one comes again, and for each channel
+/// without a number a search in breadth over those that a way of fewer channels than that circle leads to.
 pub fn order_channels(alloc: Global, waits: &Waits) -> Result<ChannelOrder, AllocError>
     ensures { IfOk result (λ found. IsOrder waits.now found) }
 {
