@@ -1,0 +1,87 @@
+//! Which manager that a sweep saw outranks the one that swept, of priority 3 at the port GUID 0x101.
+use super::*;
+
+/// The priority, port GUID and state that the other one tells, and the state of the one that swept then.
+const ROWS: [(u8, u64, SmState, SmState); 12] = [
+    // One that wins is standby or discovers.
+    (4, 0x1FF, SmState::Standby, SmState::Standby),
+    (4, 0x1FF, SmState::Discovering, SmState::Standby),
+    (3, 0x100, SmState::Standby, SmState::Standby),
+    (3, 0x100, SmState::Discovering, SmState::Standby),
+    // One that wins is not active.
+    (4, 0x1FF, SmState::NotActive, SmState::Master),
+    (3, 0x100, SmState::NotActive, SmState::Master),
+    // One that does not win.
+    (2, 0x100, SmState::Standby, SmState::Master),
+    (3, 0x102, SmState::Discovering, SmState::Master),
+    // Neither of two of one priority and one port GUID wins.
+    (3, 0x101, SmState::Standby, SmState::Master),
+    (3, 0x101, SmState::Discovering, SmState::Master),
+    // A master outranks, whether it wins or not.
+    (3, 0x101, SmState::Master, SmState::Standby),
+    (2, 0x102, SmState::Master, SmState::Standby),
+];
+
+/// What an adapter with one port says, and the manager at it: NodeInfo, with the GUID 0x100 or 0x200, or PortInfo.
+fn told(attribute: AttributeId, is_far: bool, other: &SmInfo) -> [u8; 64] {
+    if attribute == AttributeId::SM_INFO {
+        return other.encode();
+    }
+    let mut data = [0; 64];
+    if attribute == AttributeId::NODE_INFO {
+        let guid = if is_far { 2 } else { 1 };
+        data[2] = 1; // a channel adapter
+        data[3] = 1; // ports
+        data[18] = guid;
+        data[26] = guid;
+        data[27] = 1; // the port GUID is one more
+        data[36] = 1; // the port by which the request came
+    } else {
+        data[23] = 2; // a manager sits there
+        data[32] = 2; // Initialize
+    }
+    data
+}
+
+/// Whether a manager sweeps: it asks its own node and port, the adapter across and its port, and the manager there.
+fn sweeps(manager: &mut Manager, other: &SmInfo) -> bool {
+    if manager.begin_sweep().is_err() {
+        return false;
+    }
+    for _ in 0..5 {
+        let Some(out) = manager.take_outgoing() else {
+            return false;
+        };
+        let asked = out.packet;
+        let data = told(asked.attribute_id(), asked.hop_count() > 0, other);
+        if !takes(manager, &asked.answer(DONE, &data)) {
+            return false;
+        }
+    }
+    true
+}
+
+/// Whether a new manager is in a state once its sweep met this one.
+fn is_then(alloc: Global, other: &SmInfo, state: SmState) -> bool {
+    let mut manager = manager(alloc);
+    sweeps(&mut manager, other) && manager.state() == state
+}
+
+/// What the other one says of itself.
+fn other(priority: u8, guid: u64, state: SmState) -> SmInfo {
+    let mut info = info_in(state);
+    info.guid = Guid::new(guid);
+    info.priority = Priority::new(priority).unwrap_or(info.priority);
+    info
+}
+
+#[test]
+fn masters_and_winners_outrank(rt: HostRuntime) {
+    for (priority, guid, state, wanted) in ROWS {
+        assert!(rt;
+            is_then(rt.alloc(), &other(priority, guid, state), wanted),
+            "{priority} {guid} {}",
+            state.word()
+        );
+    }
+}
