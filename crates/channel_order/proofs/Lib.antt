@@ -5,5 +5,4 @@ pub mod Given
 pub mod Made
 pub mod Passing
 pub mod Rising
-pub mod Searches
 pub mod Ways
