@@ -95,7 +95,7 @@ becomes following numbers zero number next e =
     ] refl e
 
 -- a list's number there, whichever stands for none
-there : (xs : List ℕ) (i d e : ℕ) → i < length xs → slice_index_or xs i d ≡ slice_index_or xs i e
+pub there : (xs : List ℕ) (i d e : ℕ) → i < length xs → slice_index_or xs i d ≡ slice_index_or xs i e
 there [] i d e h = absurd (omega arith)
 there (x ∷ xs) zero d e h = refl
 there (x ∷ xs) (suc i) d e h = there xs i d e (omega arith)
@@ -251,7 +251,7 @@ no_place false n e = refl
 pub first_has_none : (numbers : List ℕ) (first : ℕ) → position (λ n. n == 0) numbers ≡ Some first → has_none numbers first ≡ true
 first_has_none numbers first e = let p = position-Some (λ n. n == 0) numbers first 1 e in p.1
 
-follows_channel : (waits : List (List ℕ)) (c next : ℕ) → Follows waits c next → c < length waits
+pub follows_channel : (waits : List (List ℕ)) (c next : ℕ) → Follows waits c next → c < length waits
 follows_channel [] c next h = absurd (contains_none next h)
 follows_channel (x ∷ waits) zero next h = omega arith
 follows_channel (x ∷ waits) (suc c) next h = let less = follows_channel waits c next h in omega arith

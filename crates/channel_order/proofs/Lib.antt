@@ -5,4 +5,5 @@ pub mod Given
 pub mod Made
 pub mod Passing
 pub mod Rising
+pub mod Searches
 pub mod Ways

@@ -2,3 +2,4 @@ pub mod Columns
 pub mod Known
 pub mod Numbers
 pub mod Orders
+pub mod Searches

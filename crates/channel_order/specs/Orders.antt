@@ -1,5 +1,5 @@
 -- Channels that follow each other: numbers that rise, and circles. Of each channel there is a list of those that follow it.
-use Rattle.std.specs.Prelude.{◌≡◌, ◌↔◌, ◌⊎◌, ◌<◌, ℕ, List, [], ◌∷◌, Contains, length, slice_index_or}
+use Rattle.std.specs.Prelude.{◌≡◌, ◌↔◌, ◌⊎◌, ◌<◌, ◌≤◌, ℕ, List, [], ◌∷◌, Contains, length, slice_index_or}
 use Rattle.channel_order.specs.declared.order.ChannelOrder.{ChannelOrder}
 use Rattle.channel_order.specs.declared.order.ChannelOrder.TheVariants.{Rises, Circle}
 
@@ -35,10 +35,19 @@ abbrev pub IsCircle : List (List ℕ) → List ℕ → Type 0
 IsCircle waits [] = ⊥
 IsCircle waits (channel ∷ later) = GoesOn waits channel later channel
 
+-- no circle has fewer channels
+abbrev pub NoneShorter : List (List ℕ) → List ℕ → Type 0
+NoneShorter waits channels = (circle : List ℕ) → IsCircle waits circle → length channels ≤ length circle
+
 -- numbers that rise, or a circle
 abbrev pub IsOrder : List (List ℕ) → ChannelOrder → Type 0
 IsOrder waits (Rises numbers) = Rise waits numbers.items
 IsOrder waits (Circle channels) = IsCircle waits channels.items
+
+-- where it is a circle, none has fewer channels
+abbrev pub IsShortest : List (List ℕ) → ChannelOrder → Type 0
+IsShortest waits (Rises numbers) = Unit {0}
+IsShortest waits (Circle channels) = NoneShorter waits channels.items
 
 -- where numbers rise there is no circle
 abbrev pub NoCircleWhereNumbersRise : Type 0

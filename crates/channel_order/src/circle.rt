@@ -1,6 +1,6 @@
 ghost use Rattle.std.specs.Prelude.{◌≡◌, ◌↔◌, ◌<◌, IfOk, IsTrue, ◌==◌, position, true};
 ghost use Rattle.std.specs.List.{find, list_any};
-ghost use Rattle.channel_order.specs.Orders.{Follows, GoesOn, IsCircle};
+ghost use Rattle.channel_order.specs.Orders.{Follows, IsCircle};
 ghost use Rattle.channel_order.specs.Numbers.{AreGiven, has_none};
 
 use crate::numbers::has_none;
@@ -27,30 +27,6 @@ pub(crate) fn circle_from(
     let place = place_of(&way, at).unwrap_or(0);
     let circle = Vec::from_slice(alloc, &way[place..])?;
     Ok(circle)
-}
-
-/// Whether each of these channels follows the one before, and the first follows the last.
-pub(crate) fn is_circle(waits: &Waits, channels: &[usize]) -> bool
-    ensures { IsTrue result ↔ IsCircle waits.now channels.now }
-{
-    match channels {
-        [] => false,
-        [first, later @ ..] => goes_on(waits, *first, later),
-    }
-}
-
-/// Whether each of these channels follows the one before, from the first one on, and that follows the last.
-fn goes_on(waits: &Waits, first: usize, later: &[usize]) -> bool
-    ensures { IsTrue result ↔ GoesOn waits.now first later.now first }
-{
-    let mut last = first;
-    for next in later {
-        if !follows(waits, last, *next) {
-            return false;
-        }
-        last = *next;
-    }
-    follows(waits, last, first)
 }
 
 /// Whether one channel follows another.

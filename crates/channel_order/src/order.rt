@@ -1,5 +1,5 @@
 ghost use Rattle.std.specs.Prelude.{IfOk};
-ghost use Rattle.channel_order.specs.Orders.{IsOrder};
+ghost use Rattle.channel_order.specs.Orders.{IsOrder, IsShortest};
 
 use crate::circle::circle_from;
 use crate::numbers::{first_without, numbers};
@@ -12,8 +12,8 @@ use std::alloc::{AllocError, Global};
 pub enum ChannelOrder {
     /// The number of each channel: those of the channels that follow it are greater.
     Rises(Vec<usize>),
-    /// Channels of which each follows the one before, and the first follows the last; none comes twice. No circle has
-    /// fewer of them: that is tested, and not proved.
+    /// Channels of which each follows the one before, and the first follows the last. No such circle has fewer of them,
+    /// so none comes twice.
     Circle(Vec<usize>),
 }
 
@@ -22,7 +22,8 @@ pub enum ChannelOrder {
 /// there is a circle also the square of the channels that are walked until one comes again, and for each channel
 /// without a number a search in breadth over those that a way of fewer channels than that circle leads to.
 pub fn order_channels(alloc: Global, waits: &Waits) -> Result<ChannelOrder, AllocError>
-    ensures { IfOk result (λ found. IsOrder waits.now found) }
+    ensures order { IfOk result (λ found. IsOrder waits.now found) }
+    ensures shortest { IfOk result (λ found. IsShortest waits.now found) }
 {
     let numbers = numbers(alloc, waits)?;
     match first_without(&numbers) {

@@ -1,63 +1,69 @@
 //! Of circles of channels a shortest one, by a search in breadth from each channel without a number.
-ghost use Rattle.std.specs.Prelude.{◌<◌, ◌≤◌, IfOk, IfSome, length};
-ghost use Rattle.channel_order.specs.Orders.{IsCircle};
+ghost use Rattle.std.specs.Prelude.{◌≡◌, ◌<◌, ◌≤◌, ◌+◌, ◌^◌, ℕ, true, None, IfOk, IfSome, OnOk, length, slice_index_or};
+ghost use Rattle.channel_order.specs.Numbers.{has_none, AreGiven};
+ghost use Rattle.channel_order.specs.Orders.{Follows, IsCircle, NoneShorter};
+ghost use Rattle.channel_order.specs.Searches.{at_place, HasReached, IsStep, AreWays, IsSearch, Grows, IsLeast, NoneBelow};
 
-use crate::circle::{follows, is_circle};
+use crate::circle::follows;
 use crate::numbers::has_none;
 use crate::waits::Waits;
 use std::alloc::{AllocError, Global};
 
-/// A circle that is no longer than the known one: the shortest that the searches find. A search goes over the channel
-/// that it begins with and greater ones, since what a lesser one is on was found before. It takes a step for each
-/// channel that it reaches and each that follows that, and goes only as far as a circle would be shorter.
+/// A circle of the fewest channels, where one is known; that one, where none is shorter. Marks are shared by the
+/// searches, one from each channel, so that each costs what it reaches.
 pub(crate) fn shortest_circle(
     alloc: Global,
     waits: &Waits,
     numbers: &[usize],
     known: Vec<usize>,
 ) -> Result<Vec<usize>, AllocError>
+    requires given { AreGiven waits.now numbers.now }
     requires known { IsCircle waits.now known.items }
     ensures circle { IfOk result (λ circle. IsCircle waits.now circle.items) }
-    ensures no_longer { IfOk result (λ circle. length circle.items ≤ length known.items) }
+    ensures none_shorter { IfOk result (λ circle. NoneShorter waits.now circle.items) }
 {
     let mut shortest = known;
-    let mut marks = vec![in alloc; waits.len(); waits.len()]?;
+    let mut marks = vec![in alloc; 0; waits.len()]?;
     for first in 0..waits.len() {
-        if has_none(numbers, first) {
-            let search = Search {
-                first,
-                least: shortest.len(),
-            };
-            let found = search.circle(alloc, waits, numbers, &mut marks)?;
-            shortest = shorter_of(waits, shortest, found);
-        }
+        shortest = shorter_from(alloc, waits, numbers, &mut marks, first, shortest)?;
     }
     Ok(shortest)
 }
 
-/// The channels that were found, where they are a circle and fewer than the known one, and else that.
-fn shorter_of(waits: &Waits, known: Vec<usize>, found: Vec<usize>) -> Vec<usize>
-    requires known { IsCircle waits.now known.items }
-    ensures circle { IsCircle waits.now result.items }
-    ensures no_longer { length result.items ≤ length known.items }
-{
-    if found.len() < known.len() && is_circle(waits, &found) {
-        found
-    } else {
-        known
-    }
-}
-
-/// A search for a circle of fewer channels than the shortest that is known, from its first channel on.
-#[derive(Clone, Copy)]
-struct Search {
+/// The known circle, or one of fewer channels, where one leads through this channel.
+fn shorter_from(
+    alloc: Global,
+    waits: &Waits,
+    numbers: &[usize],
+    marks: &mut [usize],
     first: usize,
-    least: usize,
+    known: Vec<usize>,
+) -> Result<Vec<usize>, AllocError>
+    requires given { AreGiven waits.now numbers.now }
+    requires first { first + 1 < 2 ^ 64 }
+    requires many { length marks.old ≡ length waits.now }
+    requires marks { (c : ℕ) → slice_index_or marks.old c 0 ≤ first }
+    requires known { IsCircle waits.now known.items }
+    ensures many { OnOk result (length marks.new ≡ length waits.now) }
+    ensures marks { OnOk result ((c : ℕ) → slice_index_or marks.new c 0 ≤ first + 1) }
+    ensures circle { IfOk result (λ circle. IsCircle waits.now circle.items) }
+    ensures no_longer { IfOk result (λ circle. length circle.items ≤ length known.items) }
+    ensures none { IfOk result (λ circle. has_none numbers.now first ≡ true → NoneBelow waits.now first (length circle.items)) }
+{
+    if !has_none(numbers, first) {
+        return Ok(known);
+    }
+    let found = circle_of(alloc, waits, numbers, marks, first, known.len())?;
+    if found.is_empty() {
+        Ok(known)
+    } else {
+        Ok(found)
+    }
 }
 
 /// A channel that a search reached.
 #[derive(Clone, Copy)]
-struct Reached {
+pub(crate) struct Reached {
     channel: usize,
     /// The place of the channel that it was reached from.
     from: usize,
@@ -65,109 +71,145 @@ struct Reached {
     count: usize,
 }
 
-impl Search {
-    /// The channels of the circle, or none. Each channel that is reached is marked with the first.
-    fn circle(
-        self,
-        alloc: Global,
-        waits: &Waits,
-        numbers: &[usize],
-        marks: &mut [usize],
-    ) -> Result<Vec<usize>, AllocError> {
-        let mut reached = Vec::new(alloc);
-        reached.push(Reached {
-            channel: self.first,
-            from: 0,
-            count: 1,
-        })?;
-        for place in 0..waits.len() {
-            let Some(here) = self.next(&reached, place) else {
-                break;
-            };
-            if follows(waits, here.channel, self.first) {
-                return way_to(alloc, &reached, place, here.count);
-            }
-            if here.count + 1 < self.least {
-                let following = waits.at(here.channel);
-                self.reach(
-                    following,
-                    numbers,
-                    marks,
-                    &mut reached,
-                    place,
-                    here.count + 1,
-                )?;
-            }
-        }
-        Ok(Vec::new(alloc))
-    }
-
-    /// The channel that was reached at a place, where a circle back from it would be shorter.
-    fn next(self, reached: &[Reached], place: usize) -> Option<Reached>
-        ensures { IfSome result (λ here. here.count < self.least) }
-    {
-        let here = *reached.get(place)?;
-        if here.count < self.least {
-            Some(here)
-        } else {
-            None
-        }
-    }
-
-    /// Reaches those of the channels that follow one which have no mark of this search.
-    fn reach(
-        self,
-        following: &[usize],
-        numbers: &[usize],
-        marks: &mut [usize],
-        reached: &mut Vec<Reached>,
-        from: usize,
-        count: usize,
-    ) -> Result<(), AllocError> {
-        for channel in following {
-            if self.first < *channel
-                && has_none(numbers, *channel)
-                && mark(marks, *channel, self.first)
-            {
-                reached.push(Reached {
-                    channel: *channel,
-                    from,
-                    count,
-                })?;
-            }
-        }
-        Ok(())
-    }
-}
-
-/// Marks a channel, and answers whether it had another mark.
-fn mark(marks: &mut [usize], channel: usize, mark: usize) -> bool {
-    match marks.get_mut(channel) {
-        Some(old) => {
-            let is_new = *old != mark;
-            *old = mark;
-            is_new
-        }
-        None => false,
-    }
-}
-
-/// So many channels on the way to the one that was reached at a place.
-fn way_to(
+/// The channels of a shortest circle from a channel on, where they are fewer than this, or none. Takes a step for each
+/// channel that a way of so few channels leads to, and each that follows that. What is reached is marked with the
+/// channel and one.
+fn circle_of(
     alloc: Global,
+    waits: &Waits,
+    numbers: &[usize],
+    marks: &mut [usize],
+    first: usize,
+    least: usize,
+) -> Result<Vec<usize>, AllocError>
+    requires first_fits { first + 1 < 2 ^ 64 }
+    requires given { AreGiven waits.now numbers.now }
+    requires first { has_none numbers.now first ≡ true }
+    requires many { length marks.old ≡ length waits.now }
+    requires marks { (c : ℕ) → slice_index_or marks.old c 0 ≤ first }
+    ensures many { OnOk result (length marks.new ≡ length waits.now) }
+    ensures marks { OnOk result ((c : ℕ) → slice_index_or marks.new c 0 ≤ first + 1) }
+    ensures found { IfOk result (λ found. IsLeast waits.now first least found.items) }
+{
+    let mut reached = Vec::new(alloc);
+    reached.push(Reached {
+        channel: first,
+        from: 0,
+        count: 1,
+    })?;
+    for place in 0..usize::MAX {
+        let Some(here) = in_turn(&reached, place, least) else {
+            return Ok(Vec::new(alloc));
+        };
+        if follows(waits, here.channel, first) {
+            let circle = way_back(alloc, waits, &reached, place, first)?;
+            return Ok(circle);
+        }
+        reach_on(
+            waits,
+            numbers,
+            marks,
+            &mut reached,
+            place,
+            here,
+            first,
+            least,
+        )?;
+    }
+    Ok(Vec::new(alloc))
+}
+
+/// What was reached at a place, where a circle from there would be of fewer channels than this.
+fn in_turn(reached: &[Reached], place: usize, least: usize) -> Option<Reached>
+    ensures some { IfSome result (λ here. (place < length reached.now) × (here ≡ at_place reached.now place) × (here.count < least)) }
+    ensures none { result ≡ None → place < length reached.now → least ≤ (at_place reached.now place).count }
+{
+    let here = *reached.get(place)?;
+    if here.count < least { Some(here) } else { None }
+}
+
+/// Reaches those of the channels that follow one which have no number and no mark of this search, where a circle from
+/// there would still be of fewer channels than this.
+fn reach_on(
+    waits: &Waits,
+    numbers: &[usize],
+    marks: &mut [usize],
+    reached: &mut Vec<Reached>,
+    place: usize,
+    here: Reached,
+    first: usize,
+    least: usize,
+) -> Result<(), AllocError>
+    requires many { length numbers.now ≡ length waits.now }
+    requires first { first + 1 < 2 ^ 64 }
+    requires count { here.count < least }
+    requires search { IsSearch waits.now first (here.count + 1) reached.old.items marks.old }
+    requires place { place < length reached.old.items }
+    requires here { here ≡ at_place reached.old.items place }
+    ensures search { OnOk result (IsSearch waits.now first (here.count + 1) reached.new.items marks.new) }
+    ensures grows { OnOk result (Grows reached.old.items reached.new.items) }
+    ensures onward { OnOk result (here.count + 1 < least → (c : ℕ) → Follows waits.now here.channel c → has_none numbers.now c ≡ true
+        → HasReached reached.new.items c (here.count + 1)) }
+{
+    if here.count + 1 >= least {
+        return Ok(());
+    }
+    for channel in waits.at(here.channel) {
+        let next = Reached {
+            channel: *channel,
+            from: place,
+            count: here.count + 1,
+        };
+        reach(waits, numbers, marks, reached, next, first)?;
+    }
+    Ok(())
+}
+
+/// Reaches a channel, where it has no number and no mark of this search.
+fn reach(
+    waits: &Waits,
+    numbers: &[usize],
+    marks: &mut [usize],
+    reached: &mut Vec<Reached>,
+    next: Reached,
+    first: usize,
+) -> Result<(), AllocError>
+    requires many { length numbers.now ≡ length waits.now }
+    requires first { first + 1 < 2 ^ 64 }
+    requires search { IsSearch waits.now first next.count reached.old.items marks.old }
+    requires step { IsStep waits.now reached.old.items next (length reached.old.items) }
+    ensures search { OnOk result (IsSearch waits.now first next.count reached.new.items marks.new) }
+    ensures grows { OnOk result (Grows reached.old.items reached.new.items) }
+    ensures onward { OnOk result (has_none numbers.now next.channel ≡ true → HasReached reached.new.items next.channel next.count) }
+{
+    if has_none(numbers, next.channel) && marks[next.channel] != first + 1 {
+        marks[next.channel] = first + 1;
+        reached.push(next)?;
+    }
+    Ok(())
+}
+
+/// The circle of the way to what was reached at a place, which the first channel follows.
+fn way_back(
+    alloc: Global,
+    waits: &Waits,
     reached: &[Reached],
     place: usize,
-    count: usize,
-) -> Result<Vec<usize>, AllocError> {
-    let mut way = Vec::with_capacity(alloc, count)?;
+    first: usize,
+) -> Result<Vec<usize>, AllocError>
+    requires ways { AreWays waits.now first reached.now }
+    requires place { place < length reached.now }
+    requires back { Follows waits.now (at_place reached.now place).channel first }
+    ensures circle { IfOk result (λ way. IsCircle waits.now way.items) }
+    ensures count { IfOk result (λ way. length way.items ≡ (at_place reached.now place).count) }
+{
+    let mut way = Vec::new(alloc);
     let mut at = place;
-    for _channel in 0..count {
-        let Some(here) = reached.get(at) else {
-            break;
-        };
-        way.push(here.channel)?;
+    while at > 0 {
+        let here = reached[at];
+        way.insert(0, here.channel)?;
         at = here.from;
     }
-    way.reverse();
+    way.insert(0, first)?;
     Ok(way)
 }

@@ -12,8 +12,8 @@ circle_from-requires-clause-first c =
     ap (position (λ (n : ℕ). n == 0)) (sym c.deref.ensures.value) ∙ sym c.first_without.ensures ∙ c.in-Some.is in
     subst (λ (xs : List ℕ). has_none xs c.in-Some.first ≡ true) (sym c.deref-in-Some.ensures.value) (first_has_none numbers c.in-Some.first found)
 
-pub returns-in-None : goal.returns-in-None
-returns-in-None c =
+pub returns-in-None-clause-order : goal.returns-in-None-clause-order
+returns-in-None-clause-order c =
     let numbers = c.in_ok-numbers.numbers.items in
     let none : position (λ (n : ℕ). n == 0) numbers ≡ None =
     ap (position (λ (n : ℕ). n == 0)) (sym c.deref.ensures.value) ∙ sym c.first_without.ensures ∙ c.in-None.is in
