@@ -1,12 +1,12 @@
 -- The order of channels, in words of packets.
 use Rattle.std.proofs.Common.{◌<◌, ℕ, List, [], ◌∷◌, ◌∙◌, arith}
 use Rattle.std.specs.Prelude.{slice_index_or}
-use Rattle.channel_order.specs.Orders.{GoesOn, IsCircle, IsOrder}
+use Rattle.channel_order.specs.Orders.{GoesOn, IsCircle, IsOrder, IsShortest}
 use Rattle.channel_order.specs.declared.order.ChannelOrder.{ChannelOrder}
 use Rattle.channel_order.specs.declared.order.ChannelOrder.TheVariants.{Rises, Circle}
 use Rattle.subnet_view.specs.Reading.{Cells}
 use Rattle.plan_file.specs.Held.{HeldPlan}
-use Rattle.audit_circles.specs.Waiting.{AreWaits, RiseOnWays, WaitOn, WaitInCircle, IsOrderOf, NeverBoth}
+use Rattle.audit_circles.specs.Waiting.{AreWaits, RiseOnWays, WaitOn, WaitInCircle, IsOrderOf, IsShortestOf, NeverBoth}
 
 module _ (cells : Cells) (held : HeldPlan) (waits : List (List ℕ)) (are : AreWaits cells held waits) where
   on : (channel last : ℕ) (later : List ℕ) → GoesOn waits channel later last → WaitOn cells held channel later last
@@ -20,6 +20,18 @@ module _ (cells : Cells) (held : HeldPlan) (waits : List (List ℕ)) (are : AreW
   pub order_is : (found : ChannelOrder) → IsOrder waits found → IsOrderOf cells held found
   order_is (Rises numbers) h = record { as_many = h.as_many ∙ are.as_many; rises = λ a b w. h.rises a b ((are.follows a b).1 w) }
   order_is (Circle channels) h = circle channels.items h
+
+  goes_on : (channel last : ℕ) (later : List ℕ) → WaitOn cells held channel later last → GoesOn waits channel later last
+  goes_on channel last [] h = (are.follows channel last).1 h
+  goes_on channel last (next ∷ later) h = ((are.follows channel next).1 h.0, goes_on next last later h.1)
+
+  is_circle : (channels : List ℕ) → WaitInCircle cells held channels → IsCircle waits channels
+  is_circle [] h = h
+  is_circle (channel ∷ later) h = goes_on channel channel later h
+
+  pub shortest_is : (found : ChannelOrder) → IsShortest waits found → IsShortestOf cells held found
+  shortest_is (Rises numbers) h = tt
+  shortest_is (Circle channels) h = λ other waiting. h other (is_circle other waiting)
 
 rise_along : (cells : Cells) (held : HeldPlan) (numbers : List ℕ) → RiseOnWays cells held numbers → (channel last : ℕ) (later : List ℕ)
     → WaitOn cells held channel later last → slice_index_or numbers channel 0 < slice_index_or numbers last 0

@@ -1,6 +1,6 @@
 -- Channels that packets take in turn by the tables held, and the order of channels.
 -- InfiniBand Architecture Specification, Volume 1: switches, unicast forwarding by the linear forwarding table; link layer, flow control by credits.
-use Rattle.std.specs.Prelude.{◌≡◌, ◌↔◌, ◌<◌, ◌*◌, ℕ, List, [], ◌∷◌, Contains, Option, length, slice_index_or}
+use Rattle.std.specs.Prelude.{◌≡◌, ◌↔◌, ◌<◌, ◌≤◌, ◌*◌, ℕ, List, [], ◌∷◌, Contains, Option, length, slice_index_or}
 use Rattle.port_graph.specs.declared.exit.Exit.{Exit}
 use Rattle.channel_order.specs.Orders.{Follows}
 use Rattle.channel_order.specs.Columns.{TakesInTurn}
@@ -46,6 +46,15 @@ WaitInCircle cells held (channel ∷ later) = WaitOn cells held channel later ch
 abbrev pub IsOrderOf : Cells → HeldPlan → ChannelOrder → Type 0
 IsOrderOf cells held (Rises numbers) = RiseOnWays cells held numbers.items
 IsOrderOf cells held (Circle channels) = WaitInCircle cells held channels.items
+
+-- no circle has fewer channels than these
+abbrev pub NoneShorter : Cells → HeldPlan → List ℕ → Type 0
+NoneShorter cells held channels = (circle : List ℕ) → WaitInCircle cells held circle → length channels ≤ length circle
+
+-- where it is a circle, none has fewer channels
+abbrev pub IsShortestOf : Cells → HeldPlan → ChannelOrder → Type 0
+IsShortestOf cells held (Rises numbers) = Unit {0}
+IsShortestOf cells held (Circle channels) = NoneShorter cells held channels.items
 
 -- where numbers rise there is no circle
 abbrev pub NeverBoth : Type 0

@@ -19,6 +19,7 @@ use Rattle.audit.specs.Steps.{end_for, is_at}
 use Rattle.audit.specs.Tables.{is_owner, is_same_end}
 use Rattle.audit.proofs.InTime.{end_found, end_is}
 use Rattle.audit.proofs.Judged.{same_ends, same_itself, at_is}
+use Rattle.audit_circles.specs.Waiting.{NoneShorter}
 use Rattle.audit_circles.proofs.Orders.{never_both}
 use Rattle.audit_ways.specs.declared.ways.WayFigures.{WayFigures}
 use Rattle.audit.specs.Steps.{IsBrought}
@@ -134,3 +135,7 @@ passes_is seen tally unmatched ways circle b found is =
           (eq-eqb tally.arrived tally.sent (counted.arrived ∙ count_all cells held p.arrive ∙ sym counted.sent))
           (eq-eqb (length circle) 0 (no_circle cells held circle found.waits p.rise)),
     )
+
+-- no channels are the fewest
+pub none_is_shorter : (cells : Cells) (held : HeldPlan) (channels : List ℕ) → channels ≡ [] → NoneShorter cells held channels
+none_is_shorter cells held channels e = λ other waiting. omega (arith, ap length e)

@@ -1,5 +1,6 @@
 ghost use Rattle.std.specs.Prelude.{◌≡◌, ◌↔◌, IfOk, IsTrue};
 ghost use Rattle.fact_store.specs.View.{cells_of};
+ghost use Rattle.audit_circles.specs.Waiting.{NoneShorter};
 ghost use Rattle.audit_report.specs.Passing.{IsCircle, Passes};
 
 use crate::seat::seats;
@@ -48,6 +49,7 @@ impl<'a> Audit<'a> {
         ensures facts { IfOk result (λ audit. audit.facts ≡ store.now) }
         ensures held { IfOk result (λ audit. audit.held ≡ held.now) }
         ensures circle { IfOk result (λ audit. IsCircle (cells_of store.now) held.now audit.circle) }
+        ensures shortest { IfOk result (λ audit. NoneShorter (cells_of store.now) held.now audit.circle) }
     {
         let network = Network::of(alloc, store, held)?;
         let seats = seats(alloc, store)?;
@@ -72,9 +74,11 @@ impl<'a> Audit<'a> {
     }
 }
 
-/// Channels that wait for each other in a circle; none where there is no circle.
+/// Channels that wait for each other in a circle, as few as there are; none where there is no circle.
+#[tactic(auto, using(crate::proofs::Judged::none_is_shorter))]
 fn circle_of(alloc: Global, network: &Network) -> Result<Vec<usize>, AllocError>
-    ensures { IfOk result (λ circle. IsCircle (cells_of network.now.facts) network.now.held circle.items) }
+    ensures circle { IfOk result (λ circle. IsCircle (cells_of network.now.facts) network.now.held circle.items) }
+    ensures shortest { IfOk result (λ circle. NoneShorter (cells_of network.now.facts) network.now.held circle.items) }
 {
     match channel_order(alloc, network)? {
         ChannelOrder::Rises(_) => Ok(Vec::new(alloc)),
