@@ -25,17 +25,18 @@ class Routes:
             for port, end in ports.items():
                 if end[0] not in self.place:
                     self.home[end] = i, port
-        self.groups = self.columns(plan)
+        self.groups, self.unowned = self.columns(plan)
 
     def columns(self, plan):
-        """The columns with their owners' switch, and the LIDs of each.
+        """The columns with their owners' switch, and the LIDs of each; and those of LIDs that nobody owns.
 
         At the owner's switch the column has 0 where packets leave it for the owner; the switch is None where they do
         not.
         """
-        length = max(self.owners, default=0) + 1
+        length = max(*self.owners, *plan.tops.values(), 0, 0) + 1
         rows = (plan.tables[g][: plan.tops[g] + 1][:length] for g in self.guids)
         matrix = b"".join(row.ljust(length, bytes([NO_WAY])) for row in rows)
+        unowned = {matrix[lid::length] for lid in range(1, length) if lid not in self.owners}
         groups = collections.defaultdict(list)
         for lid, owner in sorted(self.owners.items()):
             column = bytearray(matrix[lid::length])
@@ -45,7 +46,7 @@ class Routes:
             else:
                 at = None
             groups[at, bytes(column)].append(lid)
-        return groups
+        return groups, unowned
 
     def step(self, at, home, column):
         """Where a packet goes on from a switch: the next switch, or how it ends and what is wrong with that."""
@@ -103,9 +104,9 @@ class Routes:
                 if end[0] in self.place}
 
     def after(self):
-        """For each channel those that packets take next."""
+        """For each channel those that packets take next, for whichever LID."""
         ends, found = self.ends(), collections.defaultdict(set)
-        for home, column in self.groups:
+        for home, column in [*self.groups, *((None, column) for column in self.unowned)]:
             for at, port in enumerate(column):
                 far = ends.get((at, port)) if at != home else None
                 if far is not None and far != home and (far, column[far]) in ends:

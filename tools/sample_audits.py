@@ -29,12 +29,32 @@ def spelled(text):
 
 
 def found(text):
-    """Packets that do not arrive, or a circle."""
+    """Something that is missing, packets that do not arrive, or a credit loop."""
     return Ended(1, b"", spelled(text).encode())
 
 
 def lost(at, *packets):
     return "".join(f"lost {packet} at {at}\n" for packet in packets)
+
+
+# What becomes of packets that do not arrive, in the order of the line that counts them.
+KINDS = "above-top", "no-entry", "no-port", "no-link", "foreign", "misdelivered", "round"
+
+
+def counted(sent, between, **missed):
+    """The first lines of an audit: how many packets there are, how many of these are between adapters, and how many of which
+    kind do not arrive; of those between adapters so many as `apart` says."""
+    apart = missed.pop("apart", 0)
+    counts = [missed.pop(kind.replace("-", "_"), 0) for kind in KINDS]
+    assert not missed, missed
+    arrived = sent - sum(counts)
+    lines = [
+        f"pairs {sent} arrive {arrived}",
+        f"between adapters pairs {between} arrive {between - apart}",
+        f"with a switch pairs {sent - between} arrive {arrived - (between - apart)}",
+        " ".join(["missed", *(f"{kind} {count}" for kind, count in zip(KINDS, counts))]),
+    ]
+    return "".join(f"{line}\n" for line in lines)
 
 
 # How far packets between the adapters go, and the loads of channels: 10/1 and 20/1 here, and ten of the ring.
@@ -43,45 +63,60 @@ ONE = "hops max 3 mean 3.00\nload max 1 mean 0.50\n"
 NEITHER = "hops none\nload max 0 mean 0.00\n"
 AT_10, AT_20, AT_100 = f"{0x10:016x}", f"{0x20:016x}", f"{0x100:016x}"
 
+# Of these two switches and two adapters an audit of no tables.
+NOTHING = (
+    f"{counted(0, 0)}tableless {AT_10}\ntableless {AT_20}\nlidless 10/0\nlidless 20/0\nlidless 100/1\nlidless 200/1\n"
+    f"{NEITHER}credit loop none\n"
+)
+
 
 def tables(plan):
     """Each with its title, the text of tables, and how the audit ends."""
     good = plan(LIDS, *GOOD).printed.decode()
     lines = good.splitlines()
-    all_arrive = prints("pairs 16 arrive 16\n" + BOTH + "circle none\n")
+    all_arrive = prints(counted(16, 4) + BOTH + "credit loop none\n")
     yield "tables by which all arrive", good, all_arrive
     yield "the same, spelled otherwise", otherwise(good), all_arrive
     # The greatest LID and the last block say nothing here.
     edges = [*lines, f"block 767 {'f' * 128}"]
     edges.insert(4, f"lid 49151 {0x200:016x}/1")
     yield "with the greatest LID", "\n".join(edges), found(
-        "pairs 20 arrive 17\n" + lost(f"{AT_10} by 255", "10/0 49151") + lost(f"{AT_20} by 255", "20/0 49151")
-        + lost(f"{AT_10} by 255", "100/1 49151") + BOTH + "circle none\n"
+        counted(20, 6, above_top=3, apart=1) + lost(f"{AT_10} by 255: above top", "10/0 49151")
+        + lost(f"{AT_20} by 255: above top", "20/0 49151") + lost(f"{AT_10} by 255: above top", "100/1 49151") + BOTH + "credit loop none\n"
     )
     yield (
         "an entry to a port without a wire",
         plan(LIDS, "10 0 1 2 3", GOOD[1]).printed.decode(),
-        found("pairs 16 arrive 14\n" + lost(f"{AT_10} by 3", "10/0 4", "100/1 4") + ONE + "circle none\n"),
+        found(counted(16, 4, no_link=2, apart=1) + lost(f"{AT_10} by 3: no link", "10/0 4", "100/1 4") + ONE + "credit loop none\n"),
+    )
+    yield (
+        "an entry to the last port, and to one that the switch lacks",
+        plan(LIDS, "10 0 1 2 4", "20 5 0 1 2").printed.decode(),
+        found(
+            counted(16, 4, no_port=2, no_link=2, apart=1) + lost(f"{AT_20} by 5: no such port", "20/0 1", "200/1 1")
+            + lost(f"{AT_10} by 4: no link", "10/0 4", "100/1 4") + ONE + "credit loop none\n"
+        ),
     )
     yield (
         "an entry to the wrong neighbour",
         plan(LIDS, "10 0 2 2 1", GOOD[1]).printed.decode(),
-        found("pairs 16 arrive 14\n" + lost(AT_100, "10/0 2", "100/1 2") + BOTH + "circle none\n"),
+        found(counted(16, 4, foreign=2) + lost(f"{AT_100}: foreign port", "10/0 2", "100/1 2") + BOTH + "credit loop none\n"),
     )
     yield (
         "round between two switches",
         plan(LIDS, GOOD[0], "20 1 0 1 1").printed.decode(),
-        found("pairs 16 arrive 13\nround 10/0 4\nround 20/0 4\nround 100/1 4\n" + ONE + "circle 10/1 20/1\n"),
+        found(counted(16, 4, round=3, apart=1) + "round 10/0 4\nround 20/0 4\nround 100/1 4\n" + ONE + "credit loop on one lane 10/1 20/1\n"),
     )
     all_lost = "20/0 1", "200/1 1", "10/0 2", "20/0 2", "100/1 2", "200/1 2", "20/0 3", "200/1 3", "10/0 4", "20/0 4", "100/1 4"
-    without = found("pairs 16 arrive 5\n" + lost(f"{AT_20} by 255", *all_lost) + NEITHER + "circle none\n")
-    yield "a switch without its block", "\n".join(lines[:-1]) + "\n", without
-    tableless = without.printed.decode().replace("hops", f"tableless {AT_20}\nhops")
-    yield "a switch without tables", "\n".join(lines[:-2]) + "\n", found(tableless)
+    without = counted(16, 4, no_entry=11, apart=2) + lost(f"{AT_20} by 255: no entry", *all_lost) + NEITHER + "credit loop none\n"
+    yield "a switch without its block", "\n".join(lines[:-1]) + "\n", found(without)
+    # A switch without tables has a top of 0.
+    tableless = counted(16, 4, above_top=11, apart=2) + lost(f"{AT_20} by 255: above top", *all_lost) + f"tableless {AT_20}\n"
+    yield "a switch without tables", "\n".join(lines[:-2]) + "\n", found(tableless + NEITHER + "credit loop none\n")
     yield (
         "a top too low",
         good.replace(f"switch {AT_10} top 4", f"switch {AT_10} top 3"),
-        found("pairs 16 arrive 14\n" + lost(f"{AT_10} by 255", "10/0 4", "100/1 4") + ONE + "circle none\n"),
+        found(counted(16, 4, above_top=2, apart=1) + lost(f"{AT_10} by 255: above top", "10/0 4", "100/1 4") + ONE + "credit loop none\n"),
     )
     twice = good.replace("lid 4 ", "lid 3 ")
     misdelivered = "200/1 3 at 200/1", "10/0 3 at 100/1", "20/0 3 at 100/1", "100/1 3 at 100/1"
@@ -89,8 +124,8 @@ def tables(plan):
         "a LID that two ports hold",
         twice,
         found(
-            "pairs 16 arrive 12\n" + "".join(f"misdelivered {line}\n" for line in misdelivered)
-            + "twice 3 100/1\ntwice 3 200/1\n" + NEITHER + "circle none\n"
+            counted(16, 4, misdelivered=4, apart=2) + "".join(f"misdelivered {line}\n" for line in misdelivered)
+            + "twice 3 100/1\ntwice 3 200/1\n" + NEITHER + "credit loop none\n"
         ),
     )
     # A port and a switch that the facts don't know are told, and change nothing.
@@ -98,25 +133,35 @@ def tables(plan):
     yield (
         "a port and a switch that the facts don't know",
         strange,
-        prints(spelled(f"pairs 16 arrive 16\nunowned 5 300/1\nunknown {0x30:016x}\n" + BOTH + "circle none\n")),
+        prints(spelled(f"{counted(16, 4)}unowned 5 300/1\nunknown {0x30:016x}\n" + BOTH + "credit loop none\n")),
     )
-    yield "nothing", "", prints(f"pairs 0 arrive 0\ntableless {AT_10}\ntableless {AT_20}\n" + NEITHER + "circle none\n")
+    yield "nothing", "", found(NOTHING)
+    # No packet is for an end port that no line tells of.
+    yield (
+        "an end port without a LID",
+        good.replace(f"lid 4 {0x200:016x}/1\n", ""),
+        found(counted(12, 2) + "lidless 200/1\n" + ONE + "credit loop none\n"),
+    )
+    # What is for LID 5, the two switches send each other, and nobody holds it.
+    unheld = plan(f"{LIDS} 5 300/1", *(f"{row} 1" for row in GOOD)).printed.decode().replace(f"lid 5 {0x300:016x}/1\n", "")
+    yield "a loop for a LID that nobody holds", unheld, found(counted(16, 4) + BOTH + "credit loop on one lane 10/1 20/1\n")
+    yield "the same, above the top of one switch", unheld.replace(f"switch {AT_20} top 5", f"switch {AT_20} top 4"), all_arrive
 
 
 def ranges(plan):
     """The same where each adapter's port has two LIDs: 100/1 has 4 and 5, 200/1 has 6 and 7."""
     good = plan("1 10/0 2 20/0 4 100/1 6 200/1", *GOOD, lmc=1).printed.decode()
     all_four = "hops max 3 mean 3.00\nload max 2 mean 2.00\n"
-    yield "tables for two LIDs a port", good, prints("pairs 24 arrive 24\n" + all_four + "circle none\n")
-    yield "the same, told one by one", one_by_one(good), prints("pairs 24 arrive 24\n" + all_four + "circle none\n")
+    yield "tables for two LIDs a port", good, prints(counted(24, 8) + all_four + "credit loop none\n")
+    yield "the same, told one by one", one_by_one(good), prints(counted(24, 8) + all_four + "credit loop none\n")
     table = good.index(f"switch {AT_10}")
     entry = good.index("block 0 ", table) + len("block 0 ") + 2 * 7
     yield (
         "the second LID of a port leads to no wire",
         good[:entry] + "03" + good[entry + 2 :],
         found(
-            "pairs 24 arrive 22\n" + lost(f"{AT_10} by 3", "10/0 7", "100/1 7")
-            + "hops max 3 mean 3.00\nload max 2 mean 1.50\ncircle none\n"
+            counted(24, 8, no_link=2, apart=1) + lost(f"{AT_10} by 3: no link", "10/0 7", "100/1 7")
+            + "hops max 3 mean 3.00\nload max 2 mean 1.50\ncredit loop none\n"
         ),
     )
     yield (
@@ -124,8 +169,9 @@ def ranges(plan):
         good.replace("lid 6 ", "lid 5 "),
         # What is for 5 comes to 100/1, and nothing is for 7.
         found(
-            "pairs 24 arrive 20\nmisdelivered 200/1 5 at 200/1\nmisdelivered 10/0 5 at 100/1\nmisdelivered 20/0 5 at 100/1\n"
-            "misdelivered 100/1 5 at 100/1\ntwice 5 100/1\ntwice 5 200/1\nhops max 3 mean 3.00\nload max 1 mean 1.00\ncircle none\n"
+            counted(24, 8, misdelivered=4, apart=2)
+            + "misdelivered 200/1 5 at 200/1\nmisdelivered 10/0 5 at 100/1\nmisdelivered 20/0 5 at 100/1\n"
+            "misdelivered 100/1 5 at 100/1\ntwice 5 100/1\ntwice 5 200/1\nhops max 3 mean 3.00\nload max 1 mean 1.00\ncredit loop none\n"
         ),
     )
 
@@ -159,14 +205,29 @@ def rings(plan):
     yield (
         "the short way both ways",
         plan(RING_LIDS, *short).printed.decode(),
-        found("pairs 25 arrive 25\n" + NEITHER + "circle 10/1 20/1 30/1 40/1 50/1\n"),
+        found(counted(25, 0) + NEITHER + "credit loop on one lane 10/1 20/1 30/1 40/1 50/1\n"),
     )
     # Each to those beside it alone: no packet takes two channels in turn.
     beside = ring("0 1 - - 2", "2 0 1 - -", "- 2 0 1 -", "- - 2 0 1", "1 - - 2 0")
     far = (0x30, 1), (0x40, 1), (0x40, 2), (0x50, 2), (0x10, 3), (0x50, 3), (0x10, 4), (0x20, 4), (0x20, 5), (0x30, 5)
-    missing = "".join(f"lost {guid:x}/0 {lid} at {guid:016x} by 255\n" for guid, lid in far)
-    yield "one wire far", plan(RING_LIDS, *beside).printed.decode(), found("pairs 25 arrive 15\n" + missing + NEITHER + "circle none\n")
-    yield "not across one wire", plan(RING_LIDS, *cut).printed.decode(), prints("pairs 25 arrive 25\n" + NEITHER + "circle none\n")
+    missing = "".join(f"lost {guid:x}/0 {lid} at {guid:016x} by 255: no entry\n" for guid, lid in far)
+    yield "one wire far", plan(RING_LIDS, *beside).printed.decode(), found(counted(25, 0, no_entry=10) + missing + NEITHER + "credit loop none\n")
+    yield "not across one wire", plan(RING_LIDS, *cut).printed.decode(), prints(counted(25, 0) + NEITHER + "credit loop none\n")
+    # Of 25 packets of a kind 20 are told.
+    first = [f"{guid:x}/0 {lid}" for lid in range(1, 5) for guid in RING]
+    nowhere = "".join(lost(f"{int(packet.split('/')[0], 16):016x} by 9: no such port", packet) for packet in first)
+    yield "no port of any switch", plan(RING_LIDS, *ring(*["9 9 9 9 9"] * 5)).printed.decode(), found(
+        counted(25, 0, no_port=25) + nowhere + "more lost 5\n" + NEITHER + "credit loop none\n"
+    )
+    yield "round for ever", plan(RING_LIDS, *ring(*["1 1 1 1 1"] * 5)).printed.decode(), found(
+        counted(25, 0, round=25) + "".join(f"round {packet}\n" for packet in first) + "more round 5\n"
+        + NEITHER + "credit loop on one lane 10/1 20/1 30/1 40/1 50/1\n"
+    )
+    yield "each to itself", plan(RING_LIDS, *ring(*["0 0 0 0 0"] * 5)).printed.decode(), found(
+        counted(25, 0, misdelivered=20)
+        + "".join(f"misdelivered {guid:x}/0 {lid} at {guid:x}/0\n" for lid, own in enumerate(RING, 1) for guid in RING if guid != own)
+        + NEITHER + "credit loop none\n"
+    )
 
 
 # The same ring, and beside it two switches with a wire between their ports 1.
@@ -175,13 +236,13 @@ RING_AND_TWO_WIRES = f"{RING_WIRES} 60/1-70/1"
 
 
 def ring_and_two(plan):
-    """All packets of both arrive. What is for the ring, the two send each other, so that there is also a circle of two."""
+    """All packets of both arrive. What is for the ring, the two send each other, so that there is also a loop of two."""
     short = ring("0 1 1 2 2 - -", "2 0 1 1 2 - -", "2 2 0 1 1 - -", "1 2 2 0 1 - -", "1 1 2 2 0 - -")
     lids = f"{RING_LIDS} 6 60/0 7 70/0"
     tables = plan(lids, *short, "60 1 - - - - 0 1", "70 1 - - - - 1 0").printed.decode()
-    yield "a ring beside a loop of two", tables, found("pairs 29 arrive 29\n" + NEITHER + "circle 60/1 70/1\n")
+    yield "a ring beside a loop of two", tables, found(counted(29, 0) + NEITHER + "credit loop on one lane 60/1 70/1\n")
     apart = plan(lids, *short, "60 - - - - - 0 1", "70 - - - - - 1 0").printed.decode()
-    yield "a ring beside two", apart, found("pairs 29 arrive 29\n" + NEITHER + "circle 10/1 20/1 30/1 40/1 50/1\n")
+    yield "a ring beside two", apart, found(counted(29, 0) + NEITHER + "credit loop on one lane 10/1 20/1 30/1 40/1 50/1\n")
 
 
 # Two adapters with a wire between them, and no switch.
@@ -190,7 +251,7 @@ PAIR_WIRES = "100/1-200/1"
 
 def pairs(plan):
     lids = f"lid 3 {0x100:016x}/1\nlid 4 {0x200:016x}/1\n"
-    yield "two adapters and no switch", lids, prints("pairs 4 arrive 4\nhops max 1 mean 1.00\nload none\ncircle none\n")
+    yield "two adapters and no switch", lids, prints(counted(4, 4) + "hops max 1 mean 1.00\nload none\ncredit loop none\n")
 
 
 # Switches 10, 20 and 30 in a row, with the adapters 100 and 300 at 10 and 200 at 30: six pairs of adapters, of which two take
@@ -201,14 +262,14 @@ ROW_WIRES = "10/1-20/2 20/1-30/2 10/3-100/1 10/4-300/1 30/3-200/1"
 
 
 def rows(plan):
-    lids = "1 100/1 2 200/1 3 300/1"
-    all_arrive = plan(lids, "10 3 1 4", "20 2 1 2", "30 2 3 2").printed.decode()
-    yield "three in a row", all_arrive, prints("pairs 18 arrive 18\nhops max 4 mean 3.33\nload max 2 mean 2.00\ncircle none\n")
+    lids = "1 100/1 2 200/1 3 300/1 4 10/0 5 20/0 6 30/0"
+    all_arrive = plan(lids, "10 3 1 4 0 1 1", "20 2 1 2 2 0 1", "30 2 3 2 2 2 0").printed.decode()
+    yield "three in a row", all_arrive, prints(counted(36, 9) + "hops max 4 mean 3.33\nload max 2 mean 2.00\ncredit loop none\n")
     # What is for 200 is lost at 20, and counts nowhere.
-    cut = plan(lids, "10 3 1 4", "20 2 9 2", "30 2 3 2").printed.decode()
-    there = lost(f"{AT_20} by 9", "10/0 2", "20/0 2", "100/1 2", "300/1 2")
+    cut = plan(lids, "10 3 1 4 0 1 1", "20 2 9 2 2 0 1", "30 2 3 2 2 2 0").printed.decode()
+    there = lost(f"{AT_20} by 9: no such port", "10/0 2", "20/0 2", "100/1 2", "300/1 2")
     yield "three in a row, the middle one without a way to 200", cut, found(
-        "pairs 18 arrive 14\n" + there + "hops max 4 mean 3.00\nload max 2 mean 1.00\ncircle none\n"
+        counted(36, 9, no_port=4, apart=2) + there + "hops max 4 mean 3.00\nload max 2 mean 1.00\ncredit loop none\n"
     )
 
 

@@ -2,10 +2,11 @@
  * A library to be loaded before a program (LD_PRELOAD): it refuses one of the program's calls, or cuts it short.
  *
  * REFUSE names what, and REFUSE_AT the number of the call, from 1, or `every`: `alloc` has an allocation answer that there
- * is no memory, `read`, `write` and `open` fail, `interrupted-read` and `interrupted-write` are interrupted before a byte is
+ * is no memory, `read`, `write` and `open` fail, `again-read` and `again-write` fail since they would have to wait, `late-read`
+ * and `late-write` since they took too long, `interrupted-read` and `interrupted-write` are interrupted before a byte is
  * moved, `empty-write` takes none, `short-read` and `short-write` move one byte. What is written is standard output; `say`,
- * `interrupted-say`, `empty-say` and `short-say` are the same of standard error. At the end the number of calls of that
- * kind is written to the file REFUSE_COUNT. Threads are not looked after.
+ * `again-say`, `late-say`, `interrupted-say`, `empty-say` and `short-say` are the same of standard error. At the end the number of calls
+ * of that kind is written to the file REFUSE_COUNT. Threads are not looked after.
  */
 #define _GNU_SOURCE
 #include <dlfcn.h>
@@ -86,36 +87,40 @@ int posix_memalign(void **into, size_t align, size_t size)
 	return 0;
 }
 
+/* How a call fails, and the error that it tells. */
+enum { FAILURES = 4 };
+static const int errors[FAILURES] = { EIO, EAGAIN, ETIMEDOUT, EINTR };
+
 ssize_t read(int fd, void *into, size_t count)
 {
+	static const char *const kinds[FAILURES] = { "read", "again-read", "late-read", "interrupted-read" };
 	ssize_t (*real)(int, void *, size_t) = dlsym(RTLD_NEXT, "read");
+	int i;
 
-	if (is_now("read")) {
-		errno = EIO;
-		return -1;
-	}
-	if (is_now("interrupted-read")) {
-		errno = EINTR;
-		return -1;
-	}
+	for (i = 0; i < FAILURES; i++)
+		if (is_now(kinds[i])) {
+			errno = errors[i];
+			return -1;
+		}
 	if (count > 1 && is_now("short-read"))
 		count = 1;
 	return real(fd, into, count);
 }
 
-enum answer { AS_ASKED, FAILS, INTERRUPTED, TAKES_NONE, TAKES_ONE };
+/* How a write is answered: as it is asked, with one of the failures, by none of its bytes, or by one. */
+enum answer { AS_ASKED, FAILS, TAKES_NONE = FAILS + FAILURES, TAKES_ONE };
 
 static enum answer answer_to_write(int fd, size_t count)
 {
-	static const char *const kinds[2][4] = {
-		{ "write", "interrupted-write", "empty-write", "short-write" },
-		{ "say", "interrupted-say", "empty-say", "short-say" },
+	static const char *const kinds[2][FAILURES + 2] = {
+		{ "write", "again-write", "late-write", "interrupted-write", "empty-write", "short-write" },
+		{ "say", "again-say", "late-say", "interrupted-say", "empty-say", "short-say" },
 	};
 	int i;
 
 	if (fd != 1 && fd != 2)
 		return AS_ASKED;
-	for (i = 0; i < (count > 1 ? 4 : 3); i++)
+	for (i = 0; i < FAILURES + (count > 1 ? 2 : 1); i++)
 		if (is_now(kinds[fd - 1][i]))
 			return FAILS + i;
 	return AS_ASKED;
@@ -125,7 +130,7 @@ static ssize_t not_written(enum answer answer)
 {
 	if (answer == TAKES_NONE)
 		return 0;
-	errno = answer == INTERRUPTED ? EINTR : EIO;
+	errno = errors[answer - FAILS];
 	return -1;
 }
 

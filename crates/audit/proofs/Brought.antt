@@ -14,7 +14,7 @@ use Rattle.audit.specs.declared.step.Step.{Step}
 use Rattle.audit.specs.Exits.{exit_by, exit_of}
 use Rattle.audit.specs.declared.owners.Owner.{Owner}
 use Rattle.audit.specs.Network.{row_of, node_of, source_of, IsNetwork}
-use Rattle.audit.specs.Steps.{by_entry, steps_of, entry_among, step_of, first_step, AreBrought, AreBlocks}
+use Rattle.audit.specs.Steps.{by_entry, cause_of, steps_of, entry_among, step_by, step_of, first_step, AreBrought, AreBlocks}
 use Rattle.audit.specs.Tables.{owners_of, place_of, top_of, block_at, entry_in, entry_at, entry_for, counted}
 use Rattle.audit.specs.Walks.{onward, end_of, IsEndOf, HaveEnded}
 
@@ -32,11 +32,11 @@ module _ (cells : Cells) (held : HeldPlan) (lid number : ℕ) (rows : List (List
       blocks.entry place (lid % 64) (omega arith) ∙ ap (λ n. entry_in (block_at held place n) (lid % 64)) is
 
   step_is : (g : ℕ) → step_of (owners_of held lid) rows lid (node_of cells held g)
-      ≡ by_entry (owners_of held lid) g (row_of cells g) (counted lid (top_of held g) (entry_at held (place_of held g) lid))
-  step_is g = ap (λ e. by_entry (owners_of held lid) g (row_of cells g) (counted lid (top_of held g) e)) (entry_is g (place_of held g) refl)
+      ≡ by_entry (owners_of held lid) g (cause_of cells held lid g) (row_of cells g) (counted lid (top_of held g) (entry_at held (place_of held g) lid))
+  step_is g = ap (λ e. step_by (owners_of held lid) lid (node_of cells held g) (counted lid (top_of held g) e)) (entry_is g (place_of held g) refl)
 
   steps_are : (guids : List ℕ) → map (step_of (owners_of held lid) rows lid) (map (node_of cells held) guids)
-      ≡ map (λ g. by_entry (owners_of held lid) g (row_of cells g) (counted lid (top_of held g) (entry_at held (place_of held g) lid))) guids
+      ≡ map (λ g. by_entry (owners_of held lid) g (cause_of cells held lid g) (row_of cells g) (counted lid (top_of held g) (entry_at held (place_of held g) lid))) guids
   steps_are [] = refl
   steps_are (g ∷ guids) = λ i. step_is g i ∷ steps_are guids i
 

@@ -1,4 +1,4 @@
--- What facts that agree with a fabric say of its switches and its wires.
+-- What facts that agree with a part of a fabric say of its switches and its wires.
 use Rattle.std.proofs.Common.{◌≡◌, ◌≢◌, ℕ, ◌≤◌, true, false, List, length, get_or, None, Some, refl, sym, ap, ◌∙◌, subst, arith}
 use Rattle.std.specs.Prelude.{slice_get, is_some, Contains, ◌==◌}
 use Rattle.std.specs.List.{position_or_len}
@@ -16,10 +16,10 @@ use Rattle.smp_bytes.proofs.FabricWalks.{port_at, same_port, EndNumber, vertex_n
 use Rattle.fact_store.specs.View.{Facts, cells_of}
 use Rattle.subnet_view.specs.Reading.{Cells, is_switch_node, is_usable, cap_of, switches}
 use Rattle.subnet_view.specs.Wires.{across}
-use Rattle.subnet_view.specs.Agreement.{WholeFabric, IsEndPortIn}
+use Rattle.subnet_view.specs.Agreement.{Part, WholeFabric, IsEndPortIn}
 use Rattle.subnet_view.proofs.UsableSwitches.{switches_law, usable_law}
 use Rattle.subnet_view.proofs.WireLaws.{wire_law}
-use Rattle.audit.specs.Fabrics.{IsSeen}
+use Rattle.audit.specs.Fabrics.{IsSeen, IsSeenIn}
 use Rattle.audit.specs.Network.{index_in}
 use Rattle.plan_file.specs.Held.{HeldPlan}
 
@@ -32,38 +32,51 @@ index_there guids g h e =
     let here : (get_or guids h.0 g == g) ≡ true = eq-eqb (get_or guids h.0 g) g h.2 in
     cc
 
-module _ (facts : Facts) (held : HeldPlan) (f : Fabric) (seen : IsSeen (cells_of facts) held f) where
+-- the facts agree with the whole fabric
+pub seen_whole : {cells : Cells} {held : HeldPlan} {f : Fabric} → IsSeen cells held f → IsSeenIn WholeFabric cells held f
+seen_whole seen = record {
+  is_fabric = seen.is_fabric;
+  agrees = seen.agrees;
+  holds = record {
+    lids = λ port node lid here some. seen.holds.lids port node lid here.node_there here.end_port some;
+    tops = λ port node here kind. seen.holds.tops port.node node here.node_there kind;
+    entries = λ port node lid here kind. seen.holds.entries port.node node lid here.node_there kind;
+  };
+}
+
+module _ (part : Part) (facts : Facts) (held : HeldPlan) (f : Fabric) (seen : IsSeenIn part (cells_of facts) held f) where
   abbrev pub cells : Cells
   cells = cells_of facts
 
   abbrev pub InFabric : NodePort → Node → Type 0
-  InFabric p node = IsEndPortIn WholeFabric f p node
+  InFabric p node = IsEndPortIn part f p node
 
-  pub as_part : (p : NodePort) (node : Node) → IsNodeAt f p.node node → IsEndPort f p → InFabric p node
-  as_part p node at end = record { node_there = at; end_port = end; in_part = tt }
+  pub as_part : (p : NodePort) (node : Node) → IsNodeAt f p.node node → IsEndPort f p → part p → InFabric p node
+  as_part p node at end within = record { node_there = at; end_port = end; in_part = within }
 
   -- the vertex of a port with a cable
-  pub vertex_part : (p q : NodePort) (node : Node) → f.across p ≡ Some q → IsNodeAt f p.node node → InFabric (vertex_of f p) node
-  vertex_part p q node wire at =
-      as_part (vertex_of f p) node (ap (slice_get f.nodes) (vertex_node f p) ∙ at) (vertex_is_end f p (seen.is_fabric.cabled p q wire))
+  pub vertex_part : (p q : NodePort) (node : Node) → f.across p ≡ Some q → IsNodeAt f p.node node → part (vertex_of f p) → InFabric (vertex_of f p) node
+  vertex_part p q node wire at within =
+      as_part (vertex_of f p) node (ap (slice_get f.nodes) (vertex_node f p) ∙ at) (vertex_is_end f p (seen.is_fabric.cabled p q wire)) within
 
   pub known_type : (p : NodePort) (node : Node) → InFabric p node → is_switch_node cells node.guid ≡ is_switch node.kind
   known_type p node here = ap (λ o. option_map_or (λ n. is_switch n.0) o false) (seen.agrees.tells_end_ports p node here).kind
 
-  pub switch_end : (place : ℕ) (node : Node) → IsNodeAt f place node → is_switch node.kind ≡ true → InFabric (port_at place 0) node
-  switch_end place node at kind =
-      as_part (port_at place 0) node at (node, at, subst (EndNumber node.ports 0) (sym kind) refl)
+  pub switch_end : (place : ℕ) (node : Node) → IsNodeAt f place node → is_switch node.kind ≡ true → part (port_at place 0) → InFabric (port_at place 0) node
+  switch_end place node at kind within =
+      as_part (port_at place 0) node at (node, at, subst (EndNumber node.ports 0) (sym kind) refl) within
 
-  -- a switch of the fabric is usable, and has an index
-  pub usable : (place : ℕ) (node : Node) → IsNodeAt f place node → is_switch node.kind ≡ true → is_usable cells node.guid ≡ true
-  usable place node at kind =
-      let here = switch_end place node at kind in
+  -- a switch of the part is usable, and has an index
+  pub usable : (place : ℕ) (node : Node) → IsNodeAt f place node → is_switch node.kind ≡ true → part (port_at place 0) → is_usable cells node.guid ≡ true
+  usable place node at kind within =
+      let here = switch_end place node at kind within in
       and_from (is_switch_node cells node.guid) (is_some (cap_of cells node.guid)) (known_type (port_at place 0) node here ∙ kind)
       (ap is_some ((seen.agrees.tells_end_ports (port_at place 0) node here).cap kind))
 
-  pub listed : (place : ℕ) (node : Node) → IsNodeAt f place node → is_switch node.kind ≡ true → index_in (switches cells) node.guid ≡ None → ⊥
-  listed place node at kind none =
-      index_there (switches cells) node.guid (((switches_law facts).0 node.guid).1 ((usable_law cells node.guid).0 (usable place node at kind))) none
+  pub listed : (place : ℕ) (node : Node) → IsNodeAt f place node → is_switch node.kind ≡ true → part (port_at place 0)
+      → index_in (switches cells) node.guid ≡ None → ⊥
+  listed place node at kind within none =
+      index_there (switches cells) node.guid (((switches_law facts).0 node.guid).1 ((usable_law cells node.guid).0 (usable place node at kind within))) none
 
   -- a node with an index is a switch
   pub indexed : (p : NodePort) (node : Node) (i : ℕ) → InFabric p node → index_in (switches cells) node.guid ≡ Some i
@@ -82,9 +95,9 @@ module _ (facts : Facts) (held : HeldPlan) (f : Fabric) (seen : IsSeen (cells_of
   same_place : (p q : NodePort) (a b : Node) → InFabric p a → InFabric q b → a.guid ≡ b.guid → p.node ≡ q.node
   same_place = seen.agrees.guids_distinct
 
-  pub wire_told : (p q : NodePort) (a b : Node) → f.across p ≡ Some q → p ≢ q → IsNodeAt f p.node a → IsNodeAt f q.node b
+  pub wire_told : (p q : NodePort) (a b : Node) → f.across p ≡ Some q → p ≢ q → IsNodeAt f p.node a → IsNodeAt f q.node b → part (vertex_of f p)
       → across cells a.guid p.port ≡ Some (b.guid, q.port)
-  wire_told p q a b wire apart at there =
+  wire_told p q a b wire apart at there within =
       (wire_law cells a.guid p.port b.guid q.port).1 ((seen.agrees.wires a.guid p.port b.guid q.port).1
       (record {
         from = p;
@@ -92,7 +105,7 @@ module _ (facts : Facts) (held : HeldPlan) (f : Fabric) (seen : IsSeen (cells_of
         from_named = record { node = a; node_there = at; guid_is = refl; port_is = refl };
         to_named = record { node = b; node_there = there; guid_is = refl; port_is = refl };
         wire = record { cable = wire; different = apart };
-        in_part = tt;
+        in_part = within;
       }))
 
   pub record WireThere (p : NodePort) : Type 0 where
@@ -103,7 +116,7 @@ module _ (facts : Facts) (held : HeldPlan) (f : Fabric) (seen : IsSeen (cells_of
   pub told_wire : (p v : NodePort) (node : Node) (h q : ℕ) → InFabric v node → v.node ≡ p.node → across cells node.guid p.port ≡ Some (h, q) → WireThere p
   told_wire p v node h q here place e =
       let w = (seen.agrees.wires node.guid p.port h q).0 ((wire_law cells node.guid p.port h q).0 e) in
-      let from_part = vertex_part w.from w.to w.from_named.node w.wire.cable w.from_named.node_there in
+      let from_part = vertex_part w.from w.to w.from_named.node w.wire.cable w.from_named.node_there w.in_part in
       let at : w.from.node ≡ p.node =
       sym (vertex_node f w.from) ∙ same_place (vertex_of f w.from) v w.from_named.node node from_part here w.from_named.guid_is ∙ place in
       let same : w.from ≡ p = same_port w.from p at w.from_named.port_is in

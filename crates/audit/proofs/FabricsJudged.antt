@@ -14,7 +14,7 @@ use Rattle.fact_store.specs.View.{Facts, cells_of}
 use Rattle.subnet_view.specs.declared.end_port.EndPort.{EndPort}
 use Rattle.subnet_view.specs.Reading.{Cells}
 use Rattle.subnet_view.specs.EndPorts.{end_ports}
-use Rattle.subnet_view.specs.Agreement.{IsPortNamed}
+use Rattle.subnet_view.specs.Agreement.{WholeFabric, IsPortNamed}
 use Rattle.subnet_view.proofs.EndPortList.{end_ports_law}
 use Rattle.subnet_view.proofs.Members.{contains_here, contains_later, contains_cases, contains_none}
 use Rattle.plan_file.specs.declared.held.HeldLid.{HeldLid}
@@ -25,7 +25,7 @@ use Rattle.audit.specs.declared.end.End.TheVariants.{Taken, Lost}
 use Rattle.audit.specs.Fabrics.{IsSeen, EndsAs, EachArrives, SomeMisses, HoldsLids, FabricsAreJudged}
 use Rattle.audit.specs.Steps.{AllArrive, IsBrought, IsHeldFailure}
 use Rattle.audit.specs.Tables.{owners_of, is_owner, is_same_end}
-use Rattle.audit.proofs.FabricParts.{InFabric, as_part, switch_end}
+use Rattle.audit.proofs.FabricParts.{InFabric, as_part, seen_whole, switch_end}
 use Rattle.audit.proofs.Judged.{same_ends, same_itself}
 use Rattle.audit.proofs.Told.{into_is, packets_end_as_told}
 
@@ -95,7 +95,7 @@ module _ (facts : Facts) (held : HeldPlan) (f : Fabric) (seen : IsSeen (cells_of
   -- the facts list the end ports
   pub end_listed : (p : NodePort) (node : Node) → IsNodeAt f p.node node → IsEndPort f p → Contains (end_ports cells) (name p node)
   end_listed p node at is_end =
-      let told = seen.agrees.tells_end_ports p node (as_part facts held f seen p node at is_end) in
+      let told = seen.agrees.tells_end_ports p node (as_part WholeFabric facts held f (seen_whole seen) p node at is_end tt) in
       let (other, at_other, number) = is_end in
       let same : other ≡ node = same_Some other node (sym at_other ∙ at) in
       let its : EndNumber node.ports p.port (is_switch node.kind) = subst (λ (n : Node). EndNumber n.ports p.port (is_switch n.kind)) same number in
@@ -105,14 +105,14 @@ module _ (facts : Facts) (held : HeldPlan) (f : Fabric) (seen : IsSeen (cells_of
   end_there e h = let there = seen.agrees.end_ports_exist e.node e.port (((end_ports_law facts).0 e).0 h) in (there.port, there.named, there.end_port)
 
   -- one GUID, one place
-  some_end : (place : ℕ) (node : Node) → IsNodeAt f place node → (p : NodePort) × (p.node ≡ place) × InFabric facts held f seen p node
+  some_end : (place : ℕ) (node : Node) → IsNodeAt f place node → (p : NodePort) × (p.node ≡ place) × InFabric WholeFabric facts held f (seen_whole seen) p node
   some_end place node at =
-      elim (is_switch node.kind) as (λ t. is_switch node.kind ≡ t → (p : NodePort) × (p.node ≡ place) × InFabric facts held f seen p node) [
-        | true ↦ λ k. (port_at place 0, refl, switch_end facts held f seen place node at k)
+      elim (is_switch node.kind) as (λ t. is_switch node.kind ≡ t → (p : NodePort) × (p.node ≡ place) × InFabric WholeFabric facts held f (seen_whole seen) p node) [
+        | true ↦ λ k. (port_at place 0, refl, switch_end WholeFabric facts held f (seen_whole seen) place node at k tt)
         | false ↦ λ k.
             let some = (seen.is_fabric.counts place node at).0 in
             let number : EndNumber node.ports 1 (is_switch node.kind) = subst (EndNumber node.ports 1) (sym k) (omega arith, some) in
-            (port_at place 1, refl, as_part facts held f seen (port_at place 1) node at (node, at, number))
+            (port_at place 1, refl, as_part WholeFabric facts held f (seen_whole seen) (port_at place 1) node at (node, at, number) tt)
       ] refl
 
   pub one_port : (p q : NodePort) (node : Node) (e : EndPort) → IsPortNamed f e.node e.port p → IsNodeAt f q.node node → name q node ≡ e → p ≡ q
@@ -146,7 +146,7 @@ module _ (facts : Facts) (held : HeldPlan) (f : Fabric) (seen : IsSeen (cells_of
       let guid : x.node ≡ e.node = sym its.guid_is ∙ ap (λ (n : Node). n.guid) node ∙ named.guid_is in
       let port : x.port ≡ e.port = sym its.port_is ∙ ap (λ (p : NodePort). p.port) same ∙ named.port_is in
       apart (λ i. Some (Taken (record { node = guid i; port = port i })))
-  not_there source target lid e (Some (Lost g)) named (others, place, lost) apart hops d = (packets_end_once f lid source).1 hops others target place d lost
+  not_there source target lid e (Some (Lost g cause)) named (others, place, lost) apart hops d = (packets_end_once f lid source).1 hops others target place d lost
   not_there source target lid e None named (others, place, lost) apart hops d = (packets_end_once f lid source).1 hops others target place d lost
 
   pub miss : HoldsLids held → (failure : Failure) → IsHeldFailure cells held failure → SomeMisses f

@@ -13,7 +13,7 @@ use Rattle.audit.specs.declared.step.Step.TheVariants.{To, Ends}
 use Rattle.audit.specs.Network.{row_of, source_of}
 use Rattle.audit.specs.Tables.{owners_of, entry_for}
 use Rattle.audit.specs.Walks.{onward, after, IsEndOf, is_to, end_of, HaveEnded, AreAfter}
-use Rattle.audit.specs.Steps.{by_entry, steps_of, first_step, AreBrought, IsBrought, end_for, EndsAreFound}
+use Rattle.audit.specs.Steps.{by_entry, cause_of, steps_of, first_step, AreBrought, IsBrought, end_for, EndsAreFound}
 use Rattle.audit.proofs.Ended.{after_add, after_ended, within, past, long, tos, tos_less, stays_ended, same_left, over_none, have_ended, GoOn}
 
 -- one end ------------------------------------------------------------------------------
@@ -180,7 +180,7 @@ pub end_is : (cells : Cells) (held : HeldPlan) (lid : ℕ) (e : EndPort) → IsB
 end_is cells held lid e =
     let steps = steps_of cells held lid in
     let first = first_step (owners_of held lid) (source_of cells e) in
-    let long : length steps ≡ length (switches cells) = mapped (λ g. by_entry (owners_of held lid) g (row_of cells g) (entry_for held lid g)) (switches cells) in
+    let long : length steps ≡ length (switches cells) = mapped (λ g. by_entry (owners_of held lid) g (cause_of cells held lid g) (row_of cells g) (entry_for held lid g)) (switches cells) in
     subst (λ (n : ℕ). IsEndOf steps first (end_of (after n steps first))) long (ends_in_time steps first)
 
 pub end_found : (cells : Cells) (held : HeldPlan) (lid : ℕ) (e : EndPort) (end : Option End) → IsBrought cells held lid e end → end ≡ end_for cells held lid e

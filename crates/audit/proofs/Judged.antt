@@ -55,7 +55,7 @@ listed facts e =
 -- where packets end that all end at a port
 pub at_is : (e : EndPort) (end : Option End) → is_at e end ≡ true → end ≡ Some (Taken e)
 at_is e None h = cc
-at_is e (Some (Lost g)) h = cc
+at_is e (Some (Lost g cause)) h = cc
 at_is e (Some (Taken x)) h = ap (λ y. Some (Taken y)) (same_ends e x h)
 
 at_place : {X : Type 0} (xs : List X) (k : ℕ) (d : X) → k < length xs → slice_get xs k ≡ Some (get_or xs k d)

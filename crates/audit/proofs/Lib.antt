@@ -16,3 +16,4 @@ pub mod PlanSteps
 pub mod PlansPass
 pub mod SameRanges
 pub mod Told
+pub mod Tops

@@ -34,12 +34,14 @@ use Rattle.lft_blocks.proofs.HomeSwitches.{home_is_switch}
 use Rattle.plan_file.specs.declared.held.HeldLid.{HeldLid}
 use Rattle.plan_file.specs.Held.{HeldPlan}
 use Rattle.plan_file.proofs.PlanRanges.{wire_small}
+use Rattle.audit.specs.declared.end.Cause.{Cause}
+use Rattle.audit.specs.declared.end.Cause.TheVariants.{NoLink, Foreign}
 use Rattle.audit.specs.declared.end.End.TheVariants.{Taken, Lost}
 use Rattle.audit.specs.declared.far.Far.TheVariants.{Nothing}
 use Rattle.audit.specs.declared.step.Step.{Step}
 use Rattle.audit.specs.declared.step.Step.TheVariants.{To, Ends}
 use Rattle.audit.specs.Network.{far_at, far_to, far_of, row_of, index_in}
-use Rattle.audit.specs.Steps.{at_port, over, by_entry, steps_of, sent, IsBrought}
+use Rattle.audit.specs.Steps.{at_port, over, cause_of, by_entry, steps_of, sent, IsBrought}
 use Rattle.audit.specs.Tables.{entry_for, is_owner, owners_of}
 use Rattle.audit.specs.Walks.{after, onward}
 use Rattle.audit.proofs.FabricParts.{index_there}
@@ -114,6 +116,10 @@ module _ (by : RuleValue) (lmc : ℕ) (facts : Facts) (range : AreInRange facts)
   comes_by : (s t : Step) → s ≡ t → Comes t → Comes s
   comes_by s t e c = subst Comes (sym e) c
 
+  -- why a switch does not send it on
+  abbrev why : ℕ → Cause
+  why g = cause_of cells held lid g
+
   -- the owner alone holds the LID
   owned : owner_of (lids lmc cells) lid ≡ Some owner
   owned = line_owned lmc facts has_room line is_held
@@ -128,7 +134,7 @@ module _ (by : RuleValue) (lmc : ℕ) (facts : Facts) (range : AreInRange facts)
       sym l.port_is ∙ same_Some l.line.port owner (sym its ∙ ap (owner_of (lids lmc cells)) l.lid_is ∙ owned)
 
   owner_takes : at_port owners owner ≡ Taken owner
-  owner_takes = ap (λ t. cond t (Taken owner) (Lost owner.node)) owner_holds
+  owner_takes = ap (λ t. cond t (Taken owner) (Lost owner.node Foreign)) owner_holds
 
   -- an end port of a usable switch is its port 0
   at_switch : (e : EndPort) → Contains (end_ports cells) e → is_usable cells e.node ≡ true → e.port ≡ 0
@@ -140,34 +146,34 @@ module _ (by : RuleValue) (lmc : ℕ) (facts : Facts) (range : AreInRange facts)
 
   -- what a switch does is by the plan's entry
   at_index : (i g entry : ℕ) → slice_get (switches cells) i ≡ Some g → planned_entry rule lmc cells g lid ≡ entry
-      → onward steps (To i) ≡ by_entry owners g (row_of cells g) entry
+      → onward steps (To i) ≡ by_entry owners g (why g) (row_of cells g) entry
   at_index i g entry at is =
-      get_mapped (λ g. by_entry owners g (row_of cells g) (entry_for held lid g)) (switches cells) i g (To i) at
-      ∙ ap (by_entry owners g (row_of cells g)) (entry_counts by lmc facts has_room top top_is g lid owner (contains_at (switches cells) i g at) owned ∙ is)
+      get_mapped (λ g. by_entry owners g (why g) (row_of cells g) (entry_for held lid g)) (switches cells) i g (To i) at
+      ∙ ap (by_entry owners g (why g) (row_of cells g)) (entry_counts by lmc facts has_room top top_is g lid owner (contains_at (switches cells) i g at) owned ∙ is)
 
   -- over a wire
   over_wire : (g p : ℕ) (q : ℕ × ℕ) → across cells g p ≡ Some q
-      → by_entry owners g (row_of cells g) p ≡ over owners g (far_at q (index_in (switches cells) q.0))
+      → by_entry owners g (why g) (row_of cells g) p ≡ over owners g (why g) (far_at q (index_in (switches cells) q.0))
   over_wire g p q wire =
       let from = (wire_end cells g p (linked cells g p q wire).here).is_port.0 in
       let small = (wire_small facts range g p q.0 q.1 wire).0 in
-      ap (λ t. cond t (Ends (Taken (record { node = g; port = 0 }))) (over owners g (slice_index_or (row_of cells g) p Nothing)))
+      ap (λ t. cond t (Ends (Taken (record { node = g; port = 0 }))) (over owners g (why g) (slice_index_or (row_of cells g) p Nothing)))
       (ne_eqb p 0 (λ z. omega (arith, z, from)))
-      ∙ ap (over owners g) (get_or-map-range_with_len (far_of cells g) 0 256 p p Nothing (omega arith) (omega arith) ∙ ap (far_to (switches cells)) wire)
+      ∙ ap (over owners g (why g)) (get_or-map-range_with_len (far_of cells g) 0 255 p p Nothing (omega arith) (omega arith) ∙ ap (far_to (switches cells)) wire)
 
   -- to a port that is no usable switch's
-  to_owner : (g : ℕ) (q : ℕ × ℕ) → q ≡ (owner.node, owner.port) → is_usable cells owner.node ≡ false
-      → over owners g (far_at q (index_in (switches cells) q.0)) ≡ end
-  to_owner g q same apart =
+  to_owner : (g : ℕ) (cause : Cause) (q : ℕ × ℕ) → q ≡ (owner.node, owner.port) → is_usable cells owner.node ≡ false
+      → over owners g cause (far_at q (index_in (switches cells) q.0)) ≡ end
+  to_owner g cause q same apart =
       elim (index_in (switches cells) owner.node) as
-      (λ o. index_in (switches cells) owner.node ≡ o → over owners g (far_at q (index_in (switches cells) q.0)) ≡ end) [
+      (λ o. index_in (switches cells) owner.node ≡ o → over owners g cause (far_at q (index_in (switches cells) q.0)) ≡ end) [
         | Some i ↦ λ e.
             let there = contains_at (switches cells) i owner.node (index_is (switches cells) owner.node i e) in
             let usable = switch_usable facts owner.node there in
             absurd (cc)
         | None ↦ λ e.
-            ap (λ (x : ℕ × ℕ). over owners g (far_at x (index_in (switches cells) x.0))) same
-            ∙ ap (λ o. over owners g (far_at (owner.node, owner.port) o)) e
+            ap (λ (x : ℕ × ℕ). over owners g cause (far_at x (index_in (switches cells) x.0))) same
+            ∙ ap (λ o. over owners g cause (far_at (owner.node, owner.port) o)) e
             ∙ ap (λ x. Ends x) owner_takes
       ] refl
 
@@ -178,21 +184,21 @@ module _ (by : RuleValue) (lmc : ℕ) (facts : Facts) (range : AreInRange facts)
         entry_by_home rule lmc cells home.0 lid owner home owned home_is
         ∙ ap (λ t. cond t home.1 (unwrap_or (rule.next lid home.0 home.0) 255)) (eq-eqb home.0 home.0 refl)
 
-    at_home : by_entry owners home.0 (row_of cells home.0) home.1 ≡ end
+    at_home : by_entry owners home.0 (why home.0) (row_of cells home.0) home.1 ≡ end
     at_home =
         elim (is_usable cells owner.node) as
         (λ t. is_usable cells owner.node ≡ t → cond t (Some (owner.node, 0)) (attached cells owner.node owner.port) ≡ Some home
-        → by_entry owners home.0 (row_of cells home.0) home.1 ≡ end) [
+        → by_entry owners home.0 (why home.0) (row_of cells home.0) home.1 ≡ end) [
           | true ↦ λ u k.
               let own : ℕ × ℕ = (owner.node, 0) in
               let same : own ≡ home = same_Some own home k in
               let number : 0 ≡ owner.port = sym (at_switch owner is_end u) in
-              ap (λ (x : ℕ × ℕ). by_entry owners x.0 (row_of cells x.0) x.1) (sym same)
+              ap (λ (x : ℕ × ℕ). by_entry owners x.0 (why x.0) (row_of cells x.0) x.1) (sym same)
               ∙ (λ i. Ends (Taken (record { node = owner.node; port = number i })))
           | false ↦ λ u k.
               let its = (attached_law cells owner.node owner.port home.0 home.1).0 k in
               let back = across_back cells owner.node owner.port home ((wire_law cells owner.node owner.port home.0 home.1).1 its.wire) in
-              over_wire home.0 home.1 (owner.node, owner.port) back ∙ to_owner home.0 (owner.node, owner.port) refl u
+              over_wire home.0 home.1 (owner.node, owner.port) back ∙ to_owner home.0 (why home.0) (owner.node, owner.port) refl u
         ] refl home_is
 
     -- along the ports of the rule
@@ -209,7 +215,7 @@ module _ (by : RuleValue) (lmc : ℕ) (facts : Facts) (range : AreInRange facts)
         ∙ ap (λ o. unwrap_or o 255) next in
         let to = indexed cells e.to (usable_switch facts e.to (exit_to_usable cells s e.port e.to x)) in
         let goes : onward steps (To i) ≡ To to.index =
-        at_index i s e.port at entry ∙ over_wire s e.port (e.to, x.end_port) x.wire ∙ ap (λ o. over owners s (far_at (e.to, x.end_port) o)) to.is in
+        at_index i s e.port at entry ∙ over_wire s e.port (e.to, x.end_port) x.wire ∙ ap (λ o. over owners s (why s) (far_at (e.to, x.end_port) o)) to.is in
         further (To i) (comes_by (onward steps (To i)) (To to.index) goes (along es e.to to.index to.at follows passes))
 
     is_in_graph : (g : ℕ) → Contains (switches cells) g → IsSwitch graph g
@@ -265,25 +271,25 @@ module _ (by : RuleValue) (lmc : ℕ) (facts : Facts) (range : AreInRange facts)
 
   -- a packet that an adapter port sends out
   by_adapter : (e : EndPort) → is_usable cells e.node ≡ false → is_owner owners e ≡ false → Meets cells e owner
-      → Comes (over owners e.node (far_of cells e.node e.port))
+      → Comes (over owners e.node NoLink (far_of cells e.node e.port))
   by_adapter e apart other (itself is) = let holds : is_owner owners e ≡ true = ap (is_owner owners) is ∙ owner_holds in absurd (cc)
   by_adapter e apart other (of_root r from to) =
       let w = ((attached_law cells e.node e.port from.home.0 from.home.1).0 (wired_home e from.home apart from.home_is)).wire in
       let wire = (wire_law cells e.node e.port from.home.0 from.home.1).1 w in
       let there = home_is_switch facts e from.home from.home_is in
       let at = indexed cells from.home.0 there in
-      comes_by (over owners e.node (far_of cells e.node e.port)) (To at.index)
-      (ap (λ o. over owners e.node (far_to (switches cells) o)) wire ∙ ap (λ o. over owners e.node (far_at from.home o)) at.is)
+      comes_by (over owners e.node NoLink (far_of cells e.node e.port)) (To at.index)
+      (ap (λ o. over owners e.node NoLink (far_to (switches cells) o)) wire ∙ ap (λ o. over owners e.node NoLink (far_at from.home o)) at.is)
       (from_switch to.home to.home_is from.home.0 at.index at.at (one_root to.home to.home_is from.home.0 r there from.root_is to.root_is))
   by_adapter e apart other (by_wire w) =
-      elim (is_usable cells owner.node) as (λ t. is_usable cells owner.node ≡ t → Comes (over owners e.node (far_of cells e.node e.port))) [
+      elim (is_usable cells owner.node) as (λ t. is_usable cells owner.node ≡ t → Comes (over owners e.node NoLink (far_of cells e.node e.port))) [
         | true ↦ λ u.
             let back = across_back cells e.node e.port (owner.node, owner.port) w in
             absurd (no_wire_at_0 cells owner.node (e.node, e.port) (ap (across cells owner.node) (sym (at_switch owner is_end u)) ∙ back))
         | false ↦ λ u.
             let is : ℕ × ℕ = (owner.node, owner.port) in
-            comes_by (over owners e.node (far_of cells e.node e.port)) end
-            (ap (λ o. over owners e.node (far_to (switches cells) o)) w ∙ to_owner e.node is refl u) (0, refl)
+            comes_by (over owners e.node NoLink (far_of cells e.node e.port)) end
+            (ap (λ o. over owners e.node NoLink (far_to (switches cells) o)) w ∙ to_owner e.node NoLink is refl u) (0, refl)
       ] refl
 
   -- it comes to the owner
@@ -295,7 +301,7 @@ module _ (by : RuleValue) (lmc : ℕ) (facts : Facts) (range : AreInRange facts)
         | None ↦ λ k.
             let apart : is_usable cells e.node ≡ false =
             false_from_ne_true (is_usable cells e.node) (λ u. index_there (switches cells) e.node (usable_switch facts e.node u) k) in
-            elim (is_owner owners e) as (λ t. is_owner owners e ≡ t → Comes (cond t (Ends (Taken e)) (over owners e.node far))) [
+            elim (is_owner owners e) as (λ t. is_owner owners e ≡ t → Comes (cond t (Ends (Taken e)) (over owners e.node NoLink far))) [
               | true ↦ λ h. (0, ap (λ x. Ends (Taken x)) (only_owner e h))
               | false ↦ λ h. by_adapter e apart h lies
             ] refl

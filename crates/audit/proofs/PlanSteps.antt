@@ -49,7 +49,7 @@ of_column F (g ∷ guids) (suc i) x e = of_column F guids i x e
 -- a packet leaves a switch by its entry, over a wire to the usable switch at an index
 pub record LeavesBy (cells : Cells) (g entry : ℕ) (x : Exit) : Type 0 where
   pub port_is : x.port ≡ entry
-  pub below : entry < 256
+  pub below : entry < 255
   pub end : ℕ × ℕ
   pub wire : across cells g entry ≡ Some end
   pub index : slice_get (switches cells) x.to ≡ Some end.0
@@ -68,13 +68,13 @@ module _ (cells : Cells) where
       at : (j : ℕ) → index_in (switches cells) q.0 ≡ Some j → Switch j ≡ Switch i → slice_get (switches cells) i ≡ Some q.0
       at j e k = let same : j ≡ i = cc in ap (slice_get (switches cells)) (sym same) ∙ index_is (switches cells) q.0 j e
 
-  in_row : (g entry i : ℕ) → slice_index_or (row_of cells g) entry Nothing ≡ Switch i → (entry < 256) × (far_of cells g entry ≡ Switch i)
+  in_row : (g entry i : ℕ) → slice_index_or (row_of cells g) entry Nothing ≡ Switch i → (entry < 255) × (far_of cells g entry ≡ Switch i)
   in_row g entry i h =
-      elim (cases_lt entry 256) [
-        | inl less ↦ (less, sym (get_or-map-range_with_len (far_of cells g) 0 256 entry entry Nothing less (omega arith)) ∙ h)
+      elim (cases_lt entry 255) [
+        | inl less ↦ (less, sym (get_or-map-range_with_len (far_of cells g) 0 255 entry entry Nothing less (omega arith)) ∙ h)
         | inr past ↦
             let none : slice_index_or (row_of cells g) entry Nothing ≡ Nothing =
-            get_or_past (row_of cells g) entry Nothing (omega (arith, length-map-range_with_len (far_of cells g) 0 256, past)) in
+            get_or_past (row_of cells g) entry Nothing (omega (arith, length-map-range_with_len (far_of cells g) 0 255, past)) in
             absurd (cc)
       ]
 

@@ -45,7 +45,7 @@ use Rattle.lft_blocks.proofs.HeldEntries.{owned_from_one}
 use Rattle.audit.proofs.HeldPlans.{made, of_find, top_of_switch}
 use Rattle.audit.proofs.SameRanges.{same_range}
 use Rattle.audit.proofs.HeldTables.{block_found, placed}
-use Rattle.audit.proofs.FabricParts.{usable, known_type}
+use Rattle.audit.proofs.FabricParts.{known_type, seen_whole, usable}
 use Rattle.subnet_view.proofs.UsableSwitches.{switches_law, usable_law}
 use Rattle.audit.proofs.FabricsJudged.{end_listed, owner_line, line_owner, miss, one_port}
 
@@ -122,7 +122,7 @@ module _ (by : RuleValue) (lmc : ℕ) (facts : Facts) (has_room : ¬ (IsNoRoom l
   top_held : (place : ℕ) (node : Node) → IsNodeAt f place node → is_switch node.kind ≡ true → f.top place ≡ top
   top_held place node at kind =
       let g = node.guid in
-      let there : Contains (switches cells) g = ((switches_law facts).0 g).1 ((usable_law cells g).0 (usable facts held f seen place node at kind)) in
+      let there : Contains (switches cells) g = ((switches_law facts).0 g).1 ((usable_law cells g).0 (usable WholeFabric facts held f (seen_whole seen) place node at kind tt)) in
       seen.holds.tops place node at kind ∙ top_of_switch by lmc facts has_room top top_is g there
 
   -- a block of the plan stands in the switch's table
@@ -153,7 +153,7 @@ module _ (by : RuleValue) (lmc : ℕ) (facts : Facts) (has_room : ¬ (IsNoRoom l
       (blocks_are_of_switches rule lmc facts g b) in
       let test : is_usable cells g ≡ true = (usable_law cells g).1 of.0.0 in
       let kind : is_switch node.kind ≡ true =
-      sym (known_type facts held f seen port node here) ∙ (and_parts (is_switch_node cells g) (is_some (cap_of cells g)) test).0 in
+      sym (known_type WholeFabric facts held f (seen_whole seen) port node here) ∙ (and_parts (is_switch_node cells g) (is_some (cap_of cells g)) test).0 in
       let whole : length block ≡ 64 =
       ap length of.1 ∙ length-map-range_with_len (λ i. table_entry (home_of_lid cells given) rule.next g (64 * b + i)) 0 64 in
       block_held port.node node b block here.node_there kind there whole

@@ -1,6 +1,6 @@
 -- In each fabric that is seen, packets end as told.
 use Rattle.std.proofs.Common.{◌≡◌, ◌≢◌, ℕ, zero, suc, ◌<◌, ◌≤◌, Bool, true, false, cond, ◌||◌, List, [], ◌∷◌, length, Option, None, Some, refl, sym, ap, ◌∙◌, subst, arith, inl, inr, ◌⊎◌}
-use Rattle.std.specs.Prelude.{slice_get, slice_index_or, map, nat_lt, ◌==◌}
+use Rattle.std.specs.Prelude.{IsTrue, slice_get, slice_index_or, map, nat_lt, ◌==◌}
 use Rattle.std.specs.Option.{option_map_or}
 use Rattle.std.proofs.lemmas.Bool.{cases_lt, eqb-true, le-ltb, ltb-true, ltb-false}
 use Rattle.std.proofs.lemmas.Option.{same_Some}
@@ -10,30 +10,32 @@ use Rattle.smp_bytes.specs.declared.course.Course.{Course}
 use Rattle.smp_bytes.specs.declared.course.Course.TheVariants.{Delivers, LeavesBy, Drops}
 use Rattle.smp_bytes.specs.Cables.{is_same_port}
 use Rattle.smp_bytes.specs.NodeType.{is_switch}
-use Rattle.smp_bytes.specs.Fabric.{Node, Fabric, IsNodeAt, IsEndPort, owns}
-use Rattle.smp_bytes.specs.FabricWalks.{vertex_of}
+use Rattle.smp_bytes.specs.Fabric.{Node, Fabric, IsFabric, IsNodeAt, IsEndPort, is_switch_at, owns}
+use Rattle.smp_bytes.specs.FabricWalks.{IsWire, AreNeighbors, Walk, IsJoinedTo, vertex_of}
 use Rattle.smp_bytes.specs.Forwarding.{Standing, sent_from, arrived_at, course, adapter_course, entry_course, switch_course, Hop, Goes, IsLost}
 use Rattle.smp_bytes.proofs.Cabled.{same_port-is, same_port-refl}
-use Rattle.smp_bytes.proofs.FabricWalks.{port_at, EndNumber}
+use Rattle.smp_bytes.proofs.FabricWalks.{port_at, same_port, EndNumber, type_at, walk_further, vertex_node, switch_vertex, adapter_vertex, adapter_start, switch_number}
 use Rattle.smp_bytes.proofs.Forwarded.{packets_end_once}
 use Rattle.fact_store.specs.View.{Facts, cells_of}
 use Rattle.subnet_view.specs.declared.end_port.EndPort.{EndPort}
 use Rattle.subnet_view.specs.Reading.{Cells, switches}
 use Rattle.subnet_view.specs.Wires.{across}
-use Rattle.subnet_view.specs.Agreement.{IsPortNamed}
+use Rattle.subnet_view.specs.Agreement.{Part, WholeFabric, IsEndPortIn, IsPortNamed}
 use Rattle.plan_file.specs.Held.{HeldPlan}
+use Rattle.audit.specs.declared.end.Cause.{Cause}
+use Rattle.audit.specs.declared.end.Cause.TheVariants.{NoLink, Foreign}
 use Rattle.audit.specs.declared.end.End.{End}
 use Rattle.audit.specs.declared.end.End.TheVariants.{Taken, Lost}
 use Rattle.audit.specs.declared.far.Far.{Far}
 use Rattle.audit.specs.declared.far.Far.TheVariants.{Nothing}
 use Rattle.audit.specs.declared.step.Step.{Step}
 use Rattle.audit.specs.declared.step.Step.TheVariants.{To, Ends}
-use Rattle.audit.specs.Fabrics.{IsSeen, EndsAs, PacketsEndAsTold}
+use Rattle.audit.specs.Fabrics.{IsSeenIn, EndsAs, PacketsEndAsTold, PacketsEndAsToldInParts}
 use Rattle.audit.specs.Network.{index_in, far_at, far_to, far_of, row_of, source_of}
-use Rattle.audit.specs.Steps.{at_port, over, by_entry, steps_of, sent, first_step}
+use Rattle.audit.specs.Steps.{IsBrought, at_port, over, cause_of, by_entry, steps_of, sent, first_step}
 use Rattle.audit.specs.Tables.{owners_of, is_owner, entry_for, top_of, entry_of}
 use Rattle.audit.specs.Walks.{onward, after, IsEndOf}
-use Rattle.audit.proofs.FabricParts.{InFabric, as_part, vertex_part, switch_end, listed, indexed, wire_told, told_wire}
+use Rattle.audit.proofs.FabricParts.{InFabric, as_part, seen_whole, vertex_part, switch_end, listed, indexed, wire_told, told_wire}
 
 same_out : (p q : NodePort) → LeavesBy p ≡ LeavesBy q → p ≡ q
 same_out p q e = cc
@@ -109,7 +111,12 @@ module _ (f : Fabric) (lid : ℕ) where
   drops_other : (q : NodePort) (node : Node) → IsNodeAt f q.node node → is_switch node.kind ≡ false → owns f q lid ≡ false → course f lid (arrived_at q) ≡ Drops
   drops_other q node at kind other = adapter_is (arrived_at q) node at kind ∙ ap (λ t. cond t (Delivers q) Drops) other
 
-module _ (facts : Facts) (held : HeldPlan) (f : Fabric) (seen : IsSeen (cells_of facts) held f) (lid : ℕ) (some : 1 ≤ lid) where
+-- a wire leads on within the part
+abbrev pub IsClosed : Part → Fabric → Type 0
+IsClosed part f = (p q : NodePort) → part (vertex_of f p) → IsWire f p q → part (vertex_of f q)
+
+module _ (part : Part) (facts : Facts) (held : HeldPlan) (f : Fabric) (seen : IsSeenIn part (cells_of facts) held f) (closed : IsClosed part f) (lid : ℕ)
+    (some : 1 ≤ lid) where
   abbrev cells : Cells
   cells = cells_of facts
 
@@ -122,6 +129,7 @@ module _ (facts : Facts) (held : HeldPlan) (f : Fabric) (seen : IsSeen (cells_of
     at : IsNodeAt f st.place.node node
     kind : is_switch node.kind ≡ true
     index : slice_get (switches cells) i ≡ Some node.guid
+    within : part (port_at st.place.node 0)
 
   -- it goes over a wire to the switch of an index
   record Crosses (st : Standing) (j : ℕ) : Type 0 where
@@ -132,7 +140,7 @@ module _ (facts : Facts) (held : HeldPlan) (f : Fabric) (seen : IsSeen (cells_of
 
   abbrev LeadsTo : Standing → End → Type 0
   LeadsTo st (Taken e) = Delivered f lid st e
-  LeadsTo st (Lost g) = Never f lid st
+  LeadsTo st (Lost g cause) = Never f lid st
 
   -- what a step says becomes of the packet
   abbrev Leads : Standing → Step → Type 0
@@ -144,85 +152,95 @@ module _ (facts : Facts) (held : HeldPlan) (f : Fabric) (seen : IsSeen (cells_of
   no_far g p e = ap (far_to (switches cells)) e
 
   -- at an adapter port
-  at_adapter : (st : Standing) (p q : NodePort) (node : Node) → course f lid st ≡ LeavesBy p → f.across p ≡ Some q → IsNodeAt f q.node node → IsEndPort f q
+  at_adapter : (st : Standing) (p q : NodePort) (node : Node) → course f lid st ≡ LeavesBy p → f.across p ≡ Some q → InFabric part facts held f seen q node
       → is_switch node.kind ≡ false → (b : Bool) → is_owner owners (record { node = node.guid; port = q.port }) ≡ b
-      → LeadsTo st (cond b (Taken (record { node = node.guid; port = q.port })) (Lost node.guid))
-  at_adapter st p q node leaves wire at is_end kind true e =
-      let own : owns f q lid ≡ true = seen.holds.lids q node lid at is_end some ∙ e in
+      → LeadsTo st (cond b (Taken (record { node = node.guid; port = q.port })) (Lost node.guid Foreign))
+  at_adapter st p q node leaves wire here kind true e =
+      let own : owns f q lid ≡ true = seen.holds.lids q node lid here some ∙ e in
       delivered_on f lid st p q (record { node = node.guid; port = q.port }) leaves wire
       (record {
         hops = [];
         end = arrived_at q;
         target = q;
         goes = refl;
-        delivers = takes_own f lid q node at kind own;
-        named = record { node = node; node_there = at; guid_is = refl; port_is = refl };
+        delivers = takes_own f lid q node here.node_there kind own;
+        named = record { node = node; node_there = here.node_there; guid_is = refl; port_is = refl };
       })
-  at_adapter st p q node leaves wire at is_end kind false e =
-      let other : owns f q lid ≡ false = seen.holds.lids q node lid at is_end some ∙ e in
-      never_on f lid st p q leaves wire (never_dropped f lid (arrived_at q) (drops_other f lid q node at kind other))
+  at_adapter st p q node leaves wire here kind false e =
+      let other : owns f q lid ≡ false = seen.holds.lids q node lid here some ∙ e in
+      never_on f lid st p q leaves wire (never_dropped f lid (arrived_at q) (drops_other f lid q node here.node_there kind other))
 
   -- over a wire to another port
-  crossing : (g : ℕ) (st : Standing) (p q : NodePort) (node : Node) → course f lid st ≡ LeavesBy p → f.across p ≡ Some q → IsNodeAt f q.node node
-      → (found : Option ℕ) → index_in (switches cells) node.guid ≡ found → Leads st (over owners g (far_at (node.guid, q.port) found))
-  crossing g st p q node leaves wire at (Some j) e =
+  crossing : (g : ℕ) (cause : Cause) (st : Standing) (p q : NodePort) (node : Node) → course f lid st ≡ LeavesBy p → f.across p ≡ Some q → IsNodeAt f q.node node → part (vertex_of f q)
+      → (found : Option ℕ) → index_in (switches cells) node.guid ≡ found → Leads st (over owners g cause (far_at (node.guid, q.port) found))
+  crossing g cause st p q node leaves wire at within (Some j) e =
       let back : f.across q ≡ Some p = seen.is_fabric.both_ways p q wire in
-      let here = indexed facts held f seen (vertex_of f q) node j (vertex_part facts held f seen q p node back at) e in
-      record { hop = record { out = p; into = q }; leaves = leaves; wire = wire; there = record { node = node; at = at; kind = here.0; index = here.1 } }
-  crossing g st p q node leaves wire at None e =
+      let here = indexed part facts held f seen (vertex_of f q) node j (vertex_part part facts held f seen q p node back at within) e in
+      let vertex : vertex_of f q ≡ port_at q.node 0 = switch_vertex f q (type_at f q.node node at ∙ here.0) in
+      record {
+        hop = record { out = p; into = q };
+        leaves = leaves;
+        wire = wire;
+        there = record { node = node; at = at; kind = here.0; index = here.1; within = subst part vertex within };
+      }
+  crossing g cause st p q node leaves wire at within None e =
       let back : f.across q ≡ Some p = seen.is_fabric.both_ways p q wire in
       let (other, at_other, low, high) = seen.is_fabric.cabled q p back in
       let same : other ≡ node = same_Some other node (sym at_other ∙ at) in
       elim (is_switch node.kind) as (λ t. is_switch node.kind ≡ t → LeadsTo st (at_port owners (record { node = node.guid; port = q.port }))) [
-        | true ↦ λ k. absurd (listed facts held f seen q.node node at k e)
+        | true ↦ λ k.
+            let vertex : vertex_of f q ≡ port_at q.node 0 = switch_vertex f q (type_at f q.node node at ∙ k) in
+            absurd (listed part facts held f seen q.node node at k (subst part vertex within) e)
         | false ↦ λ k.
+            let vertex : vertex_of f q ≡ q = adapter_vertex f q (type_at f q.node node at ∙ k) in
             let number : EndNumber node.ports q.port (is_switch node.kind) =
             subst (EndNumber node.ports q.port) (sym k) (low, subst (λ (n : Node). q.port ≤ n.ports) same high) in
-            at_adapter st p q node leaves wire at (node, at, number) k (is_owner owners (record { node = node.guid; port = q.port })) refl
+            at_adapter st p q node leaves wire (as_part part facts held f seen q node at (node, at, number) (subst part vertex within)) k (is_owner owners (record { node = node.guid; port = q.port })) refl
       ] refl
 
   -- by a port of a node whose vertex is v
-  module _ (st : Standing) (p v : NodePort) (node : Node) (here : InFabric facts held f seen v node) (place : v.node ≡ p.node)
+  module _ (cause : Cause) (st : Standing) (p v : NodePort) (node : Node) (here : InFabric part facts held f seen v node) (place : v.node ≡ p.node)
+      (within : part (vertex_of f p))
       (leaves : course f lid st ≡ LeavesBy p)
       (again : (course f lid (arrived_at p) ≡ LeavesBy p) ⊎ (course f lid (arrived_at p) ≡ Drops)) where
     abbrev g : ℕ
     g = node.guid
 
     -- without a wire the packet is lost
-    lost_there : Never f lid st → across cells g p.port ≡ None → Leads st (over owners g (far_of cells g p.port))
-    lost_there never e = subst (λ (far : Far). Leads st (over owners g far)) (sym (no_far g p.port e)) never
+    lost_there : Never f lid st → across cells g p.port ≡ None → Leads st (over owners g cause (far_of cells g p.port))
+    lost_there never e = subst (λ (far : Far). Leads st (over owners g cause far)) (sym (no_far g p.port e)) never
 
-    no_cable : f.across p ≡ None → Leads st (over owners g (far_of cells g p.port))
+    no_cable : f.across p ≡ None → Leads st (over owners g cause (far_of cells g p.port))
     no_cable none =
-        elim (across cells g p.port) as (λ o. across cells g p.port ≡ o → Leads st (over owners g (far_of cells g p.port))) [
+        elim (across cells g p.port) as (λ o. across cells g p.port ≡ o → Leads st (over owners g cause (far_of cells g p.port))) [
           | None ↦ λ e. lost_there (never_stuck f lid st p leaves none) e
-          | Some x ↦ λ e. let w = told_wire facts held f seen p v node x.0 x.1 here place e in let wire = w.wire in absurd (cc)
+          | Some x ↦ λ e. let w = told_wire part facts held f seen p v node x.0 x.1 here place e in let wire = w.wire in absurd (cc)
         ] refl
 
-    looped : (q : NodePort) → f.across p ≡ Some q → p ≡ q → Leads st (over owners g (far_of cells g p.port))
+    looped : (q : NodePort) → f.across p ≡ Some q → p ≡ q → Leads st (over owners g cause (far_of cells g p.port))
     looped q wire same =
         let loop : f.across p ≡ Some p = wire ∙ ap (λ x. Some x) (sym same) in
         let never : Never f lid (arrived_at p) =
         elim again [ inl on ↦ never_loops f lid p on loop | inr drops ↦ never_dropped f lid (arrived_at p) drops ] in
-        elim (across cells g p.port) as (λ o. across cells g p.port ≡ o → Leads st (over owners g (far_of cells g p.port))) [
+        elim (across cells g p.port) as (λ o. across cells g p.port ≡ o → Leads st (over owners g cause (far_of cells g p.port))) [
           | None ↦ λ e. lost_there (never_on f lid st p p leaves loop never) e
-          | Some x ↦ λ e. let w = told_wire facts held f seen p v node x.0 x.1 here place e in
+          | Some x ↦ λ e. let w = told_wire part facts held f seen p v node x.0 x.1 here place e in
               absurd (w.apart (same_Some p w.to (sym loop ∙ w.wire)))
         ] refl
 
-    wired : (q : NodePort) → f.across p ≡ Some q → p ≢ q → Leads st (over owners g (far_of cells g p.port))
+    wired : (q : NodePort) → f.across p ≡ Some q → p ≢ q → Leads st (over owners g cause (far_of cells g p.port))
     wired q wire apart =
         let (far, at_far, low, high) = seen.is_fabric.cabled q p (seen.is_fabric.both_ways p q wire) in
         let at : IsNodeAt f p.node node = sym (ap (slice_get f.nodes) place) ∙ here.node_there in
-        let told : across cells g p.port ≡ Some (far.guid, q.port) = wire_told facts held f seen p q node far wire apart at at_far in
-        subst (λ (o : Option (ℕ × ℕ)). Leads st (over owners g (far_to (switches cells) o))) (sym told)
-        (crossing g st p q far leaves wire at_far (index_in (switches cells) far.guid) refl)
+        let told : across cells g p.port ≡ Some (far.guid, q.port) = wire_told part facts held f seen p q node far wire apart at at_far within in
+        subst (λ (o : Option (ℕ × ℕ)). Leads st (over owners g cause (far_to (switches cells) o))) (sym told)
+        (crossing g cause st p q far leaves wire at_far (closed p q within (record { cable = wire; different = apart })) (index_in (switches cells) far.guid) refl)
 
-    leaving : Leads st (over owners g (far_of cells g p.port))
+    leaving : Leads st (over owners g cause (far_of cells g p.port))
     leaving =
-        elim (f.across p) as (λ o. f.across p ≡ o → Leads st (over owners g (far_of cells g p.port))) [
+        elim (f.across p) as (λ o. f.across p ≡ o → Leads st (over owners g cause (far_of cells g p.port))) [
           | None ↦ no_cable
-          | Some q ↦ λ wire. (elim (is_same_port p q) as (λ t. is_same_port p q ≡ t → Leads st (over owners g (far_of cells g p.port))) [
+          | Some q ↦ λ wire. (elim (is_same_port p q) as (λ t. is_same_port p q ≡ t → Leads st (over owners g cause (far_of cells g p.port))) [
             | true ↦ λ e. looped q wire (same_port-is p q e)
             | false ↦ λ e. wired q wire (λ same. let is : is_same_port p p ≡ true = same_port-refl p in let moved : is_same_port p p ≡ is_same_port p q = ap (is_same_port p) same in cc)
           ] refl)
@@ -236,14 +254,18 @@ module _ (facts : Facts) (held : HeldPlan) (f : Fabric) (seen : IsSeen (cells_of
   abbrev entry : Node → ℕ
   entry node = entry_for held lid node.guid
 
-  switch_goes : (st : Standing) (node : Node) → IsNodeAt f st.place.node node → is_switch node.kind ≡ true
+  abbrev why : Node → Cause
+  why node = cause_of cells held lid node.guid
+
+  switch_goes : (st : Standing) (node : Node) → IsNodeAt f st.place.node node → is_switch node.kind ≡ true → part (port_at st.place.node 0)
       → course f lid st ≡ entry_course node.ports st.place.node (entry node)
-  switch_goes st node at kind =
+  switch_goes st node at kind within =
       let k = st.place.node in
+      let here = switch_end part facts held f seen k node at kind within in
       course_at f lid st node at
       ∙ ap (λ t. cond t (switch_course node.ports k (f.top k) lid (f.entry k lid)) (adapter_course (owns f st.place lid) st)) kind
-      ∙ ap (λ n. switch_course node.ports k n lid (f.entry k lid)) (seen.holds.tops k node at kind)
-      ∙ ap (λ n. switch_course node.ports k (top_of held node.guid) lid n) (seen.holds.entries k node lid at kind)
+      ∙ ap (λ n. switch_course node.ports k n lid (f.entry k lid)) (seen.holds.tops (port_at k 0) node here kind)
+      ∙ ap (λ n. switch_course node.ports k (top_of held node.guid) lid n) (seen.holds.entries (port_at k 0) node lid here kind)
       ∙ counts (lid == 0 || nat_lt (top_of held node.guid) lid) node.ports k (entry_of held node.guid lid)
 
   -- a port that the switch lacks leads nowhere
@@ -252,22 +274,22 @@ module _ (facts : Facts) (held : HeldPlan) (f : Fabric) (seen : IsSeen (cells_of
   past_row (x ∷ row) zero h = absurd (omega arith)
   past_row (x ∷ row) (suc n) h = past_row row n (omega arith)
 
-  row_at : (h p : ℕ) → p < 256 → slice_index_or (row_of cells h) p Nothing ≡ far_of cells h p
-  row_at h p less = get_or-map-range_with_len (far_of cells h) 0 256 p p Nothing less (omega arith)
+  row_at : (h p : ℕ) → p < 255 → slice_index_or (row_of cells h) p Nothing ≡ far_of cells h p
+  row_at h p less = get_or-map-range_with_len (far_of cells h) 0 255 p p Nothing less (omega arith)
 
-  no_port : (k : ℕ) (node : Node) (p : ℕ) → IsNodeAt f k node → is_switch node.kind ≡ true → (p ≡ 255) ⊎ (node.ports < p)
+  no_port : (k : ℕ) (node : Node) (p : ℕ) → IsNodeAt f k node → is_switch node.kind ≡ true → part (port_at k 0) → (p ≡ 255) ⊎ (node.ports < p)
       → slice_index_or (row_of cells node.guid) p Nothing ≡ Nothing
-  no_port k node p at kind none =
-      elim (cases_lt p 256) [
-        | inr more ↦ past_row (row_of cells node.guid) p (omega (arith, length-map-range_with_len (far_of cells node.guid) 0 256))
+  no_port k node p at kind within none =
+      elim (cases_lt p 255) [
+        | inr more ↦ past_row (row_of cells node.guid) p (omega (arith, length-map-range_with_len (far_of cells node.guid) 0 255))
         | inl less ↦ row_at node.guid p less
             ∙ (elim (across cells node.guid p) as (λ o. across cells node.guid p ≡ o → far_of cells node.guid p ≡ Nothing) [
               | None ↦ λ e. no_far node.guid p e
               | Some x ↦ λ e.
-                  let w = told_wire facts held f seen (port_at k p) (port_at k 0) node x.0 x.1 (switch_end facts held f seen k node at kind) refl e in
+                  let w = told_wire part facts held f seen (port_at k p) (port_at k 0) node x.0 x.1 (switch_end part facts held f seen k node at kind within) refl e in
                   let (other, at_other, low, high) = seen.is_fabric.cabled (port_at k p) w.to w.wire in
                   let same : other ≡ node = same_Some other node (sym at_other ∙ at) in
-                  let within : p ≤ node.ports = subst (λ (n : Node). p ≤ n.ports) same high in
+                  let few_enough : p ≤ node.ports = subst (λ (n : Node). p ≤ n.ports) same high in
                   let few = (seen.is_fabric.counts k node at).1 in
                   elim none [ inl a ↦ absurd (omega arith) | inr b ↦ absurd (omega arith) ]
             ] refl)
@@ -288,16 +310,17 @@ module _ (facts : Facts) (held : HeldPlan) (f : Fabric) (seen : IsSeen (cells_of
       ] e
 
   -- a switch does as its step says
-  switch_leads : (i : ℕ) (st : Standing) (a : At i st) → Leads st (by_entry owners a.node.guid (row_of cells a.node.guid) (entry a.node))
+  switch_leads : (i : ℕ) (st : Standing) (a : At i st) → Leads st (by_entry owners a.node.guid (why a.node) (row_of cells a.node.guid) (entry a.node))
   switch_leads i st a =
       let node = a.node in
       let k = st.place.node in
       let n = entry node in
-      let goes = switch_goes st node a.at a.kind in
+      let goes = switch_goes st node a.at a.kind a.within in
       let few = (seen.is_fabric.counts k node a.at).1 in
-      let part = switch_end facts held f seen k node a.at a.kind in
+      let here = switch_end part facts held f seen k node a.at a.kind a.within in
+      let vertex : (p : ℕ) → vertex_of f (port_at k p) ≡ port_at k 0 = λ p. switch_vertex f (port_at k p) (type_at f k node a.at ∙ a.kind) in
       elim (n == 0) as (λ t. (n == 0) ≡ t
-      → Leads st (cond t (Ends (Taken (record { node = node.guid; port = 0 }))) (over owners node.guid (slice_index_or (row_of cells node.guid) n Nothing)))) [
+      → Leads st (cond t (Ends (Taken (record { node = node.guid; port = 0 }))) (over owners node.guid (why node) (slice_index_or (row_of cells node.guid) n Nothing)))) [
         | true ↦ λ z.
             let zero_is : n ≡ 0 = eqb-true n 0 z in
             let takes : course f lid st ≡ Delivers (port_at k 0) =
@@ -311,19 +334,19 @@ module _ (facts : Facts) (held : HeldPlan) (f : Fabric) (seen : IsSeen (cells_of
               named = record { node = node; node_there = a.at; guid_is = refl; port_is = refl };
             }
         | false ↦ λ z. (elim (n == 255 || nat_lt node.ports n) as (λ t. (n == 255 || nat_lt node.ports n) ≡ t
-            → Leads st (over owners node.guid (slice_index_or (row_of cells node.guid) n Nothing))) [
+            → Leads st (over owners node.guid (why node) (slice_index_or (row_of cells node.guid) n Nothing))) [
               | true ↦ λ e.
                   let drops : course f lid st ≡ Drops = goes ∙ ap (λ t. cond t Drops (cond (n == 0) (Delivers (port_at k 0)) (LeavesBy (port_at k n)))) e in
-                  subst (λ (far : Far). Leads st (over owners node.guid far)) (sym (no_port k node n a.at a.kind (lacks n node.ports e)))
+                  subst (λ (far : Far). Leads st (over owners node.guid (why node) far)) (sym (no_port k node n a.at a.kind a.within (lacks n node.ports e)))
                   (never_dropped f lid st drops)
               | false ↦ λ e.
                   let within = has n node.ports e in
                   let leaves : (s : Standing) → s.place.node ≡ k → IsNodeAt f s.place.node node → course f lid s ≡ LeavesBy (port_at k n) =
-                  λ s same at. switch_goes s node at a.kind ∙ ap (λ m. entry_course node.ports m n) same
+                  λ s same at. switch_goes s node at a.kind (subst (λ (m : ℕ). part (port_at m 0)) (sym same) a.within) ∙ ap (λ m. entry_course node.ports m n) same
                   ∙ ap (λ t. cond t Drops (cond (n == 0) (Delivers (port_at k 0)) (LeavesBy (port_at k n)))) e
                   ∙ ap (λ t. cond t (Delivers (port_at k 0)) (LeavesBy (port_at k n))) z in
-                  subst (λ (far : Far). Leads st (over owners node.guid far)) (sym (row_at node.guid n (omega arith)))
-                  (leaving st (port_at k n) (port_at k 0) node part refl (leaves st refl a.at) (inl (leaves (arrived_at (port_at k n)) refl a.at)))
+                  subst (λ (far : Far). Leads st (over owners node.guid (why node) far)) (sym (row_at node.guid n (omega arith)))
+                  (leaving (why node) st (port_at k n) (port_at k 0) node here refl (subst part (sym (vertex n)) a.within) (leaves st refl a.at) (inl (leaves (arrived_at (port_at k n)) refl a.at)))
             ] refl)
       ] refl
 
@@ -339,7 +362,7 @@ module _ (facts : Facts) (held : HeldPlan) (f : Fabric) (seen : IsSeen (cells_of
 
   onward_leads : (i : ℕ) (st : Standing) → At i st → Leads st (onward steps (To i))
   onward_leads i st a =
-      let F : ℕ → Step = λ h. by_entry owners h (row_of cells h) (entry_for held lid h) in
+      let F : ℕ → Step = λ h. by_entry owners h (cause_of cells held lid h) (row_of cells h) (entry_for held lid h) in
       subst (Leads st) (sym (step_at (switches cells) F i a.node.guid (To i) a.index)) (switch_leads i st a)
 
   after_end : (n : ℕ) (x : End) → after n steps (Ends x) ≡ Ends x
@@ -357,7 +380,7 @@ module _ (facts : Facts) (held : HeldPlan) (f : Fabric) (seen : IsSeen (cells_of
 
   carried : (st : Standing) (j : ℕ) (x : End) (c : Crosses st j) → LeadsTo (arrived_at c.hop.into) x → LeadsTo st x
   carried st j (Taken e) c d = on_taken st j e c d
-  carried st j (Lost g) c never = on_never st j c never
+  carried st j (Lost g cause) c never = on_never st j c never
 
   -- a walk that ends
   ends : (n i : ℕ) (st : Standing) (x : End) → At i st → after n steps (To i) ≡ Ends x → LeadsTo st x
@@ -404,20 +427,26 @@ module _ (facts : Facts) (held : HeldPlan) (f : Fabric) (seen : IsSeen (cells_of
   as_begun st (To i) c = inr c
   as_begun st (Ends x) l = l
 
-  module _ (source : NodePort) (node : Node) (at : IsNodeAt f source.node node) (is_end : IsEndPort f source) where
+  module _ (source : NodePort) (node : Node) (here : InFabric part facts held f seen source node) where
+    at : IsNodeAt f source.node node
+    at = here.node_there
+
+    -- a switch sends from its port 0
+    from_switch : is_switch node.kind ≡ true → part (port_at source.node 0)
+    from_switch kind =
+        let zero_is : source.port ≡ 0 = switch_number f source here.end_port (type_at f source.node node at ∙ kind) in
+        subst part (same_port source (port_at source.node 0) refl zero_is) here.in_part
+
     abbrev this : EndPort
     this = record { node = node.guid; port = source.port }
 
     abbrev st : Standing
     st = sent_from source
 
-    part : InFabric facts held f seen source node
-    part = as_part facts held f seen source node at is_end
-
     sends : is_switch node.kind ≡ false → (b : Bool) → is_owner owners this ≡ b
-        → Begins st (cond b (Ends (Taken this)) (over owners node.guid (far_of cells node.guid source.port)))
+        → Begins st (cond b (Ends (Taken this)) (over owners node.guid NoLink (far_of cells node.guid source.port)))
     sends kind true e =
-        let own : owns f source lid ≡ true = seen.holds.lids source node lid at is_end some ∙ e in
+        let own : owns f source lid ≡ true = seen.holds.lids source node lid here some ∙ e in
         record {
           hops = [];
           end = st;
@@ -427,20 +456,20 @@ module _ (facts : Facts) (held : HeldPlan) (f : Fabric) (seen : IsSeen (cells_of
           named = record { node = node; node_there = at; guid_is = refl; port_is = refl };
         }
     sends kind false e =
-        let other : owns f source lid ≡ false = seen.holds.lids source node lid at is_end some ∙ e in
+        let other : owns f source lid ≡ false = seen.holds.lids source node lid here some ∙ e in
         let leaves : course f lid st ≡ LeavesBy source = adapter_is f lid st node at kind ∙ ap (λ t. cond t (Delivers source) (LeavesBy source)) other in
-        as_begun st (over owners node.guid (far_of cells node.guid source.port))
-        (leaving st source source node part refl leaves (inr (drops_other f lid source node at kind other)))
+        as_begun st (over owners node.guid NoLink (far_of cells node.guid source.port))
+        (leaving NoLink st source source node here refl (subst part (sym (adapter_vertex f source (type_at f source.node node at ∙ kind))) here.in_part) leaves (inr (drops_other f lid source node at kind other)))
 
     begins : Begins st (first_step owners (source_of cells this))
     begins =
         elim (index_in (switches cells) node.guid) as
         (λ o. index_in (switches cells) node.guid ≡ o → Begins st (sent owners this o (far_of cells node.guid source.port))) [
-          | Some i ↦ λ e. let here = indexed facts held f seen source node i part e in
-              inl (record { node = node; at = at; kind = here.0; index = here.1 })
+          | Some i ↦ λ e. let it = indexed part facts held f seen source node i here e in
+              inl (record { node = node; at = at; kind = it.0; index = it.1; within = from_switch it.0 })
           | None ↦ λ e. (elim (is_switch node.kind) as
               (λ t. is_switch node.kind ≡ t → Begins st (sent owners this None (far_of cells node.guid source.port))) [
-                | true ↦ λ k. absurd (listed facts held f seen source.node node at k e)
+                | true ↦ λ k. absurd (listed part facts held f seen source.node node at k (from_switch k) e)
                 | false ↦ λ k. sends k (is_owner owners this) refl
               ] refl)
         ] refl
@@ -454,7 +483,7 @@ module _ (facts : Facts) (held : HeldPlan) (f : Fabric) (seen : IsSeen (cells_of
 
     ended : (x : End) → LeadsTo st x → EndsAs f lid source (Some x)
     ended (Taken e) d = (d.hops, d.target, d.named, (d.end, d.goes, d.delivers))
-    ended (Lost g) never = lost never
+    ended (Lost g cause) never = lost never
 
     told : (s : Step) (end : Option End) → Begins st s → IsEndOf steps s end → EndsAs f lid source end
     told (To i) (Some x) (inl a) w = ended x (ends w.0 i st x a w.1)
@@ -464,8 +493,57 @@ module _ (facts : Facts) (held : HeldPlan) (f : Fabric) (seen : IsSeen (cells_of
     told (Ends x) (Some y) l w = ended y (subst (LeadsTo st) (same_end x y (sym (after_end w.0 x) ∙ w.1)) l)
     told (Ends x) None l on = let first = (on 0).1 in absurd (cc)
 
+pub packets_end_in : (part : Part) (facts : Facts) (held : HeldPlan) (f : Fabric) → IsSeenIn part (cells_of facts) held f → IsClosed part f
+    → (source : NodePort) (node : Node) (lid : ℕ) (end : Option End) → IsEndPortIn part f source node → 1 ≤ lid
+    → IsBrought (cells_of facts) held lid (record { node = node.guid; port = source.port }) end → EndsAs f lid source end
+packets_end_in part facts held f seen closed source node lid end here some brought =
+    told part facts held f seen closed lid some source node here
+    (first_step (owners_of held lid) (source_of (cells_of facts) (record { node = node.guid; port = source.port }))) end
+    (begins part facts held f seen closed lid some source node here) brought
+
 pub packets_end_as_told : PacketsEndAsTold
 packets_end_as_told facts held f seen source node lid end at is_end some brought =
-    told facts held f seen lid some source node at is_end
-    (first_step (owners_of held lid) (source_of (cells_of facts) (record { node = node.guid; port = source.port }))) end
-    (begins facts held f seen lid some source node at is_end) brought
+    packets_end_in WholeFabric facts held f (seen_whole seen) (λ p q within wire. tt) source node lid end
+    (record { node_there = at; end_port = is_end; in_part = tt }) some brought
+
+-- what is joined to an end port --------------------------------------------------------------
+
+module _ (f : Fabric) (fab : IsFabric f) (origin : NodePort) where
+  -- the last wire of a walk
+  record Last (a b : NodePort) (n : ℕ) : Type 0 where
+    from : NodePort
+    walk : Walk f a from n
+    wire : AreNeighbors f from b
+
+  last : (n : ℕ) (a b : NodePort) → Walk f a b (suc n) → Last a b n
+  last zero a b (d, first, between, w) = record { from = a; walk = refl; wire = subst (AreNeighbors f a) w first }
+  last (suc n) a b (d, first, between, w) =
+      let rest = last n d b w in
+      let switch : (n ≡ 0) ⊎ IsTrue (is_switch_at f d.node) = elim between [ inl e ↦ absurd (omega arith) | inr k ↦ inr k ] in
+      record { from = rest.from; walk = (d, first, switch, rest.walk); wire = rest.wire }
+
+  -- an adapter port has one wire, by which it was joined
+  back : (p q : NodePort) → is_switch_at f p.node ≡ false → IsWire f p q → (n : ℕ) → Walk f origin p n → IsJoinedTo f origin (vertex_of f q)
+  back p q adapter wire zero w =
+      let next : AreNeighbors f p (vertex_of f q) = record { out = p; into = q; wire = wire; of_one = adapter_vertex f p adapter; of_other = refl } in
+      (1, walk_further f 0 origin p (vertex_of f q) w (inl refl) next)
+  back p q adapter wire (suc n) w =
+      let l = last n origin p w in
+      let into : l.wire.into ≡ p = adapter_start f l.wire.into p adapter l.wire.of_other in
+      let leads : f.across p ≡ Some l.wire.out = ap f.across (sym into) ∙ fab.both_ways l.wire.out l.wire.into l.wire.wire.cable in
+      let same : q ≡ l.wire.out = same_Some q l.wire.out (sym wire.cable ∙ leads) in
+      (n, subst (λ (v : NodePort). Walk f origin v n) (sym (ap (vertex_of f) same ∙ l.wire.of_one)) l.walk)
+
+  pub joined_closed : IsClosed (IsJoinedTo f origin) f
+  joined_closed p q (n, w) wire =
+      elim (is_switch_at f p.node) as (λ t. is_switch_at f p.node ≡ t → IsJoinedTo f origin (vertex_of f q)) [
+        | true ↦ λ k.
+            let switch : is_switch_at f (vertex_of f p).node ≡ true = ap (is_switch_at f) (vertex_node f p) ∙ k in
+            let next : AreNeighbors f (vertex_of f p) (vertex_of f q) = record { out = p; into = q; wire = wire; of_one = refl; of_other = refl } in
+            (suc n, walk_further f n origin (vertex_of f p) (vertex_of f q) w (inr switch) next)
+        | false ↦ λ k. back p q k wire n (subst (λ (v : NodePort). Walk f origin v n) (adapter_vertex f p k) w)
+      ] refl
+
+pub packets_end_as_told_in_parts : PacketsEndAsToldInParts
+packets_end_as_told_in_parts facts held f origin is_end seen source node lid end here some brought =
+    packets_end_in (IsJoinedTo f origin) facts held f seen (joined_closed f seen.is_fabric origin) source node lid end here some brought

@@ -8,8 +8,8 @@ use Rattle.smp_bytes.specs.Fabric.{Node, Fabric, IsFabric, IsNodeAt, IsEndPort, 
 use Rattle.smp_bytes.specs.Forwarding.{Hop, IsDelivered, IsLost}
 use Rattle.fact_store.specs.View.{Facts, cells_of}
 use Rattle.subnet_view.specs.Reading.{Cells}
-use Rattle.subnet_view.specs.Agreement.{WholeFabric, IsPortNamed, AgreesOn}
-use Rattle.smp_bytes.specs.FabricWalks.{IsConnected}
+use Rattle.subnet_view.specs.Agreement.{Part, WholeFabric, IsEndPortIn, IsPortNamed, AgreesOn}
+use Rattle.smp_bytes.specs.FabricWalks.{IsConnected, IsJoinedTo}
 use Rattle.lid_assign.specs.Lids.{IsNoRoom}
 use Rattle.spread_rule.specs.Rules.{RuleValue}
 use Rattle.lft_blocks.specs.Plan.{plan_of}
@@ -36,16 +36,37 @@ pub record IsSeen (cells : Cells) (held : HeldPlan) (f : Fabric) : Type 0 where
   pub agrees : AgreesOn WholeFabric cells f
   pub holds : HoldsTables held f
 
+-- the same of the end ports and the switches of a part
+pub record HoldsTablesIn (part : Part) (held : HeldPlan) (f : Fabric) : Type 0 where
+  pub lids : (port : NodePort) (node : Node) (lid : ℕ) → IsEndPortIn part f port node → 1 ≤ lid
+      → owns f port lid ≡ is_owner (owners_of held lid) (record { node = node.guid; port = port.port })
+  pub tops : (port : NodePort) (node : Node) → IsEndPortIn part f port node → IsTrue (is_switch node.kind) → f.top port.node ≡ top_of held node.guid
+  pub entries : (port : NodePort) (node : Node) (lid : ℕ) → IsEndPortIn part f port node → IsTrue (is_switch node.kind)
+      → f.entry port.node lid ≡ entry_of held node.guid lid
+
+-- a fabric of which a part is as the facts say, and holds the tables
+pub record IsSeenIn (part : Part) (cells : Cells) (held : HeldPlan) (f : Fabric) : Type 0 where
+  pub is_fabric : IsFabric f
+  pub agrees : AgreesOn part cells f
+  pub holds : HoldsTablesIn part held f
+
 -- a packet that ends at a port is delivered there, and any other is lost
 abbrev pub EndsAs : Fabric → ℕ → NodePort → Option End → Type 0
 EndsAs f lid source (Some (Taken e)) = (hops : List Hop) × (target : NodePort) × IsPortNamed f e.node e.port target × IsDelivered f lid source hops target
-EndsAs f lid source (Some (Lost g)) = (hops : List Hop) × (place : ℕ) × IsLost f lid source hops place
+EndsAs f lid source (Some (Lost g cause)) = (hops : List Hop) × (place : ℕ) × IsLost f lid source hops place
 EndsAs f lid source None = (hops : List Hop) × (place : ℕ) × IsLost f lid source hops place
 
 -- in each such fabric the packets of each end port end as the facts and the tables tell
 abbrev pub PacketsEndAsTold : Type 0
 PacketsEndAsTold = (facts : Facts) (held : HeldPlan) (f : Fabric) → IsSeen (cells_of facts) held f
     → (source : NodePort) (node : Node) (lid : ℕ) (end : Option End) → IsNodeAt f source.node node → IsEndPort f source → 1 ≤ lid
+    → IsBrought (cells_of facts) held lid (record { node = node.guid; port = source.port }) end → EndsAs f lid source end
+
+-- and so do those of the end ports that are joined to one, where what is joined to it is as the facts say and holds the tables
+abbrev pub PacketsEndAsToldInParts : Type 0
+PacketsEndAsToldInParts = (facts : Facts) (held : HeldPlan) (f : Fabric) (origin : NodePort) → IsEndPort f origin
+    → IsSeenIn (IsJoinedTo f origin) (cells_of facts) held f
+    → (source : NodePort) (node : Node) (lid : ℕ) (end : Option End) → IsEndPortIn (IsJoinedTo f origin) f source node → 1 ≤ lid
     → IsBrought (cells_of facts) held lid (record { node = node.guid; port = source.port }) end → EndsAs f lid source end
 
 -- a packet from the one end port to the LID of the other is delivered there

@@ -3,7 +3,7 @@ use Rattle.std.specs.Prelude.{◌≡◌, ℕ, ◌/◌, ◌%◌, ◌==◌, Bool, 
 use Rattle.std.specs.Option.{option_map_or}
 use Rattle.std.specs.List.{list_all, position, range_with_len}
 use Rattle.subnet_view.specs.declared.end_port.EndPort.{EndPort}
-use Rattle.subnet_view.specs.Reading.{Cells, switches}
+use Rattle.subnet_view.specs.Reading.{Cells, port_count_of, switches}
 use Rattle.subnet_view.specs.EndPorts.{end_ports}
 use Rattle.subnet_view.specs.Wires.{across}
 use Rattle.std.specs.Coded.{Coded, code_by, coded×}
@@ -36,9 +36,9 @@ far_to guids (Some q) = far_at q (index_in guids q.0)
 abbrev pub far_of : Cells → ℕ → ℕ → Far
 far_of cells g p = far_to (switches cells) (across cells g p)
 
--- where the wires in the ports from 0 to 255 of a node lead
+-- where the wires in the ports from 0 to 254 of a node lead: 255 is no port
 abbrev pub row_of : Cells → ℕ → List Far
-row_of cells g = map (far_of cells g) (range_with_len 0 256)
+row_of cells g = map (far_of cells g) (range_with_len 0 255)
 
 -- where the wire leads in port n % 256 of the usable switch at index n / 256
 abbrev pub far_by : Cells → ℕ → Far
@@ -71,9 +71,9 @@ is_among count (Some index) = nat_lt index count
 abbrev pub all_begin : ℕ → List (Option ℕ) → Bool
 all_begin count firsts = list_all (is_among count) firsts
 
--- a usable switch: where the wires in its ports lead, its place among the switches that are held, and its top
+-- a usable switch: where the wires in its ports lead, its place among the switches that are held, its top, and the number of its ports
 abbrev pub node_of : Cells → HeldPlan → ℕ → Node
-node_of cells held g = record { guid = g; row = row_of cells g; place = place_of held g; top = top_of held g }
+node_of cells held g = record { guid = g; row = row_of cells g; place = place_of held g; top = top_of held g; ports = port_count_of cells g }
 
 -- the facts of a subnet, and the tables that its switches hold
 pub record Seen : Type 0 where

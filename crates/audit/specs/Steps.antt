@@ -1,12 +1,14 @@
 -- What becomes of a packet for a LID at each switch, and at the port that sends it.
-use Rattle.std.specs.Prelude.{◌≡◌, ◌≢◌, ◌↔◌, Bool, false, Contains, ℕ, ◌<◌, ◌%◌, ◌==◌, List, [], Option, None, Some, length, map, slice_get, slice_index_or, slice_set, if◌then◌else◌}
+use Rattle.std.specs.Prelude.{◌≡◌, ◌≢◌, ◌↔◌, Bool, false, Contains, ℕ, ◌<◌, ◌%◌, ◌==◌, List, [], Option, None, Some, length, map, nat_lt, slice_get, slice_index_or, slice_set, if◌then◌else◌}
 use Rattle.std.specs.Option.{option_map_or}
 use Rattle.subnet_view.specs.declared.end_port.EndPort.{EndPort}
-use Rattle.subnet_view.specs.Reading.{Cells, is_usable, switches}
+use Rattle.subnet_view.specs.Reading.{Cells, is_usable, port_count_of, switches}
 use Rattle.plan_file.specs.declared.held.HeldBlock.{HeldBlock}
 use Rattle.plan_file.specs.declared.held.HeldLid.{HeldLid}
 use Rattle.plan_file.specs.Held.{HeldPlan}
 use Rattle.subnet_view.specs.EndPorts.{end_ports}
+use Rattle.audit.specs.declared.end.Cause.{Cause}
+use Rattle.audit.specs.declared.end.Cause.TheVariants.{AboveTop, NoEntry, NoPort, NoLink, Foreign}
 use Rattle.audit.specs.declared.end.End.{End}
 use Rattle.audit.specs.declared.end.Failure.{Failure}
 use Rattle.audit.specs.declared.end.End.TheVariants.{Taken, Lost}
@@ -17,39 +19,50 @@ use Rattle.audit.specs.declared.node.Node.{Node}
 use Rattle.audit.specs.declared.step.Step.{Step}
 use Rattle.audit.specs.declared.step.Step.TheVariants.{To, Ends}
 use Rattle.audit.specs.Network.{row_of, source_of}
-use Rattle.audit.specs.Tables.{owners_of, is_owner, is_same_end, counted, entry_for, entry_in, block_at}
+use Rattle.audit.specs.Tables.{owners_of, is_owner, is_same_end, counted, entry_for, entry_in, block_at, top_of}
 use Rattle.audit.specs.Walks.{IsEndOf, after, end_of}
 
 -- an adapter port takes a packet for a LID that it holds
 abbrev pub at_port : List EndPort → EndPort → End
-at_port owners e = if is_owner owners e then Taken e else Lost e.node
+at_port owners e = if is_owner owners e then Taken e else Lost e.node Foreign
 
--- over a wire of the node g: to a switch; to a port, which takes it where it holds the LID; or nowhere
-abbrev pub over : List EndPort → ℕ → Far → Step
-over owners g Nothing = Ends (Lost g)
-over owners g (Switch index) = To index
-over owners g (Port e) = Ends (at_port owners e)
+-- by a port of the node g: to a switch; to a port, which takes it where it holds the LID; or nowhere, and it is lost for this cause
+abbrev pub over : List EndPort → ℕ → Cause → Far → Step
+over owners g cause Nothing = Ends (Lost g cause)
+over owners g cause (Switch index) = To index
+over owners g cause (Port e) = Ends (at_port owners e)
+
+-- why a switch with so many ports and a top does not send a packet for a LID on, by the entry that counts: the first of these that is so
+abbrev pub cause_by : ℕ → ℕ → ℕ → ℕ → Cause
+cause_by ports top lid entry = if nat_lt top lid then AboveTop else (if entry == 255 then NoEntry else (if nat_lt ports entry then NoPort else NoLink))
+
+-- the same of a switch of the facts
+abbrev pub cause_of : Cells → HeldPlan → ℕ → ℕ → Cause
+cause_of cells held lid g = cause_by (port_count_of cells g) (top_of held g) lid (entry_for held lid g)
 
 -- by its entry: 0 is the switch itself, and the ports of its row lead on
-abbrev pub by_entry : List EndPort → ℕ → List Far → ℕ → Step
-by_entry owners g row entry =
-    if entry == 0 then Ends (Taken (record { node = g; port = 0 })) else over owners g (slice_index_or row entry Nothing)
+abbrev pub by_entry : List EndPort → ℕ → Cause → List Far → ℕ → Step
+by_entry owners g cause row entry =
+    if entry == 0 then Ends (Taken (record { node = g; port = 0 })) else over owners g cause (slice_index_or row entry Nothing)
 
 -- what each usable switch does with a packet for the LID
 abbrev pub steps_of : Cells → HeldPlan → ℕ → List Step
-steps_of cells held lid = map (λ g. by_entry (owners_of held lid) g (row_of cells g) (entry_for held lid g)) (switches cells)
+steps_of cells held lid = map (λ g. by_entry (owners_of held lid) g (cause_of cells held lid g) (row_of cells g) (entry_for held lid g)) (switches cells)
 
 -- the same of a switch with its place, its top and its row, by the blocks of a number
 abbrev pub entry_among : List (List ℕ) → Option ℕ → ℕ → ℕ
 entry_among rows place lid = option_map_or (λ k. slice_index_or (slice_index_or rows k []) (lid % 64) 255) place 255
 
-abbrev pub step_of : List EndPort → List (List ℕ) → ℕ → Node → Step
-step_of owners rows lid node = by_entry owners node.guid node.row (counted lid node.top (entry_among rows node.place lid))
+abbrev pub step_by : List EndPort → ℕ → Node → ℕ → Step
+step_by owners lid node entry = by_entry owners node.guid (cause_by node.ports node.top lid entry) node.row entry
 
--- a switch's own packet begins there; an adapter port takes its own LID, and sends any other out
+abbrev pub step_of : List EndPort → List (List ℕ) → ℕ → Node → Step
+step_of owners rows lid node = step_by owners lid node (counted lid node.top (entry_among rows node.place lid))
+
+-- a switch's own packet begins there; an adapter port takes its own LID, and sends any other out by its own port
 abbrev pub sent : List EndPort → EndPort → Option ℕ → Far → Step
 sent owners e (Some index) far = To index
-sent owners e None far = if is_owner owners e then Ends (Taken e) else over owners e.node far
+sent owners e None far = if is_owner owners e then Ends (Taken e) else over owners e.node NoLink far
 
 -- where a packet begins
 abbrev pub first_step : List EndPort → Source → Step
@@ -101,7 +114,7 @@ LineArrives cells held line = (e : EndPort) → Contains (end_ports cells) e →
 -- a packet ends at the port
 abbrev pub is_at : EndPort → Option End → Bool
 is_at e None = false
-is_at e (Some (Lost g)) = false
+is_at e (Some (Lost g cause)) = false
 is_at e (Some (Taken x)) = is_same_end e x
 
 -- those of an end port do not: they end elsewhere, or go round for ever

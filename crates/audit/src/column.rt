@@ -1,10 +1,10 @@
 //! What becomes of packets for one LID at each switch.
 ghost use Rattle.std.specs.Prelude.{◌≡◌, IfOk, map};
-ghost use Rattle.audit.specs.Steps.{at_port, entry_among, first_step, over, step_of};
+ghost use Rattle.audit.specs.Steps.{at_port, cause_by, entry_among, first_step, over, step_of};
 ghost use Rattle.audit.specs.Exits.{exit_of, exit_to};
 ghost use Rattle.audit.specs.Tables.{counted, is_owner};
 
-use crate::end::End;
+use crate::end::{Cause, End};
 use crate::far::{Far, Source};
 use crate::node::Node;
 use crate::step::Step;
@@ -49,7 +49,29 @@ fn step_at(owners: &[EndPort], rows: &[[u8; 64]], lid: Lid, node: &Node) -> Step
             port: PortNum::new(0),
         }));
     }
-    over(owners, node.guid, node.row.far(entry))
+    match node.row.far(entry) {
+        Far::Nothing => Step::Ends(End::Lost(
+            node.guid,
+            cause_by(node.ports, node.top, lid, entry),
+        )),
+        Far::Switch(index) => Step::To(index),
+        Far::Port(port) => Step::Ends(at_port(owners, &port)),
+    }
+}
+
+/// Why a switch with so many ports and this top does not send a packet on by its entry.
+fn cause_by(ports: u8, top: Lid, lid: Lid, entry: u8) -> Cause
+    ensures { result ≡ cause_by ports top lid entry }
+{
+    if top < lid {
+        Cause::AboveTop
+    } else if entry == 255 {
+        Cause::NoEntry
+    } else if ports < entry {
+        Cause::NoPort
+    } else {
+        Cause::NoLink
+    }
 }
 
 /// The entry of the switch at a place.
@@ -115,12 +137,12 @@ fn exit_to(port: u8, far: Far) -> Option<Exit>
     }
 }
 
-/// What becomes of a packet that leaves a node by a wire.
-fn over(owners: &[EndPort], node: Guid, far: Far) -> Step
-    ensures { result ≡ over owners.now node far }
+/// What becomes of a packet that leaves a node by a port, where it is lost for a cause if no wire is in the port.
+fn over(owners: &[EndPort], node: Guid, cause: Cause, far: Far) -> Step
+    ensures { result ≡ over owners.now node cause far }
 {
     match far {
-        Far::Nothing => Step::Ends(End::Lost(node)),
+        Far::Nothing => Step::Ends(End::Lost(node, cause)),
         Far::Switch(index) => Step::To(index),
         Far::Port(port) => Step::Ends(at_port(owners, &port)),
     }
@@ -133,7 +155,7 @@ fn at_port(owners: &[EndPort], port: &EndPort) -> End
     if is_owner(owners, port) {
         End::Taken(*port)
     } else {
-        End::Lost(port.node)
+        End::Lost(port.node, Cause::Foreign)
     }
 }
 
@@ -145,7 +167,7 @@ pub(crate) fn first_step(owners: &[EndPort], source: &Source) -> Step
         if is_owner(owners, &source.port) {
             return Step::Ends(End::Taken(source.port));
         }
-        return over(owners, source.port.node, source.far);
+        return over(owners, source.port.node, Cause::NoLink, source.far);
     };
     Step::To(index)
 }

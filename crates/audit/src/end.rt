@@ -7,8 +7,23 @@ use subnet_view::EndPort;
 pub enum End {
     /// It is delivered at this port.
     Taken(EndPort),
-    /// It goes no further at the node with this GUID.
-    Lost(Guid),
+    /// It goes no further at the node with this GUID, for this cause.
+    Lost(Guid, Cause),
+}
+
+/// Why a packet goes no further at a node: at a switch the first of the first four that is so.
+#[derive(Clone, Copy, Debug, PartialEq, Eq)]
+pub enum Cause {
+    /// The LID is above the switch's top.
+    AboveTop,
+    /// The entry is 255, as where no block is held.
+    NoEntry,
+    /// The entry is above the number of the switch's ports.
+    NoPort,
+    /// No wire is in the port: it is down, or has no cable.
+    NoLink,
+    /// The packet came over a wire to a port that does not hold the LID.
+    Foreign,
 }
 
 /// A packet for a LID that an end port holds, which does not come there.

@@ -1,5 +1,5 @@
 //! The laws of what tables do.
-ghost use Rattle.audit.specs.Fabrics.{FabricsAreJudged, PacketsEndAsTold, PlansPass};
+ghost use Rattle.audit.specs.Fabrics.{FabricsAreJudged, PacketsEndAsTold, PacketsEndAsToldInParts, PlansPass};
 ghost use Rattle.audit.specs.Steps.{EndsAreFound};
 
 /// After as many steps as there are usable switches a packet has ended, or goes round for ever: it has one end, and that
@@ -12,6 +12,12 @@ pub fn ends_are_found()
 /// delivered at the port where `Network::ends` says that it ends, and lost where it says that it ends at none.
 pub fn packets_end_as_told()
     ensures law { PacketsEndAsTold }
+{}
+
+/// The same of the end ports that are joined to one, where what is joined to it is as the facts say and holds the tables,
+/// whatever the rest of the fabric is.
+pub fn packets_end_as_told_in_parts()
+    ensures law { PacketsEndAsToldInParts }
 {}
 
 /// Where `first_failure` answers None, a packet from each end port of each such fabric for the LID of each is delivered

@@ -17,7 +17,7 @@ mod step;
 mod walks;
 
 pub use arrival::first_failure;
-pub use end::{End, Failure};
+pub use end::{Cause, End, Failure};
 pub use ends::Ends;
 pub use far::{Far, Source};
 pub use network::{Blocks, Network};

@@ -2,7 +2,7 @@ ghost use Rattle.std.specs.Prelude.{◌≡◌, ◌<◌, ◌/◌, IfOk, length, m
 ghost use Rattle.fact_store.specs.View.{cells_of};
 ghost use Rattle.subnet_view.specs.EndPorts.{end_ports};
 ghost use Rattle.subnet_view.specs.Reading.{switches};
-ghost use Rattle.audit.specs.Exits.{exits_of};
+ghost use Rattle.audit.specs.Exits.{exits_of, greatest_top};
 ghost use Rattle.audit.specs.Network.{far_by, source_of};
 ghost use Rattle.audit.specs.Steps.{AreBlocks, AreBrought, entry_by};
 ghost use Rattle.audit.specs.Tables.{is_owner};
@@ -12,7 +12,7 @@ use crate::column::{exits, steps};
 use crate::ends::Ends;
 use crate::entry::entry_for;
 use crate::far::{Far, Source, all_begin, firsts, sources};
-use crate::node::{Node, nodes};
+use crate::node::{Node, greatest_top, nodes};
 use crate::owners::{Owner, owners, owners_of};
 use crate::walks::ends;
 use fact_store::{Refused, Store};
@@ -162,6 +162,14 @@ impl<'a> Network<'a> {
         ensures { result ≡ length (switches (cells_of self.now.facts)) }
     {
         self.nodes.len()
+    }
+
+    /// The greatest of the tops of the usable switches, and 0 where there is none: for no LID above it does one send packets
+    /// on to another. Takes a step for each switch.
+    pub fn greatest_top(&self) -> Lid
+        ensures { result ≡ greatest_top (cells_of self.now.facts) self.now.held }
+    {
+        greatest_top(&self.nodes)
     }
 
     /// The GUID of the usable switch at an index, by rising GUID. Takes one step.

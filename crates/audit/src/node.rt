@@ -1,6 +1,7 @@
 ghost use Rattle.std.specs.Prelude.{◌≡◌, IfOk, map};
 ghost use Rattle.fact_store.specs.View.{cells_of};
 ghost use Rattle.subnet_view.specs.Reading.{switches};
+ghost use Rattle.lid_assign.specs.Lids.{greatest};
 ghost use Rattle.audit.specs.Network.{node_of};
 ghost use Rattle.audit.specs.Tables.{place_of, top_at};
 
@@ -9,6 +10,7 @@ use plan_file::Held;
 use smp_bytes::{Guid, Lid};
 use std::alloc::{AllocError, Global};
 use subnet_view::Wires;
+use updown_routes::port_count;
 
 /// A usable switch.
 #[derive(Drop)]
@@ -20,6 +22,8 @@ pub(crate) struct Node {
     pub(crate) place: Option<usize>,
     /// The greatest LID that it forwards, and 0 where it is not held.
     pub(crate) top: Lid,
+    /// The number of its ports.
+    pub(crate) ports: u8,
 }
 
 /// The usable switches of the view, by rising GUID.
@@ -53,11 +57,13 @@ fn node_at(
     let row = row_of(alloc, wires, guids, guid)?;
     let place = place_of(held, guid);
     let top = top_at(held, place);
+    let ports = port_count(wires.store(), guid);
     Ok(Node {
         guid,
         row,
         place,
         top,
+        ports,
     })
 }
 
@@ -81,4 +87,17 @@ pub(crate) fn top_at(held: &Held, place: Option<usize>) -> Lid
         Some(switch) => switch.top,
         None => Lid::new(0),
     }
+}
+
+/// The greatest of the switches' tops, and 0 where there is none.
+pub(crate) fn greatest_top(nodes: &[Node]) -> Lid
+    ensures { result ≡ greatest (map (λ node. node.top) nodes.now) }
+{
+    let mut greatest = Lid::new(0);
+    for node in nodes {
+        if greatest < node.top {
+            greatest = node.top;
+        }
+    }
+    greatest
 }

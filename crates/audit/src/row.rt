@@ -46,9 +46,9 @@ pub(crate) fn row_of(
     requires { guids.now ≡ switches (cells_of wires.now) }
     ensures { IfOk result (λ row. row ≡ row_of (cells_of wires.now) node) }
 {
-    let mut fars = Vec::with_capacity(alloc, 256)?;
-    for port in 0..256u16 {
-        fars.push(far_of(wires, guids, node, PortNum::new(port as u8)))?;
+    let mut fars = Vec::with_capacity(alloc, 255)?;
+    for port in 0..255u8 {
+        fars.push(far_of(wires, guids, node, PortNum::new(port)))?;
     }
     Ok(Row { fars })
 }

@@ -105,7 +105,15 @@ fn failures_are_found(rt: HostRuntime) -> Result<(), Fail> {
             4,
             at(0x200, 1),
             at(0x10, 0),
-            Some(End::Lost(Guid::new(0x10))),
+            Some(End::Lost(Guid::new(0x10), Cause::NoLink)),
+        ),
+        (
+            "an entry above the number of ports",
+            "switch 10 top 4\nblock 0 ff00010205%\nswitch 20 top 4\nblock 0 ff01000102%",
+            4,
+            at(0x200, 1),
+            at(0x10, 0),
+            Some(End::Lost(Guid::new(0x10), Cause::NoPort)),
         ),
         (
             "to the wrong neighbour",
@@ -113,7 +121,7 @@ fn failures_are_found(rt: HostRuntime) -> Result<(), Fail> {
             2,
             at(0x20, 0),
             at(0x10, 0),
-            Some(End::Lost(Guid::new(0x100))),
+            Some(End::Lost(Guid::new(0x100), Cause::Foreign)),
         ),
         (
             "round between two switches",
@@ -129,7 +137,7 @@ fn failures_are_found(rt: HostRuntime) -> Result<(), Fail> {
             1,
             at(0x10, 0),
             at(0x20, 0),
-            Some(End::Lost(Guid::new(0x20))),
+            Some(End::Lost(Guid::new(0x20), Cause::NoEntry)),
         ),
         (
             "a top too low",
@@ -137,7 +145,7 @@ fn failures_are_found(rt: HostRuntime) -> Result<(), Fail> {
             4,
             at(0x200, 1),
             at(0x10, 0),
-            Some(End::Lost(Guid::new(0x10))),
+            Some(End::Lost(Guid::new(0x10), Cause::AboveTop)),
         ),
     ] {
         let text = joined(rt.alloc(), LIDS, lines)?;

@@ -1,22 +1,21 @@
 -- Channels that packets take in turn by the tables held, and the order of channels.
 -- InfiniBand Architecture Specification, Volume 1: switches, unicast forwarding by the linear forwarding table; link layer, flow control by credits.
-use Rattle.std.specs.Prelude.{◌≡◌, ◌↔◌, ◌<◌, ◌≤◌, ◌*◌, ℕ, List, [], ◌∷◌, Contains, Option, length, slice_index_or}
+use Rattle.std.specs.Prelude.{◌≡◌, ◌↔◌, ◌<◌, ◌≤◌, ◌*◌, ℕ, List, [], ◌∷◌, Option, length, slice_index_or}
 use Rattle.port_graph.specs.declared.exit.Exit.{Exit}
 use Rattle.channel_order.specs.Orders.{Follows}
 use Rattle.channel_order.specs.Columns.{TakesInTurn}
 use Rattle.channel_order.specs.declared.order.ChannelOrder.{ChannelOrder}
 use Rattle.channel_order.specs.declared.order.ChannelOrder.TheVariants.{Rises, Circle}
 use Rattle.subnet_view.specs.Reading.{Cells, switches}
-use Rattle.plan_file.specs.declared.held.HeldLid.{HeldLid}
 use Rattle.plan_file.specs.Held.{HeldPlan}
 use Rattle.audit.specs.Exits.{exits_of}
 
--- a packet for a LID that an end port holds leaves a switch by one channel, and the next switch by another
+-- a packet for a LID leaves a switch by one channel, and the next switch by another; whether an end port holds the LID is nothing to the switches
 pub record WaitsFor (cells : Cells) (held : HeldPlan) (channel next : ℕ) : Type 0 where
-  pub line : HeldLid
-  pub is_held : Contains held.lids line
+  pub lid : ℕ
+  pub is_lid : 1 ≤ lid
   pub switch : ℕ
-  pub takes : TakesInTurn (exits_of cells held line.lid) switch channel next
+  pub takes : TakesInTurn (exits_of cells held lid) switch channel next
 
 -- of each channel of each switch, those that packets take next
 pub record AreWaits (cells : Cells) (held : HeldPlan) (waits : List (List ℕ)) : Type 0 where

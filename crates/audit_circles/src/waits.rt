@@ -6,9 +6,10 @@ ghost use Rattle.audit_circles.specs.Waiting.{AreWaits, IsAdded};
 use audit::Network;
 use channel_order::{Waits, add_column};
 use port_graph::Exit;
+use smp_bytes::Lid;
 use std::alloc::{AllocError, Global};
 
-/// For each channel those that packets take next.
+/// For each channel those that packets take next, LID by LID up to the greatest top: above it no switch sends them on.
 pub(crate) fn waits(alloc: Global, network: &Network) -> Result<Waits, AllocError>
     ensures { IfOk result (λ waits. AreWaits (cells_of network.now.facts) network.now.held waits) }
 {
@@ -16,9 +17,10 @@ pub(crate) fn waits(alloc: Global, network: &Network) -> Result<Waits, AllocErro
     let mut waits = Waits::new(alloc, count)?;
     let mut blocks = network.blocks(alloc, 0)?;
     let mut before = Vec::new(alloc);
-    for line in network.lids() {
-        blocks = network.blocks_for(alloc, blocks, line.lid)?;
-        let column = network.exits(alloc, &blocks, line.lid)?;
+    for below in 0..network.greatest_top().number() {
+        let lid = Lid::new(below + 1);
+        blocks = network.blocks_for(alloc, blocks, lid)?;
+        let column = network.exits(alloc, &blocks, lid)?;
         add_after(&mut waits, &before, &column)?;
         before = column;
     }

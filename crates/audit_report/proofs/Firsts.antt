@@ -1,10 +1,12 @@
 -- The first of a list that pass a test, with one element more.
-use Rattle.std.proofs.Common.{◌≡◌, ◌<◌, ◌≤◌, ◌+◌, ℕ, List, [], ◌∷◌, ◌++◌, inl, inr, sym, ap, ◌∙◌, arith, Bool, true, false, cond, length, take, get_or}
-use Rattle.std.specs.Prelude.{filter, nat_lt}
+use Rattle.std.proofs.Common.{◌≡◌, ◌<◌, ◌≤◌, ◌+◌, ℕ, List, [], ◌∷◌, ◌++◌, inl, inr, refl, sym, ap, ◌∙◌, arith, Bool, true, false, cond, length, take, get_or}
+use Rattle.std.specs.Prelude.{count_by, filter, nat_lt}
+use Rattle.std.proofs.Math.Nat.{add-zero}
 use Rattle.std.proofs.lemmas.Bool.{cases_lt, lt-ltb, le-ltb}
 use Rattle.std.proofs.lemmas.List.{append-nil, length-append, length-take-le, take_all, take_more, take-append-le}
 use Rattle.std.proofs.lemmas.List.Elements.{filter-append}
-use Rattle.audit_report.specs.Told.{first_of, noted}
+use Rattle.std.proofs.lemmas.List.Sums.{sum_by_push}
+use Rattle.audit_report.specs.Told.{Listed, first_of, listed, listed_of, noted}
 
 module _ {X : Type 0} where
   -- the first so many of a list with one more
@@ -31,20 +33,32 @@ module _ {X : Type 0} where
         | false ↦ ap (λ ys. take 20 ys) (append-nil (filter p xs))
       ])
 
+  -- the same with how many there are: one more passes, or it does not
+  pub listed_more : (p : X → Bool) (xs : List X) (x : X) → listed_of p (xs ++ x ∷ []) ≡ cond (p x) (listed (listed_of p xs) x) (listed_of p xs)
+  listed_more p xs x =
+      let counted : count_by p (xs ++ x ∷ []) ≡ count_by p xs + cond (p x) 1 0 = sum_by_push (λ (y : X). cond (p y) 1 0) xs x in
+      (λ i. record { first = first_more p xs x i; count = counted i })
+      ∙ (elim (p x) as
+      (λ t. ◌≡◌ {A = Listed X} (record { first = cond t (noted (first_of p xs) x) (first_of p xs); count = count_by p xs + cond t 1 0 })
+      (cond t (listed (listed_of p xs) x) (listed_of p xs))) [
+        | true ↦ refl
+        | false ↦ λ i. record { first = first_of p xs; count = add-zero (count_by p xs) i }
+      ])
+
   -- the element at a place passes, and is told
-  pub told_more : (p : X → Bool) (xs : List X) (i : ℕ) (x : X) (told new : List X) → told ≡ first_of p (take i xs) → i < length xs → x ≡ get_or xs i x
-      → p x ≡ true → new ≡ noted told x → new ≡ first_of p (take (i + 1) xs)
+  pub told_more : (p : X → Bool) (xs : List X) (i : ℕ) (x : X) (told new : Listed X) → told ≡ listed_of p (take i xs) → i < length xs → x ≡ get_or xs i x
+      → p x ≡ true → new ≡ listed told x → new ≡ listed_of p (take (i + 1) xs)
   told_more p xs i x told new h less is passes e =
-      e ∙ ap (λ ys. noted ys x) h ∙ sym (ap (λ t. cond t (noted (first_of p (take i xs)) x) (first_of p (take i xs))) passes)
-      ∙ sym (first_more p (take i xs) x) ∙ sym (ap (first_of p) (take_more xs i x less ∙ ap (λ y. take i xs ++ y ∷ []) (sym is)))
+      e ∙ ap (λ l. listed l x) h ∙ sym (ap (λ t. cond t (listed (listed_of p (take i xs)) x) (listed_of p (take i xs))) passes)
+      ∙ sym (listed_more p (take i xs) x) ∙ sym (ap (listed_of p) (take_more xs i x less ∙ ap (λ y. take i xs ++ y ∷ []) (sym is)))
 
   -- it does not, and is not told
-  pub told_same : (p : X → Bool) (xs : List X) (i : ℕ) (x : X) (told new : List X) → told ≡ first_of p (take i xs) → i < length xs → x ≡ get_or xs i x
-      → p x ≡ false → new ≡ told → new ≡ first_of p (take (i + 1) xs)
+  pub told_same : (p : X → Bool) (xs : List X) (i : ℕ) (x : X) (told new : Listed X) → told ≡ listed_of p (take i xs) → i < length xs → x ≡ get_or xs i x
+      → p x ≡ false → new ≡ told → new ≡ listed_of p (take (i + 1) xs)
   told_same p xs i x told new h less is fails e =
-      e ∙ h ∙ sym (ap (λ t. cond t (noted (first_of p (take i xs)) x) (first_of p (take i xs))) fails)
-      ∙ sym (first_more p (take i xs) x) ∙ sym (ap (first_of p) (take_more xs i x less ∙ ap (λ y. take i xs ++ y ∷ []) (sym is)))
+      e ∙ h ∙ sym (ap (λ t. cond t (listed (listed_of p (take i xs)) x) (listed_of p (take i xs))) fails)
+      ∙ sym (listed_more p (take i xs) x) ∙ sym (ap (listed_of p) (take_more xs i x less ∙ ap (λ y. take i xs ++ y ∷ []) (sym is)))
 
   -- all were looked at
-  pub told_all : (p : X → Bool) (xs : List X) (i : ℕ) (told : List X) → told ≡ first_of p (take i xs) → length xs ≤ i → told ≡ first_of p xs
-  told_all p xs i told h past = h ∙ ap (first_of p) (take_all i xs past)
+  pub told_all : (p : X → Bool) (xs : List X) (i : ℕ) (told : Listed X) → told ≡ listed_of p (take i xs) → length xs ≤ i → told ≡ listed_of p xs
+  told_all p xs i told h past = h ∙ ap (listed_of p) (take_all i xs past)

@@ -1,7 +1,6 @@
 -- When all packets arrive, and channels can be numbered.
 use Rattle.std.proofs.Common.{◌≡◌, ◌+◌, ℕ, List, [], ◌∷◌, refl, sym, ap, ◌∙◌, subst, arith, inl, inr, Bool, true, false, cond, length}
 use Rattle.std.specs.Prelude.{Contains, Some, IsTrue, ◌↔◌, ◌&&◌, ◌==◌, count_by, filter}
-use Rattle.std.specs.List.{flat_map}
 use Rattle.std.proofs.lemmas.Bool.{and_parts, and_from, eqb-true, eq-eqb}
 use Rattle.std.proofs.lemmas.List.Sums.{sum_by-cons, count_by-le-length}
 use Rattle.fact_store.specs.View.{cells_of}
@@ -27,7 +26,7 @@ use Rattle.audit_report.specs.declared.packet.Packet.{Packet}
 use Rattle.audit_report.specs.declared.tally.Tally.{Tally}
 use Rattle.audit_report.specs.declared.unmatched.Unmatched.{Unmatched}
 use Rattle.audit_report.specs.Packets.{arrives, packet_of, packets_for, packets_of, sent_to}
-use Rattle.audit_report.specs.Passing.{EachArrives, CanRise, Passes, IsCircle, IsFound}
+use Rattle.audit_report.specs.Passing.{EachArrives, CanRise, IsSound, IsCircle, IsFound}
 use Rattle.audit_report.specs.Seats.{in_one_component}
 
 -- counting all ------------------------------------------------------------------------
@@ -118,21 +117,22 @@ module _ (cells : Cells) (held : HeldPlan) where
   can_rise [] h e = h
   can_rise (channel ∷ later) h e = absurd (omega arith)
 
-pub passes_is : (seen : Seen) (tally : Tally) (unmatched : Unmatched) (ways : WayFigures) (circle : List ℕ) (b : Bool) → IsFound seen tally unmatched ways circle
-    → b ≡ ((tally.arrived == tally.sent) && (length circle == 0)) → IsTrue b ↔ Passes (cells_of seen.facts) seen.held
-passes_is seen tally unmatched ways circle b found is =
+pub sound_is : (seen : Seen) (tally : Tally) (unmatched : Unmatched) (count : ℕ) (ways : WayFigures) (circle : List ℕ) (b : Bool)
+    → IsFound seen tally unmatched count ways circle
+    → b ≡ ((tally.all.arrived == tally.all.sent) && (length circle == 0)) → IsTrue b ↔ IsSound (cells_of seen.facts) seen.held
+sound_is seen tally unmatched count ways circle b found is =
     let cells = cells_of seen.facts in
     let held = seen.held in
-    let counted = found.counted in (
+    let counted = found.counted.all in (
       λ t.
-          let parts = and_parts (tally.arrived == tally.sent) (length circle == 0) (sym is ∙ t) in
-          let same : tally.arrived ≡ tally.sent = eqb-true tally.arrived tally.sent parts.0 in
+          let parts = and_parts (tally.all.arrived == tally.all.sent) (length circle == 0) (sym is ∙ t) in
+          let same : tally.all.arrived ≡ tally.all.sent = eqb-true tally.all.arrived tally.all.sent parts.0 in
           record {
             arrive = arrive_all cells held (sym counted.arrived ∙ same ∙ counted.sent);
             rise = can_rise cells held circle found.waits (eqb-true (length circle) 0 parts.1);
           },
-      λ p. is ∙ and_from (tally.arrived == tally.sent) (length circle == 0)
-          (eq-eqb tally.arrived tally.sent (counted.arrived ∙ count_all cells held p.arrive ∙ sym counted.sent))
+      λ p. is ∙ and_from (tally.all.arrived == tally.all.sent) (length circle == 0)
+          (eq-eqb tally.all.arrived tally.all.sent (counted.arrived ∙ count_all cells held p.arrive ∙ sym counted.sent))
           (eq-eqb (length circle) 0 (no_circle cells held circle found.waits p.rise)),
     )
 

@@ -1,8 +1,12 @@
+pub mod Disputes
 pub mod Firsts
 pub mod Counted
+pub mod Delivers
 pub mod Seated
 pub mod Surveyed
+pub mod TallyText
 pub mod Written
 pub mod Judged
+pub mod Missing
 pub mod PlansArrive
 pub mod PlansRise

@@ -1,20 +1,20 @@
 -- The channels of the plan of a view can be numbered so that the numbers rise on every way.
-use Rattle.std.proofs.Common.{◌≡◌, ℕ, ◌+◌, ◌*◌, ◌/◌, ◌%◌, ◌<◌, true, false, List, [], ◌∷◌, length, get_or}
-use Rattle.std.proofs.Common.{Option, None, Some, refl, sym, ap, ◌∙◌, subst, arith, ◌==◌}
-use Rattle.std.specs.Prelude.{slice_get, slice_index_or, map, Contains}
+use Rattle.std.proofs.Common.{◌≡◌, ℕ, ◌+◌, ◌*◌, ◌/◌, ◌%◌, ◌<◌, false, List, [], ◌∷◌, length, get_or}
+use Rattle.std.proofs.Common.{Option, None, Some, inl, inr, refl, sym, ap, ◌∙◌, subst, arith, ◌==◌}
+use Rattle.std.specs.Prelude.{slice_get, slice_index_or, map, option_and_then, Contains}
 use Rattle.std.specs.Option.{option_map_or}
 use Rattle.std.specs.List.{range_with_len}
 use Rattle.std.specs.List.Sorted.{IsStrictlyIncreasing}
-use Rattle.std.proofs.lemmas.Bool.{eqb-false}
+use Rattle.std.proofs.lemmas.Bool.{cases_lt, eqb-false}
 use Rattle.std.proofs.lemmas.List.FromFn.{length-map-range_with_len, get_or-map-range_with_len}
 use Rattle.std.proofs.lemmas.Option.{same_Some, slice_get_within, slice_get-get_or}
 use Rattle.fact_store.specs.Sighting.{AreInRange}
 use Rattle.fact_store.specs.View.{Facts, cells_of}
 use Rattle.subnet_view.specs.Reading.{Cells, switches}
 use Rattle.subnet_view.specs.Wires.{across}
-use Rattle.subnet_view.proofs.Members.{contains_none}
+use Rattle.subnet_view.specs.declared.end_port.EndPort.{EndPort}
 use Rattle.port_graph.specs.declared.exit.Exit.{Exit}
-use Rattle.lid_assign.specs.Lids.{IsNoRoom, lids, top_of}
+use Rattle.lid_assign.specs.Lids.{IsNoRoom, greatest, lids, owner_of, top_of}
 use Rattle.updown_routes.specs.Channels.{numbers_along}
 use Rattle.updown_routes.specs.Crossing.{Crossing}
 use Rattle.updown_routes.specs.Graph.{graph_of}
@@ -22,6 +22,7 @@ use Rattle.updown_routes.specs.GraphLaws.{IsSwitch}
 use Rattle.updown_routes.specs.Routing.{Routing, Leads, Passes, FollowsRule}
 use Rattle.updown_routes.proofs.Graphs.{exit_is_wire}
 use Rattle.updown_routes.proofs.Switches.{graph_guids}
+use Rattle.lft_blocks.specs.Entries.{home_of, port_to}
 use Rattle.lft_blocks.proofs.HomeSwitches.{home_is_switch}
 use Rattle.spread_rule.specs.Rules.{RuleValue, routing_by}
 use Rattle.spread_rule.proofs.Whole.{rules_are_routings}
@@ -29,12 +30,13 @@ use Rattle.lft_blocks.specs.Plan.{plan_of}
 use Rattle.plan_file.specs.Held.{HeldPlan, nothing_held}
 use Rattle.plan_file.specs.Printed.{held_plan}
 use Rattle.plan_file.proofs.NextPorts.{next_has_cost}
-use Rattle.plan_file.proofs.OwnedLids.{line_owned}
 use Rattle.plan_file.proofs.PlanRanges.{wire_small}
 use Rattle.audit.specs.Exits.{exit_by}
 use Rattle.audit.specs.Network.{row_of}
-use Rattle.audit.specs.Tables.{entry_for}
-use Rattle.audit.proofs.HeldPlans.{made, entry_counts}
+use Rattle.audit.specs.Tables.{counted, entry_for}
+use Rattle.audit.specs.Tables.{top_of as top_held}
+use Rattle.audit.proofs.HeldPlans.{made, entry_counts, entry_held, top_of_switch}
+use Rattle.audit.proofs.Tops.{entry_above, no_exit_by, none_above, uncounted}
 use Rattle.audit_circles.specs.Waiting.{WaitsFor}
 use Rattle.audit_report.specs.Passing.{CanRise}
 use Rattle.audit.proofs.PlanSteps.{contains_at, of_column, leaves, on_way}
@@ -49,7 +51,7 @@ number_of rule cells channel = number_at rule cells (slice_index_or (switches ce
 abbrev numbers : Routing → Cells → List ℕ
 numbers rule cells = map (number_of rule cells) (range_with_len 0 (256 * length (switches cells)))
 
-numbered : (rule : Routing) (cells : Cells) (i port g : ℕ) (end : ℕ × ℕ) → slice_get (switches cells) i ≡ Some g → port < 256 → across cells g port ≡ Some end
+numbered : (rule : Routing) (cells : Cells) (i port g : ℕ) (end : ℕ × ℕ) → slice_get (switches cells) i ≡ Some g → port < 255 → across cells g port ≡ Some end
     → slice_index_or (numbers rule cells) (256 * i + port) 0 ≡ rule.channel g end.0
 numbered rule cells i port g end at low wire =
     let channel = 256 * i + port in
@@ -122,18 +124,37 @@ module _ (by : RuleValue) (lmc : ℕ) (facts : Facts) (range : AreInRange facts)
   abbrev held : HeldPlan
   held = made by lmc its_cells top
 
+  -- without an owner no switch has an entry
+  abbrev exit : ℕ → ℕ → Option Exit
+  exit lid g = exit_by (row_of its_cells g) (entry_for held lid g)
+
+  no_entry : (lid g : ℕ) → Contains (switches its_cells) g → owner_of (lids lmc its_cells) lid ≡ None → entry_for held lid g ≡ 255
+  no_entry lid g there none =
+      elim (cases_lt top lid) [
+        | inl above ↦ entry_above its_cells held lid g (omega (arith, above, top_of_switch by lmc facts has_room top top_is g there))
+        | inr within ↦
+            ap (counted lid (top_held held g))
+            (entry_held by lmc facts has_room top top_is g lid there within
+            ∙ ap (λ o. option_map_or (port_to its_rule.next lid g) (option_and_then (home_of its_cells) o) 255) none)
+            ∙ uncounted lid (top_held held g)
+      ]
+
+  no_exit : (lid i : ℕ) (x : Exit) → owner_of (lids lmc its_cells) lid ≡ None → slice_index_or (map (exit lid) (switches its_cells)) i None ≡ Some x → ⊥
+  no_exit lid i x none leaves =
+      let (g, at, exits) = of_column (exit lid) (switches its_cells) i x leaves in
+      let is : exit lid g ≡ None = no_exit_by its_cells g (entry_for held lid g) (no_entry lid g (contains_at (switches its_cells) i g at) none) in
+      cc
+
   no_wire_at_255 : (g : ℕ) (q : ℕ × ℕ) → across its_cells g 255 ≡ Some q → ⊥
   no_wire_at_255 g q e = let small = (wire_small facts range g 255 q.0 q.1 e).0 in omega arith
 
-  pub rise_in_turn : (a b : ℕ) → WaitsFor its_cells held a b → slice_index_or (numbers its_rule its_cells) a 0 < slice_index_or (numbers its_rule its_cells) b 0
-  rise_in_turn a b w =
-      let lid = w.line.lid in
-      let e = w.line.port in
-      let owned = line_owned lmc facts has_room w.line w.is_held in
+  owned_rise : (a b : ℕ) (w : WaitsFor its_cells held a b) (e : EndPort) → owner_of (lids lmc its_cells) w.lid ≡ Some e
+      → slice_index_or (numbers its_rule its_cells) a 0 < slice_index_or (numbers its_rule its_cells) b 0
+  owned_rise a b w e owned =
+      let lid = w.lid in
       let takes = w.takes in
-      let exit : ℕ → Option Exit = λ g. exit_by (row_of its_cells g) (entry_for held lid g) in
-      let (g, at, exits) = of_column exit (switches its_cells) w.switch takes.first takes.leaves in
-      let (h, at_next, exits_next) = of_column exit (switches its_cells) takes.first.to takes.second takes.leaves_there in
+      let (g, at, exits) = of_column (exit lid) (switches its_cells) w.switch takes.first takes.leaves in
+      let (h, at_next, exits_next) = of_column (exit lid) (switches its_cells) takes.first.to takes.second takes.leaves_there in
       let first = leaves its_cells g (entry_for held lid g) takes.first exits in
       let second = leaves its_cells h (entry_for held lid h) takes.second exits_next in
       let here : first.end.0 ≡ h = same_Some first.end.0 h (sym first.index ∙ at_next) in
@@ -160,6 +181,27 @@ module _ (by : RuleValue) (lmc : ℕ) (facts : Facts) (range : AreInRange facts)
       ∙ ap (λ x. its_rule.channel x second.end.0) (sym here) in
       omega (arith, less, a_number, b_number)
 
+  pub rise_in_turn : (a b : ℕ) → WaitsFor its_cells held a b → slice_index_or (numbers its_rule its_cells) a 0 < slice_index_or (numbers its_rule its_cells) b 0
+  rise_in_turn a b w =
+      elim (owner_of (lids lmc its_cells) w.lid) as (λ o. owner_of (lids lmc its_cells) w.lid ≡ o
+      → slice_index_or (numbers its_rule its_cells) a 0 < slice_index_or (numbers its_rule its_cells) b 0) [
+        | None ↦ λ none. let takes = w.takes in absurd (no_exit w.lid w.switch takes.first none takes.leaves)
+        | Some e ↦ λ owned. owned_rise a b w e owned
+      ] refl
+
+-- where nothing is held nothing waits
+no_top : (gs : List ℕ) → greatest (map (top_held nothing_held) gs) ≡ 0
+no_top [] = refl
+no_top (g ∷ gs) = let rest = no_top gs in omega arith
+
+nothing_waits : (cells : Cells) (a b : ℕ) → WaitsFor cells nothing_held a b → ⊥
+nothing_waits cells a b w =
+    let low = w.is_lid in
+    let takes = w.takes in
+    let leaves = takes.leaves in
+    let none = none_above cells nothing_held w.lid (omega (arith, no_top (switches cells), low)) w.switch in
+    cc
+
 as_many : (rule : Routing) (cells : Cells) → length (numbers rule cells) ≡ 256 * length (switches cells)
 as_many rule cells = length-map-range_with_len (number_of rule cells) 0 (256 * length (switches cells))
 
@@ -171,6 +213,6 @@ plans_rise by lmc facts range has_room =
     let told : Option ℕ → HeldPlan = λ o.
     option_map_or (λ top. made by lmc cells top) o nothing_held in
     elim (top_of (lids lmc cells)) as (λ o. top_of (lids lmc cells) ≡ o → CanRise cells (told o)) [
-      | None ↦ λ e. (numbers rule cells, record { as_many = as_many rule cells; rises = λ a b w. absurd (contains_none w.line w.is_held) })
+      | None ↦ λ e. (numbers rule cells, record { as_many = as_many rule cells; rises = λ a b w. absurd (nothing_waits cells a b w) })
       | Some top ↦ λ e. (numbers rule cells, record { as_many = as_many rule cells; rises = rise_in_turn by lmc facts range has_room top e })
     ] refl

@@ -1,6 +1,6 @@
 -- The packets of a line, end port by end port, and those of all lines.
 use Rattle.std.proofs.Common.{◌≡◌, ◌<◌, ◌≤◌, ◌+◌, ℕ, suc, List, [], ◌∷◌, ◌++◌, refl, sym, ap, ◌∙◌, subst, arith, Bool, true, false, cond, length, get_or, map, take, append_assoc}
-use Rattle.std.specs.Prelude.{Option, None, Some, count_by, filter, not, ◌&&◌}
+use Rattle.std.specs.Prelude.{Option, None, count_by, filter, not, ◌&&◌}
 use Rattle.std.specs.List.{flat_map, list_all, position}
 use Rattle.std.proofs.lemmas.List.{append-nil, map-append, take_all, take_more}
 use Rattle.std.proofs.lemmas.List.Concat.{flat_map-append}
@@ -18,9 +18,9 @@ use Rattle.audit.proofs.Arrivals.{all_there}
 use Rattle.audit.proofs.InTime.{found_at}
 use Rattle.audit_report.specs.declared.packet.Packet.{Packet}
 use Rattle.audit_report.specs.declared.tally.Tally.{Tally}
-use Rattle.audit_report.specs.Packets.{arrives, packet_of, packets_for, packets_of, sent_to}
+use Rattle.audit_report.specs.Packets.{arrives, is_between, packet_of, packets_for, packets_of, sent_to}
 use Rattle.audit_report.specs.declared.seat.Seat.{Seat}
-use Rattle.audit_report.specs.Seats.{are_joined, in_one_component, seat_of}
+use Rattle.audit_report.specs.Seats.{are_adapters, are_joined, are_joined_adapters, in_one_component, seat_of}
 use Rattle.audit_report.specs.Tally.{IsTally, IsWith}
 use Rattle.audit_report.proofs.Counted.{tally_more}
 
@@ -124,6 +124,36 @@ module _ (cells : Cells) (held : HeldPlan) (line : HeldLid) where
       → count ≡ count_by (λ seat. are_joined seat owner) seats → count ≡ length (sent_to cells held line)
   all_sent owner seats count own are is =
       is ∙ ap (count_by (λ seat. are_joined seat owner)) are ∙ joined_sent owner (end_ports cells) own
+
+  -- and as many between adapters as adapter ports are joined to that of the line
+  between_sent : (owner : Seat) (ports : List EndPort) → owner ≡ seat_of cells line.port
+      → count_by (λ seat. are_joined_adapters seat owner) (map (seat_of cells) ports)
+      ≡ length (filter is_between (map (packet_of cells held line) (filter (λ e. in_one_component cells e line.port) ports)))
+  between_sent owner [] own = refl
+  between_sent owner (x ∷ ports) own =
+      let joined : EndPort → Bool = λ e. in_one_component cells e line.port in
+      let sent : List Packet = map (packet_of cells held line) (filter joined ports) in
+      let rest = between_sent owner ports own in
+      let split = sum_by-cons (λ (seat : Seat). cond (are_joined_adapters seat owner) 1 0) (seat_of cells x) (map (seat_of cells) ports) in
+      let one : ◌≡◌ {A = ℕ} (cond (are_joined_adapters (seat_of cells x) owner) 1 0) (cond (joined x && are_adapters x line.port) 1 0) =
+      ap (λ (o : Seat). cond (are_joined_adapters (seat_of cells x) o) 1 0) own in
+      let more : cond (joined x && are_adapters x line.port) 1 0 + length (filter is_between sent)
+      ≡ length (filter is_between (map (packet_of cells held line) (cond (joined x) (x ∷ filter joined ports) (filter joined ports)))) =
+      elim (joined x) as (λ t. cond (t && are_adapters x line.port) 1 0 + length (filter is_between sent)
+      ≡ length (filter is_between (map (packet_of cells held line) (cond t (x ∷ filter joined ports) (filter joined ports))))) [
+        | true ↦ (elim (are_adapters x line.port) as (λ t. cond t 1 0 + length (filter is_between sent)
+            ≡ length (cond t (packet_of cells held line x ∷ filter is_between sent) (filter is_between sent))) [
+              | true ↦ omega arith
+              | false ↦ omega arith
+            ])
+        | false ↦ omega arith
+      ] in
+      split ∙ omega (arith, rest, one) ∙ more
+
+  pub adapters_sent : (owner : Seat) (seats : List Seat) (count : ℕ) → owner ≡ seat_of cells line.port → seats ≡ map (seat_of cells) (end_ports cells)
+      → count ≡ count_by (λ seat. are_joined_adapters seat owner) seats → count ≡ length (filter is_between (sent_to cells held line))
+  adapters_sent owner seats count own are is =
+      is ∙ ap (count_by (λ seat. are_joined_adapters seat owner)) are ∙ between_sent owner (end_ports cells) own
 
 -- line by line --------------------------------------------------------------------------
 

@@ -1,8 +1,10 @@
--- The lines of a list's elements, written one after another.
-use Rattle.std.proofs.Common.{◌≡◌, ◌<◌, ◌+◌, ℕ, suc, List, [], ◌∷◌, ◌++◌, Option, sym, ap, ◌∙◌, subst, arith, length, get_or, take, drop}
+-- Parts of a text, written one after another.
+use Rattle.std.proofs.Common.{Result, Ok, Err, refl, ◌≡◌, ◌<◌, ◌+◌, ℕ, suc, List, [], ◌∷◌, ◌++◌, Option, sym, ap, ◌∙◌, subst, arith, length, get_or, take, drop}
 use Rattle.std.specs.Io.KnownBytes.{Appends}
 use Rattle.std.proofs.lemmas.List.{take_more}
 use Rattle.std.proofs.Math.Seq.{drop-cons}
+use Rattle.std.specs.Prelude.{IsErr, OnErr}
+use Rattle.record_file.specs.declared.stream.sink.WriteFault.{WriteFault}
 use Rattle.record_file.proofs.Writing.{HasWritten, written_more}
 
 pub written_next : {X : Type 0} (text : X → List ℕ) (a b c : Option (List ℕ)) (xs : List X) (i : ℕ) (x : X) → HasWritten text a b (take i xs) (drop i xs) xs
@@ -13,3 +15,8 @@ written_next {X} text a b c xs i x h less is wrote =
     let seen : take (i + 1) xs ≡ take i xs ++ x ∷ [] = take_more xs i x less ∙ ap (λ y. take i xs ++ y ∷ []) (sym is) in
     subst (λ (given : List X). HasWritten text a c given (drop (i + 1) xs) xs) (sym seen)
     (written_more text a b c (take i xs) (drop i xs) (drop (i + 1) xs) xs x h next wrote)
+
+-- a call that fails
+pub on_err : (r : Result (Unit {0}) WriteFault) (P : Type 0) → (IsErr r → P) → OnErr r P
+on_err (Ok x) P f = tt
+on_err (Err e) P f = f refl

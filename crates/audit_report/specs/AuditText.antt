@@ -1,5 +1,5 @@
 -- An audit as text.
-use Rattle.std.specs.Prelude.{ℕ, ◌/◌, ◌%◌, List, [], ◌∷◌, ◌++◌, Option, None, Some, codes, count_by, decimal, length, slice_index}
+use Rattle.std.specs.Prelude.{ℕ, ◌-◌, ◌/◌, ◌%◌, ◌==◌, not, List, [], ◌∷◌, ◌++◌, Option, None, Some, codes, count_by, decimal, filter, length, nat_lt, slice_index, if◌then◌else◌}
 use Rattle.std.specs.Option.{option_map_or}
 use Rattle.std.specs.List.{flat_map}
 use Rattle.smp_bytes.specs.Text.{guid_text, port_text}
@@ -8,6 +8,8 @@ use Rattle.subnet_view.specs.declared.end_port.EndPort.{EndPort}
 use Rattle.subnet_view.specs.Reading.{Cells, switches}
 use Rattle.plan_file.specs.declared.held.HeldLid.{HeldLid}
 use Rattle.plan_file.specs.Held.{HeldPlan}
+use Rattle.audit.specs.declared.end.Cause.{Cause}
+use Rattle.audit.specs.declared.end.Cause.TheVariants.{AboveTop, NoEntry, NoPort, NoLink, Foreign}
 use Rattle.audit.specs.declared.end.End.{End}
 use Rattle.audit.specs.declared.end.End.TheVariants.{Taken, Lost}
 use Rattle.audit.specs.Steps.{entry_by}
@@ -15,14 +17,44 @@ use Rattle.audit_ways.specs.declared.figures.Figures.{Figures}
 use Rattle.audit_ways.specs.Figures.{figures_of}
 use Rattle.audit_ways.specs.Ways.{hops_of, loads_of}
 use Rattle.audit_report.specs.declared.packet.Packet.{Packet}
-use Rattle.audit_report.specs.Packets.{arrives, goes_round, is_lost, is_misdelivered, packets_of}
+use Rattle.audit_report.specs.declared.causes.Causes.{Causes}
+use Rattle.audit_report.specs.declared.pairs.Pairs.{Pairs}
+use Rattle.audit_report.specs.declared.tally.Tally.{Tally}
+use Rattle.audit_report.specs.declared.unmatched.Unmatched.{Unmatched}
+use Rattle.audit_report.specs.Causes.{causes_of}
+use Rattle.audit_report.specs.Disputed.{disputed}
+use Rattle.audit_report.specs.Packets.{arrives, goes_round, is_between, is_lost, is_misdelivered, packets_of}
 use Rattle.audit_report.specs.Passing.{Audited}
-use Rattle.audit_report.specs.Told.{first_of}
-use Rattle.audit_report.specs.Unmatched.{tableless, twice, unknown, unowned}
+use Rattle.audit_report.specs.Told.{Listed, listed_of, more_of}
+use Rattle.audit_report.specs.Unmatched.{lidless, tableless, twice, unknown, unowned}
 
--- how many packets there are, and how many arrive
-abbrev pub counts_line : ℕ → ℕ → List ℕ
-counts_line sent arrived = codes "pairs " ++ decimal sent ++ codes " arrive " ++ decimal arrived ++ codes "\n"
+-- of some packets, which words tell, how many there are, and how many arrive
+abbrev pub counts_line : List ℕ → ℕ → ℕ → List ℕ
+counts_line words sent arrived = words ++ codes "pairs " ++ decimal sent ++ codes " arrive " ++ decimal arrived ++ codes "\n"
+
+-- of all, of those between adapter ports, and of the others
+abbrev pub pairs_text : Pairs → Pairs → List ℕ
+pairs_text all between =
+    counts_line (codes "") all.sent all.arrived ++ counts_line (codes "between adapters ") between.sent between.arrived
+    ++ counts_line (codes "with a switch ") (all.sent - between.sent) (all.arrived - between.arrived)
+
+-- a word, and how many there are
+abbrev pub count_text : List ℕ → ℕ → List ℕ
+count_text word count = codes " " ++ word ++ codes " " ++ decimal count
+
+-- how many are lost for each cause
+abbrev pub causes_text : Causes → List ℕ
+causes_text causes =
+    count_text (codes "above-top") causes.above_top ++ count_text (codes "no-entry") causes.no_entry ++ count_text (codes "no-port") causes.no_port
+    ++ count_text (codes "no-link") causes.no_link ++ count_text (codes "foreign") causes.foreign
+
+-- how many are delivered elsewhere, and go round
+abbrev pub others_text : ℕ → ℕ → List ℕ
+others_text misdelivered round = count_text (codes "misdelivered") misdelivered ++ count_text (codes "round") round
+
+-- how many do not arrive, by what becomes of them
+abbrev pub missed_line : Causes → ℕ → ℕ → List ℕ
+missed_line causes misdelivered round = codes "missed" ++ causes_text causes ++ others_text misdelivered round ++ codes "\n"
 
 -- the entry by which a switch does not send a packet on; none is told of another node
 abbrev pub entry_text : Option ℕ → List ℕ
@@ -32,15 +64,22 @@ entry_text entry = option_map_or (λ port. codes " by " ++ decimal port) entry [
 abbrev pub taken_text : EndPort → List ℕ
 taken_text e = codes " at " ++ port_text e.node e.port
 
--- the node at which a packet for a LID is lost
-abbrev pub lost_text : Cells → HeldPlan → ℕ → ℕ → List ℕ
-lost_text cells held lid g = codes " at " ++ guid_text g ++ entry_text (entry_by cells held g lid)
+abbrev pub cause_text : Cause → List ℕ
+cause_text AboveTop = codes ": above top"
+cause_text NoEntry = codes ": no entry"
+cause_text NoPort = codes ": no such port"
+cause_text NoLink = codes ": no link"
+cause_text Foreign = codes ": foreign port"
+
+-- the node at which a packet for a LID is lost, and why
+abbrev pub lost_text : Cells → HeldPlan → ℕ → ℕ → Cause → List ℕ
+lost_text cells held lid g cause = codes " at " ++ guid_text g ++ entry_text (entry_by cells held g lid) ++ cause_text cause
 
 -- where a packet for a LID ends
 abbrev pub end_text : Cells → HeldPlan → ℕ → Option End → List ℕ
 end_text cells held lid None = []
 end_text cells held lid (Some (Taken e)) = taken_text e
-end_text cells held lid (Some (Lost g)) = lost_text cells held lid g
+end_text cells held lid (Some (Lost g cause)) = lost_text cells held lid g cause
 
 -- a word, the end port that sends a packet, and its LID
 abbrev pub sent_text : List ℕ → Packet → List ℕ
@@ -53,19 +92,29 @@ packet_line cells held word packet = sent_text word packet ++ end_text cells hel
 abbrev pub packets_text : Cells → HeldPlan → List ℕ → List Packet → List ℕ
 packets_text cells held word packets = flat_map (packet_line cells held word) packets
 
+-- how many more there are of a kind than are told
+abbrev pub more_line : List ℕ → ℕ → List ℕ
+more_line word count = if nat_lt 0 count then codes "more " ++ word ++ codes " " ++ decimal count ++ codes "\n" else []
+
+-- a line for each that is told, and how many more there are
+abbrev pub kind_text : {X : Type 0} → (List ℕ → X → List ℕ) → List ℕ → Listed X → List ℕ
+kind_text line word listed = flat_map (line word) listed.first ++ more_line word (more_of listed)
+
+-- the first packets of a kind, and how many more there are
+abbrev pub listed_text : Cells → HeldPlan → List ℕ → Listed Packet → List ℕ
+listed_text cells held word listed = kind_text (packet_line cells held) word listed
+
 -- a word, a LID, and the end port that holds it
 abbrev pub lid_line : List ℕ → HeldLid → List ℕ
 lid_line word line = word ++ codes " " ++ decimal line.lid ++ codes " " ++ port_text line.port.node line.port.port ++ codes "\n"
-
-abbrev pub lids_text : List ℕ → List HeldLid → List ℕ
-lids_text word lines = flat_map (lid_line word) lines
 
 -- a word, and a switch
 abbrev pub switch_line : List ℕ → ℕ → List ℕ
 switch_line word guid = word ++ codes " " ++ guid_text guid ++ codes "\n"
 
-abbrev pub switches_text : List ℕ → List ℕ → List ℕ
-switches_text word guids = flat_map (switch_line word) guids
+-- a word, and an end port
+abbrev pub port_line : List ℕ → EndPort → List ℕ
+port_line word e = word ++ codes " " ++ port_text e.node e.port ++ codes "\n"
 
 -- a number of hundredths, with a point and two digits
 abbrev pub hundredths_text : ℕ → List ℕ
@@ -90,39 +139,66 @@ channel_text cells channel = codes " " ++ port_text (slice_index (switches cells
 -- the channels of a circle
 abbrev pub channels_text : Cells → List ℕ → List ℕ
 channels_text cells [] = codes " none"
-channels_text cells (channel ∷ later) = flat_map (channel_text cells) (channel ∷ later)
+channels_text cells (channel ∷ later) = codes " on one lane" ++ flat_map (channel_text cells) (channel ∷ later)
 
+-- channels that wait for each other are a credit loop, here on one virtual lane
 abbrev pub circle_line : Cells → List ℕ → List ℕ
-circle_line cells circle = codes "circle" ++ channels_text cells circle ++ codes "\n"
+circle_line cells circle = codes "credit loop" ++ channels_text cells circle ++ codes "\n"
 
 -- packets that do not arrive
-abbrev pub missed_text : Cells → HeldPlan → List Packet → List Packet → List Packet → List ℕ
+abbrev pub missed_text : Cells → HeldPlan → Listed Packet → Listed Packet → Listed Packet → List ℕ
 missed_text cells held lost misdelivered round =
-    packets_text cells held (codes "lost") lost ++ packets_text cells held (codes "misdelivered") misdelivered ++ packets_text cells held (codes "round") round
+    listed_text cells held (codes "lost") lost ++ listed_text cells held (codes "misdelivered") misdelivered ++ listed_text cells held (codes "round") round
+
+-- what is counted of packets, and the first of each kind that do not arrive
+abbrev pub tally_text : Cells → HeldPlan → Tally → List ℕ
+tally_text cells held tally =
+    pairs_text tally.all tally.between ++ missed_line tally.causes tally.misdelivered.count tally.round.count
+    ++ missed_text cells held tally.lost tally.misdelivered tally.round
 
 -- where tables and facts differ
-abbrev pub unmatched_text : List HeldLid → List HeldLid → List ℕ → List ℕ → List ℕ
-unmatched_text unowned twice unknown tableless =
-    lids_text (codes "unowned") unowned ++ lids_text (codes "twice") twice ++ switches_text (codes "unknown") unknown
-    ++ switches_text (codes "tableless") tableless
+abbrev pub unmatched_text : Unmatched → List ℕ
+unmatched_text found =
+    kind_text lid_line (codes "unowned") found.unowned ++ kind_text lid_line (codes "twice") found.twice
+    ++ kind_text switch_line (codes "unknown") found.unknown ++ kind_text switch_line (codes "tableless") found.tableless
+    ++ kind_text port_line (codes "lidless") found.lidless
 
--- how many of some packets arrive, and the first of each kind that do not
+-- how many facts are disputed, where some are
+abbrev pub disputed_line : ℕ → List ℕ
+disputed_line count = if count == 0 then [] else codes "disputed " ++ decimal count ++ codes "\n"
+
+-- how many of some packets there are, and arrive
+abbrev pub counts_told : List ℕ → List Packet → List ℕ
+counts_told words packets = counts_line words (length packets) (count_by arrives packets)
+
+-- of all, of those between adapter ports, and of the others, of which an end is a switch's
+abbrev pub pairs_told : List Packet → List ℕ
+pairs_told packets =
+    counts_told (codes "") packets ++ counts_told (codes "between adapters ") (filter is_between packets)
+    ++ counts_told (codes "with a switch ") (filter (λ packet. not (is_between packet)) packets)
+
+-- how many of some packets arrive, how many of each kind do not, and the first of these
 abbrev pub packets_told : Cells → HeldPlan → List Packet → List ℕ
 packets_told cells held packets =
-    counts_line (length packets) (count_by arrives packets)
-    ++ missed_text cells held (first_of is_lost packets) (first_of is_misdelivered packets) (first_of goes_round packets)
+    pairs_told packets ++ missed_line (causes_of packets) (count_by is_misdelivered packets) (count_by goes_round packets)
+    ++ missed_text cells held (listed_of is_lost packets) (listed_of is_misdelivered packets) (listed_of goes_round packets)
 
 -- the first of each kind in which tables and facts differ
 abbrev pub unmatched_told : Cells → HeldPlan → List ℕ
-unmatched_told cells held = unmatched_text (unowned cells held) (twice held) (unknown cells held) (tableless cells held)
+unmatched_told cells held =
+    kind_text lid_line (codes "unowned") (unowned cells held) ++ kind_text lid_line (codes "twice") (twice held)
+    ++ kind_text switch_line (codes "unknown") (unknown cells held) ++ kind_text switch_line (codes "tableless") (tableless cells held)
+    ++ kind_text port_line (codes "lidless") (lidless cells held)
 
 -- how far packets go between adapter ports, and how evenly they load the channels
 abbrev pub ways_told : Cells → HeldPlan → List ℕ
 ways_told cells held = ways_text (figures_of (hops_of cells held)) (figures_of (loads_of cells held))
 
--- the packets, where tables and facts differ, ways and loads, and the circle
+-- the packets, where tables and facts differ, disputed facts, ways and loads, and the circle
 abbrev pub text_of : Cells → HeldPlan → List ℕ → List ℕ
-text_of cells held circle = packets_told cells held (packets_of cells held) ++ unmatched_told cells held ++ ways_told cells held ++ circle_line cells circle
+text_of cells held circle =
+    packets_told cells held (packets_of cells held) ++ unmatched_told cells held ++ disputed_line (disputed cells) ++ ways_told cells held
+    ++ circle_line cells circle
 
-abbrev pub audit_text : Audited → List ℕ
+unfoldable pub audit_text : Audited → List ℕ
 audit_text audit = text_of (cells_of audit.facts) audit.held audit.circle

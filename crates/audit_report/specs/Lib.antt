@@ -1,6 +1,9 @@
 pub mod AuditText
+pub mod Disputed
+pub mod Causes
 pub mod Laws
 pub mod Packets
+pub mod Pairs
 pub mod Passing
 pub mod Seats
 pub mod Tally

@@ -11,7 +11,7 @@ use Rattle.audit.specs.declared.end.End.TheVariants.{Taken, Lost}
 use Rattle.audit.specs.Steps.{end_for, is_at}
 use Rattle.audit.specs.Tables.{is_owner}
 use Rattle.audit_report.specs.declared.packet.Packet.{Packet}
-use Rattle.audit_report.specs.Seats.{in_one_component}
+use Rattle.audit_report.specs.Seats.{are_adapters, in_one_component}
 
 -- a packet for the LID of a line
 abbrev pub packet_of : Cells → HeldPlan → HeldLid → EndPort → Packet
@@ -37,7 +37,7 @@ arrives packet = is_at packet.line.port packet.end
 abbrev pub is_lost_end : Option End → Bool
 is_lost_end None = false
 is_lost_end (Some (Taken e)) = false
-is_lost_end (Some (Lost g)) = true
+is_lost_end (Some (Lost g cause)) = true
 
 abbrev pub is_lost : Packet → Bool
 is_lost packet = is_lost_end packet.end
@@ -46,7 +46,7 @@ is_lost packet = is_lost_end packet.end
 abbrev pub is_taken_end : Option End → Bool
 is_taken_end None = false
 is_taken_end (Some (Taken e)) = true
-is_taken_end (Some (Lost g)) = false
+is_taken_end (Some (Lost g cause)) = false
 
 abbrev pub is_misdelivered : Packet → Bool
 is_misdelivered packet = is_taken_end packet.end && not (arrives packet)
@@ -58,3 +58,7 @@ is_no_end (Some e) = false
 
 abbrev pub goes_round : Packet → Bool
 goes_round packet = is_no_end packet.end
+
+-- an adapter port sends it to the LID of an adapter port
+abbrev pub is_between : Packet → Bool
+is_between packet = are_adapters packet.source packet.line.port

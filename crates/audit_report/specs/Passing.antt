@@ -7,9 +7,10 @@ use Rattle.fact_store.specs.View.{Facts, cells_of}
 use Rattle.fact_store.specs.Coded.{facts_code}
 use Rattle.subnet_view.specs.declared.end_port.EndPort.{EndPort}
 use Rattle.subnet_view.specs.EndPorts.{end_ports}
-use Rattle.subnet_view.specs.Reading.{Cells}
+use Rattle.subnet_view.specs.Reading.{Cells, switches}
 use Rattle.plan_file.specs.contracts.held.Held as held_plan
 use Rattle.plan_file.specs.declared.held.HeldLid.{HeldLid}
+use Rattle.plan_file.specs.declared.held.HeldSwitch.{HeldSwitch}
 use Rattle.plan_file.specs.Held.{HeldPlan}
 use Rattle.audit.specs.declared.end.End.TheVariants.{Taken}
 use Rattle.audit.specs.Network.{Seen}
@@ -19,6 +20,7 @@ use Rattle.audit_ways.specs.declared.ways.WayFigures.{WayFigures}
 use Rattle.audit_ways.specs.Ways.{IsToldOfWays}
 use Rattle.audit_report.specs.declared.tally.Tally.{Tally}
 use Rattle.audit_report.specs.declared.unmatched.Unmatched.{Unmatched}
+use Rattle.audit_report.specs.Disputed.{disputed}
 use Rattle.audit_report.specs.Packets.{packets_of}
 use Rattle.audit_report.specs.Seats.{in_one_component}
 use Rattle.audit_report.specs.Tally.{IsTally}
@@ -37,10 +39,40 @@ EachArrives cells held = (line : HeldLid) → Contains held.lids line → Arrive
 abbrev pub CanRise : Cells → HeldPlan → Type 0
 CanRise cells held = (numbers : List ℕ) × RiseOnWays cells held numbers
 
--- both
-pub record Passes (cells : Cells) (held : HeldPlan) : Type 0 where
+-- a line gives an end port a LID
+pub record HoldsLid (held : HeldPlan) (e : EndPort) : Type 0 where
+  pub line : HeldLid
+  pub is_held : Contains held.lids line
+  pub is_its : line.port ≡ e
+
+-- a line tells of a switch's tables
+pub record HoldsTables (held : HeldPlan) (g : ℕ) : Type 0 where
+  pub switch : HeldSwitch
+  pub is_held : Contains held.switches switch
+  pub is_it : switch.guid ≡ g
+
+-- each end port of the facts holds a LID
+abbrev pub EachHoldsLid : Cells → HeldPlan → Type 0
+EachHoldsLid cells held = (e : EndPort) → Contains (end_ports cells) e → HoldsLid held e
+
+-- where there is an end port each usable switch has tables
+abbrev pub EachHasTables : Cells → HeldPlan → Type 0
+EachHasTables cells held = (e : EndPort) (g : ℕ) → Contains (end_ports cells) e → Contains (switches cells) g → HoldsTables held g
+
+-- nothing is missing
+pub record IsWholeFor (cells : Cells) (held : HeldPlan) : Type 0 where
+  pub lids : EachHoldsLid cells held
+  pub tables : EachHasTables cells held
+
+-- and what is there is right: packets arrive, and never wait in a circle
+pub record IsSound (cells : Cells) (held : HeldPlan) : Type 0 where
   pub arrive : EachArrives cells held
   pub rise : CanRise cells held
+
+-- both
+pub record Passes (cells : Cells) (held : HeldPlan) : Type 0 where
+  pub whole : IsWholeFor cells held
+  pub sound : IsSound cells held
 
 -- channels that wait for each other in a circle; none where they can be numbered so
 abbrev pub IsCircle : Cells → HeldPlan → List ℕ → Type 0
@@ -60,8 +92,9 @@ audited_code =
     (λ p. record { facts = p.0; held = p.1.0; circle = p.1.1 }) (λ _. refl)
 
 -- what is found of facts and tables
-pub record IsFound (seen : Seen) (tally : Tally) (unmatched : Unmatched) (ways : WayFigures) (circle : List ℕ) : Type 0 where
+pub record IsFound (seen : Seen) (tally : Tally) (unmatched : Unmatched) (count : ℕ) (ways : WayFigures) (circle : List ℕ) : Type 0 where
   pub counted : IsTally (packets_of (cells_of seen.facts) seen.held) tally
   pub differ : IsUnmatched (cells_of seen.facts) seen.held unmatched
+  pub count_is : count ≡ disputed (cells_of seen.facts)
   pub told : IsToldOfWays (cells_of seen.facts) seen.held ways
   pub waits : IsCircle (cells_of seen.facts) seen.held circle

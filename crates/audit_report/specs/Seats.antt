@@ -1,5 +1,5 @@
 -- Which end ports lie in one component: those at switches of one, and two adapter ports with a wire between them.
-use Rattle.std.specs.Prelude.{ℕ, Bool, false, ◌==◌, ◌||◌, List, [], ◌∷◌, Option, None, Some, option_map, option_and_then}
+use Rattle.std.specs.Prelude.{◌≡◌, ℕ, Bool, false, ◌==◌, ◌&&◌, ◌||◌, List, [], ◌∷◌, Option, None, Some, count_by, option_map, option_and_then}
 use Rattle.std.specs.List.{list_all}
 use Rattle.std.specs.Option.{option_map_or}
 use Rattle.subnet_view.specs.declared.end_port.EndPort.{EndPort}
@@ -9,6 +9,8 @@ use Rattle.updown_routes.specs.Graph.{graph_of}
 use Rattle.updown_routes.specs.Ranks.{root_of}
 use Rattle.lft_blocks.specs.Entries.{home_of}
 use Rattle.audit.specs.Tables.{is_same_end}
+use Rattle.audit_ways.specs.Ways.{is_adapter}
+use Rattle.audit_report.specs.declared.seat.Census.{Census}
 use Rattle.audit_report.specs.declared.seat.Seat.{Seat}
 
 -- the usable switch at which an end port lies: its own, or the one to which its wire leads
@@ -48,3 +50,16 @@ first_root (seat ∷ seats) = seat.root
 -- all lie in the component of that root
 abbrev pub are_one_component : List Seat → Bool
 are_one_component seats = list_all (λ seat. is_one_root seat.root (first_root seats)) seats
+
+-- both are end ports of adapters
+abbrev pub are_adapters : EndPort → EndPort → Bool
+are_adapters e x = is_adapter e && is_adapter x
+
+-- and lie in one component
+abbrev pub are_joined_adapters : Seat → Seat → Bool
+are_joined_adapters a b = are_joined a b && are_adapters a.port b.port
+
+-- whether all lie in one component, and how many are end ports of adapters
+pub record IsCensus (seats : List Seat) (census : Census) : Type 0 where
+  pub whole : census.whole ≡ are_one_component seats
+  pub adapters : census.adapters ≡ count_by (λ seat. is_adapter seat.port) seats

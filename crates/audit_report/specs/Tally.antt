@@ -1,40 +1,54 @@
 -- What is counted of packets.
-use Rattle.std.specs.Prelude.{◌≡◌, ◌+◌, ℕ, List, length, count_by, if◌then◌else◌}
+use Rattle.std.specs.Prelude.{◌≡◌, ℕ, true, List, filter, if◌then◌else◌}
 use Rattle.audit_report.specs.declared.packet.Packet.{Packet}
 use Rattle.audit_report.specs.declared.tally.Tally.{Tally}
-use Rattle.audit_report.specs.Packets.{arrives, goes_round, is_lost, is_misdelivered}
-use Rattle.audit_report.specs.Told.{first_of, noted}
+use Rattle.audit_report.specs.Causes.{AreCausesIf, causes_of, is_lost_for}
+use Rattle.audit_report.specs.Packets.{arrives, goes_round, is_between, is_lost, is_misdelivered}
+use Rattle.audit_report.specs.Pairs.{ArePairs, ArePairsIf, ArePairsWithArrived}
+use Rattle.audit_report.specs.Told.{listed, listed_of}
 
--- how many packets there are, how many of them arrive, and the first of each kind that do not
+-- how many packets there are, how many of them and of those between adapter ports arrive, for what others are lost, and how many of each kind do not, with the first
 pub record IsTally (packets : List Packet) (tally : Tally) : Type 0 where
-  pub sent : tally.sent ≡ length packets
-  pub arrived : tally.arrived ≡ count_by arrives packets
-  pub lost : tally.lost.items ≡ first_of is_lost packets
-  pub misdelivered : tally.misdelivered.items ≡ first_of is_misdelivered packets
-  pub round : tally.round.items ≡ first_of goes_round packets
+  pub all : ArePairs packets tally.all
+  pub between : ArePairs (filter is_between packets) tally.between
+  pub causes : tally.causes ≡ causes_of packets
+  pub lost : tally.lost ≡ listed_of is_lost packets
+  pub misdelivered : tally.misdelivered ≡ listed_of is_misdelivered packets
+  pub round : tally.round ≡ listed_of goes_round packets
 
 -- told with those of its kind
 pub record IsTold (old : Tally) (packet : Packet) (new : Tally) : Type 0 where
-  pub lost : new.lost.items ≡ (if is_lost packet then noted old.lost.items packet else old.lost.items)
-  pub misdelivered : new.misdelivered.items ≡ (if is_misdelivered packet then noted old.misdelivered.items packet else old.misdelivered.items)
-  pub round : new.round.items ≡ (if goes_round packet then noted old.round.items packet else old.round.items)
+  pub causes : AreCausesIf old.causes (λ cause. is_lost_for cause packet) new.causes
+  pub lost : new.lost ≡ (if is_lost packet then listed old.lost packet else old.lost)
+  pub misdelivered : new.misdelivered ≡ (if is_misdelivered packet then listed old.misdelivered packet else old.misdelivered)
+  pub round : new.round ≡ (if goes_round packet then listed old.round packet else old.round)
 
 -- told, and not counted
 pub record IsMissed (old : Tally) (packet : Packet) (new : Tally) : Type 0 where
   pub told : IsTold old packet new
-  pub sent : new.sent ≡ old.sent
-  pub arrived : new.arrived ≡ old.arrived
+  pub all : new.all ≡ old.all
+  pub between : new.between ≡ old.between
+
+-- counted by whether it arrives, and not told
+pub record IsCountedWith (old : Tally) (packet : Packet) (new : Tally) : Type 0 where
+  pub all : ArePairsIf old.all true (arrives packet) new.all
+  pub between : ArePairsIf old.between (is_between packet) (arrives packet) new.between
+  pub causes : new.causes ≡ old.causes
+  pub lost : new.lost ≡ old.lost
+  pub misdelivered : new.misdelivered ≡ old.misdelivered
+  pub round : new.round ≡ old.round
 
 -- a packet more
 pub record IsWith (old : Tally) (packet : Packet) (new : Tally) : Type 0 where
   pub told : IsTold old packet new
-  pub sent : new.sent ≡ old.sent + 1
-  pub arrived : new.arrived ≡ old.arrived + (if arrives packet then 1 else 0)
+  pub all : ArePairsIf old.all true (arrives packet) new.all
+  pub between : ArePairsIf old.between (is_between packet) (arrives packet) new.between
 
--- so many packets more, which arrive
-pub record IsWithArrived (old : Tally) (count : ℕ) (new : Tally) : Type 0 where
-  pub sent : new.sent ≡ old.sent + count
-  pub arrived : new.arrived ≡ old.arrived + count
-  pub lost : new.lost.items ≡ old.lost.items
-  pub misdelivered : new.misdelivered.items ≡ old.misdelivered.items
-  pub round : new.round.items ≡ old.round.items
+-- so many packets more, of which so many are between adapter ports, which arrive
+pub record IsWithArrived (old : Tally) (count adapters : ℕ) (new : Tally) : Type 0 where
+  pub all : ArePairsWithArrived old.all count new.all
+  pub between : ArePairsWithArrived old.between adapters new.between
+  pub causes : new.causes ≡ old.causes
+  pub lost : new.lost ≡ old.lost
+  pub misdelivered : new.misdelivered ≡ old.misdelivered
+  pub round : new.round ≡ old.round

@@ -1,71 +1,168 @@
 //! An audit as text.
-ghost use Rattle.std.specs.Prelude.{◌≡◌, ◌++◌, ◌/◌, IsTrue, OnOk, slice_index};
+ghost use Rattle.std.specs.Prelude.{◌≡◌, ◌-◌, ◌++◌, ◌/◌, IsTrue, OnOk, codes, slice_index};
 ghost use Rattle.std.specs.List.{flat_map};
 ghost use Rattle.fact_store.specs.View.{cells_of};
 ghost use Rattle.subnet_view.specs.Reading.{switches};
 ghost use Rattle.record_file.specs.Writes.{Writes};
 ghost use Rattle.lft_blocks.specs.WritesPart.{WritesPart};
-ghost use Rattle.audit_report.specs.AuditText.{audit_text, channel_text, channels_text, circle_line, counts_line};
+ghost use Rattle.audit_report.specs.AuditText.{audit_text, channel_text, channels_text, circle_line, disputed_line};
+ghost use Rattle.audit_report.specs.AuditText.{cause_text, causes_text, count_text, counts_line, listed_text, missed_line};
+ghost use Rattle.audit_report.specs.AuditText.{more_line, others_text, pairs_text, tally_text};
 ghost use Rattle.audit_report.specs.AuditText.{figures_line, figures_text, hundredths_text, ways_text};
-ghost use Rattle.audit_report.specs.AuditText.{end_text, entry_text, lid_line, lids_text, packet_line, packets_text};
-ghost use Rattle.audit_report.specs.AuditText.{lost_text, missed_text, sent_text, switch_line, switches_text, taken_text, unmatched_text};
+ghost use Rattle.audit_report.specs.AuditText.{end_text, entry_text, lid_line, packet_line, packets_text, port_line, kind_text};
+ghost use Rattle.audit_report.specs.AuditText.{lost_text, missed_text, sent_text, switch_line, taken_text, unmatched_text};
 
+use crate::causes::Causes;
 use crate::packet::Packet;
+use crate::pairs::Pairs;
 use crate::report::Audit;
 use crate::tally::Tally;
+use crate::told::Told;
 use crate::unmatched::Unmatched;
-use audit::{End, Network};
+use audit::{Cause, End, Network};
 use audit_ways::{Figures, WayFigures};
 use plan_file::HeldLid;
 use record_file::{Sink, WriteFault, write_guid, write_number, write_port};
 use smp_bytes::{Guid, Lid, PortNum};
 use subnet_view::EndPort;
 
-/// Writes how many packets there are and how many arrive; the first 20 of each kind that do not, by rising LID and then by
-/// the order of end ports; the first 20 of each kind in which tables and facts differ; the wires that packets between
-/// adapter ports take, and the loads of channels; and a circle of channels, if there is one; and flushes. It takes no memory.
+/// Writes how many packets there are and how many arrive, of all, between adapter ports, and with a switch; for what the
+/// others do not; of these the first 20 of each kind, by rising LID and then by the order of end ports, and how many more
+/// there are; the first 20 of each kind in which tables and facts differ, and how many more there are; how many facts are
+/// disputed, if some are; the wires that packets between adapter ports take, and the loads of channels; and a circle of
+/// channels, if there is one; and flushes. It takes no memory.
 pub fn write_audit<W: Sink>(sink: &mut W, audit: &Audit) -> Result<(), WriteFault>
     ensures writes { Writes W.written W.has_failed result sink.old sink.new (audit_text audit.now) }
     ensures flushed { OnOk result (IsTrue (W.is_flushed sink.new)) }
 {
     write_tally(sink, &audit.network, &audit.tally)?;
     write_unmatched(sink, &audit.unmatched)?;
+    write_disputed(sink, audit.disputed)?;
     write_ways(sink, &audit.ways)?;
     write_circle(sink, &audit.network, &audit.circle)?;
     sink.flush()
 }
 
-/// Writes how many packets there are, how many arrive, and the first of each kind that do not.
+/// Writes what is counted of packets, and the first of each kind that do not arrive.
 fn write_tally<W: Sink>(sink: &mut W, network: &Network, tally: &Tally) -> Result<(), WriteFault>
     ensures { WritesPart W.written W.has_failed result sink.old sink.new
-        (counts_line tally.now.sent tally.now.arrived
-        ++ missed_text (cells_of network.now.facts) network.now.held
-        tally.now.lost.items tally.now.misdelivered.items tally.now.round.items) }
+        (tally_text (cells_of network.now.facts) network.now.held tally.now) }
 {
-    write_counts(sink, tally)?;
+    write_pairs(sink, &tally.all, &tally.between)?;
+    write_counted(
+        sink,
+        &tally.causes,
+        tally.misdelivered.count(),
+        tally.round.count(),
+    )?;
     write_missed(sink, network, tally)
 }
 
-/// Writes how many packets there are, and how many arrive.
-fn write_counts<W: Sink>(sink: &mut W, tally: &Tally) -> Result<(), WriteFault>
-    ensures { Writes W.written W.has_failed result sink.old sink.new (counts_line tally.now.sent tally.now.arrived) }
+/// Writes how many packets there are and how many arrive, of all, between adapter ports, and of the others.
+fn write_pairs<W: Sink>(sink: &mut W, all: &Pairs, between: &Pairs) -> Result<(), WriteFault>
+    ensures { WritesPart W.written W.has_failed result sink.old sink.new (pairs_text all.now between.now) }
 {
+    write_counts(sink, "", all.sent, all.arrived)?;
+    write_counts(sink, "between adapters ", between.sent, between.arrived)?;
+    write_with_switch(sink, all, between)
+}
+
+/// Writes how many packets with a switch there are, and how many of these arrive.
+fn write_with_switch<W: Sink>(sink: &mut W, all: &Pairs, between: &Pairs) -> Result<(), WriteFault>
+    ensures { Writes W.written W.has_failed result sink.old sink.new
+        (counts_line (codes "with a switch ") (all.now.sent - between.now.sent)
+        (all.now.arrived - between.now.arrived)) }
+{
+    let sent = all.sent.saturating_sub(between.sent);
+    let arrived = all.arrived.saturating_sub(between.arrived);
+    write_counts(sink, "with a switch ", sent, arrived)
+}
+
+/// Writes how many of some packets there are, and how many arrive.
+fn write_counts<W: Sink>(
+    sink: &mut W,
+    words: &str,
+    sent: u64,
+    arrived: u64,
+) -> Result<(), WriteFault>
+    ensures { Writes W.written W.has_failed result sink.old sink.new (counts_line words.now sent arrived) }
+{
+    sink.write(words.as_bytes())?;
     sink.write(b"pairs ")?;
-    write_number(sink, tally.sent)?;
+    write_number(sink, sent)?;
     sink.write(b" arrive ")?;
-    write_number(sink, tally.arrived)?;
+    write_number(sink, arrived)?;
     sink.write(b"\n")
 }
 
-/// Writes the first packets of each kind that do not arrive.
+/// Writes how many packets do not arrive, by what becomes of them.
+fn write_counted<W: Sink>(
+    sink: &mut W,
+    causes: &Causes,
+    misdelivered: u64,
+    round: u64,
+) -> Result<(), WriteFault>
+    ensures { WritesPart W.written W.has_failed result sink.old sink.new
+        (missed_line causes.now misdelivered round) }
+{
+    sink.write(b"missed")?;
+    write_causes(sink, causes)?;
+    write_others(sink, misdelivered, round)?;
+    sink.write(b"\n")
+}
+
+/// Writes how many packets are delivered elsewhere, and how many go round.
+fn write_others<W: Sink>(sink: &mut W, misdelivered: u64, round: u64) -> Result<(), WriteFault>
+    ensures { WritesPart W.written W.has_failed result sink.old sink.new (others_text misdelivered round) }
+{
+    write_count(sink, "misdelivered", misdelivered)?;
+    write_count(sink, "round", round)
+}
+
+/// Writes how many packets are lost for each cause.
+fn write_causes<W: Sink>(sink: &mut W, causes: &Causes) -> Result<(), WriteFault>
+    ensures { WritesPart W.written W.has_failed result sink.old sink.new (causes_text causes.now) }
+{
+    write_count(sink, "above-top", causes.above_top)?;
+    write_count(sink, "no-entry", causes.no_entry)?;
+    write_count(sink, "no-port", causes.no_port)?;
+    write_count(sink, "no-link", causes.no_link)?;
+    write_count(sink, "foreign", causes.foreign)
+}
+
+/// Writes a word, and how many there are.
+fn write_count<W: Sink>(sink: &mut W, word: &str, count: u64) -> Result<(), WriteFault>
+    ensures { Writes W.written W.has_failed result sink.old sink.new (count_text word.now count) }
+{
+    sink.write(b" ")?;
+    sink.write(word.as_bytes())?;
+    sink.write(b" ")?;
+    write_number(sink, count)
+}
+
+/// Writes the first packets of each kind that do not arrive, and how many more there are.
 fn write_missed<W: Sink>(sink: &mut W, network: &Network, tally: &Tally) -> Result<(), WriteFault>
     ensures { WritesPart W.written W.has_failed result sink.old sink.new
         (missed_text (cells_of network.now.facts) network.now.held
-        tally.now.lost.items tally.now.misdelivered.items tally.now.round.items) }
+        tally.now.lost tally.now.misdelivered tally.now.round) }
 {
-    write_packets(sink, network, "lost", &tally.lost)?;
-    write_packets(sink, network, "misdelivered", &tally.misdelivered)?;
-    write_packets(sink, network, "round", &tally.round)
+    write_listed(sink, network, "lost", &tally.lost)?;
+    write_listed(sink, network, "misdelivered", &tally.misdelivered)?;
+    write_listed(sink, network, "round", &tally.round)
+}
+
+/// Writes the first packets of a kind, and how many more there are.
+fn write_listed<W: Sink>(
+    sink: &mut W,
+    network: &Network,
+    word: &str,
+    told: &Told<Packet>,
+) -> Result<(), WriteFault>
+    ensures { WritesPart W.written W.has_failed result sink.old sink.new
+        (listed_text (cells_of network.now.facts) network.now.held word.now told.now) }
+{
+    write_packets(sink, network, word, told.first())?;
+    write_more(sink, word, told.more())
 }
 
 /// Writes a line for each of these packets.
@@ -123,7 +220,7 @@ fn write_end<W: Sink>(
     match end {
         None => Ok(()),
         Some(End::Taken(port)) => write_taken(sink, port),
-        Some(End::Lost(node)) => write_lost(sink, network, lid, *node),
+        Some(End::Lost(node, cause)) => write_lost(sink, network, lid, *node, *cause),
     }
 }
 
@@ -135,19 +232,34 @@ fn write_taken<W: Sink>(sink: &mut W, port: &EndPort) -> Result<(), WriteFault>
     write_port(sink, port.node, port.port)
 }
 
-/// Writes the node at which a packet for a LID is lost.
+/// Writes the node at which a packet for a LID is lost, and why.
 fn write_lost<W: Sink>(
     sink: &mut W,
     network: &Network,
     lid: Lid,
     node: Guid,
+    cause: Cause,
 ) -> Result<(), WriteFault>
     ensures { WritesPart W.written W.has_failed result sink.old sink.new
-        (lost_text (cells_of network.now.facts) network.now.held lid node) }
+        (lost_text (cells_of network.now.facts) network.now.held lid node cause) }
 {
     sink.write(b" at ")?;
     write_guid(sink, node)?;
-    write_entry(sink, network.entry(node, lid))
+    write_entry(sink, network.entry(node, lid))?;
+    write_cause(sink, cause)
+}
+
+/// Writes why a packet is lost.
+fn write_cause<W: Sink>(sink: &mut W, cause: Cause) -> Result<(), WriteFault>
+    ensures { Writes W.written W.has_failed result sink.old sink.new (cause_text cause) }
+{
+    match cause {
+        Cause::AboveTop => sink.write(b": above top"),
+        Cause::NoEntry => sink.write(b": no entry"),
+        Cause::NoPort => sink.write(b": no such port"),
+        Cause::NoLink => sink.write(b": no link"),
+        Cause::Foreign => sink.write(b": foreign port"),
+    }
 }
 
 /// Writes the entry by which a switch does not send a packet on.
@@ -165,19 +277,26 @@ fn write_entry<W: Sink>(sink: &mut W, entry: Option<u8>) -> Result<(), WriteFaul
 
 /// Writes where tables and facts differ.
 fn write_unmatched<W: Sink>(sink: &mut W, unmatched: &Unmatched) -> Result<(), WriteFault>
-    ensures { WritesPart W.written W.has_failed result sink.old sink.new
-        (unmatched_text unmatched.now.unowned.items unmatched.now.twice.items
-        unmatched.now.unknown.items unmatched.now.tableless.items) }
+    ensures { WritesPart W.written W.has_failed result sink.old sink.new (unmatched_text unmatched.now) }
 {
     write_lids(sink, "unowned", &unmatched.unowned)?;
     write_lids(sink, "twice", &unmatched.twice)?;
     write_switches(sink, "unknown", &unmatched.unknown)?;
-    write_switches(sink, "tableless", &unmatched.tableless)
+    write_switches(sink, "tableless", &unmatched.tableless)?;
+    write_ports(sink, "lidless", &unmatched.lidless)
+}
+
+/// Writes LIDs that are told, and how many more there are.
+fn write_lids<W: Sink>(sink: &mut W, word: &str, told: &Told<HeldLid>) -> Result<(), WriteFault>
+    ensures { WritesPart W.written W.has_failed result sink.old sink.new (kind_text lid_line word.now told.now) }
+{
+    write_each_lid(sink, word, told.first())?;
+    write_more(sink, word, told.more())
 }
 
 /// Writes a line for each of these LIDs.
-fn write_lids<W: Sink>(sink: &mut W, word: &str, lines: &[HeldLid]) -> Result<(), WriteFault>
-    ensures { WritesPart W.written W.has_failed result sink.old sink.new (lids_text word.now lines.now) }
+fn write_each_lid<W: Sink>(sink: &mut W, word: &str, lines: &[HeldLid]) -> Result<(), WriteFault>
+    ensures { WritesPart W.written W.has_failed result sink.old sink.new (flat_map (lid_line word.now) lines.now) }
 {
     for line in lines {
         write_lid(sink, word, line)?;
@@ -197,9 +316,17 @@ fn write_lid<W: Sink>(sink: &mut W, word: &str, line: &HeldLid) -> Result<(), Wr
     sink.write(b"\n")
 }
 
+/// Writes switches that are told, and how many more there are.
+fn write_switches<W: Sink>(sink: &mut W, word: &str, told: &Told<Guid>) -> Result<(), WriteFault>
+    ensures { WritesPart W.written W.has_failed result sink.old sink.new (kind_text switch_line word.now told.now) }
+{
+    write_each_switch(sink, word, told.first())?;
+    write_more(sink, word, told.more())
+}
+
 /// Writes a line for each of these switches.
-fn write_switches<W: Sink>(sink: &mut W, word: &str, guids: &[Guid]) -> Result<(), WriteFault>
-    ensures { WritesPart W.written W.has_failed result sink.old sink.new (switches_text word.now guids.now) }
+fn write_each_switch<W: Sink>(sink: &mut W, word: &str, guids: &[Guid]) -> Result<(), WriteFault>
+    ensures { WritesPart W.written W.has_failed result sink.old sink.new (flat_map (switch_line word.now) guids.now) }
 {
     for guid in guids {
         write_switch(sink, word, *guid)?;
@@ -214,6 +341,60 @@ fn write_switch<W: Sink>(sink: &mut W, word: &str, guid: Guid) -> Result<(), Wri
     sink.write(word.as_bytes())?;
     sink.write(b" ")?;
     write_guid(sink, guid)?;
+    sink.write(b"\n")
+}
+
+/// Writes end ports that are told, and how many more there are.
+fn write_ports<W: Sink>(sink: &mut W, word: &str, told: &Told<EndPort>) -> Result<(), WriteFault>
+    ensures { WritesPart W.written W.has_failed result sink.old sink.new (kind_text port_line word.now told.now) }
+{
+    write_each_port(sink, word, told.first())?;
+    write_more(sink, word, told.more())
+}
+
+/// Writes a line for each of these end ports.
+fn write_each_port<W: Sink>(sink: &mut W, word: &str, ports: &[EndPort]) -> Result<(), WriteFault>
+    ensures { WritesPart W.written W.has_failed result sink.old sink.new (flat_map (port_line word.now) ports.now) }
+{
+    for port in ports {
+        write_end_port(sink, word, port)?;
+    }
+    Ok(())
+}
+
+/// Writes the line of an end port.
+fn write_end_port<W: Sink>(sink: &mut W, word: &str, port: &EndPort) -> Result<(), WriteFault>
+    ensures { Writes W.written W.has_failed result sink.old sink.new (port_line word.now port.now) }
+{
+    sink.write(word.as_bytes())?;
+    sink.write(b" ")?;
+    write_port(sink, port.node, port.port)?;
+    sink.write(b"\n")
+}
+
+/// Writes how many more there are of a kind than are told, if there are more.
+fn write_more<W: Sink>(sink: &mut W, word: &str, count: u64) -> Result<(), WriteFault>
+    ensures { WritesPart W.written W.has_failed result sink.old sink.new (more_line word.now count) }
+{
+    if count == 0 {
+        return Ok(());
+    }
+    sink.write(b"more ")?;
+    sink.write(word.as_bytes())?;
+    sink.write(b" ")?;
+    write_number(sink, count)?;
+    sink.write(b"\n")
+}
+
+/// Writes how many facts are disputed, where some are.
+fn write_disputed<W: Sink>(sink: &mut W, count: usize) -> Result<(), WriteFault>
+    ensures { WritesPart W.written W.has_failed result sink.old sink.new (disputed_line count) }
+{
+    if count == 0 {
+        return Ok(());
+    }
+    sink.write(b"disputed ")?;
+    write_number(sink, count as u64)?;
     sink.write(b"\n")
 }
 
@@ -272,7 +453,7 @@ fn write_circle<W: Sink>(
     ensures { WritesPart W.written W.has_failed result sink.old sink.new
         (circle_line (cells_of network.now.facts) circle.now) }
 {
-    sink.write(b"circle")?;
+    sink.write(b"credit loop")?;
     write_channels(sink, network, circle)?;
     sink.write(b"\n")
 }
@@ -289,6 +470,7 @@ fn write_channels<W: Sink>(
     if circle.is_empty() {
         return sink.write(b" none");
     }
+    sink.write(b" on one lane")?;
     write_each_channel(sink, network, circle)
 }
 

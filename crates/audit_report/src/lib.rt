@@ -3,8 +3,11 @@
 #![tactic(auto)]
 
 mod audit_text;
+mod causes;
+mod disputed;
 pub mod laws;
 mod packet;
+mod pairs;
 mod report;
 mod seat;
 mod survey;

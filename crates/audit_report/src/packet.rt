@@ -1,6 +1,6 @@
 ghost use Rattle.std.specs.Prelude.{◌≡◌};
 
-use crate::seat::is_same_end;
+use crate::seat::{are_adapters, is_same_end};
 use audit::End;
 use plan_file::HeldLid;
 use subnet_view::EndPort;
@@ -17,7 +17,7 @@ pub(crate) struct Packet {
 }
 
 impl Packet {
-    ghost use Rattle.audit_report.specs.Packets.{arrives};
+    ghost use Rattle.audit_report.specs.Packets.{arrives, is_between};
 
     /// Whether it is delivered at the end port that holds its LID.
     pub(crate) fn arrives(&self) -> bool
@@ -27,5 +27,12 @@ impl Packet {
             Some(End::Taken(port)) => is_same_end(&self.line.port, &port),
             _ => false,
         }
+    }
+
+    /// Whether an adapter port sends it to the LID of an adapter port.
+    pub(crate) fn is_between(&self) -> bool
+        ensures { result ≡ is_between self.now }
+    {
+        are_adapters(&self.source, &self.line.port)
     }
 }

@@ -1,8 +1,9 @@
 ghost use Rattle.std.specs.Prelude.{◌≡◌, ◌↔◌, IfOk, IsTrue};
 ghost use Rattle.fact_store.specs.View.{cells_of};
 ghost use Rattle.audit_circles.specs.Waiting.{NoneShorter};
-ghost use Rattle.audit_report.specs.Passing.{IsCircle, Passes};
+ghost use Rattle.audit_report.specs.Passing.{EachHasTables, EachHoldsLid, IsCircle, IsSound, IsWholeFor, Passes};
 
+use crate::disputed::disputed;
 use crate::seat::seats;
 use crate::survey::survey;
 use crate::tally::Tally;
@@ -22,6 +23,8 @@ pub struct Audit<'a> {
     pub(crate) network: Network<'a>,
     pub(crate) tally: Tally,
     pub(crate) unmatched: Unmatched,
+    /// How many facts are disputed.
+    pub(crate) disputed: usize,
     /// How far packets go between adapter ports, and the loads of channels.
     pub(crate) ways: WayFigures,
     /// Channels that wait for each other in a circle; none where there is no circle.
@@ -37,7 +40,7 @@ impl<'a> Model for Audit<'a> {
 
     ghost view = { λ a. record { facts = a.network.facts; held = a.network.held; circle = a.circle.items } };
 
-    ghost invariant = { λ a. IsFound a.network a.tally a.unmatched a.ways a.circle.items };
+    ghost invariant = { λ a. IsFound a.network a.tally a.unmatched a.disputed a.ways a.circle.items };
 }
 
 impl<'a> Audit<'a> {
@@ -55,22 +58,52 @@ impl<'a> Audit<'a> {
         let seats = seats(alloc, store)?;
         let tally = survey(alloc, &network, &seats)?;
         let unmatched = Unmatched::of(alloc, store, held)?;
+        let disputed = disputed(store);
         let ways = figures_of_ways(alloc, &network)?;
         let circle = circle_of(alloc, &network)?;
         Ok(Audit {
             network,
             tally,
             unmatched,
+            disputed,
             ways,
             circle,
         })
     }
 
-    /// Whether each packet arrives, and there is no circle.
+    /// Whether nothing is missing, each packet arrives, and there is no circle.
     pub fn passes(&self) -> bool
         ensures { IsTrue result ↔ Passes (cells_of self.now.facts) self.now.held }
     {
-        self.tally.arrived == self.tally.sent && self.circle.is_empty()
+        self.is_whole() && self.is_sound()
+    }
+
+    /// Whether each end port of the view holds a LID and, where there is one, each usable switch has tables.
+    fn is_whole(&self) -> bool
+        ensures { IsTrue result ↔ IsWholeFor (cells_of self.now.facts) self.now.held }
+    {
+        self.has_lids() && self.has_tables()
+    }
+
+    /// Whether each end port of the view holds a LID.
+    fn has_lids(&self) -> bool
+        ensures { IsTrue result ↔ EachHoldsLid (cells_of self.now.facts) self.now.held }
+    {
+        self.unmatched.lidless.count() == 0
+    }
+
+    /// Whether each usable switch of the view has tables, where it has an end port.
+    fn has_tables(&self) -> bool
+        ensures { IsTrue result ↔ EachHasTables (cells_of self.now.facts) self.now.held }
+    {
+        self.unmatched.tableless.count() == 0 || self.network.sources().is_empty()
+    }
+
+    /// Whether each packet arrives, and there is no circle.
+    fn is_sound(&self) -> bool
+        ensures { IsTrue result ↔ IsSound (cells_of self.now.facts) self.now.held }
+    {
+        self.tally.all.arrived == self.tally.all.sent && self.circle.is_empty()
     }
 }
 

@@ -5,8 +5,11 @@ ghost use Rattle.subnet_view.specs.EndPorts.{end_ports};
 ghost use Rattle.updown_routes.specs.Graph.{graph_of, guids_of};
 ghost use Rattle.updown_routes.specs.Ranks.{root_of};
 ghost use Rattle.audit.specs.Tables.{is_same_end};
-ghost use Rattle.audit_report.specs.Seats.{are_joined, are_one_component, first_root, is_one_root, leads_to, root_at, seat_of, switch_of};
+ghost use Rattle.audit_ways.specs.Ways.{is_adapter};
+ghost use Rattle.audit_report.specs.Seats.{IsCensus, are_adapters, are_joined, are_joined_adapters};
+ghost use Rattle.audit_report.specs.Seats.{are_one_component, first_root, is_one_root, leads_to, root_at, seat_of, switch_of};
 
+use audit_ways::is_adapter;
 use fact_store::{Refused, Store};
 use smp_bytes::{Guid, PortNum};
 use std::alloc::{AllocError, Global};
@@ -79,16 +82,74 @@ fn first_root(seats: &[Seat]) -> Option<Guid>
     }
 }
 
-/// How many end ports lie in the component of this one, by whether all lie in one. Takes a step, or else one for each.
-pub(crate) fn joined_count(seats: &[Seat], owner: &Seat, whole: bool) -> usize
-    requires whole { whole ≡ are_one_component seats.now }
+/// What is seen of all end ports at once.
+#[derive(Clone, Copy, Debug, PartialEq, Eq)]
+pub(crate) struct Census {
+    /// Whether they lie in one component.
+    pub(crate) whole: bool,
+    /// How many are end ports of adapters.
+    pub(crate) adapters: usize,
+}
+
+/// The census of end ports. Takes a step for each.
+pub(crate) fn census_of(seats: &[Seat]) -> Census
+    ensures { IsCensus seats.now result }
+{
+    let whole = are_one_component(seats);
+    let adapters = adapter_count(seats);
+    Census { whole, adapters }
+}
+
+/// How many are end ports of adapters.
+fn adapter_count(seats: &[Seat]) -> usize
+    ensures { result ≡ count_by (λ seat. is_adapter seat.port) seats.now }
+{
+    seats.iter().filter(|seat| is_adapter(&seat.port)).count()
+}
+
+/// How many end ports lie in the component of this one. Takes a step where all lie in one, or else one for each.
+pub(crate) fn joined_count(seats: &[Seat], owner: &Seat, census: Census) -> usize
+    requires census { IsCensus seats.now census }
     requires listed { Contains seats.now owner.now }
     ensures { result ≡ count_by (λ seat. are_joined seat owner.now) seats.now }
 {
-    if whole {
+    if census.whole {
         return seats.len();
     }
     seats.iter().filter(|seat| seat.is_joined_to(owner)).count()
+}
+
+/// Where this is an adapter's, how many adapter ports lie in its component; none where it is a switch's. Takes a step or two
+/// where all lie in one component, or else one for each.
+pub(crate) fn joined_adapters(seats: &[Seat], owner: &Seat, census: Census) -> usize
+    requires census { IsCensus seats.now census }
+    requires listed { Contains seats.now owner.now }
+    ensures { result ≡ count_by (λ seat. are_joined_adapters seat owner.now) seats.now }
+{
+    if !is_adapter(&owner.port) {
+        return 0;
+    }
+    if census.whole {
+        return census.adapters;
+    }
+    seats
+        .iter()
+        .filter(|seat| are_joined_adapters(seat, owner))
+        .count()
+}
+
+/// Whether two adapter ports lie in one component.
+fn are_joined_adapters(seat: &Seat, owner: &Seat) -> bool
+    ensures { result ≡ are_joined_adapters seat.now owner.now }
+{
+    seat.is_joined_to(owner) && are_adapters(&seat.port, &owner.port)
+}
+
+/// Whether both are end ports of adapters.
+pub(crate) fn are_adapters(port: &EndPort, other: &EndPort) -> bool
+    ensures { result ≡ are_adapters port.now other.now }
+{
+    is_adapter(port) && is_adapter(other)
 }
 
 /// The end ports of the view, in their order. Takes what a graph of the switches takes, and some seven searches for each.

@@ -5,11 +5,11 @@ ghost use Rattle.subnet_view.specs.EndPorts.{end_ports};
 ghost use Rattle.audit.specs.Steps.{AreBlocks};
 ghost use Rattle.audit_report.specs.declared.packet.Packet.{Packet as Sent};
 ghost use Rattle.audit_report.specs.Packets.{packets_of, sent_to};
-ghost use Rattle.audit_report.specs.Seats.{are_one_component, seat_of};
+ghost use Rattle.audit_report.specs.Seats.{IsCensus, seat_of};
 ghost use Rattle.audit_report.specs.Tally.{IsTally};
 
 use crate::packet::Packet;
-use crate::seat::{Seat, are_one_component, joined_count, seat_at};
+use crate::seat::{Census, Seat, census_of, joined_adapters, joined_count, seat_at};
 use crate::tally::Tally;
 use audit::{Blocks, Network};
 use plan_file::HeldLid;
@@ -22,14 +22,14 @@ pub(crate) fn survey(alloc: Global, network: &Network, seats: &[Seat]) -> Result
     ensures { IfOk result (IsTally (packets_of (cells_of network.now.facts) network.now.held)) }
 {
     let mut tally = Tally::new(alloc);
-    let whole = are_one_component(seats);
+    let census = census_of(seats);
     let mut blocks = network.blocks(alloc, 0)?;
     for line in network.lids() {
         blocks = network.blocks_for(alloc, blocks, line.lid)?;
         match seat_at(seats, &line.port) {
             Some(owner) => {
                 add_packets(
-                    alloc, &mut tally, network, &blocks, seats, whole, line, &owner,
+                    alloc, &mut tally, network, &blocks, seats, census, line, &owner,
                 )?
             }
             None => {}
@@ -45,14 +45,14 @@ fn add_packets(
     network: &Network,
     blocks: &Blocks,
     seats: &[Seat],
-    whole: bool,
+    census: Census,
     line: &HeldLid,
     owner: &Seat,
 ) -> Result<(), AllocError>
     requires held { AreBlocks network.now.held blocks.now.number blocks.now.rows.items }
     requires number { blocks.now.number ≡ line.now.lid / 64 }
     requires seats { seats.now ≡ map (seat_of (cells_of network.now.facts)) (end_ports (cells_of network.now.facts)) }
-    requires whole { whole ≡ are_one_component seats.now }
+    requires census { IsCensus seats.now census }
     requires listed { Contains seats.now owner.now }
     requires owner { owner.now ≡ seat_of (cells_of network.now.facts) line.now.port }
     ensures { OnOk result ((packets : List Sent) → IsTally packets tally.old
@@ -60,7 +60,11 @@ fn add_packets(
 {
     let ends = network.ends(alloc, blocks, line)?;
     match ends.first_elsewhere() {
-        None => return tally.add_arrived(joined_count(seats, owner, whole) as u64),
+        None => {
+            let count = joined_count(seats, owner, census) as u64;
+            let between = joined_adapters(seats, owner, census) as u64;
+            return tally.add_arrived(count, between);
+        }
         Some(_) => {}
     }
     for (place, seat) in seats.iter().enumerate() {

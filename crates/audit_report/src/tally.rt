@@ -1,36 +1,40 @@
-//! How many packets arrive, and the first that do not.
-ghost use Rattle.std.specs.Prelude.{◌≡◌, ◌≤◌, [], false, OnOk};
+//! How many packets arrive, why others do not, and the first that do not.
+ghost use Rattle.std.specs.Prelude.{◌≡◌, [], false, OnOk};
 
+use crate::causes::Causes;
 use crate::packet::Packet;
-use crate::told::note;
+use crate::pairs::Pairs;
+use crate::told::Told;
 use audit::End;
 use std::alloc::{AllocError, Global};
 
-/// How many packets there are and how many arrive, and of the others the first of each kind.
+/// How many packets there are and how many arrive, and of the others how many there are of each kind, with the first.
 #[derive(Drop)]
 pub(crate) struct Tally {
-    pub(crate) sent: u64,
-    pub(crate) arrived: u64,
-    pub(crate) lost: Vec<Packet>,
-    pub(crate) misdelivered: Vec<Packet>,
-    pub(crate) round: Vec<Packet>,
-    ghost in_range: { arrived ≤ sent },
+    pub(crate) all: Pairs,
+    /// Those that adapter ports send to the LIDs of adapter ports.
+    pub(crate) between: Pairs,
+    pub(crate) causes: Causes,
+    pub(crate) lost: Told<Packet>,
+    pub(crate) misdelivered: Told<Packet>,
+    pub(crate) round: Told<Packet>,
 }
 
 impl Tally {
     ghost use Rattle.audit_report.specs.Packets.{arrives};
-    ghost use Rattle.audit_report.specs.Tally.{IsMissed, IsTally, IsWith, IsWithArrived};
+    ghost use Rattle.audit_report.specs.Tally.{IsCountedWith, IsMissed, IsTally, IsWith, IsWithArrived};
 
     /// No packet.
     pub(crate) fn new(alloc: Global) -> Self
         ensures { IsTally [] result }
     {
         Tally {
-            sent: 0,
-            arrived: 0,
-            lost: Vec::new(alloc),
-            misdelivered: Vec::new(alloc),
-            round: Vec::new(alloc),
+            all: Pairs::new(),
+            between: Pairs::new(),
+            causes: Causes::new(),
+            lost: Told::new(alloc),
+            misdelivered: Told::new(alloc),
+            round: Told::new(alloc),
         }
     }
 
@@ -38,21 +42,28 @@ impl Tally {
     pub(crate) fn add(&mut self, packet: Packet) -> Result<(), AllocError>
         ensures { OnOk result (IsWith self.old packet self.new) }
     {
-        self.sent = self.sent.checked_add(1).ok_or(AllocError)?;
+        self.count(&packet)?;
         if packet.arrives() {
-            self.arrived += 1;
             return Ok(());
         }
         self.miss(packet)
     }
 
-    /// So many packets more, which arrive.
-    pub(crate) fn add_arrived(&mut self, count: u64) -> Result<(), AllocError>
-        ensures { OnOk result (IsWithArrived self.old count self.new) }
+    /// So many packets more, of which so many are between adapter ports, which arrive.
+    pub(crate) fn add_arrived(&mut self, count: u64, between: u64) -> Result<(), AllocError>
+        ensures { OnOk result (IsWithArrived self.old count between self.new) }
     {
-        self.sent = self.sent.checked_add(count).ok_or(AllocError)?;
-        self.arrived += count;
-        Ok(())
+        self.all.add_arrived(count)?;
+        self.between.add_arrived(between)
+    }
+
+    /// Counts a packet by whether it arrives.
+    fn count(&mut self, packet: &Packet) -> Result<(), AllocError>
+        ensures { OnOk result (IsCountedWith self.old packet.now self.new) }
+    {
+        let arrives = packet.arrives();
+        self.all.add(true, arrives)?;
+        self.between.add(packet.is_between(), arrives)
     }
 
     /// Tells a packet that does not arrive.
@@ -61,9 +72,12 @@ impl Tally {
         ensures { OnOk result (IsMissed self.old packet self.new) }
     {
         match packet.end {
-            Some(End::Lost(_)) => note(&mut self.lost, packet),
-            Some(End::Taken(_)) => note(&mut self.misdelivered, packet),
-            None => note(&mut self.round, packet),
+            Some(End::Lost(_, cause)) => {
+                self.causes.add(cause)?;
+                self.lost.add(packet)
+            }
+            Some(End::Taken(_)) => self.misdelivered.add(packet),
+            None => self.round.add(packet),
         }
     }
 }

@@ -1,31 +1,34 @@
 //! Where the tables that are held and the facts of the subnet differ.
 ghost use Rattle.std.specs.Prelude.{◌≡◌, IfOk};
 ghost use Rattle.fact_store.specs.View.{cells_of};
-ghost use Rattle.audit_report.specs.Unmatched.{IsUnmatched, is_held, is_twice, tableless_among, twice, unknown, unowned};
+ghost use Rattle.audit_report.specs.Unmatched.{IsUnmatched, has_lid, is_held, is_twice, lidless_among, tableless_among, twice, unknown, unowned};
 
-use crate::told::note;
+use crate::seat::is_same_end;
+use crate::told::Told;
 use fact_store::{Refused, Store};
 use plan_file::{Held, HeldLid};
 use smp_bytes::Guid;
 use std::alloc::{AllocError, Global};
-use subnet_view::{is_end_port, is_usable, switches};
+use subnet_view::{EndPort, end_ports, is_end_port, is_usable, switches};
 
-/// The first of each kind in which tables and facts differ.
+/// Where tables and facts differ.
 #[derive(Drop)]
 pub(crate) struct Unmatched {
     /// LIDs with ports that are no end ports of the facts.
-    pub(crate) unowned: Vec<HeldLid>,
+    pub(crate) unowned: Told<HeldLid>,
     /// LIDs that more than one port holds.
-    pub(crate) twice: Vec<HeldLid>,
+    pub(crate) twice: Told<HeldLid>,
     /// Switches with tables that are no usable switches of the facts.
-    pub(crate) unknown: Vec<Guid>,
+    pub(crate) unknown: Told<Guid>,
     /// Usable switches without tables.
-    pub(crate) tableless: Vec<Guid>,
+    pub(crate) tableless: Told<Guid>,
+    /// End ports of the facts without a LID.
+    pub(crate) lidless: Told<EndPort>,
 }
 
 impl Unmatched {
-    /// The first of each kind. Takes two searches and a walk over the LIDs for each LID that is held, and a walk over the
-    /// switches that are held for each switch.
+    /// Those of each kind. Takes two searches and a walk over the LIDs for each LID that is held, a walk over the
+    /// switches that are held for each switch, and one over the LIDs for each end port.
     pub(crate) fn of(alloc: Global, store: &Store, held: &Held) -> Result<Self, Refused>
         ensures { IfOk result (IsUnmatched (cells_of store.now) held.now) }
     {
@@ -34,36 +37,39 @@ impl Unmatched {
         let twice = twice(alloc, held)?;
         let unknown = unknown(alloc, held, store)?;
         let tableless = tableless(alloc, held, &guids)?;
+        let ports = end_ports(alloc, store)?;
+        let lidless = lidless(alloc, held, &ports)?;
         Ok(Unmatched {
             unowned,
             twice,
             unknown,
             tableless,
+            lidless,
         })
     }
 }
 
-/// The first LIDs with ports that are no end ports of the facts.
-fn unowned(alloc: Global, held: &Held, store: &Store) -> Result<Vec<HeldLid>, AllocError>
-    ensures { IfOk result (λ told. told.items ≡ unowned (cells_of store.now) held.now) }
+/// LIDs with ports that are no end ports of the facts.
+fn unowned(alloc: Global, held: &Held, store: &Store) -> Result<Told<HeldLid>, AllocError>
+    ensures { IfOk result (λ told. told ≡ unowned (cells_of store.now) held.now) }
 {
-    let mut told = Vec::new(alloc);
+    let mut told = Told::new(alloc);
     for line in held.lids() {
         if !is_end_port(store, line.port.node, line.port.port) {
-            note(&mut told, *line)?;
+            told.add(*line)?;
         }
     }
     Ok(told)
 }
 
-/// The first LIDs that more than one port holds, with each of these.
-fn twice(alloc: Global, held: &Held) -> Result<Vec<HeldLid>, AllocError>
-    ensures { IfOk result (λ told. told.items ≡ twice held.now) }
+/// LIDs that more than one port holds, with each of these.
+fn twice(alloc: Global, held: &Held) -> Result<Told<HeldLid>, AllocError>
+    ensures { IfOk result (λ told. told ≡ twice held.now) }
 {
-    let mut told = Vec::new(alloc);
+    let mut told = Told::new(alloc);
     for line in held.lids() {
         if is_twice(held, line) {
-            note(&mut told, *line)?;
+            told.add(*line)?;
         }
     }
     Ok(told)
@@ -80,27 +86,27 @@ fn is_twice(held: &Held, line: &HeldLid) -> bool
         .count()
 }
 
-/// The first switches with tables that are no usable switches of the facts.
-fn unknown(alloc: Global, held: &Held, store: &Store) -> Result<Vec<Guid>, AllocError>
-    ensures { IfOk result (λ told. told.items ≡ unknown (cells_of store.now) held.now) }
+/// Switches with tables that are no usable switches of the facts.
+fn unknown(alloc: Global, held: &Held, store: &Store) -> Result<Told<Guid>, AllocError>
+    ensures { IfOk result (λ told. told ≡ unknown (cells_of store.now) held.now) }
 {
-    let mut told = Vec::new(alloc);
+    let mut told = Told::new(alloc);
     for switch in held.switches() {
         if !is_usable(store, switch.guid) {
-            note(&mut told, switch.guid)?;
+            told.add(switch.guid)?;
         }
     }
     Ok(told)
 }
 
-/// The first usable switches without tables.
-fn tableless(alloc: Global, held: &Held, guids: &[Guid]) -> Result<Vec<Guid>, AllocError>
-    ensures { IfOk result (λ told. told.items ≡ tableless_among guids.now held.now) }
+/// Usable switches without tables.
+fn tableless(alloc: Global, held: &Held, guids: &[Guid]) -> Result<Told<Guid>, AllocError>
+    ensures { IfOk result (λ told. told ≡ tableless_among guids.now held.now) }
 {
-    let mut told = Vec::new(alloc);
+    let mut told = Told::new(alloc);
     for guid in guids {
         if !is_held(held, *guid) {
-            note(&mut told, *guid)?;
+            told.add(*guid)?;
         }
     }
     Ok(told)
@@ -111,4 +117,24 @@ fn is_held(held: &Held, guid: Guid) -> bool
     ensures { result ≡ is_held held.now guid }
 {
     held.switches().iter().any(|switch| switch.guid == guid)
+}
+
+/// End ports without a LID.
+fn lidless(alloc: Global, held: &Held, ports: &[EndPort]) -> Result<Told<EndPort>, AllocError>
+    ensures { IfOk result (λ told. told ≡ lidless_among ports.now held.now) }
+{
+    let mut told = Told::new(alloc);
+    for port in ports {
+        if !has_lid(held, port) {
+            told.add(*port)?;
+        }
+    }
+    Ok(told)
+}
+
+/// Whether a line gives the end port a LID.
+fn has_lid(held: &Held, port: &EndPort) -> bool
+    ensures { result ≡ has_lid held.now port.now }
+{
+    held.lids().iter().any(|line| is_same_end(port, &line.port))
 }

@@ -117,8 +117,8 @@ fn reaches(line: &HeldLid, port: &EndPort, arrives: bool) -> bool
     is_adapter(port) && !is_same_end(&line.port, port) && arrives
 }
 
-/// Whether it is an end port of an adapter.
-pub(crate) fn is_adapter(port: &EndPort) -> bool
+/// Whether it is an end port of an adapter: that of a switch is its port 0.
+pub fn is_adapter(port: &EndPort) -> bool
     ensures { result ≡ is_adapter port.now }
 {
     port.port.number() != 0

@@ -10,4 +10,5 @@ mod walk;
 mod ways;
 
 pub use figures::Figures;
+pub use groups::is_adapter;
 pub use ways::{WayFigures, figures_of_ways};

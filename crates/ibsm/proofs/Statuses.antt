@@ -42,7 +42,7 @@ pub not_failed : (names : List (Bor (List ℕ))) (IsFault : Fault → Type 0) (s
 not_failed names IsFault status errors errors' errors_failed (inl done) e = cc
 not_failed names IsFault status errors errors' errors_failed (inr says) e = never_failed says.fault (sym says.ends ∙ e)
 
-whose_never_failed : (fault : WhoseFault) → status_of_whose fault ≡ Failed → ⊥
+pub whose_never_failed : (fault : WhoseFault) → status_of_whose fault ≡ Failed → ⊥
 whose_never_failed (whose.Text fault) e = never_failed fault e
 whose_never_failed (whose.Files fault) e = never_failed fault e
 

@@ -50,6 +50,22 @@ pub(crate) const SCHEDULE: &str = "SCHEDULE";
 
 const VERSION: &str = "0.1.0";
 
+/// What stands at the end of a subcommand's help: the statuses that it ends with, and an example.
+const FACTS_END: &str =
+    "Exit status:\n  0  done\n  2  the command line is wrong\n  3  a file is refused\n  4  a file cannot be opened or read, or the output takes no more\n  5  out of memory\n\nExample:\n  ibsm facts --floor 2 monday.reports tuesday.reports";
+
+const JOIN_END: &str =
+    "Exit status:\n  0  done\n  2  the command line is wrong\n  3  a file is refused\n  4  a file cannot be opened or read, or the output takes no more\n  5  out of memory\n\nExample:\n  ibsm join monday.reports tuesday.reports > both.store";
+
+const PLAN_END: &str =
+    "Exit status:\n  0  done\n  2  the command line is wrong\n  3  a file is refused, or there is no room for the LIDs\n  4  a file cannot be opened or read, or the output takes no more\n  5  out of memory\n\nExample:\n  ibsm plan --lmc 1 fabric.reports > fabric.plan";
+
+const AUDIT_END: &str =
+    "Exit status:\n  0  the tables pass\n  1  they do not pass, and what was printed says why\n  2  the command line is wrong\n  3  a file is refused\n  4  a file cannot be opened or read, or the output takes no more\n  5  out of memory\n\nExample:\n  ibsm audit held.tables fabric.reports";
+
+const RUN_END: &str =
+    "Exit status:\n  0  done\n  2  the command line is wrong\n  3  a file is refused\n  4  a file cannot be opened or read, or the output takes no more\n  5  out of memory\n\nExample:\n  ibsm run triangle.topology bring_up.schedule";
+
 /// The subcommands and their arguments.
 pub(crate) fn command_line<'a>(alloc: Global) -> Result<Command<'a>, AllocError> {
     program(alloc)
@@ -71,6 +87,7 @@ fn program<'a>(alloc: Global) -> Command<'a> {
 fn facts<'a>(alloc: Global) -> Result<Command<'a>, AllocError> {
     Command::new(alloc, FACTS)
         .about("Prints the facts that all the files tell together")
+        .after_help(FACTS_END)
         .arg(files(alloc))?
         .arg(floor(alloc))
 }
@@ -80,6 +97,7 @@ fn join<'a>(alloc: Global) -> Result<Command<'a>, AllocError> {
         .about(
             "Writes the facts that all the files tell together to standard output, as a store file",
         )
+        .after_help(JOIN_END)
         .arg(files(alloc))?
         .arg(floor(alloc))
 }
@@ -89,6 +107,7 @@ fn plan<'a>(alloc: Global) -> Result<Command<'a>, AllocError> {
         .about(
             "Prints the LIDs and the forwarding blocks that follow from the facts of all the files",
         )
+        .after_help(PLAN_END)
         .arg(files(alloc))?
         .arg(floor(alloc))?
         .arg(lmc(alloc))?
@@ -101,6 +120,7 @@ fn audit<'a>(alloc: Global) -> Result<Command<'a>, AllocError> {
         .about(
             "Prints how packets fare by the tables that switches hold, in the subnet of the facts of all the files",
         )
+        .after_help(AUDIT_END)
         .arg(text(
             alloc,
             TABLES,
@@ -115,6 +135,7 @@ fn run<'a>(alloc: Global) -> Result<Command<'a>, AllocError> {
         .about(
             "Runs a schedule in the simulated fabric of a topology, and prints what its commands print",
         )
+        .after_help(RUN_END)
         .arg(text(
             alloc,
             TOPOLOGY,
@@ -193,11 +214,11 @@ pub(crate) fn roots_without_spread(alloc: Global, name: Option<&str>) -> Result<
     )
 }
 
-/// At least one file.
+/// At least one file. They may stand on both sides of an option.
 fn files<'a>(alloc: Global) -> Arg<'a> {
     Arg::new(alloc, FILE)
         .help("Report files and store files")
         .required(true)
         .num_args(1..)
-        .action(ArgAction::Set)
+        .action(ArgAction::Append)
 }

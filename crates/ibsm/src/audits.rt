@@ -13,6 +13,7 @@ use std::io::Write;
 
 /// Writes how packets fare by the tables that a text says, in the subnet that the files with these names describe, and
 /// says on `errors` why it cannot. All are opened before the first is read.
+#[tactic(auto, using(crate::proofs::Statuses::whose_never_failed))]
 pub(crate) fn audit_or_explain<R, O, E>(
     rt: &R,
     floor: Generation,
@@ -31,11 +32,16 @@ where
     ensures failed { result ≡ ExitStatus.Failed → AuditsFiles (R.answers rt.now)
         R.Opened.left R.Opened.has_failed floor tables.entry names.now
         (⟦<ToWrite<O> as Sink>⟧.written output.old) (⟦<ToWrite<O> as Sink>⟧.written output.new) false }
+    ensures flushed { (result ≡ ExitStatus.Done) ⊎ (result ≡ ExitStatus.Failed)
+        → IsTrue (⟦<ToWrite<O> as Sink>⟧.is_flushed output.new) }
+    ensures silent { (result ≡ ExitStatus.Done) ⊎ (result ≡ ExitStatus.Failed) → errors.new ≡ errors.old }
     ensures says_why { (result ≡ ExitStatus.Done) ⊎ (result ≡ ExitStatus.Failed) ⊎ SaysWhose tables.entry names.now
         (IsAuditsFault (R.answers rt.now) R.Opened.left R.Opened.has_failed R.Opened.interruptions
         floor tables.entry names.now (⟦<ToWrite<O> as Sink>⟧.has_failed output.new))
         result (⟦<ToWrite<E> as Sink>⟧.written errors.old)
         (⟦<ToWrite<E> as Sink>⟧.written errors.new) (⟦<ToWrite<E> as Sink>⟧.has_failed errors.new) }
+    ensures nothing_written { (result ≡ ExitStatus.Done) ⊎ (result ≡ ExitStatus.Failed)
+        ⊎ IsTrue (⟦<ToWrite<O> as Sink>⟧.has_failed output.new) ⊎ (output.new ≡ output.old) }
 {
     match audit(rt, floor, tables, names, output) {
         Ok(passed) => status_after(passed),

@@ -3,3 +3,4 @@ pub mod Lids
 pub mod Tables
 pub mod States
 pub mod Phases
+pub mod Bound

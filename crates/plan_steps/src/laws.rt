@@ -1,4 +1,5 @@
 //! What the phases' lists are, in words.
+ghost use Rattle.plan_steps.specs.Bound.{PhaseBoundLaw};
 ghost use Rattle.plan_steps.specs.Lids.{OwnLidLaw};
 ghost use Rattle.plan_steps.specs.States.{WiredPortsLaw};
 
@@ -12,4 +13,9 @@ pub fn own_lid_is_of_the_first()
 /// The ports on wires are listed each once, by node GUID and port, and nothing else is.
 pub fn wired_ports_are_listed_in_order()
     ensures { WiredPortsLaw }
+{}
+
+/// Where there is room for the LIDs, no phase of a plan has more steps than are told before there is a plan.
+pub fn phases_are_bounded()
+    ensures { PhaseBoundLaw }
 {}

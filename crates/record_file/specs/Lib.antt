@@ -5,6 +5,7 @@ pub mod Feeding
 pub mod FileFault
 pub mod Head
 pub mod Laws
+pub mod Memory
 pub mod PieceFault
 pub mod PieceLaws
 pub mod Reading

@@ -20,6 +20,6 @@ pub use absorber::Absorber;
 pub use file::{absorb, absorb_by};
 pub use file_fault::FileFault;
 pub use store_file::write_store;
-pub use stream::{FromRead, ReadError, Sink, Source, ToWrite, WriteFault};
+pub use stream::{FromBytes, FromRead, ReadError, Sink, Source, ToRoom, ToWrite, WriteFault};
 pub use text::{write_guid, write_number, write_port};
 pub use whole::read_whole;

@@ -8,6 +8,7 @@ use std::alloc::Global;
 
 mod controls;
 mod ranks;
+mod sweeps;
 
 /// The statuses of answers: done, a field that is not valid, and a method that is not supported.
 const DONE: Status = Status(0);

@@ -6,3 +6,6 @@ pub mod Replies
 pub mod Sending
 pub mod StepsSent
 pub mod Heirs
+pub mod HeirLids
+pub mod Begun
+pub mod Answered

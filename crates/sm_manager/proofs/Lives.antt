@@ -25,7 +25,7 @@ use Rattle.sm_manager.specs.declared.pending.Pending.{Pending}
 use Rattle.sm_manager.specs.Packets.{Called, refused, done, answered_by, sweep_answered, request_answered, request_over, pending_for, unless_spent, packet_taken, sweep_timed_out, sweep_gave_up, request_gave_up, gave_up, is_for_sweep, is_info_request}
 use Rattle.sm_manager.specs.declared.pending.Purpose.{Purpose}
 use Rattle.sm_manager.specs.declared.pending.Purpose.TheVariants as purpose
-use Rattle.sm_manager.specs.Election.{handed_over, handed_to, handover_fault, heir_lid, poll_fault, poll_sent, told}
+use Rattle.sm_manager.specs.Election.{handed_over, handed_to, handover_fault, handover_move, heir_lid, poll_fault, poll_sent, told}
 use Rattle.sm_manager.specs.Served.{answering, controlled, is_control, moved_on, served, status_for}
 use Rattle.sm_manager.specs.Standing.{moved_to}
 use Rattle.sm_manager.specs.Plans.{writing_fault}
@@ -134,8 +134,9 @@ module _ (m : Manager) where
   taking_keeps (packet ∷ packets) = record { store = refl; planning = refl }
 
   pub handing_keeps : (lid : Option ℕ) → Keeps m (handed_to m lid)
-  handing_keeps None = record { store = refl; planning = refl }
-  handing_keeps (Some lid) = record { store = refl; planning = refl }
+  handing_keeps lid =
+      let k = telling_keeps (record m { standing = moved_to (handover_move m).state m.standing }) lid (handover_move m).message in
+      record { store = k.store; planning = k.planning }
 
   -- so it is with each call
   record TakesIn (call : Call) : Type 0 where

@@ -1,17 +1,21 @@
 -- What a manager sends to other managers: polls, and controls as it hands over or takes over.
 -- InfiniBand Architecture Specification, Volume 1: subnet management, subnet manager (polling, handover); SMInfo.
-use Rattle.std.specs.Prelude.{ℕ, ◌+◌, not, List, [], ◌∷◌, ◌++◌, replicate, is_none, if◌then◌else◌, Option, Some, None, option_and_then}
+use Rattle.std.specs.Prelude.{ℕ, ◌+◌, List, [], ◌∷◌, ◌++◌, replicate, is_none, if◌then◌else◌, Option, Some, None, option_and_then}
 use Rattle.smp_bytes.specs.Header.{get, set, sm_info}
 use Rattle.smp_bytes.specs.Requests.{lid_routed}
 use Rattle.attr_codec.specs.SmInfo.{sm_info_bytes}
 use Rattle.fact_store.specs.View.{cells_of}
+use Rattle.subnet_view.specs.declared.end_port.EndPort.{EndPort}
+use Rattle.subnet_view.specs.EndPorts.{is_end_port}
 use Rattle.subnet_view.specs.Reading.{Cells}
 use Rattle.lid_assign.specs.Lids.{lid_of, lids}
 use Rattle.sm_state.specs.declared.control.Control.{Control}
-use Rattle.sm_state.specs.declared.control.Control.TheVariants.{Handover}
+use Rattle.sm_state.specs.declared.event.Event.TheVariants.{HandoverWanted}
 use Rattle.sm_state.specs.declared.event.Message.{Message}
-use Rattle.sm_state.specs.declared.state.SmState.TheVariants.{Standby, Master}
+use Rattle.sm_state.specs.declared.state.SmState.TheVariants.{Standby}
+use Rattle.sm_state.specs.declared.transition.Transition.{Transition}
 use Rattle.sm_state.specs.Controls.{control_of_message, modifier_of_control}
+use Rattle.sm_state.specs.Steps.{stepped}
 use Rattle.sm_manager.specs.declared.fault.ManagerFault.{ManagerFault}
 use Rattle.sm_manager.specs.declared.fault.ManagerFault.TheVariants as fault
 use Rattle.sm_manager.specs.declared.outgoing.Outgoing.{Outgoing}
@@ -23,7 +27,7 @@ use Rattle.sm_manager.specs.declared.standing.Standing.{Standing}
 use Rattle.sm_manager.specs.Manager.{Manager}
 use Rattle.sm_manager.specs.Plans.{number_fault, or_else, plan_fault}
 use Rattle.sm_manager.specs.Seen.{heir_of}
-use Rattle.sm_manager.specs.Standing.{info_of, is_in}
+use Rattle.sm_manager.specs.Standing.{info_of, is_in, moved_to}
 
 -- requests for SMInfo ---------------------------------------------------------------------------
 
@@ -72,36 +76,38 @@ poll_fault m = if is_in Standby m.standing then number_fault (m.counter + 1) els
 
 -- handing over ----------------------------------------------------------------------------------
 
+-- what the table of states has it do where another one is to be master
+abbrev pub handover_move : Manager → Transition
+handover_move m = stepped m.standing.state HandoverWanted
+
 -- of the managers that the last sweep saw
 abbrev pub heir : Manager → Option SeenManager
 heir m = heir_of (info_of m.standing) m.seen
 
--- the LID that a plan gives to the port where a manager was seen
-abbrev pub lid_seen : ℕ → Cells → SeenManager → Option ℕ
-lid_seen lmc cells s = lid_of (lids lmc cells) (record { node = s.guid; port = s.port })
+-- the port where a manager was seen, as far as it is known to be an end port
+abbrev pub port_seen : Cells → SeenManager → Option EndPort
+port_seen cells s = if is_end_port cells s.guid s.port then Some (record { node = s.guid; port = s.port }) else None
 
+abbrev pub heir_port : Manager → Option EndPort
+heir_port m = option_and_then (port_seen (cells_of m.store)) (heir m)
+
+-- the LID that the plan gives it
 abbrev pub heir_lid : Manager → Option ℕ
-heir_lid m = option_and_then (lid_seen m.planning.lmc (cells_of m.store)) (heir m)
+heir_lid m = option_and_then (lid_of (lids m.planning.lmc (cells_of m.store))) (heir_port m)
 
--- why nobody can take over, or there is no plan that gives a LID
+-- why a master hands nothing over, want of memory aside
 abbrev pub heir_fault : Manager → Option ManagerFault
 heir_fault m =
-    if not (is_in Master m.standing) then Some fault.NotMaster
-    else if is_none (heir m) then Some fault.Nobody
-    else plan_fault m.planning.lmc (cells_of m.store)
+    if is_none (heir_port m) then Some fault.Nobody
+    else or_else (plan_fault m.planning.lmc (cells_of m.store)) (number_fault (m.counter + 1))
 
--- nor has the heir a LID
-abbrev pub heir_lid_fault : Manager → Option ManagerFault
-heir_lid_fault m = or_else (heir_fault m) (if is_none (heir_lid m) then Some fault.Nobody else None)
-
--- why nothing is handed over, want of memory aside
+-- where the table of states has nothing to say to the heir, it is no master
 abbrev pub handover_fault : Manager → Option ManagerFault
-handover_fault m = or_else (heir_lid_fault m) (number_fault (m.counter + 1))
+handover_fault m = if is_none (handover_move m).message then Some fault.NotMaster else heir_fault m
 
--- the heir is told to take over; the state moves once it has acknowledged
+-- the state moves, and the heir is told to take over; it moves again once the heir has acknowledged
 abbrev pub handed_to : Manager → Option ℕ → Manager
-handed_to m None = m
-handed_to m (Some lid) = control_sent m lid Handover
+handed_to m lid = told (record m { standing = moved_to (handover_move m).state m.standing }) lid (handover_move m).message
 
 abbrev pub handed_over : Manager → Manager
 handed_over m = handed_to m (heir_lid m)

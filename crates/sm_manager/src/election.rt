@@ -1,30 +1,32 @@
 //! What a manager sends to other managers.
-ghost use Rattle.std.specs.Prelude.{◌≡◌, ◌<◌, ◌+◌, ◌≤◌, ◌^◌, ◌∷◌, ◌++◌, [], None, Some, IfOk, OnOk, OnErr};
+ghost use Rattle.std.specs.Prelude.{◌≡◌, ◌<◌, ◌+◌, ◌≤◌, ◌^◌, ◌∷◌, ◌++◌, [], None, Some, true, IfOk, OnOk, OnErr};
 ghost use Rattle.std.specs.VecDeque.{deque_capacity, deque_len};
 ghost use Rattle.fact_store.specs.View.{cells_of};
-ghost use Rattle.lid_assign.specs.Lids.{lids};
-ghost use Rattle.smp_bytes.specs.Judges.{Judges, JudgesButFor};
-ghost use Rattle.sm_manager.specs.Election.{handed_over, handover_fault, heir, heir_fault, heir_lid, heir_lid_fault};
+ghost use Rattle.lid_assign.specs.Lids.{lid_of, lids};
+ghost use Rattle.subnet_view.specs.EndPorts.{is_end_port};
+ghost use Rattle.smp_bytes.specs.Judges.{JudgesButFor};
+ghost use Rattle.sm_manager.specs.Election.{handed_over, handover_fault, heir_fault, heir_lid, heir_port, port_seen};
 ghost use Rattle.sm_manager.specs.Election.{control_out, info_pending, poll_fault, poll_out, poll_sent};
 ghost use Rattle.sm_manager.specs.declared.pending.Purpose.TheVariants.{Control as ForControl, Poll as ForPoll};
 ghost use Rattle.sm_state.specs.Controls.{modifier_of_control};
 ghost use Rattle.sm_manager.specs.Fault.{is_memory};
-ghost use Rattle.sm_manager.specs.Plans.{JudgesAfter, plan_fault};
+ghost use Rattle.sm_manager.specs.Plans.{plan_fault};
 
 use crate::fault::ManagerFault;
 use crate::manager::Manager;
 use crate::outgoing::Outgoing;
 use crate::pending::Purpose;
 use crate::requests::Requests;
-use crate::seen::heir;
+use crate::seen::{SeenManager, heir};
 use crate::standing::Standing;
-use crate::steps::make_room;
+use crate::steps::{make_room, reserve, where_numbered};
 use attr_codec::Attribute;
+use fact_store::Store;
 use lid_assign::{LidFault, LidMap, assign};
-use sm_state::{Control, SmState};
+use sm_state::{Control, Event, SmState, step};
 use smp_bytes::{Lid, Method};
 use std::collections::VecDeque;
-use subnet_view::EndPort;
+use subnet_view::{EndPort, is_end_port};
 
 impl Manager {
     /// Asks the manager at a LID, the master, whether it is there. The answer or its absence counts once it comes.
@@ -46,23 +48,28 @@ impl Manager {
     }
 
     /// Tells the greatest of the managers that the last sweep saw in Standby or Master, and that win over this one, to take
-    /// over; of equals the first that was seen. It goes to the LID of the port where it was seen. The state stays Master,
-    /// until that manager acknowledges. Plans LIDs, and walks what the sweep saw.
+    /// over; of equals the first that was seen. It goes to the LID of the port where it was seen. The state moves as the
+    /// table of states says: it stays Master, until that manager acknowledges. Plans LIDs, and walks what the sweep saw.
     ///
     /// # Errors
     ///
-    /// `NotMaster`; `Nobody`, where there is no such manager; `NoRoom`; `Nobody`, where the plan gives that port no LID;
+    /// `NotMaster`; `Nobody`, where there is no such manager, or its port is not known to be an end port; `NoRoom`;
     /// `SequenceSpent`; `Memory`.
     pub fn handover(&mut self) -> Result<(), ManagerFault>
-        ensures judged { JudgesAfter result (heir_fault self.old) (handover_fault self.old) }
+        ensures judged { JudgesButFor is_memory result (handover_fault self.old) }
         ensures ok { OnOk result (self.new ≡ handed_over self.old) }
         ensures err { OnErr result (self.new ≡ self.old) }
     {
+        let transition = step(self.standing.state, Event::HandoverWanted);
+        let Some(message) = transition.message else {
+            return Err(ManagerFault::NotMaster);
+        };
         let lid = self.heir_lid()?;
-        make_room(1, 1, &mut self.requests, &mut self.outgoing)?;
+        reserve(1, 1, &mut self.requests, &mut self.outgoing)?;
+        self.standing.move_to(transition.state);
         send_control(
             lid,
-            Control::Handover,
+            message.control(),
             &self.standing,
             &mut self.requests,
             &mut self.outgoing,
@@ -70,25 +77,34 @@ impl Manager {
         Ok(())
     }
 
-    /// The LID of the manager that is to take over.
+    /// The LID of the manager that is to take over, where there is a number for telling it.
     fn heir_lid(&self) -> Result<Lid, ManagerFault>
-        ensures judged { JudgesAfter result (heir_fault self.now) (heir_lid_fault self.now) }
+        ensures judged { JudgesButFor is_memory result (heir_fault self.now) }
         ensures lid { IfOk result (λ lid. heir_lid self.now ≡ Some lid) }
+        ensures number { OnOk result (self.now.counter < 2 ^ 32) }
     {
-        if !self.standing.is_in(SmState::Master) {
-            return Err(ManagerFault::NotMaster);
-        }
-        let Some(heir) = heir(&self.standing.info(), &self.seen) else {
+        let Some(port) = self.heir_port() else {
             return Err(ManagerFault::Nobody);
         };
-        let port = EndPort {
-            node: heir.guid,
-            port: heir.port,
-        };
-        match self.plan_lids()?.lid_of(port) {
-            Some(lid) => Ok(lid),
-            None => Err(ManagerFault::Nobody),
-        }
+        where_numbered(self.planned_lid(port), self.requests.has_numbers(1))
+    }
+
+    /// The end port where that manager was seen.
+    fn heir_port(&self) -> Option<EndPort>
+        ensures { result ≡ heir_port self.now }
+    {
+        let heir = heir(&self.standing.info(), &self.seen)?;
+        port_seen(&self.store, &heir)
+    }
+
+    /// The LID that the plan gives to an end port.
+    fn planned_lid(&self, port: EndPort) -> Result<Lid, ManagerFault>
+        requires { is_end_port (cells_of self.now.store) port.node port.port ≡ true }
+        ensures judged { JudgesButFor is_memory result (plan_fault self.now.planning.lmc (cells_of self.now.store)) }
+        ensures lid { IfOk result (λ lid. lid_of (lids self.now.planning.lmc (cells_of self.now.store)) port ≡ Some lid) }
+    {
+        let lids = self.plan_lids()?;
+        Ok(lids.lid_of(port).unwrap())
     }
 
     /// The LIDs of the plan.
@@ -102,6 +118,19 @@ impl Manager {
             Err(LidFault::Memory) => Err(ManagerFault::Memory),
         }
     }
+}
+
+/// The port where a manager was seen, as far as it is known to be an end port.
+fn port_seen(store: &Store, seen: &SeenManager) -> Option<EndPort>
+    ensures { result ≡ port_seen (cells_of store.now) seen.now }
+{
+    if !is_end_port(store, seen.guid, seen.port) {
+        return None;
+    }
+    Some(EndPort {
+        node: seen.guid,
+        port: seen.port,
+    })
 }
 
 /// A poll goes out to a LID. Takes no memory.

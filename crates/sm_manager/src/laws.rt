@@ -1,4 +1,5 @@
 //! What is so of a manager's whole life.
+ghost use Rattle.sm_manager.specs.Answered.{WrittenIsEachStepDone};
 ghost use Rattle.sm_manager.specs.Calls.{KnowsWhatItTookIn, SameTakenInSamePlan};
 ghost use Rattle.sm_manager.specs.Seen.{HeirLaw};
 
@@ -23,4 +24,11 @@ pub fn same_taken_in_same_plan()
 #[tactic(auto, using(crate::proofs::Heirs::heir_law))]
 pub fn heir_is_the_first_of_the_greatest()
     ensures { HeirLaw }
+{}
+
+/// Where a writing begins after any calls and no other one follows, the plan is written exactly where as many of its steps
+/// that count were answered, and as done, as there are: those of its first three phases. An answer to a step ends it, so none
+/// is counted twice.
+pub fn written_is_each_step_done()
+    ensures { WrittenIsEachStepDone }
 {}

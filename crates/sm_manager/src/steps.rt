@@ -1,10 +1,11 @@
-ghost use Rattle.std.specs.Prelude.{◌≡◌, ◌<◌, ◌+◌, ◌≤◌, true, false, None, Some, IfOk, OnOk, OnErr, length, slice_get};
+ghost use Rattle.std.specs.Prelude.{◌≡◌, ◌<◌, ◌+◌, ◌≤◌, true, false, None, Some, Ok, Option, IfOk, OnOk, OnErr, length, slice_get};
 ghost use Rattle.std.specs.VecDeque.{deque_capacity, deque_len};
 ghost use Rattle.smp_bytes.specs.Judges.{Judges, JudgesButFor};
 ghost use Rattle.sm_manager.specs.declared.pending.Pending.{Pending};
+ghost use Rattle.sm_manager.specs.declared.fault.ManagerFault.{ManagerFault as Refusal};
 ghost use Rattle.sm_manager.specs.Fault.{is_memory};
 ghost use Rattle.sm_manager.specs.Packets.{unless_spent};
-ghost use Rattle.sm_manager.specs.Plans.{JudgesAfter, number_fault, planned_fault, writing_fault};
+ghost use Rattle.sm_manager.specs.Plans.{number_fault, or_else, unless_numbers, writing_fault};
 ghost use Rattle.sm_manager.specs.Requests.{AreNumbered, is_step};
 ghost use Rattle.sm_manager.specs.Writing.{count_after, is_written, passed, phases_by, step_over, write_fault, writing_begun};
 
@@ -13,6 +14,7 @@ use crate::manager::Manager;
 use crate::outgoing::Outgoing;
 use crate::requests::Requests;
 use crate::writing::Writing;
+use plan_steps::{most_steps, phases};
 use sm_state::SmState;
 use std::alloc::AllocError;
 use std::collections::VecDeque;
@@ -25,15 +27,16 @@ impl Manager {
     ///
     /// # Errors
     ///
-    /// `NotMaster`, `SweepRunning`, `WritingRunning`, `NoRoom`, `SequenceSpent` and `Memory`.
+    /// `NotMaster`, `SweepRunning`, `WritingRunning`, `NoRoom`, `SequenceSpent`, where there are fewer numbers than a phase
+    /// could need, and `Memory`, in this order.
     pub fn write_steps(&mut self) -> Result<(), ManagerFault>
-        ensures judged { JudgesAfter result (planned_fault self.old) (writing_fault self.old) }
+        ensures judged { JudgesButFor is_memory result (writing_fault self.old) }
         ensures ok { OnOk result (self.new ≡ writing_begun self.old) }
         ensures err { OnErr result (self.new ≡ self.old) }
     {
         let mut writing = self.planned()?;
         let count = writing.next_count();
-        make_room(count, count, &mut self.requests, &mut self.outgoing)?;
+        reserve(count, count, &mut self.requests, &mut self.outgoing)?;
         writing.send_next(&mut self.requests, &mut self.outgoing);
         self.writing = Some(writing);
         Ok(())
@@ -51,13 +54,14 @@ impl Manager {
 
     /// The writing of the plan of what is known, of which no step was sent.
     fn planned(&self) -> Result<Writing, ManagerFault>
-        ensures judged { JudgesButFor is_memory result (planned_fault self.now) }
+        ensures judged { JudgesButFor is_memory result (writing_fault self.now) }
         ensures writing { IfOk result (λ w. w
             ≡ record { later = passed (phases_by self.now self.now.sweep); has_failed = false }) }
     {
         let sweep = self.survey()?;
-        let plan = self.plan()?;
-        let phases = plan_steps::phases(
+        let are_numbers = self.requests.has_numbers(most_steps(&self.store));
+        let plan = where_numbered(self.plan(), are_numbers)?;
+        let phases = phases(
             self.alloc,
             &plan,
             &self.store,
@@ -126,6 +130,26 @@ impl Manager {
     }
 }
 
+/// What was found, where there are numbers for what follows. Another refusal comes first, and want of memory last.
+pub(crate) fn where_numbered<T: Drop>(
+    found: Result<T, ManagerFault>,
+    are_numbers: bool,
+) -> Result<T, ManagerFault>
+    ensures judged { (why : Option Refusal) → JudgesButFor is_memory found why
+        → JudgesButFor is_memory result (or_else why (unless_numbers are_numbers)) }
+    ensures found { IfOk result (λ it. found ≡ Ok it) }
+    ensures numbers { OnOk result (are_numbers ≡ true) }
+{
+    if are_numbers {
+        return found;
+    }
+    match found {
+        Ok(_) => Err(ManagerFault::SequenceSpent),
+        Err(ManagerFault::Memory) => Err(ManagerFault::SequenceSpent),
+        Err(fault) => Err(fault),
+    }
+}
+
 /// Numbers and memory for so many requests more, and memory for so many packets.
 pub(crate) fn make_room(
     count: usize,
@@ -145,7 +169,23 @@ pub(crate) fn make_room(
     if !requests.has_numbers(count) {
         return Err(ManagerFault::SequenceSpent);
     }
-    requests.reserve(count)?;
-    outgoing.reserve(packets)?;
+    reserve(count, packets, requests, outgoing)?;
     Ok(())
+}
+
+/// Memory for so many requests more, and for so many packets.
+pub(crate) fn reserve(
+    count: usize,
+    packets: usize,
+    requests: &mut Requests,
+    outgoing: &mut VecDeque<Outgoing>,
+) -> Result<(), AllocError>
+    ensures counter { requests.new.counter ≡ requests.old.counter }
+    ensures pending { requests.new.pending ≡ requests.old.pending }
+    ensures outgoing { outgoing.new.items ≡ outgoing.old.items }
+    ensures room { OnOk result (count ≤ requests.new.room) }
+    ensures more { OnOk result (deque_len outgoing.new + packets ≤ deque_capacity outgoing.new) }
+{
+    requests.reserve(count)?;
+    outgoing.reserve(packets)
 }

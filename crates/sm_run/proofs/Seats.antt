@@ -15,7 +15,6 @@ use Rattle.smp_bytes.specs.declared.cable.NodePort.{NodePort}
 use Rattle.fabric_sim.specs.Simulation.{Simulation, is_seat_at}
 use Rattle.sm_manager.specs.Fault.{is_memory}
 use Rattle.sm_manager.specs.Manager.{Manager, outstanding}
-use Rattle.sm_manager.specs.Plans.{JudgesAfter}
 use Rattle.sm_manager.specs.declared.fault.ManagerFault.{ManagerFault}
 use Rattle.sm_manager.specs.declared.fault.ManagerFault.TheVariants as manager
 use Rattle.sm_run.specs.Commands.{given_up, seat_at, timeout_run}
@@ -58,11 +57,6 @@ memory_is _ e = absurd (cc)
 pub but_for_memory : (fault : ManagerFault) (why : Option ManagerFault) → JudgesButFor is_memory (failed fault) why
     → is_memory fault ≡ false → why ≡ Some fault
 but_for_memory fault why judged e = judged ∙ ap (λ b. if b then None else Some fault) e
-
-pub but_after_memory : (fault : ManagerFault) (first why : Option ManagerFault) → JudgesAfter (failed fault) first why
-    → is_memory fault ≡ false → why ≡ Some fault
-but_after_memory fault first why judged e =
-    sym (ap (λ b. if b then first else why) e) ∙ judged ∙ ap (λ b. if b then None else Some fault) e
 
 -- memory is wanting, or all that a call does is the line of its refusal
 pub Refuses : {S : Type 0} → ManagerFault → S → Ran S → Type 0

@@ -23,7 +23,6 @@ use Rattle.lft_blocks.specs.Plan.{PlanValue}
 use Rattle.subnet_view.proofs.Apart.{found_there}
 use Rattle.subnet_view.proofs.Members.{contains_cases, contains_none}
 use Rattle.sm_state.specs.declared.control.Control.{Control}
-use Rattle.sm_state.specs.declared.control.Control.TheVariants.{Handover}
 use Rattle.sm_state.specs.declared.event.Message.{Message}
 use Rattle.sm_state.specs.declared.transition.Transition.{Transition}
 use Rattle.sm_state.specs.Controls.{control_of_message, modifier_of_control}
@@ -34,7 +33,7 @@ use Rattle.sm_manager.specs.declared.pending.Pending.{Pending}
 use Rattle.sm_manager.specs.declared.pending.Purpose.{Purpose}
 use Rattle.sm_manager.specs.declared.pending.Purpose.TheVariants as purpose
 use Rattle.sm_manager.specs.declared.standing.Standing.{Standing}
-use Rattle.sm_manager.specs.Election.{asked, control_sent, handed_over, handed_to, handover_fault, heir_lid, poll_fault, poll_sent, told}
+use Rattle.sm_manager.specs.Election.{asked, control_sent, handed_over, handed_to, handover_fault, handover_move, heir_lid, poll_fault, poll_sent, told}
 use Rattle.sm_manager.specs.Manager.{Manager}
 use Rattle.sm_manager.specs.Packets.{Called, answers, gave_up, is_for_sweep, is_info_request, packet_taken, pending_for, request_answered}
 use Rattle.sm_manager.specs.Packets.{request_gave_up, request_over, took, unless_spent}
@@ -200,6 +199,22 @@ module _ (start : Simulation) (seat : NodePort) (plan : PlanValue) (g : Ground s
   tells m side once (Some lid) None = stays m side once
   tells m side once (Some lid) (Some message) = controls m side once lid (control_of_message message)
 
+  -- it is in another state
+  moves : (m : Manager) → SweepSide start seat old m → AreOnce m.counter m.pending → (standing : Standing) → Beside m (record m { standing = standing })
+  unfolding Beside
+  moves m side once standing =
+      record {
+        writing = refl;
+        steps_stay = λ q among is. among;
+        steps_were = λ q among is. among;
+        upto = omega arith;
+        once = once;
+        more = [];
+        outgoing = sym (append-nil m.outgoing);
+        own = λ c all. tt;
+        side = record { port = side.port; lmc = side.lmc; sweep = side.sweep; knows = side.knows };
+      }
+
   -- requests of other managers -----------------------------------------------------------------------------
 
   module _ (which : ℕ) (h : Handed) (there : slice_get handed which ≡ Some h) (here : is_same_port h.at seat ≡ true)
@@ -253,28 +268,12 @@ module _ (start : Simulation) (seat : NodePort) (plan : PlanValue) (g : Ground s
           }
 
     module _ (m : Manager) (side : SweepSide start seat old m) (once : AreOnce m.counter m.pending) (lid : Option ℕ) where
-      -- in another state
-      moved : (standing : Standing) → Beside m (record m { standing = standing })
-      unfolding Beside
-      moved standing =
-          record {
-            writing = refl;
-            steps_stay = λ q among is. among;
-            steps_were = λ q among is. among;
-            upto = omega arith;
-            once = once;
-            more = [];
-            outgoing = sym (append-nil m.outgoing);
-            own = λ c all. tt;
-            side = record { port = side.port; lmc = side.lmc; sweep = side.sweep; knows = side.knows };
-          }
-
       moves_on : (move : Transition) → Beside m (moved_on m h.packet.bytes lid move)
       unfolding Beside
       moves_on move =
           let standing = moved_to move.state m.standing in
           let in_state = record m { standing = standing } in
-          let one = moved standing in
+          let one = moves m side once standing in
           let small : status_of move < 2 ^ 15 = cond_both move.is_refused _ _ (λ (n : ℕ). n < 2 ^ 15) (λ _. omega arith) (λ _. omega arith) in
           let two = answers_it in_state one.side one.once lid (status_of move) small in
           let answered = answering in_state h.packet.bytes lid (status_of move) in
@@ -362,5 +361,7 @@ module _ (start : Simulation) (seat : NodePort) (plan : PlanValue) (g : Ground s
         (λ _. stays m side once)
       where
         to_heir : (lid : Option ℕ) → BesideCall start seat plan old handed m (handed_to m lid)
-        to_heir None = stays m side once
-        to_heir (Some lid) = controls m side once lid Handover
+        to_heir lid =
+            let standing = moved_to (handover_move m).state m.standing in
+            let one = moves m side once standing in
+            both m (record m { standing = standing }) _ one (tells (record m { standing = standing }) one.side one.once lid (handover_move m).message)

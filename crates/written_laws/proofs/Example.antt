@@ -56,6 +56,7 @@ use Rattle.sweep.specs.Sweep.{Sweep, started}
 use Rattle.sm_manager.specs.Manager.{begin_fault, new_manager, sweep_begun, with_sweep}
 use Rattle.sm_manager.specs.Planning.{Planning}
 use Rattle.sm_manager.specs.declared.fault.ManagerFault.{ManagerFault}
+use Rattle.plan_steps.specs.Bound.{most_steps}
 use Rattle.sm_manager.specs.Plans.{number_fault, or_else, plan_fault, writing_fault}
 use Rattle.sm_manager.specs.Standing.{active_once_more}
 use Rattle.sm_manager.specs.Writing.{begun_with, is_written, next_phase, write_fault_with, writing_begun}
@@ -236,8 +237,8 @@ writing_by phases = record swept { manager = begun_with swept.manager phases }
 
 fault_from : Cells → Option ManagerFault
 fault_from known_cells =
-    or_else (or_else (write_fault_with swept.manager swept.manager.sweep) (plan_fault 0 known_cells))
-    (number_fault (begun_with swept.manager (phases_from known_cells)).counter)
+    or_else (write_fault_with swept.manager swept.manager.sweep)
+    (or_else (plan_fault 0 known_cells) (number_fault (swept.manager.counter + most_steps known_cells)))
 
 may_write : writing_fault swept.manager ≡ None
 unfolding fault_from joined fresh_agent injected delivered outcome_of answered get_of set_of changed_port with_bytes
@@ -262,7 +263,7 @@ is_written_then = refl
 -- each Set that an agent takes is one of its own ------------------------------------------------------------------
 
 -- what a delivery brings to an agent is answered
-abbrev is_answered : Result Delivered FabricFault → Bool
+abbrev pub is_answered : Result Delivered FabricFault → Bool
 is_answered (Ok (Answered serial)) = true
 is_answered (Ok (Moved serial)) = false
 is_answered (Ok (ToManager at packet)) = false
@@ -270,17 +271,17 @@ is_answered (Ok (Discarded reason)) = false
 is_answered (Err why) = false
 
 -- the packet that is delivered
-abbrev IsOwnAt : OwnSets → Option Flight → Type 0
+abbrev pub IsOwnAt : OwnSets → Option Flight → Type 0
 IsOwnAt own None = Unit {0}
 IsOwnAt own (Some flight) = own (port_of flight.place) flight.packet.bytes
 
 module _ (plan : PlanValue) (own : OwnSets) (s : Simulation) (serial : ℕ) where
   -- nothing is taken
-  taken_by_none : is_answered (delivered s serial).result ≡ false → KeepsPlan plan own s (Deliver serial)
+  pub taken_by_none : is_answered (delivered s serial).result ≡ false → KeepsPlan plan own s (Deliver serial)
   taken_by_none none at a packet takes = absurd (cc (sym none ∙ ap is_answered takes.result))
 
   -- what is taken is its own
-  taken_as_own : IsOwnAt own (flight_with s.flights serial) → KeepsPlan plan own s (Deliver serial)
+  pub taken_as_own : IsOwnAt own (flight_with s.flights serial) → KeepsPlan plan own s (Deliver serial)
   taken_as_own is at a packet takes =
       let its : own (port_of takes.flight.place) takes.flight.packet.bytes = subst (IsOwnAt own) takes.waits is in
       inl (subst (λ p. own p packet) takes.place (subst (own (port_of takes.flight.place)) takes.bytes its))
@@ -326,7 +327,7 @@ module _ (t : Step) (number : ℕ) (sends : IsSendable t) (short : length t.path
       (directed_reads_back set t.attribute t.modifier number t.path t.payload
       (fits_step (record { number = number; counts = true; step = t }) sends small) short).0
 
-  asks_for : AsksFor t (set_packet number t)
+  pub asks_for : AsksFor t (set_packet number t)
   asks_for = record { method = reads.method; attribute = reads.attribute_id; modifier = reads.attribute_modifier; payload = reads.attribute_data }
 
   asks_on_its_way : AsksFor t (pointed 1 (set_packet number t))

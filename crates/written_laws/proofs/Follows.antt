@@ -29,7 +29,7 @@ use Rattle.sm_manager.specs.declared.outgoing.Outgoing.{Outgoing}
 use Rattle.sm_manager.specs.declared.pending.Pending.{Pending}
 use Rattle.sm_manager.specs.declared.pending.Purpose.{Purpose}
 use Rattle.sm_manager.specs.declared.pending.Purpose.TheVariants as purpose
-use Rattle.sm_manager.specs.Election.{handed_to, handover_fault, heir_lid, poll_fault, told}
+use Rattle.sm_manager.specs.Election.{handed_to, handover_fault, handover_move, heir_lid, poll_fault, told}
 use Rattle.sm_manager.specs.Manager.{Manager, Writing, begin_fault}
 use Rattle.sm_manager.specs.Packets.{Called, answered_by, gave_up, is_for_sweep, is_info_request, packet_taken, pending_for}
 use Rattle.sm_manager.specs.Packets.{request_answered, request_gave_up, request_over}
@@ -98,8 +98,9 @@ served_keeps m bytes lid =
         record { sweep = keeps.sweep; store = keeps.store }
 
 pub handed_keeps : (m : Manager) (lid : Option ℕ) → KeepsSweep m (handed_to m lid)
-handed_keeps m None = kept m
-handed_keeps m (Some lid) = record { sweep = refl; store = refl }
+handed_keeps m lid =
+    let keeps = told_keeps (record m { standing = moved_to (handover_move m).state m.standing }) lid (handover_move m).message in
+    record { sweep = keeps.sweep; store = keeps.store }
 
 -- a sweep keeps its generation ----------------------------------------------------------------------------------
 

@@ -31,7 +31,7 @@ use Rattle.sweep.specs.Sweep.{Sweep}
 use Rattle.sm_laws.specs.Truth.{HasNode}
 use Rattle.written_laws.specs.Written.{IsReached, IsHeldWhere}
 
-switch_is : (kind : NodeType) → is_switch kind ≡ true → kind ≡ Switch
+pub switch_is : (kind : NodeType) → is_switch kind ≡ true → kind ≡ Switch
 switch_is ChannelAdapter e = absurd (cc)
 switch_is Switch e = refl
 switch_is Router e = absurd (cc)
@@ -45,7 +45,7 @@ module _ (rule : RuleValue) (lmc : ℕ) (facts : Facts) where
   }
 
   -- the switches of the plan are the usable ones
-  to_switches : (guid : ℕ) → Contains (switches (cells_of facts)) guid → Contains (switches_of (plan_of rule lmc (cells_of facts))) guid
+  pub to_switches : (guid : ℕ) → Contains (switches (cells_of facts)) guid → Contains (switches_of (plan_of rule lmc (cells_of facts))) guid
   unfolding table_of
   to_switches guid there =
       contains_map (λ (t : SwitchTable). t.guid) (plan_of rule lmc (cells_of facts)).tables (table_of guid)

@@ -1,5 +1,5 @@
 -- A manager that was just made is at rest, and begins a sweep before any writing.
-use Rattle.std.proofs.Common.{◌≡◌, ◌⊎◌, inl, inr, ℕ, ◌^◌, cond, List, [], ◌∷◌, refl, sym, ap, ◌∙◌, subst}
+use Rattle.std.proofs.Common.{◌≡◌, ◌+◌, ◌⊎◌, inl, inr, ℕ, ◌^◌, cond, List, [], ◌∷◌, refl, sym, ap, ◌∙◌, subst}
 use Rattle.std.proofs.lemmas.Bool.{cond_both}
 use Rattle.std.specs.Prelude.{Option, Some, None, is_none, nat_le, slice_get}
 use Rattle.smp_bytes.specs.declared.smp_fault.SmpFault.{SmpFault}
@@ -12,6 +12,7 @@ use Rattle.sm_manager.specs.Election.{handover_fault, heir_lid, poll_fault}
 use Rattle.sm_manager.specs.Manager.{Manager, begin_fault, sweep_begun}
 use Rattle.sm_manager.specs.Packets.{Called, gave_up, is_for_sweep, is_info_request, packet_taken, pending_for, request_answered, request_gave_up}
 use Rattle.sm_manager.specs.Packets.{sweep_answered, sweep_gave_up, took}
+use Rattle.plan_steps.specs.Bound.{most_steps}
 use Rattle.sm_manager.specs.Plans.{number_fault, or_else, plan_fault, writing_fault}
 use Rattle.fact_store.specs.View.{cells_of}
 use Rattle.sm_manager.specs.Requests.{with_number}
@@ -96,7 +97,7 @@ goes_on w HandOver never =
 writes_nothing : (w : Managing) (event : ManagerEvent) → NeverSwept w → BeginsNoWriting w event
 writes_nothing w Write never =
     let m = w.manager in
-    λ none. cc (sym (ap (λ o. or_else (or_else (write_fault_with m o) (plan_fault w.manager.planning.lmc (cells_of m.store))) (number_fault (writing_begun m).counter)) never) ∙ none)
+    λ none. cc (sym (ap (λ o. or_else (write_fault_with m o) (or_else (plan_fault m.planning.lmc (cells_of m.store)) (number_fault (m.counter + most_steps (cells_of m.store))))) never) ∙ none)
 writes_nothing w (Around event) never = tt
 writes_nothing w Begin never = tt
 writes_nothing w Take never = tt

@@ -164,7 +164,7 @@ set_other (x ∷ agents) zero (suc k) to other = refl
 set_other (x ∷ agents) (suc place) zero to other = refl
 set_other (x ∷ agents) (suc place) (suc k) to other = set_other agents place k to (λ e. other (ap suc e))
 
-changed_other : (agents : List Agent) (place k : ℕ) (change : Agent → Agent) → place ≢ k → slice_get (with_changed agents place change) k ≡ slice_get agents k
+pub changed_other : (agents : List Agent) (place k : ℕ) (change : Agent → Agent) → place ≢ k → slice_get (with_changed agents place change) k ≡ slice_get agents k
 changed_other agents place k change other = by_agent (slice_get agents place)
   where
     by_agent : (m : Option Agent) → slice_get (option_map_or (λ a. slice_set agents place (change a)) m agents) k ≡ slice_get agents k
@@ -201,7 +201,7 @@ module _ (start s : Simulation) (seat : NodePort) (plan : PlanValue) (along : Is
     at : NodePort
     at = port_of flight.place
 
-    upto : (a : Agent) → agent_at s (port_of flight.place).node ≡ Some a → (port_of flight.place).port ≤ a.node.ports
+    pub upto : (a : Agent) → agent_at s (port_of flight.place).node ≡ Some a → (port_of flight.place).port ≤ a.node.ports
     upto a there =
         let parts = and_parts (nat_le 1 (port_of flight.place).port)
         (nat_le (port_of flight.place).port (port_count s (port_of flight.place).node)) asked.port in
@@ -251,7 +251,7 @@ module _ (start s : Simulation) (seat : NodePort) (plan : PlanValue) (along : Is
 
     -- what was done stays done
     module _ (keeps : (at : NodePort) (a : Agent) (packet : List ℕ) → TakesSet s n at a packet → Carries plan a at.port packet) where
-      carries : (b : Agent) → agent_at s (port_of flight.place).node ≡ Some b → number_in method request ≡ set
+      pub carries : (b : Agent) → agent_at s (port_of flight.place).node ≡ Some b → number_in method request ≡ set
           → status (answered b request (port_of flight.place).port).packet ≡ done → Carries plan b (port_of flight.place).port request
       carries b there sets taken =
           let is_agent : IsAgent b = agent_there s.agents (port_of flight.place).node b along.agents there in

@@ -26,8 +26,9 @@ use Rattle.sm_manager.specs.declared.fault.ManagerFault.{ManagerFault}
 use Rattle.sm_manager.specs.declared.pending.Pending.{Pending}
 use Rattle.sm_manager.specs.Requests.{is_step, no_step_waits}
 use Rattle.sm_manager.specs.Manager.{Manager}
-use Rattle.sm_manager.specs.Plans.{number_fault, or_else, plan_fault, planned_fault, room_fault, writing_fault}
+use Rattle.sm_manager.specs.Plans.{writing_fault}
 use Rattle.sm_manager.specs.Standing.{is_in}
+use Rattle.sm_manager.proofs.Begun.{first_phase_fits, may_begin}
 use Rattle.sm_manager.specs.Writing.{write_fault, write_fault_with, writing_begun}
 use Rattle.sm_state.specs.declared.state.SmState.TheVariants.{Master}
 use Rattle.written_laws.proofs.AgentSets.{IsOfPlan}
@@ -52,10 +53,6 @@ use Rattle.lft_blocks.specs.Plan.{block_at}
 
 -- when it begins -----------------------------------------------------------------------------------
 
-or_none : (a b : Option ManagerFault) → or_else a b ≡ None → (a ≡ None) × (b ≡ None)
-or_none None b e = (refl, e)
-or_none (Some x) b e = absurd (cc)
-
 pub record MayWrite (m : Manager) : Type 0 where
   pub no_step : (p : Pending) → Contains m.pending p → is_step p ≡ true → ⊥
   pub sweep_done : (s : Sweep) → m.sweep ≡ Some s → is_done s ≡ true
@@ -64,14 +61,13 @@ pub record MayWrite (m : Manager) : Type 0 where
 
 pub may_write : (m : Manager) → writing_fault m ≡ None → MayWrite m
 may_write m e =
-    let outer = or_none (planned_fault m) (number_fault (writing_begun m).counter) e in
-    let inner = or_none (write_fault m) (plan_fault m.planning.lmc (cells_of m.store)) outer.0 in
+    let begins = may_begin m e in
     record {
-      no_step = λ p. no_step_there m.pending p (nothing_waits m.sweep inner.0);
+      no_step = λ p. no_step_there m.pending p (nothing_waits m.sweep begins.may);
       sweep_done = λ s is. sweep_ended s
-          (ap (write_fault_with m) (sym is) ∙ inner.0);
-      has_room = room_there inner.1;
-      few = numbers_left outer.1;
+          (ap (write_fault_with m) (sym is) ∙ begins.may);
+      has_room = begins.has_room;
+      few = first_phase_fits m e;
     }
   where
     third : (a b c : Bool) (u v w : ManagerFault) → cond a (Some u) (cond b (Some v) (cond c (Some w) None)) ≡ None → c ≡ false
@@ -96,25 +92,6 @@ may_write m e =
     nothing_waits None h = absurd (cc)
     nothing_waits (Some s) h = from_not (no_step_waits m.pending)
         (third (not (is_in Master m.standing)) (not (is_done s)) (not (no_step_waits m.pending)) _ _ _ h)
-
-    chosen : (b : Bool) (w : ManagerFault) → cond b (Some w) None ≡ None → b ≡ false
-    chosen true w h = absurd (cc)
-    chosen false w h = refl
-
-    no_why : (why : Option NoRoom) → room_fault why ≡ None → why ≡ None
-    no_why None h = refl
-    no_why (Some why) h = absurd (cc)
-
-    no_room_there : (b : Bool) (why : NoRoom) → cond b (Some why) None ≡ None → b ≡ false
-    no_room_there true why h = absurd (cc)
-    no_room_there false why h = refl
-
-    room_there : plan_fault m.planning.lmc (cells_of m.store) ≡ None → ¬ (IsNoRoom m.planning.lmc (cells_of m.store))
-    room_there h none =
-        absurd (cc (sym none ∙ no_room_there (is_no_room m.planning.lmc (cells_of m.store)) _ (no_why (no_room m.planning.lmc (cells_of m.store)) h)))
-
-    numbers_left : number_fault (writing_begun m).counter ≡ None → (writing_begun m).counter ≤ 2 ^ 32
-    numbers_left h = ltb-false _ _ (chosen (nat_lt (2 ^ 32) (writing_begun m).counter) _ h)
 
 -- its steps ----------------------------------------------------------------------------------------
 

@@ -17,7 +17,7 @@ pub fn new_managers_sweep_first()
 /// Once a plan is written, each end port and each usable switch of the plan that the last sweep
 /// before the writing came to holds its LID, its blocks and the greatest LID. So it is on every
 /// fabric whose nodes have different GUIDs and agents in any state, whatever other managers send
-/// from their seats, whatever is lost, copied and reordered, however often or late a packet of the
+/// from their seats of what `sm_laws::laws::answers_tell` names, whatever is lost, copied and reordered, however often or late a packet of the
 /// manager is sent or given to it, and whatever is asked of the manager meanwhile, as long as no
 /// cable changes, no other writing of it begins and each Set that an agent takes from the writing's
 /// first step on, unless it is one of the writing's own, carries the plan's values.

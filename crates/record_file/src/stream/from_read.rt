@@ -4,7 +4,9 @@ use super::interruption::is_interruption;
 use super::source::{ReadError, Source};
 use std::io::Read;
 
-/// A source over any reader. A failed read is remembered: every later call fails too.
+/// A source over any reader. A failed read is remembered: every later call fails too. No contract of a
+/// reader says when its calls fail, so no clause says of which errors this one does: an `Interrupted` one is
+/// no failure, and each other one is.
 #[derive(Drop)]
 pub struct FromRead<R> {
     reader: R,

@@ -8,7 +8,9 @@ use std::io::Write;
 /// As many interrupted tries of one call count as a failure.
 const MOST_INTERRUPTIONS: u64 = 1 << 40;
 
-/// A sink over any writer. A failed write is remembered: every later call fails too.
+/// A sink over any writer. A failed write is remembered: every later call fails too. No contract of a
+/// writer says when its calls fail, so no clause says of which errors this one does: an `Interrupted` call is
+/// made again, and each other error is a failure.
 #[derive(Drop)]
 pub struct ToWrite<W> {
     writer: W,

@@ -14,5 +14,5 @@ loop-port-preserved c =
 
 pub returns : goal.returns
 returns c =
-    let whole : c.loop-port.port ≡ 256 = omega arith in
+    let whole : c.loop-port.port ≡ 255 = omega arith in
     c.loop-port.invariant ∙ ap (λ (n : ℕ). map (far_of (cells_of c.args.wires.now) c.args.node) (range_with_len 0 n)) whole

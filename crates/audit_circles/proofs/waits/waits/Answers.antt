@@ -1,6 +1,6 @@
 -- A LID more, and all of them.
-use Rattle.std.proofs.Common.{◌≡◌, ◌*◌, List, ℕ, length, ap, sym, ◌∙◌, subst, arith}
-use Rattle.std.specs.Prelude.{Option, slice_index_or}
+use Rattle.std.proofs.Common.{◌≡◌, ◌*◌, List, length, sym, subst, arith}
+use Rattle.std.specs.Prelude.{Option}
 use Rattle.port_graph.specs.declared.exit.Exit.{Exit}
 use Rattle.fact_store.specs.View.{cells_of}
 use Rattle.subnet_view.specs.Reading.{switches}
@@ -9,8 +9,8 @@ use Rattle.audit_circles.specs.Waiting.{IsAdded}
 use Rattle.audit_circles.proofs.Waiting.{some_is, none_so_far, none_added, is_added, more, all}
 use Rattle.audit_circles.proofs.waits.waits.Goals as goal
 
-pub loop-line-init : goal.loop-line-init
-loop-line-init c =
+pub loop-below-init : goal.loop-below-init
+loop-below-init c =
     let cells = cells_of c.args.network.now.facts in
     let product = some_is _ c.checked_mul.result c.in_ok-count.count _ c.checked_mul.ensures c.in_ok-count.ensures.ok_part in
     let all_switches = c.switch_count.ensures in
@@ -21,30 +21,25 @@ loop-line-init c =
       added = subst (λ (xs : List (Option Exit)). IsAdded xs c.in_ok-waits.waits) (sym c.new-before.ensures.items) (none_added c.in_ok-waits.waits);
     }
 
-pub loop-line-preserved : goal.loop-line-preserved
-loop-line-preserved c =
+pub loop-below-preserved : goal.loop-below-preserved
+loop-below-preserved c =
     let cells = cells_of c.args.network.now.facts in
     let held = c.args.network.now.held in
-    let line = c.line-item.result in
     let column = c.in_ok-column.column.items in
-    let with_it = subst (λ (xs : List (Option Exit)). IsWithColumn c.loop-line.waits xs c.add_after.new.waits)
-    c.deref-in-loop-line.ensures.value c.in_ok-add_after.ensures in
+    let with_it = subst (λ (xs : List (Option Exit)). IsWithColumn c.loop-below.waits xs c.add_after.new.waits)
+    c.deref-in-loop-below.ensures.value c.in_ok-add_after.ensures in
     record {
-      so_far = more cells held c.loop-line.blocks.number c.in_ok-blocks-2.blocks.number c.loop-line.line-index c.loop-line.blocks.rows.items
-          c.in_ok-blocks-2.blocks.rows.items c.loop-line.waits c.add_after.new.waits line column c.loop-line.invariant.so_far c.in_ok-blocks-2.ensures.0
-          (c.line-item.is ∙ ap (λ ls. slice_index_or ls c.loop-line.line-index line) c.lids-line-items.ensures)
-          (let less = c.loop-line-test.true in let e = ap length c.lids-line-items.ensures in omega arith)
-          c.in_ok-column.ensures with_it;
-      added = is_added column c.loop-line.waits c.add_after.new.waits with_it;
+      so_far = more cells held c.loop-below.blocks.number c.in_ok-blocks-2.blocks.number c.loop-below.below c.new-lid.result c.loop-below.blocks.rows.items
+          c.in_ok-blocks-2.blocks.rows.items c.loop-below.waits c.add_after.new.waits column c.loop-below.invariant.so_far c.in_ok-blocks-2.ensures.0
+          c.new-lid.ensures c.in_ok-column.ensures with_it;
+      added = is_added column c.loop-below.waits c.add_after.new.waits with_it;
     }
 
 pub add_after-requires-clause-added : goal.add_after-requires-clause-added
 add_after-requires-clause-added c =
-    subst (λ (xs : List (Option Exit)). IsAdded xs c.loop-line.waits) (sym c.deref.ensures.value) c.loop-line.invariant.added
+    subst (λ (xs : List (Option Exit)). IsAdded xs c.loop-below.waits) (sym c.deref.ensures.value) c.loop-below.invariant.added
 
 pub returns : goal.returns
 returns c =
-    let e = ap length c.lids-line-items.ensures in
-    let past = c.loop-line-test.false in
-    all (cells_of c.args.network.now.facts) c.args.network.now.held c.loop-line.blocks.number c.loop-line.line-index c.loop-line.blocks.rows.items
-    c.loop-line.waits c.loop-line.invariant.so_far (omega arith)
+    all (cells_of c.args.network.now.facts) c.args.network.now.held c.loop-below.blocks.number c.loop-below.below c.loop-below.blocks.rows.items
+    c.loop-below.waits c.loop-below.invariant.so_far (omega arith)

@@ -4,8 +4,8 @@ use Rattle.audit_circles.specs.Waiting.{IsAdded}
 use Rattle.audit_circles.proofs.Waiting.{SoFar}
 use Rattle.audit_circles.proofs.waits.waits.Given as goal
 
-abbrev pub invariant-loop-line : goal.invariant-loop-line
-invariant-loop-line l = record {
-  so_far : SoFar l.line-index (cells_of l.network.facts) l.network.held l.blocks.number l.blocks.rows.items l.waits;
+abbrev pub invariant-loop-below : goal.invariant-loop-below
+invariant-loop-below l = record {
+  so_far : SoFar l.below (cells_of l.network.facts) l.network.held l.blocks.number l.blocks.rows.items l.waits;
   added : IsAdded l.before.items l.waits;
 }

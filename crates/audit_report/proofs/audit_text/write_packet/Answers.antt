@@ -1,16 +1,12 @@
 -- Its parts in turn.
-use Rattle.std.proofs.Common.{Result, Ok, Err, refl}
-use Rattle.std.specs.Prelude.{IsErr, OnErr, codes}
+use Rattle.std.specs.Prelude.{codes}
 use Rattle.std.proofs.lemmas.Result.{on_ok_weaker}
 use Rattle.fact_store.specs.View.{cells_of}
-use Rattle.record_file.specs.declared.stream.sink.WriteFault.{WriteFault}
 use Rattle.record_file.proofs.Writing.{appends_then}
+use Rattle.audit_report.proofs.Written.{on_err}
 use Rattle.audit_report.specs.AuditText.{end_text, sent_text}
+use Rattle.audit_report.proofs.Written.{on_err}
 use Rattle.audit_report.proofs.audit_text.write_packet.Goals as goal
-
-on_err : (r : Result (Unit {0}) WriteFault) (P : Type 0) → (IsErr r → P) → OnErr r P
-on_err (Ok x) P f = tt
-on_err (Err e) P f = f refl
 
 pub returns : goal.returns
 returns g c =

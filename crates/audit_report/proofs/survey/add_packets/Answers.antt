@@ -11,7 +11,7 @@ use Rattle.audit_report.specs.Seats.{are_joined, seat_of}
 use Rattle.audit_report.proofs.Seated.{seat_there}
 use Rattle.audit_report.specs.Packets.{sent_to}
 use Rattle.audit_report.proofs.Counted.{tally_arrived}
-use Rattle.audit_report.proofs.Surveyed.{AreCounted, all_counted, all_sent, one_counted, none_more, end_there, sent_arrive}
+use Rattle.audit_report.proofs.Surveyed.{AreCounted, adapters_sent, all_counted, all_sent, one_counted, none_more, end_there, sent_arrive}
 use Rattle.audit_report.proofs.survey.add_packets.Goals as goal
 use Rattle.audit_report.proofs.survey.add_packets.Goals.{then-is_joined_to+in_ok-add, else-is_joined_to}
 
@@ -45,13 +45,15 @@ returns-in-None c =
     let cells = cells_of c.args.network.now.facts in
     let held = c.args.network.now.held in
     let line = c.args.line.now in
-    let count = c.joined_count.result in
+    let count = c.joined_count-count.result in
+    let between = c.joined_adapters-between.result in
     let none = sym c.in-None.ensures in
     on_ok_weaker c.add_arrived.result
     (λ w. λ packets before.
-    tally_arrived packets (sent_to cells held line) c.args.tally.now c.add_arrived.new.self count before
+    tally_arrived packets (sent_to cells held line) c.args.tally.now c.add_arrived.new.self count between before
     (sent_arrive cells held line c.in_ok-ends.ends.port c.in_ok-ends.ends.ends c.in_ok-ends.ensures.0 c.in_ok-ends.ensures.1 none)
-    (all_sent cells held line c.args.owner.now c.args.seats.now count c.requires.owner c.requires.seats c.joined_count.ensures) w)
+    (all_sent cells held line c.args.owner.now c.args.seats.now count c.requires.owner c.requires.seats c.joined_count-count.ensures)
+    (adapters_sent cells held line c.args.owner.now c.args.seats.now between c.requires.owner c.requires.seats c.joined_adapters-between.ensures) w)
     c.add_arrived.ensures
 
 pub returns : goal.returns

@@ -4,7 +4,7 @@ use Rattle.std.specs.Prelude.{not}
 use Rattle.audit_report.specs.Unmatched.{is_held}
 use Rattle.audit_report.proofs.Firsts.{told_more, told_same, told_all}
 use Rattle.audit_report.proofs.unmatched.tableless.Goals as goal
-use Rattle.audit_report.proofs.unmatched.tableless.Goals.{then-not-is_held+in_ok-note, else-not-is_held}
+use Rattle.audit_report.proofs.unmatched.tableless.Goals.{then-not-is_held+in_ok-add, else-not-is_held}
 
 pub loop-guid-preserved : goal.loop-guid-preserved
 loop-guid-preserved c =
@@ -12,13 +12,13 @@ loop-guid-preserved c =
     let p : ℕ → Bool = λ g. not (is_held c.args.held.now g) in
     let guid = c.guid-item.result in
     elim c.if-not-is_held.branch [
-      | then-not-is_held+in_ok-note w ↦
-          told_more p guids c.loop-guid.guid-index guid c.loop-guid.told.items c.if-not-is_held.told.items c.loop-guid.invariant c.loop-guid-test.true c.guid-item.is
-          (ap not (sym c.is_held.ensures ∙ w.if-not-is_held.true)) (ap (λ v. v.items) w.told-is ∙ w.in_ok-note.ensures)
+      | then-not-is_held+in_ok-add w ↦
+          told_more p guids c.loop-guid.guid-index guid c.loop-guid.told c.if-not-is_held.told c.loop-guid.invariant c.loop-guid-test.true c.guid-item.is
+          (ap not (sym c.is_held.ensures ∙ w.if-not-is_held.true)) (w.told-is ∙ w.in_ok-add.ensures)
       | else-not-is_held w ↦
-          told_same p guids c.loop-guid.guid-index guid c.loop-guid.told.items c.if-not-is_held.told.items c.loop-guid.invariant c.loop-guid-test.true c.guid-item.is
-          (ap not (sym c.is_held.ensures ∙ w.if-not-is_held.false)) (ap (λ v. v.items) w.told-is)
+          told_same p guids c.loop-guid.guid-index guid c.loop-guid.told c.if-not-is_held.told c.loop-guid.invariant c.loop-guid-test.true c.guid-item.is
+          (ap not (sym c.is_held.ensures ∙ w.if-not-is_held.false)) w.told-is
     ]
 
 pub returns : goal.returns
-returns c = told_all (λ g. not (is_held c.args.held.now g)) c.args.guids.now c.loop-guid.guid-index c.loop-guid.told.items c.loop-guid.invariant (omega arith)
+returns c = told_all (λ g. not (is_held c.args.held.now g)) c.args.guids.now c.loop-guid.guid-index c.loop-guid.told c.loop-guid.invariant (omega arith)

@@ -1,9 +1,9 @@
 -- A LID more.
-use Rattle.std.proofs.Common.{◌∙◌, sym, ap}
+use Rattle.std.proofs.Common.{◌∙◌, sym}
 use Rattle.audit_report.specs.Unmatched.{is_twice}
 use Rattle.audit_report.proofs.Firsts.{told_more, told_same}
 use Rattle.audit_report.proofs.unmatched.twice.Goals as goal
-use Rattle.audit_report.proofs.unmatched.twice.Goals.{then-is_twice+in_ok-note, else-is_twice}
+use Rattle.audit_report.proofs.unmatched.twice.Goals.{then-is_twice+in_ok-add, else-is_twice}
 
 pub loop-line-preserved : goal.loop-line-preserved
 loop-line-preserved c =
@@ -11,10 +11,10 @@ loop-line-preserved c =
     let p = is_twice c.args.held.now in
     let line = c.line-item.result in
     elim c.if-is_twice.branch [
-      | then-is_twice+in_ok-note w ↦
-          told_more p lines c.loop-line.line-index line c.loop-line.told.items c.if-is_twice.told.items c.loop-line.invariant c.loop-line-test.true c.line-item.is
-          (sym w.if-is_twice.ensures) (ap (λ v. v.items) w.told-is ∙ w.in_ok-note.ensures)
+      | then-is_twice+in_ok-add w ↦
+          told_more p lines c.loop-line.line-index line c.loop-line.told c.if-is_twice.told c.loop-line.invariant c.loop-line-test.true c.line-item.is
+          (sym w.if-is_twice.ensures) (w.told-is ∙ w.in_ok-add.ensures)
       | else-is_twice w ↦
-          told_same p lines c.loop-line.line-index line c.loop-line.told.items c.if-is_twice.told.items c.loop-line.invariant c.loop-line-test.true c.line-item.is
-          (sym w.if-is_twice.ensures) (ap (λ v. v.items) w.told-is)
+          told_same p lines c.loop-line.line-index line c.loop-line.told c.if-is_twice.told c.loop-line.invariant c.loop-line-test.true c.line-item.is
+          (sym w.if-is_twice.ensures) w.told-is
     ]

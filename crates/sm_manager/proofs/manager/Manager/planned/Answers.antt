@@ -1,10 +1,16 @@
 -- The phases are those of the store's plan, over the last sweep.
-use Rattle.std.proofs.Common.{◌≡◌, List, false, sym, ap, ◌∙◌}
+use Rattle.std.proofs.Common.{◌≡◌, List, Result, Ok, false, sym, ap, ◌∙◌, subst}
+use Rattle.std.specs.Prelude.{IfOk}
+use Rattle.lft_blocks.specs.Plan.{plan_of}
 use Rattle.fact_store.specs.View.{cells_of}
 use Rattle.plan_steps.specs.Phases.{Phase, phases_of}
 use Rattle.sm_manager.specs.Manager.{Manager, Writing}
 use Rattle.sm_manager.specs.Writing.{passed, phases_by}
 use Rattle.sm_manager.proofs.manager.Manager.planned.Goals as goal
+
+-- what is so of all that is found is so of this
+found_is : {T F : Type 0} (r : Result T F) (x : T) (P : T → Type 0) → r ≡ Ok x → IfOk r P → P x
+found_is r x P e all = subst (λ (it : Result _ _). IfOk it P) e all
 
 begins : List Phase → Writing
 begins phases = record { later = passed phases; has_failed = false }
@@ -16,8 +22,10 @@ returns-clause-writing c =
     let store : c.self.inside.store ≡ m.store = ap (λ (x : Manager). x.store) c.self.view_is in
     let guid : c.self.inside.standing.guid ≡ m.standing.guid = ap (λ (x : Manager). x.standing.guid) c.self.view_is in
     let port : c.self.inside.port ≡ m.port = ap (λ (x : Manager). x.port) c.self.view_is in
+    let plan : c.in_ok-plan.plan ≡ plan_of m.planning.rule m.planning.lmc (cells_of m.store) =
+    found_is c.plan.result c.in_ok-plan.plan (λ it. it ≡ plan_of m.planning.rule m.planning.lmc (cells_of m.store)) c.in_ok-plan.ensures.found c.plan.ensures.plan in
     c.new.ensures
     ∙ ap begins
     (c.in_ok-phases.ensures
-    ∙ (λ i. phases_of (c.in_ok-plan.ensures.plan i) (cells_of (store i)) c.in_ok-sweep.sweep.now (guid i) (port i))
+    ∙ (λ i. phases_of (plan i) (cells_of (store i)) c.in_ok-sweep.sweep.now (guid i) (port i))
     ∙ ap (phases_by m) (sym c.in_ok-sweep.ensures.sweep))

@@ -1,7 +1,7 @@
 use Rattle.sm_manager.specs.Election.{handed_over, handover_fault}
 use Rattle.sm_run.specs.Commands.{handover_run}
 use Rattle.sm_run.specs.World.{sent}
-use Rattle.sm_run.proofs.Seats.{but_after_memory, done_leaves, done_prints, refused_leaves, refused_prints}
+use Rattle.sm_run.proofs.Seats.{but_for_memory, done_leaves, done_prints, refused_leaves, refused_prints}
 use Rattle.sm_run.proofs.world.World.hand_over.Goals as goal
 
 pub returns-in-Err-clause-leaves : goal.returns-in-Err-clause-leaves
@@ -9,14 +9,14 @@ unfolding handover_run
 returns-in-Err-clause-leaves g c =
     refused_leaves c.args.self.now.fabric c.args.self.now.managers.items c.args.seat c.index_mut.result.now c.requires c.index_mut.ensures.value
     (λ now. sent now c.args.seat) handover_fault handed_over c.handover.new.self c.in-Err.fault c.in-Err.ensures.err
-    (but_after_memory c.in-Err.fault _ _ c.in-Err.ensures.judged) c.refuse_manager.result c.refuse_manager.ensures.memory
+    (but_for_memory c.in-Err.fault _ c.in-Err.ensures.judged) c.refuse_manager.result c.refuse_manager.ensures.memory
 
 pub returns-in-Err-clause-prints : goal.returns-in-Err-clause-prints
 unfolding handover_run
 returns-in-Err-clause-prints g c =
     refused_prints c.args.self.now.fabric c.args.self.now.managers.items c.args.seat c.index_mut.result.now c.requires c.index_mut.ensures.value
     (λ now. sent now c.args.seat) handover_fault handed_over g.W.Sink.written g.W.Sink.has_failed c.in-Err.fault
-    (but_after_memory c.in-Err.fault _ _ c.in-Err.ensures.judged) c.refuse_manager.result _ _ c.refuse_manager.ensures.memory
+    (but_for_memory c.in-Err.fault _ c.in-Err.ensures.judged) c.refuse_manager.result _ _ c.refuse_manager.ensures.memory
     c.refuse_manager.ensures.prints c.refuse_manager.ensures.unprinted
 
 pub returns-clause-leaves : goal.returns-clause-leaves

@@ -2,7 +2,7 @@ use Rattle.sm_manager.specs.Writing.{writing_begun}
 use Rattle.sm_manager.specs.Plans.{writing_fault}
 use Rattle.sm_run.specs.Commands.{write_run}
 use Rattle.sm_run.specs.World.{sent}
-use Rattle.sm_run.proofs.Seats.{but_after_memory, done_leaves, done_prints, refused_leaves, refused_prints}
+use Rattle.sm_run.proofs.Seats.{but_for_memory, done_leaves, done_prints, refused_leaves, refused_prints}
 use Rattle.sm_run.proofs.world.World.write.Goals as goal
 
 pub returns-in-Err-clause-leaves : goal.returns-in-Err-clause-leaves
@@ -10,14 +10,14 @@ unfolding write_run
 returns-in-Err-clause-leaves g c =
     refused_leaves c.args.self.now.fabric c.args.self.now.managers.items c.args.seat c.index_mut.result.now c.requires c.index_mut.ensures.value
     (λ now. sent now c.args.seat) writing_fault writing_begun c.write_steps.new.self c.in-Err.fault c.in-Err.ensures.err
-    (but_after_memory c.in-Err.fault _ _ c.in-Err.ensures.judged) c.refuse_manager.result c.refuse_manager.ensures.memory
+    (but_for_memory c.in-Err.fault _ c.in-Err.ensures.judged) c.refuse_manager.result c.refuse_manager.ensures.memory
 
 pub returns-in-Err-clause-prints : goal.returns-in-Err-clause-prints
 unfolding write_run
 returns-in-Err-clause-prints g c =
     refused_prints c.args.self.now.fabric c.args.self.now.managers.items c.args.seat c.index_mut.result.now c.requires c.index_mut.ensures.value
     (λ now. sent now c.args.seat) writing_fault writing_begun g.W.Sink.written g.W.Sink.has_failed c.in-Err.fault
-    (but_after_memory c.in-Err.fault _ _ c.in-Err.ensures.judged) c.refuse_manager.result _ _ c.refuse_manager.ensures.memory
+    (but_for_memory c.in-Err.fault _ c.in-Err.ensures.judged) c.refuse_manager.result _ _ c.refuse_manager.ensures.memory
     c.refuse_manager.ensures.prints c.refuse_manager.ensures.unprinted
 
 pub returns-clause-leaves : goal.returns-clause-leaves

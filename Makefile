@@ -1,0 +1,22 @@
+# make install PREFIX=/usr/local: the program, which is proved and built first, the tools for live subnets, and their man pages.
+# Needs the Rattle kit, a C compiler, libibumad (Debian: libibumad-dev) and Python 3.
+PREFIX ?= /usr/local
+DESTDIR ?=
+PROGRAM := crates/ibsm/out/ibsm
+# Tools in Python, with the modules that they import; a link in bin leads to each.
+TOOLS := draw opensm-files
+MODULES := ibsm_texts.py routes.py
+
+all:
+	./ibsm --version
+	$(MAKE) -C tools/record
+
+install: all
+	install -D -m 755 $(PROGRAM) $(DESTDIR)$(PREFIX)/bin/ibsm
+	install -D -m 644 tools/ibsm.1 $(DESTDIR)$(PREFIX)/share/man/man1/ibsm.1
+	for file in $(TOOLS); do install -D -m 755 tools/$$file $(DESTDIR)$(PREFIX)/lib/ibsm/$$file && \
+	    ln -sf ../lib/ibsm/$$file $(DESTDIR)$(PREFIX)/bin/$$file || exit 1; done
+	for file in $(MODULES); do install -m 644 tools/$$file $(DESTDIR)$(PREFIX)/lib/ibsm/$$file || exit 1; done
+	$(MAKE) -C tools/record install PREFIX=$(PREFIX) DESTDIR=$(DESTDIR)
+
+.PHONY: all install

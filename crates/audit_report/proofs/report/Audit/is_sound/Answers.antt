@@ -1,0 +1,33 @@
+-- By what was counted, and the circle.
+use Rattle.std.proofs.Common.{◌≡◌, ◌∙◌, sym, ap, subst, arith, length, Bool, true, false, refl}
+use Rattle.std.specs.Prelude.{IsTrue, ◌↔◌, ◌&&◌, ◌==◌}
+use Rattle.std.specs.Vec.{vec_len}
+use Rattle.std.proofs.lemmas.Bool.{eq-eqb, ne_eqb}
+use Rattle.fact_store.specs.View.{cells_of}
+use Rattle.audit_report.specs.Passing.{Audited, IsSound}
+use Rattle.audit_report.proofs.Judged.{sound_is}
+use Rattle.audit_report.proofs.report.Audit.is_sound.Goals as goal
+
+not_both : (a b : Bool) → a ≡ false → a ≡ (a && b)
+not_both true b e = cc
+not_both false b e = refl
+
+pub returns-then-self : goal.returns-then-self
+returns-then-self c =
+    let a = c.self.inside in
+    let b = c.is_empty.result in
+    let Judges = λ (x : Audited). IsTrue b ↔ IsSound (cells_of x.facts) x.held in
+    let long : vec_len a.circle ≡ length a.circle.items = omega (arith, a.circle.ok.0) in
+    subst Judges c.self.view_is
+    (sound_is a.network a.tally a.unmatched a.disputed a.ways a.circle.items b c.self.invariant
+    (c.is_empty.ensures ∙ ap (λ n. n == 0) long
+    ∙ sym (ap (λ t. t && (length a.circle.items == 0)) (eq-eqb a.tally.all.arrived a.tally.all.sent c.if-self.true))))
+
+pub returns-else-self : goal.returns-else-self
+returns-else-self c =
+    let a = c.self.inside in
+    let b = (a.tally.all.arrived == a.tally.all.sent) in
+    let Judges = λ (x : Audited). IsTrue b ↔ IsSound (cells_of x.facts) x.held in
+    subst Judges c.self.view_is
+    (sound_is a.network a.tally a.unmatched a.disputed a.ways a.circle.items b c.self.invariant
+    (not_both (a.tally.all.arrived == a.tally.all.sent) (length a.circle.items == 0) (ne_eqb a.tally.all.arrived a.tally.all.sent c.if-self.false)))

@@ -1,0 +1,19 @@
+-- Facts that are disputed.
+use Rattle.std.specs.Prelude.{ℕ, Bool, true, false, count_by}
+use Rattle.fact_join.specs.declared.cell.Cell.{Cell}
+use Rattle.fact_join.specs.declared.cell.Cell.TheVariants.{Known, Disputed}
+use Rattle.fact_store.specs.declared.key.Key.{Key}
+use Rattle.fact_store.specs.declared.value.Value.{Value}
+use Rattle.subnet_view.specs.Reading.{Cells}
+
+-- different values were told at the newest generation
+abbrev pub is_disputed_cell : Cell Value → Bool
+is_disputed_cell (Known generation value) = false
+is_disputed_cell (Disputed generation) = true
+
+abbrev pub is_disputed : Key × Cell Value → Bool
+is_disputed sighting = is_disputed_cell sighting.1
+
+-- how many cells are
+abbrev pub disputed : Cells → ℕ
+disputed cells = count_by is_disputed cells

@@ -1,0 +1,25 @@
+ghost use Rattle.std.specs.Prelude.{◌≡◌, ◌-◌, ◌^◌, min};
+ghost use Rattle.fact_store.specs.View.{cells_of};
+ghost use Rattle.plan_steps.specs.Bound.{most_steps};
+
+use fact_store::Store;
+use subnet_view::usable_guid;
+
+/// One for each number below the first that is no unicast LID.
+const NUMBERS: usize = 0xC000;
+
+/// One for each block of these.
+const BLOCKS: usize = NUMBERS / 64;
+
+/// How many steps a phase of the plan of a store has at most, as far as 64 bits count. Takes no memory, and walks the cells.
+pub fn most_steps(store: &Store) -> usize
+    ensures { result ≡ min (most_steps (cells_of store.now)) (2 ^ 64 - 1) }
+{
+    let mut most = store.count().saturating_add(NUMBERS);
+    for sighting in store.cells() {
+        if usable_guid(store, &sighting).is_some() {
+            most = most.saturating_add(BLOCKS);
+        }
+    }
+    most
+}

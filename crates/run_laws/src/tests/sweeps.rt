@@ -1,0 +1,135 @@
+//! What a sweep takes and refuses, how many bytes are asked for at a time, and a store's copy.
+ghost use Rattle.std.specs.Prelude.{◌<◌, ◌≤◌};
+
+use super::*;
+use fact_store::{Context, Report, Store};
+use record_file::{FromBytes, ReadError, Source, absorb_by};
+use smp_bytes::Generation;
+use sweep::{Answer, Sweep, SweepFault};
+
+/// A sweep by port 1, whose first request has this number.
+fn start(alloc: Global, first: u32) -> Option<Sweep> {
+    let generation = Generation::new(1)?;
+    Sweep::start(alloc, PortNum::new(1), generation, first).ok()
+}
+
+/// NodeInfo of a switch of ten ports.
+fn ten_ports() -> [u8; 64] {
+    let mut data = [0; 64];
+    data[2] = 2; // a switch
+    data[3] = 10; // ports
+    data[19] = 0x10;
+    data[27] = 0x10;
+    data
+}
+
+/// Whether a reply was taken, and is about the node that the sweep began at.
+fn is_of_start(answered: Result<Answer, SweepFault>) -> bool {
+    match answered {
+        Ok(Answer::Facts(Report { context, .. })) => context == Context::Start,
+        Ok(Answer::Seen(..)) | Err(_) => false,
+    }
+}
+
+/// Whether a reply was refused for this.
+fn is_refused(answered: Result<Answer, SweepFault>, fault: SweepFault) -> bool {
+    match answered {
+        Ok(_) => false,
+        Err(why) => why == fault,
+    }
+}
+
+/// Whether a reply is taken, and refused once ten more requests went out.
+fn takes_once(alloc: Global) -> Option<bool> {
+    let mut sweep = start(alloc, 1)?;
+    let reply = sweep.next_request()?.answer(DONE, &ten_ports());
+    let is_taken = is_of_start(sweep.on_reply(reply.bytes()));
+    for _ in 0..10 {
+        sweep.next_request()?;
+    }
+    Some(is_taken && is_refused(sweep.on_reply(reply.bytes()), SweepFault::NotOutstanding))
+}
+
+/// Whether the reply to a request of the greatest number is refused, since it brings up more.
+fn spends(alloc: Global) -> Option<bool> {
+    let mut sweep = start(alloc, u32::MAX)?;
+    let reply = sweep.next_request()?.answer(DONE, &ten_ports());
+    Some(is_refused(sweep.on_reply(reply.bytes()), SweepFault::SequenceSpent))
+}
+
+#[test]
+fn replies_are_taken_once(rt: HostRuntime) {
+    assert!(rt; takes_once(rt.alloc()) == Some(true));
+}
+
+#[test]
+fn numbers_are_spent(rt: HostRuntime) {
+    assert!(rt; spends(rt.alloc()) == Some(true));
+}
+
+/// A source that fails where it is asked for more than so many bytes at a time.
+#[derive(Drop)]
+struct AtMost<'b> {
+    bytes: FromBytes<'b>,
+    most: usize,
+    has_failed: bool,
+}
+
+impl<'b> Source for AtMost<'b> {
+    ghost use Rattle.std.specs.Prelude.{Some};
+
+    ghost left = { λ s. Some s.bytes };
+
+    ghost has_failed = { λ s. s.has_failed };
+
+    ghost interruptions = { λ _. 0 };
+
+    fn read(&mut self, room: &mut [u8]) -> Result<usize, ReadError> {
+        if self.has_failed || room.len() > self.most {
+            self.has_failed = true;
+            return Err(ReadError::Failed);
+        }
+        self.bytes.read(room)
+    }
+}
+
+/// A file of one report, of the first reply to a sweep.
+fn file(alloc: Global) -> Option<[u8; 280]> {
+    let reply = start(alloc, 1)?.next_request()?.answer(DONE, &ten_ports());
+    let mut bytes = [0; 280];
+    bytes[..8].copy_from_slice(b"IBSMREP1");
+    bytes[11] = 1; // the generation
+    bytes[24..].copy_from_slice(reply.bytes());
+    Some(bytes)
+}
+
+/// How many facts a file tells that is asked for at most `N` bytes at a time, and how many a copy of them has.
+fn told<const N: usize>(alloc: Global) -> Option<(usize, usize)>
+    requires some { 0 < N }
+    requires most { N ≤ 4096 }
+{
+    let file = file(alloc)?;
+    let mut source = AtMost {
+        bytes: FromBytes::new(&file),
+        most: N,
+        has_failed: false,
+    };
+    let mut store = Store::new(alloc);
+    absorb_by::<N, AtMost<'_>>(&mut source, &mut store).ok()?;
+    let copy = store.try_clone().ok()?;
+    Some((store.count(), copy.count()))
+}
+
+#[test]
+fn no_more_is_asked_for(rt: HostRuntime) {
+    let alloc = rt.alloc();
+    for told in [
+        told::<1>(alloc),
+        told::<7>(alloc),
+        told::<271>(alloc),
+        told::<272>(alloc),
+        told::<273>(alloc),
+    ] {
+        assert!(rt; told == Some((2, 2)));
+    }
+}

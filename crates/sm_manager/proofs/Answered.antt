@@ -1,0 +1,652 @@
+-- Of the steps that count, those that were done, those that wait and those that are still to be sent are all, where none failed.
+use Rattle.std.proofs.Common.{◌≡◌, ◌<◌, ◌≤◌, ◌+◌, ℕ, zero, suc, Bool, true, false, cond, List, [], ◌∷◌, ◌++◌, length, refl, sym, ap, ◌∙◌, subst, arith}
+use Rattle.std.proofs.lemmas.Bool.{cond_both, cond-true, cond-false, eq-eqb, eqb-true, and_parts, and_from}
+use Rattle.std.proofs.lemmas.List.{length-append}
+use Rattle.std.proofs.lemmas.List.Elements.{filter-append}
+use Rattle.std.proofs.lemmas.Option.{slice_get-get_or}
+use Rattle.std.specs.Prelude.{◌^◌, ◌==◌, ◌&&◌, ◌||◌, Contains, Option, Some, None, drop, filter, find, is_none, nat_le, not, remove, slice_get}
+use Rattle.std.specs.List.{AllByRecursion, list_any}
+use Rattle.smp_bytes.specs.Header.{done}
+use Rattle.smp_bytes.specs.Field.{number_in}
+use Rattle.smp_bytes.specs.Packet.{attribute_modifier, fault_of, status}
+use Rattle.smp_bytes.specs.declared.smp_fault.SmpFault.{SmpFault}
+use Rattle.subnet_view.proofs.Apart.{found_there}
+use Rattle.sweep.specs.declared.answer.Answer.{Answer}
+use Rattle.sweep.specs.declared.fault.SweepFault.{SweepFault}
+use Rattle.sweep.specs.Replies.{judged}
+use Rattle.sweep.specs.Sweep.{Sweep, is_done, timeout_fault}
+use Rattle.std.specs.Prelude.{Result, Ok, Err}
+use Rattle.request_table.specs.Numbers.{AreRising}
+use Rattle.request_table.proofs.Numbers.{rising_least, rising_more, rising_ordered, rising_pushed, without_at}
+use Rattle.plan_steps.specs.declared.step.Step.{Step}
+use Rattle.plan_steps.specs.Phases.{Phase, phases_of}
+use Rattle.sm_state.specs.declared.event.Event.TheVariants as event
+use Rattle.sm_state.specs.declared.event.Message.{Message}
+use Rattle.sm_state.specs.declared.transition.Transition.{Transition}
+use Rattle.sm_state.specs.Controls.{control_of_message, modifier_of_control}
+use Rattle.sm_state.specs.declared.state.SmState.TheVariants.{Master}
+use Rattle.sm_state.specs.Steps.{status_of, stepped}
+use Rattle.sm_manager.specs.declared.fault.ManagerFault.{ManagerFault}
+use Rattle.sm_manager.specs.declared.fault.ManagerFault.TheVariants.{NotMaster, SequenceSpent, SweepRunning, WritingRunning}
+use Rattle.sm_manager.specs.declared.outgoing.Outgoing.{Outgoing}
+use Rattle.sm_manager.specs.declared.pending.Pending.{Pending}
+use Rattle.sm_manager.specs.declared.pending.Purpose.{Purpose}
+use Rattle.sm_manager.specs.declared.pending.Purpose.TheVariants as purpose
+use Rattle.sm_manager.specs.Answered.{BeginNone, BeginsNone, WrittenIsEachStepDone, counting_in, does_by_packet, does_request, does_step, one_if, steps_done}
+use Rattle.sm_manager.specs.Calls.{Call, BeginSweep, WriteSteps, Take, Packet, Timeout, Raise, Merge, Poll, Handover, after_call, after_calls}
+use Rattle.sm_manager.specs.Election.{asked, control_out, handed_over, handed_to, handover_fault, handover_move, heir_lid, info_pending, poll_fault, poll_out, poll_sent, told}
+use Rattle.sm_manager.specs.Manager.{Manager, Writing, begin_fault, new_manager, sweep_begun, taken_of}
+use Rattle.sm_manager.specs.Packets.{Called, answered_by, answers, gave_up, is_for_sweep, is_info_request, packet_taken, pending_for, refused, request_answered}
+use Rattle.sm_manager.specs.Packets.{done as done_call, request_gave_up, request_over, sweep_answered, sweep_gave_up, sweep_timed_out, unless_spent}
+use Rattle.sm_manager.specs.Plans.{writing_fault}
+use Rattle.sm_manager.specs.Requests.{counts, how_many, is_step, no_step_waits, none_counts, with_number, without_number}
+use Rattle.sm_manager.specs.Served.{answering, controlled, is_control, moved_on, replying, served, status_for}
+use Rattle.sm_manager.specs.Standing.{is_in, moved_to}
+use Rattle.sm_manager.specs.Writing.{begun_with, is_done_by, is_spent, is_written, is_written_by, next_pending, next_phase, noted, numbered, passed, pending_step}
+use Rattle.sm_manager.specs.Writing.{phase_sent, phases_by, step_over, went_on_with, write_fault, write_fault_with, writing_begun}
+use Rattle.sm_manager.proofs.Begun.{may_begin}
+use Rattle.sm_manager.proofs.Numbers as numbers
+use Rattle.sm_manager.proofs.Numbers.{many_at_most, many_pushed, many_without}
+
+-- requests that wait ----------------------------------------------------------------------------------
+
+abbrev Rising : ℕ → List Pending → Type 0
+Rising counter pending = AreRising (λ (p : Pending). p.number) 0 pending counter
+
+same_one : (b : Bool) → numbers.one_if b ≡ one_if b
+same_one true = refl
+same_one false = refl
+
+many_both : (ps qs : List Pending) → how_many counts (ps ++ qs) ≡ how_many counts ps + how_many counts qs
+many_both ps qs = ap length (filter-append counts ps qs) ∙ length-append (filter counts ps) (filter counts qs)
+
+-- the steps of a phase
+many_numbered : (c : Bool) (n : ℕ) (steps : List Step) → how_many counts (numbered c n steps) ≡ cond c (length steps) 0
+many_numbered true n [] = refl
+many_numbered true n (s ∷ steps) = ap suc (many_numbered true (suc n) steps)
+many_numbered false n [] = refl
+many_numbered false n (s ∷ steps) = many_numbered false (suc n) steps
+
+rising_phase : (c : Bool) (n : ℕ) (steps : List Step) → AreRising (λ (p : Pending). p.number) n (numbered c n steps) (n + length steps)
+rising_phase c n [] = omega arith
+rising_phase c n (s ∷ steps) =
+    let one : suc n ≡ n + 1 = omega arith in
+    let all : suc n + length steps ≡ n + suc (length steps) = omega arith in (
+      omega arith,
+      subst (λ k. AreRising (λ (p : Pending). p.number) k (numbered c (suc n) steps) (n + suc (length steps))) one
+          (subst (λ k. AreRising (λ (p : Pending). p.number) (suc n) (numbered c (suc n) steps) k) all (rising_phase c (suc n) steps)),
+    )
+
+-- fewer rise too
+rising_filtered : (test : Pending → Bool) (least : ℕ) (ps : List Pending) (next : ℕ) → AreRising (λ (p : Pending). p.number) least ps next
+    → AreRising (λ (p : Pending). p.number) least (filter test ps) next
+rising_filtered test least [] next rising = rising
+rising_filtered test least (p ∷ ps) next rising =
+    let rest = rising_filtered test (p.number + 1) ps next rising.1 in
+    cond_both (test p) (p ∷ filter test ps) (filter test ps) (λ xs. AreRising (λ (q : Pending). q.number) least xs next) (λ _. (rising.0, rest))
+    (λ _. let low = rising.0 in rising_least (λ (q : Pending). q.number) least (p.number + 1) (filter test ps) next (omega (arith, low)) rest)
+
+-- one that waits is over
+many_over : (counter : ℕ) (ps : List Pending) (p : Pending) → Rising counter ps → Contains ps p
+    → how_many counts (without_number p.number ps) + one_if (counts p) ≡ how_many counts ps
+many_over counter ps p rising (i, within, is) =
+    let at : slice_get ps i ≡ Some p = slice_get-get_or ps i p within ∙ ap (λ (x : Pending). Some x) is in
+    let gone : without_number p.number ps ≡ remove ps i =
+    without_at (λ (q : Pending). q.number) ps i p (rising_ordered (λ (q : Pending). q.number) 0 ps counter rising) at in
+    let less = many_without counts ps i p at in
+    let same = same_one (counts p) in
+    let left = ap (how_many counts) gone in
+    omega (arith, less, same, left)
+
+-- no step waits, so none that counts does
+counts_is_step : (p : Pending) → counts p ≡ true → is_step p ≡ true
+counts_is_step p e = by_purpose p.purpose e
+  where
+    by_purpose : (u : Purpose) → counts (record p { purpose = u }) ≡ true → is_step (record p { purpose = u }) ≡ true
+    by_purpose purpose.Poll h = absurd (cc)
+    by_purpose purpose.Control h = absurd (cc)
+    by_purpose (purpose.Step c) h = refl
+
+fewer_count : (ps : List Pending) → how_many counts ps ≤ how_many is_step ps
+fewer_count [] = omega arith
+fewer_count (p ∷ ps) = by_tests (counts p) (is_step p) (counts_is_step p) (fewer_count ps)
+  where
+    by_tests : (c s : Bool) → (c ≡ true → s ≡ true) → how_many counts ps ≤ how_many is_step ps
+        → length (cond c (p ∷ filter counts ps) (filter counts ps)) ≤ length (cond s (p ∷ filter is_step ps) (filter is_step ps))
+    by_tests true true h rest = omega (arith, rest)
+    by_tests true false h rest = absurd (cc (h refl))
+    by_tests false true h rest = omega (arith, rest)
+    by_tests false false h rest = rest
+
+-- phases -----------------------------------------------------------------------------------------------
+
+-- those that count come first
+abbrev CountFirst : List Phase → Type 0
+CountFirst [] = Unit {0}
+CountFirst (p ∷ phases) = (p.counts ≡ false → AllByRecursion (λ (q : Phase). q.counts ≡ false) phases) × CountFirst phases
+
+-- the first of them has steps
+abbrev StartsWithSteps : List Phase → Type 0
+StartsWithSteps [] = Unit {0}
+StartsWithSteps (p ∷ phases) = (length p.steps == 0) ≡ false
+
+drop_keeps : (phases : List Phase) → CountFirst phases → CountFirst (drop 1 phases)
+drop_keeps [] first = tt
+drop_keeps (p ∷ phases) first = first.1
+
+passed_keeps : (phases : List Phase) → CountFirst phases → CountFirst (passed phases)
+passed_keeps [] first = tt
+passed_keeps (p ∷ phases) first =
+    cond_both (length p.steps == 0) (passed phases) (p ∷ phases) CountFirst (λ _. passed_keeps phases first.1) (λ _. first)
+
+passed_starts : (phases : List Phase) → StartsWithSteps (passed phases)
+passed_starts [] = tt
+passed_starts (p ∷ phases) = cond_both (length p.steps == 0) (passed phases) (p ∷ phases) StartsWithSteps (λ _. passed_starts phases) (λ e. e)
+
+passed_counting : (phases : List Phase) → counting_in (passed phases) ≡ counting_in phases
+passed_counting [] = refl
+passed_counting (p ∷ phases) =
+    cond_both (length p.steps == 0) (passed phases) (p ∷ phases) (λ xs. counting_in xs ≡ counting_in (p ∷ phases))
+    (λ e. passed_counting phases ∙ none p.counts (eqb-true _ _ e)) (λ _. refl)
+  where
+    none : (c : Bool) → length p.steps ≡ 0 → counting_in phases ≡ cond c (length p.steps) 0 + counting_in phases
+    none true e = omega (arith, e)
+    none false e = omega arith
+
+first_counting : (phases : List Phase) → cond (next_phase phases).counts (length (next_phase phases).steps) 0 + counting_in (drop 1 phases) ≡ counting_in phases
+first_counting [] = refl
+first_counting (p ∷ phases) = refl
+
+-- where no step is left that counts, no phase is
+none_left : (phases : List Phase) → AllByRecursion (λ (q : Phase). q.counts ≡ false) phases → list_any (λ (p : Phase). p.counts) phases ≡ false
+none_left [] none = refl
+none_left (p ∷ phases) none = ap (λ b. b || list_any (λ (q : Phase). q.counts) phases) none.0 ∙ none_left phases none.1
+
+no_phase_left : (phases : List Phase) → CountFirst phases → StartsWithSteps phases → counting_in phases ≡ 0 → list_any (λ (p : Phase). p.counts) phases ≡ false
+no_phase_left [] first starts e = refl
+no_phase_left (p ∷ phases) first starts e = by_counts p.counts refl
+  where
+    by_counts : (c : Bool) → p.counts ≡ c → list_any (λ (q : Phase). q.counts) (p ∷ phases) ≡ false
+    by_counts false is = none_left (p ∷ phases) (is, first.0 is)
+    by_counts true is =
+        let some = ap (λ b. cond b (length p.steps) 0 + counting_in phases) is in
+        let zero_steps : length p.steps ≡ 0 = omega (arith, some, e) in
+        absurd (cc (sym (eq-eqb (length p.steps) 0 zero_steps) ∙ starts))
+
+none_counting : (phases : List Phase) → list_any (λ (p : Phase). p.counts) phases ≡ false → counting_in phases ≡ 0
+none_counting [] e = refl
+none_counting (p ∷ phases) e = by_counts p.counts refl (none_counting phases)
+  where
+    by_counts : (c : Bool) → p.counts ≡ c → (list_any (λ (q : Phase). q.counts) phases ≡ false → counting_in phases ≡ 0) → counting_in (p ∷ phases) ≡ 0
+    by_counts true is none_of = absurd (cc (sym (ap (λ b. b || list_any (λ (q : Phase). q.counts) phases) is) ∙ e))
+    by_counts false is none_of =
+        let rest : list_any (λ (q : Phase). q.counts) phases ≡ false = sym (ap (λ b. b || list_any (λ (q : Phase). q.counts) phases) is) ∙ e in
+        let none = none_of rest in
+        let here = ap (λ b. cond b (length p.steps) 0 + counting_in phases) is in
+        omega (arith, here, none)
+
+-- calls that are no business of steps ------------------------------------------------------------------
+
+record Beside (m after : Manager) : Type 0 where
+  writing : after.writing ≡ m.writing
+  many : how_many counts after.pending ≡ how_many counts m.pending
+  rising : Rising m.counter m.pending → Rising after.counter after.pending
+
+beside_both : (m middle after : Manager) → Beside m middle → Beside middle after → Beside m after
+beside_both m middle after one two =
+    record { writing = two.writing ∙ one.writing; many = two.many ∙ one.many; rising = λ r. two.rising (one.rising r) }
+
+nothing : (m : Manager) → Beside m m
+nothing m = record { writing = refl; many = refl; rising = λ r. r }
+
+asks_beside : (m : Manager) (p : Pending) (out : Outgoing) → p.number ≡ m.counter → counts p ≡ false → Beside m (asked m p out)
+asks_beside m p out number other =
+    record {
+      writing = refl;
+      many =
+          let more = many_pushed counts m.pending p in
+          let none = ap numbers.one_if other in
+          omega (arith, more, none);
+      rising = λ r. rising_pushed (λ (q : Pending). q.number) 0 m.pending m.counter p r number;
+    }
+
+tells_beside : (m : Manager) (to : Option ℕ) (message : Option Message) → Beside m (told m to message)
+tells_beside m None message = nothing m
+tells_beside m (Some lid) None = nothing m
+tells_beside m (Some lid) (Some message) =
+    let control = control_of_message message in
+    asks_beside m (info_pending m.counter purpose.Control (modifier_of_control control)) (control_out m.standing m.counter lid control) refl refl
+
+moves_beside : (m : Manager) (bytes : List ℕ) (from : Option ℕ) (move : Transition) → Beside m (moved_on m bytes from move)
+moves_beside m bytes from move =
+    let answered = answering (record m { standing = moved_to move.state m.standing }) bytes from (status_of move) in
+    beside_both m answered _ (record { writing = refl; many = refl; rising = λ r. r }) (tells_beside answered from move.message)
+
+serves_beside : (m : Manager) (bytes : List ℕ) (from : Option ℕ) → Beside m (unless_spent m (served m bytes from)).manager
+serves_beside m bytes from =
+    cond_both (is_spent (served m bytes from)) (refused m SequenceSpent) (done_call (served m bytes from)) (λ (x : Called). Beside m x.manager)
+    (λ _. nothing m)
+    (λ _. cond_both (is_control bytes) (controlled m bytes from) (replying m bytes from) (Beside m)
+    (λ _. moves_beside m bytes from (stepped m.standing.state (event.Control (number_in attribute_modifier bytes))))
+    (λ _. record { writing = refl; many = refl; rising = λ r. r }))
+
+hands_beside : (m : Manager) (lid : Option ℕ) → Beside m (handed_to m lid)
+hands_beside m lid =
+    let moved = record m { standing = moved_to (handover_move m).state m.standing } in
+    beside_both m moved _ (record { writing = refl; many = refl; rising = λ r. r }) (tells_beside moved lid (handover_move m).message)
+
+sweep_beside : (m : Manager) (bytes : List ℕ) (s : Option Sweep) → Beside m (sweep_answered m bytes s).manager
+sweep_beside m bytes None = nothing m
+sweep_beside m bytes (Some s) = by_judged (judged s bytes)
+  where
+    by_judged : (r : Result Answer SweepFault) → Beside m (answered_by m s bytes r).manager
+    by_judged (Ok answer) = record { writing = refl; many = refl; rising = λ r. r }
+    by_judged (Err why) = nothing m
+
+sweep_timed_beside : (m : Manager) (transaction : ℕ) (s : Option Sweep) → Beside m (sweep_gave_up m transaction s).manager
+sweep_timed_beside m transaction None = nothing m
+sweep_timed_beside m transaction (Some s) = by_fault (timeout_fault s transaction)
+  where
+    by_fault : (why : Option SweepFault) → Beside m (sweep_timed_out m s transaction why).manager
+    by_fault (Some why) = nothing m
+    by_fault None = record { writing = refl; many = refl; rising = λ r. r }
+
+takes_beside : (m : Manager) (packets : List Outgoing) → Beside m (taken_of m packets).manager
+takes_beside m [] = nothing m
+takes_beside m (packet ∷ packets) = record { writing = refl; many = refl; rising = λ r. r }
+
+-- numbers rise ------------------------------------------------------------------------------------------
+
+phase_rises : (m : Manager) (w : Writing) → Rising m.counter m.pending → Rising (phase_sent m w).counter (phase_sent m w).pending
+phase_rises m w rising =
+    rising_more (λ (p : Pending). p.number) 0 m.pending (next_pending m.counter w.later) m.counter (m.counter + length (next_phase w.later).steps) rising
+    (rising_phase (next_phase w.later).counts m.counter (next_phase w.later).steps)
+
+-- a step is over, and its writing knows whether it was done
+abbrev over_by : Manager → Pending → Bool → Option Writing → Manager
+over_by m p was_done w = record m { pending = without_number p.number m.pending; writing = noted (counts p) was_done w }
+
+over_rises : (m : Manager) (p : Pending) → Rising m.counter m.pending → Rising m.counter (without_number p.number m.pending)
+over_rises m p rising = rising_filtered (λ (q : Pending). not (q.number == p.number)) 0 m.pending m.counter rising
+
+step_rises : (m : Manager) (p : Pending) (was_done : Bool) → Rising m.counter m.pending → Rising (step_over m p was_done).counter (step_over m p was_done).pending
+step_rises m p was_done rising = by_writing m.writing
+  where
+    by_writing : (o : Option Writing)
+        → Rising (went_on_with (over_by m p was_done o) (noted (counts p) was_done o)).counter (went_on_with (over_by m p was_done o) (noted (counts p) was_done o)).pending
+    by_writing None = over_rises m p rising
+    by_writing (Some w) =
+        let m1 = over_by m p was_done (Some w) in
+        let w1 : Writing = record w { has_failed = w.has_failed || (counts p && not was_done) } in
+        cond_both (no_step_waits (without_number p.number m.pending)) (phase_sent m1 w1) m1 (λ (x : Manager). Rising x.counter x.pending)
+        (λ _. phase_rises m1 w1 (over_rises m p rising)) (λ _. over_rises m p rising)
+
+request_rises : (m : Manager) (p : Pending) (answer : Option ℕ) (u : Purpose) → Rising m.counter m.pending
+    → Rising (request_over m p answer u).manager.counter (request_over m p answer u).manager.pending
+request_rises m p answer purpose.Poll rising = over_rises m p rising
+request_rises m p answer purpose.Control rising = over_rises m p rising
+request_rises m p answer (purpose.Step c) rising =
+    cond_both (is_spent (step_over m p (is_done_by answer))) (refused m SequenceSpent) (done_call (step_over m p (is_done_by answer)))
+    (λ (x : Called). Rising x.manager.counter x.manager.pending) (λ _. rising) (λ _. step_rises m p (is_done_by answer) rising)
+
+packet_rises : (m : Manager) (bytes : List ℕ) (from : Option ℕ) (why : Option SmpFault) → Rising m.counter m.pending
+    → Rising (packet_taken m bytes from why).manager.counter (packet_taken m bytes from why).manager.pending
+packet_rises m bytes from (Some why) rising = rising
+packet_rises m bytes from None rising = by_tests (is_info_request bytes) (is_for_sweep bytes)
+  where
+    by_pending : (o : Option Pending) → Rising (request_answered m bytes o).manager.counter (request_answered m bytes o).manager.pending
+    by_pending None = rising
+    by_pending (Some p) = request_rises m p (Some (status bytes)) p.purpose rising
+
+    by_tests : (a b : Bool)
+        → Rising (cond a (unless_spent m (served m bytes from)) (cond b (sweep_answered m bytes m.sweep) (request_answered m bytes (pending_for m bytes)))).manager.counter
+        (cond a (unless_spent m (served m bytes from)) (cond b (sweep_answered m bytes m.sweep) (request_answered m bytes (pending_for m bytes)))).manager.pending
+    by_tests true b = (serves_beside m bytes from).rising rising
+    by_tests false true = (sweep_beside m bytes m.sweep).rising rising
+    by_tests false false = by_pending (pending_for m bytes)
+
+timeout_rises : (m : Manager) (transaction : ℕ) → Rising m.counter m.pending → Rising (gave_up m transaction).manager.counter (gave_up m transaction).manager.pending
+timeout_rises m transaction rising =
+    cond_both (nat_le (2 ^ 32) transaction) (sweep_gave_up m transaction m.sweep) (request_gave_up m (with_number transaction m.pending))
+    (λ (x : Called). Rising x.manager.counter x.manager.pending) (λ _. (sweep_timed_beside m transaction m.sweep).rising rising)
+    (λ _. by_pending (with_number transaction m.pending))
+  where
+    by_pending : (o : Option Pending) → Rising (request_gave_up m o).manager.counter (request_gave_up m o).manager.pending
+    by_pending None = rising
+    by_pending (Some p) = request_rises m p None p.purpose rising
+
+call_rises : (m : Manager) (call : Call) → Rising m.counter m.pending → Rising (after_call m call).counter (after_call m call).pending
+call_rises m BeginSweep rising =
+    cond_both (is_none (begin_fault m)) (sweep_begun m) m (λ (x : Manager). Rising x.counter x.pending) (λ _. rising) (λ _. rising)
+call_rises m WriteSteps rising =
+    cond_both (is_none (writing_fault m)) (writing_begun m) m (λ (x : Manager). Rising x.counter x.pending)
+    (λ _. phase_rises m (record { later = passed (phases_by m m.sweep); has_failed = false }) rising) (λ _. rising)
+call_rises m Take rising = (takes_beside m m.outgoing).rising rising
+call_rises m (Packet bytes from) rising = packet_rises m bytes from (fault_of bytes) rising
+call_rises m (Timeout transaction) rising = timeout_rises m transaction rising
+call_rises m (Raise floor) rising = rising
+call_rises m (Merge floor sightings) rising = rising
+call_rises m (Poll lid) rising =
+    cond_both (is_none (poll_fault m)) (poll_sent m lid) m (λ (x : Manager). Rising x.counter x.pending) (λ _. (asks_beside m (info_pending m.counter purpose.Poll 0) (poll_out m.counter lid) refl refl).rising rising) (λ _. rising)
+call_rises m Handover rising =
+    cond_both (is_none (handover_fault m)) (handed_over m) m (λ (x : Manager). Rising x.counter x.pending) (λ _. (hands_beside m (heir_lid m)).rising rising) (λ _. rising)
+
+calls_rise : (calls : List Call) (m : Manager) → Rising m.counter m.pending → Rising (after_calls calls m).counter (after_calls calls m).pending
+calls_rise [] m rising = rising
+calls_rise (call ∷ calls) m rising = calls_rise calls (after_call m call) (call_rises m call rising)
+
+-- what a call is to the steps ---------------------------------------------------------------------------
+
+-- how many that count wait or are still to be sent
+abbrev left_of : Manager → Writing → ℕ
+left_of m w = how_many counts m.pending + counting_in w.later
+
+-- one that counts may have ended, done or not
+record StepsOn (w : Writing) (m after : Manager) (d : ℕ) : Type 0 where
+  now : Writing
+  is : after.writing ≡ Some now
+  first : CountFirst now.later
+  starts : StartsWithSteps now.later
+  ended : Bool
+  was_done : Bool
+  left : left_of after now + one_if ended ≡ left_of m w
+  failed : now.has_failed ≡ w.has_failed || (ended && not was_done)
+  done : d ≡ one_if (ended && was_done)
+  rising : Rising after.counter after.pending
+
+or_false : (b : Bool) → b ≡ b || false
+or_false true = refl
+or_false false = refl
+
+module _ (m : Manager) (w : Writing) (writing : m.writing ≡ Some w) (first : CountFirst w.later) (starts : StartsWithSteps w.later)
+    (rising : Rising m.counter m.pending) where
+  from_beside : (after : Manager) → Beside m after → StepsOn w m after 0
+  from_beside after beside =
+      record {
+        now = w;
+        is = beside.writing ∙ writing;
+        first = first;
+        starts = starts;
+        ended = false;
+        was_done = false;
+        left = let same = beside.many in omega (arith, same);
+        failed = or_false w.has_failed;
+        done = refl;
+        rising = beside.rising rising;
+      }
+
+  -- a step is over
+  step_ends : (p : Pending) → Contains m.pending p → (was_done : Bool) → StepsOn w m (step_over m p was_done) (one_if (counts p && was_done))
+  step_ends p there was_done =
+      subst (λ (o : Option Writing). StepsOn w m (went_on_with (over_by m p was_done o) (noted (counts p) was_done o)) (one_if (counts p && was_done))) (sym writing)
+      (cond_both (no_step_waits (without_number p.number m.pending)) (phase_sent m1 w1) m1 (λ (x : Manager). StepsOn w m x (one_if (counts p && was_done)))
+      (λ _. goes_on) (λ _. stands))
+    where
+      w1 : Writing
+      w1 = record w { has_failed = w.has_failed || (counts p && not was_done) }
+
+      m1 : Manager
+      m1 = over_by m p was_done (Some w)
+
+      less : how_many counts (without_number p.number m.pending) + one_if (counts p) ≡ how_many counts m.pending
+      less = many_over m.counter m.pending p rising there
+
+      stands : StepsOn w m m1 (one_if (counts p && was_done))
+      stands =
+          record {
+            now = w1;
+            is = refl;
+            first = first;
+            starts = starts;
+            ended = counts p;
+            was_done = was_done;
+            left = omega (arith, less);
+            failed = refl;
+            done = refl;
+            rising = over_rises m p rising;
+          }
+
+      goes_on : StepsOn w m (phase_sent m1 w1) (one_if (counts p && was_done))
+      goes_on =
+          let next = next_phase w.later in
+          let sent = many_both (without_number p.number m.pending) (next_pending m.counter w.later) in
+          let phase = many_numbered next.counts m.counter next.steps in
+          let later = passed_counting (drop 1 w.later) in
+          let all = first_counting w.later in
+          record {
+            now = record w1 { later = passed (drop 1 w.later) };
+            is = refl;
+            first = passed_keeps (drop 1 w.later) (drop_keeps w.later first);
+            starts = passed_starts (drop 1 w.later);
+            ended = counts p;
+            was_done = was_done;
+            left = omega (arith, less, sent, phase, later, all);
+            failed = refl;
+            done = refl;
+            rising = phase_rises m1 w1 (over_rises m p rising);
+          }
+
+  -- another request is over
+  gone_beside : (p : Pending) → Contains m.pending p → counts p ≡ false → (after : Manager) → after.writing ≡ m.writing
+      → after.pending ≡ without_number p.number m.pending → after.counter ≡ m.counter → Beside m after
+  gone_beside p there other after same pending counter =
+      record {
+        writing = same;
+        many =
+            let less = many_over m.counter m.pending p rising there in
+            let none = ap one_if other in
+            let gone = ap (how_many counts) pending in
+            omega (arith, less, none, gone);
+        rising = λ r. subst (λ ps. Rising after.counter ps) (sym pending) (subst (λ n. Rising n (without_number p.number m.pending)) (sym counter) (over_rises m p r));
+      }
+
+  none_done : (c b : Bool) → 0 ≡ one_if (c && (b && false))
+  none_done true true = refl
+  none_done true false = refl
+  none_done false b = refl
+
+  all_done : (c b : Bool) → one_if (c && b) ≡ one_if (c && (b && true))
+  all_done true true = refl
+  all_done true false = refl
+  all_done false b = refl
+
+  none_timed : (c b : Bool) → one_if (c && (false && b)) ≡ 0
+  none_timed true b = refl
+  none_timed false b = refl
+
+  request_ends : (p : Pending) → Contains m.pending p → (answer : Option ℕ)
+      → StepsOn w m (request_over m p answer p.purpose).manager (one_if (counts p && (is_done_by answer && is_none (request_over m p answer p.purpose).fault)))
+  request_ends p there answer = by_purpose p.purpose refl
+    where
+      by_purpose : (u : Purpose) → p.purpose ≡ u
+          → StepsOn w m (request_over m p answer u).manager (one_if (counts p && (is_done_by answer && is_none (request_over m p answer u).fault)))
+      by_purpose purpose.Poll is =
+          let other : counts p ≡ false = ap (λ u. counts (record p { purpose = u })) is in
+          subst (λ b. StepsOn w m (request_over m p answer purpose.Poll).manager (one_if (b && (is_done_by answer && true)))) (sym other)
+          (from_beside _ (gone_beside p there other _ refl refl refl))
+      by_purpose purpose.Control is =
+          let other : counts p ≡ false = ap (λ u. counts (record p { purpose = u })) is in
+          subst (λ b. StepsOn w m (request_over m p answer purpose.Control).manager (one_if (b && (is_done_by answer && true)))) (sym other)
+          (from_beside _ (gone_beside p there other _ refl refl refl))
+      by_purpose (purpose.Step c) is =
+          cond_both (is_spent (step_over m p (is_done_by answer))) (refused m SequenceSpent) (done_call (step_over m p (is_done_by answer)))
+          (λ (x : Called). StepsOn w m x.manager (one_if (counts p && (is_done_by answer && is_none x.fault))))
+          (λ _. subst (StepsOn w m m) (none_done (counts p) (is_done_by answer)) (from_beside m (nothing m)))
+          (λ _. subst (StepsOn w m (step_over m p (is_done_by answer))) (all_done (counts p) (is_done_by answer)) (step_ends p there (is_done_by answer)))
+
+  packet_ends : (bytes : List ℕ) (from : Option ℕ) (why : Option SmpFault) → StepsOn w m (packet_taken m bytes from why).manager (one_if (does_by_packet m bytes why))
+  packet_ends bytes from (Some why) = from_beside m (nothing m)
+  packet_ends bytes from None = by_tests (is_info_request bytes) (is_for_sweep bytes)
+    where
+      by_pending : (o : Option Pending) → pending_for m bytes ≡ o → StepsOn w m (request_answered m bytes o).manager (one_if (does_request m bytes o))
+      by_pending None e = from_beside m (nothing m)
+      by_pending (Some p) e = request_ends p (found_there (answers bytes) m.pending p e).0 (Some (status bytes))
+
+      by_tests : (a b : Bool)
+          → StepsOn w m (cond a (unless_spent m (served m bytes from)) (cond b (sweep_answered m bytes m.sweep) (request_answered m bytes (pending_for m bytes)))).manager
+          (one_if (cond a false (cond b false (does_request m bytes (pending_for m bytes)))))
+      by_tests true b = from_beside _ (serves_beside m bytes from)
+      by_tests false true = from_beside _ (sweep_beside m bytes m.sweep)
+      by_tests false false = by_pending (pending_for m bytes) refl
+
+  timeout_ends : (transaction : ℕ) → StepsOn w m (gave_up m transaction).manager 0
+  timeout_ends transaction =
+      cond_both (nat_le (2 ^ 32) transaction) (sweep_gave_up m transaction m.sweep) (request_gave_up m (with_number transaction m.pending))
+      (λ (x : Called). StepsOn w m x.manager 0) (λ _. from_beside _ (sweep_timed_beside m transaction m.sweep)) (λ _. by_pending (with_number transaction m.pending) refl)
+    where
+      by_pending : (o : Option Pending) → with_number transaction m.pending ≡ o → StepsOn w m (request_gave_up m o).manager 0
+      by_pending None e = from_beside m (nothing m)
+      by_pending (Some p) e =
+          subst (StepsOn w m (request_over m p None p.purpose).manager) (none_timed (counts p) (is_none (request_over m p None p.purpose).fault))
+          (request_ends p (found_there (λ (x : Pending). x.number == transaction) m.pending p e).0 None)
+
+  call_ends : (call : Call) → BeginsNone m call → StepsOn w m (after_call m call) (one_if (does_step m call))
+  call_ends BeginSweep begins =
+      cond_both (is_none (begin_fault m)) (sweep_begun m) m (λ (x : Manager). StepsOn w m x 0)
+      (λ _. from_beside (sweep_begun m) (record { writing = refl; many = refl; rising = λ r. r })) (λ _. from_beside m (nothing m))
+  call_ends WriteSteps begins = by_fault (writing_fault m) refl
+    where
+      by_fault : (o : Option ManagerFault) → writing_fault m ≡ o → StepsOn w m (cond (is_none o) (writing_begun m) m) 0
+      by_fault None e = absurd (begins e)
+      by_fault (Some why) e = from_beside m (nothing m)
+  call_ends Take begins = from_beside _ (takes_beside m m.outgoing)
+  call_ends (Packet bytes from) begins = packet_ends bytes from (fault_of bytes)
+  call_ends (Timeout transaction) begins = timeout_ends transaction
+  call_ends (Raise floor) begins = from_beside _ (record { writing = refl; many = refl; rising = λ r. r })
+  call_ends (Merge floor sightings) begins = from_beside _ (record { writing = refl; many = refl; rising = λ r. r })
+  call_ends (Poll lid) begins =
+      cond_both (is_none (poll_fault m)) (poll_sent m lid) m (λ (x : Manager). StepsOn w m x 0) (λ _. from_beside _ (asks_beside m (info_pending m.counter purpose.Poll 0) (poll_out m.counter lid) refl refl)) (λ _. from_beside m (nothing m))
+  call_ends Handover begins =
+      cond_both (is_none (handover_fault m)) (handed_over m) m (λ (x : Manager). StepsOn w m x 0) (λ _. from_beside _ (hands_beside m (heir_lid m))) (λ _. from_beside m (nothing m))
+
+-- all calls ---------------------------------------------------------------------------------------------
+
+-- where none failed, those that were done and those that are left are all; else they are fewer
+record Balanced (total d : ℕ) (m : Manager) : Type 0 where
+  now : Writing
+  is : m.writing ≡ Some now
+  first : CountFirst now.later
+  starts : StartsWithSteps now.later
+  good : now.has_failed ≡ false → d + left_of m now ≡ total
+  bad : now.has_failed ≡ true → d + left_of m now < total
+  rising : Rising m.counter m.pending
+
+balanced_on : (total d : ℕ) (m : Manager) (call : Call) → Balanced total d m → BeginsNone m call
+    → Balanced total (d + one_if (does_step m call)) (after_call m call)
+balanced_on total d m call b begins =
+    let s = call_ends m b.now b.is b.first b.starts b.rising call begins in
+    record {
+      now = s.now;
+      is = s.is;
+      first = s.first;
+      starts = s.starts;
+      good = λ works. good s.ended s.was_done b.now.has_failed (left_of (after_call m call) s.now) (one_if (does_step m call)) s.left s.done (sym s.failed ∙ works) b.good;
+      bad = λ fails. bad s.ended s.was_done b.now.has_failed (left_of (after_call m call) s.now) (one_if (does_step m call)) s.left s.done (sym s.failed ∙ fails) b.good b.bad;
+      rising = s.rising;
+    }
+  where
+    before : ℕ
+    before = left_of m b.now
+
+    good : (ended was_done failed : Bool) (after one : ℕ) → after + one_if ended ≡ before → one ≡ one_if (ended && was_done)
+        → failed || (ended && not was_done) ≡ false → (failed ≡ false → d + before ≡ total) → (d + one) + after ≡ total
+    good ended was_done true after one left done works h = absurd (cc)
+    good true true false after one left done works h = let e = h refl in omega (arith, left, done, e)
+    good true false false after one left done works h = absurd (cc)
+    good false was_done false after one left done works h = let e = h refl in omega (arith, left, done, e)
+
+    bad : (ended was_done failed : Bool) (after one : ℕ) → after + one_if ended ≡ before → one ≡ one_if (ended && was_done)
+        → failed || (ended && not was_done) ≡ true → (failed ≡ false → d + before ≡ total) → (failed ≡ true → d + before < total) → (d + one) + after < total
+    bad true true true after one left done fails h k = let e = k refl in omega (arith, left, done, e)
+    bad true false true after one left done fails h k = let e = k refl in omega (arith, left, done, e)
+    bad false was_done true after one left done fails h k = let e = k refl in omega (arith, left, done, e)
+    bad true true false after one left done fails h k = absurd (cc)
+    bad true false false after one left done fails h k = let e = h refl in omega (arith, left, done, e)
+    bad false was_done false after one left done fails h k = absurd (cc)
+
+balanced_calls : (total d : ℕ) (calls : List Call) (m : Manager) → Balanced total d m → BeginNone calls m
+    → Balanced total (d + steps_done calls m) (after_calls calls m)
+balanced_calls total d [] m b begin = let same : d ≡ d + 0 = omega arith in subst (λ n. Balanced total n m) same b
+balanced_calls total d (call ∷ calls) m b begin =
+    let rest = balanced_calls total (d + one_if (does_step m call)) calls (after_call m call) (balanced_on total d m call b begin.0) begin.1 in
+    let same : (d + one_if (does_step m call)) + steps_done calls (after_call m call) ≡ d + (one_if (does_step m call) + steps_done calls (after_call m call)) = omega arith in
+    subst (λ n. Balanced total n (after_calls calls (after_call m call))) same rest
+
+-- the end -----------------------------------------------------------------------------------------------
+
+from_not : (b : Bool) → not b ≡ true → b ≡ false
+from_not true h = absurd (cc)
+from_not false h = refl
+
+written_exactly : (total d : ℕ) (m : Manager) → Balanced total d m → ((is_written m ≡ true) → d ≡ total) × (d ≡ total → is_written m ≡ true)
+written_exactly total d m b = (
+  λ written.
+      let h : is_written_by m.pending (Some b.now) ≡ true = ap (is_written_by m.pending) (sym b.is) ∙ written in
+      let parts = and_parts (not b.now.has_failed) (not (list_any (λ (p : Phase). p.counts) b.now.later) && none_counts m.pending) h in
+      let rest = and_parts (not (list_any (λ (p : Phase). p.counts) b.now.later)) (none_counts m.pending) parts.1 in
+      let sent = none_counting b.now.later (from_not _ rest.0) in
+      let answered = eqb-true (how_many counts m.pending) 0 rest.1 in
+      let all = b.good (from_not _ parts.0) in
+      omega (arith, sent, answered, all),
+  λ each. ap (is_written_by m.pending) b.is ∙ by_failed each b.now.has_failed refl,
+)
+  where
+    by_failed : d ≡ total → (failed : Bool) → b.now.has_failed ≡ failed → is_written_by m.pending (Some b.now) ≡ true
+    by_failed each true e = let few = b.bad e in absurd (omega (arith, each, few))
+    by_failed each false e =
+        let all = b.good e in
+        let waiting : how_many counts m.pending ≡ 0 = omega (arith, each, all) in
+        let later : counting_in b.now.later ≡ 0 = omega (arith, each, all) in
+        and_from (not b.now.has_failed) (not (list_any (λ (p : Phase). p.counts) b.now.later) && none_counts m.pending) (ap not e)
+        (and_from (not (list_any (λ (p : Phase). p.counts) b.now.later)) (none_counts m.pending)
+        (ap not (no_phase_left b.now.later b.first b.starts later)) (eq-eqb (how_many counts m.pending) 0 waiting))
+
+-- the beginning -----------------------------------------------------------------------------------------
+
+phases_count_first : (m : Manager) (o : Option Sweep) → CountFirst (phases_by m o)
+phases_count_first m None = tt
+phases_count_first m (Some s) = (λ e. absurd (cc e), (λ e. absurd (cc e), (λ e. absurd (cc e), (λ _. (refl, tt), (λ _. tt, tt)))))
+
+none_waits : (m : Manager) → write_fault m ≡ None → no_step_waits m.pending ≡ true
+none_waits m e = by_sweep m.sweep e
+  where
+    third : (a b c : Bool) (u v w : ManagerFault) → cond a (Some u) (cond b (Some v) (cond (not c) (Some w) None)) ≡ None → c ≡ true
+    third true b c u v w h = absurd (cc)
+    third false true c u v w h = absurd (cc)
+    third false false true u v w h = refl
+    third false false false u v w h = absurd (cc)
+
+    by_sweep : (o : Option Sweep) → write_fault_with m o ≡ None → no_step_waits m.pending ≡ true
+    by_sweep None h = absurd (cc)
+    by_sweep (Some s) h = third (not (is_in Master m.standing)) (not (is_done s)) (no_step_waits m.pending) NotMaster SweepRunning WritingRunning h
+
+begins_balanced : (m : Manager) → Rising m.counter m.pending → writing_fault m ≡ None → Balanced (counting_in (phases_by m m.sweep)) 0 (writing_begun m)
+begins_balanced m rising e =
+    let phases = phases_by m m.sweep in
+    let next = next_phase (passed phases) in
+    let none = eqb-true (how_many is_step m.pending) 0 (none_waits m (may_begin m e).may) in
+    let fewer = fewer_count m.pending in
+    let sent = many_both m.pending (next_pending m.counter (passed phases)) in
+    let phase = many_numbered next.counts m.counter next.steps in
+    let later = passed_counting (drop 1 (passed phases)) in
+    let all = first_counting (passed phases) in
+    let whole = passed_counting phases in
+    record {
+      now = record { later = passed (drop 1 (passed phases)); has_failed = false };
+      is = refl;
+      first = passed_keeps (drop 1 (passed phases)) (drop_keeps (passed phases) (passed_keeps phases (phases_count_first m m.sweep)));
+      starts = passed_starts (drop 1 (passed phases));
+      good = λ _. omega (arith, none, fewer, sent, phase, later, all, whole);
+      bad = λ fails. absurd (cc fails);
+      rising = phase_rises m (record { later = passed phases; has_failed = false }) rising;
+    }
+
+pub written_is_each_step_done : WrittenIsEachStepDone
+written_is_each_step_done port_guid port priority planning before after begins none =
+    let m = after_calls before (new_manager port_guid port priority planning) in
+    let rising = calls_rise before (new_manager port_guid port priority planning) (omega arith) in
+    let total = counting_in (phases_by m m.sweep) in
+    let all = balanced_calls total 0 after (writing_begun m) (begins_balanced m rising begins) none in
+    let same : 0 + steps_done after (writing_begun m) ≡ steps_done after (writing_begun m) = omega arith in
+    written_exactly total (steps_done after (writing_begun m)) (after_calls after (writing_begun m))
+    (subst (λ n. Balanced total n (after_calls after (writing_begun m))) same all)

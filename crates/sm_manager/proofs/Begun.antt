@@ -1,0 +1,77 @@
+-- Where a writing may begin there are numbers for its first phase.
+use Rattle.std.proofs.Common.{◌≡◌, ◌≤◌, ◌+◌, ◌^◌, ℕ, Bool, true, false, cond, List, [], ◌∷◌, length, refl, sym, ap, ◌∙◌, arith}
+use Rattle.std.proofs.lemmas.Bool.{ltb-false}
+use Rattle.std.specs.Prelude.{Option, Some, None, ◌==◌, nat_lt}
+use Rattle.std.specs.List.{AllByRecursion}
+use Rattle.fact_store.specs.View.{cells_of}
+use Rattle.lid_assign.specs.declared.fault.NoRoom.{NoRoom}
+use Rattle.lid_assign.specs.LidFault.{no_room}
+use Rattle.lid_assign.specs.Lids.{IsNoRoom, is_no_room}
+use Rattle.plan_steps.specs.Bound.{most_steps}
+use Rattle.plan_steps.specs.Lids.{own_lid}
+use Rattle.plan_steps.specs.Phases.{Phase}
+use Rattle.plan_steps.proofs.Bounds.{phase_bound_law}
+use Rattle.lft_blocks.specs.Plan.{plan_of}
+use Rattle.sweep.specs.Sweep.{Sweep}
+use Rattle.sm_manager.specs.declared.fault.ManagerFault.{ManagerFault}
+use Rattle.sm_manager.specs.Manager.{Manager}
+use Rattle.sm_manager.specs.Plans.{number_fault, or_else, plan_fault, room_fault, writing_fault}
+use Rattle.sm_manager.specs.Writing.{next_phase, passed, phases_by, write_fault}
+use Rattle.sm_manager.proofs.Over.{numbers_there}
+
+pub or_none : (a b : Option ManagerFault) → or_else a b ≡ None → (a ≡ None) × (b ≡ None)
+or_none None b e = (refl, e)
+or_none (Some x) b e = absurd (cc)
+
+pub room_there : (lmc : ℕ) (m : Manager) → plan_fault lmc (cells_of m.store) ≡ None → ¬ (IsNoRoom lmc (cells_of m.store))
+room_there lmc m h none = absurd (cc (sym none ∙ no_room_there (is_no_room lmc (cells_of m.store)) _ (no_why (no_room lmc (cells_of m.store)) h)))
+  where
+    no_why : (why : Option NoRoom) → room_fault why ≡ None → why ≡ None
+    no_why None h = refl
+    no_why (Some why) h = absurd (cc)
+
+    no_room_there : (b : Bool) (why : NoRoom) → cond b (Some why) None ≡ None → b ≡ false
+    no_room_there true why h = absurd (cc)
+    no_room_there false why h = refl
+
+-- what may begin: nothing forbids it, there are numbers, and there is room
+pub record MayBegin (m : Manager) : Type 0 where
+  pub may : write_fault m ≡ None
+  pub numbers : m.counter + most_steps (cells_of m.store) ≤ 2 ^ 32
+  pub has_room : ¬ (IsNoRoom m.planning.lmc (cells_of m.store))
+
+pub may_begin : (m : Manager) → writing_fault m ≡ None → MayBegin m
+may_begin m e =
+    let outer = or_none (write_fault m) (or_else (plan_fault m.planning.lmc (cells_of m.store)) (number_fault (m.counter + most_steps (cells_of m.store)))) e in
+    let inner = or_none (plan_fault m.planning.lmc (cells_of m.store)) (number_fault (m.counter + most_steps (cells_of m.store))) outer.1 in
+    record {
+      may = outer.0;
+      numbers = numbers_there (m.counter + most_steps (cells_of m.store)) inner.1;
+      has_room = room_there m.planning.lmc m inner.0;
+    }
+
+first_at_most : (most : ℕ) (phases : List Phase) → AllByRecursion (λ (p : Phase). length p.steps ≤ most) phases
+    → length (next_phase (passed phases)).steps ≤ most
+first_at_most most [] all = omega arith
+first_at_most most (p ∷ phases) all = by_test (length p.steps == 0) (first_at_most most phases all.1)
+  where
+    by_test : (b : Bool) → length (next_phase (passed phases)).steps ≤ most → length (next_phase (cond b (passed phases) (p ∷ phases))).steps ≤ most
+    by_test true rest = rest
+    by_test false rest = all.0
+
+-- so there are as many as the first phase has steps
+pub first_phase_fits : (m : Manager) → writing_fault m ≡ None → m.counter + length (next_phase (passed (phases_by m m.sweep))).steps ≤ 2 ^ 32
+first_phase_fits m e =
+    let may = may_begin m e in
+    let few = by_sweep m.sweep may.has_room in
+    let numbers = may.numbers in
+    omega (arith, few, numbers)
+  where
+    by_sweep : (o : Option Sweep) → ¬ (IsNoRoom m.planning.lmc (cells_of m.store))
+        → length (next_phase (passed (phases_by m o))).steps ≤ most_steps (cells_of m.store)
+    by_sweep None has_room = omega arith
+    by_sweep (Some s) has_room =
+        let cells = cells_of m.store in
+        first_at_most (most_steps cells) (phases_by m (Some s))
+        (phase_bound_law m.planning.rule m.planning.lmc m.store s
+        (own_lid cells (plan_of m.planning.rule m.planning.lmc cells).given.ports m.standing.guid m.port) has_room)

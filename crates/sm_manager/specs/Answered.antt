@@ -1,0 +1,71 @@
+-- The steps of a writing that were answered, and as done, call by call.
+use Rattle.std.specs.Prelude.{◌≡◌, ◌≢◌, ◌↔◌, ℕ, ◌+◌, Bool, true, false, ◌&&◌, not, List, [], ◌∷◌, length, ◌==◌, if◌then◌else◌, Option, Some, None, is_none}
+use Rattle.smp_bytes.specs.Header.{done}
+use Rattle.smp_bytes.specs.Packet.{fault_of, status}
+use Rattle.smp_bytes.specs.declared.smp_fault.SmpFault.{SmpFault}
+use Rattle.plan_steps.specs.Phases.{Phase}
+use Rattle.sm_manager.specs.declared.pending.Pending.{Pending}
+use Rattle.sm_manager.specs.Calls.{Call, BeginSweep, WriteSteps, Take, Packet, Timeout, Raise, Merge, Poll, Handover, after_call, after_calls}
+use Rattle.sm_manager.specs.Manager.{Manager, new_manager}
+use Rattle.sm_manager.specs.Packets.{is_for_sweep, is_info_request, pending_for, request_answered}
+use Rattle.sm_manager.specs.Planning.{Planning}
+use Rattle.sm_manager.specs.Plans.{writing_fault}
+use Rattle.sm_manager.specs.Requests.{counts}
+use Rattle.sm_manager.specs.Writing.{is_written, phases_by, writing_begun}
+
+-- the request that a packet answers is a step that counts, the answer's status is 0, and the answer is taken
+abbrev pub does_request : Manager → List ℕ → Option Pending → Bool
+does_request m packet None = false
+does_request m packet (Some p) = counts p && (status packet == done && is_none (request_answered m packet (Some p)).fault)
+
+abbrev pub does_by_packet : Manager → List ℕ → Option SmpFault → Bool
+does_by_packet m packet (Some why) = false
+does_by_packet m packet None =
+    if is_info_request packet then false
+    else if is_for_sweep packet then false
+    else does_request m packet (pending_for m packet)
+
+-- by the call a step that counts was answered, and as done
+abbrev pub does_step : Manager → Call → Bool
+does_step m BeginSweep = false
+does_step m WriteSteps = false
+does_step m Take = false
+does_step m (Packet bytes from) = does_by_packet m bytes (fault_of bytes)
+does_step m (Timeout transaction) = false
+does_step m (Raise floor) = false
+does_step m (Merge floor sightings) = false
+does_step m (Poll lid) = false
+does_step m Handover = false
+
+abbrev pub one_if : Bool → ℕ
+one_if true = 1
+one_if false = 0
+
+-- how many were by these calls
+abbrev pub steps_done : List Call → Manager → ℕ
+steps_done [] m = 0
+steps_done (call ∷ calls) m = one_if (does_step m call) + steps_done calls (after_call m call)
+
+abbrev pub BeginsNone : Manager → Call → Type 0
+BeginsNone m WriteSteps = writing_fault m ≢ None
+BeginsNone m call = Unit {0}
+
+-- none of these calls begins a writing
+abbrev pub BeginNone : List Call → Manager → Type 0
+BeginNone [] m = Unit {0}
+BeginNone (call ∷ calls) m = BeginsNone m call × BeginNone calls (after_call m call)
+
+-- how many steps the phases have that count: LIDs, blocks and tops
+abbrev pub counting_in : List Phase → ℕ
+counting_in [] = 0
+counting_in (p ∷ phases) = (if p.counts then length p.steps else 0) + counting_in phases
+
+-- where a writing begins after any calls and no other one follows, it is written exactly where each of its steps that count was answered, and as done
+abbrev pub WrittenIsEachStepDone : Type 0
+WrittenIsEachStepDone =
+    (port_guid port priority : ℕ) (planning : Planning) (before after : List Call)
+    → writing_fault (after_calls before (new_manager port_guid port priority planning)) ≡ None
+    → BeginNone after (writing_begun (after_calls before (new_manager port_guid port priority planning)))
+    → (is_written (after_calls after (writing_begun (after_calls before (new_manager port_guid port priority planning)))) ≡ true)
+    ↔ (steps_done after (writing_begun (after_calls before (new_manager port_guid port priority planning)))
+    ≡ counting_in (phases_by (after_calls before (new_manager port_guid port priority planning)) (after_calls before (new_manager port_guid port priority planning)).sweep))

@@ -1,0 +1,598 @@
+-- A manager that takes over: on an adapter, at a switch to which another adapter is wired, where another manager sits. Both adapters and the switch hold
+-- LIDs, and the switch a forwarding table.
+use Rattle.std.proofs.Common.{◌≡◌, ◌≢◌, ℕ, zero, suc, ◌+◌, ◌*◌, ◌-◌, ◌^◌, ◌<◌, Bool, true, false, List, [], ◌∷◌, ◌++◌, length, map, replicate}
+use Rattle.std.proofs.Common.{refl, sym, ap, ◌∙◌, subst, arith}
+use Rattle.std.proofs.Math.ListN.{get_or-map}
+use Rattle.std.proofs.lemmas.Option.{same_Some}
+use Rattle.std.proofs.lemmas.Bool.{and_parts, eq-eqb}
+use Rattle.std.proofs.lemmas.List.Elements.{All-from_recursion}
+use Rattle.std.specs.Prelude.{if◌then◌else◌, Option, Some, None, drop, is_none, is_some, max, slice_get, slice_index_or, ◌==◌, ◌&&◌, not}
+use Rattle.std.specs.List.{AllByRecursion, list_all}
+use Rattle.std.specs.Option.{option_map_or}
+use Rattle.smp_bytes.specs.declared.cable.NodePort.{NodePort}
+use Rattle.smp_bytes.specs.declared.node_type.NodeType.TheVariants.{ChannelAdapter, Switch}
+use Rattle.smp_bytes.specs.Fabric as fabric
+use Rattle.smp_bytes.specs.Fabric.{IsNodeAt, IsEndPortNumber}
+use Rattle.smp_bytes.specs.FabricWalks.{IsJoinedTo}
+use Rattle.smp_bytes.specs.Field.{number_in, with_bytes}
+use Rattle.smp_bytes.specs.Header.{set, sm_info}
+use Rattle.smp_bytes.specs.Packet.{method}
+use Rattle.attr_codec.specs.declared.port_state.PortState.TheVariants.{Down}
+use Rattle.node_agents.specs.declared.port.Port.{Port}
+use Rattle.node_agents.specs.Agent.{Agent, base_lid_at, fresh_agent, node_of, port_in}
+use Rattle.node_agents.specs.Answers.{answered, get_of, set_of}
+use Rattle.node_agents.specs.PortInfo.{changed_port}
+use Rattle.fact_join.specs.declared.cell.Cell.{Cell}
+use Rattle.fact_join.specs.declared.cell.Cell.TheVariants.{Known}
+use Rattle.fact_store.specs.declared.key.Key.{Key}
+use Rattle.fact_store.specs.declared.key.Key.TheVariants.{Node as NodeKey, PortGuid, Link, Port as PortKey, Claim, Cap}
+use Rattle.fact_store.specs.declared.value.Value.{Value}
+use Rattle.fact_store.specs.declared.value.Value.TheVariants.{Kind, Guid, Peer, Up, Lid, Count}
+use Rattle.fact_store.specs.Merge.{merge}
+use Rattle.fact_store.specs.Report.{Told}
+use Rattle.fact_store.specs.View.{Facts, cells_of, no_facts, view}
+use Rattle.fact_store.proofs.Entries.{cells_of_view, entries-view}
+use Rattle.fact_store.proofs.Views.{view_of_both}
+use Rattle.subnet_view.specs.Agreement.{AgreesOn}
+use Rattle.subnet_view.specs.Reading.{Cells}
+use Rattle.lid_assign.specs.Lids.{IsNoRoom}
+use Rattle.lft_blocks.specs.Arrival.{HoldsPlan, HoldsPlanAt}
+use Rattle.lft_blocks.specs.Plan.{PlanValue, block_at, plan_of}
+use Rattle.plan_steps.specs.Bound.{most_steps}
+use Rattle.plan_steps.specs.declared.step.Step.{Step}
+use Rattle.plan_steps.specs.Step.{set_packet}
+use Rattle.plan_steps.specs.Phases.{Phase, phases_of}
+use Rattle.fabric_sim.specs.declared.flight.Flight.{Flight}
+use Rattle.fabric_sim.specs.Simulation.{Simulation, fabric_of, flight_with}
+use Rattle.fabric_sim.specs.Delivery.{outcome_of, delivered}
+use Rattle.fabric_sim.specs.Changes.{injected, joined}
+use Rattle.sweep.specs.Sweep.{Sweep, started}
+use Rattle.sm_manager.specs.Manager.{Manager, begin_fault, new_manager, sweep_begun, with_sweep}
+use Rattle.sm_manager.specs.Planning.{Planning}
+use Rattle.spread_rule.specs.Rules.{up_and_down}
+use Rattle.sm_laws.specs.Scene.{Answer, Deliver, Lose, Repeat, Send as SendFrom}
+use Rattle.sm_manager.specs.Standing.{active_once_more}
+use Rattle.sm_manager.specs.declared.fault.ManagerFault.{ManagerFault}
+use Rattle.sm_manager.specs.declared.fault.ManagerFault.TheVariants.{GenerationsSpent}
+use Rattle.sm_manager.specs.Plans.{number_fault, or_else, plan_fault, writing_fault}
+use Rattle.sm_manager.specs.Writing.{begun_with, next_phase, phases_by, write_fault_with, writing_begun}
+use Rattle.sweep_complete.specs.Complete.{IsWhole}
+use Rattle.sweep_complete.proofs.Lists.{all_append}
+use Rattle.written_laws.specs.Managing.{Managing, ManagerEvent, Around, Begin, Write, Take, Send, Hear, TimeOut, Raise, Merge, Poll, HandOver}
+use Rattle.written_laws.proofs.Example.{asks_for, taken_as_own, taken_by_none}
+use Rattle.written_laws.proofs.Generations.{nothing_found, nothing_newest}
+use Rattle.written_laws.proofs.Rests.{new_managers_rest}
+use Rattle.written_laws.proofs.Steps.{IsSendable}
+use Rattle.written_laws.specs.Pings.{AreNoSweeps, BeginsNoSweep}
+use Rattle.written_laws.specs.Sets.{IsOwnSet, KeepsPlan, OwnSets}
+use Rattle.written_laws.specs.Written.{AllKeep, IsWritingRun, at_writing, own_sets, plan_at}
+use Rattle.takeover_laws.specs.Claims.{HasLidsOf}
+use Rattle.takeover_laws.specs.Takeover.{AllCarry, Carrying, LidsStayAround, SomeManagerTakesOver, SweepsAlone, TakesOver, plan_by_it}
+use Rattle.takeover_laws.proofs.Takeover.{found_agrees}
+use Rattle.written_laws.specs.Managing.{CanBe, Starts, after_manager_event, after_manager_events}
+use Rattle.takeover_laws.proofs.ExampleFabric.{bare_agent, distinct, is_network, network, port, table, with_lid}
+
+-- the manager, and its sweep ------------------------------------------------------------------------------------
+
+abbrev pub its_planning : Planning
+its_planning = record { lmc = 0; rule = up_and_down }
+
+abbrev pub beginning : Managing
+beginning = record { scene = record { fabric = network; handed = [] }; seat = port 0 1; manager = new_manager 17 1 0 its_planning; out = [] }
+
+starts : Starts beginning
+unfolding joined fresh_agent
+starts =
+    record {
+      quiet = record { fabric = is_network; flights = refl; handed = refl };
+      distinct = distinct;
+      seat = refl;
+      port = refl;
+      lmc = omega arith;
+      at_rest = new_managers_rest 17 1 0 its_planning;
+      out = refl;
+    }
+
+-- the manager as it is when a sweep of a generation has begun
+abbrev sweeping_with : ℕ → Managing
+sweeping_with generation =
+    record beginning {
+      manager = with_sweep (record (new_manager 17 1 0 its_planning) { standing = active_once_more (new_manager 17 1 0 its_planning).standing; seen = [] }) (started 1 generation 1);
+    }
+
+may_begin : begin_fault (new_manager 17 1 0 its_planning) ≡ None
+may_begin = ap (λ n. if n == 2 ^ 32 - 1 then Some GenerationsSpent else None) nothing_newest
+
+begun : after_manager_event beginning Begin ≡ sweeping_with 1
+begun =
+    ap (λ o. record beginning { manager = if is_none o then sweep_begun (new_manager 17 1 0 its_planning) else new_manager 17 1 0 its_planning }) may_begin
+    ∙ ap (λ n. sweeping_with (max (n + 1) 1)) nothing_newest
+
+-- so many deliveries of a packet
+abbrev deliveries : ℕ → ℕ → List ManagerEvent
+deliveries hops serial = replicate (hops + 1) (Around (Deliver serial))
+
+-- a request goes out over as many cables as its path has ports, and its answer comes back over as many
+abbrev trip : ℕ → ℕ → List ManagerEvent
+trip number hops = Take ∷ Send number ∷ (deliveries hops (2 * number) ++ (deliveries hops (2 * number + 1) ++ Hear number ∷ []))
+
+-- the last request is handed up to the other manager, which answers it
+abbrev to_manager : List ManagerEvent
+to_manager =
+    Take ∷ Send 9
+    ∷ (deliveries 2 18 ++ Around (SendFrom (port 2 1) (Answer 9 0 (replicate 64 0))) ∷ (deliveries 2 19 ++ Hear 10 ∷ []))
+
+abbrev pub between : List ManagerEvent
+between =
+    trip 0 0 ++ (trip 1 0 ++ (trip 2 1 ++ (trip 3 1 ++ (trip 4 1 ++ (trip 5 1 ++ (trip 6 1 ++ (trip 7 2 ++ (trip 8 2 ++ to_manager))))))))
+
+abbrev pub swept : Managing
+swept = after_manager_events between (sweeping_with 1)
+
+abbrev sweep_in : Option Sweep → Sweep
+sweep_in None = started 1 1 1
+sweep_in (Some s) = s
+
+whole : IsWhole (sweep_in swept.manager.sweep)
+unfolding joined fresh_agent injected delivered outcome_of answered get_of set_of changed_port with_bytes
+whole = record { done = refl; answered = refl; near = refl }
+
+-- what it was told ----------------------------------------------------------------------------------------------
+
+abbrev pub one : Key → Value → Key × Cell Value
+one key value = (key, Known 1 value)
+
+abbrev replies : List Told
+replies =
+    (one (NodeKey 16) (Kind ChannelAdapter 1) ∷ one (PortGuid 16 1) (Guid 17) ∷ [])
+    ∷ (one (PortKey 16 1) (Up true) ∷ one (Claim 16 1) (Lid 2) ∷ [])
+    ∷ (one (NodeKey 32) (Kind Switch 2) ∷ one (PortGuid 32 0) (Guid 32) ∷ one (Link 32 1) (Peer 16 1) ∷ one (Link 16 1) (Peer 32 1) ∷ [])
+    ∷ (one (Cap 32) (Count 64) ∷ [])
+    ∷ (one (PortKey 32 0) (Up true) ∷ one (Claim 32 0) (Lid 5) ∷ [])
+    ∷ (one (PortKey 32 1) (Up true) ∷ one (Claim 32 1) (Lid 0) ∷ [])
+    ∷ (one (PortKey 32 2) (Up true) ∷ one (Claim 32 2) (Lid 0) ∷ [])
+    ∷ (one (NodeKey 48) (Kind ChannelAdapter 1) ∷ one (PortGuid 48 1) (Guid 49) ∷ one (Link 48 1) (Peer 32 2) ∷ one (Link 32 2) (Peer 48 1) ∷ [])
+    ∷ (one (PortKey 48 1) (Up true) ∷ one (Claim 48 1) (Lid 7) ∷ []) ∷ [] ∷ []
+
+-- merged one after the other
+abbrev merged_with : Facts → List Told → Facts
+merged_with facts [] = facts
+merged_with facts (told ∷ later) = merged_with (merge facts (view told)) later
+
+abbrev joined_told : Told → List Told → Told
+joined_told all [] = all
+joined_told all (told ∷ later) = joined_told (all ++ told) later
+
+one_view : (all : Told) (later : List Told) → merged_with (view all) later ≡ view (joined_told all later)
+one_view all [] = refl
+one_view all (told ∷ later) = ap (λ x. merged_with x later) (sym (view_of_both 1 1 all told)) ∙ one_view (all ++ told) later
+
+merged_all : swept.manager.store ≡ merged_with no_facts replies
+unfolding joined fresh_agent injected delivered outcome_of answered get_of set_of changed_port with_bytes
+merged_all = refl
+
+abbrev pub all_told : Told
+all_told = joined_told [] replies
+
+abbrev cells : Cells
+cells = cells_of_view all_told
+
+known : cells_of swept.manager.store ≡ cells_of_view all_told
+known = ap cells_of (merged_all ∙ one_view [] replies) ∙ entries-view all_told
+
+-- its plan is what is held ----------------------------------------------------------------------------------------
+
+has_room : ¬ (IsNoRoom 0 (cells_of swept.manager.store))
+has_room = subst (λ c. ¬ (IsNoRoom 0 c)) (sym known) there_is
+  where
+    there_is : ¬ (IsNoRoom 0 cells)
+    there_is e = absurd (cc)
+
+abbrev plan : PlanValue
+plan = plan_of up_and_down 0 cells
+
+-- the one block of the switch, and none of an adapter
+block_here : (b : ℕ) (block : List ℕ) → block_at plan 32 b ≡ Some block → (b ≡ 0) × (block ≡ table)
+block_here zero block e = (refl, sym (same_Some _ _ e))
+block_here (suc b) block e = absurd (cc)
+
+no_block_first : (b : ℕ) (block : List ℕ) → block_at plan 16 b ≡ Some block → ⊥
+no_block_first b block e = cc
+
+no_block_last : (b : ℕ) (block : List ℕ) → block_at plan 48 b ≡ Some block → ⊥
+no_block_last b block e = cc
+
+in_table : (xs : List ℕ) (i : ℕ) → i < length xs → slice_get xs i ≡ Some (slice_index_or xs i 255)
+in_table [] i less = absurd (omega (arith, less))
+in_table (x ∷ xs) zero less = refl
+in_table (x ∷ xs) (suc i) less = in_table xs i (omega (arith, less))
+
+holds_at : (place p : ℕ) (node : fabric.Node) → IsNodeAt (fabric_of network) place node → IsEndPortNumber node p
+    → HoldsPlanAt plan (fabric_of network) (port place p) node
+unfolding joined fresh_agent
+holds_at zero p node there number =
+    let e : slice_get (fabric_of network).nodes 0 ≡ Some node = there in
+    first (same_Some _ _ e)
+  where
+    first : node_of (with_lid (bare_agent 0) 1 2) ≡ node → HoldsPlanAt plan (fabric_of network) (port 0 p) node
+    first same = subst (λ (n : fabric.Node). HoldsPlanAt plan (fabric_of network) (port 0 p) n) same
+        (by_port p (subst (λ (n : fabric.Node). IsEndPortNumber n p) (sym same) number))
+      where
+        by_port : (p : ℕ) → IsEndPortNumber (node_of (with_lid (bare_agent 0) 1 2)) p → HoldsPlanAt plan (fabric_of network) (port 0 p) (node_of (with_lid (bare_agent 0) 1 2))
+        by_port zero within = absurd (omega (arith, within.0))
+        by_port (suc zero) within = record { lids = refl; top = λ switch. absurd (cc); blocks = λ b block e. absurd (no_block_first b block e) }
+        by_port (suc (suc p)) within = absurd (omega (arith, within.1))
+holds_at (suc zero) p node there number = second (same_Some _ _ there)
+  where
+    second : node_of (record (with_lid (bare_agent 1) 0 5) { table = table; top = 7 }) ≡ node → HoldsPlanAt plan (fabric_of network) (port 1 p) node
+    second same = subst (λ (n : fabric.Node). HoldsPlanAt plan (fabric_of network) (port 1 p) n) same
+        (by_port p (subst (λ (n : fabric.Node). IsEndPortNumber n p) (sym same) number))
+      where
+        by_port : (p : ℕ) → IsEndPortNumber (node_of (record (with_lid (bare_agent 1) 0 5) { table = table; top = 7 })) p
+            → HoldsPlanAt plan (fabric_of network) (port 1 p) (node_of (record (with_lid (bare_agent 1) 0 5) { table = table; top = 7 }))
+        by_port zero is = record {
+          lids = refl;
+          top = λ switch top e. let same : 7 ≡ top = same_Some _ _ e in omega (arith, same);
+          blocks = λ b block e i less.
+              let (at_first, is_table) = block_here b block e in
+              let same : i ≡ 64 * b + i = omega (arith, at_first) in
+              ap (λ (xs : List ℕ). slice_get xs i) is_table ∙ in_table table i (omega (arith, less))
+              ∙ ap (λ n. Some (slice_index_or table n 255)) same;
+        }
+        by_port (suc p) is = absurd (omega (arith, is))
+holds_at (suc (suc zero)) p node there number = third (same_Some _ _ there)
+  where
+    third : node_of (with_lid (bare_agent 2) 1 7) ≡ node → HoldsPlanAt plan (fabric_of network) (port 2 p) node
+    third same = subst (λ (n : fabric.Node). HoldsPlanAt plan (fabric_of network) (port 2 p) n) same
+        (by_port p (subst (λ (n : fabric.Node). IsEndPortNumber n p) (sym same) number))
+      where
+        by_port : (p : ℕ) → IsEndPortNumber (node_of (with_lid (bare_agent 2) 1 7)) p → HoldsPlanAt plan (fabric_of network) (port 2 p) (node_of (with_lid (bare_agent 2) 1 7))
+        by_port zero within = absurd (omega (arith, within.0))
+        by_port (suc zero) within = record { lids = refl; top = λ switch. absurd (cc); blocks = λ b block e. absurd (no_block_last b block e) }
+        by_port (suc (suc p)) within = absurd (omega (arith, within.1))
+holds_at (suc (suc (suc n))) p node there number = absurd (cc)
+
+holds_plan : HoldsPlan (IsJoinedTo (fabric_of network) (port 0 1)) plan (fabric_of network)
+holds_plan q node is =
+    let (other, there, number) = is.end_port in
+    holds_at q.node q.port node is.node_there (subst (λ (n : fabric.Node). IsEndPortNumber n q.port) (same_Some _ _ (sym there ∙ is.node_there)) number)
+
+-- until it writes, no packet that is delivered is a Set, and no LID changes ---------------------------------------------
+
+abbrev is_no_set : Managing → ManagerEvent → Bool
+is_no_set w (Around (Deliver n)) = option_map_or (λ (f : Flight). not (number_in method f.packet.bytes == set)) (flight_with w.scene.fabric.flights n) true
+is_no_set w event = true
+
+abbrev are_no_sets : List ManagerEvent → Managing → Bool
+are_no_sets [] w = true
+are_no_sets (event ∷ events) w = is_no_set w event && are_no_sets events (after_manager_event w event)
+
+no_set_carries : (some_plan : PlanValue) (w : Managing) (event : ManagerEvent) → is_no_set w event ≡ true → Carrying some_plan w event
+no_set_carries some_plan w (Around (Deliver n)) e =
+    λ at a packet takes. absurd (by_flight takes.flight packet takes.bytes takes.method (flight_with w.scene.fabric.flights n) takes.waits e)
+  where
+    by_flight : (flight : Flight) (packet : List ℕ) → flight.packet.bytes ≡ packet → number_in method packet ≡ set
+        → (m : Option Flight) → m ≡ Some flight → option_map_or (λ (f : Flight). not (number_in method f.packet.bytes == set)) m true ≡ true → ⊥
+    by_flight flight packet bytes method_is m is h =
+        let test : not (number_in method flight.packet.bytes == set) ≡ true =
+        ap (λ (o : Option Flight). option_map_or (λ (f : Flight). not (number_in method f.packet.bytes == set)) o true) (sym is) ∙ h in
+        let sets : (number_in method flight.packet.bytes == set) ≡ true = eq-eqb _ _ (ap (number_in method) bytes ∙ method_is) in
+        cc (sym (ap not sets) ∙ test)
+no_set_carries some_plan w (Around (Lose n)) e = tt
+no_set_carries some_plan w (Around (Repeat n)) e = tt
+no_set_carries some_plan w (Around (SendFrom from sending)) e = tt
+no_set_carries some_plan w Begin e = tt
+no_set_carries some_plan w Write e = tt
+no_set_carries some_plan w Take e = tt
+no_set_carries some_plan w (Send which) e = tt
+no_set_carries some_plan w (Hear which) e = tt
+no_set_carries some_plan w (TimeOut transaction) e = tt
+no_set_carries some_plan w (Raise floor) e = tt
+no_set_carries some_plan w (Merge floor sightings) e = tt
+no_set_carries some_plan w (Poll lid) e = tt
+no_set_carries some_plan w HandOver e = tt
+
+no_sets_carry : (some_plan : PlanValue) (events : List ManagerEvent) (w : Managing) → are_no_sets events w ≡ true → AllCarry some_plan events w
+no_sets_carry some_plan [] w e = tt
+no_sets_carry some_plan (event ∷ events) w e =
+    let parts = and_parts (is_no_set w event) (are_no_sets events (after_manager_event w event)) e in
+    (no_set_carries some_plan w event parts.0, no_sets_carry some_plan events (after_manager_event w event) parts.1)
+
+between_sets_none : are_no_sets between (sweeping_with 1) ≡ true
+unfolding joined fresh_agent injected delivered outcome_of answered get_of set_of changed_port with_bytes
+between_sets_none = refl
+
+-- the LIDs of the ports of all agents
+abbrev lids_in : Simulation → List (List ℕ)
+lids_in s = map (λ (a : Agent). map (λ (p : Port). p.base_lid) a.ports) s.agents
+
+abbrev lids_after : List ManagerEvent → Managing → List (List (List ℕ))
+lids_after [] w = []
+lids_after (event ∷ events) w = lids_in (after_manager_event w event).scene.fabric ∷ lids_after events (after_manager_event w event)
+
+lid_read : (s : Simulation) (p : NodePort) → (fabric_of s).base_lid p ≡ slice_index_or (slice_index_or (lids_in s) p.node []) p.port 0
+lid_read s p = by_agents s.agents p.node
+  where
+    by_agents : (xs : List Agent) (place : ℕ) → option_map_or (λ a. base_lid_at a p.port) (slice_get xs place) 0
+        ≡ slice_index_or (slice_index_or (map (λ (a : Agent). map (λ (q : Port). q.base_lid) a.ports) xs) place []) p.port 0
+    by_agents [] place = refl
+    by_agents (a ∷ xs) zero = sym (get_or-map (λ (q : Port). q.base_lid) a.ports p.port (port_in Down))
+    by_agents (a ∷ xs) (suc place) = by_agents xs place
+
+same_lids : (f : Simulation) (w : Managing) → lids_in w.scene.fabric ≡ lids_in f → HasLidsOf (fabric_of f) w.scene
+same_lids f w e p = lid_read w.scene.fabric p ∙ ap (λ (ls : List (List ℕ)). slice_index_or (slice_index_or ls p.node []) p.port 0) e ∙ sym (lid_read f p)
+
+lids_stay : (f : Simulation) (events : List ManagerEvent) (w : Managing) → lids_after events w ≡ replicate (length events) (lids_in f)
+    → LidsStayAround (fabric_of f) events w
+lids_stay f [] w e = tt
+lids_stay f (event ∷ events) w e = (
+  same_lids f (after_manager_event w event) (ap (λ (ls : List (List (List ℕ))). slice_index_or ls 0 []) e),
+  lids_stay f events (after_manager_event w event) (ap (λ (ls : List (List (List ℕ))). drop 1 ls) e),
+)
+
+between_lids : lids_after between (sweeping_with 1) ≡ replicate (length between) (lids_in network)
+unfolding joined fresh_agent injected delivered outcome_of answered get_of set_of changed_port with_bytes
+between_lids = refl
+
+-- its writing: the first step gives its own port the LID that it has ---------------------------------------------------
+
+abbrev phases_from : Cells → List Phase
+phases_from known_cells =
+    phases_of (plan_of up_and_down 0 known_cells) known_cells (sweep_in swept.manager.sweep) swept.manager.standing.guid swept.manager.port
+
+-- the manager as it is when its writing by these phases has begun
+abbrev writing_by : List Phase → Managing
+writing_by phases = record swept { manager = begun_with swept.manager phases }
+
+-- what a manager would write by a planning and a sweep, if it knew these cells
+abbrev phases_with : Planning → Manager → Option Sweep → Cells → List Phase
+phases_with planning m None c = []
+phases_with planning m (Some s) c = phases_of (plan_of planning.rule planning.lmc c) c s m.standing.guid m.port
+
+abbrev fault_with : Planning → Manager → Option Sweep → Cells → Option ManagerFault
+fault_with planning m o c =
+    or_else (write_fault_with m o) (or_else (plan_fault planning.lmc c) (number_fault (m.counter + most_steps c)))
+
+same_phases : (m : Manager) (o : Option Sweep) → phases_by m o ≡ phases_with m.planning m o (cells_of m.store)
+same_phases m None = refl
+same_phases m (Some s) = refl
+
+fault_is : (m : Manager) (planning : Planning) (o : Option Sweep) (c : Cells) → m.planning ≡ planning → m.sweep ≡ o → cells_of m.store ≡ c
+    → writing_fault m ≡ fault_with planning m o c
+fault_is m planning o c by_planning by_sweep by_cells =
+    ap (λ x. fault_with x m m.sweep (cells_of m.store)) by_planning ∙ ap (λ x. fault_with planning m x (cells_of m.store)) by_sweep
+    ∙ ap (fault_with planning m o) by_cells
+
+keeps_by : (w : Managing) (planning : Planning) (o : Option Sweep) (c : Cells) (events : List ManagerEvent)
+    → w.manager.planning ≡ planning → w.manager.sweep ≡ o → cells_of w.manager.store ≡ c → writing_fault w.manager ≡ None
+    → AllKeep (plan_of planning.rule planning.lmc c) (IsOwnSet (fabric_of network) (port 0 1) (phases_with planning w.manager o c)) events
+    (record w { manager = begun_with w.manager (phases_with planning w.manager o c) })
+    → AllKeep (plan_at w) (own_sets beginning w) events (after_manager_event w Write)
+keeps_by w planning o c events by_planning by_sweep by_cells no_fault keep =
+    let m = w.manager in
+    subst (λ fault. AllKeep (plan_at w) (own_sets beginning w) events (record w { manager = if is_none fault then writing_begun m else m })) (sym no_fault)
+    (subst (λ (ps : List Phase). AllKeep (plan_at w) (IsOwnSet (fabric_of network) (port 0 1) ps) events (record w { manager = begun_with m ps }))
+    (sym (same_phases m m.sweep))
+    (subst (λ (x : Planning). AllKeep (plan_of x.rule x.lmc (cells_of m.store)) (IsOwnSet (fabric_of network) (port 0 1) (phases_with x m m.sweep (cells_of m.store))) events
+    (record w { manager = begun_with m (phases_with x m m.sweep (cells_of m.store)) })) (sym by_planning)
+    (subst (λ x. AllKeep (plan_of planning.rule planning.lmc (cells_of m.store)) (IsOwnSet (fabric_of network) (port 0 1) (phases_with planning m x (cells_of m.store))) events
+    (record w { manager = begun_with m (phases_with planning m x (cells_of m.store)) })) (sym by_sweep)
+    (subst (λ x. AllKeep (plan_of planning.rule planning.lmc x) (IsOwnSet (fabric_of network) (port 0 1) (phases_with planning m o x)) events
+    (record w { manager = begun_with m (phases_with planning m o x) })) (sym by_cells) keep))))
+
+pub planning_is : swept.manager.planning ≡ its_planning
+unfolding joined fresh_agent injected delivered outcome_of answered get_of set_of changed_port with_bytes
+planning_is = refl
+
+sweep_there : (o : Option Sweep) → is_some o ≡ true → o ≡ Some (sweep_in o)
+sweep_there None e = absurd (cc)
+sweep_there (Some s) e = refl
+
+has_swept : is_some swept.manager.sweep ≡ true
+unfolding joined fresh_agent injected delivered outcome_of answered get_of set_of changed_port with_bytes
+has_swept = refl
+
+no_fault : fault_with its_planning swept.manager (Some (sweep_in swept.manager.sweep)) cells ≡ None
+unfolding joined fresh_agent injected delivered outcome_of answered get_of set_of changed_port with_bytes
+no_fault = refl
+
+may_write : writing_fault swept.manager ≡ None
+may_write =
+    fault_is swept.manager its_planning (Some (sweep_in swept.manager.sweep)) cells planning_is (sweep_there swept.manager.sweep has_swept) known ∙ no_fault
+
+abbrev pub after : List ManagerEvent
+after = Take ∷ Send 10 ∷ Around (Deliver 20) ∷ Around (Deliver 21) ∷ Hear 11 ∷ []
+
+abbrev first_step : Step
+first_step = slice_index_or (next_phase (phases_from cells)).steps 0 (record { path = []; attribute = 0; modifier = 0; payload = [] })
+
+abbrev own : OwnSets
+own = IsOwnSet (fabric_of network) (port 0 1) (phases_from cells)
+
+sends_first : IsSendable first_step
+unfolding joined fresh_agent injected delivered outcome_of answered get_of set_of changed_port with_bytes
+sends_first = record { attribute = few; modifier = one_more; no_manager = other; whole = refl }
+  where
+    few : 0x15 < 2 ^ 16
+    few = omega arith
+
+    one_more : 1 < 2 ^ 32
+    one_more = omega arith
+
+    other : 0x15 ≢ sm_info
+    other e = omega (arith, e)
+
+own_at_home : IsOwnSet (fabric_of network) (port 0 1) (phases_from cells) (port 0 1) (set_packet 1 first_step)
+unfolding joined fresh_agent injected delivered outcome_of answered get_of set_of changed_port with_bytes
+own_at_home =
+    let asks = asks_for first_step 1 sends_first (omega arith) (omega arith) in
+    record {
+      phase = next_phase (phases_from cells);
+      there = (0, omega arith, refl);
+      step = first_step;
+      in_phase = (0, omega arith, refl);
+      leads = refl;
+      attribute = asks.attribute;
+      modifier = asks.modifier;
+      payload = asks.payload;
+    }
+
+abbrev world_2 : Managing
+world_2 = after_manager_event (after_manager_event (writing_by (phases_from cells)) Take) (Send 10)
+
+abbrev world_3 : Managing
+world_3 = after_manager_event world_2 (Around (Deliver 20))
+
+keeps_20 : KeepsPlan plan own world_2.scene.fabric (Deliver 20)
+unfolding joined fresh_agent injected delivered outcome_of answered get_of set_of changed_port with_bytes
+keeps_20 = taken_as_own plan own world_2.scene.fabric 20 own_at_home
+
+keeps_21 : KeepsPlan plan own world_3.scene.fabric (Deliver 21)
+unfolding joined fresh_agent injected delivered outcome_of answered get_of set_of changed_port with_bytes
+keeps_21 = taken_by_none plan own world_3.scene.fabric 21 refl
+
+keeps : AllKeep plan own after (writing_by (phases_from cells))
+keeps = (tt, (tt, (keeps_20, (keeps_21, (tt, tt)))))
+
+-- the takeover ------------------------------------------------------------------------------------------------------
+
+-- what happens until it writes: packets are delivered, and the manager's are given out, sent and given to it
+abbrev is_plain : ManagerEvent → Bool
+is_plain (Around (Deliver serial)) = true
+is_plain Take = true
+is_plain (Send which) = true
+is_plain (Hear which) = true
+is_plain event = false
+
+abbrev begins_none : ManagerEvent → Bool
+begins_none Begin = false
+begins_none (Raise floor) = false
+begins_none (Merge floor sightings) = false
+begins_none event = true
+
+can_be : (event : ManagerEvent) → is_plain event ≡ true → CanBe (port 0 1) event
+can_be (Around (Deliver serial)) e = (tt, tt)
+can_be (Around (Lose serial)) e = absurd (cc)
+can_be (Around (Repeat serial)) e = absurd (cc)
+can_be (Around (SendFrom from sending)) e = absurd (cc)
+can_be Begin e = absurd (cc)
+can_be Write e = absurd (cc)
+can_be Take e = tt
+can_be (Send which) e = tt
+can_be (Hear which) e = tt
+can_be (TimeOut transaction) e = absurd (cc)
+can_be (Raise floor) e = absurd (cc)
+can_be (Merge floor sightings) e = absurd (cc)
+can_be (Poll lid) e = absurd (cc)
+can_be HandOver e = absurd (cc)
+
+all_can_be : (events : List ManagerEvent) → list_all is_plain events ≡ true → AllByRecursion (CanBe (port 0 1)) events
+all_can_be [] e = tt
+all_can_be (event ∷ events) e =
+    let parts = and_parts (is_plain event) (list_all is_plain events) e in (can_be event parts.0, all_can_be events parts.1)
+
+no_sweep : (w : Managing) (event : ManagerEvent) → begins_none event ≡ true → BeginsNoSweep w event
+no_sweep w (Around event) e = tt
+no_sweep w Begin e = absurd (cc)
+no_sweep w Write e = tt
+no_sweep w Take e = tt
+no_sweep w (Send which) e = tt
+no_sweep w (Hear which) e = tt
+no_sweep w (TimeOut transaction) e = tt
+no_sweep w (Raise floor) e = absurd (cc)
+no_sweep w (Merge floor sightings) e = absurd (cc)
+no_sweep w (Poll lid) e = tt
+no_sweep w HandOver e = tt
+
+no_sweeps : (events : List ManagerEvent) (w : Managing) → list_all begins_none events ≡ true → AreNoSweeps events w
+no_sweeps [] w e = tt
+no_sweeps (event ∷ events) w e =
+    let parts = and_parts (begins_none event) (list_all begins_none events) e in
+    (no_sweep w event parts.0, no_sweeps events (after_manager_event w event) parts.1)
+
+abbrev to_agents : List ManagerEvent
+to_agents =
+    trip 0 0 ++ (trip 1 0 ++ (trip 2 1 ++ (trip 3 1 ++ (trip 4 1 ++ (trip 5 1 ++ (trip 6 1 ++ (trip 7 2 ++ (trip 8 2 ++ (Take ∷ Send 9 ∷ deliveries 2 18)))))))))
+
+abbrev answers_it : ManagerEvent
+answers_it = Around (SendFrom (port 2 1) (Answer 9 0 (replicate 64 0)))
+
+between_can : AllByRecursion (CanBe (port 0 1)) between
+between_can =
+    all_append (CanBe (port 0 1)) to_agents (answers_it ∷ (deliveries 2 19 ++ Hear 10 ∷ [])) (all_can_be to_agents refl)
+    (((omega arith, refl), elsewhere), all_can_be (deliveries 2 19 ++ Hear 10 ∷ []) refl)
+  where
+    elsewhere : port 2 1 ≢ port 0 1
+    elsewhere e = let same : 2 ≡ 0 = ap (λ (p : NodePort). p.node) e in omega (arith, same)
+
+pub at_is : at_writing beginning [] between ≡ swept
+at_is = ap (after_manager_events between) begun
+
+kept_then : AllKeep (plan_at swept) (own_sets beginning swept) after (after_manager_event swept Write)
+kept_then =
+    keeps_by swept its_planning (Some (sweep_in swept.manager.sweep)) cells after planning_is (sweep_there swept.manager.sweep has_swept) known may_write keeps
+
+run : IsWritingRun beginning [] between after
+run =
+    record {
+      starts = starts;
+      before_can = All-from_recursion (CanBe (port 0 1)) [] tt;
+      between_can = All-from_recursion (CanBe (port 0 1)) between between_can;
+      after_can = All-from_recursion (CanBe (port 0 1)) after (all_can_be after refl);
+      sweeps_first = tt;
+      sweep_begins = may_begin;
+      writing_begins = subst (λ (x : Managing). writing_fault x.manager ≡ None) (sym at_is) may_write;
+      keep = subst (λ (x : Managing). AllKeep (plan_at x) (own_sets beginning x) after (after_manager_event x Write)) (sym at_is) kept_then;
+    }
+
+pub sweeps : SweepsAlone beginning [] between after
+sweeps =
+    record {
+      run = run;
+      knew_nothing = nothing_found;
+      alone = no_sweeps between (after_manager_event beginning Begin) refl;
+      sweep = sweep_in swept.manager.sweep;
+      is_last = ap (λ (x : Managing). x.manager.sweep) at_is ∙ sweep_there swept.manager.sweep has_swept;
+      whole = whole;
+      lids_before = tt;
+      lids_between = subst (LidsStayAround (fabric_of network) between) (sym begun) (lids_stay network between (sweeping_with 1) between_lids);
+    }
+
+-- what it comes to know is as it was
+agrees : AgreesOn (IsJoinedTo (fabric_of network) (port 0 1)) (cells_of swept.manager.store) (fabric_of network)
+agrees =
+    subst (λ (x : Managing). AgreesOn (IsJoinedTo (fabric_of network) (port 0 1)) (cells_of x.manager.store) (fabric_of network)) at_is
+    (found_agrees beginning [] between after run sweeps.knew_nothing sweeps.alone sweeps.sweep sweeps.is_last sweeps.lids_before sweeps.lids_between sweeps.whole)
+
+takes_over : TakesOver swept.manager.store beginning [] between after
+takes_over =
+    record {
+      sweeps = sweeps;
+      has_room = subst (λ (x : Managing). ¬ (IsNoRoom x.manager.planning.lmc (cells_of swept.manager.store))) (sym at_is)
+          (subst (λ (p : Planning). ¬ (IsNoRoom p.lmc (cells_of swept.manager.store))) (sym planning_is) has_room);
+      agrees = agrees;
+      holds = subst (λ (x : Managing). HoldsPlan (IsJoinedTo (fabric_of network) (port 0 1)) (plan_by_it x.manager.planning swept.manager.store) (fabric_of network))
+          (sym at_is)
+          (subst (λ (p : Planning). HoldsPlan (IsJoinedTo (fabric_of network) (port 0 1)) (plan_by_it p swept.manager.store) (fabric_of network)) (sym planning_is)
+          (subst (λ c. HoldsPlan (IsJoinedTo (fabric_of network) (port 0 1)) (plan_of up_and_down 0 c) (fabric_of network)) (sym known) holds_plan));
+    }
+
+pub some_manager_takes_over : SomeManagerTakesOver
+some_manager_takes_over =
+    record {
+      managing = beginning;
+      port_guid = 17;
+      port = 1;
+      priority = 0;
+      planning = its_planning;
+      new = refl;
+      held = swept.manager.store;
+      before = [];
+      between = between;
+      after = after;
+      takes = record {
+        takes = takes_over;
+        carry_before = tt;
+        carry_between = subst (AllCarry _ between) (sym begun) (no_sets_carry _ between (sweeping_with 1) between_sets_none);
+      };
+    }

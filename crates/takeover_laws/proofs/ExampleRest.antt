@@ -1,0 +1,110 @@
+-- The same run after a cut: earlier facts tell of a third adapter, which is gone.
+use Rattle.std.proofs.Common.{◌≡◌, ℕ, zero, suc, ◌<◌, ◌≤◌, true, List, [], ◌∷◌, ◌++◌, refl, sym, ap, ◌∙◌, subst, arith}
+use Rattle.std.proofs.lemmas.Option.{same_Some}
+use Rattle.std.specs.Prelude.{MatchBool, Some}
+use Rattle.smp_bytes.specs.declared.cable.NodePort.{NodePort}
+use Rattle.smp_bytes.specs.declared.node_type.NodeType.TheVariants.{ChannelAdapter, Switch}
+use Rattle.smp_bytes.specs.Fabric as fabric
+use Rattle.smp_bytes.specs.Fabric.{IsNodeAt, IsEndPortNumber, range_at}
+use Rattle.smp_bytes.specs.FabricWalks.{IsJoinedTo}
+use Rattle.node_agents.specs.Agent.{fresh_agent, node_of}
+use Rattle.fact_store.specs.declared.key.Key.TheVariants.{Node as NodeKey, PortGuid, Port as PortKey, Claim}
+use Rattle.fact_store.specs.declared.value.Value.TheVariants.{Kind, Guid, Up, Lid}
+use Rattle.fact_store.specs.Report.{Told}
+use Rattle.fact_store.specs.View.{cells_of, view}
+use Rattle.fact_store.proofs.Entries.{cells_of_view, entries-view}
+use Rattle.fabric_sim.specs.Simulation.{fabric_of}
+use Rattle.fabric_sim.specs.Changes.{joined}
+use Rattle.subnet_view.specs.Agreement.{IsEndPortIn, TellsEndPort}
+use Rattle.subnet_view.specs.Reading.{Cells}
+use Rattle.lid_assign.specs.Lids.{IsNoRoom, range_of}
+use Rattle.lft_blocks.specs.Plan.{plan_of}
+use Rattle.spread_rule.specs.Rules.{up_and_down}
+use Rattle.sm_manager.specs.Planning.{Planning}
+use Rattle.written_laws.specs.Managing.{Managing}
+use Rattle.takeover_laws.specs.Rest.{SomeManagerServesTheRest, TakesRest}
+use Rattle.takeover_laws.specs.Takeover.{plan_by_it}
+use Rattle.takeover_laws.proofs.Example.{after, all_told, at_is, beginning, between, its_planning, one, planning_is, swept, sweeps}
+use Rattle.takeover_laws.proofs.ExampleFabric.{bare_agent, network, port, table, with_lid}
+
+-- of before the cut: an adapter that has LID 9
+abbrev before_cut : Told
+before_cut =
+    all_told ++ (one (NodeKey 64) (Kind ChannelAdapter 1) ∷ one (PortGuid 64 1) (Guid 65) ∷ one (PortKey 64 1) (Up true) ∷ one (Claim 64 1) (Lid 9) ∷ [])
+
+abbrev cells : Cells
+cells = cells_of_view before_cut
+
+known : cells_of (view before_cut) ≡ cells_of_view before_cut
+known = entries-view before_cut
+
+has_room : ¬ (IsNoRoom 0 cells)
+has_room e = absurd (cc)
+
+-- what is known of an end port that is there, and that it holds the LID of the plan of before
+record IsTold (place p : ℕ) (node : fabric.Node) : Type 0 where
+  pub tells : TellsEndPort (cells_of_view before_cut) node p
+  pub holds : range_of (plan_of up_and_down 0 (cells_of_view before_cut)).given (record { node = node.guid; port = p })
+      ≡ Some (range_at (fabric_of network) (port place p))
+
+told_at : (place p : ℕ) (node : fabric.Node) → IsNodeAt (fabric_of network) place node → IsEndPortNumber node p → IsTold place p node
+unfolding joined fresh_agent
+told_at zero p node there number =
+    subst (λ (n : fabric.Node). IsTold 0 p n) (same_Some _ _ there) (by_port p (subst (λ (n : fabric.Node). IsEndPortNumber n p) (sym (same_Some _ _ there)) number))
+  where
+    by_port : (p : ℕ) → IsEndPortNumber (node_of (with_lid (bare_agent 0) 1 2)) p → IsTold 0 p (node_of (with_lid (bare_agent 0) 1 2))
+    by_port zero within = absurd (omega (arith, within.0))
+    by_port (suc zero) within = record { tells = record { kind = refl; port_guid = refl; cap = λ switch. absurd (cc) }; holds = refl }
+    by_port (suc (suc p)) within = absurd (omega (arith, within.1))
+told_at (suc zero) p node there number =
+    subst (λ (n : fabric.Node). IsTold 1 p n) (same_Some _ _ there) (by_port p (subst (λ (n : fabric.Node). IsEndPortNumber n p) (sym (same_Some _ _ there)) number))
+  where
+    by_port : (p : ℕ) → IsEndPortNumber (node_of (record (with_lid (bare_agent 1) 0 5) { table = table; top = 7 })) p
+        → IsTold 1 p (node_of (record (with_lid (bare_agent 1) 0 5) { table = table; top = 7 }))
+    by_port zero is = record { tells = record { kind = refl; port_guid = refl; cap = λ switch. refl }; holds = refl }
+    by_port (suc p) is = absurd (omega (arith, is))
+told_at (suc (suc zero)) p node there number =
+    subst (λ (n : fabric.Node). IsTold 2 p n) (same_Some _ _ there) (by_port p (subst (λ (n : fabric.Node). IsEndPortNumber n p) (sym (same_Some _ _ there)) number))
+  where
+    by_port : (p : ℕ) → IsEndPortNumber (node_of (with_lid (bare_agent 2) 1 7)) p → IsTold 2 p (node_of (with_lid (bare_agent 2) 1 7))
+    by_port zero within = absurd (omega (arith, within.0))
+    by_port (suc zero) within = record { tells = record { kind = refl; port_guid = refl; cap = λ switch. absurd (cc) }; holds = refl }
+    by_port (suc (suc p)) within = absurd (omega (arith, within.1))
+told_at (suc (suc (suc n))) p node there number = absurd (cc)
+
+told : (q : NodePort) (node : fabric.Node) → IsEndPortIn (IsJoinedTo (fabric_of network) (port 0 1)) (fabric_of network) q node → IsTold q.node q.port node
+told q node is =
+    let (other, there, number) = is.end_port in
+    told_at q.node q.port node is.node_there (subst (λ (n : fabric.Node). IsEndPortNumber n q.port) (same_Some _ _ (sym there ∙ is.node_there)) number)
+
+takes_rest : TakesRest (view before_cut) beginning [] between after
+takes_rest =
+    record {
+      sweeps = sweeps;
+      has_room = subst (λ (x : Managing). ¬ (IsNoRoom x.manager.planning.lmc (cells_of (view before_cut)))) (sym at_is)
+          (subst (λ (p : Planning). ¬ (IsNoRoom p.lmc (cells_of (view before_cut)))) (sym planning_is) (subst (λ c. ¬ (IsNoRoom 0 c)) (sym known) has_room));
+      tells = λ q node is. subst (λ c. TellsEndPort c node q.port) (sym known) (told q node is).tells;
+      holds = λ q node is.
+          subst (λ (x : Managing). range_of (plan_by_it x.manager.planning (view before_cut)).given (record { node = node.guid; port = q.port })
+          ≡ Some (range_at (fabric_of network) q)) (sym at_is)
+          (subst (λ (p : Planning). range_of (plan_by_it p (view before_cut)).given (record { node = node.guid; port = q.port })
+          ≡ Some (range_at (fabric_of network) q)) (sym planning_is)
+          (subst (λ c. range_of (plan_of up_and_down 0 c).given (record { node = node.guid; port = q.port }) ≡ Some (range_at (fabric_of network) q)) (sym known)
+          (told q node is).holds));
+    }
+
+pub some_manager_serves_the_rest : SomeManagerServesTheRest
+some_manager_serves_the_rest =
+    record {
+      managing = beginning;
+      port_guid = 17;
+      port = 1;
+      priority = 0;
+      planning = its_planning;
+      new = refl;
+      held = view before_cut;
+      before = [];
+      between = between;
+      after = after;
+      takes = takes_rest;
+    }

@@ -1,0 +1,246 @@
+-- While no other sweep begins and no LID changes, a manager's sweep is one on which no LID changes.
+use Rattle.std.proofs.Common.{◌≡◌, ℕ, ◌≤◌, ◌^◌, Bool, true, false, cond, List, [], ◌∷◌, ◌++◌, refl, sym, ap, ◌∙◌, subst, arith}
+use Rattle.std.proofs.lemmas.Bool.{cond_both}
+use Rattle.std.proofs.lemmas.List.Elements.{All-nil, All-cons}
+use Rattle.std.specs.Prelude.{Option, Some, None, Result, Ok, Err, All, is_none, max, nat_le, slice_get}
+use Rattle.smp_bytes.specs.declared.cable.NodePort.{NodePort}
+use Rattle.smp_bytes.specs.declared.smp_fault.SmpFault.{SmpFault}
+use Rattle.smp_bytes.specs.Cables.{is_same_port}
+use Rattle.smp_bytes.specs.Packet.{fault_of, status}
+use Rattle.fabric_sim.specs.Simulation.{Simulation}
+use Rattle.fact_store.specs.declared.report.Report.{Report}
+use Rattle.fact_store.specs.Merge.{merge}
+use Rattle.fact_store.specs.Seen.{seen}
+use Rattle.fact_store.specs.View.{view, view_at}
+use Rattle.fact_store.proofs.Merges.{at_same_floor, raised_same}
+use Rattle.fact_store.proofs.Views.{raised_is_merge, view_of_both}
+use Rattle.lft_blocks.specs.Plan.{PlanValue}
+use Rattle.sweep.specs.declared.answer.Answer.{Answer}
+use Rattle.sweep.specs.declared.fault.SweepFault.{SweepFault}
+use Rattle.sweep.specs.declared.request.Request.{Request}
+use Rattle.sweep.specs.Sweep.{Sweep, request_with, timed_out_of, timeout_fault}
+use Rattle.sweep.specs.Replies.{judged, replied, replied_to, request_of, told_by}
+use Rattle.sm_manager.specs.declared.outgoing.Outgoing.{Outgoing}
+use Rattle.sm_manager.specs.declared.pending.Pending.{Pending}
+use Rattle.sm_manager.specs.Election.{handover_fault, heir_lid, poll_fault}
+use Rattle.sm_manager.specs.Manager.{Manager, begin_fault}
+use Rattle.sm_manager.specs.Packets.{Called, answered_by, gave_up, is_for_sweep, is_info_request, packet_taken, pending_for}
+use Rattle.sm_manager.specs.Packets.{request_answered, request_gave_up}
+use Rattle.sm_manager.specs.Packets.{sweep_answered, sweep_gave_up, sweep_timed_out, took}
+use Rattle.sm_manager.specs.Plans.{writing_fault}
+use Rattle.sm_manager.specs.Requests.{with_number}
+use Rattle.sm_laws.specs.Scene.{Handed, Scene}
+use Rattle.sm_laws.specs.Sweeping as sweeping
+use Rattle.sm_laws.specs.Sweeping.{Sweeping, SweepEvent, reports_of, after_sweep_event, after_sweep_events}
+use Rattle.sweep_complete.proofs.Sweeps.{told_in, told_more}
+use Rattle.written_laws.specs.Managing.{Managing, ManagerEvent, Around, Begin, Write, Take, Send, Hear, TimeOut, Raise, Merge, Poll, HandOver, CanBe}
+use Rattle.written_laws.specs.Managing.{hearing, sending, after_manager_event}
+use Rattle.written_laws.specs.Pings.{BeginsNoSweep}
+use Rattle.written_laws.proofs.Before.{is_none-none, takes_first}
+use Rattle.smp_bytes.specs.Fabric.{Fabric}
+use Rattle.written_laws.proofs.Followed.{HasAskedAll, asks, asks_can, asks_all}
+use Rattle.written_laws.proofs.Follows.{KeepsSweep, request_keeps, served_keeps, handed_keeps, Follows}
+use Rattle.takeover_laws.specs.Claims.{HasLidsOf, LidsStay}
+use Rattle.takeover_laws.proofs.Seen.{SeenKeeping, nothing_seen, event_seen, asks_lids}
+use Rattle.written_laws.proofs.Generations.{AreOf, answer_of, of_both}
+use Rattle.written_laws.proofs.Goes.{Goes}
+use Rattle.written_laws.proofs.Sweeps.{Ground}
+
+kept : (m : Manager) → KeepsSweep m m
+kept m = record { sweep = refl; store = refl }
+
+-- a sweep keeps its generation ----------------------------------------------------------------------------------
+
+replied_generation : (s : Sweep) (bytes : List ℕ) → (replied s bytes).generation ≡ s.generation
+replied_generation s bytes = by_request (request_of s bytes)
+  where
+    by_request : (m : Option Request) → (replied_to s bytes m).generation ≡ s.generation
+    by_request None = refl
+    by_request (Some r) = refl
+
+timed_generation : (s : Sweep) (m : Option Request) → (timed_out_of s m).generation ≡ s.generation
+timed_generation s None = refl
+timed_generation s (Some r) = refl
+
+pub record IsFollowed (fab : Fabric) (after : Managing) (u : Sweeping) : Type 0 where
+  pub events : List SweepEvent
+  pub can_be : All sweeping.CanBe events
+  pub follows : Follows after (after_sweep_events events u)
+  pub lids : LidsStay fab events u
+
+-- what is nothing to the manager's sweep
+quiet_followed : (fab : Fabric) (w after : Managing) (u : Sweeping) → SeenKeeping fab w.scene after.scene → after.seat ≡ w.seat → KeepsSweep w.manager after.manager → Follows w u
+    → IsFollowed fab after u
+quiet_followed fab w after u seen seat keeps f =
+    record {
+      events = seen.events;
+      can_be = seen.can_be;
+      lids = seen.lids u f.scene;
+      follows = subst (Follows after) (sym (seen.is u f.scene))
+          (record {
+            scene = refl;
+            seat = f.seat ∙ sym seat;
+            sweep = keeps.sweep ∙ f.sweep;
+            floor = f.floor;
+            generation = f.generation;
+            told = f.told;
+            store = keeps.store ∙ f.store;
+          });
+    }
+
+-- what an answer tells is what its report does
+facts_more : (floor : ℕ) (reports : List Report) (answer : Answer)
+    → merge (view_at floor (told_in reports)) (view (told_by answer)) ≡ view_at floor (told_in (reports ++ reports_of answer))
+facts_more floor reports answer =
+    sym (view_of_both floor 1 (told_in reports) (told_by answer))
+    ∙ at_same_floor (max floor 1) floor (seen (told_in reports ++ told_by answer)) (omega arith)
+    ∙ ap (view_at floor) (sym (told_more reports answer))
+
+module _ (fab : Fabric) (start : Simulation) (seat : NodePort) (plan : PlanValue) (ground : Ground start seat) where
+  -- a reply that the sweep takes ---------------------------------------------------------------------------------
+
+  module _ (w : Managing) (u : Sweeping) (f : Follows w u) (bytes : List ℕ) (answer : Answer) (taken : judged u.sweep bytes ≡ Ok answer) where
+    reply_follows : (which : ℕ) (h : Handed) → slice_get w.scene.handed which ≡ Some h → h.packet.bytes ≡ bytes → is_same_port h.at w.seat ≡ true → HasLidsOf fab w.scene
+        → (after : Manager) → after ≡ (answered_by w.manager u.sweep bytes (Ok answer)).manager → IsFollowed fab (record w { manager = after }) u
+    reply_follows which h there bytes_are same lids after after_is =
+        record {
+          events = sweeping.Hear which ∷ asks (replied u.sweep bytes).queued;
+          lids = subst (λ x. HasLidsOf fab x.scene × LidsStay fab (asks (replied u.sweep bytes).queued) x) (sym heard)
+              (subst (HasLidsOf fab) (sym f.scene) lids, asks_lids fab (replied u.sweep bytes).queued hears (subst (HasLidsOf fab) (sym f.scene) lids));
+          can_be = All-cons sweeping.CanBe (sweeping.Hear which) (asks (replied u.sweep bytes).queued) tt (asks_can (replied u.sweep bytes).queued);
+          follows = subst (λ x. Follows (record w { manager = after }) (after_sweep_events (asks (replied u.sweep bytes).queued) x)) (sym heard)
+              (subst (λ x. Follows (record w { manager = x }) (after_sweep_events (asks (replied u.sweep bytes).queued) hears)) (sym after_is)
+              (record {
+                scene = all.scene ∙ f.scene;
+                seat = all.seat ∙ f.seat;
+                sweep = ap (λ x. Some x) (sym all.sweep);
+                floor = f.floor;
+                generation = subst (λ g. f.floor ≤ g) (sym (ap (λ (x : Sweep). x.generation) all.sweep ∙ replied_generation u.sweep bytes)) f.generation;
+                told = subst (AreOf (λ g. f.floor ≤ g)) (sym (ap told_in all.reports ∙ told_more u.reports answer))
+                    (of_both (λ g. f.floor ≤ g) (told_in u.reports) (told_by answer) f.told
+                    (answer_of (λ g. f.floor ≤ g) u.sweep bytes answer f.generation taken));
+                store = ap (λ x. merge x (view (told_by answer))) f.store ∙ facts_more f.floor u.reports answer
+                    ∙ ap (λ (reports : List Report). view_at f.floor (told_in reports)) (sym all.reports);
+              }));
+        }
+      where
+        hears : Sweeping
+        hears = record u { sweep = replied u.sweep bytes; reports = u.reports ++ reports_of answer }
+
+        heard : after_sweep_event u (sweeping.Hear which) ≡ record u { sweep = replied u.sweep bytes; reports = u.reports ++ reports_of answer }
+        heard =
+            ap (sweeping.hearing u) (ap (λ (x : Scene). slice_get x.handed which) f.scene ∙ there)
+            ∙ ap (λ b. cond b (sweeping.with_answer u h.packet.bytes (judged u.sweep h.packet.bytes)) u) (ap (is_same_port h.at) f.seat ∙ same)
+            ∙ ap (λ x. sweeping.with_answer u x (judged u.sweep x)) bytes_are
+            ∙ ap (sweeping.with_answer u bytes) taken
+
+        all : HasAskedAll (record u { sweep = replied u.sweep bytes; reports = u.reports ++ reports_of answer })
+            (after_sweep_events (asks (replied u.sweep bytes).queued) (record u { sweep = replied u.sweep bytes; reports = u.reports ++ reports_of answer }))
+        all = asks_all (replied u.sweep bytes).queued (record u { sweep = replied u.sweep bytes; reports = u.reports ++ reports_of answer }) refl
+
+  -- events ---------------------------------------------------------------------------------------------------------
+
+  heard_followed : (w : Managing) (which : ℕ) (m : Option Handed) (u : Sweeping) → slice_get w.scene.handed which ≡ m → Goes start seat plan ⊥ w → Follows w u
+      → HasLidsOf fab w.scene → IsFollowed fab (hearing w m) u
+  heard_followed w which None u there g f now = quiet_followed fab w w u (nothing_seen fab w.scene) refl (kept w.manager) f
+  heard_followed w which (Some h) u there g f now = by_port (is_same_port h.at w.seat) refl
+    where
+      quiet : (after : Manager) → KeepsSweep w.manager after → IsFollowed fab (record w { manager = after }) u
+      quiet after keeps = quiet_followed fab w (record w { manager = after }) u (nothing_seen fab w.scene) refl keeps f
+
+      by_answer : is_same_port h.at w.seat ≡ true → (r : Result Answer SweepFault) → judged u.sweep h.packet.bytes ≡ r
+          → IsFollowed fab (record w { manager = (answered_by w.manager u.sweep h.packet.bytes r).manager }) u
+      by_answer same (Err why) e = quiet w.manager (kept w.manager)
+      by_answer same (Ok answer) e =
+          reply_follows w u f h.packet.bytes answer e which h there refl same now (answered_by w.manager u.sweep h.packet.bytes (Ok answer)).manager refl
+
+      by_pending : (o : Option Pending) → KeepsSweep w.manager (request_answered w.manager h.packet.bytes o).manager
+      by_pending None = kept w.manager
+      by_pending (Some p) = request_keeps w.manager p (Some (status h.packet.bytes)) p.purpose
+
+      by_fault : is_same_port h.at w.seat ≡ true → (why : Option SmpFault)
+          → IsFollowed fab (record w { manager = (packet_taken w.manager h.packet.bytes (Some h.packet.slid) why).manager }) u
+      by_fault same (Some why) = quiet w.manager (kept w.manager)
+      by_fault same None =
+          cond_both (is_info_request h.packet.bytes) _ _ (λ (x : Called). IsFollowed fab (record w { manager = x.manager }) u)
+          (λ _. quiet _ (served_keeps w.manager h.packet.bytes (Some h.packet.slid)))
+          (λ _. cond_both (is_for_sweep h.packet.bytes) _ _ (λ (x : Called). IsFollowed fab (record w { manager = x.manager }) u)
+          (λ _. subst (λ o. IsFollowed fab (record w { manager = (sweep_answered w.manager h.packet.bytes o).manager }) u) (sym f.sweep)
+          (by_answer same (judged u.sweep h.packet.bytes) refl))
+          (λ _. quiet _ (by_pending (pending_for w.manager h.packet.bytes))))
+
+      by_port : (b : Bool) → is_same_port h.at w.seat ≡ b → IsFollowed fab
+          (cond b (record w { manager = (took w.manager h.packet.bytes (Some h.packet.slid)).manager }) w) u
+      by_port false e = quiet_followed fab w w u (nothing_seen fab w.scene) refl (kept w.manager) f
+      by_port true e = by_fault e (fault_of h.packet.bytes)
+
+  timed_followed : (w : Managing) (transaction : ℕ) (u : Sweeping) → Follows w u → HasLidsOf fab w.scene → IsFollowed fab (record w { manager = (gave_up w.manager transaction).manager }) u
+  timed_followed w transaction u f now =
+      cond_both (nat_le (2 ^ 32) transaction) _ _ (λ (x : Called). IsFollowed fab (record w { manager = x.manager }) u)
+      (λ _. subst (λ o. IsFollowed fab (record w { manager = (sweep_gave_up w.manager transaction o).manager }) u) (sym f.sweep)
+      (by_fault (timeout_fault u.sweep transaction)))
+      (λ _. quiet _ (by_pending (with_number transaction w.manager.pending)))
+    where
+      quiet : (after : Manager) → KeepsSweep w.manager after → IsFollowed fab (record w { manager = after }) u
+      quiet after keeps = quiet_followed fab w (record w { manager = after }) u (nothing_seen fab w.scene) refl keeps f
+
+      by_pending : (o : Option Pending) → KeepsSweep w.manager (request_gave_up w.manager o).manager
+      by_pending None = kept w.manager
+      by_pending (Some p) = request_keeps w.manager p None p.purpose
+
+      by_fault : (why : Option SweepFault) → IsFollowed fab (record w { manager = (sweep_timed_out w.manager u.sweep transaction why).manager }) u
+      by_fault (Some why) = quiet w.manager (kept w.manager)
+      by_fault None =
+          record {
+            events = sweeping.TimeOut transaction ∷ [];
+            lids = (subst (HasLidsOf fab) (sym f.scene) now, tt);
+            can_be = All-cons sweeping.CanBe (sweeping.TimeOut transaction) [] tt (All-nil sweeping.CanBe);
+            follows = record {
+              scene = f.scene;
+              seat = f.seat;
+              sweep = refl;
+              floor = f.floor;
+              generation = subst (λ g. f.floor ≤ g)
+                  (sym (timed_generation u.sweep (request_with u.sweep.generation transaction u.sweep.outstanding))) f.generation;
+              told = f.told;
+              store = f.store;
+            };
+          }
+
+  pub event_followed : (w : Managing) (event : ManagerEvent) (u : Sweeping) → Goes start seat plan ⊥ w → BeginsNoSweep w event → CanBe seat event → Follows w u
+      → HasLidsOf fab w.scene → HasLidsOf fab (after_manager_event w event).scene → IsFollowed fab (after_manager_event w event) u
+  event_followed w (Around event) u g quiet can_be f now lids =
+      quiet_followed fab w (after_manager_event w (Around event)) u (event_seen fab start seat plan ⊥ w.manager.counter [] w (Around event) g.fair can_be lids) refl
+      (kept w.manager) f
+  event_followed w Begin u g quiet can_be f now lids =
+      quiet_followed fab w (after_manager_event w Begin) u (nothing_seen fab w.scene) refl
+      (cond_both (is_none (begin_fault w.manager)) _ _ (KeepsSweep w.manager) (λ e. absurd (quiet (is_none-none _ e))) (λ _. kept w.manager)) f
+  event_followed w Write u g quiet can_be f now lids =
+      quiet_followed fab w (after_manager_event w Write) u (nothing_seen fab w.scene) refl
+      (cond_both (is_none (writing_fault w.manager)) _ _ (KeepsSweep w.manager) (λ _. record { sweep = refl; store = refl }) (λ _. kept w.manager)) f
+  event_followed w Take u g quiet can_be f now lids =
+      let t = takes_first w.manager in
+      quiet_followed fab w (after_manager_event w Take) u (nothing_seen fab w.scene) refl (record { sweep = t.sweep; store = t.store }) f
+  event_followed w (Send which) u g quiet can_be f now lids =
+      by_packet (slice_get w.out which) (event_seen fab start seat plan ⊥ w.manager.counter [] w (Send which) g.fair can_be lids)
+    where
+      by_packet : (o : Option Outgoing) → SeenKeeping fab w.scene (sending w o).scene → IsFollowed fab (sending w o) u
+      by_packet None seen = quiet_followed fab w w u seen refl (kept w.manager) f
+      by_packet (Some o) seen = quiet_followed fab w (sending w (Some o)) u seen refl (kept w.manager) f
+  event_followed w (Hear which) u g quiet can_be f now lids = heard_followed w which (slice_get w.scene.handed which) u refl g f now
+  event_followed w (TimeOut transaction) u g quiet can_be f now lids = timed_followed w transaction u f now
+  event_followed w (Raise floor) u g quiet can_be f now lids =
+      quiet_followed fab w (after_manager_event w (Raise floor)) u (nothing_seen fab w.scene) refl (record { sweep = refl; store = raised_same w.manager.store floor quiet }) f
+  event_followed w (Merge floor sightings) u g quiet can_be f now lids =
+      quiet_followed fab w (after_manager_event w (Merge floor sightings)) u (nothing_seen fab w.scene) refl
+      (record {
+        sweep = refl;
+        store = ap (λ told. merge w.manager.store (view_at floor told)) quiet.0 ∙ sym (raised_is_merge w.manager.store floor)
+            ∙ raised_same w.manager.store floor quiet.1;
+      }) f
+  event_followed w (Poll lid) u g quiet can_be f now lids =
+      quiet_followed fab w (after_manager_event w (Poll lid)) u (nothing_seen fab w.scene) refl
+      (cond_both (is_none (poll_fault w.manager)) _ _ (KeepsSweep w.manager) (λ _. record { sweep = refl; store = refl }) (λ _. kept w.manager)) f
+  event_followed w HandOver u g quiet can_be f now lids =
+      quiet_followed fab w (after_manager_event w HandOver) u (nothing_seen fab w.scene) refl
+      (cond_both (is_none (handover_fault w.manager)) _ _ (KeepsSweep w.manager) (λ _. handed_keeps w.manager (heir_lid w.manager)) (λ _. kept w.manager)) f

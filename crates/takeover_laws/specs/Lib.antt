@@ -1,0 +1,4 @@
+pub mod Alike
+pub mod Claims
+pub mod Rest
+pub mod Takeover

@@ -1,0 +1,84 @@
+-- After a cut: what a floor forgets, which LIDs stay, and what a manager brings up that takes over the rest.
+use Rattle.std.specs.Prelude.{◌≡◌, ◌<◌, ℕ, true, max, List, [], Contains, Some}
+use Rattle.smp_bytes.specs.declared.cable.NodePort.{NodePort}
+use Rattle.smp_bytes.specs.Fabric as fabric
+use Rattle.smp_bytes.specs.Fabric.{Fabric, range_at}
+use Rattle.smp_bytes.specs.FabricWalks.{IsJoinedTo}
+use Rattle.fact_store.specs.View.{Facts, cells_of, raised}
+use Rattle.fabric_sim.specs.Simulation.{fabric_of}
+use Rattle.subnet_view.specs.declared.end_port.EndPort.{EndPort}
+use Rattle.subnet_view.specs.Reading.{Cells, claim_of}
+use Rattle.subnet_view.specs.EndPorts.{end_ports}
+use Rattle.subnet_view.specs.Agreement.{IsEndPortIn, TellsEndPort}
+use Rattle.lid_assign.specs.Lids.{IsNoRoom, lids, lid_of, range_of, room, top_of}
+use Rattle.sm_manager.specs.Manager.{new_manager, newest_held, next_generation}
+use Rattle.sm_manager.specs.Planning.{Planning}
+use Rattle.sm_manager.specs.Writing.{is_written}
+use Rattle.sm_laws.specs.Pings.{EachPingArrives}
+use Rattle.written_laws.specs.Managing.{Managing, ManagerEvent, Raise, after_manager_event}
+use Rattle.written_laws.specs.Written.{at_end, at_writing, plan_at}
+use Rattle.takeover_laws.specs.Takeover.{SweepsAlone, planning_at, plan_by_it}
+
+-- floors -------------------------------------------------------------------------------------------------
+
+-- a floor above each generation that is held, and above 1, forgets all
+abbrev pub FloorsForget : Type 0
+FloorsForget = (facts : Facts) (floor : ℕ) → 1 < floor → newest_held facts < floor → cells_of (raised facts floor) ≡ []
+
+-- a manager whose floor is raised so holds no facts, and its next sweep is of the greater of its old floor and this one
+abbrev pub RaisedManagersKnowNothing : Type 0
+RaisedManagersKnowNothing = (w : Managing) (floor : ℕ) → 1 < floor → newest_held w.manager.store < floor
+    → (cells_of (after_manager_event w (Raise floor)).manager.store ≡ [])
+    × (next_generation (after_manager_event w (Raise floor)).manager.store ≡ max w.manager.store.floor floor)
+
+-- LIDs ---------------------------------------------------------------------------------------------------
+
+-- the second view has some of the first's end ports, which claim the LIDs that they have there, and room for all of these
+pub record IsRestOf (lmc : ℕ) (x y : Cells) : Type 0 where
+  pub had : (e : EndPort) → Contains (end_ports y) e → Contains (end_ports x) e
+  pub claimed : (e : EndPort) (lid : ℕ) → Contains (end_ports y) e → lid_of (lids lmc x) e ≡ Some lid → claim_of y e.node e.port ≡ Some lid
+  pub in_room : (top : ℕ) → top_of (lids lmc x) ≡ Some top → top < room y
+
+-- such end ports keep their LIDs, whichever are gone
+abbrev pub LidsOutlast : Type 0
+LidsOutlast = (lmc : ℕ) (x y : Facts) → ¬ (IsNoRoom lmc (cells_of x)) → ¬ (IsNoRoom lmc (cells_of y)) → IsRestOf lmc (cells_of x) (cells_of y)
+    → (e : EndPort) → Contains (end_ports (cells_of y)) e → lid_of (lids lmc (cells_of y)) e ≡ lid_of (lids lmc (cells_of x)) e
+
+-- a takeover of the rest ---------------------------------------------------------------------------------
+
+-- earlier facts tell of each end port that is joined to a seat, and it holds the LID of their plan; they may tell of others, which are gone
+pub record TakesRest (held : Facts) (w : Managing) (before between after : List ManagerEvent) : Type 0 where
+  pub sweeps : SweepsAlone w before between after
+  pub has_room : ¬ (IsNoRoom (planning_at w before between).lmc (cells_of held))
+  pub tells : (port : NodePort) (node : fabric.Node) → IsEndPortIn (IsJoinedTo (fabric_of w.scene.fabric) w.seat) (fabric_of w.scene.fabric) port node
+      → TellsEndPort (cells_of held) node port.port
+  pub holds : (port : NodePort) (node : fabric.Node) → IsEndPortIn (IsJoinedTo (fabric_of w.scene.fabric) w.seat) (fabric_of w.scene.fabric) port node
+      → range_of (plan_by_it (planning_at w before between) held).given (record { node = node.guid; port = port.port })
+      ≡ Some (range_at (fabric_of w.scene.fabric) port)
+
+-- what is written gives each end port that is there the LID that it had, and once it is written pings arrive among them
+pub record IsServed (held : Facts) (w : Managing) (before between after : List ManagerEvent) : Type 0 where
+  pub lids_stay : (e : EndPort) → Contains (end_ports (cells_of (at_writing w before between).manager.store)) e
+      → lid_of (plan_at (at_writing w before between)).given e ≡ lid_of (plan_by_it (planning_at w before between) held).given e
+  pub arrives : is_written (at_end w before between after).manager ≡ true
+      → EachPingArrives (planning_at w before between).rule (cells_of (at_writing w before between).manager.store) (plan_at (at_writing w before between))
+      (at_end w before between after).scene.fabric w.seat
+
+-- so is the rest of a subnet served, whatever is gone
+abbrev pub RestIsServed : Type 0
+RestIsServed =
+    (held : Facts) (w : Managing) (before between after : List ManagerEvent) → TakesRest held w before between after → IsServed held w before between after
+
+-- there is a manager that takes over a rest so: one that was just made
+pub record SomeManagerServesTheRest : Type 0 where
+  pub managing : Managing
+  pub port_guid : ℕ
+  pub port : ℕ
+  pub priority : ℕ
+  pub planning : Planning
+  pub new : managing.manager ≡ new_manager port_guid port priority planning
+  pub held : Facts
+  pub before : List ManagerEvent
+  pub between : List ManagerEvent
+  pub after : List ManagerEvent
+  pub takes : TakesRest held managing before between after

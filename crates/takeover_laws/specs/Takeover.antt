@@ -1,0 +1,132 @@
+-- A manager takes over a subnet that holds a plan: it sweeps while no LID changes, and comes to this plan.
+use Rattle.std.specs.Prelude.{◌≡◌, ℕ, true, List, [], ◌∷◌, Some}
+use Rattle.smp_bytes.specs.Fabric.{Fabric}
+use Rattle.smp_bytes.specs.FabricWalks.{IsJoinedTo}
+use Rattle.fact_store.specs.View.{Facts, cells_of}
+use Rattle.fabric_sim.specs.Simulation.{fabric_of}
+use Rattle.subnet_view.specs.Agreement.{AgreesOn}
+use Rattle.lid_assign.specs.Lids.{IsNoRoom}
+use Rattle.lft_blocks.specs.Plan.{PlanValue, plan_of}
+use Rattle.lft_blocks.specs.Arrival.{HoldsPlan}
+use Rattle.sweep.specs.Sweep.{Sweep}
+use Rattle.sm_manager.specs.Manager.{new_manager}
+use Rattle.sm_manager.specs.Planning.{Planning}
+use Rattle.sm_manager.specs.Writing.{is_written}
+use Rattle.sm_laws.specs.Pings.{EachPingArrives}
+use Rattle.sweep_complete.specs.Complete.{IsWhole}
+use Rattle.smp_bytes.specs.declared.cable.NodePort.{NodePort}
+use Rattle.fabric_sim.specs.Simulation.{Simulation}
+use Rattle.spread_rule.specs.Rules.{RuleValue}
+use Rattle.written_laws.specs.Sets.{KeepsPlan, OwnSets}
+use Rattle.written_laws.specs.Managing.{Managing, ManagerEvent, Around, Begin, after_manager_event, after_manager_events}
+use Rattle.written_laws.specs.Pings.{AreNoSweeps}
+use Rattle.written_laws.specs.Written.{IsWritingRun, at_writing, at_first_steps, at_end, plan_at}
+use Rattle.takeover_laws.specs.Claims.{HasLidsOf}
+
+-- at each moment of what happens each port has the LID that it has in this fabric
+abbrev pub LidsStayAround : Fabric → List ManagerEvent → Managing → Type 0
+LidsStayAround f [] w = Unit {0}
+LidsStayAround f (event ∷ events) w = HasLidsOf f (after_manager_event w event).scene × LidsStayAround f events (after_manager_event w event)
+
+-- how the manager plans when its writing begins
+abbrev pub planning_at : Managing → List ManagerEvent → List ManagerEvent → Planning
+planning_at w before between = (at_writing w before between).manager.planning
+
+-- the plan of facts by the rule and the LMC of a planning
+abbrev pub plan_by_it : Planning → Facts → PlanValue
+plan_by_it planning facts = plan_of planning.rule planning.lmc (cells_of facts)
+
+-- A manager that holds no facts sweeps, and is about to write what it learnt by that.
+pub record SweepsAlone (w : Managing) (before between after : List ManagerEvent) : Type 0 where
+  -- from a moment at which nothing is on its way: a sweep begins, and then a writing
+  pub run : IsWritingRun w before between after
+  -- it holds no facts when the sweep begins, and until the writing learns from this sweep alone
+  pub knew_nothing : cells_of (after_manager_events before w).manager.store ≡ []
+  pub alone : AreNoSweeps between (after_manager_event (after_manager_events before w) Begin)
+  -- the sweep has every answer, and nothing was out of its reach
+  pub sweep : Sweep
+  pub is_last : (at_writing w before between).manager.sweep ≡ Some sweep
+  pub whole : IsWhole sweep
+  -- until the writing no port gets another LID
+  pub lids_before : LidsStayAround (fabric_of w.scene.fabric) before w
+  pub lids_between : LidsStayAround (fabric_of w.scene.fabric) between (after_manager_event (after_manager_events before w) Begin)
+
+-- It does so on a subnet that holds a plan.
+pub record TakesOver (held : Facts) (w : Managing) (before between after : List ManagerEvent) : Type 0 where
+  pub sweeps : SweepsAlone w before between after
+  -- all that is joined to its seat is as these facts say, and holds their plan by the manager's rule and LMC
+  pub has_room : ¬ (IsNoRoom (planning_at w before between).lmc (cells_of held))
+  pub agrees : AgreesOn (IsJoinedTo (fabric_of w.scene.fabric) w.seat) (cells_of held) (fabric_of w.scene.fabric)
+  pub holds : HoldsPlan (IsJoinedTo (fabric_of w.scene.fabric) w.seat) (plan_by_it (planning_at w before between) held) (fabric_of w.scene.fabric)
+
+-- What it is about to write is what is there: the same LIDs, and each block as it is. Pings arrived before it came, and arrive once it has written.
+pub record ChangesNothing (held : Facts) (w : Managing) (before between after : List ManagerEvent) : Type 0 where
+  pub same_plan : plan_at (at_writing w before between) ≡ plan_by_it (planning_at w before between) held
+  pub arrived : EachPingArrives (planning_at w before between).rule (cells_of held) (plan_by_it (planning_at w before between) held) w.scene.fabric w.seat
+  pub arrives : is_written (at_end w before between after).manager ≡ true
+      → EachPingArrives (planning_at w before between).rule (cells_of (at_writing w before between).manager.store) (plan_by_it (planning_at w before between) held)
+      (at_end w before between after).scene.fabric w.seat
+
+-- a takeover changes nothing
+abbrev pub TakeoverChangesNothing : Type 0
+TakeoverChangesNothing =
+    (held : Facts) (w : Managing) (before between after : List ManagerEvent) → TakesOver held w before between after → ChangesNothing held w before between after
+
+-- between its writes, too --------------------------------------------------------------------------------
+
+-- no Set of the manager's own is looked for
+abbrev pub no_sets : OwnSets
+no_sets at packet = ⊥
+
+-- each Set that an agent takes carries the plan's values
+abbrev pub Carrying : PlanValue → Managing → ManagerEvent → Type 0
+Carrying plan w (Around event) = KeepsPlan plan no_sets w.scene.fabric event
+Carrying plan w event = Unit {0}
+
+abbrev pub AllCarry : PlanValue → List ManagerEvent → Managing → Type 0
+AllCarry plan [] w = Unit {0}
+AllCarry plan (event ∷ events) w = Carrying plan w event × AllCarry plan events (after_manager_event w event)
+
+-- what is joined to a seat holds the plan of facts, and each ping there for each LID of it arrives
+pub record IsInUse (rule : RuleValue) (facts : Facts) (plan : PlanValue) (s : Simulation) (seat : NodePort) : Type 0 where
+  pub holds : HoldsPlan (IsJoinedTo (fabric_of s) seat) plan (fabric_of s)
+  pub arrive : EachPingArrives rule (cells_of facts) plan s seat
+
+-- so it is at each moment of what happens
+abbrev pub InUseAlong : RuleValue → Facts → PlanValue → NodePort → List ManagerEvent → Managing → Type 0
+InUseAlong rule facts plan seat [] w = IsInUse rule facts plan w.scene.fabric seat
+InUseAlong rule facts plan seat (event ∷ events) w =
+    IsInUse rule facts plan w.scene.fabric seat × InUseAlong rule facts plan seat events (after_manager_event w event)
+
+-- a takeover while each Set carries the values of the plan that is held: until the writing begins; from then on the run asks for it
+pub record TakesOverQuietly (held : Facts) (w : Managing) (before between after : List ManagerEvent) : Type 0 where
+  pub takes : TakesOver held w before between after
+  pub carry_before : AllCarry (plan_by_it (planning_at w before between) held) before w
+  pub carry_between : AllCarry (plan_by_it (planning_at w before between) held) between (after_manager_event (after_manager_events before w) Begin)
+
+-- at each moment before the sweep, until the writing, and between its Sets
+pub record IsInUseThroughout (held : Facts) (w : Managing) (before between after : List ManagerEvent) : Type 0 where
+  pub until_sweep : InUseAlong (planning_at w before between).rule held (plan_by_it (planning_at w before between) held) w.seat before w
+  pub until_writing : InUseAlong (planning_at w before between).rule held (plan_by_it (planning_at w before between) held) w.seat between
+      (after_manager_event (after_manager_events before w) Begin)
+  pub while_writing : InUseAlong (planning_at w before between).rule held (plan_by_it (planning_at w before between) held) w.seat after (at_first_steps w before between)
+
+-- what is held stays held, and every ping arrives before, between and after the writes
+abbrev pub PingsArriveThroughout : Type 0
+PingsArriveThroughout =
+    (held : Facts) (w : Managing) (before between after : List ManagerEvent) → TakesOverQuietly held w before between after
+    → IsInUseThroughout held w before between after
+
+-- there is a manager that takes over so: one that was just made
+pub record SomeManagerTakesOver : Type 0 where
+  pub managing : Managing
+  pub port_guid : ℕ
+  pub port : ℕ
+  pub priority : ℕ
+  pub planning : Planning
+  pub new : managing.manager ≡ new_manager port_guid port priority planning
+  pub held : Facts
+  pub before : List ManagerEvent
+  pub between : List ManagerEvent
+  pub after : List ManagerEvent
+  pub takes : TakesOverQuietly held managing before between after
