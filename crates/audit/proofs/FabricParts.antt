@@ -1,4 +1,4 @@
--- What facts that agree with a part of a fabric say of its switches and its wires.
+-- What facts that cover a part of a fabric say of its switches and its wires.
 use Rattle.std.proofs.Common.{◌≡◌, ◌≢◌, ℕ, ◌≤◌, true, false, List, length, get_or, None, Some, refl, sym, ap, ◌∙◌, subst, arith}
 use Rattle.std.specs.Prelude.{slice_get, is_some, Contains, ◌==◌}
 use Rattle.std.specs.List.{position_or_len}
@@ -17,6 +17,7 @@ use Rattle.fact_store.specs.View.{Facts, cells_of}
 use Rattle.subnet_view.specs.Reading.{Cells, is_switch_node, is_usable, cap_of, switches}
 use Rattle.subnet_view.specs.Wires.{across}
 use Rattle.subnet_view.specs.Agreement.{Part, WholeFabric, IsEndPortIn}
+use Rattle.subnet_view.proofs.Covered.{covers}
 use Rattle.subnet_view.proofs.UsableSwitches.{switches_law, usable_law}
 use Rattle.subnet_view.proofs.WireLaws.{wire_law}
 use Rattle.audit.specs.Fabrics.{IsSeen, IsSeenIn}
@@ -36,7 +37,7 @@ index_there guids g h e =
 pub seen_whole : {cells : Cells} {held : HeldPlan} {f : Fabric} → IsSeen cells held f → IsSeenIn WholeFabric cells held f
 seen_whole seen = record {
   is_fabric = seen.is_fabric;
-  agrees = seen.agrees;
+  covers = covers seen.agrees;
   holds = record {
     lids = λ port node lid here some. seen.holds.lids port node lid here.node_there here.end_port some;
     tops = λ port node here kind. seen.holds.tops port.node node here.node_there kind;
@@ -60,7 +61,7 @@ module _ (part : Part) (facts : Facts) (held : HeldPlan) (f : Fabric) (seen : Is
       as_part (vertex_of f p) node (ap (slice_get f.nodes) (vertex_node f p) ∙ at) (vertex_is_end f p (seen.is_fabric.cabled p q wire)) within
 
   pub known_type : (p : NodePort) (node : Node) → InFabric p node → is_switch_node cells node.guid ≡ is_switch node.kind
-  known_type p node here = ap (λ o. option_map_or (λ n. is_switch n.0) o false) (seen.agrees.tells_end_ports p node here).kind
+  known_type p node here = ap (λ o. option_map_or (λ n. is_switch n.0) o false) (seen.covers.tells_end_ports p node here).kind
 
   pub switch_end : (place : ℕ) (node : Node) → IsNodeAt f place node → is_switch node.kind ≡ true → part (port_at place 0) → InFabric (port_at place 0) node
   switch_end place node at kind within =
@@ -71,7 +72,7 @@ module _ (part : Part) (facts : Facts) (held : HeldPlan) (f : Fabric) (seen : Is
   usable place node at kind within =
       let here = switch_end place node at kind within in
       and_from (is_switch_node cells node.guid) (is_some (cap_of cells node.guid)) (known_type (port_at place 0) node here ∙ kind)
-      (ap is_some ((seen.agrees.tells_end_ports (port_at place 0) node here).cap kind))
+      (ap is_some ((seen.covers.tells_end_ports (port_at place 0) node here).cap kind))
 
   pub listed : (place : ℕ) (node : Node) → IsNodeAt f place node → is_switch node.kind ≡ true → part (port_at place 0)
       → index_in (switches cells) node.guid ≡ None → ⊥
@@ -93,12 +94,12 @@ module _ (part : Part) (facts : Facts) (held : HeldPlan) (f : Fabric) (seen : Is
 
   -- the wires are those that the facts tell
   same_place : (p q : NodePort) (a b : Node) → InFabric p a → InFabric q b → a.guid ≡ b.guid → p.node ≡ q.node
-  same_place = seen.agrees.guids_distinct
+  same_place = seen.covers.guids_distinct
 
   pub wire_told : (p q : NodePort) (a b : Node) → f.across p ≡ Some q → p ≢ q → IsNodeAt f p.node a → IsNodeAt f q.node b → part (vertex_of f p)
       → across cells a.guid p.port ≡ Some (b.guid, q.port)
   wire_told p q a b wire apart at there within =
-      (wire_law cells a.guid p.port b.guid q.port).1 ((seen.agrees.wires a.guid p.port b.guid q.port).1
+      (wire_law cells a.guid p.port b.guid q.port).1 (seen.covers.wires_told a.guid p.port b.guid q.port
       (record {
         from = p;
         to = q;
@@ -113,9 +114,11 @@ module _ (part : Part) (facts : Facts) (held : HeldPlan) (f : Fabric) (seen : Is
     pub wire : f.across p ≡ Some to
     pub apart : p ≢ to
 
-  pub told_wire : (p v : NodePort) (node : Node) (h q : ℕ) → InFabric v node → v.node ≡ p.node → across cells node.guid p.port ≡ Some (h, q) → WireThere p
-  told_wire p v node h q here place e =
-      let w = (seen.agrees.wires node.guid p.port h q).0 ((wire_law cells node.guid p.port h q).0 e) in
+  pub told_wire : (p v : NodePort) (node : Node) (h q : ℕ) → InFabric v node → v.node ≡ p.node → part (vertex_of f p)
+      → across cells node.guid p.port ≡ Some (h, q) → WireThere p
+  told_wire p v node h q here place within e =
+      let there : IsNodeAt f p.node node = sym (ap (slice_get f.nodes) place) ∙ here.node_there in
+      let w = seen.covers.wires_there p node there within h q ((wire_law cells node.guid p.port h q).0 e) in
       let from_part = vertex_part w.from w.to w.from_named.node w.wire.cable w.from_named.node_there w.in_part in
       let at : w.from.node ≡ p.node =
       sym (vertex_node f w.from) ∙ same_place (vertex_of f w.from) v w.from_named.node node from_part here w.from_named.guid_is ∙ place in

@@ -214,7 +214,7 @@ module _ (part : Part) (facts : Facts) (held : HeldPlan) (f : Fabric) (seen : Is
     no_cable none =
         elim (across cells g p.port) as (λ o. across cells g p.port ≡ o → Leads st (over owners g cause (far_of cells g p.port))) [
           | None ↦ λ e. lost_there (never_stuck f lid st p leaves none) e
-          | Some x ↦ λ e. let w = told_wire part facts held f seen p v node x.0 x.1 here place e in let wire = w.wire in absurd (cc)
+          | Some x ↦ λ e. let w = told_wire part facts held f seen p v node x.0 x.1 here place within e in let wire = w.wire in absurd (cc)
         ] refl
 
     looped : (q : NodePort) → f.across p ≡ Some q → p ≡ q → Leads st (over owners g cause (far_of cells g p.port))
@@ -224,7 +224,7 @@ module _ (part : Part) (facts : Facts) (held : HeldPlan) (f : Fabric) (seen : Is
         elim again [ inl on ↦ never_loops f lid p on loop | inr drops ↦ never_dropped f lid (arrived_at p) drops ] in
         elim (across cells g p.port) as (λ o. across cells g p.port ≡ o → Leads st (over owners g cause (far_of cells g p.port))) [
           | None ↦ λ e. lost_there (never_on f lid st p p leaves loop never) e
-          | Some x ↦ λ e. let w = told_wire part facts held f seen p v node x.0 x.1 here place e in
+          | Some x ↦ λ e. let w = told_wire part facts held f seen p v node x.0 x.1 here place within e in
               absurd (w.apart (same_Some p w.to (sym loop ∙ w.wire)))
         ] refl
 
@@ -257,7 +257,7 @@ module _ (part : Part) (facts : Facts) (held : HeldPlan) (f : Fabric) (seen : Is
   abbrev why : Node → Cause
   why node = cause_of cells held lid node.guid
 
-  switch_goes : (st : Standing) (node : Node) → IsNodeAt f st.place.node node → is_switch node.kind ≡ true → part (port_at st.place.node 0)
+  pub switch_goes : (st : Standing) (node : Node) → IsNodeAt f st.place.node node → is_switch node.kind ≡ true → part (port_at st.place.node 0)
       → course f lid st ≡ entry_course node.ports st.place.node (entry node)
   switch_goes st node at kind within =
       let k = st.place.node in
@@ -274,7 +274,7 @@ module _ (part : Part) (facts : Facts) (held : HeldPlan) (f : Fabric) (seen : Is
   past_row (x ∷ row) zero h = absurd (omega arith)
   past_row (x ∷ row) (suc n) h = past_row row n (omega arith)
 
-  row_at : (h p : ℕ) → p < 255 → slice_index_or (row_of cells h) p Nothing ≡ far_of cells h p
+  pub row_at : (h p : ℕ) → p < 255 → slice_index_or (row_of cells h) p Nothing ≡ far_of cells h p
   row_at h p less = get_or-map-range_with_len (far_of cells h) 0 255 p p Nothing less (omega arith)
 
   no_port : (k : ℕ) (node : Node) (p : ℕ) → IsNodeAt f k node → is_switch node.kind ≡ true → part (port_at k 0) → (p ≡ 255) ⊎ (node.ports < p)
@@ -286,7 +286,9 @@ module _ (part : Part) (facts : Facts) (held : HeldPlan) (f : Fabric) (seen : Is
             ∙ (elim (across cells node.guid p) as (λ o. across cells node.guid p ≡ o → far_of cells node.guid p ≡ Nothing) [
               | None ↦ λ e. no_far node.guid p e
               | Some x ↦ λ e.
-                  let w = told_wire part facts held f seen (port_at k p) (port_at k 0) node x.0 x.1 (switch_end part facts held f seen k node at kind within) refl e in
+                  let vertex : vertex_of f (port_at k p) ≡ port_at k 0 = switch_vertex f (port_at k p) (type_at f k node at ∙ kind) in
+                  let w = told_wire part facts held f seen (port_at k p) (port_at k 0) node x.0 x.1
+                  (switch_end part facts held f seen k node at kind within) refl (subst part (sym vertex) within) e in
                   let (other, at_other, low, high) = seen.is_fabric.cabled (port_at k p) w.to w.wire in
                   let same : other ≡ node = same_Some other node (sym at_other ∙ at) in
                   let few_enough : p ≤ node.ports = subst (λ (n : Node). p ≤ n.ports) same high in
@@ -302,7 +304,7 @@ module _ (part : Part) (facts : Facts) (held : HeldPlan) (f : Fabric) (seen : Is
         | false ↦ λ q k. inr (ltb-true ports p k)
       ] refl e
 
-  has : (p ports : ℕ) → (p == 255 || nat_lt ports p) ≡ false → p ≤ ports
+  pub has : (p ports : ℕ) → (p == 255 || nat_lt ports p) ≡ false → p ≤ ports
   has p ports e =
       elim (p == 255) as (λ t. (t || nat_lt ports p) ≡ false → p ≤ ports) [
         | true ↦ λ k. absurd (cc)

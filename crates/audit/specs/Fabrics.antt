@@ -8,7 +8,7 @@ use Rattle.smp_bytes.specs.Fabric.{Node, Fabric, IsFabric, IsNodeAt, IsEndPort, 
 use Rattle.smp_bytes.specs.Forwarding.{Hop, IsDelivered, IsLost}
 use Rattle.fact_store.specs.View.{Facts, cells_of}
 use Rattle.subnet_view.specs.Reading.{Cells}
-use Rattle.subnet_view.specs.Agreement.{Part, WholeFabric, IsEndPortIn, IsPortNamed, AgreesOn}
+use Rattle.subnet_view.specs.Agreement.{Part, WholeFabric, IsEndPortIn, IsPortNamed, AgreesOn, Covers}
 use Rattle.smp_bytes.specs.FabricWalks.{IsConnected, IsJoinedTo}
 use Rattle.lid_assign.specs.Lids.{IsNoRoom}
 use Rattle.spread_rule.specs.Rules.{RuleValue}
@@ -44,10 +44,10 @@ pub record HoldsTablesIn (part : Part) (held : HeldPlan) (f : Fabric) : Type 0 w
   pub entries : (port : NodePort) (node : Node) (lid : ℕ) → IsEndPortIn part f port node → IsTrue (is_switch node.kind)
       → f.entry port.node lid ≡ entry_of held node.guid lid
 
--- a fabric of which a part is as the facts say, and holds the tables
+-- a fabric of which a part is as the facts say, whatever else they tell, and holds the tables
 pub record IsSeenIn (part : Part) (cells : Cells) (held : HeldPlan) (f : Fabric) : Type 0 where
   pub is_fabric : IsFabric f
-  pub agrees : AgreesOn part cells f
+  pub covers : Covers part cells f
   pub holds : HoldsTablesIn part held f
 
 -- a packet that ends at a port is delivered there, and any other is lost

@@ -1,2 +1,3 @@
+pub mod Fabrics
 pub mod Orders
 pub mod Waiting

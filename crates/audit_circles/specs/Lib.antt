@@ -1,1 +1,2 @@
+pub mod Fabrics
 pub mod Waiting

@@ -155,7 +155,7 @@ module _ {cells : Cells} {f : Fabric} {origin : NodePort} (told : IsTold cells f
   lies v h node g here home (by_wire s e) =
       let different : v ≢ h = λ is. cc (s, ap (λ (p : NodePort). is_switch_at f p.node) is, switch_at_place home.there) in
       let wire : across cells node.guid v.port ≡ Some (g, h.port) =
-      (wire_law cells node.guid v.port g h.port).1 ((told.agrees.wires node.guid v.port g h.port).1
+      (wire_law cells node.guid v.port g h.port).1 (told.covers.wires_told node.guid v.port g h.port
       (record {
         from = v;
         to = h;
@@ -198,7 +198,7 @@ module _ {cells : Cells} {f : Fabric} {origin : NodePort} (told : IsTold cells f
               let different : v ≢ w =
               λ is. (let yes : is_same_port v v ≡ true = same_port-refl v in let moved : is_same_port v v ≡ is_same_port v w = ap (is_same_port v) is in cc) in
               let there : across cells a.guid v.port ≡ Some (b.guid, w.port) =
-              (wire_law cells a.guid v.port b.guid w.port).1 ((told.agrees.wires a.guid v.port b.guid w.port).1
+              (wire_law cells a.guid v.port b.guid w.port).1 (told.covers.wires_told a.guid v.port b.guid w.port
               (record {
                 from = v;
                 to = w;
@@ -233,7 +233,7 @@ end_vertex f p is_end =
 listed : (part : Part) (facts : Facts) (held : HeldPlan) (f : Fabric) → IsSeenIn part (cells_of facts) held f → (p : NodePort) (node : Node)
     → IsEndPortIn part f p node → Contains (end_ports (cells_of facts)) (name p node)
 listed part facts held f seen p node here =
-    let told = seen.agrees.tells_end_ports p node here in
+    let told = seen.covers.tells_end_ports p node here in
     let (other, at_other, number) = here.end_port in
     let is : other ≡ node = same_Some other node (sym at_other ∙ here.node_there) in
     let its : EndNumber node.ports p.port (is_switch node.kind) = subst (λ (n : Node). EndNumber n.ports p.port (is_switch n.kind)) is number in
@@ -244,7 +244,7 @@ passing_audits_deliver facts held f origin is_end seen passes source target a b 
     let cells = cells_of facts in
     let part : Part = IsJoinedTo f origin in
     let closed : IsClosed part f = joined_closed f seen.is_fabric origin in
-    let told : IsTold cells f origin = record { is_fabric = seen.is_fabric; agrees = seen.agrees; is_graph = graph_law facts; listed = usable_switch facts } in
+    let told : IsTold cells f origin = record { is_fabric = seen.is_fabric; covers = seen.covers; is_graph = graph_law facts; listed = usable_switch facts } in
     let e = name source a in
     let x = name target b in
     let l = owner_line held.lids lid x (sym (seen.holds.lids target b lid into some) ∙ own) in
@@ -264,7 +264,7 @@ passing_audits_deliver facts held f origin is_end seen passes source target a b 
     record { node_there = ap (slice_get f.nodes) (vertex_node f found) ∙ its.node_there; end_port = within.1; in_part = within.0 } in
     let guid : its.node.guid ≡ b.guid = its.guid_is ∙ ap (λ (y : EndPort). y.node) owner in
     let place : found.node ≡ target.node =
-    sym (vertex_node f found) ∙ seen.agrees.guids_distinct (vertex_of f found) target its.node b found_there into guid in
+    sym (vertex_node f found) ∙ seen.covers.guids_distinct (vertex_of f found) target its.node b found_there into guid in
     let is : found ≡ target = same_port found target place (its.port_is ∙ ap (λ (y : EndPort). y.port) owner) in
     record {
       hops = hops;

@@ -10,6 +10,7 @@ use crate::fabric::Fabric;
 use crate::peers::Peers;
 use attr_codec::{Attribute, NodeDescription};
 use node_agents::{Agent, AgentNode};
+use smp_bytes::NodeId;
 use std::alloc::{AllocError, Global};
 use std::collections::VecDeque;
 use topo_file::{Node, Topology};
@@ -39,7 +40,7 @@ fn uncabled(alloc: Global, topology: &Topology, first_serial: u64) -> Result<Fab
 {
     let mut agents = Vec::with_capacity(alloc, topology.count())?;
     let mut peers = Vec::with_capacity(alloc, topology.count())?;
-    while let Some(node) = topology.node(agents.len()) {
+    while let Some(node) = topology.node(NodeId::new(agents.len())) {
         agents.push(Agent::new(alloc, agent_node(node))?)?;
         peers.push(Peers::new(alloc, node.ports)?)?;
     }

@@ -82,7 +82,7 @@ fn set_wired(agents: &mut [Agent], port: &NodePort, is_wired: bool)
     ensures { agents.new
         ≡ with_changed agents.old port.now.node (λ a. wired a port.now.port is_wired) }
 {
-    let agent = &mut agents[port.node];
+    let agent = &mut agents[port.node.place()];
     agent.set_wired(port.port, is_wired);
 }
 
@@ -91,6 +91,6 @@ fn set_peer(peers: &mut [Peers], port: &NodePort, other: Option<NodePort>)
     requires { HasPeerPlace peers.old port.now }
     ensures { peers.new ≡ with_peer peers.old port.now other }
 {
-    let peers = &mut peers[port.node];
+    let peers = &mut peers[port.node.place()];
     peers.set(port.port, other);
 }

@@ -31,7 +31,7 @@ impl Fabric {
         if self.is_seat(&at) {
             return Err(FabricFault::PortTaken);
         }
-        let agent = &mut self.agents[at.node];
+        let agent = &mut self.agents[at.node.place()];
         agent.set_seat(at.port);
         Ok(())
     }

@@ -81,7 +81,7 @@ impl Fabric {
             return Err(FabricFault::SerialsSpent);
         };
         let at = flight.place.port();
-        let agent = &mut self.agents[at.node];
+        let agent = &mut self.agents[at.node.place()];
         let answer = agent.answer(request, at.port);
         self.flights.remove(i);
         self.flights.push_back_reserved(Flight {

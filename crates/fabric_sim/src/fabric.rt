@@ -5,11 +5,11 @@ ghost use Rattle.fabric_sim.specs.Simulation.{agent_at, across, is_seat_at, is_c
 use crate::flight::Flight;
 use crate::peers::Peers;
 use node_agents::Agent;
-use smp_bytes::{Lid, NodePort};
+use smp_bytes::{Lid, NodeId, NodePort};
 use std::collections::VecDeque;
 use std::marker::Model;
 
-/// A simulated fabric. Nodes are named by their places, from 0. Contracts see the agents, the other ends of the
+/// A simulated fabric. Contracts see the agents, the other ends of the
 /// cables, the packets in flight and the next serial number.
 #[derive(Drop)]
 pub struct Fabric {
@@ -41,10 +41,10 @@ impl Fabric {
     }
 
     /// The agent of a node. Takes one step.
-    pub fn agent(&self, node: usize) -> Option<&Agent>
+    pub fn agent(&self, node: NodeId) -> Option<&Agent>
         ensures { option_copied result ≡ agent_at self.now node }
     {
-        self.agents.get(node)
+        self.agents.get(node.place())
     }
 
     /// How many packets are in flight.
@@ -66,7 +66,7 @@ impl Fabric {
         ensures other { result ≡ across self.now.peers port.now }
         ensures port { IfSome result (λ other. is_cable_port self.now other ≡ true) }
     {
-        self.peers.get(port.node)?.across(port.port)
+        self.peers.get(port.node.place())?.across(port.port)
     }
 
     /// Whether a subnet manager sits at a port.
@@ -74,22 +74,22 @@ impl Fabric {
         ensures seat { result ≡ is_seat_at self.now port.now }
         ensures port { result ≡ true → is_cable_port self.now port.now ≡ true }
     {
-        match self.agents.get(port.node) {
+        match self.agents.get(port.node.place()) {
             Some(agent) => agent.has_seat(port.port),
             None => false,
         }
     }
 
     /// The agent of a node that is there.
-    pub(crate) fn agent_in(&self, node: usize) -> &Agent
+    pub(crate) fn agent_in(&self, node: NodeId) -> &Agent
         requires { node < length self.now.agents }
         ensures { agent_at self.now node ≡ Some result.now }
     {
-        &self.agents[node]
+        &self.agents[node.place()]
     }
 
-    /// Whether the node of a place is a switch.
-    pub(crate) fn is_switch_at(&self, node: usize) -> bool
+    /// Whether a node is a switch.
+    pub(crate) fn is_switch_at(&self, node: NodeId) -> bool
         ensures { result ≡ is_switch_at (fabric_of self.now) node }
     {
         match self.agent(node) {

@@ -10,7 +10,7 @@ use crate::fabric::Fabric;
 use crate::fault::FabricFault;
 use crate::ping::Ping;
 use node_agents::Agent;
-use smp_bytes::{Course, Lid, NodePort, PortNum};
+use smp_bytes::{Course, Lid, NodeId, NodePort, PortNum};
 
 /// The entry of a forwarding table that drops a packet.
 const NO_PORT: u8 = 255;
@@ -89,7 +89,7 @@ impl Fabric {
 }
 
 /// What a switch does with a packet for a LID.
-fn switch_course(agent: &Agent, node: usize, lid: Lid) -> Course
+fn switch_course(agent: &Agent, node: NodeId, lid: Lid) -> Course
     ensures { result ≡ switch_course agent.now.node.ports node agent.now.top lid
         (entry_at agent.now lid) }
 {

@@ -1,6 +1,6 @@
 //! Requests there and their answers back, each refusal, each reason to discard a packet, and pings.
 use super::*;
-use smp_bytes::{AttributeId, Lid, Method, NodePort, Path, PortNum, Smp};
+use smp_bytes::{AttributeId, Lid, Method, NodeId, NodePort, Path, PortNum, Smp};
 use std::alloc::Global;
 use std::process::Abort;
 use std::test::Fail;
@@ -28,7 +28,7 @@ fn ring(alloc: Global, first_serial: u64) -> Result<Fabric, Fail> {
 
 fn at(node: usize, port: u8) -> NodePort {
     NodePort {
-        node,
+        node: NodeId::new(node),
         port: PortNum::new(port),
     }
 }
@@ -72,7 +72,7 @@ fn said(delivered: Result<Delivered, FabricFault>) -> (&'static str, u64) {
     match delivered {
         Ok(Delivered::Moved(serial)) => ("moved", serial),
         Ok(Delivered::Answered(serial)) => ("answered", serial),
-        Ok(Delivered::ToManager(port, _)) => ("manager", port.node as u64),
+        Ok(Delivered::ToManager(port, _)) => ("manager", port.node.place() as u64),
         Ok(Delivered::Discarded(reason)) => match reason {
             Reason::Course => ("course", 0),
             Reason::Transit => ("transit", 0),
@@ -246,8 +246,8 @@ fn each_refusal(rt: HostRuntime) -> Result<(), Fail> {
 /// Where a ping comes to: the node, the port, and how many wires, or 99 for a node where it is lost.
 fn pinged(fabric: &Fabric, lid: u16) -> (usize, u8, usize) {
     match fabric.ping(at(3, 1), Lid::new(lid)) {
-        Ok(Ping::Reached(port, hops)) => (port.node, port.port.number(), hops),
-        Ok(Ping::Lost(node)) => (node, 0, 99),
+        Ok(Ping::Reached(port, hops)) => (port.node.place(), port.port.number(), hops),
+        Ok(Ping::Lost(node)) => (node.place(), 0, 99),
         Err(_) => (99, 99, 99),
     }
 }

@@ -12,7 +12,7 @@ use Rattle.subnet_view.specs.declared.end_port.EndPort.{EndPort}
 use Rattle.subnet_view.specs.Reading.{Cells, cap_of, is_switch_node, is_usable}
 use Rattle.subnet_view.specs.EndPorts.{HasEndPorts, end_ports}
 use Rattle.subnet_view.specs.Wires.{across, attached}
-use Rattle.subnet_view.specs.Agreement.{IsEndPortIn, IsPortNamed}
+use Rattle.subnet_view.specs.Agreement.{IsEndPortIn, IsPortNamed, HasEndPort, AgreesOn}
 use Rattle.subnet_view.proofs.Apart.{contains_map}
 use Rattle.subnet_view.proofs.WireLaws.{wire_law}
 use Rattle.lid_assign.specs.Lids.{lids, lid_of, lmc_of, owner_of, AreLids}
@@ -61,12 +61,16 @@ owner_in_part target = record { node_there = target.named.node_there; end_port =
 
 module _ {rule : Routing} {lmc : ℕ} {cells : Cells} {f : Fabric} {origin : NodePort} {lid : ℕ} {owner : EndPort} (told : IsTold cells f origin)
     (planned : IsPlanned rule lmc cells f origin lid owner) where
-  pub owner_port : OwnerPort f origin lid owner
-  owner_port =
+  -- where the facts tell of no others, the owner is there
+  pub owner_there : AgreesOn (IsJoinedTo f origin) cells f → HasEndPort (IsJoinedTo f origin) f owner.node owner.port
+  owner_there agrees =
       let its = given-from_owner (lids lmc cells) owner lid planned.owned in
       let given = contains_map (λ (x : EndPort × ℕ). x.0) (lids lmc cells).ports (owner, its.0) its.1 in
       let listed = subst (λ (es : List EndPort). Contains es owner) planned.are_lids.end_ports_in_order given in
-      let it = told.agrees.end_ports_exist owner.node owner.port ((planned.end_ports_listed owner).0 listed) in
+      agrees.end_ports_exist owner.node owner.port ((planned.end_ports_listed owner).0 listed)
+
+  pub owner_port : HasEndPort (IsJoinedTo f origin) f owner.node owner.port → OwnerPort f origin lid owner
+  owner_port it =
       let here : IsEndPortIn (IsJoinedTo f origin) f it.port it.named.node =
       record { node_there = it.named.node_there; end_port = it.end_port; in_part = it.in_part } in
       let name : EndPort = record { node = it.named.node.guid; port = it.port.port } in
@@ -88,7 +92,7 @@ module _ {rule : Routing} {lmc : ℕ} {cells : Cells} {f : Fabric} {origin : Nod
       (f.base_lid v, parts.0, ap (λ m. has_lid (f.base_lid v) m lid) (sym parts.1) ∙ own) in
       let same : name ≡ owner = same_Some name owner (sym owned_by_v ∙ planned.owned) in
       let guid : node.guid ≡ target.named.node.guid = ap (λ (e : EndPort). e.node) same ∙ sym target.named.guid_is in
-      same_port v target.port (told.agrees.guids_distinct v target.port node target.named.node here (owner_in_part target) guid)
+      same_port v target.port (told.covers.guids_distinct v target.port node target.named.node here (owner_in_part target) guid)
       (ap (λ (e : EndPort). e.port) same ∙ sym target.named.port_is)
 
   -- facts know the owner's home
@@ -114,7 +118,7 @@ module _ {rule : Routing} {lmc : ℕ} {cells : Cells} {f : Fabric} {origin : Nod
           let apart : target.port ≢ h = λ same. cc (s, ap (λ (p : NodePort). is_switch_at f p.node) same, switch_at_place home.there) in
           let its_vertex = subst (IsJoinedTo f origin) (sym (adapter_vertex f target.port s)) target.joined in
           let wire : across cells owner.node owner.port ≡ Some (g, h.port) =
-          (wire_law cells owner.node owner.port g h.port).1 ((told.agrees.wires owner.node owner.port g h.port).1
+          (wire_law cells owner.node owner.port g h.port).1 (told.covers.wires_told owner.node owner.port g h.port
           (record {
             from = target.port;
             to = h;

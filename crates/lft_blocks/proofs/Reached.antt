@@ -11,8 +11,9 @@ use Rattle.smp_bytes.proofs.FabricWalks.{port_at, same_port, type_at}
 use Rattle.fact_store.specs.View.{Facts, cells_of}
 use Rattle.subnet_view.specs.declared.end_port.EndPort.{EndPort}
 use Rattle.subnet_view.specs.Reading.{Cells}
+use Rattle.subnet_view.proofs.Covered.{covers}
 use Rattle.subnet_view.proofs.EndPortList.{end_ports_law}
-use Rattle.lid_assign.specs.Lids.{IsNoRoom}
+use Rattle.lid_assign.specs.Lids.{IsNoRoom, lids, owner_of}
 use Rattle.lid_assign.proofs.LidLaws.{lids_law}
 use Rattle.lid_assign.proofs.Owners.{owners_are_inverse}
 use Rattle.updown_routes.specs.Graph.{graph_of}
@@ -25,10 +26,11 @@ use Rattle.updown_routes.proofs.Switches.{usable_switch}
 use Rattle.updown_routes.proofs.Graphs.{graph_law}
 use Rattle.updown_routes.proofs.PartWires.{IsTold, SwitchIn, one_place, switch_at_place}
 use Rattle.updown_routes.proofs.Joined.{LiesAt, HasHome, itself, by_wire, Meets, same, wired, apart, own_home, switch_in_graph, joined_meet}
-use Rattle.lft_blocks.specs.Plan.{plan_of}
-use Rattle.lft_blocks.specs.Arrival.{guid_at, is_between_switches, switch_hops, switches_met, IsRoutedWay, EveryPacketArrives, PacketsArriveByEachRouting}
+use Rattle.lft_blocks.specs.Plan.{plan_by, plan_of}
+use Rattle.lft_blocks.specs.Arrival.{guid_at, is_between_switches, switch_hops, switches_met, HoldsPlan, IsInForceWithin, IsRoutedWay}
+use Rattle.lft_blocks.specs.Arrival.{EveryPacketArrives, PacketsArriveByEachRouting, PacketsArriveWhereCovered}
 use Rattle.lft_blocks.proofs.HeldEntries.{entry_of, planned_block}
-use Rattle.lft_blocks.proofs.OwnerPorts.{IsPlanned, OwnerPort, owner_port, lid_is_owners, owner_home}
+use Rattle.lft_blocks.proofs.OwnerPorts.{IsPlanned, OwnerPort, owner_port, owner_there, lid_is_owners, owner_home}
 use Rattle.lft_blocks.proofs.Courses.{WayTaken, guid_there, way_taken, goes_on}
 use Rattle.lft_blocks.proofs.Courses.{adapter_takes, adapter_sends, switch_takes, switch_sends, entry_at_home}
 use Rattle.lft_blocks.proofs.Routed.{arrival_ports, arrivals, adapter_hops, way_arrivals, way_switch_hops, way_adapter_hops}
@@ -221,24 +223,40 @@ module _ {rule : Routing} {lmc : ℕ} {cells : Cells} {f : Fabric} {origin : Nod
         ] refl)
       ] refl
 
--- where the plan by a rule of routing is in force, every packet arrives
-pub packets_arrive_by_each_routing : PacketsArriveByEachRouting
-packets_arrive_by_each_routing lmc facts rule routing has_room f origin is_origin in_force source is_end j lid owner owned =
-    let cells = cells_of facts in
-    let told : IsTold cells f origin =
-    record { is_fabric = in_force.is_fabric; agrees = in_force.agrees; is_graph = graph_law facts; listed = usable_switch facts } in
-    let planned : IsPlanned rule lmc cells f origin lid owner =
+-- the LID has its owner in the plan that is held
+plan_there : (rule : Routing) (lmc : ℕ) (facts : Facts) → ¬ (IsNoRoom lmc (cells_of facts)) → (f : Fabric) (origin : NodePort)
+    → HoldsPlan (IsJoinedTo f origin) (plan_by rule lmc (cells_of facts)) f → (lid : ℕ) (owner : EndPort) → owner_of (lids lmc (cells_of facts)) lid ≡ Some owner
+    → IsPlanned rule lmc (cells_of facts) f origin lid owner
+plan_there rule lmc facts has_room f origin holds lid owner owned =
     record {
       are_lids = lids_law lmc facts has_room;
       inverse = owners_are_inverse lmc facts has_room;
       end_ports_listed = (end_ports_law facts).0;
       blocks = planned_block rule lmc facts;
-      held = in_force.holds;
+      held = holds;
       owned = owned;
-    } in
-    let target = owner_port told planned in
+    }
+
+-- where the plan by a rule of routing is in force, every packet for an end port that is there arrives
+pub packets_arrive_where_covered : PacketsArriveWhereCovered
+packets_arrive_where_covered lmc facts rule routing has_room f origin is_origin in_force source is_end j lid owner owned there =
+    let cells = cells_of facts in
+    let told : IsTold cells f origin =
+    record { is_fabric = in_force.is_fabric; covers = in_force.covers; is_graph = graph_law facts; listed = usable_switch facts } in
+    let planned : IsPlanned rule lmc cells f origin lid owner = plan_there rule lmc facts has_room f origin in_force.holds lid owner owned in
+    let target = owner_port told planned there in
     let d = delivery routing told planned target source is_origin is_end j in
     record { target = target.port; is_owner = target.named; in_part = target.joined; hops = d.0; delivered = d.1; way = d.2 }
+
+-- and where the facts tell of no others, every packet
+pub packets_arrive_by_each_routing : PacketsArriveByEachRouting
+packets_arrive_by_each_routing lmc facts rule routing has_room f origin is_origin in_force source is_end j lid owner owned =
+    let within : IsInForceWithin (IsJoinedTo f origin) (cells_of facts) (plan_by rule lmc (cells_of facts)) f =
+    record { is_fabric = in_force.is_fabric; covers = covers in_force.agrees; holds = in_force.holds } in
+    let told : IsTold (cells_of facts) f origin =
+    record { is_fabric = within.is_fabric; covers = within.covers; is_graph = graph_law facts; listed = usable_switch facts } in
+    packets_arrive_where_covered lmc facts rule routing has_room f origin is_origin within source is_end j lid owner owned
+    (owner_there told (plan_there rule lmc facts has_room f origin in_force.holds lid owner owned) in_force.agrees)
 
 -- so it does by each rule that can be asked for
 pub every_packet_arrives : (rule : RuleValue) (lmc : ℕ) (facts : Facts) → ¬ (IsNoRoom lmc (cells_of facts))

@@ -12,7 +12,7 @@ use Rattle.smp_bytes.specs.Forwarding.{Hop, IsDelivered}
 use Rattle.fact_store.specs.View.{Facts, cells_of}
 use Rattle.subnet_view.specs.declared.end_port.EndPort.{EndPort}
 use Rattle.subnet_view.specs.Reading.{Cells}
-use Rattle.subnet_view.specs.Agreement.{Part, WholeFabric, IsEndPortIn, IsPortNamed, AgreesOn}
+use Rattle.subnet_view.specs.Agreement.{Part, WholeFabric, IsEndPortIn, IsPortNamed, HasEndPort, AgreesOn, Covers}
 use Rattle.lid_assign.specs.Lids.{IsNoRoom, range_of, owner_of, top_of}
 use Rattle.updown_routes.specs.Graph.{graph_of}
 use Rattle.updown_routes.specs.Routing.{Routing, IsRouting}
@@ -37,6 +37,12 @@ HoldsPlan part plan f = (port : NodePort) (node : Node) → IsEndPortIn part f p
 pub record IsInForce (part : Part) (cells : Cells) (plan : PlanValue) (f : Fabric) : Type 0 where
   pub is_fabric : IsFabric f
   pub agrees : AgreesOn part cells f
+  pub holds : HoldsPlan part plan f
+
+-- a part of a fabric that the facts cover, and where the plan is in force
+pub record IsInForceWithin (part : Part) (cells : Cells) (plan : PlanValue) (f : Fabric) : Type 0 where
+  pub is_fabric : IsFabric f
+  pub covers : Covers part cells f
   pub holds : HoldsPlan part plan f
 
 -- the GUID of a port's node
@@ -100,6 +106,15 @@ EveryPacketArrivesBy rule cells plan = (f : Fabric) (origin : NodePort) → IsEn
 abbrev pub PacketsArriveByEachRouting : Type 0
 PacketsArriveByEachRouting = (lmc : ℕ) (facts : Facts) (rule : Routing) → IsRouting (graph_of (cells_of facts)) rule → ¬ (IsNoRoom lmc (cells_of facts))
     → EveryPacketArrivesBy rule (cells_of facts) (plan_by rule lmc (cells_of facts))
+
+-- and where the facts cover what an end port is joined to, whatever else they tell, so does a packet for each LID of the plan that an end port there owns
+abbrev pub PacketsArriveWhereCovered : Type 0
+PacketsArriveWhereCovered =
+    (lmc : ℕ) (facts : Facts) (rule : Routing) → IsRouting (graph_of (cells_of facts)) rule → ¬ (IsNoRoom lmc (cells_of facts))
+    → (f : Fabric) (origin : NodePort) → IsEndPort f origin → IsInForceWithin (IsJoinedTo f origin) (cells_of facts) (plan_by rule lmc (cells_of facts)) f
+    → (source : NodePort) → IsEndPort f source → IsJoinedTo f origin source
+    → (lid : ℕ) (owner : EndPort) → owner_of (plan_by rule lmc (cells_of facts)).given lid ≡ Some owner → HasEndPort (IsJoinedTo f origin) f owner.node owner.port
+    → ArrivesBy rule (IsJoinedTo f origin) f lid source owner
 
 -- by a rule that can be asked for
 abbrev pub EveryPacketArrives : RuleValue → Cells → PlanValue → Type 0

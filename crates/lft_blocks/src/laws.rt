@@ -1,5 +1,5 @@
 //! The laws of plans.
-ghost use Rattle.lft_blocks.specs.Arrival.{PacketsArriveByEachRouting, PacketsArriveIfConnected};
+ghost use Rattle.lft_blocks.specs.Arrival.{PacketsArriveByEachRouting, PacketsArriveIfConnected, PacketsArriveWhereCovered};
 ghost use Rattle.lft_blocks.specs.PlanLaws.{PlansStay, LidsStayInPlans, BlocksHoldEntries, BlocksAreOfSwitches};
 
 /// Where the facts differ from those of a view with room in claims alone, and each end port claims the LID
@@ -31,6 +31,12 @@ pub fn blocks_are_of_switches()
 /// This hangs on nothing else of the rule.
 pub fn packets_arrive_by_each_routing()
     ensures { PacketsArriveByEachRouting }
+{}
+
+/// The same where a view covers what the end port is joined to, and may tell of more, such as of nodes that are gone: then a
+/// packet for each LID of the plan that an end port there owns arrives.
+pub fn packets_arrive_where_covered()
+    ensures { PacketsArriveWhereCovered }
 {}
 
 /// Where a connected fabric is as a view with room says, and holds the plan of that view, a packet

@@ -114,3 +114,12 @@ abbrev pub RunsOfOneAreReached : Type 0
 RunsOfOneAreReached = (nodes : List Node) (w : WorldValue) (s : SeatedValue) (between after : List Command)
     → (b : BringsUpAlone nodes w s between after)
     → EachPingSaysReached (plan_of b.swept.planning.rule b.swept.planning.lmc (cells_of b.swept.store)) (at_end nodes w between after) s.at
+
+-- there is such a run: a fabric, a manager on it, and lines
+pub record SomeRunOfOne : Type 0 where
+  pub nodes : List Node
+  pub world : WorldValue
+  pub seated : SeatedValue
+  pub between : List Command
+  pub after : List Command
+  pub brings_up : BringsUpAlone nodes world seated between after

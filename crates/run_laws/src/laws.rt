@@ -1,6 +1,6 @@
 //! What the lines of a run tell. There is nothing to call: the contracts are what counts.
 ghost use Rattle.run_laws.specs.Accounts.{RunsAreAccountedFor};
-ghost use Rattle.run_laws.specs.Alone.{RunsOfOneAreReached};
+ghost use Rattle.run_laws.specs.Alone.{RunsOfOneAreReached, SomeRunOfOne};
 ghost use Rattle.run_laws.specs.Lines.{LaterLinesComeBehind, MergedManagersPlanAlike, SameTakenInPlansAlike, SameTakenInSameLines};
 ghost use Rattle.run_laws.specs.Reached.{HeldPlansAreReached, WrittenPlansAreReached};
 ghost use Rattle.run_laws.specs.Repeats.{TextsDecideOutput};
@@ -66,4 +66,11 @@ pub fn written_plans_are_reached()
 /// or carries the plan's values.
 pub fn runs_of_one_are_reached()
     ensures { RunsOfOneAreReached }
+{}
+
+/// Such runs there are: of a manager on an adapter, which is wired to a switch, as is another
+/// adapter, with LIDs in pairs (LMC 1). The lines `lose 0`, `timeout`, `repeat last` and `drain`
+/// stand behind its sweep, and `drain` behind its writing.
+pub fn some_run_of_one()
+    ensures { SomeRunOfOne }
 {}

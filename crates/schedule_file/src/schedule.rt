@@ -12,7 +12,7 @@ use crate::line::{Line, NewManager, read_line};
 use crate::manager_name::ManagerName;
 use crate::names::{command, is_free, port, seat};
 use attr_codec::Priority;
-use smp_bytes::{NodePort, PortNum};
+use smp_bytes::{NodeId, NodePort, PortNum};
 use std::alloc::Global;
 use std::marker::Model;
 use text_words::split_line;
@@ -33,7 +33,7 @@ impl Default for Seat {
         Seat {
             name: ManagerName::default(),
             at: NodePort {
-                node: 0,
+                node: NodeId::new(0),
                 port: PortNum::new(0),
             },
             priority: Priority::new(0).unwrap(),

@@ -10,14 +10,14 @@ use fabric_sim::Ping;
 use record_file::{Sink, WriteFault, write_number};
 use sm_manager::Progress;
 use sm_state::SmState;
-use smp_bytes::{Lid, NodePort};
+use smp_bytes::{Lid, NodeId, NodePort};
 use topo_file::Topology;
 
-/// The name of the node at a place, and nothing where there is no node.
-pub(crate) fn name_at(topology: &Topology, place: usize) -> &str
-    ensures { result.now ≡ name_at topology.now.nodes place }
+/// The name of a node, and nothing where there is no such node.
+pub(crate) fn name_at(topology: &Topology, node: NodeId) -> &str
+    ensures { result.now ≡ name_at topology.now.nodes node }
 {
-    match topology.node(place) {
+    match topology.node(node) {
         Some(node) => node.name.as_str(),
         None => "",
     }
@@ -173,7 +173,7 @@ pub(crate) fn write_flight<W: Sink>(
     sink: &mut W,
     topology: &Topology,
     serial: u64,
-    node: usize,
+    node: NodeId,
 ) -> Result<(), WriteFault>
     ensures writes { Writes W.written W.has_failed result sink.old sink.new
         (flight_line topology.now.nodes serial node) }

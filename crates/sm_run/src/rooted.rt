@@ -11,7 +11,7 @@ use lft_blocks::Rule;
 use record_file::{Sink, Source};
 use sm_cli::{Fault, TextFault, WhoseFault, fault_of_first, read_roots};
 use sm_manager::Planning;
-use smp_bytes::{Guid, NodeType};
+use smp_bytes::{Guid, NodeId, NodeType};
 use std::alloc::Global;
 use topo_file::{Node, Topology};
 
@@ -80,7 +80,7 @@ fn has_switch(topology: &Topology, guid: Guid) -> bool
     ensures { result ≡ has_switch topology.now.nodes guid }
 {
     for place in 0..topology.count() {
-        if is_switch_with(guid, topology.node(place).unwrap()) {
+        if is_switch_with(guid, topology.node(NodeId::new(place)).unwrap()) {
             return true;
         }
     }

@@ -12,7 +12,7 @@ use fabric_sim::Fabric;
 use lft_blocks::{write_block, write_lid, write_switch};
 use node_agents::Agent;
 use record_file::Sink;
-use smp_bytes::{Guid, Lid, PortNum};
+use smp_bytes::{Guid, Lid, NodeId, PortNum};
 use std::alloc::{AllocError, Global};
 use subnet_view::EndPort;
 
@@ -54,7 +54,7 @@ fn held_lids(alloc: Global, fabric: &Fabric) -> Result<Vec<HeldLid>, AllocError>
 {
     let mut held = Vec::new(alloc);
     for place in 0..fabric.node_count() {
-        hold_lids(&mut held, fabric.agent(place).unwrap())?;
+        hold_lids(&mut held, fabric.agent(NodeId::new(place)).unwrap())?;
     }
     held.sort_by_key(|held| (held.0, held.1, held.2))?;
     Ok(held)
@@ -81,7 +81,7 @@ fn switches<'f>(alloc: Global, fabric: &'f Fabric) -> Result<Vec<&'f Agent>, All
 {
     let mut switches = Vec::new(alloc);
     for place in 0..fabric.node_count() {
-        let agent = fabric.agent(place).unwrap();
+        let agent = fabric.agent(NodeId::new(place)).unwrap();
         if agent.is_switch() {
             switches.push(agent)?;
         }

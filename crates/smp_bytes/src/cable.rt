@@ -1,11 +1,11 @@
 //! Ports of a fabric's nodes, and the cables between them.
+use crate::node_id::NodeId;
 use crate::port_num::PortNum;
 
 /// A port of a node of a fabric.
 #[derive(Clone, Copy, Debug, PartialEq, Eq)]
 pub struct NodePort {
-    /// The node's place among the fabric's nodes, from 0.
-    pub node: usize,
+    pub node: NodeId,
     /// The port's number at the node.
     pub port: PortNum,
 }

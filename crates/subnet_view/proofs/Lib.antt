@@ -12,6 +12,7 @@ pub mod WireLaws
 pub mod Attachments
 pub mod BesideClaims
 pub mod Counting
+pub mod Covered
 pub mod Passing
 pub mod EndsInStep
 pub mod EndSearch

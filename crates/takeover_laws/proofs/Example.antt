@@ -59,7 +59,7 @@ use Rattle.sm_manager.specs.Writing.{begun_with, next_phase, phases_by, write_fa
 use Rattle.sweep_complete.specs.Complete.{IsWhole}
 use Rattle.sweep_complete.proofs.Lists.{all_append}
 use Rattle.written_laws.specs.Managing.{Managing, ManagerEvent, Around, Begin, Write, Take, Send, Hear, TimeOut, Raise, Merge, Poll, HandOver}
-use Rattle.written_laws.proofs.Example.{asks_for, taken_as_own, taken_by_none}
+use Rattle.written_laws.proofs.Example.{all_can_be, all_keep, are_kept, joined_told, merged_with, no_sweeps, one, one_view, sweep_in, sweep_there}
 use Rattle.written_laws.proofs.Generations.{nothing_found, nothing_newest}
 use Rattle.written_laws.proofs.Rests.{new_managers_rest}
 use Rattle.written_laws.proofs.Steps.{IsSendable}
@@ -70,7 +70,8 @@ use Rattle.takeover_laws.specs.Claims.{HasLidsOf}
 use Rattle.takeover_laws.specs.Takeover.{AllCarry, Carrying, LidsStayAround, SomeManagerTakesOver, SweepsAlone, TakesOver, plan_by_it}
 use Rattle.takeover_laws.proofs.Takeover.{found_agrees}
 use Rattle.written_laws.specs.Managing.{CanBe, Starts, after_manager_event, after_manager_events}
-use Rattle.takeover_laws.proofs.ExampleFabric.{bare_agent, distinct, is_network, network, port, table, with_lid}
+use Rattle.written_laws.proofs.ExampleFabric.{port}
+use Rattle.takeover_laws.proofs.ExampleFabric.{bare_agent, distinct, is_network, network, table, with_lid}
 
 -- the manager, and its sweep ------------------------------------------------------------------------------------
 
@@ -129,18 +130,11 @@ between =
 abbrev pub swept : Managing
 swept = after_manager_events between (sweeping_with 1)
 
-abbrev sweep_in : Option Sweep → Sweep
-sweep_in None = started 1 1 1
-sweep_in (Some s) = s
-
 whole : IsWhole (sweep_in swept.manager.sweep)
 unfolding joined fresh_agent injected delivered outcome_of answered get_of set_of changed_port with_bytes
 whole = record { done = refl; answered = refl; near = refl }
 
 -- what it was told ----------------------------------------------------------------------------------------------
-
-abbrev pub one : Key → Value → Key × Cell Value
-one key value = (key, Known 1 value)
 
 abbrev replies : List Told
 replies =
@@ -153,19 +147,6 @@ replies =
     ∷ (one (PortKey 32 2) (Up true) ∷ one (Claim 32 2) (Lid 0) ∷ [])
     ∷ (one (NodeKey 48) (Kind ChannelAdapter 1) ∷ one (PortGuid 48 1) (Guid 49) ∷ one (Link 48 1) (Peer 32 2) ∷ one (Link 32 2) (Peer 48 1) ∷ [])
     ∷ (one (PortKey 48 1) (Up true) ∷ one (Claim 48 1) (Lid 7) ∷ []) ∷ [] ∷ []
-
--- merged one after the other
-abbrev merged_with : Facts → List Told → Facts
-merged_with facts [] = facts
-merged_with facts (told ∷ later) = merged_with (merge facts (view told)) later
-
-abbrev joined_told : Told → List Told → Told
-joined_told all [] = all
-joined_told all (told ∷ later) = joined_told (all ++ told) later
-
-one_view : (all : Told) (later : List Told) → merged_with (view all) later ≡ view (joined_told all later)
-one_view all [] = refl
-one_view all (told ∷ later) = ap (λ x. merged_with x later) (sym (view_of_both 1 1 all told)) ∙ one_view (all ++ told) later
 
 merged_all : swept.manager.store ≡ merged_with no_facts replies
 unfolding joined fresh_agent injected delivered outcome_of answered get_of set_of changed_port with_bytes
@@ -384,10 +365,6 @@ pub planning_is : swept.manager.planning ≡ its_planning
 unfolding joined fresh_agent injected delivered outcome_of answered get_of set_of changed_port with_bytes
 planning_is = refl
 
-sweep_there : (o : Option Sweep) → is_some o ≡ true → o ≡ Some (sweep_in o)
-sweep_there None e = absurd (cc)
-sweep_there (Some s) e = refl
-
 has_swept : is_some swept.manager.sweep ≡ true
 unfolding joined fresh_agent injected delivered outcome_of answered get_of set_of changed_port with_bytes
 has_swept = refl
@@ -403,112 +380,14 @@ may_write =
 abbrev pub after : List ManagerEvent
 after = Take ∷ Send 10 ∷ Around (Deliver 20) ∷ Around (Deliver 21) ∷ Hear 11 ∷ []
 
-abbrev first_step : Step
-first_step = slice_index_or (next_phase (phases_from cells)).steps 0 (record { path = []; attribute = 0; modifier = 0; payload = [] })
-
-abbrev own : OwnSets
-own = IsOwnSet (fabric_of network) (port 0 1) (phases_from cells)
-
-sends_first : IsSendable first_step
+kept : are_kept plan (fabric_of network) (port 0 1) (phases_from cells) after (writing_by (phases_from cells)) ≡ true
 unfolding joined fresh_agent injected delivered outcome_of answered get_of set_of changed_port with_bytes
-sends_first = record { attribute = few; modifier = one_more; no_manager = other; whole = refl }
-  where
-    few : 0x15 < 2 ^ 16
-    few = omega arith
+kept = refl
 
-    one_more : 1 < 2 ^ 32
-    one_more = omega arith
-
-    other : 0x15 ≢ sm_info
-    other e = omega (arith, e)
-
-own_at_home : IsOwnSet (fabric_of network) (port 0 1) (phases_from cells) (port 0 1) (set_packet 1 first_step)
-unfolding joined fresh_agent injected delivered outcome_of answered get_of set_of changed_port with_bytes
-own_at_home =
-    let asks = asks_for first_step 1 sends_first (omega arith) (omega arith) in
-    record {
-      phase = next_phase (phases_from cells);
-      there = (0, omega arith, refl);
-      step = first_step;
-      in_phase = (0, omega arith, refl);
-      leads = refl;
-      attribute = asks.attribute;
-      modifier = asks.modifier;
-      payload = asks.payload;
-    }
-
-abbrev world_2 : Managing
-world_2 = after_manager_event (after_manager_event (writing_by (phases_from cells)) Take) (Send 10)
-
-abbrev world_3 : Managing
-world_3 = after_manager_event world_2 (Around (Deliver 20))
-
-keeps_20 : KeepsPlan plan own world_2.scene.fabric (Deliver 20)
-unfolding joined fresh_agent injected delivered outcome_of answered get_of set_of changed_port with_bytes
-keeps_20 = taken_as_own plan own world_2.scene.fabric 20 own_at_home
-
-keeps_21 : KeepsPlan plan own world_3.scene.fabric (Deliver 21)
-unfolding joined fresh_agent injected delivered outcome_of answered get_of set_of changed_port with_bytes
-keeps_21 = taken_by_none plan own world_3.scene.fabric 21 refl
-
-keeps : AllKeep plan own after (writing_by (phases_from cells))
-keeps = (tt, (tt, (keeps_20, (keeps_21, (tt, tt)))))
+keeps : AllKeep plan (IsOwnSet (fabric_of network) (port 0 1) (phases_from cells)) after (writing_by (phases_from cells))
+keeps = all_keep plan (fabric_of network) (port 0 1) (phases_from cells) after (writing_by (phases_from cells)) kept
 
 -- the takeover ------------------------------------------------------------------------------------------------------
-
--- what happens until it writes: packets are delivered, and the manager's are given out, sent and given to it
-abbrev is_plain : ManagerEvent → Bool
-is_plain (Around (Deliver serial)) = true
-is_plain Take = true
-is_plain (Send which) = true
-is_plain (Hear which) = true
-is_plain event = false
-
-abbrev begins_none : ManagerEvent → Bool
-begins_none Begin = false
-begins_none (Raise floor) = false
-begins_none (Merge floor sightings) = false
-begins_none event = true
-
-can_be : (event : ManagerEvent) → is_plain event ≡ true → CanBe (port 0 1) event
-can_be (Around (Deliver serial)) e = (tt, tt)
-can_be (Around (Lose serial)) e = absurd (cc)
-can_be (Around (Repeat serial)) e = absurd (cc)
-can_be (Around (SendFrom from sending)) e = absurd (cc)
-can_be Begin e = absurd (cc)
-can_be Write e = absurd (cc)
-can_be Take e = tt
-can_be (Send which) e = tt
-can_be (Hear which) e = tt
-can_be (TimeOut transaction) e = absurd (cc)
-can_be (Raise floor) e = absurd (cc)
-can_be (Merge floor sightings) e = absurd (cc)
-can_be (Poll lid) e = absurd (cc)
-can_be HandOver e = absurd (cc)
-
-all_can_be : (events : List ManagerEvent) → list_all is_plain events ≡ true → AllByRecursion (CanBe (port 0 1)) events
-all_can_be [] e = tt
-all_can_be (event ∷ events) e =
-    let parts = and_parts (is_plain event) (list_all is_plain events) e in (can_be event parts.0, all_can_be events parts.1)
-
-no_sweep : (w : Managing) (event : ManagerEvent) → begins_none event ≡ true → BeginsNoSweep w event
-no_sweep w (Around event) e = tt
-no_sweep w Begin e = absurd (cc)
-no_sweep w Write e = tt
-no_sweep w Take e = tt
-no_sweep w (Send which) e = tt
-no_sweep w (Hear which) e = tt
-no_sweep w (TimeOut transaction) e = tt
-no_sweep w (Raise floor) e = absurd (cc)
-no_sweep w (Merge floor sightings) e = absurd (cc)
-no_sweep w (Poll lid) e = tt
-no_sweep w HandOver e = tt
-
-no_sweeps : (events : List ManagerEvent) (w : Managing) → list_all begins_none events ≡ true → AreNoSweeps events w
-no_sweeps [] w e = tt
-no_sweeps (event ∷ events) w e =
-    let parts = and_parts (begins_none event) (list_all begins_none events) e in
-    (no_sweep w event parts.0, no_sweeps events (after_manager_event w event) parts.1)
 
 abbrev to_agents : List ManagerEvent
 to_agents =
@@ -519,8 +398,8 @@ answers_it = Around (SendFrom (port 2 1) (Answer 9 0 (replicate 64 0)))
 
 between_can : AllByRecursion (CanBe (port 0 1)) between
 between_can =
-    all_append (CanBe (port 0 1)) to_agents (answers_it ∷ (deliveries 2 19 ++ Hear 10 ∷ [])) (all_can_be to_agents refl)
-    (((omega arith, refl), elsewhere), all_can_be (deliveries 2 19 ++ Hear 10 ∷ []) refl)
+    all_append (CanBe (port 0 1)) to_agents (answers_it ∷ (deliveries 2 19 ++ Hear 10 ∷ [])) (all_can_be (port 0 1) to_agents refl)
+    (((omega arith, refl), elsewhere), all_can_be (port 0 1) (deliveries 2 19 ++ Hear 10 ∷ []) refl)
   where
     elsewhere : port 2 1 ≢ port 0 1
     elsewhere e = let same : 2 ≡ 0 = ap (λ (p : NodePort). p.node) e in omega (arith, same)
@@ -538,7 +417,7 @@ run =
       starts = starts;
       before_can = All-from_recursion (CanBe (port 0 1)) [] tt;
       between_can = All-from_recursion (CanBe (port 0 1)) between between_can;
-      after_can = All-from_recursion (CanBe (port 0 1)) after (all_can_be after refl);
+      after_can = All-from_recursion (CanBe (port 0 1)) after (all_can_be (port 0 1) after refl);
       sweeps_first = tt;
       sweep_begins = may_begin;
       writing_begins = subst (λ (x : Managing). writing_fault x.manager ≡ None) (sym at_is) may_write;

@@ -12,60 +12,15 @@ use Rattle.smp_bytes.specs.NodeType as types
 use Rattle.smp_bytes.specs.LidRange.{lid_end}
 use Rattle.smp_bytes.specs.Fabric as fabric
 use Rattle.smp_bytes.specs.Fabric.{IsNodeAt}
-use Rattle.topo_file.specs.declared.node.Node.{Node}
-use Rattle.topo_file.specs.Topology.{IsNode}
 use Rattle.attr_codec.specs.declared.port_state.PortState.{PortState}
 use Rattle.attr_codec.specs.declared.port_state.PortState.TheVariants.{Active, Down, Initialize, NoChange}
 use Rattle.node_agents.specs.Agent.{Agent, IsAgent, IsPort, fresh_agent, has_seat, port_at, seated, state_at, with_port}
 use Rattle.fabric_sim.specs.Simulation.{Simulation, IsSimulation, fabric_of, has_cable_port}
-use Rattle.fabric_sim.specs.Build.{uncabled}
-use Rattle.fabric_sim.specs.Changes.{changed_at, joined}
+use Rattle.fabric_sim.specs.Changes.{joined}
 use Rattle.fabric_sim.proofs.AgentLists.{AllRelated, KeepsDown}
-use Rattle.fabric_sim.proofs.Built.{uncabled_is}
-use Rattle.fabric_sim.proofs.Invariants.{seated_is, with_agents}
-use Rattle.fabric_sim.proofs.Recabled.{joined_is}
+use Rattle.fabric_sim.proofs.Invariants.{with_agents}
 use Rattle.sm_laws.specs.Truth.{AreGuidsDistinct}
-
-abbrev pub port : ℕ → ℕ → NodePort
-port node p = record { node = node; port = p }
-
--- the fabric -------------------------------------------------------------------------------------------------
-
-abbrev pub nodes : List Node
-nodes =
-    record { name = 65 ∷ []; guid = 16; kind = ChannelAdapter; ports = 1; cap = 0 }
-    ∷ record { name = 66 ∷ []; guid = 32; kind = Switch; ports = 2; cap = 64 }
-    ∷ record { name = 67 ∷ []; guid = 48; kind = ChannelAdapter; ports = 1; cap = 0 } ∷ []
-
-abbrev pub linked : Simulation
-linked = joined (joined (uncabled nodes 0) (port 0 1) (port 1 1)) (port 1 2) (port 2 1)
-
-abbrev pub with_own_seat : Simulation
-with_own_seat = changed_at linked (port 0 1) seated
-
-abbrev pub bare : Simulation
-bare = changed_at with_own_seat (port 2 1) seated
-
-are_nodes : All IsNode nodes
-are_nodes =
-    All-from_recursion IsNode nodes (
-      record { named = refl; some_ports = omega arith; port_range = omega arith; guid_range = omega arith; of_kind = (refl, omega arith) },
-      (
-        record { named = refl; some_ports = omega arith; port_range = omega arith; guid_range = omega arith; of_kind = (omega arith, omega arith) },
-        (
-          record { named = refl; some_ports = omega arith; port_range = omega arith; guid_range = omega arith; of_kind = (refl, omega arith) },
-          tt,
-        ),
-      ),
-    )
-
-is_bare : IsSimulation bare
-unfolding joined fresh_agent
-is_bare =
-    let none = uncabled_is nodes 0 (omega arith) are_nodes (omega arith) in
-    let one = joined_is (uncabled nodes 0) (port 0 1) (port 1 1) none refl refl refl refl in
-    let two = joined_is (joined (uncabled nodes 0) (port 0 1) (port 1 1)) (port 1 2) (port 2 1) one refl refl refl refl in
-    seated_is with_own_seat (port 2 1) (seated_is linked (port 0 1) two refl refl) refl refl
+use Rattle.written_laws.proofs.ExampleFabric.{bare, distinct_by, is_bare, port}
 
 -- what they hold: LIDs 2, 5 and 7, and at the switch the ways to them
 abbrev pub with_lid : Agent → ℕ → ℕ → Agent
@@ -234,25 +189,6 @@ unfolding joined fresh_agent
 is_network =
     with_agents bare agents is_bare refl (All-from_recursion IsAgent agents (first_is, (switch_is, (last_is, tt)))) all_keep (λ p. seats_there p.node p.port)
 
-one_place : (here there guid : ℕ) → slice_get (16 ∷ 32 ∷ 48 ∷ []) here ≡ Some guid → slice_get (16 ∷ 32 ∷ 48 ∷ []) there ≡ Some guid → here ≡ there
-one_place zero zero guid a b = refl
-one_place zero (suc zero) guid a b = cc
-one_place zero (suc (suc zero)) guid a b = cc
-one_place zero (suc (suc (suc n))) guid a b = cc
-one_place (suc zero) zero guid a b = cc
-one_place (suc zero) (suc zero) guid a b = refl
-one_place (suc zero) (suc (suc zero)) guid a b = cc
-one_place (suc zero) (suc (suc (suc n))) guid a b = cc
-one_place (suc (suc zero)) zero guid a b = cc
-one_place (suc (suc zero)) (suc zero) guid a b = cc
-one_place (suc (suc zero)) (suc (suc zero)) guid a b = refl
-one_place (suc (suc zero)) (suc (suc (suc n))) guid a b = cc
-one_place (suc (suc (suc m))) n guid a b = cc
-
-guid_there : (place : ℕ) (node : fabric.Node) → IsNodeAt (fabric_of network) place node → slice_get (16 ∷ 32 ∷ 48 ∷ []) place ≡ Some node.guid
-unfolding joined fresh_agent
-guid_there place node there =
-    slice_get-map (λ (n : fabric.Node). n.guid) (fabric_of network).nodes place ∙ ap (option_map (λ (n : fabric.Node). n.guid)) there
-
 pub distinct : AreGuidsDistinct (fabric_of network)
-distinct here there one other a b same = one_place here there other.guid (guid_there here one a ∙ ap Some same) (guid_there there other b)
+unfolding joined fresh_agent
+distinct = distinct_by (fabric_of network) refl

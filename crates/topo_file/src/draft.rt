@@ -7,15 +7,15 @@ use crate::fault::TopoFault;
 use crate::line::{Line, LinkLine, NodeLine, read_line};
 use crate::node::Node;
 use crate::nodes::Nodes;
-use smp_bytes::NodeType;
+use smp_bytes::{NodeId, NodeType};
 use std::alloc::Global;
 use std::marker::Model;
 
-/// A link with the number of its line and the place of the node below which it stands.
+/// A link with the number of its line and the node below which it stands.
 #[derive(Drop)]
 pub(crate) struct LinkAt {
     pub(crate) line: usize,
-    pub(crate) node: usize,
+    pub(crate) node: NodeId,
     pub(crate) link: LinkLine,
 }
 
@@ -72,7 +72,7 @@ impl Draft {
         }
         links.push(LinkAt {
             line: number,
-            node: count - 1,
+            node: NodeId::new(count - 1),
             link,
         })?;
         Ok(Draft { nodes, links })

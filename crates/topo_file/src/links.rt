@@ -6,7 +6,7 @@ ghost use Rattle.topo_file.specs.TopoFault.{Reads};
 use crate::draft::LinkAt;
 use crate::fault::TopoFault;
 use crate::nodes::Nodes;
-use smp_bytes::{Cable, NodePort, PortNum};
+use smp_bytes::{Cable, NodeId, NodePort, PortNum};
 use std::alloc::Global;
 use std::collections::BTreeMap;
 use std::marker::Model;
@@ -16,7 +16,7 @@ use std::marker::Model;
 pub(crate) struct Links {
     links: Vec<Cable>,
     /// The port at the other end of the link in a port.
-    across: BTreeMap<(usize, PortNum), NodePort>,
+    across: BTreeMap<(NodeId, PortNum), NodePort>,
 }
 
 impl Model for Links {
@@ -98,7 +98,7 @@ impl Links {
 }
 
 /// A port as the index has it.
-fn key(port: NodePort) -> (usize, PortNum)
+fn key(port: NodePort) -> (NodeId, PortNum)
     ensures { result ≡ (port.node, port.port) }
 {
     (port.node, port.port)
@@ -109,11 +109,11 @@ fn link(nodes: &Nodes, at: &LinkAt) -> Result<Cable, TopoFault>
     ensures { Reads result (link_of nodes.now at.now) }
 {
     let line = at.line;
-    let Some(place) = nodes.place(&at.link.peer) else {
+    let Some(peer) = nodes.place(&at.link.peer) else {
         return Err(TopoFault::Peer { line });
     };
     let one = nodes.port(at.node, at.link.port);
-    let other = nodes.port(place, at.link.peer_port);
+    let other = nodes.port(peer, at.link.peer_port);
     match (one, other) {
         (Some(one), Some(other)) => Ok(Cable { one, other }),
         _ => Err(TopoFault::Port { line }),

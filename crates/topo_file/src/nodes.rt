@@ -5,7 +5,7 @@ ghost use Rattle.topo_file.specs.TopoFault.{Reads};
 
 use crate::fault::TopoFault;
 use crate::node::Node;
-use smp_bytes::{NodePort, PortNum};
+use smp_bytes::{NodeId, NodePort, PortNum};
 use std::alloc::Global;
 use std::collections::BTreeMap;
 use std::marker::Model;
@@ -18,8 +18,8 @@ pub(crate) const MAX_NODES: usize = 1024;
 #[derive(Drop)]
 pub(crate) struct Nodes {
     nodes: Vec<Node>,
-    /// The place of the node that has the name.
-    places: BTreeMap<NodeName, usize>,
+    /// The node that has the name.
+    places: BTreeMap<NodeName, NodeId>,
 }
 
 impl Model for Nodes {
@@ -52,11 +52,11 @@ impl Nodes {
         self.nodes.len()
     }
 
-    /// The node at a place. Takes one step.
-    pub(crate) fn get(&self, place: usize) -> Option<&Node>
-        ensures { option_copied result ≡ slice_get self.now place }
+    /// A node. Takes one step.
+    pub(crate) fn get(&self, node: NodeId) -> Option<&Node>
+        ensures { option_copied result ≡ slice_get self.now node }
     {
-        self.nodes.get(place)
+        self.nodes.get(node.place())
     }
 
     /// The nodes in their order.
@@ -66,23 +66,23 @@ impl Nodes {
         &self.nodes
     }
 
-    /// The place of the node that has the name. A search.
-    pub(crate) fn place(&self, name: &NodeName) -> Option<usize>
+    /// The node that has the name. A search.
+    pub(crate) fn place(&self, name: &NodeName) -> Option<NodeId>
         ensures { result ≡ place_of self.now name.now }
     {
         self.places.get(name).copied()
     }
 
-    /// The port of the node at a place, where the node has it. Takes one step.
-    pub(crate) fn port(&self, place: usize, port: Option<u8>) -> Option<NodePort>
-        ensures { result ≡ port_at self.now place port }
+    /// The port of a node, where the node has it. Takes one step.
+    pub(crate) fn port(&self, node: NodeId, port: Option<u8>) -> Option<NodePort>
+        ensures { result ≡ port_at self.now node port }
     {
         let port = port?;
-        if port > self.get(place)?.ports {
+        if port > self.get(node)?.ports {
             return None;
         }
         Some(NodePort {
-            node: place,
+            node,
             port: PortNum::new(port),
         })
     }
@@ -103,7 +103,7 @@ impl Nodes {
             mut places,
         } = self;
         let name = node.name.copied();
-        places.insert(name, place)?;
+        places.insert(name, NodeId::new(place))?;
         nodes.push(node)?;
         Ok(Nodes { nodes, places })
     }

@@ -12,7 +12,7 @@ use crate::first_fault::first_line_fault;
 use crate::links::Links;
 use crate::node::Node;
 use crate::nodes::Nodes;
-use smp_bytes::Cable;
+use smp_bytes::{Cable, NodeId};
 use std::alloc::{AllocError, Global};
 use std::collections::BTreeSet;
 use std::marker::Model;
@@ -47,12 +47,12 @@ impl Topology {
         self.nodes.len()
     }
 
-    /// The node at a place, from 0, in the order of their lines. Takes one step.
-    pub fn node(&self, place: usize) -> Option<&Node>
-        ensures node { option_copied result ≡ slice_get self.now.nodes place }
+    /// A node: their places, from 0, are in the order of their lines. Takes one step.
+    pub fn node(&self, node: NodeId) -> Option<&Node>
+        ensures node { option_copied result ≡ slice_get self.now.nodes node }
         ensures is_node { IfSome result (λ node. IsNode node.now) }
     {
-        self.nodes.get(place)
+        self.nodes.get(node)
     }
 
     /// The links, each once, in the order of their first lines.
@@ -62,8 +62,8 @@ impl Topology {
         self.links.as_slice()
     }
 
-    /// The place of the node that has the name. A search.
-    pub fn find(&self, name: &str) -> Option<usize>
+    /// The node that has the name. A search.
+    pub fn find(&self, name: &str) -> Option<NodeId>
         ensures place { result ≡ place_of self.now.nodes name.now }
         ensures found { IsFound self.now.nodes name.now result }
     {

@@ -1,4 +1,4 @@
--- The part of a fabric that facts tell of: its switches are usable, and their exits are the fabric's wires between them.
+-- The part of a fabric that facts cover: its switches are usable, and their exits are the fabric's wires between them.
 use Rattle.std.proofs.Common.{◌≡◌, ℕ, suc, inr, refl, sym, ap, ◌∙◌, subst, true, false}
 use Rattle.std.proofs.lemmas.Bool.{and_from}
 use Rattle.std.specs.Prelude.{Some, Contains, is_some, slice_get}
@@ -9,16 +9,17 @@ use Rattle.smp_bytes.specs.Fabric.{Node, Fabric, IsFabric, IsEndPort, is_switch_
 use Rattle.smp_bytes.specs.FabricWalks.{IsWire, IsJoinedTo, vertex_of}
 use Rattle.smp_bytes.proofs.FabricWalks.{port_at, same_port, EndNumber, type_at, walk_further, vertex_node, switch_vertex, vertex_is_end}
 use Rattle.subnet_view.specs.Reading.{Cells, is_switch_node, is_usable, cap_of, switches}
-use Rattle.subnet_view.specs.Agreement.{IsEndPortIn, IsPortNamed, AgreesOn}
+use Rattle.subnet_view.specs.Agreement.{IsEndPortIn, IsPortNamed, HasWire, Covers}
+use Rattle.subnet_view.specs.Wires.{IsWire as IsToldWire}
 use Rattle.subnet_view.proofs.WireLaws.{wire_law}
 use Rattle.updown_routes.specs.Graph.{graph_of}
 use Rattle.updown_routes.specs.GraphLaws.{IsGraph}
 use Rattle.updown_routes.proofs.Graphs.{IsExit}
 
--- facts that tell of the part of a fabric that is joined to the origin, and their graph
+-- facts that cover what is joined to the origin, and their graph
 pub record IsTold (cells : Cells) (f : Fabric) (origin : NodePort) : Type 0 where
   pub is_fabric : IsFabric f
-  pub agrees : AgreesOn (IsJoinedTo f origin) cells f
+  pub covers : Covers (IsJoinedTo f origin) cells f
   pub is_graph : IsGraph (graph_of cells)
   pub listed : (g : ℕ) → is_usable cells g ≡ true → Contains (switches cells) g
 
@@ -71,11 +72,11 @@ module _ {cells : Cells} {f : Fabric} {origin : NodePort} (told : IsTold cells f
   -- one GUID, one place
   pub one_place : {i j g : ℕ} → SwitchIn f origin i g → SwitchIn f origin j g → i ≡ j
   one_place {i = i} {j = j} s t =
-      told.agrees.guids_distinct (port_at i 0) (port_at j 0) s.node t.node (switch_in_part s) (switch_in_part t) (s.guid ∙ sym t.guid)
+      told.covers.guids_distinct (port_at i 0) (port_at j 0) s.node t.node (switch_in_part s) (switch_in_part t) (s.guid ∙ sym t.guid)
 
   -- what facts tell of the type of a node
   pub known_type : (port : NodePort) (node : Node) → IsEndPortIn (IsJoinedTo f origin) f port node → is_switch_node cells node.guid ≡ is_switch_type node.kind
-  known_type port node here = ap (λ o. option_map_or (λ n. is_switch_type n.0) o false) (told.agrees.tells_end_ports port node here).kind
+  known_type port node here = ap (λ o. option_map_or (λ n. is_switch_type n.0) o false) (told.covers.tells_end_ports port node here).kind
 
   -- facts know the switches of the part
   pub switch_known : {place g : ℕ} → SwitchIn f origin place g → is_switch_node cells g ≡ true
@@ -87,7 +88,7 @@ module _ {cells : Cells} {f : Fabric} {origin : NodePort} (told : IsTold cells f
   switch_usable {place = place} {g = g} s =
       let room : is_some (cap_of cells g) ≡ true =
       ap (λ x. is_some (cap_of cells x)) (sym s.guid)
-      ∙ ap is_some ((told.agrees.tells_end_ports (port_at place 0) s.node (switch_in_part s)).cap s.is_switch) in
+      ∙ ap is_some ((told.covers.tells_end_ports (port_at place 0) s.node (switch_in_part s)).cap s.is_switch) in
       and_from (is_switch_node cells g) (is_some (cap_of cells g)) (switch_known s) room
 
   pub switch_listed : {place g : ℕ} → SwitchIn f origin place g → Contains (switches cells) g
@@ -96,12 +97,16 @@ module _ {cells : Cells} {f : Fabric} {origin : NodePort} (told : IsTold cells f
   -- an exit of facts is the fabric's wire out of that port, to the switch that facts name
   pub exit_in_fabric : {place g p h : ℕ} → SwitchIn f origin place g → IsExit cells g p h → SwitchWire f origin place p h
   exit_in_fabric {place = place} {g = g} {p = p} {h = h} s x =
-      let w = (told.agrees.wires g p h x.end_port).0 ((wire_law cells g p h x.end_port).0 x.wire) in
+      let within : IsJoinedTo f origin (vertex_of f (port_at place p)) = subst (IsJoinedTo f origin) (sym (switch_port_vertex s (port_at place p) refl)) s.joined in
+      let is_told : IsToldWire cells s.node.guid p h x.end_port =
+      subst (λ (n : ℕ). IsToldWire cells n p h x.end_port) (sym s.guid) ((wire_law cells g p h x.end_port).0 x.wire) in
+      let w : HasWire (IsJoinedTo f origin) f g p h x.end_port =
+      subst (λ (n : ℕ). HasWire (IsJoinedTo f origin) f n p h x.end_port) s.guid (told.covers.wires_there (port_at place p) s.node s.at within h x.end_port is_told) in
       let out_end = vertex_is_end f w.from (told.is_fabric.cabled w.from w.to w.wire.cable) in
       let same_guid : w.from_named.node.guid ≡ s.node.guid = w.from_named.guid_is ∙ sym s.guid in
       let out_place : w.from.node ≡ place =
       sym (vertex_node f w.from)
-      ∙ told.agrees.guids_distinct (vertex_of f w.from) (port_at place 0) w.from_named.node s.node
+      ∙ told.covers.guids_distinct (vertex_of f w.from) (port_at place 0) w.from_named.node s.node
       (vertex_in_part w.from g p w.from_named out_end w.in_part) (switch_in_part s) same_guid in
       let into_node = w.to_named.node in
       let into_joined = neighbor_joined s w.from w.to out_place w.wire in
@@ -131,7 +136,7 @@ module _ {cells : Cells} {f : Fabric} {origin : NodePort} (told : IsTold cells f
       subst (IsPortNamed f g out.port) (same_port (port_at place out.port) out (sym e) refl) (switch_port s out.port) in
       record {
         end_port = into.port;
-        wire = (wire_law cells g out.port h into.port).1 ((told.agrees.wires g out.port h into.port).1
+        wire = (wire_law cells g out.port h into.port).1 (told.covers.wires_told g out.port h into.port
             (record { from = out; to = into; from_named = named; to_named = switch_port t into.port; wire = w; in_part = out_joined }));
         is_switch = switch_known t;
       }

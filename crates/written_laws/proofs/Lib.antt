@@ -4,6 +4,7 @@ pub mod Arrive
 pub mod Before
 pub mod Calls
 pub mod Example
+pub mod ExampleFabric
 pub mod Fair
 pub mod Followed
 pub mod Follows

@@ -32,8 +32,9 @@ pub fn pings_arrive_once_written()
     ensures { PingsArriveOnceWritten }
 {}
 
-/// Such managers there are: one that was just made, on an adapter that is wired to another one,
-/// after four requests and two steps, with their answers.
+/// Such managers there are: one that was just made, on an adapter, which is wired to a switch, as is
+/// another adapter, where another manager sits and answers it. LIDs come in pairs (LMC 1); the first
+/// request is lost, and the second one copied; after the sweep's ten requests the plan's five Sets.
 pub fn some_manager_brings_up()
     ensures { SomeManagerBringsUp }
 {}

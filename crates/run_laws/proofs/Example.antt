@@ -1,0 +1,263 @@
+-- A run with one manager that brings a subnet up: on an adapter at a switch, to which another adapter is wired. LIDs come in pairs, a request is lost,
+-- and a packet is copied.
+use Rattle.std.proofs.Common.{◌≡◌, ℕ, zero, suc, ◌+◌, ◌^◌, ◌&&◌, Bool, true, List, [], ◌∷◌, ◌++◌, refl, sym, ap, ◌∙◌, subst, arith}
+use Rattle.std.proofs.lemmas.Bool.{and_parts}
+use Rattle.std.specs.Prelude.{Option, Some, None, is_none, is_some, max, if◌then◌else◌, ◌==◌}
+use Rattle.smp_bytes.specs.declared.node_type.NodeType.TheVariants.{ChannelAdapter, Switch}
+use Rattle.smp_bytes.specs.Field.{with_bytes}
+use Rattle.node_agents.specs.Agent.{fresh_agent}
+use Rattle.node_agents.specs.Answers.{answered, get_of, set_of}
+use Rattle.node_agents.specs.PortInfo.{changed_port}
+use Rattle.schedule_file.specs.declared.command.Command.{Command}
+use Rattle.schedule_file.specs.declared.command.Command.TheVariants as command
+use Rattle.schedule_file.specs.declared.command.Which.TheVariants.{Last, Serial}
+use Rattle.fact_store.specs.declared.key.Key.TheVariants.{Node as NodeKey, PortGuid, Link, Port as PortKey, Cap, Claim}
+use Rattle.fact_store.specs.declared.value.Value.TheVariants.{Kind, Guid, Peer, Up, Count, Lid}
+use Rattle.fact_store.specs.Report.{Told}
+use Rattle.fact_store.specs.View.{cells_of, no_facts}
+use Rattle.fact_store.proofs.Entries.{cells_of_view, entries-view}
+use Rattle.subnet_view.specs.Reading.{Cells}
+use Rattle.spread_rule.specs.Rules.{up_and_down}
+use Rattle.lft_blocks.specs.Plan.{PlanValue, plan_of}
+use Rattle.plan_steps.specs.Bound.{most_steps}
+use Rattle.plan_steps.specs.Phases.{Phase, phases_of}
+use Rattle.fabric_sim.specs.Simulation.{Simulation, fabric_of}
+use Rattle.fabric_sim.specs.Changes.{injected, joined}
+use Rattle.fabric_sim.specs.Delivery.{outcome_of, delivered}
+use Rattle.sweep.specs.Sweep.{Sweep, started}
+use Rattle.sweep_complete.specs.Complete.{IsWhole}
+use Rattle.sm_manager.specs.Manager.{Manager, begin_fault, new_manager, sweep_begun, with_sweep}
+use Rattle.sm_manager.specs.Planning.{Planning}
+use Rattle.sm_manager.specs.declared.fault.ManagerFault.{ManagerFault}
+use Rattle.sm_manager.specs.declared.fault.ManagerFault.TheVariants.{GenerationsSpent}
+use Rattle.sm_manager.specs.Plans.{number_fault, or_else, plan_fault, writing_fault}
+use Rattle.sm_manager.specs.Standing.{active_once_more}
+use Rattle.sm_manager.specs.Writing.{begun_with, is_written, phases_by, write_fault_with, writing_begun}
+use Rattle.written_laws.specs.Sets.{IsOwnSet, OwnSets}
+use Rattle.written_laws.proofs.Example.{delivery_keeps, in_pairs, is_kept, joined_told, merged_with, one_view, sweep_in, sweep_there, told_by_agents}
+use Rattle.written_laws.proofs.ExampleFabric.{distinct_by, is_alone, nodes, port, with_own_seat}
+use Rattle.written_laws.proofs.Generations.{nothing_newest}
+use Rattle.sm_run.specs.Commands.{commands_run, deliver_run, handed_up, lose_run, repeat_run, step_run, sweep_run, timeout_run, took_run, write_run, gave_up_run}
+use Rattle.sm_run.specs.World.{SeatedValue, WorldValue, called_run, sent}
+use Rattle.run_laws.specs.Alone.{BringsUpAlone, KeepsLines, KeepsStep, KeepsSteps, SomeRunOfOne, after_first, at_end, at_first_steps, at_writing, first_serial}
+
+-- the world ------------------------------------------------------------------------------------------------------
+
+abbrev seated_with : Manager → SeatedValue
+seated_with m = record { name = 65 ∷ []; at = port 0 1; manager = m }
+
+abbrev world_with : Simulation → Manager → WorldValue
+world_with fabric m = record { fabric = fabric; managers = seated_with m ∷ [] }
+
+abbrev new : Manager
+new = new_manager 17 1 0 in_pairs
+
+abbrev world : WorldValue
+world = world_with with_own_seat new
+
+manager_in : List SeatedValue → Manager
+manager_in [] = new
+manager_in (s ∷ later) = s.manager
+
+-- its sweep --------------------------------------------------------------------------------------------------------
+
+abbrev between : List Command
+between = command.Lose (Serial 0) ∷ command.Timeout 0 ∷ command.Repeat Last ∷ command.Drain 60 ∷ []
+
+-- the manager as it is when a sweep of a generation has begun
+abbrev sweeping : ℕ → Manager
+sweeping generation = with_sweep (record new { standing = active_once_more new.standing; seen = [] }) (started 1 generation 1)
+
+may_begin : begin_fault new ≡ None
+may_begin = ap (λ n. if n == 2 ^ 32 - 1 then Some GenerationsSpent else None) nothing_newest
+
+abbrev begun : WorldValue
+begun = (sent (world_with with_own_seat (sweeping 1)) 0).now
+
+begins : (sweep_run world 0).now ≡ begun
+unfolding sweep_run
+begins =
+    ap (λ (o : Option ManagerFault). (called_run (λ now. sent now 0) world 0 (seated_with new) o (sweep_begun new)).now) may_begin
+    ∙ ap (λ n. (sent (world_with with_own_seat (sweeping (max (n + 1) 1))) 0).now) nothing_newest
+
+abbrev swept_world : WorldValue
+swept_world = (commands_run nodes begun between).now
+
+abbrev swept : Manager
+swept = manager_in swept_world.managers
+
+at_is : at_writing nodes world between ≡ swept_world
+at_is = ap (λ (w : WorldValue). (commands_run nodes w between).now) begins
+
+alone_then : swept_world.managers ≡ seated_with swept ∷ []
+unfolding sent deliver_run lose_run repeat_run timeout_run gave_up_run took_run handed_up step_run manager_in
+    joined fresh_agent injected delivered outcome_of answered get_of set_of changed_port with_bytes
+alone_then = refl
+
+whole : IsWhole (sweep_in swept.sweep)
+unfolding sent deliver_run lose_run repeat_run timeout_run gave_up_run took_run handed_up step_run manager_in
+    joined fresh_agent injected delivered outcome_of answered get_of set_of changed_port with_bytes
+whole = record { done = refl; answered = refl; near = refl }
+
+-- what it was told ----------------------------------------------------------------------------------------------
+
+merged_all : swept.store ≡ merged_with no_facts told_by_agents
+unfolding sent deliver_run lose_run repeat_run timeout_run gave_up_run took_run handed_up step_run manager_in
+    joined fresh_agent injected delivered outcome_of answered get_of set_of changed_port with_bytes
+merged_all = refl
+
+abbrev all_told : Told
+all_told = joined_told [] told_by_agents
+
+abbrev cells : Cells
+cells = cells_of_view all_told
+
+known : cells_of swept.store ≡ cells
+known = ap cells_of (merged_all ∙ one_view [] told_by_agents) ∙ entries-view all_told
+
+-- its writing ---------------------------------------------------------------------------------------------------
+
+abbrev after : List Command
+after = command.Drain 80 ∷ []
+
+abbrev phases_from : Cells → List Phase
+phases_from known_cells = phases_of (plan_of up_and_down 1 known_cells) known_cells (sweep_in swept.sweep) swept.standing.guid swept.port
+
+fault_from : Cells → Option ManagerFault
+fault_from known_cells =
+    or_else (write_fault_with swept swept.sweep) (or_else (plan_fault 1 known_cells) (number_fault (swept.counter + most_steps known_cells)))
+
+may_write : writing_fault swept ≡ None
+unfolding fault_from sent deliver_run lose_run repeat_run timeout_run gave_up_run took_run handed_up step_run manager_in
+    joined fresh_agent injected delivered outcome_of answered get_of set_of changed_port with_bytes
+may_write = ap fault_from known
+
+-- the world when the steps of these phases are sent
+abbrev writing_by : List Phase → WorldValue
+writing_by phases = (sent (world_with swept_world.fabric (begun_with swept phases)) 0).now
+
+writes : (write_run swept_world 0).now ≡ writing_by (phases_from cells)
+unfolding write_run sent deliver_run lose_run repeat_run timeout_run gave_up_run took_run handed_up step_run manager_in
+    joined fresh_agent injected delivered outcome_of answered get_of set_of changed_port with_bytes
+writes =
+    ap (λ (o : Option ManagerFault). (called_run (λ now. sent now 0) swept_world 0 (seated_with swept) o (writing_begun swept)).now) may_write
+    ∙ ap (λ c. writing_by (phases_from c)) known
+
+abbrev written_world : WorldValue
+written_world = (commands_run nodes (writing_by (phases_from cells)) after).now
+
+abbrev writer : Manager
+writer = manager_in written_world.managers
+
+alone_at_end : written_world.managers ≡ seated_with writer ∷ []
+unfolding sent deliver_run lose_run repeat_run timeout_run gave_up_run took_run handed_up step_run manager_in
+    joined fresh_agent injected delivered outcome_of answered get_of set_of changed_port with_bytes
+alone_at_end = refl
+
+is_written_then : is_written writer ≡ true
+unfolding sent deliver_run lose_run repeat_run timeout_run gave_up_run took_run handed_up step_run manager_in
+    joined fresh_agent injected delivered outcome_of answered get_of set_of changed_port with_bytes
+is_written_then = refl
+
+-- each Set that an agent takes is one of its own: by a test -------------------------------------------------------------
+
+module _ (plan : PlanValue) (phases : List Phase) where
+  abbrev own : OwnSets
+  own = IsOwnSet (fabric_of with_own_seat) (port 0 1) phases
+
+  abbrev is_step_kept : Simulation → Option ℕ → Bool
+  is_step_kept fabric None = true
+  is_step_kept fabric (Some serial) = is_kept plan (fabric_of with_own_seat) (port 0 1) phases fabric serial
+
+  abbrev are_steps_kept : WorldValue → ℕ → Bool
+  are_steps_kept w zero = true
+  are_steps_kept w (suc most) = is_step_kept w.fabric (first_serial w) && are_steps_kept (after_first w) most
+
+  step_keeps : (fabric : Simulation) (o : Option ℕ) → is_step_kept fabric o ≡ true → KeepsStep plan own fabric o
+  step_keeps fabric None e = tt
+  step_keeps fabric (Some serial) e = delivery_keeps plan (fabric_of with_own_seat) (port 0 1) phases fabric serial e
+
+  steps_keep : (w : WorldValue) (most : ℕ) → are_steps_kept w most ≡ true → KeepsSteps plan own w most
+  steps_keep w zero e = tt
+  steps_keep w (suc most) e =
+      let parts = and_parts (is_step_kept w.fabric (first_serial w)) (are_steps_kept (after_first w) most) e in
+      (step_keeps w.fabric (first_serial w) parts.0, steps_keep (after_first w) most parts.1)
+
+kept : are_steps_kept (plan_of up_and_down 1 cells) (phases_from cells) (writing_by (phases_from cells)) 80 ≡ true
+unfolding sent deliver_run lose_run repeat_run timeout_run gave_up_run took_run handed_up step_run manager_in
+    joined fresh_agent injected delivered outcome_of answered get_of set_of changed_port with_bytes
+kept = refl
+
+-- the run ---------------------------------------------------------------------------------------------------------
+
+has_swept : is_some swept.sweep ≡ true
+unfolding sent deliver_run lose_run repeat_run timeout_run gave_up_run took_run handed_up step_run manager_in
+    joined fresh_agent injected delivered outcome_of answered get_of set_of changed_port with_bytes
+has_swept = refl
+
+planning_is : swept.planning ≡ in_pairs
+unfolding sent deliver_run lose_run repeat_run timeout_run gave_up_run took_run handed_up step_run manager_in
+    joined fresh_agent injected delivered outcome_of answered get_of set_of changed_port with_bytes
+planning_is = refl
+
+-- the phases of a manager, by its planning, its sweep and what it knows
+abbrev phases_with : Planning → Manager → Option Sweep → Cells → List Phase
+phases_with planning m None c = []
+phases_with planning m (Some s) c = phases_of (plan_of planning.rule planning.lmc c) c s m.standing.guid m.port
+
+same_phases : (m : Manager) (o : Option Sweep) → phases_by m o ≡ phases_with m.planning m o (cells_of m.store)
+same_phases m None = refl
+same_phases m (Some s) = refl
+
+its_phases : phases_by swept swept.sweep ≡ phases_from cells
+its_phases =
+    same_phases swept swept.sweep
+    ∙ ap (λ (p : Planning). phases_with p swept swept.sweep (cells_of swept.store)) planning_is
+    ∙ ap (λ (o : Option Sweep). phases_with in_pairs swept o (cells_of swept.store)) (sweep_there swept.sweep has_swept)
+    ∙ ap (λ (c : Cells). phases_from c) known
+
+its_plan : plan_of swept.planning.rule swept.planning.lmc (cells_of swept.store) ≡ plan_of up_and_down 1 cells
+its_plan = ap (λ (p : Planning). plan_of p.rule p.lmc (cells_of swept.store)) planning_is ∙ ap (λ (c : Cells). plan_of up_and_down 1 c) known
+
+first_steps : at_first_steps nodes world between ≡ writing_by (phases_from cells)
+first_steps = ap (λ (w : WorldValue). (write_run w 0).now) at_is ∙ writes
+
+keeps : KeepsLines (plan_of swept.planning.rule swept.planning.lmc (cells_of swept.store)) (IsOwnSet (fabric_of with_own_seat) (port 0 1) (phases_by swept swept.sweep))
+    nodes (at_first_steps nodes world between) after
+keeps =
+    subst (λ (w : WorldValue). KeepsLines (plan_of swept.planning.rule swept.planning.lmc (cells_of swept.store))
+    (IsOwnSet (fabric_of with_own_seat) (port 0 1) (phases_by swept swept.sweep)) nodes w after) (sym first_steps)
+    (subst (λ (p : PlanValue). KeepsLines p (IsOwnSet (fabric_of with_own_seat) (port 0 1) (phases_by swept swept.sweep)) nodes (writing_by (phases_from cells)) after)
+    (sym its_plan)
+    (subst (λ (ps : List Phase). KeepsLines (plan_of up_and_down 1 cells) (IsOwnSet (fabric_of with_own_seat) (port 0 1) ps) nodes (writing_by (phases_from cells)) after)
+    (sym its_phases) (steps_keep (plan_of up_and_down 1 cells) (phases_from cells) (writing_by (phases_from cells)) 80 kept, tt)))
+
+seat_there : BringsUpAlone nodes world (seated_with new) between after
+unfolding joined fresh_agent
+seat_there =
+    record {
+      port_guid = 17;
+      priority = 0;
+      planning = in_pairs;
+      few = omega arith;
+      only = refl;
+      fabric = is_alone;
+      no_packets = refl;
+      distinct = distinct_by (fabric_of with_own_seat) refl;
+      seat = refl;
+      between_lines = (tt, (tt, (tt, (tt, tt))));
+      after_lines = (tt, tt);
+      swept = swept;
+      only_then = ap (λ (w : WorldValue). w.managers) at_is ∙ alone_then;
+      sweep = sweep_in swept.sweep;
+      is_last = sweep_there swept.sweep has_swept;
+      whole = whole;
+      begins = may_write;
+      keeps = keeps;
+      writer = writer;
+      only_at_end = ap (λ (w : WorldValue). (commands_run nodes w after).now.managers) first_steps ∙ alone_at_end;
+      written = is_written_then;
+    }
+
+pub some_run_of_one : SomeRunOfOne
+some_run_of_one = record { nodes = nodes; world = world; seated = seated_with new; between = between; after = after; brings_up = seat_there }
