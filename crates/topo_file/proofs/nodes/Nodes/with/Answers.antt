@@ -15,6 +15,6 @@ invariant_of-result c =
     let count : c.len-place.result ≡ length before = c.len-place.ensures.count ∙ ap length (sym c.self.view_is) in
     let none : place_of before c.args.node.name ≡ None = ap (λ ns. place_of ns c.args.node.name) c.self.view_is ∙ sym c.place.ensures
     ∙ nowhere _ c.if-is_some.ensures in
-    let u = subst (λ (k : List ℕ). Updates (slice_cmp nat_cmp) places new k (Some c.len-place.result)) c.copied-name.ensures c.in_ok-insert.ensures.updates in
-    let v = subst (λ (n : ℕ). Updates (slice_cmp nat_cmp) places new c.args.node.name (Some n)) count u in
+    let u = subst (λ (k : List ℕ). Updates (slice_cmp nat_cmp) places new k (Some c.new.result)) c.copied-name.ensures c.in_ok-insert.ensures.updates in
+    let v = subst (λ (n : ℕ). Updates (slice_cmp nat_cmp) places new c.args.node.name (Some n)) (c.new.ensures ∙ count) u in
     rw c.in_ok-push.ensures.items (places_more before places new c.args.node (omega arith) none c.self.invariant v)

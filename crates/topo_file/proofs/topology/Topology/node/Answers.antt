@@ -3,4 +3,4 @@ use Rattle.topo_file.proofs.Indexes.{placed}
 use Rattle.topo_file.proofs.topology.Topology.node.Goals as goal
 
 pub returns-clause-is_node : goal.returns-clause-is_node
-returns-clause-is_node c = placed c.self.inside.nodes c.args.place c.get.result c.self.invariant.0.nodes c.get.ensures
+returns-clause-is_node c = placed c.self.inside.nodes c.args.node c.get.result c.self.invariant.0.nodes c.get.ensures
