@@ -15,7 +15,7 @@ loop-node-preserved c =
 -- no node is left
 none : (c : goal.After-new-2) → slice_get c.args.topology.now.nodes (length c.loop-node.agents.items) ≡ None
 none c =
-    let count : c.len.result ≡ length c.loop-node.agents.items = search rules in
+    let count : c.new.result ≡ length c.loop-node.agents.items = search rules in
     ap (λ n. slice_get c.args.topology.now.nodes n) (sym count) ∙ sym c.in_default.ensures.node
 
 pub invariant_of-result : goal.invariant_of-result

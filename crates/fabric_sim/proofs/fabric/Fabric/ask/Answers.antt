@@ -1,4 +1,4 @@
-use Rattle.std.proofs.Common.{◌≡◌, ◌<◌, ◌^◌, true, [], ◌∷◌, ◌++◌, ap, sym, ◌∙◌, subst, rules}
+use Rattle.std.proofs.Common.{◌≡◌, ◌<◌, ◌^◌, ℕ, true, [], ◌∷◌, ◌++◌, ap, sym, ◌∙◌, subst, rules, get_or}
 use Rattle.std.specs.Prelude.{remove, slice_get, slice_set, option_map, Some}
 use Rattle.fabric_sim.specs.declared.flight.Flight.{Flight}
 use Rattle.fabric_sim.specs.Simulation.{Simulation, next_serial, has_cable_port, port_of, answer_place}
@@ -29,12 +29,25 @@ more c =
 port : (c : goal.After-self-2-1) → has_cable_port c.self.inside.agents.items (port_of c.args.flight.now.place) ≡ true
 port c = (waiting_at _ c.args.i c.args.flight.now c.self.invariant (at c)).place.port
 
+-- the fabric then, by the place of the node that answers
+abbrev now_at : goal.After-self-2-1 → ℕ → Simulation
+now_at c place =
+    record {
+      agents = slice_set c.self.inside.agents.items place c.answer-answer.new.self;
+      peers = c.self.inside.peers.items;
+      flights = c.push_back_reserved.new.self.items;
+      next = next_serial c.checked_add-self-inside.result;
+    }
+
 written : (c : goal.After-self-2-1) → ◌≡◌ {A = Simulation}
-    (record { agents = slice_set c.self.inside.agents.items c.port-at.result.node c.answer-answer.new.self; peers = c.self.inside.peers.items; flights = c.push_back_reserved.new.self.items; next = next_serial c.checked_add-self-inside.result })
+    (record { agents = slice_set c.self.inside.agents.items c.place.result c.answer-answer.new.self; peers = c.self.inside.peers.items; flights = c.push_back_reserved.new.self.items; next = next_serial c.checked_add-self-inside.result })
     (asked c.args.self.now c.args.flight.now c.args.request.now c.args.slid c.args.dlid)
 written c =
-    let done = asks (record { agents = c.self.inside.agents.items; peers = c.self.inside.peers.items; flights = c.self.inside.flights.items; next = next_serial c.self.inside.next }) c.args.flight.now c.args.request.now c.answer-answer.result c.port-at.result c.index_mut-agent.result.now c.answer-answer.new.self (port c) c.port-at.ensures c.index_mut-agent.ensures.value c.answer-answer.ensures.state c.answer-answer.ensures.answer in
-    asked_now _ _ c.self.view_is c.args.i c.in-Some.serial _ c.args.slid c.args.dlid c.args.flight.now c.args.request.now c.answer-answer.result c.port-at.result.node c.answer-answer.new.self _ c.self.invariant c.requires.at
+    let read : c.index_mut-agent.result.now ≡ get_or c.self.inside.agents.items c.port-at.result.node c.index_mut-agent.result.now =
+    subst (λ (n : ℕ). c.index_mut-agent.result.now ≡ get_or c.self.inside.agents.items n c.index_mut-agent.result.now) c.place.ensures c.index_mut-agent.ensures.value in
+    let done = asks (record { agents = c.self.inside.agents.items; peers = c.self.inside.peers.items; flights = c.self.inside.flights.items; next = next_serial c.self.inside.next }) c.args.flight.now c.args.request.now c.answer-answer.result c.port-at.result c.index_mut-agent.result.now c.answer-answer.new.self (port c) c.port-at.ensures read c.answer-answer.ensures.state c.answer-answer.ensures.answer in
+    ap (λ (n : ℕ). now_at c n) c.place.ensures
+    ∙ asked_now _ _ c.self.view_is c.args.i c.in-Some.serial _ c.args.slid c.args.dlid c.args.flight.now c.args.request.now c.answer-answer.result c.port-at.result.node c.answer-answer.new.self _ c.self.invariant c.requires.at
     (ap (λ p. p.node) c.port-at.ensures) done (ap next_serial c.in-Some.is) (more c) (next_after c.in-Some.serial _ (fits c) c.checked_add-self-inside.ensures)
 
 pub invariant_of-self : goal.invariant_of-self
