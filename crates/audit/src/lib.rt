@@ -21,6 +21,7 @@ pub use end::{Cause, End, Failure};
 pub use ends::Ends;
 pub use far::{Far, Source};
 pub use network::{Blocks, Network};
+pub use step::Step;
 
 #[cfg(test)]
 mod tests;
