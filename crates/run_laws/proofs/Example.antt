@@ -1,5 +1,5 @@
--- A run with one manager that brings a subnet up: on an adapter at a switch, to which another adapter is wired. LIDs come in pairs, a request is lost,
--- and a packet is copied.
+-- A run with one manager that brings a subnet up: on an adapter at a switch, to which another adapter is wired. LIDs come in pairs, and a
+-- request is copied and lost.
 use Rattle.std.proofs.Common.{◌≡◌, ℕ, zero, suc, ◌+◌, ◌^◌, ◌&&◌, Bool, true, List, [], ◌∷◌, ◌++◌, refl, sym, ap, ◌∙◌, subst, arith}
 use Rattle.std.proofs.lemmas.Bool.{and_parts}
 use Rattle.std.specs.Prelude.{Option, Some, None, is_none, is_some, max, if◌then◌else◌, ◌==◌}
@@ -37,7 +37,7 @@ use Rattle.written_laws.specs.Sets.{IsOwnSet, OwnSets}
 use Rattle.written_laws.proofs.Example.{delivery_keeps, in_pairs, is_kept, joined_told, merged_with, one_view, sweep_in, sweep_there, told_by_agents}
 use Rattle.written_laws.proofs.ExampleFabric.{distinct_by, is_alone, nodes, port, with_own_seat}
 use Rattle.written_laws.proofs.Generations.{nothing_newest}
-use Rattle.sm_run.specs.Commands.{commands_run, deliver_run, handed_up, lose_run, repeat_run, step_run, sweep_run, timeout_run, took_run, write_run, gave_up_run}
+use Rattle.sm_run.specs.Commands.{commands_run, deliver_run, handed_up, lose_run, repeat_run, step_run, sweep_run, took_run, write_run}
 use Rattle.sm_run.specs.World.{SeatedValue, WorldValue, called_run, sent}
 use Rattle.run_laws.specs.Alone.{BringsUpAlone, KeepsLines, KeepsStep, KeepsSteps, SomeRunOfOne, after_first, at_end, at_first_steps, at_writing, first_serial}
 
@@ -62,7 +62,7 @@ manager_in (s ∷ later) = s.manager
 -- its sweep --------------------------------------------------------------------------------------------------------
 
 abbrev between : List Command
-between = command.Lose (Serial 0) ∷ command.Timeout 0 ∷ command.Repeat Last ∷ command.Drain 60 ∷ []
+between = command.Repeat Last ∷ command.Lose (Serial 0) ∷ command.Drain 60 ∷ []
 
 -- the manager as it is when a sweep of a generation has begun
 abbrev sweeping : ℕ → Manager
@@ -90,19 +90,19 @@ at_is : at_writing nodes world between ≡ swept_world
 at_is = ap (λ (w : WorldValue). (commands_run nodes w between).now) begins
 
 alone_then : swept_world.managers ≡ seated_with swept ∷ []
-unfolding sent deliver_run lose_run repeat_run timeout_run gave_up_run took_run handed_up step_run manager_in
+unfolding sent deliver_run lose_run repeat_run took_run handed_up step_run manager_in
     joined fresh_agent injected delivered outcome_of answered get_of set_of changed_port with_bytes
 alone_then = refl
 
 whole : IsWhole (sweep_in swept.sweep)
-unfolding sent deliver_run lose_run repeat_run timeout_run gave_up_run took_run handed_up step_run manager_in
+unfolding sent deliver_run lose_run repeat_run took_run handed_up step_run manager_in
     joined fresh_agent injected delivered outcome_of answered get_of set_of changed_port with_bytes
 whole = record { done = refl; answered = refl; near = refl }
 
 -- what it was told ----------------------------------------------------------------------------------------------
 
 merged_all : swept.store ≡ merged_with no_facts told_by_agents
-unfolding sent deliver_run lose_run repeat_run timeout_run gave_up_run took_run handed_up step_run manager_in
+unfolding sent deliver_run lose_run repeat_run took_run handed_up step_run manager_in
     joined fresh_agent injected delivered outcome_of answered get_of set_of changed_port with_bytes
 merged_all = refl
 
@@ -128,7 +128,7 @@ fault_from known_cells =
     or_else (write_fault_with swept swept.sweep) (or_else (plan_fault 1 known_cells) (number_fault (swept.counter + most_steps known_cells)))
 
 may_write : writing_fault swept ≡ None
-unfolding fault_from sent deliver_run lose_run repeat_run timeout_run gave_up_run took_run handed_up step_run manager_in
+unfolding fault_from sent deliver_run lose_run repeat_run took_run handed_up step_run manager_in
     joined fresh_agent injected delivered outcome_of answered get_of set_of changed_port with_bytes
 may_write = ap fault_from known
 
@@ -137,7 +137,7 @@ abbrev writing_by : List Phase → WorldValue
 writing_by phases = (sent (world_with swept_world.fabric (begun_with swept phases)) 0).now
 
 writes : (write_run swept_world 0).now ≡ writing_by (phases_from cells)
-unfolding write_run sent deliver_run lose_run repeat_run timeout_run gave_up_run took_run handed_up step_run manager_in
+unfolding write_run sent deliver_run lose_run repeat_run took_run handed_up step_run manager_in
     joined fresh_agent injected delivered outcome_of answered get_of set_of changed_port with_bytes
 writes =
     ap (λ (o : Option ManagerFault). (called_run (λ now. sent now 0) swept_world 0 (seated_with swept) o (writing_begun swept)).now) may_write
@@ -150,12 +150,12 @@ abbrev writer : Manager
 writer = manager_in written_world.managers
 
 alone_at_end : written_world.managers ≡ seated_with writer ∷ []
-unfolding sent deliver_run lose_run repeat_run timeout_run gave_up_run took_run handed_up step_run manager_in
+unfolding sent deliver_run lose_run repeat_run took_run handed_up step_run manager_in
     joined fresh_agent injected delivered outcome_of answered get_of set_of changed_port with_bytes
 alone_at_end = refl
 
 is_written_then : is_written writer ≡ true
-unfolding sent deliver_run lose_run repeat_run timeout_run gave_up_run took_run handed_up step_run manager_in
+unfolding sent deliver_run lose_run repeat_run took_run handed_up step_run manager_in
     joined fresh_agent injected delivered outcome_of answered get_of set_of changed_port with_bytes
 is_written_then = refl
 
@@ -184,19 +184,19 @@ module _ (plan : PlanValue) (phases : List Phase) where
       (step_keeps w.fabric (first_serial w) parts.0, steps_keep (after_first w) most parts.1)
 
 kept : are_steps_kept (plan_of up_and_down 1 cells) (phases_from cells) (writing_by (phases_from cells)) 80 ≡ true
-unfolding sent deliver_run lose_run repeat_run timeout_run gave_up_run took_run handed_up step_run manager_in
+unfolding sent deliver_run lose_run repeat_run took_run handed_up step_run manager_in
     joined fresh_agent injected delivered outcome_of answered get_of set_of changed_port with_bytes
 kept = refl
 
 -- the run ---------------------------------------------------------------------------------------------------------
 
 has_swept : is_some swept.sweep ≡ true
-unfolding sent deliver_run lose_run repeat_run timeout_run gave_up_run took_run handed_up step_run manager_in
+unfolding sent deliver_run lose_run repeat_run took_run handed_up step_run manager_in
     joined fresh_agent injected delivered outcome_of answered get_of set_of changed_port with_bytes
 has_swept = refl
 
 planning_is : swept.planning ≡ in_pairs
-unfolding sent deliver_run lose_run repeat_run timeout_run gave_up_run took_run handed_up step_run manager_in
+unfolding sent deliver_run lose_run repeat_run took_run handed_up step_run manager_in
     joined fresh_agent injected delivered outcome_of answered get_of set_of changed_port with_bytes
 planning_is = refl
 
@@ -245,7 +245,7 @@ seat_there =
       no_packets = refl;
       distinct = distinct_by (fabric_of with_own_seat) refl;
       seat = refl;
-      between_lines = (tt, (tt, (tt, (tt, tt))));
+      between_lines = (tt, (tt, (tt, tt)));
       after_lines = (tt, tt);
       swept = swept;
       only_then = ap (λ (w : WorldValue). w.managers) at_is ∙ alone_then;

@@ -69,8 +69,8 @@ pub fn runs_of_one_are_reached()
 {}
 
 /// Such runs there are: of a manager on an adapter, which is wired to a switch, as is another
-/// adapter, with LIDs in pairs (LMC 1). The lines `lose 0`, `timeout`, `repeat last` and `drain`
-/// stand behind its sweep, and `drain` behind its writing.
+/// adapter, with LIDs in pairs (LMC 1). The lines `repeat last`, `lose 0` and `drain 60`
+/// stand behind its sweep, and `drain 80` behind its writing.
 pub fn some_run_of_one()
     ensures { SomeRunOfOne }
 {}

@@ -1,5 +1,5 @@
 -- A manager that brings a subnet up: on an adapter at a switch, to which another adapter is wired, with another manager at it. LIDs come in pairs, a
--- request is lost and a packet is copied.
+-- request is lost and sent again, and copied.
 use Rattle.std.proofs.Common.{◌≡◌, ◌≢◌, inl, inr, ℕ, zero, suc, ◌+◌, ◌*◌, ◌-◌, ◌^◌, ◌<◌, ◌≤◌, ◌||◌, ◌&&◌, Bool, true, false, List, [], ◌∷◌, ◌++◌}
 use Rattle.std.proofs.Common.{length, replicate, refl, sym, ap, ◌∙◌, subst, arith}
 use Rattle.std.proofs.lemmas.Bool.{and_parts, eqb-true}
@@ -335,26 +335,26 @@ begun =
 abbrev deliveries : ℕ → ℕ → List ManagerEvent
 deliveries hops serial = replicate (hops + 1) (Around (Deliver serial))
 
--- the first request is lost, and times out; the next is copied, and both are answered
+-- the first request is lost, and sent again; then it is copied, and both are answered
 abbrev first_trip : List ManagerEvent
 first_trip =
-    Take ∷ Send 0 ∷ Around (Lose 0) ∷ TimeOut 1
-    ∷ Take ∷ Send 1 ∷ Around (Repeat 1) ∷ Around (Deliver 1) ∷ Around (Deliver 2) ∷ Around (Deliver 3) ∷ Hear 0 ∷ Around (Deliver 4) ∷ Hear 1 ∷ []
+    Take ∷ Send 0 ∷ Around (Lose 0) ∷ Send 0 ∷ Around (Repeat 1)
+    ∷ Around (Deliver 1) ∷ Around (Deliver 2) ∷ Around (Deliver 3) ∷ Hear 0 ∷ Around (Deliver 4) ∷ Hear 1 ∷ []
 
 -- a request goes out over as many cables as its path has ports, and its answer comes back over as many
 abbrev trip : ℕ → ℕ → ℕ → List ManagerEvent
-trip number handed hops = Take ∷ Send number ∷ (deliveries hops (2 * number + 1) ++ (deliveries hops (2 * number + 2) ++ Hear handed ∷ []))
+trip number handed hops = Take ∷ Send number ∷ (deliveries hops (2 * number + 3) ++ (deliveries hops (2 * number + 4) ++ Hear handed ∷ []))
 
 -- the last one is handed up to the other manager, which answers it
 abbrev to_manager : List ManagerEvent
-to_manager = Take ∷ Send 10 ∷ deliveries 2 21
+to_manager = Take ∷ Send 9 ∷ deliveries 2 21
 
 abbrev answers_it : ManagerEvent
 answers_it = Around (SendFrom (port 2 1) (Answer 10 0 (replicate 64 0)))
 
 abbrev to_agents : List ManagerEvent
 to_agents =
-    first_trip ++ (trip 2 2 0 ++ (trip 3 3 1 ++ (trip 4 4 1 ++ (trip 5 5 1 ++ (trip 6 6 1 ++ (trip 7 7 1 ++ (trip 8 8 2 ++ (trip 9 9 2 ++ to_manager))))))))
+    first_trip ++ (trip 1 2 0 ++ (trip 2 3 1 ++ (trip 3 4 1 ++ (trip 4 5 1 ++ (trip 5 6 1 ++ (trip 6 7 1 ++ (trip 7 8 2 ++ (trip 8 9 2 ++ to_manager))))))))
 
 abbrev between : List ManagerEvent
 between = to_agents ++ answers_it ∷ (deliveries 2 22 ++ Hear 11 ∷ [])
@@ -425,7 +425,7 @@ writes =
 
 -- LIDs, the block and the top
 abbrev after : List ManagerEvent
-after = trip 11 12 0 ++ (trip 12 13 1 ++ (trip 13 14 2 ++ (trip 14 15 1 ++ trip 15 16 1)))
+after = trip 10 12 0 ++ (trip 11 13 1 ++ (trip 12 14 2 ++ (trip 13 15 1 ++ trip 14 16 1)))
 
 abbrev written : Managing
 written = after_manager_events after (writing_by (phases_from cells))

@@ -34,7 +34,7 @@ pub fn pings_arrive_once_written()
 
 /// Such managers there are: one that was just made, on an adapter, which is wired to a switch, as is
 /// another adapter, where another manager sits and answers it. LIDs come in pairs (LMC 1); the first
-/// request is lost, and the second one copied; after the sweep's ten requests the plan's five Sets.
+/// request is lost and sent again, and then copied; after the sweep's ten requests the plan's five Sets.
 pub fn some_manager_brings_up()
     ensures { SomeManagerBringsUp }
 {}
