@@ -4,6 +4,7 @@ An end is a pair of a node's GUID and a port. A text that is not whole or not in
 """
 import os
 import re
+import sys
 
 GUID = "([0-9a-f]{16})"
 NUMBER = "([0-9]{1,10})"
@@ -30,6 +31,30 @@ class Refused(Exception):
     """What a tool was given is not what it takes, or must not be done."""
 
 
+def ends(tool, doc, work):
+    """Runs a tool and gives its exit status: work takes the words behind its name. What ends it short is said in one line."""
+    if {"-h", "--help"} & set(sys.argv[1:]):
+        print(doc.strip())
+        return 0
+    try:
+        status = work(sys.argv[1:])
+        sys.stdout.flush()
+        return status
+    except Refused as fault:
+        said, status = fault, 3
+    except OSError as fault:
+        said, status = fault, 4
+    except MemoryError:
+        said, status = "out of memory", 5
+    print(f"{tool}: {said}", file=sys.stderr)
+    return status
+
+
+def usage_of(doc):
+    """How a tool is used, for its parser."""
+    return doc.split("usage: ")[1].split("\n\n")[0]
+
+
 def name_of(end):
     return f"{end[0]:016x}/{end[1]}"
 
@@ -46,7 +71,7 @@ def lines_of(path):
         try:
             text = file.read()
         except UnicodeDecodeError:
-            fault = f"{path}: not a text: is it a report or store file, and not what ibsm printed of it?"
+            fault = f"{path}: not a text: is it a recording or store file, and not what ibsm printed of it?"
             raise Refused(fault) from None
     if text and not text.endswith("\n"):
         raise Refused(f"{path}: its last line has no end: is it cut?")

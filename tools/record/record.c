@@ -1,5 +1,5 @@
 /*
- * record: asks the nodes of an InfiniBand subnet what they are, and keeps the replies in a report file for ibsm.
+ * record: asks the nodes of an InfiniBand subnet what they are, and keeps the replies in a recording for ibsm.
  *
  * It sends Gets over directed routes alone, so it changes nothing, and a subnet manager may run meanwhile. The manual
  * page, record.1, has the options and exit statuses.
@@ -23,7 +23,7 @@ struct counts counts;
 
 static const char usage_text[] =
 "usage: record [OPTION]... FILE\n"
-"Asks the nodes of the InfiniBand subnet behind a port, and writes what they answer to FILE, a report file for ibsm.\n"
+"Asks the nodes of the InfiniBand subnet behind a port, and writes what they answer to FILE, a recording for ibsm.\n"
 "Nothing in the subnet is changed.\n"
 "\n"
 "  -C, --ca NAME          the adapter, as mlx5_0; else the first with a port that is up\n"

@@ -1,4 +1,4 @@
-/* The report file, and which replies it takes. Files are written under another name, and renamed once whole. */
+/* The recording, and which replies it takes. Files are written under another name, and renamed once whole. */
 #include <errno.h>
 #include <signal.h>
 #include <stdlib.h>
