@@ -5,7 +5,7 @@ DESTDIR ?=
 PROGRAM := crates/ibsm/out/ibsm
 # Tools in Python, with the modules that they import; a link in bin leads to each.
 TOOLS := draw opensm-files
-MODULES := ibsm_texts.py routes.py
+MODULES := dumps.py ibsm_texts.py routes.py
 PAGES := ibsm.1 draw.1 opensm-files.1
 
 all:

@@ -65,9 +65,9 @@ def end_in(word):
     return (int(form[1], 16), int(form[2])) if form else None
 
 
-def lines_of(path):
+def lines_of(path, errors="strict"):
     """The lines of a text, which has to end with one."""
-    with open(path, encoding="ascii") as file:
+    with open(path, encoding="ascii", errors=errors) as file:
         try:
             text = file.read()
         except UnicodeDecodeError:
@@ -93,6 +93,20 @@ def put(path, text):
         if os.path.exists(temporary):
             os.unlink(temporary)
         raise
+
+
+def plan_text(ranges, tops, tables):
+    """A text in the form of a plan: first and last LID of each end, and the top and the port by LID of each switch's GUID."""
+    lines = []
+    for end, (first, last) in sorted(ranges.items(), key=lambda item: (item[1], item[0])):
+        lmc = (last - first + 1).bit_length() - 1
+        lines.append(f"lid {first} {name_of(end)}" + (f" lmc {lmc}" if lmc else ""))
+    for guid, table in sorted(tables.items()):
+        lines.append(f"switch {guid:016x} top {tops[guid]}")
+        for start in range(0, tops[guid] + 1, ENTRIES):
+            entries = bytes(table.get(lid, NO_WAY) for lid in range(start, start + ENTRIES))
+            lines.append(f"block {start // ENTRIES} {entries.hex()}")
+    return "\n".join(lines) + "\n"
 
 
 class Facts:
