@@ -78,6 +78,16 @@ def lines_of(path, errors="strict"):
     return text.split("\n")[:-1]
 
 
+def names_in(path):
+    """The names of a node name map, by GUID."""
+    found = {}
+    with open(path, encoding="utf-8", errors="replace") as file:
+        for line in file:
+            if form := re.match(r'\s*0x([0-9a-fA-F]{1,16})\s+"([^"]*)"', line):
+                found[int(form[1], 16)] = form[2]
+    return found
+
+
 def put(path, text):
     """Writes a file under another name and renames it, so that it is whole or as it was."""
     if os.path.exists(path) and not os.path.isfile(path):
