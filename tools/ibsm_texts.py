@@ -132,7 +132,8 @@ class Facts:
         self.disputed = []  # kind, GUID, port
         self.generations = set()
         self.floor = 1
-        for number, line in enumerate(lines_of(path), 1):
+        self.lines = lines_of(path)
+        for number, line in enumerate(self.lines, 1):
             floor = FLOOR.fullmatch(line) if number == 1 else None
             if floor:
                 self.floor = int(floor[1])
@@ -176,6 +177,15 @@ class Facts:
         if far is None or far == end or self.links.get(far) != end or not (self.up.get(end) and self.up.get(far)):
             return None
         return far
+
+
+    def cables(self):
+        """Each cable once: its ends, and whether it is `up`, `down`, or told by `one` end."""
+        found = {}
+        for end, far in sorted(self.links.items()):
+            if (far, end) not in found:
+                found[end, far] = "one" if self.links.get(far) != end else "up" if self.wire(end) else "down"
+        return [(end, far, kind) for (end, far), kind in found.items()]
 
 
 class Plan:
