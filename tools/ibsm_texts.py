@@ -88,6 +88,18 @@ def names_in(path):
     return found
 
 
+NAMED = re.compile(r"\b(?:0x)?([0-9a-f]{16})(?:/[0-9]{1,3})?(?![0-9A-Za-z_])")
+
+
+def with_names(line, names):
+    """A line with names behind its GUIDs and ends."""
+    def told(found):
+        name = names.get(int(found[1], 16))
+        return found[0] if name is None else f'{found[0]} "{name}"'
+
+    return NAMED.sub(told, line)
+
+
 def put(path, text):
     """Writes a file under another name and renames it, so that it is whole or as it was."""
     if os.path.exists(path) and not os.path.isfile(path):
