@@ -3,6 +3,7 @@
 An end is a pair of a node's GUID and a port. A text that is not whole or not in its form raises `Refused`.
 """
 import os
+import pathlib
 import re
 import sys
 
@@ -33,13 +34,17 @@ class Refused(Exception):
 
 def ends(tool, doc, work):
     """Runs a tool and gives its exit status: work takes the words behind its name. What ends it short is said in one line."""
-    if {"-h", "--help"} & set(sys.argv[1:]):
-        print(doc.strip())
-        return 0
     try:
+        if {"-h", "--help"} & set(sys.argv[1:]):
+            print(as_called(doc.strip()), flush=True)
+            return 0
         status = work(sys.argv[1:])
         sys.stdout.flush()
         return status
+    except BrokenPipeError:
+        # Who read it has seen enough, and Python would say so once more at its end.
+        os.dup2(os.open(os.devnull, os.O_WRONLY), sys.stdout.fileno())
+        return 4
     except Refused as fault:
         said, status = fault, 3
     except OSError as fault:
@@ -50,9 +55,15 @@ def ends(tool, doc, work):
     return status
 
 
+def as_called(doc):
+    """A tool's help, with the name by which it was installed and called in place of its own."""
+    called = pathlib.Path(sys.argv[0])
+    return doc if called.resolve().parent.name == "tools" else doc.replace(f"tools/{called.resolve().name}", called.name)
+
+
 def usage_of(doc):
     """How a tool is used, for its parser."""
-    return doc.split("usage: ")[1].split("\n\n")[0]
+    return as_called(doc).split("usage: ")[1].split("\n\n")[0]
 
 
 def name_of(end):
