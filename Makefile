@@ -3,9 +3,10 @@
 PREFIX ?= /usr/local
 DESTDIR ?=
 PROGRAM := crates/ibsm/out/ibsm
-# Tools in Python, with the modules that they import; a link in bin leads to each.
-TOOLS := draw opensm-files
-MODULES := ibsm_texts.py routes.py
+# Tools in Python, with the modules that they import; a link in bin leads to each, as ibsm-NAME where it has no page.
+TOOLS := compare draw names opensm-files round topology what-if
+MODULES := differences.py dumps.py ibsm_texts.py program.py record_files.py routes.py rows.py
+PAGES := ibsm.1 draw.1 opensm-files.1
 
 all:
 	./ibsm --version
@@ -13,9 +14,10 @@ all:
 
 install: all
 	install -D -m 755 $(PROGRAM) $(DESTDIR)$(PREFIX)/bin/ibsm
-	install -D -m 644 tools/ibsm.1 $(DESTDIR)$(PREFIX)/share/man/man1/ibsm.1
+	for page in $(PAGES); do install -D -m 644 tools/$$page $(DESTDIR)$(PREFIX)/share/man/man1/$$page || exit 1; done
 	for file in $(TOOLS); do install -D -m 755 tools/$$file $(DESTDIR)$(PREFIX)/lib/ibsm/$$file && \
-	    ln -sf ../lib/ibsm/$$file $(DESTDIR)$(PREFIX)/bin/$$file || exit 1; done
+	    case " $(PAGES) " in *" $$file.1 "*) link=$$file ;; *) link=ibsm-$$file ;; esac && \
+	    ln -sf ../lib/ibsm/$$file $(DESTDIR)$(PREFIX)/bin/$$link || exit 1; done
 	for file in $(MODULES); do install -m 644 tools/$$file $(DESTDIR)$(PREFIX)/lib/ibsm/$$file || exit 1; done
 	$(MAKE) -C tools/record install PREFIX=$(PREFIX) DESTDIR=$(DESTDIR)
 

@@ -47,8 +47,16 @@ def shown(part):
     return part.decode(errors="backslashreplace")[:4000] if isinstance(part, bytes) else part
 
 
+def help_where_asked():
+    """Ends a test with its help where the command line asks for it."""
+    if {"-h", "--help"} & set(sys.argv[1:]):
+        print(sys.modules["__main__"].__doc__.strip())
+        sys.exit(0)
+
+
 def the_program():
-    """The program that the command line names, or that was built here."""
+    """The program that the command line names, or that was built here; help where that is asked for."""
+    help_where_asked()
     program = pathlib.Path(sys.argv[1] if len(sys.argv) > 1 else ROOT / "crates/ibsm/out/ibsm").resolve()
     if not program.exists():
         print(f"{TEST}: there is no program {program}", file=sys.stderr)

@@ -3,7 +3,9 @@
 An end is a pair of a node's GUID and a port. A text that is not whole or not in its form raises `Refused`.
 """
 import os
+import pathlib
 import re
+import sys
 
 GUID = "([0-9a-f]{16})"
 NUMBER = "([0-9]{1,10})"
@@ -30,6 +32,40 @@ class Refused(Exception):
     """What a tool was given is not what it takes, or must not be done."""
 
 
+def ends(tool, doc, work):
+    """Runs a tool and gives its exit status: work takes the words behind its name. What ends it short is said in one line."""
+    try:
+        if {"-h", "--help"} & set(sys.argv[1:]):
+            print(as_called(doc.strip()), flush=True)
+            return 0
+        status = work(sys.argv[1:])
+        sys.stdout.flush()
+        return status
+    except BrokenPipeError:
+        # Who read it has seen enough, and Python would say so once more at its end.
+        os.dup2(os.open(os.devnull, os.O_WRONLY), sys.stdout.fileno())
+        return 4
+    except Refused as fault:
+        said, status = fault, 3
+    except OSError as fault:
+        said, status = fault, 4
+    except MemoryError:
+        said, status = "out of memory", 5
+    print(f"{tool}: {said}", file=sys.stderr)
+    return status
+
+
+def as_called(doc):
+    """A tool's help, with the name by which it was installed and called in place of its own."""
+    called = pathlib.Path(sys.argv[0])
+    return doc if called.resolve().parent.name == "tools" else doc.replace(f"tools/{called.resolve().name}", called.name)
+
+
+def usage_of(doc):
+    """How a tool is used, for its parser."""
+    return as_called(doc).split("usage: ")[1].split("\n\n")[0]
+
+
 def name_of(end):
     return f"{end[0]:016x}/{end[1]}"
 
@@ -40,17 +76,39 @@ def end_in(word):
     return (int(form[1], 16), int(form[2])) if form else None
 
 
-def lines_of(path):
+def lines_of(path, errors="strict"):
     """The lines of a text, which has to end with one."""
-    with open(path, encoding="ascii") as file:
+    with open(path, encoding="ascii", errors=errors) as file:
         try:
             text = file.read()
         except UnicodeDecodeError:
-            fault = f"{path}: not a text: is it a report or store file, and not what ibsm printed of it?"
+            fault = f"{path}: not a text: is it a recording or store file, and not what ibsm printed of it?"
             raise Refused(fault) from None
     if text and not text.endswith("\n"):
         raise Refused(f"{path}: its last line has no end: is it cut?")
     return text.split("\n")[:-1]
+
+
+def names_in(path):
+    """The names of a node name map, by GUID."""
+    found = {}
+    with open(path, encoding="utf-8", errors="replace") as file:
+        for line in file:
+            if form := re.match(r'\s*0x([0-9a-fA-F]{1,16})\s+"([^"]*)"', line):
+                found[int(form[1], 16)] = form[2]
+    return found
+
+
+NAMED = re.compile(r"\b(?:0x)?([0-9a-f]{16})(?:/[0-9]{1,3})?(?![0-9A-Za-z_])")
+
+
+def with_names(line, names):
+    """A line with names behind its GUIDs and ends."""
+    def told(found):
+        name = names.get(int(found[1], 16))
+        return found[0] if name is None else f'{found[0]} "{name}"'
+
+    return NAMED.sub(told, line)
 
 
 def put(path, text):
@@ -70,6 +128,20 @@ def put(path, text):
         raise
 
 
+def plan_text(ranges, tops, tables):
+    """A text in the form of a plan: first and last LID of each end, and the top and the port by LID of each switch's GUID."""
+    lines = []
+    for end, (first, last) in sorted(ranges.items(), key=lambda item: (item[1], item[0])):
+        lmc = (last - first + 1).bit_length() - 1
+        lines.append(f"lid {first} {name_of(end)}" + (f" lmc {lmc}" if lmc else ""))
+    for guid, table in sorted(tables.items()):
+        lines.append(f"switch {guid:016x} top {tops[guid]}")
+        for start in range(0, tops[guid] + 1, ENTRIES):
+            entries = bytes(table.get(lid, NO_WAY) for lid in range(start, start + ENTRIES))
+            lines.append(f"block {start // ENTRIES} {entries.hex()}")
+    return "\n".join(lines) + "\n"
+
+
 class Facts:
     """The text of `ibsm facts`."""
 
@@ -83,7 +155,8 @@ class Facts:
         self.disputed = []  # kind, GUID, port
         self.generations = set()
         self.floor = 1
-        for number, line in enumerate(lines_of(path), 1):
+        self.lines = lines_of(path)
+        for number, line in enumerate(self.lines, 1):
             floor = FLOOR.fullmatch(line) if number == 1 else None
             if floor:
                 self.floor = int(floor[1])
@@ -127,6 +200,15 @@ class Facts:
         if far is None or far == end or self.links.get(far) != end or not (self.up.get(end) and self.up.get(far)):
             return None
         return far
+
+
+    def cables(self):
+        """Each cable once: its ends, and whether it is `up`, `down`, or told by `one` end."""
+        found = {}
+        for end, far in sorted(self.links.items()):
+            if (far, end) not in found:
+                found[end, far] = "one" if self.links.get(far) != end else "up" if self.wire(end) else "down"
+        return [(end, far, kind) for (end, far), kind in found.items()]
 
 
 class Plan:

@@ -1,4 +1,4 @@
-"""Report and store files, made record by record by docs/FORMATS.md."""
+"""Recordings and store files, made record by record by docs/FORMATS.md."""
 import struct
 
 NO_REPORTS, NO_CELLS = b"IBSMREP1", b"IBSMSTO1"

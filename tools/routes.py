@@ -65,8 +65,8 @@ class Routes:
             return None, False, f"port {port} of switch {self.guids[at]:016x} leads to {far}, which does not own it"
         return self.place[end[0]], None, None
 
-    def walk(self, home, column):
-        """From how many switches there is no way, and what is wrong, by one column."""
+    def arrivals(self, home, column):
+        """Whether packets arrive from each switch, and what is wrong, by one column."""
         arrives, wrong = {}, []
         for start in range(len(self.guids)):
             at, passed = start, []
@@ -86,14 +86,14 @@ class Routes:
                     ended = False
             for at in passed:
                 arrives[at] = ended
-        return sum(not ended for ended in arrives.values()), wrong
+        return arrives, wrong
 
     def faults(self):
         """What is wrong with the ways of LIDs, and how many pairs of a switch and a LID have no way."""
         found, without = [], 0
         for (home, column), lids in self.groups.items():
-            missing, wrong = self.walk(home, column)
-            without += missing * len(lids)
+            arrives, wrong = self.arrivals(home, column)
+            without += sum(not ended for ended in arrives.values()) * len(lids)
             alike = f", and {len(lids) - 1} others" if len(lids) > 1 else ""
             found += [f"a packet for LID {lids[0]}{alike}: {fault}" for fault in wrong[:MOST_SAID]]
         return found, without

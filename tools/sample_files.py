@@ -1,4 +1,4 @@
-"""Report and store files and two texts, whole and damaged, and how runs of the program over them end.
+"""Recordings and store files and two texts, whole and damaged, and how runs of the program over them end.
 
 A row is what stands behind `ibsm` on the command line, and how the run ends by docs/FORMATS.md; a word in capitals is a
 file, which `files` makes. Or it is the bytes of a file that is called FILE, and how `facts` of it ends.

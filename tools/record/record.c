@@ -1,5 +1,5 @@
 /*
- * record: asks the nodes of an InfiniBand subnet what they are, and keeps the replies in a report file for ibsm.
+ * record: asks the nodes of an InfiniBand subnet what they are, and keeps the replies in a recording for ibsm.
  *
  * It sends Gets over directed routes alone, so it changes nothing, and a subnet manager may run meanwhile. The manual
  * page, record.1, has the options and exit statuses.
@@ -23,17 +23,19 @@ struct counts counts;
 
 static const char usage_text[] =
 "usage: record [OPTION]... FILE\n"
-"Asks the nodes of the InfiniBand subnet behind a port, and writes what they answer to FILE, a report file for ibsm.\n"
+"Asks the nodes of the InfiniBand subnet behind a port, and writes what they answer to FILE, a recording for ibsm.\n"
 "Nothing in the subnet is changed.\n"
 "\n"
 "  -C, --ca NAME          the adapter, as mlx5_0; else the first with a port that is up\n"
 "  -P, --port N           its port\n"
 "  -g, --generation N     the number of this sweep, 1 to 4294967295; else the time in seconds\n"
+"  -a, --after FILE       number this sweep one above the newest of this recording or store\n"
 "  -n, --outstanding N    requests that are out at a time, 1 to 64 (4)\n"
 "  -t, --timeout MS       what a reply may take, in milliseconds (500)\n"
 "  -r, --retries N        how often a request is sent again, 0 to 100 (3)\n"
 "  -k, --m-key KEY        management key of the subnet (0)\n"
 "  -T, --tables FILE      also read the forwarding tables, and write them with the LIDs in the form of a plan\n"
+"  -N, --names FILE       also ask for names, and write them as a node name map of infiniband-diags\n"
 "  -q, --quiet            neither progress nor a summary\n"
 "  -v, --verbose          name every request without a reply, not only the first 20\n"
 "  -h, --help             this text\n"
@@ -102,7 +104,7 @@ void put(uint8_t *bytes, int count, uint64_t value)
 
 static const char *name_of(uint16_t attribute)
 {
-	return attribute == NODE_INFO ? "NodeInfo" : attribute == SWITCH_INFO ? "SwitchInfo" :
+	return attribute == NODE_DESCRIPTION ? "NodeDescription" : attribute == NODE_INFO ? "NodeInfo" : attribute == SWITCH_INFO ? "SwitchInfo" :
 	       attribute == PORT_INFO ? "PortInfo" : "LinearForwardingTable";
 }
 
@@ -163,7 +165,7 @@ static uint64_t number_in(const char *text, const char *what, uint64_t least, ui
 
 static const struct option words[] = {
 	{ "ca", 1, 0, 'C' }, { "port", 1, 0, 'P' }, { "generation", 1, 0, 'g' }, { "outstanding", 1, 0, 'n' },
-	{ "timeout", 1, 0, 't' }, { "retries", 1, 0, 'r' }, { "m-key", 1, 0, 'k' }, { "tables", 1, 0, 'T' },
+	{ "timeout", 1, 0, 't' }, { "retries", 1, 0, 'r' }, { "m-key", 1, 0, 'k' }, { "tables", 1, 0, 'T' }, { "names", 1, 0, 'N' }, { "after", 1, 0, 'a' },
 	{ "quiet", 0, 0, 'q' }, { "verbose", 0, 0, 'v' }, { "help", 0, 0, 'h' }, { "version", 0, 0, 'V' }, { 0 }
 };
 
@@ -178,6 +180,8 @@ static void take_option(int letter)
 	case 'r': options.tries = 1 + number_in(optarg, "--retries", 0, 100); break;
 	case 'k': options.m_key = number_in(optarg, "--m-key", 0, UINT64_MAX); break;
 	case 'T': options.tables = optarg; break;
+	case 'N': options.names = optarg; break;
+	case 'a': options.after = optarg; break;
 	case 'q': options.quiet = 1; break;
 	case 'v': options.verbose = 1; break;
 	case 'h': fputs(usage_text, stdout); exit(WHOLE);
@@ -186,18 +190,42 @@ static void take_option(int letter)
 	}
 }
 
+static int is_same(const char *one, const char *other)
+{
+	return one && other && !strcmp(one, other);
+}
+
 static void parse(int count, char **texts)
 {
 	int letter;
 
-	options.generation = time(NULL);
-	while ((letter = getopt_long(count, texts, "C:P:g:n:t:r:k:T:qvhV", words, NULL)) != -1)
+	while ((letter = getopt_long(count, texts, "C:P:g:n:t:r:k:T:N:a:qvhV", words, NULL)) != -1)
 		take_option(letter);
 	if (optind + 1 != count)
 		take_option('?');
 	options.file = texts[optind];
-	if (options.tables && !strcmp(options.tables, options.file))
-		end(USAGE, "the report and the tables cannot be one file");
+	if (is_same(options.tables, options.file) || is_same(options.names, options.file) || is_same(options.tables, options.names))
+		end(USAGE, "the recording, the tables and the names cannot be one file");
+	if (options.after && options.generation)
+		end(USAGE, "--after and --generation both number the sweep");
+}
+
+/* What is given counts, then what comes after a file, then the clock. */
+static void number_sweep(void)
+{
+	uint32_t clock = time(NULL), newest;
+
+	if (!options.after) {
+		options.generation = options.generation ? options.generation : clock;
+		return;
+	}
+	newest = newest_in(options.after);
+	if (newest == UINT32_MAX)
+		end(USAGE, "%s has generation %u, and none comes after it", options.after, newest);
+	options.generation = newest + 1;
+	if (newest >= clock)
+		fprintf(stderr, "record: the clock of this machine is behind %s, which has generation %u, by %u s: "
+			"what is recorded here by the clock counts as older\n", options.after, newest, newest - clock);
 }
 
 static void summary(double seconds)
@@ -209,7 +237,7 @@ static void summary(double seconds)
 	fprintf(stderr, "\n");
 }
 
-static int record(struct whole_file *report, struct whole_file *tables)
+static int record(struct whole_file *report, struct whole_file *tables, struct whole_file *names)
 {
 	double begun = now();
 	int has_tables = 0;
@@ -219,14 +247,19 @@ static int record(struct whole_file *report, struct whole_file *tables)
 		end(NO_FABRIC, "nothing answered, not even this machine's own port; no file is written");
 	if (options.tables)
 		has_tables = read_tables();
+	if (options.names)
+		read_names();	/* last, since what has no name is no gap in the tables */
 	if (has_tables)
 		print_tables(tables->file);
+	if (options.names)
+		print_names(names->file);
 	clear_line();
 	commit_file(report);
 	if (has_tables)
 		commit_file(tables);
-	else
-		remove_begun_files();
+	if (options.names)
+		commit_file(names);
+	remove_begun_files();
 	close_port();
 	if (!options.quiet)
 		summary(now() - begun);
@@ -241,9 +274,10 @@ static int record(struct whole_file *report, struct whole_file *tables)
 
 int main(int count, char **texts)
 {
-	static struct whole_file report, tables;
+	static struct whole_file report, tables, names;
 
 	parse(count, texts);
+	number_sweep();
 	signal(SIGINT, on_signal);
 	signal(SIGTERM, on_signal);
 	signal(SIGHUP, on_signal);
@@ -253,7 +287,9 @@ int main(int count, char **texts)
 	begin_file(&report, options.file);
 	if (options.tables)
 		begin_file(&tables, options.tables);
+	if (options.names)
+		begin_file(&names, options.names);
 	if (fwrite("IBSMREP1", 8, 1, report.file) != 1)
 		end(NO_FABRIC, "cannot write %s: %s", options.file, strerror(errno));
-	return record(&report, &tables);
+	return record(&report, &tables, &names);
 }

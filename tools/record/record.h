@@ -6,7 +6,7 @@
 #include <stdint.h>
 #include <stdio.h>
 
-enum { NODE_INFO = 0x11, SWITCH_INFO = 0x12, PORT_INFO = 0x15, FORWARDING_TABLE = 0x19 };
+enum { NODE_DESCRIPTION = 0x10, NODE_INFO = 0x11, SWITCH_INFO = 0x12, PORT_INFO = 0x15, FORWARDING_TABLE = 0x19 };
 enum context { START, VIA, ABOUT };
 enum node_type { ADAPTER = 1, SWITCH = 2, ROUTER = 3 };
 enum { MOST_HOPS = 63, MOST_OUT = 64, PACKET = 256, ATTRIBUTE = 64, BLOCK = 64 };
@@ -28,7 +28,7 @@ struct request {
 };
 
 struct options {
-	char *adapter, *file, *tables;
+	char *adapter, *file, *tables, *names, *after;
 	int port, timeout_ms, tries, outstanding, quiet, verbose;
 	uint32_t generation;
 	uint64_t m_key;
@@ -74,5 +74,14 @@ size_t known_nodes(void);
 /* Reads the forwarding tables; 0 where a reply about a node that is known is missing. */
 int read_tables(void);
 void print_tables(FILE *file);
+/* Asks each node for its name; one that does not answer has none. */
+void read_names(void);
+void print_names(FILE *file);
+
+/* names.c */
+void print_name(FILE *file, uint64_t guid, const uint8_t *name, int is_shared);
+
+/* generation.c: the newest generation of a recording or a store file, its floor among them; 0 where it has none. */
+uint32_t newest_in(const char *name);
 
 #endif

@@ -1,4 +1,4 @@
-/* The report file, and which replies it takes. Files are written under another name, and renamed once whole. */
+/* The recording, and which replies it takes. Files are written under another name, and renamed once whole. */
 #include <errno.h>
 #include <signal.h>
 #include <stdlib.h>
@@ -7,7 +7,7 @@
 #include <unistd.h>
 #include "record.h"
 
-enum { MOST_FILES = 2, MOST_PORTS = 254, CLASS = 0x81, ANSWER = 0x81, RECORD_HEAD = 16 };
+enum { MOST_FILES = 3, MOST_PORTS = 254, CLASS = 0x81, ANSWER = 0x81, RECORD_HEAD = 16 };
 
 static char *begun[MOST_FILES];
 

@@ -12,6 +12,8 @@ struct node {
 	uint16_t top;		/* of a switch, and its table in whole blocks up to there */
 	uint8_t *table;
 	uint8_t asked[256];	/* of an adapter: ports whose PortInfo was asked */
+	uint8_t *name;		/* ends with 0; NULL where it was not asked or told */
+	int is_shared;		/* another node has this name too */
 };
 
 struct lid {
@@ -214,6 +216,26 @@ int read_tables(void)
 	return !missing;
 }
 
+static void take_name(const struct request *request, uint8_t *reply)
+{
+	struct node *node = find(request->guid);
+
+	if (!is_good(request, reply) || !reply[ATTRIBUTE])
+		return;
+	node->name = more(NULL, BLOCK + 1, 1);
+	memcpy(node->name, reply + ATTRIBUTE, BLOCK);
+	node->name[BLOCK] = 0;
+}
+
+void read_names(void)
+{
+	size_t i;
+
+	for (i = 0; i < node_count; i++)
+		ask(&nodes[i].path, NODE_DESCRIPTION, 0, nodes[i].guid);
+	ask_all(take_name);
+}
+
 static int by_lid(const void *one, const void *other)
 {
 	const struct lid *a = one, *b = other;
@@ -242,6 +264,33 @@ static void print_switch(FILE *file, const struct node *node)
 			fprintf(file, "block %d ", i / BLOCK);
 		fprintf(file, i % BLOCK == BLOCK - 1 ? "%02x\n" : "%02x", node->table[i]);
 	}
+}
+
+static int by_name(const void *one, const void *other)
+{
+	struct node *const *a = one, *const *b = other;
+
+	return strcmp((const char *) (*a)->name, (const char *) (*b)->name);
+}
+
+/* Sorts the nodes, so that none is found by its GUID afterwards. */
+void print_names(FILE *file)
+{
+	struct node **named = more(NULL, node_count, sizeof *named);
+	size_t i, count = 0;
+
+	qsort(nodes, node_count, sizeof *nodes, by_guid);
+	for (i = 0; i < node_count; i++)
+		if (nodes[i].name)
+			named[count++] = &nodes[i];
+	qsort(named, count, sizeof *named, by_name);
+	for (i = 1; i < count; i++)
+		if (!by_name(&named[i - 1], &named[i]))
+			named[i - 1]->is_shared = named[i]->is_shared = 1;
+	free(named);
+	for (i = 0; i < node_count; i++)
+		if (nodes[i].name)
+			print_name(file, nodes[i].guid, nodes[i].name, nodes[i].is_shared);
 }
 
 /* In the form of a plan. Sorts the nodes, so that none is found by its GUID afterwards. */

@@ -1,0 +1,112 @@
+"""Switches and adapters in rows, from the top switches down, each row in an order in which few cables cross."""
+import collections
+
+# How often rows are ordered by their neighbours, from above and from below.
+SWEEPS = 6
+
+
+def distances(beside, starts):
+    """How many cables each node that can be reached is away from the nearest of these."""
+    found = dict.fromkeys(starts, 0)
+    waiting = collections.deque(found)
+    while waiting:
+        at = waiting.popleft()
+        for far in beside[at]:
+            if far not in found:
+                found[far] = found[at] + 1
+                waiting.append(far)
+    return found
+
+
+def components(beside, nodes):
+    """The parts of some nodes that cables join, each sorted, by their least nodes."""
+    left, found = set(nodes), []
+    for node in sorted(nodes):
+        if node in left:
+            left.discard(node)
+            part = [node]
+            for at in part:
+                near = [far for far in beside[at] if far in left]
+                left.difference_update(near)
+                part += dict.fromkeys(near)
+            found.append(sorted(part))
+    return found
+
+
+def tops(beside, bearing, roots=()):
+    """Of each component the switches at its top: the roots that are named, else those furthest from switches with adapters,
+    else the switch with the least way to the furthest."""
+    heights = distances(beside, sorted(bearing))
+    for part in components(beside, beside):
+        named = [switch for switch in part if switch in roots]
+        high = max((heights.get(switch, 0) for switch in part), default=0)
+        if named:
+            yield named
+        elif high:
+            yield [switch for switch in part if heights.get(switch, 0) == high]
+        else:
+            yield [min(part, key=lambda switch: (max(distances(beside, [switch]).values()), switch))]
+
+
+def ranks(beside, bearing, roots=()):
+    """The row of each switch: how many cables it is below the top of its component."""
+    return distances(beside, [switch for part in tops(beside, bearing, roots) for switch in part])
+
+
+def nested(beside, rank, nodes, row, order):
+    """Orders nodes so that what is joined below a row stands together in all rows below it."""
+    order += [node for node in nodes if rank[node] == row]
+    for part in components(beside, [node for node in nodes if rank[node] > row]):
+        nested(beside, rank, part, min(rank[node] for node in part), order)
+
+
+def crossings(rows, beside, place):
+    """How many pairs of cables between neighbouring rows cross."""
+    count = 0
+    for upper, lower in zip(rows, rows[1:]):
+        there = set(lower)
+        cables = sorted((place[node], place[far]) for node in upper for far in beside[node] if far in there)
+        ends = []
+        for _, end in cables:
+            count += sum(other > end for other in ends)
+            ends.append(end)
+    return count
+
+
+def places(rows):
+    """How far to the right each node stands: the nodes of a row are spread over the whole width."""
+    return {node: (i + 0.5) / len(row) for row in rows for i, node in enumerate(row)}
+
+
+def by_neighbours(rows, beside, is_down):
+    """Each row, from the top or from the bottom, in the order of the middle of its neighbours in the row before."""
+    found = [list(row) for row in rows]
+    steps = range(1, len(found)) if is_down else range(len(found) - 2, -1, -1)
+    for i in steps:
+        place = places(found)
+        before = set(found[i - 1 if is_down else i + 1])
+
+        def middle(node):
+            near = [place[far] for far in beside[node] if far in before]
+            return sum(near) / len(near) if near else place[node]
+
+        found[i].sort(key=middle)
+    return found
+
+
+def ordered(beside, rank):
+    """The rows of nodes, each in its order."""
+    order, best = [], None
+    for part in components(beside, rank):
+        nested(beside, rank, part, min(rank[node] for node in part), order)
+    rows = collections.defaultdict(list)
+    for node in order:
+        rows[rank[node]].append(node)
+    rows = [rows[row] for row in sorted(rows)]
+    # From below first, which keeps together what stands together at the bottom.
+    for is_down in [None, *[False, True] * SWEEPS]:
+        rows = rows if is_down is None else by_neighbours(rows, beside, is_down)
+        count = crossings(rows, beside, places(rows))
+        if best is None or count < best[0]:
+            best = count, rows
+    return best[1]
