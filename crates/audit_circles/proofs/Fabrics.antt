@@ -198,7 +198,7 @@ module _ (part : Part) (facts : Facts) (held : HeldPlan) (f : Fabric) (seen : Is
         rise.rises channel next (record { lid = lid; is_lid = some; switch = c.index; takes = takes })
 
     pub along : (place : ℕ) (hops : List Hop) (st end : Standing) (hop later : Hop) → Within st → Goes f lid st hops end → slice_get hops place ≡ Some hop
-        → slice_get hops (place + 1) ≡ Some later → IsChannel cells f hop channel → IsChannel cells f later next → Rises
+        → slice_get hops (suc place) ≡ Some later → IsChannel cells f hop channel → IsChannel cells f later next → Rises
     along place [] st end hop later within g a b c d = absurd (cc)
     along zero (h ∷ []) st end hop later within g a b c d = absurd (cc)
     along zero (h ∷ k ∷ hops) st end hop later within g a b c d =
@@ -221,5 +221,7 @@ pub channels_rise : ChannelsRise
 channels_rise facts held f origin numbers is_end seen rise hops t channel next turn =
     let part : Part = IsJoinedTo f origin in
     let within : part (vertex_of f t.source) = subst part (sym (own_vertex f t.source t.is_source.end_port)) t.is_source.in_part in
+    let after : turn.place + 1 ≡ suc turn.place = omega arith in
+    let next_there : slice_get hops (suc turn.place) ≡ Some turn.later = subst (λ (n : ℕ). slice_get hops n ≡ Some turn.later) after turn.later_is in
     along part facts held f seen (joined_closed f seen.is_fabric origin) t.lid t.is_lid numbers rise channel next turn.place hops (sent_from t.source) t.end
-    turn.hop turn.later within t.goes turn.hop_is turn.later_is turn.channel_is turn.next_is
+    turn.hop turn.later within t.goes turn.hop_is next_there turn.channel_is turn.next_is

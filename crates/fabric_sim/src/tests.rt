@@ -246,9 +246,15 @@ fn each_refusal(rt: HostRuntime) -> Result<(), Fail> {
 /// Where a ping comes to: the node, the port, and how many wires, or 99 for a node where it is lost.
 fn pinged(fabric: &Fabric, lid: u16) -> (usize, u8, usize) {
     match fabric.ping(at(3, 1), Lid::new(lid)) {
-        Ok(Ping::Reached(port, hops)) => (port.node.place(), port.port.number(), hops),
-        Ok(Ping::Lost(node)) => (node.place(), 0, 99),
+        Ok(ping) => spot(&ping),
         Err(_) => (99, 99, 99),
+    }
+}
+
+fn spot(ping: &Ping) -> (usize, u8, usize) {
+    match ping {
+        Ping::Reached(port, hops) => (port.node.place(), port.port.number(), *hops),
+        Ping::Lost(node) => (node.place(), 0, 99),
     }
 }
 

@@ -22,7 +22,7 @@ use Rattle.lft_blocks.specs.Plan.{PlanValue, plan_of}
 use Rattle.plan_steps.specs.Bound.{most_steps}
 use Rattle.plan_steps.specs.Phases.{Phase, phases_of}
 use Rattle.fabric_sim.specs.Simulation.{Simulation, fabric_of}
-use Rattle.fabric_sim.specs.Changes.{injected, joined}
+use Rattle.fabric_sim.specs.Changes.{injected, joined, lost, repeated}
 use Rattle.fabric_sim.specs.Delivery.{outcome_of, delivered}
 use Rattle.sweep.specs.Sweep.{Sweep, started}
 use Rattle.sweep_complete.specs.Complete.{IsWhole}
@@ -91,19 +91,19 @@ at_is = ap (λ (w : WorldValue). (commands_run nodes w between).now) begins
 
 alone_then : swept_world.managers ≡ seated_with swept ∷ []
 unfolding sent deliver_run lose_run repeat_run took_run handed_up step_run manager_in
-    joined fresh_agent injected delivered outcome_of answered get_of set_of changed_port with_bytes
+    joined fresh_agent injected lost repeated delivered outcome_of answered get_of set_of changed_port with_bytes
 alone_then = refl
 
 whole : IsWhole (sweep_in swept.sweep)
 unfolding sent deliver_run lose_run repeat_run took_run handed_up step_run manager_in
-    joined fresh_agent injected delivered outcome_of answered get_of set_of changed_port with_bytes
+    joined fresh_agent injected lost repeated delivered outcome_of answered get_of set_of changed_port with_bytes
 whole = record { done = refl; answered = refl; near = refl }
 
 -- what it was told ----------------------------------------------------------------------------------------------
 
 merged_all : swept.store ≡ merged_with no_facts told_by_agents
 unfolding sent deliver_run lose_run repeat_run took_run handed_up step_run manager_in
-    joined fresh_agent injected delivered outcome_of answered get_of set_of changed_port with_bytes
+    joined fresh_agent injected lost repeated delivered outcome_of answered get_of set_of changed_port with_bytes
 merged_all = refl
 
 abbrev all_told : Told
@@ -129,7 +129,7 @@ fault_from known_cells =
 
 may_write : writing_fault swept ≡ None
 unfolding fault_from sent deliver_run lose_run repeat_run took_run handed_up step_run manager_in
-    joined fresh_agent injected delivered outcome_of answered get_of set_of changed_port with_bytes
+    joined fresh_agent injected lost repeated delivered outcome_of answered get_of set_of changed_port with_bytes
 may_write = ap fault_from known
 
 -- the world when the steps of these phases are sent
@@ -138,7 +138,7 @@ writing_by phases = (sent (world_with swept_world.fabric (begun_with swept phase
 
 writes : (write_run swept_world 0).now ≡ writing_by (phases_from cells)
 unfolding write_run sent deliver_run lose_run repeat_run took_run handed_up step_run manager_in
-    joined fresh_agent injected delivered outcome_of answered get_of set_of changed_port with_bytes
+    joined fresh_agent injected lost repeated delivered outcome_of answered get_of set_of changed_port with_bytes
 writes =
     ap (λ (o : Option ManagerFault). (called_run (λ now. sent now 0) swept_world 0 (seated_with swept) o (writing_begun swept)).now) may_write
     ∙ ap (λ c. writing_by (phases_from c)) known
@@ -151,12 +151,12 @@ writer = manager_in written_world.managers
 
 alone_at_end : written_world.managers ≡ seated_with writer ∷ []
 unfolding sent deliver_run lose_run repeat_run took_run handed_up step_run manager_in
-    joined fresh_agent injected delivered outcome_of answered get_of set_of changed_port with_bytes
+    joined fresh_agent injected lost repeated delivered outcome_of answered get_of set_of changed_port with_bytes
 alone_at_end = refl
 
 is_written_then : is_written writer ≡ true
 unfolding sent deliver_run lose_run repeat_run took_run handed_up step_run manager_in
-    joined fresh_agent injected delivered outcome_of answered get_of set_of changed_port with_bytes
+    joined fresh_agent injected lost repeated delivered outcome_of answered get_of set_of changed_port with_bytes
 is_written_then = refl
 
 -- each Set that an agent takes is one of its own: by a test -------------------------------------------------------------
@@ -185,19 +185,19 @@ module _ (plan : PlanValue) (phases : List Phase) where
 
 kept : are_steps_kept (plan_of up_and_down 1 cells) (phases_from cells) (writing_by (phases_from cells)) 80 ≡ true
 unfolding sent deliver_run lose_run repeat_run took_run handed_up step_run manager_in
-    joined fresh_agent injected delivered outcome_of answered get_of set_of changed_port with_bytes
+    joined fresh_agent injected lost repeated delivered outcome_of answered get_of set_of changed_port with_bytes
 kept = refl
 
 -- the run ---------------------------------------------------------------------------------------------------------
 
 has_swept : is_some swept.sweep ≡ true
 unfolding sent deliver_run lose_run repeat_run took_run handed_up step_run manager_in
-    joined fresh_agent injected delivered outcome_of answered get_of set_of changed_port with_bytes
+    joined fresh_agent injected lost repeated delivered outcome_of answered get_of set_of changed_port with_bytes
 has_swept = refl
 
 planning_is : swept.planning ≡ in_pairs
 unfolding sent deliver_run lose_run repeat_run took_run handed_up step_run manager_in
-    joined fresh_agent injected delivered outcome_of answered get_of set_of changed_port with_bytes
+    joined fresh_agent injected lost repeated delivered outcome_of answered get_of set_of changed_port with_bytes
 planning_is = refl
 
 -- the phases of a manager, by its planning, its sweep and what it knows

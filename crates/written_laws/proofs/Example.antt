@@ -40,7 +40,7 @@ use Rattle.fabric_sim.specs.declared.delivered.Delivered.TheVariants.{Moved, Ans
 use Rattle.fabric_sim.specs.declared.fault.FabricFault.{FabricFault}
 use Rattle.fabric_sim.specs.declared.flight.Flight.{Flight}
 use Rattle.fabric_sim.specs.Simulation.{Simulation, fabric_of, flight_with, port_of}
-use Rattle.fabric_sim.specs.Changes.{injected, joined}
+use Rattle.fabric_sim.specs.Changes.{injected, joined, lost, repeated}
 use Rattle.fabric_sim.specs.Delivery.{outcome_of, delivered}
 use Rattle.sweep.specs.Sweep.{Sweep, started}
 use Rattle.sm_manager.specs.Manager.{Manager, begin_fault, new_manager, sweep_begun, with_sweep}
@@ -363,7 +363,7 @@ abbrev swept : Managing
 swept = after_manager_events between (sweeping_with 1)
 
 whole : IsWhole (sweep_in swept.manager.sweep)
-unfolding joined fresh_agent injected delivered outcome_of answered get_of set_of changed_port with_bytes
+unfolding joined fresh_agent injected lost repeated delivered outcome_of answered get_of set_of changed_port with_bytes
 whole = record { done = refl; answered = refl; near = refl }
 
 -- what it was told ----------------------------------------------------------------------------------------------
@@ -386,7 +386,7 @@ abbrev replies : List Told
 replies = told_by_agents ++ [] ∷ []
 
 merged_all : swept.manager.store ≡ merged_with no_facts replies
-unfolding joined fresh_agent injected delivered outcome_of answered get_of set_of changed_port with_bytes
+unfolding joined fresh_agent injected lost repeated delivered outcome_of answered get_of set_of changed_port with_bytes
 merged_all = refl
 
 abbrev all_told : Told
@@ -414,11 +414,11 @@ fault_from known_cells =
     (or_else (plan_fault 1 known_cells) (number_fault (swept.manager.counter + most_steps known_cells)))
 
 may_write : writing_fault swept.manager ≡ None
-unfolding fault_from joined fresh_agent injected delivered outcome_of answered get_of set_of changed_port with_bytes
+unfolding fault_from joined fresh_agent injected lost repeated delivered outcome_of answered get_of set_of changed_port with_bytes
 may_write = ap fault_from known
 
 writes : after_manager_event swept Write ≡ writing_by (phases_from cells)
-unfolding joined fresh_agent injected delivered outcome_of answered get_of set_of changed_port with_bytes
+unfolding joined fresh_agent injected lost repeated delivered outcome_of answered get_of set_of changed_port with_bytes
 writes =
     ap (λ o. record swept { manager = if is_none o then writing_begun swept.manager else swept.manager }) may_write
     ∙ ap (λ c. writing_by (phases_from c)) known
@@ -431,11 +431,11 @@ abbrev written : Managing
 written = after_manager_events after (writing_by (phases_from cells))
 
 is_written_then : is_written written.manager ≡ true
-unfolding joined fresh_agent injected delivered outcome_of answered get_of set_of changed_port with_bytes
+unfolding joined fresh_agent injected lost repeated delivered outcome_of answered get_of set_of changed_port with_bytes
 is_written_then = refl
 
 kept : are_kept (plan_of up_and_down 1 cells) (fabric_of bare) (port 0 1) (phases_from cells) after (writing_by (phases_from cells)) ≡ true
-unfolding joined fresh_agent injected delivered outcome_of answered get_of set_of changed_port with_bytes
+unfolding joined fresh_agent injected lost repeated delivered outcome_of answered get_of set_of changed_port with_bytes
 kept = refl
 
 -- the run ---------------------------------------------------------------------------------------------------------
@@ -452,7 +452,7 @@ at_is : at_writing beginning [] between ≡ swept
 at_is = ap (after_manager_events between) begun
 
 kept_then : AllKeep (plan_at swept) (own_sets beginning swept) after (after_manager_event swept Write)
-unfolding joined fresh_agent injected delivered outcome_of answered get_of set_of changed_port with_bytes
+unfolding joined fresh_agent injected lost repeated delivered outcome_of answered get_of set_of changed_port with_bytes
 kept_then =
     subst (AllKeep (plan_at swept) (own_sets beginning swept) after)
     (sym (ap (λ o. record swept { manager = if is_none o then writing_begun swept.manager else swept.manager }) may_write))
@@ -460,7 +460,7 @@ kept_then =
     (all_keep (plan_of up_and_down 1 cells) (fabric_of bare) (port 0 1) (phases_from cells) after (writing_by (phases_from cells)) kept))
 
 has_swept : is_some swept.manager.sweep ≡ true
-unfolding joined fresh_agent injected delivered outcome_of answered get_of set_of changed_port with_bytes
+unfolding joined fresh_agent injected lost repeated delivered outcome_of answered get_of set_of changed_port with_bytes
 has_swept = refl
 
 brings_up : BringsUp beginning [] between after
