@@ -1,5 +1,5 @@
 use Rattle.std.proofs.Common.{◌∙◌, ◌≤◌, length, sym, ap, arith}
-use Rattle.std.specs.List.{list_any}
+use Rattle.std.specs.List.{list_any, slice_get}
 use Rattle.std.specs.Option.{option_copied}
 use Rattle.std.proofs.lemmas.List.{take_all}
 use Rattle.sm_run.specs.Rooted.{is_switch_with}
@@ -8,12 +8,12 @@ use Rattle.sm_run.proofs.rooted.has_switch.Goals as goal
 
 pub loop-place-preserved : goal.loop-place-preserved
 loop-place-preserved c =
-    none_more c.args.topology.now.nodes c.args.guid c.loop-place.place c.unwrap.result.now (sym c.node.ensures.node ∙ ap option_copied c.unwrap.ensures)
+    none_more c.args.topology.now.nodes c.args.guid c.loop-place.place c.unwrap.result.now (ap (slice_get c.args.topology.now.nodes) (sym c.new.ensures) ∙ sym c.node.ensures.node ∙ ap option_copied c.unwrap.ensures)
     (sym c.is_switch_with.ensures ∙ c.if-is_switch_with.false) c.loop-place.invariant
 
 pub returns-then-is_switch_with : goal.returns-then-is_switch_with
 returns-then-is_switch_with c =
-    sym (one_found c.args.topology.now.nodes c.args.guid c.loop-place.place c.unwrap.result.now (sym c.node.ensures.node ∙ ap option_copied c.unwrap.ensures)
+    sym (one_found c.args.topology.now.nodes c.args.guid c.loop-place.place c.unwrap.result.now (ap (slice_get c.args.topology.now.nodes) (sym c.new.ensures) ∙ sym c.node.ensures.node ∙ ap option_copied c.unwrap.ensures)
     (sym c.is_switch_with.ensures ∙ c.if-is_switch_with.true))
 
 pub returns : goal.returns

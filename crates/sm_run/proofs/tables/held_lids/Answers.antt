@@ -1,6 +1,6 @@
 use Rattle.std.proofs.Common.{◌≡◌, ◌∙◌, ◌≤◌, length, sym, ap, arith, rules, of_calls}
 use Rattle.std.proofs.lemmas.Fn.{always_returns_same}
-use Rattle.std.specs.List.{flat_map}
+use Rattle.std.specs.List.{flat_map, slice_get}
 use Rattle.std.specs.Option.{option_copied}
 use Rattle.std.specs.Ordering.{is_lt}
 use Rattle.std.proofs.lemmas.List.{take_all}
@@ -12,7 +12,7 @@ use Rattle.sm_run.proofs.tables.held_lids.Goals as goal
 pub loop-place-preserved : goal.loop-place-preserved
 loop-place-preserved c =
     more_held c.args.fabric.now.agents c.loop-place.place c.unwrap.result.now c.loop-place.held.items c.hold_lids.new.held.items
-    (sym c.agent.ensures ∙ ap option_copied c.unwrap.ensures) c.loop-place.invariant c.in_ok-hold_lids.ensures
+    (ap (slice_get c.args.fabric.now.agents) (sym c.new.ensures) ∙ sym c.agent.ensures ∙ ap option_copied c.unwrap.ensures) c.loop-place.invariant c.in_ok-hold_lids.ensures
 
 pub returns : goal.returns
 returns c =

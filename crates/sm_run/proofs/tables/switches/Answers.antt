@@ -1,6 +1,6 @@
 use Rattle.std.proofs.Common.{◌≡◌, ◌∙◌, ◌≤◌, ◌++◌, ◌∷◌, [], cond, length, map, sym, ap, arith, rules, of_calls}
 use Rattle.std.specs.Borrow.{Bor}
-use Rattle.std.specs.List.{filter}
+use Rattle.std.specs.List.{filter, slice_get}
 use Rattle.std.specs.Option.{option_copied}
 use Rattle.std.specs.Ordering.{is_lt, nat_cmp}
 use Rattle.std.proofs.lemmas.Fn.{always_returns_same}
@@ -20,7 +20,7 @@ loop-place-preserved c =
     let a = c.unwrap-agent.result in
     let old = map here c.loop-place.switches.items in
     more_switches c.args.fabric.now.agents c.loop-place.place a.now old _
-    (sym c.agent.ensures ∙ ap option_copied c.unwrap-agent.ensures) c.loop-place.invariant
+    (ap (slice_get c.args.fabric.now.agents) (sym c.new.ensures) ∙ sym c.agent.ensures ∙ ap option_copied c.unwrap-agent.ensures) c.loop-place.invariant
     (elim c.if-is_switch.branch [
       | then-is_switch+in_ok-push w ↦ ap (λ v. map here v.items) w.switches-is ∙ ap (map here) w.in_ok-push.ensures.items
           ∙ map-append here c.loop-place.switches.items (a ∷ []) ∙ ap (λ b. old ++ cond b (a.now ∷ []) []) (sym w.if-is_switch.true ∙ c.is_switch.ensures)
