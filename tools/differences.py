@@ -5,8 +5,10 @@ from ibsm_texts import ENTRIES, NO_WAY, name_of
 
 
 def entries_of(plan, lids_wanted):
-    return {guid: {lid: plan.entry(guid, lid) for lid in lids_wanted(guid) if plan.entry(guid, lid) != NO_WAY}
-            for guid in plan.tables}
+    return {
+        guid: {lid: plan.entry(guid, lid) for lid in lids_wanted(guid) if plan.entry(guid, lid) != NO_WAY}
+        for guid in plan.tables
+    }
 
 
 def names_differ(plan, held, called=("plan", "fabric")):
