@@ -95,4 +95,7 @@ def plans_apart(old, new):
             lines.append(f"come switch {guid:016x} blocks {blocks[guid]}")
         elif entries[guid] or blocks[guid]:
             lines.append(f"switch {guid:016x} entries {entries[guid]} blocks {blocks[guid]}")
-    return lines, f"{entries.total()} entries differ on {len(entries)} switches, blocks to write: {sum(blocks.values())}"
+    return (
+        lines,
+        f"{entries.total()} entries differ on {len(entries)} switches, blocks to write: {sum(blocks.values())}",
+    )

@@ -73,7 +73,8 @@ def rounds(room):
             f"round {words}: says `{verdict}`, not `{told['verdict']}`",
         )
         room.check(
-            list(told["seconds"])[-1] == step and told["began"] <= told["ended"], f"round {words}: the steps until {step}"
+            list(told["seconds"])[-1] == step and told["began"] <= told["ended"],
+            f"round {words}: the steps until {step}",
         )
         return told
 
@@ -126,14 +127,21 @@ def rounds(room):
     fab(plan=plan)
     room.check(not has_written(), "none of these writes")
     ends(
-        "--routing spread --lmc 0 --ca mlx5_0 --port 1", 0, "write", "written for OpenSM, and not sent: 2 entries, 2 blocks"
+        "--routing spread --lmc 0 --ca mlx5_0 --port 1",
+        0,
+        "write",
+        "written for OpenSM, and not sent: 2 entries, 2 blocks",
     )
-    room.check(has_written() and "--ca mlx5_0 --port 1 --quiet" in room.text("fab/asked"), "options are handed to record")
+    room.check(
+        has_written() and "--ca mlx5_0 --port 1 --quiet" in room.text("fab/asked"), "options are handed to record"
+    )
     room.check("plan --routing spread --lmc 0 rd/now.reports\n" in room.text("fab/planned"), "and to ibsm plan")
     room.check(room.text("rd/first.held") == room.text("round.plan"), "what was held at first is kept")
     with fake_opensm(room) as process:
         told = ends(f"--opensm {process}", 0, "audit", "the subnet holds the plan")
-        room.check(room.text("rd/after.held") == plan and room.text("fab/log").count("UP") == 1, "OpenSM was asked once")
+        room.check(
+            room.text("rd/after.held") == plan and room.text("fab/log").count("UP") == 1, "OpenSM was asked once"
+        )
         ends(f"--opensm {process}", 0, "audit", "the subnet holds the plan")
         room.check(room.text("fab/log").count("UP") == 1, "and not where nothing differs")
         fab(facts=room.text("moved.facts"), held=room.text("round.plan"))
