@@ -106,6 +106,7 @@ def rounds(room):
             "moved_lids": 0,
             "entries": 2,
             "blocks": 2,
+            "tops_above": 0,
             "differences": 2,
         },
         f"counts: {told['counts']}",
@@ -154,8 +155,12 @@ def rounds(room):
             "holds",
             "the subnet does not hold the plan: 1 entries differ on 1 switches, blocks to write: 1; switch 0000000000000010 entries 1",
         )
+        fab(held=room.text("top.plan"), written=plan)
+        told = ends(f"--opensm {process}", 0, "audit", "the subnet holds the plan, but for greater tops on 1 switches")
+        room.check(told["counts"]["tops_above"] == 1 and told["counts"]["differences"] == 0, "a greater top is no difference")
         fab(held=room.text("round.plan"), deaf="")
         ends(f"--opensm {process} --wait 0.3", 1, "opensm", "fab/log does not say SUBNET UP within 0.3 seconds")
+        fab(held=room.text("round.plan"))
         ends(f"--opensm {process} --log fab/nothing", 4, "opensm", "fab/nothing")
     ends(f"--opensm {os.getpid()}", 3, "opensm", "not opensm")
     ends("--opensm 99999999", 3, "opensm", "there is no process 99999999")
