@@ -5,8 +5,10 @@ from ibsm_texts import ENTRIES, NO_WAY, name_of
 
 
 def entries_of(plan, lids_wanted):
-    return {guid: {lid: plan.entry(guid, lid) for lid in lids_wanted(guid) if plan.entry(guid, lid) != NO_WAY}
-            for guid in plan.tables}
+    return {
+        guid: {lid: plan.entry(guid, lid) for lid in lids_wanted(guid) if plan.entry(guid, lid) != NO_WAY}
+        for guid in plan.tables
+    }
 
 
 def names_differ(plan, held, called=("plan", "fabric")):
@@ -93,4 +95,7 @@ def plans_apart(old, new):
             lines.append(f"come switch {guid:016x} blocks {blocks[guid]}")
         elif entries[guid] or blocks[guid]:
             lines.append(f"switch {guid:016x} entries {entries[guid]} blocks {blocks[guid]}")
-    return lines, f"{entries.total()} entries differ on {len(entries)} switches, blocks to write: {sum(blocks.values())}"
+    return (
+        lines,
+        f"{entries.total()} entries differ on {len(entries)} switches, blocks to write: {sum(blocks.values())}",
+    )

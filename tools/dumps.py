@@ -54,7 +54,9 @@ class Dump:
             raise Refused(f"line {number} has no LID and port")
         lid, port = int(entry[1], 16), int(entry[2])
         if self.tables[at].setdefault(lid, port) != port:
-            raise Refused(f"line {number}: switch {at:016x} has another port for LID {lid} further up: are these dumps of two times?")
+            raise Refused(
+                f"line {number}: switch {at:016x} has another port for LID {lid} further up: are these dumps of two times?"
+            )
         if owner := re.search(r"portguid 0x([0-9a-f]+)", line):
             if self.named.setdefault(lid, int(owner[1], 16)) != int(owner[1], 16):
                 raise Refused(f"line {number}: LID {lid} has another owner further up: are these dumps of two times?")

@@ -19,9 +19,7 @@ FACTS = {
     "claim": (END, NUMBER),
     "cap": (GUID, NUMBER),
 }
-FORMS = {
-    kind: re.compile(f"{kind} {about} (?:(disputed)|{value}) @{NUMBER}") for kind, (about, value) in FACTS.items()
-}
+FORMS = {kind: re.compile(f"{kind} {about} (?:(disputed)|{value}) @{NUMBER}") for kind, (about, value) in FACTS.items()}
 # The first line, where there is a floor over 1: what is older was forgotten.
 FLOOR = re.compile(f"floor {NUMBER}")
 NO_WAY = 255
@@ -58,7 +56,9 @@ def ends(tool, doc, work):
 def as_called(doc):
     """A tool's help, with the name by which it was installed and called in place of its own."""
     called = pathlib.Path(sys.argv[0])
-    return doc if called.resolve().parent.name == "tools" else doc.replace(f"tools/{called.resolve().name}", called.name)
+    return (
+        doc if called.resolve().parent.name == "tools" else doc.replace(f"tools/{called.resolve().name}", called.name)
+    )
 
 
 def usage_of(doc):
@@ -104,6 +104,7 @@ NAMED = re.compile(r"\b(?:0x)?([0-9a-f]{16})(?:/[0-9]{1,3})?(?![0-9A-Za-z_])")
 
 def with_names(line, names):
     """A line with names behind its GUIDs and ends."""
+
     def told(found):
         name = names.get(int(found[1], 16))
         return found[0] if name is None else f'{found[0]} "{name}"'
@@ -200,7 +201,6 @@ class Facts:
         if far is None or far == end or self.links.get(far) != end or not (self.up.get(end) and self.up.get(far)):
             return None
         return far
-
 
     def cables(self):
         """Each cable once: its ends, and whether it is `up`, `down`, or told by `one` end."""

@@ -21,5 +21,7 @@ def printed_by(program, *words, statuses=(0,)):
     """What a run of the program prints; a run with another exit status is refused, with what it said."""
     run = subprocess.run([program, *map(str, words)], capture_output=True, text=True, stdin=subprocess.DEVNULL)
     if run.returncode not in statuses:
-        raise Refused(f"{' '.join(['ibsm', *map(str, words)])}: {(run.stderr.strip() or f'status {run.returncode}').splitlines()[-1]}")
+        raise Refused(
+            f"{' '.join(['ibsm', *map(str, words)])}: {(run.stderr.strip() or f'status {run.returncode}').splitlines()[-1]}"
+        )
     return run.stdout

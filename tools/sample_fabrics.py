@@ -218,6 +218,17 @@ def two_ports(count):
     return fabric
 
 
+def half_linked(count):
+    """A ring whose adapters have two ports, one of them without a cable."""
+    fabric = Fabric()
+    switches = fabric.switches(count)
+    for i, switch in enumerate(switches):
+        fabric.join(fabric.add(ADAPTER, f"H{i + 1}", 0x1000000 + 16 * i, 2), switch)
+    for one, other in zip(switches, switches[1:] + switches[:1]):
+        fabric.join(one, other)
+    return fabric
+
+
 def torus(rows, columns):
     """Switches in rows and columns that close to rings, with an adapter at each."""
     fabric = Fabric()

@@ -1,0 +1,199 @@
+"""What `tools/test-files` tries of whole rounds, over scripts that stand in for a subnet, in its room."""
+
+import contextlib
+import fcntl
+import json
+import os
+import pathlib
+import re
+import subprocess
+import sys
+import time
+
+# Stand in for a subnet: what it says and holds is in the folder fab. A recording is there the text of its facts.
+FAKE_RECORD = """#!/bin/sh
+for word; do tables=$file; file=$word; done
+echo "$*" >>fab/asked
+cp fab/facts "$file"
+status=$(cat fab/status)
+[ "$status" = 0 ] && cp fab/held "$tables"
+[ "$status" = 0 ] || echo "record: NOT WHOLE: 1 requests without a reply" >&2
+exit "$status"
+"""
+FAKE_IBSM = """#!/bin/sh
+for word; do last=$word; done
+case $1 in
+facts) cat "$last" ;;
+plan) echo "$*" >>fab/planned; cat fab/plan ;;
+audit) cat fab/audit; grep -q ' arrive 25$' fab/audit ;;
+esac
+"""
+FAKE_OPENSM = """#!/bin/sh
+trap 'cp fab/written fab/held; [ -f fab/deaf ] || echo "SUBNET UP" >>fab/log' HUP
+echo ready >>fab/log
+while :; do sleep 0.02; done
+"""
+
+
+@contextlib.contextmanager
+def fake_opensm(room):
+    """A process that is called opensm and writes what it is told at HUP; it is ended by its id."""
+    process = subprocess.Popen([room.path / "opensm"], cwd=room.path, stdin=subprocess.DEVNULL)
+    try:
+        end = time.monotonic() + 10
+        while "ready" not in room.text("fab/log") and time.monotonic() < end:
+            time.sleep(0.02)
+        yield process.pid
+    finally:
+        process.kill()
+        process.wait()
+
+
+def rounds(room):
+    """Rounds of a subnet that scripts stand in for: how each ends, and what was written by then."""
+    for name, script in (("record", FAKE_RECORD), ("ibsm", FAKE_IBSM), ("opensm", FAKE_OPENSM)):
+        (room.path / name).write_text(script)
+        (room.path / name).chmod(0o755)
+    (room.path / "fab").mkdir()
+    facts, plan = room.text("t.facts"), room.text("t.plan")
+    whole = "pairs 25 arrive 25\n"
+
+    def fab(**texts):
+        for name, text in texts.items():
+            (room.path / "fab" / name).write_text(text)
+
+    def ends(words, status, step, verdict):
+        """A round ends so, and says so in status.json too."""
+        printed = room.run(f"round rd --ibsm ./ibsm --record ./record --log fab/log {words}", status)
+        told = json.loads(room.text("rd/status.json"))
+        wanted = {"status": status, "step": step, "verdict": told["verdict"]}
+        room.check(all(told[word] == value for word, value in wanted.items()), f"round {words}: {told}")
+        room.check(
+            verdict in told["verdict"] and printed == f"{step}: {told['verdict']}\n",
+            f"round {words}: says `{verdict}`, not `{told['verdict']}`",
+        )
+        room.check(
+            list(told["seconds"])[-1] == step and told["began"] <= told["ended"],
+            f"round {words}: the steps until {step}",
+        )
+        return told
+
+    def has_written():
+        return (room.path / "rd/plan.lfts").exists()
+
+    fab(
+        facts=facts,
+        plan=plan,
+        held=room.text("round.plan"),
+        written=plan,
+        audit=whole,
+        status="0",
+        log="",
+        asked="",
+        planned="",
+    )
+    told = ends("--look", 0, "compare", "looked only: 2 entries differ on 2 switches, blocks to write: 2")
+    room.check(
+        told["counts"]
+        == {
+            "nodes": 5,
+            "switches": 3,
+            "cables": 5,
+            "pairs": 25,
+            "arrive": 25,
+            "lids": 5,
+            "first_lids": 5,
+            "moved_lids": 0,
+            "entries": 2,
+            "blocks": 2,
+            "tops_above": 0,
+            "differences": 2,
+        },
+        f"counts: {told['counts']}",
+    )
+    fab(status="1")
+    ends("", 1, "record", "the record has gaps: record: NOT WHOLE")
+    fab(status="4")
+    ends("", 4, "record", "record: record: NOT WHOLE")
+    fab(status="0", facts=room.text("disputed.facts"))
+    ends("", 1, "facts", "1 facts are disputed, as `claim` of 0000000000000100/1")
+    fab(facts=facts, audit="pairs 25 arrive 24\nlost x\n")
+    ends("", 1, "audit-plan", "the audit of now.plan fails: lost x")
+    fab(audit=whole, facts=room.text("moved.facts"))
+    ends("", 1, "lids", "1 LIDs would move, as that of 0000000000000100/1 from 77 to 4")
+    fab(facts=facts, plan=room.text("hole.plan"))
+    ends("", 3, "write", "opensm-files: nothing is written")
+    fab(plan="nonsense\n")
+    ends("", 3, "lids", "no line of a plan")
+    fab(plan=plan)
+    room.check(not has_written(), "none of these writes")
+    ends(
+        "--routing spread --lmc 0 --ca mlx5_0 --port 1",
+        0,
+        "write",
+        "written for OpenSM, and not sent: 2 entries, 2 blocks",
+    )
+    room.check(
+        has_written() and "--ca mlx5_0 --port 1 --quiet" in room.text("fab/asked"), "options are handed to record"
+    )
+    room.check("plan --routing spread --lmc 0 rd/now.reports\n" in room.text("fab/planned"), "and to ibsm plan")
+    room.check(room.text("rd/first.held") == room.text("round.plan"), "what was held at first is kept")
+    with fake_opensm(room) as process:
+        told = ends(f"--opensm {process}", 0, "audit", "the subnet holds the plan")
+        room.check(
+            room.text("rd/after.held") == plan and room.text("fab/log").count("UP") == 1, "OpenSM was asked once"
+        )
+        ends(f"--opensm {process}", 0, "audit", "the subnet holds the plan")
+        room.check(room.text("fab/log").count("UP") == 1, "and not where nothing differs")
+        fab(facts=room.text("moved.facts"), held=room.text("round.plan"))
+        told = ends(f"--opensm {process} --move-lids", 0, "audit", "the subnet holds the plan")
+        room.check(told["counts"]["moved_lids"] == 1 and told["counts"]["changes"] == 0, "a LID may move")
+        fab(facts=facts, held=room.text("round.plan"), written=room.text("hole.plan"))
+        ends(
+            f"--opensm {process}",
+            1,
+            "holds",
+            "the subnet does not hold the plan: 1 entries differ on 1 switches, blocks to write: 1; switch 0000000000000010 entries 1",
+        )
+        fab(held=room.text("top.plan"), written=plan)
+        told = ends(f"--opensm {process}", 0, "audit", "the subnet holds the plan, but for greater tops on 1 switches")
+        room.check(told["counts"]["tops_above"] == 1 and told["counts"]["differences"] == 0, "a greater top is no difference")
+        fab(held=room.text("round.plan"), deaf="")
+        ends(f"--opensm {process} --wait 0.3", 1, "opensm", "fab/log does not say SUBNET UP within 0.3 seconds")
+        fab(held=room.text("round.plan"))
+        ends(f"--opensm {process} --log fab/nothing", 4, "opensm", "fab/nothing")
+    ends(f"--opensm {os.getpid()}", 3, "opensm", "not opensm")
+    ends("--opensm 99999999", 3, "opensm", "there is no process 99999999")
+    watched(room)
+    with open(room.path / "rd/lock", "w") as lock:
+        fcntl.flock(lock, fcntl.LOCK_EX)
+        room.refused("round rd --ibsm ./ibsm --record ./record", "in use")
+    room.refused("round rd --ibsm ./nothing --record ./record", "no program ./nothing", 4)
+    room.refused("round rd --ibsm ./ibsm --record ./nothing", "no program record", 4)
+    for words in ("", "rd --lmc 8", "rd --opensm x", "rd --routing other"):
+        room.run(f"round {words}", 2)
+
+
+def watched(room):
+    """Rounds go on until a signal, one line for each."""
+    words = [
+        sys.executable,
+        pathlib.Path(__file__).parent / "round",
+        "rd",
+        "--ibsm",
+        "./ibsm",
+        "--record",
+        "./record",
+        "--look",
+        "--watch",
+        "0.05",
+    ]
+    process = subprocess.Popen(words, cwd=room.path, stdout=subprocess.PIPE, text=True, stdin=subprocess.DEVNULL)
+    lines = [process.stdout.readline() for _ in range(3)]
+    process.terminate()
+    process.communicate()
+    room.check(
+        all(re.fullmatch(r"\S+ status 0 compare: looked only: .*\n", line) for line in lines),
+        f"a line for each round: {lines}",
+    )
+    room.check(process.returncode == 143, f"a signal ends them: {process.returncode}")
