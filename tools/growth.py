@@ -19,6 +19,8 @@ TIMES, SLACK = 5, 2
 # Processor time that tells nothing, in microseconds.
 LEAST = 20000
 SPREAD = "--routing", "spread"
+# The GUID of a switch that has no wire.
+LONE = 0x8000
 
 
 # Counting --------------------------------------------------------------------------------------------
@@ -240,8 +242,25 @@ def check_all(program, folder):
         costs.at_most(cost, costs.known[one], limit, f"{title}, of twice the size")
         if costs.counter.is_exact:
             check(cost <= most * 10**6, f"{title}: {cost} instructions in place of {most} millions by {costs.counter.name}")
+    check_apart(costs)
     check_steady(costs)
     return f"at-scale: {len(costs.known)} costs by {costs.counter.name}"
+
+
+def check_apart(costs):
+    """A switch more that no wire leads to costs a plan no more than its own table."""
+    whole = known(costs, 40, 25)
+
+    def made():
+        more = (make.NODE, bytes([make.SWITCH, 1])), (make.PORT_GUID, LONE.to_bytes(8, "big")), (make.CAP, (49152).to_bytes(2, "big"))
+        cells = [*tree_of(40, 25).cells(), *(make.cell(kind, LONE, 0, value) for kind, value in more)]
+        return make.store(*sorted(cells, key=lambda it: (it[0], it[8:16], it[2])))
+
+    apart = costs.put("apart", made)
+    for options in (), SPREAD:
+        one, two = ("plan", *options, whole), ("plan", *options, apart)
+        costs.take([one, two])
+        costs.at_most(costs.known[two], costs.known[one], 1.1, f"a plan by {options}, with a switch apart")
 
 
 def check_steady(costs):

@@ -79,8 +79,8 @@ def check_ranges(room):
     for lmc in 1, 3:
         for rule in "updown", "spread":
             room.prints(tree.plan(lmc), "plan", "--lmc", str(lmc), "--routing", rule, "ranges")
-    # Its tables behind comments that are over 4 MiB by themselves.
-    room.put("long.plan", padded("# ", LINES) + tree.plan())
+    # Its tables behind comments that are over 5 MB by themselves.
+    room.put("long.plan", padded("# ", 80000) + tree.plan())
     room.prints(tree.audit()[2], "audit", "long.plan", "ranges")
 
 
