@@ -100,7 +100,7 @@ def check_switches(room):
     lids = set()
     for options in (), SPREAD, (*SPREAD, "--roots", "roots"):
         plan = room.run("plan", *options, "switches")
-        lids.add(plan[: plan.index(b"switch")])
+        lids.add(plan.partition(b"switch")[0])
         room.put("switches.plan", plan)
         lines = room.run("audit", "switches.plan", "switches").decode().splitlines(True)
         wanted = audits.counted(ends**2, adapters**2)
@@ -136,9 +136,9 @@ def check_rooted_run(room):
     room.put("roots", "".join(f"0x{guid:x}\n" for guid in fabric.switches[10:80]))
     room.put("swept", f'manager A "{fabric.adapters[0]:x}"[1] 1\nsweep A\ndrain 1000000\nfacts A\nplan A\n')
     printed = room.run("run", *SPREAD, "--roots", "roots", "hundred", "swept")
-    end = printed.index(b"lid ")
-    room.put("known", make.store_of(printed[:end].decode()))
-    room.prints(printed[end:], "plan", *SPREAD, "--roots", "roots", "known")
+    facts, lid, plan = printed.partition(b"lid ")
+    room.put("known", make.store_of(facts.decode()))
+    room.prints(lid + plan, "plan", *SPREAD, "--roots", "roots", "known")
 
 
 def polled(times):
@@ -159,7 +159,7 @@ def check_lines(room):
     # Each poll and its answer are one packet each.
     text = "state B standby\npacket {} \"H2\"\n"
     room.put("few", polled(1000))
-    serial = int(room.run("run", "short", "few").split()[4])
+    serial = int((room.run("run", "short", "few").split() + [0] * 5)[4])
     room.put("many", polled(LINES))
     room.prints(text.format(serial + 2 * (LINES - 1000)), "run", "long", "many")
 
