@@ -1,7 +1,7 @@
 /*
  * A library to be loaded before a program (LD_PRELOAD): it refuses one of the program's calls, or cuts it short.
  *
- * REFUSE names what, and REFUSE_AT the number of the call, from 1, or `every`: `alloc` has an allocation answer that there
+ * REFUSE names what, and REFUSE_AT the number of the call, from 1, or `K+N`, N calls from the K-th on, or `every`: `alloc` has an allocation answer that there
  * is no memory, `read`, `write` and `open` fail, `again-read` and `again-write` fail since they would have to wait, `late-read`
  * and `late-write` since they took too long, `interrupted-read` and `interrupted-write` are interrupted before a byte is
  * moved, `empty-write` takes none, `short-read` and `short-write` move one byte. What is written is standard output; `say`,
@@ -39,11 +39,20 @@ static const char *kind(void)
 static int is_now(const char *wanted)
 {
 	const char *at = getenv("REFUSE_AT");
+	unsigned long first, count = 1;
+	char *rest;
 
 	if (strcmp(kind(), wanted) != 0)
 		return 0;
 	calls++;
-	return at && (strcmp(at, "every") == 0 || strtoul(at, NULL, 10) == calls);
+	if (!at)
+		return 0;
+	if (strcmp(at, "every") == 0)
+		return 1;
+	first = strtoul(at, &rest, 10);
+	if (*rest == '+')
+		count = strtoul(rest + 1, NULL, 10);
+	return calls >= first && calls - first < count;
 }
 
 static void *no_memory(void)

@@ -9,6 +9,7 @@ use std::alloc::Global;
 mod controls;
 mod ranks;
 mod sweeps;
+mod texts;
 
 /// The statuses of answers: done, a field that is not valid, and a method that is not supported.
 const DONE: Status = Status(0);

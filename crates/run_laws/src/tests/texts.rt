@@ -1,0 +1,193 @@
+//! What `{}` says of each fault whose text no clause names.
+use fabric_sim::FabricFault;
+use fact_store::{IngestFault, Refused, ReportFault};
+use lid_assign::{LidFault, NoRoom};
+use record_file::{FileFault, ReadError, WriteFault};
+use schedule_file::ScheduleFault;
+use sm_cli::{Fault, TextFault};
+use sm_manager::ManagerFault;
+use smp_bytes::{Guid, SmpFault};
+use std::alloc::Global;
+use std::fmt::Display;
+use sweep::SweepFault;
+use topo_file::TopoFault;
+
+const REPORTS: [(ReportFault, &str); 16] = [
+    (ReportFault::Generation, "Generation"),
+    (ReportFault::Smp(SmpFault::BaseVersion), "BaseVersion"),
+    (ReportFault::Smp(SmpFault::Class), "Class"),
+    (ReportFault::Smp(SmpFault::ClassVersion), "ClassVersion"),
+    (ReportFault::Smp(SmpFault::HopCount), "HopCount"),
+    (ReportFault::Smp(SmpFault::HopPointer), "HopPointer"),
+    (ReportFault::Smp(SmpFault::DrLid), "DrLid"),
+    (ReportFault::Class, "Class"),
+    (ReportFault::Method, "Method"),
+    (ReportFault::Direction, "Direction"),
+    (ReportFault::Status, "Status"),
+    (ReportFault::Attribute, "Attribute"),
+    (ReportFault::Context, "Context"),
+    (ReportFault::Modifier, "Modifier"),
+    (ReportFault::NodeType, "NodeType"),
+    (ReportFault::Port, "Port"),
+];
+
+const STORES: [(IngestFault, &str); 2] = [
+    (IngestFault::Report(ReportFault::Status), "Status"),
+    (IngestFault::Memory, "out of memory"),
+];
+
+const REFUSED: [(Refused, &str); 1] = [(Refused::Memory, "out of memory")];
+
+/// Two numbers that differ.
+const NO_ROOM: NoRoom = NoRoom {
+    endports: 70000,
+    room: 512,
+};
+
+const LIDS: [(LidFault, &str); 2] = [
+    (LidFault::NoRoom(NO_ROOM), "NoRoom"),
+    (LidFault::Memory, "Memory"),
+];
+
+const SWEEPS: [(SweepFault, &str); 4] = [
+    (SweepFault::NotOutstanding, "NotOutstanding"),
+    (SweepFault::Bad(ReportFault::Method), "Method"),
+    (SweepFault::SequenceSpent, "SequenceSpent"),
+    (SweepFault::Memory, "Memory"),
+];
+
+const MANAGERS: [(ManagerFault, &str); 11] = [
+    (ManagerFault::GenerationsSpent, "GenerationsSpent"),
+    (ManagerFault::SweepRunning, "SweepRunning"),
+    (ManagerFault::NotMaster, "NotMaster"),
+    (ManagerFault::WritingRunning, "WritingRunning"),
+    (ManagerFault::NotStandby, "NotStandby"),
+    (ManagerFault::Nobody, "Nobody"),
+    (ManagerFault::SequenceSpent, "SequenceSpent"),
+    (ManagerFault::NoRoom(NO_ROOM), "NoRoom"),
+    (
+        ManagerFault::Sweep(SweepFault::NotOutstanding),
+        "NotOutstanding",
+    ),
+    (ManagerFault::Unasked, "Unasked"),
+    (ManagerFault::Memory, "Memory"),
+];
+
+const FABRICS: [(FabricFault, &str); 5] = [
+    (FabricFault::NoSuchPacket, "NoSuchPacket"),
+    (FabricFault::NoSuchPort, "NoSuchPort"),
+    (FabricFault::PortTaken, "PortTaken"),
+    (FabricFault::Memory, "Memory"),
+    (FabricFault::SerialsSpent, "SerialsSpent"),
+];
+
+const BAD: FileFault = FileFault::BadReport {
+    index: 3,
+    fault: ReportFault::Port,
+};
+
+const FILES: [(FileFault, &str); 9] = [
+    (FileFault::Magic, "bad magic"),
+    (FileFault::Truncated { offset: 280 }, "truncated at 280"),
+    (BAD, "bad report 3: Port"),
+    (FileFault::BadCell { index: 4 }, "bad cell 4"),
+    (FileFault::CellOrder { index: 5 }, "cell out of order 5"),
+    (FileFault::Read, "read failed"),
+    (FileFault::Memory, "out of memory"),
+    (FileFault::TooLong, "too long"),
+    (FileFault::BadFloor, "bad floor"),
+];
+
+const READS: [(ReadError, &str); 2] = [
+    (ReadError::Failed, "read failed"),
+    (ReadError::Interrupted, "interrupted"),
+];
+
+const WRITES: [(WriteFault, &str); 1] = [(WriteFault::Write, "write failed")];
+
+/// What is wrong with the third line.
+const PEER: TopoFault = TopoFault::Peer { line: 3 };
+
+const SEAT: ScheduleFault = ScheduleFault::Seat { line: 3 };
+
+const LID: plan_file::TextFault = plan_file::TextFault::Line(plan_file::LineFault {
+    line: 3,
+    wrong: plan_file::Wrong::Lid,
+});
+
+const AGAIN: roots_file::TextFault = roots_file::TextFault::Line(roots_file::LineFault {
+    line: 3,
+    wrong: roots_file::Wrong::Repeated,
+});
+
+const TEXTS: [(TextFault, &str); 6] = [
+    (TextFault::NotUtf8, "not UTF-8"),
+    (TextFault::Topology(PEER), "line 3: peer"),
+    (TextFault::Schedule(SEAT), "line 3: seat"),
+    (TextFault::Tables(LID), "line 3: lid"),
+    (TextFault::Roots(AGAIN), "line 3: repeated"),
+    (TextFault::NoRoot, "no root"),
+];
+
+const RUNS: [(Fault, &str); 6] = [
+    (Fault::Open { place: 1 }, "cannot open"),
+    (
+        Fault::File {
+            place: 1,
+            fault: BAD,
+        },
+        "bad report 3: Port",
+    ),
+    (
+        Fault::Text {
+            place: 1,
+            fault: TextFault::NoRoot,
+        },
+        "no root",
+    ),
+    (Fault::NoRoom(NO_ROOM), "no room: 70000 end ports, room 512"),
+    (Fault::Write, "write failed"),
+    (Fault::Memory, "out of memory"),
+];
+
+/// A root that is none.
+fn no_switch() -> [(TextFault, &'static str); 1] {
+    let guid = Guid::new(0xAB);
+    [(
+        TextFault::NoSwitch(guid),
+        "no usable switch 00000000000000ab",
+    )]
+}
+
+/// The first text that is not what `{}` says of the fault beside it.
+fn untold<T: Display>(alloc: Global, rows: &[(T, &'static str)]) -> Option<&'static str> {
+    for (fault, text) in rows {
+        match format!(in alloc; "{fault}") {
+            Ok(told) if told.as_str() == *text => {}
+            _ => return Some(text),
+        }
+    }
+    None
+}
+
+#[test]
+fn faults_are_told(rt: HostRuntime) {
+    let alloc = rt.alloc();
+    for untold in [
+        untold(alloc, &REPORTS),
+        untold(alloc, &STORES),
+        untold(alloc, &REFUSED),
+        untold(alloc, &LIDS),
+        untold(alloc, &SWEEPS),
+        untold(alloc, &MANAGERS),
+        untold(alloc, &FABRICS),
+        untold(alloc, &FILES),
+        untold(alloc, &READS),
+        untold(alloc, &WRITES),
+        untold(alloc, &TEXTS),
+        untold(alloc, &no_switch()),
+        untold(alloc, &RUNS),
+    ] {
+        assert!(rt; untold == None);
+    }
+}

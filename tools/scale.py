@@ -1,0 +1,300 @@
+"""Runs of the program on large inputs, for `./at-scale`: what they print and cost, and fabrics whose answers are known."""
+import itertools
+import os
+import subprocess
+
+import record_files as make
+import sample_audits as audits
+from built_program import DIGITS, ENTRIES, NO_WAY
+
+# Processor time below which a run tells nothing of how cost grows: that of starting.
+LEAST_SECONDS = 0.02
+# How often a command is run again where it took too long: the machine may have been busy.
+TRIES = 4
+MOST_LIDS = 49151
+
+failures = []
+
+
+def check(holds, text):
+    if not holds:
+        failures.append(text)
+        print(f"at-scale: FAILED: {text}")
+
+
+class Run:
+    """What a command printed, and what it cost."""
+
+    def __init__(self, program, words, room, out, status=0):
+        self.command = [program, *words]
+        self.what = " ".join(words)
+        self.path = room / out
+        self.wanted = status
+        self.seconds, self.memory = self.cost()
+        self.size = self.path.stat().st_size
+
+    def cost(self):
+        """Runs the command, and tells its processor time and the peak of its memory."""
+        said = self.path.with_suffix(".said")
+        with open(self.path, "wb") as stdout, open(said, "wb") as stderr:
+            process = subprocess.Popen(self.command, cwd=self.path.parent, stdin=subprocess.DEVNULL, stdout=stdout, stderr=stderr)
+            _, status, used = os.wait4(process.pid, 0)
+            process.returncode = os.waitstatus_to_exitcode(status)
+        text = said.read_text(errors="replace").strip()
+        is_right = process.returncode == self.wanted
+        check(is_right, f"{self.what}: exit status {process.returncode}; {text[:200]}")
+        check(not is_right or not text, f"{self.what}: says on standard error: {text[:200]}")
+        return used.ru_utime + used.ru_stime, used.ru_maxrss * 1024
+
+    def again(self):
+        self.seconds = min(self.seconds, self.cost()[0])
+
+    def printed(self):
+        return self.path.read_bytes()
+
+    def counts(self):
+        """How many lines begin with each word."""
+        found = {}
+        with open(self.path, "rb") as lines:
+            for line in lines:
+                word = line[: line.index(b" ")].decode()
+                found[word] = found.get(word, 0) + 1
+        return found
+
+
+class Fabric:
+    """Switches in two levels, each of the lower ones cabled to two of the upper ones, and adapters of one port below."""
+
+    def __init__(self, tops, leaves, ports, adapters):
+        self.ports = ports
+        self.switches = [0x1000 + i for i in range(tops + leaves)]
+        self.adapters = [0x100000 + 16 * i for i in range(adapters)]
+        used = dict.fromkeys(self.switches, 0)
+        # Each cable as two ends, the second farther from the first adapter's switch or as far.
+        self.cables = []
+
+        def take(guid):
+            used[guid] += 1
+            return guid, used[guid]
+
+        for i in range(leaves):
+            leaf = self.switches[tops + i]
+            for k in range(2):
+                self.cables.append((take(self.switches[(i + k) % tops]), take(leaf)))
+        for i, guid in enumerate(self.adapters):
+            self.cables.append((take(self.switches[tops + i % leaves]), (guid, 1)))
+        if max(used.values()) > ports:
+            raise ValueError("a switch has too few ports")
+        self.peers = {a: b for a, b in self.cables} | {b: a for a, b in self.cables}
+
+    def facts(self):
+        """How many lines of each kind the facts have."""
+        switches, adapters = len(self.switches), len(self.adapters)
+        ends = switches * (self.ports + 1) + adapters
+        return {
+            "node": switches + adapters,
+            "portguid": switches + adapters,
+            "link": 2 * len(self.cables),
+            "port": ends,
+            "claim": ends,
+            "cap": switches,
+        }
+
+    def plan(self):
+        """The same of the plan."""
+        lids = len(self.switches) + len(self.adapters)
+        blocks = len(self.switches) * (lids // 64 + 1)
+        return {"lid": lids, "switch": len(self.switches), "block": blocks}
+
+    def reports(self, path):
+        """Writes the replies of a sweep, and says how many there are."""
+        start = self.adapters[0]
+        with open(path, "wb") as file:
+            file.write(make.NO_REPORTS)
+            file.write(node_info(make.START, start, 1))
+            file.write(make.port_info(start, 1, make.INITIALIZE))
+            count = 2
+            for one, other in self.cables:
+                for (node, port), (at, out) in ((one, other), (other, one)):
+                    if node in (start,):
+                        continue
+                    file.write(node_info(make.via(at, out), node, port, self.ports))
+                    count += 1
+            for guid in self.switches:
+                file.write(make.switch_info(guid, MOST_LIDS))
+                for port in range(self.ports + 1):
+                    wired = make.INITIALIZE if (guid, port) in self.peers else make.DOWN
+                    file.write(make.port_info(guid, port, wired if port else make.ACTIVE))
+                count += self.ports + 2
+            for guid in self.adapters[1:]:
+                file.write(make.port_info(guid, 1, make.INITIALIZE))
+                count += 1
+        return count
+
+    def topology(self):
+        lines = []
+        for guid in self.switches:
+            lines.append(f'Switch {self.ports} "{guid:x}" guid 0x{guid:x} cap 49152')
+            for port in range(1, self.ports + 1):
+                if (guid, port) in self.peers:
+                    node, other = self.peers[guid, port]
+                    lines.append(f'[{port}] "{node:x}"[{other}]')
+        lines += [f'Hca 1 "{guid:x}" guid 0x{guid:x}' for guid in self.adapters]
+        return "\n".join(lines) + "\n"
+
+
+def node_info(context, guid, port, ports=1):
+    """A switch has the number of ports that is given, an adapter one."""
+    if guid < 0x100000:
+        return make.node_info(context, make.SWITCH, ports, guid, guid, port)
+    return make.node_info(context, make.ADAPTER, 1, guid, guid + port, port)
+
+
+class Tree:
+    """Switches in a tree, and adapters below some of them, numbered switch by switch. Between any two there is one way, so that
+    every rule plans the same, and what a plan and its audit are is known."""
+
+    def __init__(self, parents, hosts, ports_of_adapters=1):
+        """The index of each switch's parent but the first's, which has none, and how many wires to adapters each has. An adapter of
+        several ports has them at switches in turn."""
+        self.count = len(hosts)
+        self.switches = [0x10 + i for i in range(self.count)]
+        self.wires, used = [], [0] * self.count
+        for child, parent in enumerate(parents, 1):
+            self.wires.append(((parent, self.next(used, parent)), (child, self.next(used, child))))
+        # The adapters' ports, each with its switch and the port of that.
+        seats = [switch for switch, count in enumerate(hosts) for _ in range(count)]
+        width = len(seats) // ports_of_adapters
+        self.ends = []
+        for number in range(width):
+            for port in range(ports_of_adapters):
+                switch = seats[number + port * width]
+                self.ends.append((0x100000 + 16 * number, port + 1, switch, self.next(used, switch)))
+        self.adapters = [0x100000 + 16 * number for number in range(width)]
+        self.ports = max(used)
+        self.ports_of_adapters = ports_of_adapters
+        self.hosts, self.parents = hosts, parents
+        self.exits, self.steps = self.ways()
+
+    @staticmethod
+    def next(used, switch):
+        used[switch] += 1
+        if used[switch] > 254:
+            raise ValueError("a switch has too few ports")
+        return used[switch]
+
+    def ways(self):
+        """For each switch its port towards each switch, and how many wires away that is."""
+        near = [[] for _ in range(self.count)]
+        for (one, port), (other, back) in self.wires:
+            near[one].append((port, other))
+            near[other].append((back, one))
+        exits, steps = [], []
+        for start in range(self.count):
+            out, far, reached = [None] * self.count, [0] * self.count, [start]
+            out[start] = 0
+            for switch in reached:
+                for port, other in near[switch]:
+                    if out[other] is None:
+                        out[other] = port if switch == start else out[switch]
+                        far[other] = far[switch] + 1
+                        reached.append(other)
+            exits.append(out)
+            steps.append(far)
+        return exits, steps
+
+    def links(self):
+        """Each wire from both ends, by GUID and port."""
+        wires = [((self.switches[a], p), (self.switches[b], q)) for (a, p), (b, q) in self.wires]
+        wires += [((self.switches[switch], out), (guid, port)) for guid, port, switch, out in self.ends]
+        return sorted(wires + [(b, a) for a, b in wires])
+
+    def cells(self, generation=lambda _: 1):
+        """The records of a store file of its facts; `generation` gives that of the cell at each place."""
+        links = self.links()
+        keys = [(make.NODE, guid, 0, bytes([make.SWITCH, self.ports])) for guid in self.switches]
+        keys += [(make.NODE, guid, 0, bytes([make.ADAPTER, self.ports_of_adapters])) for guid in self.adapters]
+        keys += [(make.PORT_GUID, guid, 0, guid.to_bytes(8, "big")) for guid in self.switches]
+        keys += [(make.PORT_GUID, guid, port, (guid + port).to_bytes(8, "big")) for guid, port, _, _ in self.ends]
+        keys += [(make.LINK, *near, far.to_bytes(8, "big") + bytes([port])) for near, (far, port) in links]
+        keys += [(make.PORT, *near, b"\1") for near, _ in links]
+        keys += [(make.CAP, guid, 0, (MOST_LIDS + 1).to_bytes(2, "big")) for guid in self.switches]
+        return [make.cell(*key, generation(place)) for place, key in enumerate(keys)]
+
+    def topology(self):
+        lines = [f'Switch {self.ports} "S{i}" guid 0x{guid:x} cap {MOST_LIDS + 1}' for i, guid in enumerate(self.switches)]
+        lines = [[line] for line in lines]
+        for (one, port), (other, back) in self.wires:
+            lines[one].append(f'[{port}] "S{other}"[{back}]')
+        for guid, port, switch, out in self.ends:
+            lines[switch].append(f'[{out}] "H{guid:x}"[{port}]')
+        lines.append([f'Hca {self.ports_of_adapters} "H{guid:x}" guid 0x{guid:x}' for guid in self.adapters])
+        return "".join(f"{line}\n" for its in lines for line in its)
+
+    def lids(self, lmc=0):
+        """The LIDs of switches, and those at which the ranges of adapters' ports begin."""
+        width = 2**lmc
+        first = (self.count // width + 1) * width
+        return range(1, self.count + 1), range(first, first + width * len(self.ends), width)
+
+    def plan(self, lmc=0):
+        """The text of its plan."""
+        switches, ranges = self.lids(lmc)
+        width = 2**lmc
+        top = ranges[-1] + width - 1
+        lines = [f"lid {lid} {guid:016x}/0" for lid, guid in zip(switches, self.switches)]
+        told = f" lmc {lmc}" if lmc else ""
+        lines += [f"lid {lid} {guid:016x}/{port}{told}" for lid, (guid, port, _, _) in zip(ranges, self.ends)]
+        # Adapters' ports in a row below one switch, with the first one's LID.
+        rows = []
+        for home, ends in itertools.groupby(zip(ranges, self.ends), key=lambda it: it[1][2]):
+            ends = list(ends)
+            rows.append((home, ends[0][0], [port for _, (_, _, _, port) in ends]))
+        for switch, guid in enumerate(self.switches):
+            table = bytearray([NO_WAY]) * (ENTRIES * (top // ENTRIES + 1))
+            out = self.exits[switch]
+            table[1 : self.count + 1] = bytes(out)
+            for home, lid, ports in rows:
+                if home == switch:
+                    table[lid : lid + width * len(ports)] = bytes(port for port in ports for _ in range(width))
+                else:
+                    table[lid : lid + width * len(ports)] = bytes([out[home]]) * width * len(ports)
+            digits = table.hex()
+            lines.append(f"switch {guid:016x} top {top}")
+            lines += [f"block {at // DIGITS} {digits[at : at + DIGITS]}" for at in range(0, len(digits), DIGITS)]
+        return "".join(f"{line}\n" for line in lines).encode()
+
+    def audit(self):
+        """What an audit of its plan prints, of adapters of one port under LMC 0."""
+        count, adapters = self.count + len(self.ends), len(self.ends)
+        sums, most = 0, 0
+        for one in range(self.count):
+            for other in range(self.count):
+                if self.hosts[one] and self.hosts[other]:
+                    pairs = self.hosts[one] * (self.hosts[other] - (one == other))
+                    sums += pairs * (2 + self.steps[one][other])
+                    most = max(most, 2 + self.steps[one][other])
+        # Below each switch but the first, and beyond it.
+        below = list(self.hosts)
+        for child in range(self.count - 1, 0, -1):
+            below[self.parents[child - 1]] += below[child]
+        loads = [below[child] * (adapters - below[child]) for child in range(1, self.count)] * 2
+        pairs = adapters * (adapters - 1)
+        lines = f"hops max {most} mean {hundredths(100 * sums // pairs)}\n"
+        lines += f"load max {max(loads)} mean {hundredths(100 * sum(loads) // len(loads))}\n"
+        return sums, sum(loads), (audits.counted(count**2, adapters**2) + lines + "credit loop none\n").encode()
+
+
+def hundredths(number):
+    return f"{number // 100}.{number % 100:02}"
+
+
+def levels(first, second, hosts):
+    """A switch above some, each above some more, and adapters below these."""
+    parents = [0] * first + [1 + i // second for i in range(first * second)]
+    return Tree(parents, [0] * (1 + first) + [hosts] * (first * second))
+
+
+def chain(count, hosts):
+    """Switches in a row, and adapters at each."""
+    return Tree(list(range(count - 1)), [hosts] * count)
