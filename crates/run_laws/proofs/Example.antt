@@ -34,7 +34,8 @@ use Rattle.sm_manager.specs.Plans.{number_fault, or_else, plan_fault, writing_fa
 use Rattle.sm_manager.specs.Standing.{active_once_more}
 use Rattle.sm_manager.specs.Writing.{begun_with, is_written, phases_by, write_fault_with, writing_begun}
 use Rattle.written_laws.specs.Sets.{IsOwnSet, OwnSets}
-use Rattle.written_laws.proofs.Example.{delivery_keeps, in_pairs, is_kept, joined_told, merged_with, one_view, sweep_in, sweep_there, told_by_agents}
+use Rattle.written_laws.proofs.Computed.{delivery_keeps, fault_is, fault_with, in_pairs, is_kept, joined_told, merged_with, one_view, phases_are}
+use Rattle.written_laws.proofs.Computed.{phases_with, sweep_in, sweep_there, told_by_agents}
 use Rattle.written_laws.proofs.ExampleFabric.{distinct_by, is_alone, nodes, port, with_own_seat}
 use Rattle.written_laws.proofs.Generations.{nothing_newest}
 use Rattle.sm_run.specs.Commands.{commands_run, deliver_run, handed_up, lose_run, repeat_run, step_run, sweep_run, took_run, write_run}
@@ -120,31 +121,55 @@ known = ap cells_of (merged_all ∙ one_view [] told_by_agents) ∙ entries-view
 abbrev after : List Command
 after = command.Drain 80 ∷ []
 
-abbrev phases_from : Cells → List Phase
-phases_from known_cells = phases_of (plan_of up_and_down 1 known_cells) known_cells (sweep_in swept.sweep) swept.standing.guid swept.port
+abbrev the_sweep : Sweep
+the_sweep = sweep_in swept.sweep
 
-fault_from : Cells → Option ManagerFault
-fault_from known_cells =
-    or_else (write_fault_with swept swept.sweep) (or_else (plan_fault 1 known_cells) (number_fault (swept.counter + most_steps known_cells)))
+has_swept : is_some swept.sweep ≡ true
+unfolding sent deliver_run lose_run repeat_run took_run handed_up step_run manager_in
+    joined fresh_agent injected lost repeated delivered outcome_of answered get_of set_of changed_port with_bytes
+has_swept = refl
+
+planning_is : swept.planning ≡ in_pairs
+unfolding sent deliver_run lose_run repeat_run took_run handed_up step_run manager_in
+    joined fresh_agent injected lost repeated delivered outcome_of answered get_of set_of changed_port with_bytes
+planning_is = refl
+
+abbrev phases : List Phase
+phases = phases_with in_pairs swept (Some the_sweep) cells
+
+no_fault : fault_with in_pairs swept (Some the_sweep) cells ≡ None
+unfolding sent deliver_run lose_run repeat_run took_run handed_up step_run manager_in
+    joined fresh_agent injected lost repeated delivered outcome_of answered get_of set_of changed_port with_bytes
+no_fault = refl
 
 may_write : writing_fault swept ≡ None
-unfolding fault_from sent deliver_run lose_run repeat_run took_run handed_up step_run manager_in
-    joined fresh_agent injected lost repeated delivered outcome_of answered get_of set_of changed_port with_bytes
-may_write = ap fault_from known
+may_write = fault_is swept in_pairs (Some the_sweep) cells planning_is (sweep_there swept.sweep has_swept) known ∙ no_fault
 
--- the world when the steps of these phases are sent
-abbrev writing_by : List Phase → WorldValue
-writing_by phases = (sent (world_with swept_world.fabric (begun_with swept phases)) 0).now
+-- the line `write` of a world with one manager, which is not refused
+write_line : (fabric : Simulation) (m : Manager) (ps : List Phase) → writing_fault m ≡ None → phases_by m m.sweep ≡ ps
+    → (write_run (world_with fabric m) 0).now ≡ (sent (world_with fabric (begun_with m ps)) 0).now
+unfolding write_run
+write_line fabric m ps none are =
+    ap (λ (o : Option ManagerFault). (called_run (λ now. sent now 0) (world_with fabric m) 0 (seated_with m) o (writing_begun m)).now) none
+    ∙ ap (λ (x : List Phase). (sent (world_with fabric (begun_with m x)) 0).now) are
 
-writes : (write_run swept_world 0).now ≡ writing_by (phases_from cells)
-unfolding write_run sent deliver_run lose_run repeat_run took_run handed_up step_run manager_in
-    joined fresh_agent injected lost repeated delivered outcome_of answered get_of set_of changed_port with_bytes
+as_world : (w : WorldValue) (m : Manager) → w.managers ≡ seated_with m ∷ [] → w ≡ world_with w.fabric m
+as_world w m e = ap (λ (ms : List SeatedValue). record w { managers = ms }) e
+
+-- the world when the first steps are sent
+abbrev writing : WorldValue
+writing = (sent (world_with swept_world.fabric (begun_with swept phases)) 0).now
+
+its_phases : phases_by swept swept.sweep ≡ phases
+its_phases = phases_are swept in_pairs (Some the_sweep) cells planning_is (sweep_there swept.sweep has_swept) known
+
+writes : (write_run swept_world 0).now ≡ writing
 writes =
-    ap (λ (o : Option ManagerFault). (called_run (λ now. sent now 0) swept_world 0 (seated_with swept) o (writing_begun swept)).now) may_write
-    ∙ ap (λ c. writing_by (phases_from c)) known
+    ap (λ (w : WorldValue). (write_run w 0).now) (as_world swept_world swept alone_then)
+    ∙ write_line swept_world.fabric swept phases may_write its_phases
 
 abbrev written_world : WorldValue
-written_world = (commands_run nodes (writing_by (phases_from cells)) after).now
+written_world = (commands_run nodes writing after).now
 
 abbrev writer : Manager
 writer = manager_in written_world.managers
@@ -183,58 +208,40 @@ module _ (plan : PlanValue) (phases : List Phase) where
       let parts = and_parts (is_step_kept w.fabric (first_serial w)) (are_steps_kept (after_first w) most) e in
       (step_keeps w.fabric (first_serial w) parts.0, steps_keep (after_first w) most parts.1)
 
-kept : are_steps_kept (plan_of up_and_down 1 cells) (phases_from cells) (writing_by (phases_from cells)) 80 ≡ true
+kept : are_steps_kept (plan_of up_and_down 1 cells) phases writing 80 ≡ true
 unfolding sent deliver_run lose_run repeat_run took_run handed_up step_run manager_in
     joined fresh_agent injected lost repeated delivered outcome_of answered get_of set_of changed_port with_bytes
 kept = refl
 
 -- the run ---------------------------------------------------------------------------------------------------------
 
-has_swept : is_some swept.sweep ≡ true
-unfolding sent deliver_run lose_run repeat_run took_run handed_up step_run manager_in
-    joined fresh_agent injected lost repeated delivered outcome_of answered get_of set_of changed_port with_bytes
-has_swept = refl
+-- by what a manager knows, for what it writes
+keep_by : (w began : WorldValue) (m : Manager) (planning : Planning) (o : Option Sweep) (c : Cells) → m.planning ≡ planning → cells_of m.store ≡ c
+    → phases_by m m.sweep ≡ phases_with planning m o c → w ≡ began
+    → KeepsLines (plan_of planning.rule planning.lmc c) (IsOwnSet (fabric_of with_own_seat) (port 0 1) (phases_with planning m o c)) nodes began after
+    → KeepsLines (plan_of m.planning.rule m.planning.lmc (cells_of m.store)) (IsOwnSet (fabric_of with_own_seat) (port 0 1) (phases_by m m.sweep)) nodes w after
+keep_by w began m planning o c by_planning by_cells are same keep =
+    subst (λ (x : WorldValue). KeepsLines (plan_of m.planning.rule m.planning.lmc (cells_of m.store))
+    (IsOwnSet (fabric_of with_own_seat) (port 0 1) (phases_by m m.sweep)) nodes x after) (sym same)
+    (subst (λ (ps : List Phase). KeepsLines (plan_of m.planning.rule m.planning.lmc (cells_of m.store)) (IsOwnSet (fabric_of with_own_seat) (port 0 1) ps) nodes began after)
+    (sym are)
+    (subst (λ (x : Planning). KeepsLines (plan_of x.rule x.lmc (cells_of m.store))
+    (IsOwnSet (fabric_of with_own_seat) (port 0 1) (phases_with planning m o c)) nodes began after) (sym by_planning)
+    (subst (λ (x : Cells). KeepsLines (plan_of planning.rule planning.lmc x)
+    (IsOwnSet (fabric_of with_own_seat) (port 0 1) (phases_with planning m o c)) nodes began after) (sym by_cells) keep)))
 
-planning_is : swept.planning ≡ in_pairs
-unfolding sent deliver_run lose_run repeat_run took_run handed_up step_run manager_in
-    joined fresh_agent injected lost repeated delivered outcome_of answered get_of set_of changed_port with_bytes
-planning_is = refl
-
--- the phases of a manager, by its planning, its sweep and what it knows
-abbrev phases_with : Planning → Manager → Option Sweep → Cells → List Phase
-phases_with planning m None c = []
-phases_with planning m (Some s) c = phases_of (plan_of planning.rule planning.lmc c) c s m.standing.guid m.port
-
-same_phases : (m : Manager) (o : Option Sweep) → phases_by m o ≡ phases_with m.planning m o (cells_of m.store)
-same_phases m None = refl
-same_phases m (Some s) = refl
-
-its_phases : phases_by swept swept.sweep ≡ phases_from cells
-its_phases =
-    same_phases swept swept.sweep
-    ∙ ap (λ (p : Planning). phases_with p swept swept.sweep (cells_of swept.store)) planning_is
-    ∙ ap (λ (o : Option Sweep). phases_with in_pairs swept o (cells_of swept.store)) (sweep_there swept.sweep has_swept)
-    ∙ ap (λ (c : Cells). phases_from c) known
-
-its_plan : plan_of swept.planning.rule swept.planning.lmc (cells_of swept.store) ≡ plan_of up_and_down 1 cells
-its_plan = ap (λ (p : Planning). plan_of p.rule p.lmc (cells_of swept.store)) planning_is ∙ ap (λ (c : Cells). plan_of up_and_down 1 c) known
-
-first_steps : at_first_steps nodes world between ≡ writing_by (phases_from cells)
+first_steps : at_first_steps nodes world between ≡ writing
 first_steps = ap (λ (w : WorldValue). (write_run w 0).now) at_is ∙ writes
 
 keeps : KeepsLines (plan_of swept.planning.rule swept.planning.lmc (cells_of swept.store)) (IsOwnSet (fabric_of with_own_seat) (port 0 1) (phases_by swept swept.sweep))
     nodes (at_first_steps nodes world between) after
 keeps =
-    subst (λ (w : WorldValue). KeepsLines (plan_of swept.planning.rule swept.planning.lmc (cells_of swept.store))
-    (IsOwnSet (fabric_of with_own_seat) (port 0 1) (phases_by swept swept.sweep)) nodes w after) (sym first_steps)
-    (subst (λ (p : PlanValue). KeepsLines p (IsOwnSet (fabric_of with_own_seat) (port 0 1) (phases_by swept swept.sweep)) nodes (writing_by (phases_from cells)) after)
-    (sym its_plan)
-    (subst (λ (ps : List Phase). KeepsLines (plan_of up_and_down 1 cells) (IsOwnSet (fabric_of with_own_seat) (port 0 1) ps) nodes (writing_by (phases_from cells)) after)
-    (sym its_phases) (steps_keep (plan_of up_and_down 1 cells) (phases_from cells) (writing_by (phases_from cells)) 80 kept, tt)))
+    keep_by (at_first_steps nodes world between) writing swept in_pairs (Some the_sweep) cells planning_is known its_phases first_steps
+    (steps_keep (plan_of up_and_down 1 cells) phases writing 80 kept, tt)
 
-seat_there : BringsUpAlone nodes world (seated_with new) between after
+brings_up : BringsUpAlone nodes world (seated_with new) between after
 unfolding joined fresh_agent
-seat_there =
+brings_up =
     record {
       port_guid = 17;
       priority = 0;
@@ -249,7 +256,7 @@ seat_there =
       after_lines = (tt, tt);
       swept = swept;
       only_then = ap (λ (w : WorldValue). w.managers) at_is ∙ alone_then;
-      sweep = sweep_in swept.sweep;
+      sweep = the_sweep;
       is_last = sweep_there swept.sweep has_swept;
       whole = whole;
       begins = may_write;
@@ -260,4 +267,4 @@ seat_there =
     }
 
 pub some_run_of_one : SomeRunOfOne
-some_run_of_one = record { nodes = nodes; world = world; seated = seated_with new; between = between; after = after; brings_up = seat_there }
+some_run_of_one = record { nodes = nodes; world = world; seated = seated_with new; between = between; after = after; brings_up = brings_up }

@@ -59,7 +59,8 @@ use Rattle.sm_manager.specs.Writing.{begun_with, next_phase, phases_by, write_fa
 use Rattle.sweep_complete.specs.Complete.{IsWhole}
 use Rattle.sweep_complete.proofs.Lists.{all_append}
 use Rattle.written_laws.specs.Managing.{Managing, ManagerEvent, Around, Begin, Write, Take, Send, Hear, TimeOut, Raise, Merge, Poll, HandOver}
-use Rattle.written_laws.proofs.Example.{all_can_be, all_keep, are_kept, joined_told, merged_with, no_sweeps, one, one_view, sweep_in, sweep_there}
+use Rattle.written_laws.proofs.Computed.{all_can_be, all_keep, are_kept, fault_is, fault_with, joined_told, keeps_by, merged_with, no_sweeps, one, one_view}
+use Rattle.written_laws.proofs.Computed.{sweep_in, sweep_there}
 use Rattle.written_laws.proofs.Generations.{nothing_found, nothing_newest}
 use Rattle.written_laws.proofs.Rests.{new_managers_rest}
 use Rattle.written_laws.proofs.Steps.{IsSendable}
@@ -325,42 +326,6 @@ phases_from known_cells =
 abbrev writing_by : List Phase → Managing
 writing_by phases = record swept { manager = begun_with swept.manager phases }
 
--- what a manager would write by a planning and a sweep, if it knew these cells
-abbrev phases_with : Planning → Manager → Option Sweep → Cells → List Phase
-phases_with planning m None c = []
-phases_with planning m (Some s) c = phases_of (plan_of planning.rule planning.lmc c) c s m.standing.guid m.port
-
-abbrev fault_with : Planning → Manager → Option Sweep → Cells → Option ManagerFault
-fault_with planning m o c =
-    or_else (write_fault_with m o) (or_else (plan_fault planning.lmc c) (number_fault (m.counter + most_steps c)))
-
-same_phases : (m : Manager) (o : Option Sweep) → phases_by m o ≡ phases_with m.planning m o (cells_of m.store)
-same_phases m None = refl
-same_phases m (Some s) = refl
-
-fault_is : (m : Manager) (planning : Planning) (o : Option Sweep) (c : Cells) → m.planning ≡ planning → m.sweep ≡ o → cells_of m.store ≡ c
-    → writing_fault m ≡ fault_with planning m o c
-fault_is m planning o c by_planning by_sweep by_cells =
-    ap (λ x. fault_with x m m.sweep (cells_of m.store)) by_planning ∙ ap (λ x. fault_with planning m x (cells_of m.store)) by_sweep
-    ∙ ap (fault_with planning m o) by_cells
-
-keeps_by : (w : Managing) (planning : Planning) (o : Option Sweep) (c : Cells) (events : List ManagerEvent)
-    → w.manager.planning ≡ planning → w.manager.sweep ≡ o → cells_of w.manager.store ≡ c → writing_fault w.manager ≡ None
-    → AllKeep (plan_of planning.rule planning.lmc c) (IsOwnSet (fabric_of network) (port 0 1) (phases_with planning w.manager o c)) events
-    (record w { manager = begun_with w.manager (phases_with planning w.manager o c) })
-    → AllKeep (plan_at w) (own_sets beginning w) events (after_manager_event w Write)
-keeps_by w planning o c events by_planning by_sweep by_cells no_fault keep =
-    let m = w.manager in
-    subst (λ fault. AllKeep (plan_at w) (own_sets beginning w) events (record w { manager = if is_none fault then writing_begun m else m })) (sym no_fault)
-    (subst (λ (ps : List Phase). AllKeep (plan_at w) (IsOwnSet (fabric_of network) (port 0 1) ps) events (record w { manager = begun_with m ps }))
-    (sym (same_phases m m.sweep))
-    (subst (λ (x : Planning). AllKeep (plan_of x.rule x.lmc (cells_of m.store)) (IsOwnSet (fabric_of network) (port 0 1) (phases_with x m m.sweep (cells_of m.store))) events
-    (record w { manager = begun_with m (phases_with x m m.sweep (cells_of m.store)) })) (sym by_planning)
-    (subst (λ x. AllKeep (plan_of planning.rule planning.lmc (cells_of m.store)) (IsOwnSet (fabric_of network) (port 0 1) (phases_with planning m x (cells_of m.store))) events
-    (record w { manager = begun_with m (phases_with planning m x (cells_of m.store)) })) (sym by_sweep)
-    (subst (λ x. AllKeep (plan_of planning.rule planning.lmc x) (IsOwnSet (fabric_of network) (port 0 1) (phases_with planning m o x)) events
-    (record w { manager = begun_with m (phases_with planning m o x) })) (sym by_cells) keep))))
-
 pub planning_is : swept.manager.planning ≡ its_planning
 unfolding joined fresh_agent injected delivered outcome_of answered get_of set_of changed_port with_bytes
 planning_is = refl
@@ -409,7 +374,7 @@ at_is = ap (after_manager_events between) begun
 
 kept_then : AllKeep (plan_at swept) (own_sets beginning swept) after (after_manager_event swept Write)
 kept_then =
-    keeps_by swept its_planning (Some (sweep_in swept.manager.sweep)) cells after planning_is (sweep_there swept.manager.sweep has_swept) known may_write keeps
+    keeps_by beginning swept its_planning (Some (sweep_in swept.manager.sweep)) cells after planning_is (sweep_there swept.manager.sweep has_swept) known may_write keeps
 
 run : IsWritingRun beginning [] between after
 run =

@@ -24,7 +24,7 @@ use Rattle.sm_manager.specs.Planning.{Planning}
 use Rattle.written_laws.specs.Managing.{Managing}
 use Rattle.takeover_laws.specs.Rest.{SomeManagerServesTheRest, TakesRest}
 use Rattle.takeover_laws.specs.Takeover.{plan_by_it}
-use Rattle.written_laws.proofs.Example.{one}
+use Rattle.written_laws.proofs.Computed.{one}
 use Rattle.takeover_laws.proofs.Example.{after, all_told, at_is, beginning, between, its_planning, planning_is, swept, sweeps}
 use Rattle.written_laws.proofs.ExampleFabric.{port}
 use Rattle.takeover_laws.proofs.ExampleFabric.{bare_agent, network, table, with_lid}

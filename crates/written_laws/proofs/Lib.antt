@@ -3,6 +3,7 @@ pub mod AgentSets
 pub mod Arrive
 pub mod Before
 pub mod Calls
+pub mod Computed
 pub mod Example
 pub mod ExampleFabric
 pub mod Fair
