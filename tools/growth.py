@@ -1,6 +1,6 @@
 """How the cost of commands grows, for `./at-scale`: each at a size and at twice the size, by counted instructions. `perf` counts
 them where the machine has it, else `valgrind`. Where neither does, processor time is taken, the least of some runs, and twice as
-much is allowed; bounds on instructions for each byte, record or step are left out then."""
+much is allowed; the bounds on instructions are left out then."""
 import concurrent.futures
 import itertools
 import os
