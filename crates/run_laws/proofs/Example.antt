@@ -1,9 +1,8 @@
 -- A run with one manager that brings a subnet up: on an adapter at a switch, to which another adapter is wired. LIDs come in pairs, and a
 -- request is copied and lost.
-use Rattle.std.proofs.Common.{◌≡◌, ℕ, zero, suc, ◌+◌, ◌^◌, ◌&&◌, Bool, true, List, [], ◌∷◌, ◌++◌, refl, sym, ap, ◌∙◌, subst, arith}
+use Rattle.std.proofs.Common.{◌≡◌, ℕ, zero, suc, ◌+◌, ◌^◌, ◌&&◌, Bool, true, List, [], ◌∷◌, refl, sym, ap, ◌∙◌, subst, arith}
 use Rattle.std.proofs.lemmas.Bool.{and_parts}
-use Rattle.std.specs.Prelude.{Option, Some, None, is_none, is_some, max, if◌then◌else◌, ◌==◌}
-use Rattle.smp_bytes.specs.declared.node_type.NodeType.TheVariants.{ChannelAdapter, Switch}
+use Rattle.std.specs.Prelude.{Option, Some, None, is_some, max, if◌then◌else◌, ◌==◌}
 use Rattle.smp_bytes.specs.Field.{with_bytes}
 use Rattle.node_agents.specs.Agent.{fresh_agent}
 use Rattle.node_agents.specs.Answers.{answered, get_of, set_of}
@@ -11,16 +10,13 @@ use Rattle.node_agents.specs.PortInfo.{changed_port}
 use Rattle.schedule_file.specs.declared.command.Command.{Command}
 use Rattle.schedule_file.specs.declared.command.Command.TheVariants as command
 use Rattle.schedule_file.specs.declared.command.Which.TheVariants.{Last, Serial}
-use Rattle.fact_store.specs.declared.key.Key.TheVariants.{Node as NodeKey, PortGuid, Link, Port as PortKey, Cap, Claim}
-use Rattle.fact_store.specs.declared.value.Value.TheVariants.{Kind, Guid, Peer, Up, Count, Lid}
 use Rattle.fact_store.specs.Report.{Told}
 use Rattle.fact_store.specs.View.{cells_of, no_facts}
 use Rattle.fact_store.proofs.Entries.{cells_of_view, entries-view}
 use Rattle.subnet_view.specs.Reading.{Cells}
 use Rattle.spread_rule.specs.Rules.{up_and_down}
 use Rattle.lft_blocks.specs.Plan.{PlanValue, plan_of}
-use Rattle.plan_steps.specs.Bound.{most_steps}
-use Rattle.plan_steps.specs.Phases.{Phase, phases_of}
+use Rattle.plan_steps.specs.Phases.{Phase}
 use Rattle.fabric_sim.specs.Simulation.{Simulation, fabric_of}
 use Rattle.fabric_sim.specs.Changes.{injected, joined, lost, repeated}
 use Rattle.fabric_sim.specs.Delivery.{outcome_of, delivered}
@@ -30,9 +26,9 @@ use Rattle.sm_manager.specs.Manager.{Manager, begin_fault, new_manager, sweep_be
 use Rattle.sm_manager.specs.Planning.{Planning}
 use Rattle.sm_manager.specs.declared.fault.ManagerFault.{ManagerFault}
 use Rattle.sm_manager.specs.declared.fault.ManagerFault.TheVariants.{GenerationsSpent}
-use Rattle.sm_manager.specs.Plans.{number_fault, or_else, plan_fault, writing_fault}
+use Rattle.sm_manager.specs.Plans.{writing_fault}
 use Rattle.sm_manager.specs.Standing.{active_once_more}
-use Rattle.sm_manager.specs.Writing.{begun_with, is_written, phases_by, write_fault_with, writing_begun}
+use Rattle.sm_manager.specs.Writing.{begun_with, is_written, phases_by, writing_begun}
 use Rattle.written_laws.specs.Sets.{IsOwnSet, OwnSets}
 use Rattle.written_laws.proofs.Computed.{delivery_keeps, fault_is, fault_with, in_pairs, is_kept, joined_told, merged_with, one_view, phases_are}
 use Rattle.written_laws.proofs.Computed.{phases_with, sweep_in, sweep_there, told_by_agents}
@@ -40,7 +36,7 @@ use Rattle.written_laws.proofs.ExampleFabric.{distinct_by, is_alone, nodes, port
 use Rattle.written_laws.proofs.Generations.{nothing_newest}
 use Rattle.sm_run.specs.Commands.{commands_run, deliver_run, handed_up, lose_run, repeat_run, step_run, sweep_run, took_run, write_run}
 use Rattle.sm_run.specs.World.{SeatedValue, WorldValue, called_run, sent}
-use Rattle.run_laws.specs.Alone.{BringsUpAlone, KeepsLines, KeepsStep, KeepsSteps, SomeRunOfOne, after_first, at_end, at_first_steps, at_writing, first_serial}
+use Rattle.run_laws.specs.Alone.{BringsUpAlone, KeepsLines, KeepsStep, KeepsSteps, SomeRunOfOne, after_first, at_first_steps, at_writing, first_serial}
 
 -- the world ------------------------------------------------------------------------------------------------------
 

@@ -1,13 +1,13 @@
 -- A manager that takes over: on an adapter, at a switch to which another adapter is wired, where another manager sits. Both adapters and the switch hold
 -- LIDs, and the switch a forwarding table.
-use Rattle.std.proofs.Common.{◌≡◌, ◌≢◌, ℕ, zero, suc, ◌+◌, ◌*◌, ◌-◌, ◌^◌, ◌<◌, Bool, true, false, List, [], ◌∷◌, ◌++◌, length, map, replicate}
+use Rattle.std.proofs.Common.{◌≡◌, ◌≢◌, ℕ, zero, suc, ◌+◌, ◌*◌, ◌-◌, ◌^◌, ◌<◌, Bool, true, List, [], ◌∷◌, ◌++◌, length, map, replicate}
 use Rattle.std.proofs.Common.{refl, sym, ap, ◌∙◌, subst, arith}
 use Rattle.std.proofs.Math.ListN.{get_or-map}
 use Rattle.std.proofs.lemmas.Option.{same_Some}
 use Rattle.std.proofs.lemmas.Bool.{and_parts, eq-eqb}
 use Rattle.std.proofs.lemmas.List.Elements.{All-from_recursion}
 use Rattle.std.specs.Prelude.{if◌then◌else◌, Option, Some, None, drop, is_none, is_some, max, slice_get, slice_index_or, ◌==◌, ◌&&◌, not}
-use Rattle.std.specs.List.{AllByRecursion, list_all}
+use Rattle.std.specs.List.{AllByRecursion}
 use Rattle.std.specs.Option.{option_map_or}
 use Rattle.smp_bytes.specs.declared.cable.NodePort.{NodePort}
 use Rattle.smp_bytes.specs.declared.node_type.NodeType.TheVariants.{ChannelAdapter, Switch}
@@ -15,47 +15,37 @@ use Rattle.smp_bytes.specs.Fabric as fabric
 use Rattle.smp_bytes.specs.Fabric.{IsNodeAt, IsEndPortNumber}
 use Rattle.smp_bytes.specs.FabricWalks.{IsJoinedTo}
 use Rattle.smp_bytes.specs.Field.{number_in, with_bytes}
-use Rattle.smp_bytes.specs.Header.{set, sm_info}
+use Rattle.smp_bytes.specs.Header.{set}
 use Rattle.smp_bytes.specs.Packet.{method}
 use Rattle.attr_codec.specs.declared.port_state.PortState.TheVariants.{Down}
 use Rattle.node_agents.specs.declared.port.Port.{Port}
 use Rattle.node_agents.specs.Agent.{Agent, base_lid_at, fresh_agent, node_of, port_in}
 use Rattle.node_agents.specs.Answers.{answered, get_of, set_of}
 use Rattle.node_agents.specs.PortInfo.{changed_port}
-use Rattle.fact_join.specs.declared.cell.Cell.{Cell}
-use Rattle.fact_join.specs.declared.cell.Cell.TheVariants.{Known}
-use Rattle.fact_store.specs.declared.key.Key.{Key}
 use Rattle.fact_store.specs.declared.key.Key.TheVariants.{Node as NodeKey, PortGuid, Link, Port as PortKey, Claim, Cap}
-use Rattle.fact_store.specs.declared.value.Value.{Value}
 use Rattle.fact_store.specs.declared.value.Value.TheVariants.{Kind, Guid, Peer, Up, Lid, Count}
-use Rattle.fact_store.specs.Merge.{merge}
 use Rattle.fact_store.specs.Report.{Told}
-use Rattle.fact_store.specs.View.{Facts, cells_of, no_facts, view}
+use Rattle.fact_store.specs.View.{cells_of, no_facts, view}
 use Rattle.fact_store.proofs.Entries.{cells_of_view, entries-view}
-use Rattle.fact_store.proofs.Views.{view_of_both}
 use Rattle.subnet_view.specs.Agreement.{AgreesOn}
 use Rattle.subnet_view.specs.Reading.{Cells}
 use Rattle.lid_assign.specs.Lids.{IsNoRoom}
 use Rattle.lft_blocks.specs.Arrival.{HoldsPlan, HoldsPlanAt}
 use Rattle.lft_blocks.specs.Plan.{PlanValue, block_at, plan_of}
-use Rattle.plan_steps.specs.Bound.{most_steps}
-use Rattle.plan_steps.specs.declared.step.Step.{Step}
-use Rattle.plan_steps.specs.Step.{set_packet}
 use Rattle.plan_steps.specs.Phases.{Phase, phases_of}
 use Rattle.fabric_sim.specs.declared.flight.Flight.{Flight}
 use Rattle.fabric_sim.specs.Simulation.{Simulation, fabric_of, flight_with}
 use Rattle.fabric_sim.specs.Delivery.{outcome_of, delivered}
 use Rattle.fabric_sim.specs.Changes.{injected, joined}
-use Rattle.sweep.specs.Sweep.{Sweep, started}
-use Rattle.sm_manager.specs.Manager.{Manager, begin_fault, new_manager, sweep_begun, with_sweep}
+use Rattle.sweep.specs.Sweep.{started}
+use Rattle.sm_manager.specs.Manager.{begin_fault, new_manager, sweep_begun, with_sweep}
 use Rattle.sm_manager.specs.Planning.{Planning}
 use Rattle.spread_rule.specs.Rules.{up_and_down}
 use Rattle.sm_laws.specs.Scene.{Answer, Deliver, Lose, Repeat, Send as SendFrom}
 use Rattle.sm_manager.specs.Standing.{active_once_more}
-use Rattle.sm_manager.specs.declared.fault.ManagerFault.{ManagerFault}
 use Rattle.sm_manager.specs.declared.fault.ManagerFault.TheVariants.{GenerationsSpent}
-use Rattle.sm_manager.specs.Plans.{number_fault, or_else, plan_fault, writing_fault}
-use Rattle.sm_manager.specs.Writing.{begun_with, next_phase, phases_by, write_fault_with, writing_begun}
+use Rattle.sm_manager.specs.Plans.{writing_fault}
+use Rattle.sm_manager.specs.Writing.{begun_with}
 use Rattle.sweep_complete.specs.Complete.{IsWhole}
 use Rattle.sweep_complete.proofs.Lists.{all_append}
 use Rattle.written_laws.specs.Managing.{Managing, ManagerEvent, Around, Begin, Write, Take, Send, Hear, TimeOut, Raise, Merge, Poll, HandOver}
@@ -63,9 +53,7 @@ use Rattle.written_laws.proofs.Computed.{all_can_be, all_keep, are_kept, fault_i
 use Rattle.written_laws.proofs.Computed.{sweep_in, sweep_there}
 use Rattle.written_laws.proofs.Generations.{nothing_found, nothing_newest}
 use Rattle.written_laws.proofs.Rests.{new_managers_rest}
-use Rattle.written_laws.proofs.Steps.{IsSendable}
-use Rattle.written_laws.specs.Pings.{AreNoSweeps, BeginsNoSweep}
-use Rattle.written_laws.specs.Sets.{IsOwnSet, KeepsPlan, OwnSets}
+use Rattle.written_laws.specs.Sets.{IsOwnSet}
 use Rattle.written_laws.specs.Written.{AllKeep, IsWritingRun, at_writing, own_sets, plan_at}
 use Rattle.takeover_laws.specs.Claims.{HasLidsOf}
 use Rattle.takeover_laws.specs.Takeover.{AllCarry, Carrying, LidsStayAround, SomeManagerTakesOver, SweepsAlone, TakesOver, plan_by_it}

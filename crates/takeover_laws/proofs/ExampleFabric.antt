@@ -1,20 +1,17 @@
 -- A fabric that holds LIDs and a table: an adapter, at a switch to which another adapter is wired; a manager may sit at each adapter.
 use Rattle.std.proofs.Common.{◌≡◌, ◌≢◌, inl, inr, ℕ, zero, suc, ◌<◌, Bool, true, false, List, [], ◌∷◌, replicate}
-use Rattle.std.proofs.Common.{refl, ap, ◌∙◌, arith}
-use Rattle.std.proofs.lemmas.Option.{slice_get-map}
+use Rattle.std.proofs.Common.{refl, arith}
 use Rattle.std.proofs.lemmas.List.Elements.{All-from_recursion}
-use Rattle.std.specs.Prelude.{Some, All, option_map, slice_get, slice_index_or}
+use Rattle.std.specs.Prelude.{All, slice_get, slice_index_or}
 use Rattle.std.specs.Option.{option_map_or}
-use Rattle.smp_bytes.specs.declared.cable.NodePort.{NodePort}
 use Rattle.smp_bytes.specs.declared.node_type.NodeType.{NodeType}
 use Rattle.smp_bytes.specs.declared.node_type.NodeType.TheVariants.{ChannelAdapter, Switch}
 use Rattle.smp_bytes.specs.NodeType as types
 use Rattle.smp_bytes.specs.LidRange.{lid_end}
 use Rattle.smp_bytes.specs.Fabric as fabric
-use Rattle.smp_bytes.specs.Fabric.{IsNodeAt}
 use Rattle.attr_codec.specs.declared.port_state.PortState.{PortState}
 use Rattle.attr_codec.specs.declared.port_state.PortState.TheVariants.{Active, Down, Initialize, NoChange}
-use Rattle.node_agents.specs.Agent.{Agent, IsAgent, IsPort, fresh_agent, has_seat, port_at, seated, state_at, with_port}
+use Rattle.node_agents.specs.Agent.{Agent, IsAgent, IsPort, fresh_agent, has_seat, port_at, state_at, with_port}
 use Rattle.fabric_sim.specs.Simulation.{Simulation, IsSimulation, fabric_of, has_cable_port}
 use Rattle.fabric_sim.specs.Changes.{joined}
 use Rattle.fabric_sim.proofs.AgentLists.{AllRelated, KeepsDown}

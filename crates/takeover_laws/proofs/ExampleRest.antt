@@ -1,9 +1,9 @@
 -- The same run after a cut: earlier facts tell of a third adapter, which is gone.
-use Rattle.std.proofs.Common.{◌≡◌, ℕ, zero, suc, ◌<◌, ◌≤◌, true, List, [], ◌∷◌, ◌++◌, refl, sym, ap, ◌∙◌, subst, arith}
+use Rattle.std.proofs.Common.{◌≡◌, ℕ, zero, suc, true, [], ◌∷◌, ◌++◌, refl, sym, ◌∙◌, subst, arith}
 use Rattle.std.proofs.lemmas.Option.{same_Some}
-use Rattle.std.specs.Prelude.{MatchBool, Some}
+use Rattle.std.specs.Prelude.{Some}
 use Rattle.smp_bytes.specs.declared.cable.NodePort.{NodePort}
-use Rattle.smp_bytes.specs.declared.node_type.NodeType.TheVariants.{ChannelAdapter, Switch}
+use Rattle.smp_bytes.specs.declared.node_type.NodeType.TheVariants.{ChannelAdapter}
 use Rattle.smp_bytes.specs.Fabric as fabric
 use Rattle.smp_bytes.specs.Fabric.{IsNodeAt, IsEndPortNumber, range_at}
 use Rattle.smp_bytes.specs.FabricWalks.{IsJoinedTo}
@@ -25,7 +25,7 @@ use Rattle.written_laws.specs.Managing.{Managing}
 use Rattle.takeover_laws.specs.Rest.{SomeManagerServesTheRest, TakesRest}
 use Rattle.takeover_laws.specs.Takeover.{plan_by_it}
 use Rattle.written_laws.proofs.Computed.{one}
-use Rattle.takeover_laws.proofs.Example.{after, all_told, at_is, beginning, between, its_planning, planning_is, swept, sweeps}
+use Rattle.takeover_laws.proofs.Example.{after, all_told, at_is, beginning, between, its_planning, planning_is, sweeps}
 use Rattle.written_laws.proofs.ExampleFabric.{port}
 use Rattle.takeover_laws.proofs.ExampleFabric.{bare_agent, network, table, with_lid}
 

@@ -1,63 +1,38 @@
 -- A manager that brings a subnet up: on an adapter at a switch, to which another adapter is wired, with another manager at it. LIDs come in pairs, a
 -- request is lost and sent again, and copied.
-use Rattle.std.proofs.Common.{◌≡◌, ◌≢◌, inl, inr, ℕ, zero, suc, ◌+◌, ◌*◌, ◌-◌, ◌^◌, ◌<◌, ◌≤◌, ◌||◌, ◌&&◌, Bool, true, false, List, [], ◌∷◌, ◌++◌}
-use Rattle.std.proofs.Common.{length, replicate, refl, sym, ap, ◌∙◌, subst, arith}
-use Rattle.std.proofs.lemmas.Bool.{and_parts, eqb-true}
+use Rattle.std.proofs.Common.{◌≡◌, ◌≢◌, ℕ, ◌+◌, ◌*◌, ◌-◌, ◌^◌, true, List, [], ◌∷◌, ◌++◌}
+use Rattle.std.proofs.Common.{replicate, refl, sym, ap, ◌∙◌, subst, arith}
 use Rattle.std.proofs.lemmas.List.Elements.{All-from_recursion}
-use Rattle.std.specs.Prelude.{Option, Some, None, All, Contains, Result, Ok, Err, is_none, is_some, max, slice_index_or, if◌then◌else◌, ◌==◌, not}
-use Rattle.std.specs.List.{AllByRecursion, list_all}
+use Rattle.std.specs.Prelude.{Some, None, All, is_none, is_some, max, if◌then◌else◌, ◌==◌}
+use Rattle.std.specs.List.{AllByRecursion}
 use Rattle.smp_bytes.specs.declared.cable.NodePort.{NodePort}
-use Rattle.smp_bytes.specs.declared.node_type.NodeType.TheVariants.{ChannelAdapter, Switch}
-use Rattle.smp_bytes.specs.Cables.{is_same_port}
-use Rattle.smp_bytes.specs.DirectedWalk.{directed_end}
-use Rattle.smp_bytes.specs.Fabric.{Fabric}
-use Rattle.smp_bytes.specs.Field.{bytes_in, number_in, with_bytes}
-use Rattle.smp_bytes.specs.Packet.{attribute_id, attribute_modifier, attribute_data}
-use Rattle.smp_bytes.proofs.Cabled.{same_port-is}
+use Rattle.smp_bytes.specs.Field.{with_bytes}
 use Rattle.node_agents.specs.Agent.{fresh_agent}
 use Rattle.node_agents.specs.Answers.{answered, get_of, set_of}
 use Rattle.node_agents.specs.PortInfo.{changed_port}
-use Rattle.fact_join.specs.declared.cell.Cell.{Cell}
-use Rattle.fact_join.specs.declared.cell.Cell.TheVariants.{Known}
-use Rattle.fact_store.specs.declared.key.Key.{Key}
-use Rattle.fact_store.specs.declared.key.Key.TheVariants.{Node as NodeKey, PortGuid, Link, Port as PortKey, Cap, Claim}
-use Rattle.fact_store.specs.declared.value.Value.{Value}
-use Rattle.fact_store.specs.declared.value.Value.TheVariants.{Kind, Guid, Peer, Up, Count, Lid}
-use Rattle.fact_store.specs.Merge.{merge}
 use Rattle.fact_store.specs.Report.{Told}
-use Rattle.fact_store.specs.View.{Facts, cells_of, no_facts, view}
+use Rattle.fact_store.specs.View.{cells_of, no_facts, view}
 use Rattle.fact_store.proofs.Entries.{cells_of_view, entries-view}
-use Rattle.fact_store.proofs.Views.{view_of_both}
 use Rattle.subnet_view.specs.Reading.{Cells}
-use Rattle.subnet_view.proofs.Members.{contains_here, contains_later}
 use Rattle.spread_rule.specs.Rules.{up_and_down}
-use Rattle.lft_blocks.specs.Plan.{PlanValue, plan_of}
-use Rattle.plan_steps.specs.declared.step.Step.{Step}
-use Rattle.plan_steps.specs.Bound.{most_steps}
-use Rattle.plan_steps.specs.Phases.{Phase, phases_of}
-use Rattle.fabric_sim.specs.declared.delivered.Delivered.{Delivered}
-use Rattle.fabric_sim.specs.declared.delivered.Delivered.TheVariants.{Moved, Answered, ToManager, Discarded}
-use Rattle.fabric_sim.specs.declared.fault.FabricFault.{FabricFault}
-use Rattle.fabric_sim.specs.declared.flight.Flight.{Flight}
-use Rattle.fabric_sim.specs.Simulation.{Simulation, fabric_of, flight_with, port_of}
+use Rattle.lft_blocks.specs.Plan.{plan_of}
+use Rattle.plan_steps.specs.Phases.{Phase}
+use Rattle.fabric_sim.specs.Simulation.{fabric_of}
 use Rattle.fabric_sim.specs.Changes.{injected, joined, lost, repeated}
 use Rattle.fabric_sim.specs.Delivery.{outcome_of, delivered}
 use Rattle.sweep.specs.Sweep.{Sweep, started}
-use Rattle.sm_manager.specs.Manager.{Manager, begin_fault, new_manager, sweep_begun, with_sweep}
-use Rattle.sm_manager.specs.Planning.{Planning}
-use Rattle.sm_manager.specs.declared.fault.ManagerFault.{ManagerFault}
+use Rattle.sm_manager.specs.Manager.{begin_fault, new_manager, sweep_begun, with_sweep}
 use Rattle.sm_manager.specs.declared.fault.ManagerFault.TheVariants.{GenerationsSpent}
-use Rattle.sm_manager.specs.Plans.{number_fault, or_else, plan_fault, writing_fault}
+use Rattle.sm_manager.specs.Plans.{writing_fault}
 use Rattle.sm_manager.specs.Standing.{active_once_more}
-use Rattle.sm_manager.specs.Writing.{begun_with, is_written, write_fault_with, writing_begun}
+use Rattle.sm_manager.specs.Writing.{begun_with, is_written}
 use Rattle.sm_laws.specs.Scene.{Deliver, Lose, Repeat, Answer, Send as SendFrom}
 use Rattle.sweep_complete.specs.Complete.{IsWhole}
 use Rattle.sweep_complete.proofs.Lists.{all_append}
-use Rattle.written_laws.specs.Managing.{Managing, ManagerEvent, Around, Begin, Write, Take, Send, Hear, TimeOut, Raise, Merge, Poll, HandOver}
+use Rattle.written_laws.specs.Managing.{Managing, ManagerEvent, Around, Begin, Write, Take, Send, Hear}
 use Rattle.written_laws.specs.Managing.{CanBe, Starts, after_manager_event, after_manager_events}
-use Rattle.written_laws.specs.Sets.{IsOwnSet, KeepsPlan, OwnSets, TakesSet}
-use Rattle.written_laws.specs.Pings.{AreNoSweeps, BeginsNoSweep, BringsUp, SomeManagerBringsUp}
-use Rattle.written_laws.specs.Written.{AllKeep, Keeps, at_writing, own_sets, plan_at}
+use Rattle.written_laws.specs.Pings.{BringsUp, SomeManagerBringsUp}
+use Rattle.written_laws.specs.Written.{AllKeep, at_writing, own_sets, plan_at}
 use Rattle.written_laws.proofs.Generations.{nothing_found, nothing_newest}
 use Rattle.written_laws.proofs.Rests.{new_managers_rest}
 use Rattle.written_laws.proofs.Computed.{all_can_be, all_keep, are_kept, fault_is, fault_with, in_pairs, joined_told, keeps_by, merged_with, no_sweeps, one, one_view}
