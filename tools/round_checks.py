@@ -40,8 +40,10 @@ def fake_opensm(room):
     """A process that is called opensm and writes what it is told at HUP; it is ended by its id."""
     process = subprocess.Popen([room.path / "opensm"], cwd=room.path, stdin=subprocess.DEVNULL)
     try:
-        end = time.monotonic() + 10
-        while "ready" not in room.text("fab/log") and time.monotonic() < end:
+        end = time.monotonic() + 120
+        while "ready" not in room.text("fab/log"):
+            if time.monotonic() > end:
+                raise TimeoutError("the process that is called opensm is not ready after 120 seconds")
             time.sleep(0.02)
         yield process.pid
     finally:

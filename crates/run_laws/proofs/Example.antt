@@ -1,8 +1,10 @@
 -- A run with one manager that brings a subnet up: on an adapter at a switch, to which another adapter is wired. LIDs come in pairs, and a
 -- request is copied and lost.
-use Rattle.std.proofs.Common.{◌≡◌, ℕ, zero, suc, ◌+◌, ◌^◌, ◌&&◌, Bool, true, List, [], ◌∷◌, refl, sym, ap, ◌∙◌, subst, arith}
+use Rattle.std.proofs.Common.{◌≡◌, ℕ, zero, suc, ◌+◌, ◌-◌, ◌^◌, ◌&&◌, Bool, true, List, [], ◌∷◌, refl, sym, ap, ◌∙◌, subst, arith}
 use Rattle.std.proofs.lemmas.Bool.{and_parts}
-use Rattle.std.specs.Prelude.{Option, Some, None, is_some, max, if◌then◌else◌, ◌==◌}
+use Rattle.std.proofs.lemmas.Option.{same_Some}
+use Rattle.std.specs.Prelude.{Option, Some, None, is_some, map, max, slice_get, if◌then◌else◌, ◌==◌}
+use Rattle.smp_bytes.specs.declared.cable.NodePort.{NodePort}
 use Rattle.smp_bytes.specs.Field.{with_bytes}
 use Rattle.node_agents.specs.Agent.{fresh_agent}
 use Rattle.node_agents.specs.Answers.{answered, get_of, set_of}
@@ -56,6 +58,19 @@ manager_in : List SeatedValue → Manager
 manager_in [] = new
 manager_in (s ∷ later) = s.manager
 
+-- a manager of this name at this port alone
+abbrev seated_as : List ℕ × NodePort → Manager → SeatedValue
+seated_as x m = record { name = x.0; at = x.1; manager = m }
+
+alone : (ms : List SeatedValue) → map {B = List ℕ × NodePort} (λ (s : SeatedValue). (s.name, s.at)) ms ≡ (65 ∷ [], port 0 1) ∷ [] → ms ≡ seated_with (manager_in ms) ∷ []
+unfolding manager_in
+alone [] e = absurd (cc)
+alone (s ∷ []) e =
+    let pair : ◌≡◌ {A = List ℕ × NodePort} (s.name, s.at) (65 ∷ [], port 0 1) =
+    same_Some (s.name, s.at) (65 ∷ [], port 0 1) (ap (λ (xs : List (List ℕ × NodePort)). slice_get xs 0) e) in
+    ap (λ (x : List ℕ × NodePort). seated_as x s.manager ∷ []) pair
+alone (s ∷ other ∷ ms) e = absurd (cc)
+
 -- its sweep --------------------------------------------------------------------------------------------------------
 
 abbrev between : List Command
@@ -89,7 +104,7 @@ at_is = ap (λ (w : WorldValue). (commands_run nodes w between).now) begins
 alone_then : swept_world.managers ≡ seated_with swept ∷ []
 unfolding sent deliver_run lose_run repeat_run took_run handed_up step_run manager_in
     joined fresh_agent injected lost repeated delivered outcome_of answered get_of set_of changed_port with_bytes
-alone_then = refl
+alone_then = alone swept_world.managers refl
 
 whole : IsWhole (sweep_in swept.sweep)
 unfolding sent deliver_run lose_run repeat_run took_run handed_up step_run manager_in
@@ -173,7 +188,7 @@ writer = manager_in written_world.managers
 alone_at_end : written_world.managers ≡ seated_with writer ∷ []
 unfolding sent deliver_run lose_run repeat_run took_run handed_up step_run manager_in
     joined fresh_agent injected lost repeated delivered outcome_of answered get_of set_of changed_port with_bytes
-alone_at_end = refl
+alone_at_end = alone written_world.managers refl
 
 is_written_then : is_written writer ≡ true
 unfolding sent deliver_run lose_run repeat_run took_run handed_up step_run manager_in
