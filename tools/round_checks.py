@@ -6,6 +6,7 @@ import json
 import os
 import pathlib
 import re
+import signal
 import subprocess
 import sys
 import time
@@ -38,7 +39,13 @@ while :; do sleep 0.02; done
 @contextlib.contextmanager
 def fake_opensm(room):
     """A process that is called opensm and writes what it is told at HUP; it is ended by its id."""
-    process = subprocess.Popen([room.path / "opensm"], cwd=room.path, stdin=subprocess.DEVNULL)
+    process = subprocess.Popen(
+        [room.path / "opensm"],
+        cwd=room.path,
+        stdin=subprocess.DEVNULL,
+        # A shell can't trap what it was started to ignore, as HUP is under nohup.
+        preexec_fn=lambda: signal.signal(signal.SIGHUP, signal.SIG_DFL),
+    )
     try:
         end = time.monotonic() + 120
         while "ready" not in room.text("fab/log"):
