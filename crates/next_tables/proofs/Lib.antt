@@ -1,0 +1,5 @@
+pub mod Entries
+pub mod Mixtures
+pub mod Plain
+pub mod Steps
+pub mod Waits

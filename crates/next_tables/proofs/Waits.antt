@@ -1,0 +1,59 @@
+-- What waits for what while switches go over to the next tables.
+use Rattle.std.proofs.Common.{◌≡◌, ℕ, ◌<◌, List, [], ◌∷◌, length, Option, None, Some, sym, ap, ◌∙◌, arith, inl, inr, ◌⊎◌}
+use Rattle.std.specs.Prelude.{slice_index_or}
+use Rattle.std.proofs.lemmas.Bool.{cases_lt}
+use Rattle.port_graph.specs.declared.exit.Exit.{Exit}
+use Rattle.subnet_view.specs.Reading.{Cells, switches}
+use Rattle.plan_file.specs.Held.{HeldPlan}
+use Rattle.audit.specs.Exits.{exit_by, exits_of}
+use Rattle.audit.specs.Network.{row_of}
+use Rattle.audit.specs.Tables.{entry_for}
+use Rattle.next_tables.specs.Mixtures.{IsMixed, WaitsAcross, MixturesWaitSo, RiseInStep, WaitsMixed, WaitOnMixed, NoCircleInStep}
+use Rattle.next_tables.proofs.Entries.{at_mapped, past_mapped, member}
+
+-- an exit by a mixture is one by either
+leaves_by : (cells : Cells) (held next mixed : HeldPlan) (lid : ℕ) → IsMixed cells held next lid mixed → (i : ℕ) (exit : Exit)
+    → slice_index_or (exits_of cells mixed lid) i None ≡ Some exit
+    → (slice_index_or (exits_of cells held lid) i None ≡ Some exit) ⊎ (slice_index_or (exits_of cells next lid) i None ≡ Some exit)
+leaves_by cells held next mixed lid is i exit h =
+    let gs = switches cells in
+    let by : HeldPlan → ℕ → Option Exit = λ tables g. exit_by (row_of cells g) (entry_for tables lid g) in
+    elim (cases_lt i (length gs)) [
+      | inl less ↦
+          let g : ℕ = slice_index_or gs i 0 in
+          let here : (tables : HeldPlan) → slice_index_or (exits_of cells tables lid) i None ≡ by tables g = λ tables. at_mapped (by tables) gs i None less in
+          elim (is.entries g (member gs i less)) [
+            | inl e ↦ inl (here held ∙ sym (ap (exit_by (row_of cells g)) e) ∙ sym (here mixed) ∙ h)
+            | inr e ↦ inr (here next ∙ sym (ap (exit_by (row_of cells g)) e) ∙ sym (here mixed) ∙ h)
+          ]
+      | inr more ↦ let none : slice_index_or (exits_of cells mixed lid) i None ≡ None = past_mapped (by mixed) gs i None more in absurd (cc)
+    ]
+
+pub mixtures_wait_so : MixturesWaitSo
+mixtures_wait_so cells held next before now lid b_is n_is a b w =
+    let t = w.1 in
+    let across : (x y : HeldPlan) → slice_index_or (exits_of cells x lid) w.0 None ≡ Some t.first → slice_index_or (exits_of cells y lid) t.first.to None ≡ Some t.second
+    → WaitsAcross cells x y lid a b =
+    λ x y e k. (w.0, record { first = t.first; second = t.second; leaves = e; leaves_there = k; channel_is = t.channel_is; next_is = t.next_is }) in
+    elim (leaves_by cells held next before lid b_is w.0 t.first t.leaves) [
+      | inl e ↦ elim (leaves_by cells held next now lid n_is t.first.to t.second t.leaves_there) [
+        | inl k ↦ inl (across held held e k)
+        | inr k ↦ inr (inl (across held next e k))
+      ]
+      | inr e ↦ elim (leaves_by cells held next now lid n_is t.first.to t.second t.leaves_there) [
+        | inl k ↦ inr (inr (inl (across next held e k)))
+        | inr k ↦ inr (inr (inr (across next next e k)))
+      ]
+    ]
+
+module _ (cells : Cells) (held next : HeldPlan) (numbers : List ℕ) (rise : RiseInStep cells held next numbers) where
+  one_more : (a b : ℕ) → WaitsMixed cells held next a b → slice_index_or numbers a 0 < slice_index_or numbers b 0
+  one_more a b w = rise w.lid a b w.is_lid (mixtures_wait_so cells held next w.before w.now w.lid w.before_is w.now_is a b w.waits)
+
+  rise_along : (channel last : ℕ) (later : List ℕ) → WaitOnMixed cells held next channel later last → slice_index_or numbers channel 0 < slice_index_or numbers last 0
+  rise_along channel last [] h = one_more channel last h
+  rise_along channel last (c ∷ later) h =
+      let one = one_more channel c h.0 in let more = rise_along c last later h.1 in omega arith
+
+pub no_circle_in_step : NoCircleInStep
+no_circle_in_step cells held next numbers rise channel later h = let more = rise_along cells held next numbers rise channel channel later h in omega arith

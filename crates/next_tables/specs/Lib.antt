@@ -1,0 +1,2 @@
+pub mod Mixtures
+pub mod Next

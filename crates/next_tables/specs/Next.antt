@@ -1,0 +1,66 @@
+-- The next entry of each switch for a LID: from the tables that switches hold towards those of a plan.
+use Rattle.std.specs.Prelude.{◌≡◌, ℕ, ◌==◌, Bool, List, Contains, length, map, if◌then◌else◌}
+use Rattle.subnet_view.specs.declared.end_port.EndPort.{EndPort}
+use Rattle.subnet_view.specs.Reading.{Cells, switches}
+use Rattle.plan_file.specs.declared.held.HeldLid.{HeldLid}
+use Rattle.plan_file.specs.Held.{HeldPlan}
+use Rattle.audit.specs.declared.end.Cause.TheVariants.{NoEntry}
+use Rattle.audit.specs.declared.end.End.TheVariants.{Taken, Lost}
+use Rattle.audit.specs.declared.step.Step.{Step}
+use Rattle.audit.specs.declared.step.Step.TheVariants.{Ends}
+use Rattle.audit.specs.Network.{row_of}
+use Rattle.audit.specs.Tables.{owners_of, entry_for}
+use Rattle.audit.specs.Walks.{after, end_of, is_to}
+use Rattle.audit.specs.Steps.{by_entry, cause_of, is_at, steps_of}
+
+-- what a usable switch does with a packet for the LID, by tables
+abbrev pub step_at : Cells → HeldPlan → ℕ → ℕ → Step
+step_at cells tables lid g = by_entry (owners_of tables lid) g (cause_of cells tables lid g) (row_of cells g) (entry_for tables lid g)
+
+-- whether a walk comes to the port
+abbrev pub comes_to : EndPort → List Step → Step → Bool
+comes_to port steps s = is_at port (end_of (after (length steps) steps s))
+
+-- by the entries that are the plan's already: any other drops the packet
+abbrev pub agreed_at : Cells → HeldPlan → HeldPlan → ℕ → ℕ → Step
+agreed_at cells held plan lid g = if entry_for held lid g == entry_for plan lid g then step_at cells plan lid g else Ends (Lost g NoEntry)
+
+abbrev pub agreed : Cells → HeldPlan → HeldPlan → ℕ → List Step
+agreed cells held plan lid = map (agreed_at cells held plan lid) (switches cells)
+
+-- the plan's entry leads to the end port, or to a switch from which each entry on the way there is the plan's already
+abbrev pub leads_on : Cells → HeldPlan → HeldPlan → HeldLid → ℕ → Bool
+leads_on cells held plan line g = comes_to line.port (agreed cells held plan line.lid) (step_at cells plan line.lid g)
+
+-- the tables that are held deliver it from here
+abbrev pub delivers : Cells → HeldPlan → HeldLid → ℕ → Bool
+delivers cells held line g = comes_to line.port (steps_of cells held line.lid) (step_at cells held line.lid g)
+
+-- a switch that sends it on goes on so, and one that does not takes the plan's entry
+abbrev pub patch_entry : Cells → HeldPlan → HeldPlan → ℕ → ℕ → ℕ
+patch_entry cells held plan lid g = if is_to (step_at cells held lid g) then entry_for held lid g else entry_for plan lid g
+
+abbrev pub patch_at : Cells → HeldPlan → HeldPlan → ℕ → ℕ → Step
+patch_at cells held plan lid g = if is_to (step_at cells held lid g) then step_at cells held lid g else step_at cells plan lid g
+
+abbrev pub mending_at : Cells → HeldPlan → HeldPlan → HeldLid → ℕ → Step
+mending_at cells held plan line g = if delivers cells held line g then Ends (Taken line.port) else patch_at cells held plan line.lid g
+
+abbrev pub mending : Cells → HeldPlan → HeldPlan → HeldLid → List Step
+mending cells held plan line = map (mending_at cells held plan line) (switches cells)
+
+-- in that way it comes to a switch that delivers it
+abbrev pub mends : Cells → HeldPlan → HeldPlan → HeldLid → ℕ → Bool
+mends cells held plan line g = comes_to line.port (mending cells held plan line) (mending_at cells held plan line g)
+
+-- the plan's entry where that leads on; else the held one where it delivers; else what mends it; and else none
+abbrev pub next_entry : Cells → HeldPlan → HeldPlan → HeldLid → ℕ → ℕ
+next_entry cells held plan line g =
+    if leads_on cells held plan line g then entry_for plan line.lid g else
+    (if delivers cells held line g then entry_for held line.lid g else
+    (if mends cells held plan line g then patch_entry cells held plan line.lid g else 255))
+
+-- tables have the next entries for the LID of a line, which the same end ports hold
+pub record IsNext (cells : Cells) (held plan : HeldPlan) (line : HeldLid) (next : HeldPlan) : Type 0 where
+  pub owners : owners_of next line.lid ≡ owners_of held line.lid
+  pub entries : (g : ℕ) → Contains (switches cells) g → entry_for next line.lid g ≡ next_entry cells held plan line g
