@@ -1,4 +1,5 @@
-# make install PREFIX=/usr/local: the program, which is proved and built first, the tools for live subnets, and their man pages.
+# make install PREFIX=/usr/local: the program, which is proved and built first, the tools for live subnets, their man pages,
+# and what they read and write (FORMATS) and how they go together (OPERATORS).
 # Needs the Rattle kit, a C compiler, libibumad (Debian: libibumad-dev) and Python 3.
 PREFIX ?= /usr/local
 DESTDIR ?=
@@ -14,6 +15,7 @@ all:
 
 install: all
 	install -D -m 755 $(PROGRAM) $(DESTDIR)$(PREFIX)/bin/ibsm
+	for file in FORMATS OPERATORS; do install -D -m 644 docs/$$file.md $(DESTDIR)$(PREFIX)/share/doc/ibsm/$$file.md || exit 1; done
 	for page in $(PAGES); do install -D -m 644 tools/$$page $(DESTDIR)$(PREFIX)/share/man/man1/$$page || exit 1; done
 	for file in $(TOOLS); do install -D -m 755 tools/$$file $(DESTDIR)$(PREFIX)/lib/ibsm/$$file && \
 	    case " $(PAGES) " in *" $$file.1 "*) link=$$file ;; *) link=ibsm-$$file ;; esac && \

@@ -6,12 +6,15 @@ import subprocess
 
 from ibsm_texts import Refused
 
-BUILT = pathlib.Path(__file__).resolve().parent.parent / "crates/ibsm/out/ibsm"
+HERE = pathlib.Path(__file__).resolve().parent
+# Where it is built, and where it is installed: these tools are in lib/ibsm, and it is in bin.
+BESIDE = HERE.parent / "crates/ibsm/out/ibsm", HERE.parent.parent / "bin/ibsm"
 
 
 def the_program(named=None):
-    """The program that is named, or was built beside these tools, or is on the path."""
-    found = shutil.which(named) if named else os.fspath(BUILT) if os.access(BUILT, os.X_OK) else shutil.which("ibsm")
+    """The program that is named, or was built or installed beside these tools, or is on the path."""
+    beside = [os.fspath(path) for path in BESIDE if os.access(path, os.X_OK)]
+    found = shutil.which(named) if named else beside[0] if beside else shutil.which("ibsm")
     if not found:
         raise OSError(f"there is no program {named or 'ibsm'}: build it by ./ibsm, or name one by --ibsm")
     return found
