@@ -4,8 +4,8 @@ use Rattle.std.proofs.lemmas.List.{ext_get_or, get_or-drop, get_or-replicate, le
 use Rattle.smp_bytes.specs.Field.{Field, Entry, number_in, replaced, with_bits, with_number}
 use Rattle.smp_bytes.proofs.FieldLaws.{length-with_number, length-with_numbers}
 use Rattle.smp_bytes.proofs.BitLaws.{byte-number_in, get_or-with_bits}
-use Rattle.smp_bytes.proofs.CopyLaws.{byte_at_place, with_number-twice}
-use Rattle.smp_bytes.proofs.PlaceLaws.{all_end_within, get_or-with_number, get_or-with_numbers_behind}
+use Rattle.smp_bytes.proofs.CopyLaws.{byte_at_offset, with_number-twice}
+use Rattle.smp_bytes.proofs.OffsetLaws.{all_end_within, get_or-with_number, get_or-with_numbers_behind}
 use Rattle.attr_codec.specs.Image.{image}
 use Rattle.attr_codec.specs.NodeInfo.{base_version, class_version, node_type, num_ports, system_image_guid, node_guid, port_guid, partition_cap, device_id, revision, local_port_num, vendor_id, FitsNodeInfo, node_info_in, node_info_bytes, entries_of}
 use Rattle.attr_codec.specs.RoundTrip.{node_info_reads_back, sm_info_reads_back}
@@ -37,7 +37,7 @@ pub sm_info_keeps : KeepsFirstBytes 21 sm_info_in sm_info_bytes
 unfolding one_byte
 sm_info_keeps bytes are =
     let byte = get_or bytes 20 0 in
-    let small : byte < 256 = byte_at_place bytes are.bytes_fit 20 in
+    let small : byte < 256 = byte_at_offset bytes are.bytes_fit 20 in
     let of_priority = byte / 2 ^ 4 % 2 ^ 4 in
     let of_state = byte / 2 ^ 0 % 2 ^ 4 in
     let entries = sm_info_entries (sm_info_in bytes) in
@@ -56,8 +56,8 @@ sm_info_keeps bytes are =
     ∙ ap (λ n. with_number one_byte n whole) same
     ∙ with_number-front_of one_byte bytes are (omega arith)
 
--- 64 bytes with zeros from a place on
-zeros_from : (end : ℕ) (bytes : List ℕ) → end ≤ 64 → length bytes ≡ 64 → ((place : ℕ) → end ≤ place → place < 64 → get_or bytes place 0 ≡ 0)
+-- 64 bytes with zeros from an offset on
+zeros_from : (end : ℕ) (bytes : List ℕ) → end ≤ 64 → length bytes ≡ 64 → ((offset : ℕ) → end ≤ offset → offset < 64 → get_or bytes offset 0 ≡ 0)
     → drop end bytes ≡ replicate (64 - end) 0
 zeros_from end bytes within long zero_at =
     let few : length (drop end bytes) ≡ 64 - end = length-drop end bytes ∙ ap (λ n. n - end) long in
@@ -65,10 +65,10 @@ zeros_from end bytes within long zero_at =
     (λ k inside. get_or-drop end bytes k 0 ∙ zero_at (end + k) (omega arith) (omega arith) ∙ sym (get_or-replicate (64 - end) k 0 0 (omega arith)))
 
 -- so has an image behind its last field
-zero_behind : (end : ℕ) (entries : List Entry) → end ≤ 64 → all_end_within end entries ≡ true → (place : ℕ) → end ≤ place → place < 64
-    → get_or (image entries) place 0 ≡ 0
-zero_behind end entries within ends place behind inside =
-    get_or-with_numbers_behind end entries (replicate 64 0) place (omega arith) ends behind ∙ get_or-replicate 64 place 0 0 inside
+zero_behind : (end : ℕ) (entries : List Entry) → end ≤ 64 → all_end_within end entries ≡ true → (offset : ℕ) → end ≤ offset → offset < 64
+    → get_or (image entries) offset 0 ≡ 0
+zero_behind end entries within ends offset behind inside =
+    get_or-with_numbers_behind end entries (replicate 64 0) offset (omega arith) ends behind ∙ get_or-replicate 64 offset 0 0 inside
 
 -- node information is spelled by its fields
 pub node_info_spells : SpellsEachValue 40 node_info_in node_info_bytes FitsNodeInfo
@@ -95,7 +95,7 @@ sm_info_spells info fits =
       whole = longest;
       fields = sm_info_reads_back info fits;
       reserved = zeros_from 21 (sm_info_bytes info) (omega arith) longest
-          (λ place behind inside. get_or-with_number one_byte rewritten first place (omega arith) (inr behind)
-          ∙ get_or-with_number one_byte written whole place (omega arith) (inr behind)
-          ∙ zero_behind 20 (sm_info_entries info) (omega arith) refl place (omega arith) inside);
+          (λ offset behind inside. get_or-with_number one_byte rewritten first offset (omega arith) (inr behind)
+          ∙ get_or-with_number one_byte written whole offset (omega arith) (inr behind)
+          ∙ zero_behind 20 (sm_info_entries info) (omega arith) refl offset (omega arith) inside);
     }

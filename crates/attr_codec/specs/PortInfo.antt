@@ -1,4 +1,4 @@
--- Port information: the places of its fields.
+-- Port information: the offsets of its fields.
 -- InfiniBand Architecture Specification, Volume 1: subnet management, PortInfo.
 use Rattle.std.specs.Prelude.{ℕ, List, Option, [], ◌∷◌, find, ◌==◌}
 use Rattle.smp_bytes.specs.Field.{Field, Bits, number_in, bits_in}

@@ -1,4 +1,4 @@
--- Switch information: the places of its fields.
+-- Switch information: the offsets of its fields.
 -- InfiniBand Architecture Specification, Volume 1: subnet management, SwitchInfo.
 use Rattle.smp_bytes.specs.Field.{Field, Bits}
 

@@ -1,4 +1,4 @@
-//! Some bits of one byte of an attribute, at a place that const parameters name.
+//! Some bits of one byte of an attribute, at an offset that const parameters name.
 ghost use Rattle.std.specs.Prelude.{◌≡◌, ◌+◌, ◌^◌, ◌<◌, ◌≤◌};
 ghost use Rattle.smp_bytes.specs.Field.{bits_in, with_bits};
 
@@ -6,7 +6,7 @@ use smp_bytes::wire::{bits_at, put_bits};
 
 /// The number that `WIDTH` bits of the byte at `AT` stand for, of which the lowest is bit `SHIFT`.
 pub fn bits<const AT: usize, const SHIFT: u32, const WIDTH: u32>(bytes: &[u8; 64]) -> u8
-    requires place { AT < 64 }
+    requires offset { AT < 64 }
     requires some { 1 ≤ WIDTH }
     requires within { SHIFT + WIDTH ≤ 8 }
     ensures number { result ≡ bits_in (record { at = AT; shift = SHIFT; width = WIDTH }) bytes.now }
@@ -20,7 +20,7 @@ pub fn with_bits<const AT: usize, const SHIFT: u32, const WIDTH: u32>(
     bytes: &mut [u8; 64],
     number: u8,
 )
-    requires place { AT < 64 }
+    requires offset { AT < 64 }
     requires some { 1 ≤ WIDTH }
     requires within { SHIFT + WIDTH ≤ 8 }
     requires fits { number < 2 ^ WIDTH }

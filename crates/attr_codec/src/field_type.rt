@@ -1,4 +1,4 @@
-//! The fields of an attribute: numbers that stand at a place which a const parameter names.
+//! The fields of an attribute: numbers that stand at an offset which a const parameter names.
 ghost use Rattle.std.specs.Prelude.{◌≡◌, ℕ, ◌+◌, ◌^◌, ◌<◌, ◌≤◌};
 ghost use Rattle.smp_bytes.specs.Field.{number_in, with_number};
 

@@ -60,7 +60,7 @@ pub fn node_description_keeps_all_bytes()
         ⟦<NodeDescription as Attribute>⟧.bytes_of }
 {}
 
-/// Node information is spelled with each field at its place, and 0 in the 24 bytes behind them.
+/// Node information is spelled with each field at its offset, and 0 in the 24 bytes behind them.
 pub fn node_info_is_spelled_by_its_fields()
     ensures { SpellsEachValue 40
         ⟦<NodeInfo as Attribute>⟧.value_in
@@ -68,7 +68,7 @@ pub fn node_info_is_spelled_by_its_fields()
         ⟦<NodeInfo as Attribute>⟧.is_value }
 {}
 
-/// A subnet manager's information is spelled with each field at its place, and 0 in the 43 bytes behind them.
+/// A subnet manager's information is spelled with each field at its offset, and 0 in the 43 bytes behind them.
 pub fn sm_info_is_spelled_by_its_fields()
     ensures { SpellsEachValue 21
         ⟦<SmInfo as Attribute>⟧.value_in

@@ -27,7 +27,7 @@ pub struct NodeInfo {
     pub vendor_id: VendorId,
 }
 
-/// Each field, its type and its place.
+/// Each field, its type and its offset.
 macro_rules! node_info {
     ($make:ident $source:ident) => {
         fields!($make $source, NodeInfo {

@@ -18,7 +18,7 @@ pub struct SmInfo {
     pub state: SmStateNumber,
 }
 
-/// Each field, its type and its place.
+/// Each field, its type and its offset.
 macro_rules! sm_info {
     ($make:ident $source:ident) => {
         fields!($make $source, SmInfo {

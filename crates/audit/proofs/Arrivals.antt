@@ -8,16 +8,16 @@ use Rattle.std.proofs.lemmas.List.Sums.{AllPass-from_list_all, fails_before_firs
 use Rattle.subnet_view.specs.declared.end_port.EndPort.{EndPort}
 use Rattle.audit.specs.declared.end.End.{End}
 use Rattle.audit.specs.declared.end.End.TheVariants.{Taken}
-use Rattle.audit.specs.declared.far.Far.{Far}
-use Rattle.audit.specs.declared.far.Far.TheVariants.{Nothing, Switch, Port}
-use Rattle.audit.specs.declared.far.Source.{Source}
-use Rattle.audit.specs.declared.step.Step.{Step}
-use Rattle.audit.specs.declared.step.Step.TheVariants.{To, Ends}
+use Rattle.audit.specs.declared.far_end.Far.{Far}
+use Rattle.audit.specs.declared.far_end.Far.TheVariants.{Nothing, Switch, Port}
+use Rattle.audit.specs.declared.senders.Sender.{Sender}
+use Rattle.audit.specs.declared.next_hop.NextHop.{NextHop}
+use Rattle.audit.specs.declared.next_hop.NextHop.TheVariants.{To, Ends}
 use Rattle.audit.specs.Ends.{AreEnds, all_come, arrivals, comes_by, end_from, is_sole}
 use Rattle.audit.specs.Network.{all_begin, first_by, first_switch, is_among}
-use Rattle.audit.specs.Steps.{is_at, sent}
+use Rattle.audit.specs.NextHops.{is_at, sent}
 use Rattle.audit.specs.Tables.{is_owner, is_same_end}
-use Rattle.audit.specs.Walks.{end_of, onward}
+use Rattle.audit.specs.WalkEnds.{end_of, onward}
 use Rattle.audit.proofs.Judged.{same_ends}
 
 -- what a function gives of an element, and of none
@@ -41,9 +41,9 @@ sole_owner port e (x ∷ owners) sole is =
       | false ↦ λ q k. sole_owner port e owners parts.1 k
     ] refl is
 
-module _ (port : EndPort) (owners : List EndPort) (walks : List Step) where
+module _ (port : EndPort) (owners : List EndPort) (walks : List NextHop) where
   -- a walk that comes to the port
-  walk_there : (ws : List Step) (index : ℕ) (d : Step) → slice_index_or (arrivals port ws) index false ≡ true → is_at port (end_of (slice_index_or ws index d)) ≡ true
+  walk_there : (ws : List NextHop) (index : ℕ) (d : NextHop) → slice_index_or (arrivals port ws) index false ≡ true → is_at port (end_of (slice_index_or ws index d)) ≡ true
   walk_there [] index d h = absurd (cc)
   walk_there (w ∷ ws) zero d h = h
   walk_there (w ∷ ws) (suc index) d h = walk_there ws index d h
@@ -60,18 +60,18 @@ module _ (port : EndPort) (owners : List EndPort) (walks : List Step) where
         | false ↦ λ q. walk_there walks index (To index) h
       ] refl
 
-  source_there : (sources : List Source) (place : ℕ) → is_sole port owners ≡ true → comes_by (slice_index_or (map first_switch sources) place None) (arrivals port walks) ≡ true
-      → is_at port (slice_index_or (map (end_from owners walks) sources) place None) ≡ true
-  source_there [] place sole h = absurd (cc)
+  source_there : (sources : List Sender) (index : ℕ) → is_sole port owners ≡ true → comes_by (slice_index_or (map first_switch sources) index None) (arrivals port walks) ≡ true
+      → is_at port (slice_index_or (map (end_from owners walks) sources) index None) ≡ true
+  source_there [] index sole h = absurd (cc)
   source_there (s ∷ sources) zero sole h = packet_there s.port s.switch s.far sole h
-  source_there (s ∷ sources) (suc place) sole h = source_there sources place sole h
+  source_there (s ∷ sources) (suc index) sole h = source_there sources index sole h
 
-  pub comes_there : (sources : List Source) (firsts : List (Option ℕ)) (arrive : List Bool) (sole all : Bool) (place : ℕ)
-      → AreEnds port sources firsts owners walks arrive sole all → sole ≡ true → comes_by (slice_index_or firsts place None) arrive ≡ true
-      → is_at port (slice_index_or (map (end_from owners walks) sources) place None) ≡ true
-  comes_there sources firsts arrive sole all place are only h =
-      source_there sources place (sym are.sole_is ∙ only)
-      (sym (λ i. comes_by (slice_index_or (are.firsts_are i) place None) (are.arrive_is i)) ∙ h)
+  pub comes_there : (sources : List Sender) (firsts : List (Option ℕ)) (arrive : List Bool) (sole all : Bool) (index : ℕ)
+      → AreEnds port sources firsts owners walks arrive sole all → sole ≡ true → comes_by (slice_index_or firsts index None) arrive ≡ true
+      → is_at port (slice_index_or (map (end_from owners walks) sources) index None) ≡ true
+  comes_there sources firsts arrive sole all index are only h =
+      source_there sources index (sym are.sole_is ∙ only)
+      (sym (λ i. comes_by (slice_index_or (are.firsts_are i) index None) (are.arrive_is i)) ∙ h)
 
   -- where all come
   among : (count : ℕ) (first : Option ℕ) (arrive : List Bool) → is_among count first ≡ true → count ≡ length arrive → list_all (λ (b : Bool). b) arrive ≡ true
@@ -81,7 +81,7 @@ module _ (port : EndPort) (owners : List EndPort) (walks : List Step) where
       let less : index < count = ltb-true index count h in
       AllPass-from_list_all (λ (b : Bool). b) arrive all index false (omega arith)
 
-  pub all_comes : (sources : List Source) (firsts : List (Option ℕ)) (arrive : List Bool) (sole all : Bool)
+  pub all_comes : (sources : List Sender) (firsts : List (Option ℕ)) (arrive : List Bool) (sole all : Bool)
       → AreEnds port sources firsts owners walks arrive sole all → all ≡ true → (k : ℕ) → k < length sources
       → is_at port (slice_index_or (map (end_from owners walks) sources) k None) ≡ true
   all_comes sources firsts arrive sole all are true_is k less =
@@ -91,11 +91,11 @@ module _ (port : EndPort) (owners : List EndPort) (walks : List Step) where
       let front = and_parts (begin && sole) each both in
       let parts = and_parts begin sole front.0 in
       let long : length firsts ≡ length sources = ap length are.firsts_are ∙ length-map sources first_switch in
-      let wide : length arrive ≡ length walks = ap length are.arrive_is ∙ length-map walks (λ (walk : Step). is_at port (end_of walk)) in
+      let wide : length arrive ≡ length walks = ap length are.arrive_is ∙ length-map walks (λ (walk : NextHop). is_at port (end_of walk)) in
       let first = AllPass-from_list_all (is_among (length walks)) firsts parts.0 k None (omega arith) in
       comes_there sources firsts arrive sole all k are parts.1 (among (length walks) (slice_index_or firsts k None) arrive first (sym wide) front.1)
 
--- the first place at which a test passes
+-- the first index at which a test passes
 module _ {X : Type 0} (p : X → Bool) (xs : List X) (d : X) where
   pub first_there : (i : ℕ) → i < length xs → ((k : ℕ) → k < i → p (get_or xs k d) ≡ false) → p (get_or xs i d) ≡ true → Some i ≡ position p xs
   first_there i less before here =

@@ -8,11 +8,11 @@ use Rattle.std.proofs.lemmas.Option.{slice_get-get_or}
 use Rattle.std.proofs.lemmas.List.Sums.{fails_before_first}
 use Rattle.text_words.proofs.Splits.{unfound}
 use Rattle.std.proofs.lemmas.List.Quantifiers.{position-Some}
-use Rattle.smp_bytes.specs.declared.cable.NodePort.{NodePort}
+use Rattle.fabric_model.specs.declared.cable.NodePort.{NodePort}
 use Rattle.smp_bytes.specs.NodeType.{is_switch}
-use Rattle.smp_bytes.specs.Fabric.{Node, Fabric, IsNodeAt, IsEndPort}
-use Rattle.smp_bytes.specs.FabricWalks.{vertex_of}
-use Rattle.smp_bytes.proofs.FabricWalks.{port_at, same_port, EndNumber, vertex_node, vertex_is_end}
+use Rattle.fabric_model.specs.Fabric.{Node, Fabric, IsNodeAt, IsEndPort}
+use Rattle.fabric_model.specs.FabricWalks.{vertex_of}
+use Rattle.fabric_model.proofs.FabricWalks.{port_at, same_port, EndNumber, vertex_node, vertex_is_end}
 use Rattle.fact_store.specs.View.{Facts, cells_of}
 use Rattle.subnet_view.specs.Reading.{Cells, is_switch_node, is_usable, cap_of, switches}
 use Rattle.subnet_view.specs.Wires.{across}
@@ -63,21 +63,21 @@ module _ (part : Part) (facts : Facts) (held : HeldPlan) (f : Fabric) (seen : Is
   pub known_type : (p : NodePort) (node : Node) → InFabric p node → is_switch_node cells node.guid ≡ is_switch node.kind
   known_type p node here = ap (λ o. option_map_or (λ n. is_switch n.0) o false) (seen.covers.tells_end_ports p node here).kind
 
-  pub switch_end : (place : ℕ) (node : Node) → IsNodeAt f place node → is_switch node.kind ≡ true → part (port_at place 0) → InFabric (port_at place 0) node
-  switch_end place node at kind within =
-      as_part (port_at place 0) node at (node, at, subst (EndNumber node.ports 0) (sym kind) refl) within
+  pub switch_end : (id : ℕ) (node : Node) → IsNodeAt f id node → is_switch node.kind ≡ true → part (port_at id 0) → InFabric (port_at id 0) node
+  switch_end id node at kind within =
+      as_part (port_at id 0) node at (node, at, subst (EndNumber node.ports 0) (sym kind) refl) within
 
   -- a switch of the part is usable, and has an index
-  pub usable : (place : ℕ) (node : Node) → IsNodeAt f place node → is_switch node.kind ≡ true → part (port_at place 0) → is_usable cells node.guid ≡ true
-  usable place node at kind within =
-      let here = switch_end place node at kind within in
-      and_from (is_switch_node cells node.guid) (is_some (cap_of cells node.guid)) (known_type (port_at place 0) node here ∙ kind)
-      (ap is_some ((seen.covers.tells_end_ports (port_at place 0) node here).cap kind))
+  pub usable : (id : ℕ) (node : Node) → IsNodeAt f id node → is_switch node.kind ≡ true → part (port_at id 0) → is_usable cells node.guid ≡ true
+  usable id node at kind within =
+      let here = switch_end id node at kind within in
+      and_from (is_switch_node cells node.guid) (is_some (cap_of cells node.guid)) (known_type (port_at id 0) node here ∙ kind)
+      (ap is_some ((seen.covers.tells_end_ports (port_at id 0) node here).cap kind))
 
-  pub listed : (place : ℕ) (node : Node) → IsNodeAt f place node → is_switch node.kind ≡ true → part (port_at place 0)
+  pub listed : (id : ℕ) (node : Node) → IsNodeAt f id node → is_switch node.kind ≡ true → part (port_at id 0)
       → index_in (switches cells) node.guid ≡ None → ⊥
-  listed place node at kind within none =
-      index_there (switches cells) node.guid (((switches_law facts).0 node.guid).1 ((usable_law cells node.guid).0 (usable place node at kind within))) none
+  listed id node at kind within none =
+      index_there (switches cells) node.guid (((switches_law facts).0 node.guid).1 ((usable_law cells node.guid).0 (usable id node at kind within))) none
 
   -- a node with an index is a switch
   pub indexed : (p : NodePort) (node : Node) (i : ℕ) → InFabric p node → index_in (switches cells) node.guid ≡ Some i
@@ -93,8 +93,8 @@ module _ (part : Part) (facts : Facts) (held : HeldPlan) (f : Fabric) (seen : Is
       )
 
   -- the wires are those that the facts tell
-  same_place : (p q : NodePort) (a b : Node) → InFabric p a → InFabric q b → a.guid ≡ b.guid → p.node ≡ q.node
-  same_place = seen.covers.guids_distinct
+  same_index : (p q : NodePort) (a b : Node) → InFabric p a → InFabric q b → a.guid ≡ b.guid → p.node ≡ q.node
+  same_index = seen.covers.guids_distinct
 
   pub wire_told : (p q : NodePort) (a b : Node) → f.across p ≡ Some q → p ≢ q → IsNodeAt f p.node a → IsNodeAt f q.node b → part (vertex_of f p)
       → across cells a.guid p.port ≡ Some (b.guid, q.port)
@@ -116,11 +116,11 @@ module _ (part : Part) (facts : Facts) (held : HeldPlan) (f : Fabric) (seen : Is
 
   pub told_wire : (p v : NodePort) (node : Node) (h q : ℕ) → InFabric v node → v.node ≡ p.node → part (vertex_of f p)
       → across cells node.guid p.port ≡ Some (h, q) → WireThere p
-  told_wire p v node h q here place within e =
-      let there : IsNodeAt f p.node node = sym (ap (slice_get f.nodes) place) ∙ here.node_there in
+  told_wire p v node h q here id within e =
+      let there : IsNodeAt f p.node node = sym (ap (slice_get f.nodes) id) ∙ here.node_there in
       let w = seen.covers.wires_there p node there within h q ((wire_law cells node.guid p.port h q).0 e) in
       let from_part = vertex_part w.from w.to w.from_named.node w.wire.cable w.from_named.node_there w.in_part in
       let at : w.from.node ≡ p.node =
-      sym (vertex_node f w.from) ∙ same_place (vertex_of f w.from) v w.from_named.node node from_part here w.from_named.guid_is ∙ place in
+      sym (vertex_node f w.from) ∙ same_index (vertex_of f w.from) v w.from_named.node node from_part here w.from_named.guid_is ∙ id in
       let same : w.from ≡ p = same_port w.from p at w.from_named.port_is in
       record { to = w.to; wire = sym (ap f.across same) ∙ w.wire.cable; apart = λ k. w.wire.different (same ∙ k) }

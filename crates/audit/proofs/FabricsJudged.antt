@@ -3,13 +3,13 @@ use Rattle.std.proofs.Common.{◌≡◌, ◌≢◌, ℕ, true, false, cond, ◌|
 use Rattle.std.specs.Prelude.{slice_get, map, filter, Contains, is_some, ◌==◌}
 use Rattle.std.proofs.lemmas.Bool.{eqb-true, eq-eqb}
 use Rattle.std.proofs.lemmas.Option.{same_Some}
-use Rattle.smp_bytes.specs.declared.cable.NodePort.{NodePort}
-use Rattle.smp_bytes.specs.declared.course.Course.TheVariants.{Delivers}
+use Rattle.fabric_model.specs.declared.cable.NodePort.{NodePort}
+use Rattle.fabric_model.specs.declared.course.Course.TheVariants.{Delivers}
 use Rattle.smp_bytes.specs.NodeType.{is_switch}
-use Rattle.smp_bytes.specs.Fabric.{Node, Fabric, IsNodeAt, IsEndPort, owns}
-use Rattle.smp_bytes.specs.Forwarding.{Standing, sent_from, arrived_at, course, Hop, Goes, IsDelivered}
-use Rattle.smp_bytes.proofs.FabricWalks.{port_at, same_port, EndNumber}
-use Rattle.smp_bytes.proofs.Forwarded.{packets_end_once}
+use Rattle.fabric_model.specs.Fabric.{Node, Fabric, IsNodeAt, IsEndPort, owns}
+use Rattle.fabric_model.specs.Forwarding.{Standing, sent_from, arrived_at, course, Hop, Goes, IsDelivered}
+use Rattle.fabric_model.proofs.FabricWalks.{port_at, same_port, EndNumber}
+use Rattle.fabric_model.proofs.Forwarded.{packets_end_once}
 use Rattle.fact_store.specs.View.{Facts, cells_of}
 use Rattle.subnet_view.specs.declared.end_port.EndPort.{EndPort}
 use Rattle.subnet_view.specs.Reading.{Cells}
@@ -23,7 +23,7 @@ use Rattle.audit.specs.declared.end.End.{End}
 use Rattle.audit.specs.declared.end.Failure.{Failure}
 use Rattle.audit.specs.declared.end.End.TheVariants.{Taken, Lost}
 use Rattle.audit.specs.Fabrics.{IsSeen, EndsAs, EachArrives, SomeMisses, HoldsLids, FabricsAreJudged}
-use Rattle.audit.specs.Steps.{AllArrive, IsBrought, IsHeldFailure}
+use Rattle.audit.specs.NextHops.{AllArrive, IsBrought, IsHeldFailure}
 use Rattle.audit.specs.Tables.{owners_of, is_owner, is_same_end}
 use Rattle.audit.proofs.FabricParts.{InFabric, as_part, seen_whole, switch_end}
 use Rattle.audit.proofs.Judged.{same_ends, same_itself}
@@ -104,15 +104,15 @@ module _ (facts : Facts) (held : HeldPlan) (f : Fabric) (seen : IsSeen (cells_of
   end_there : (e : EndPort) → Contains (end_ports cells) e → (p : NodePort) × IsPortNamed f e.node e.port p × IsEndPort f p
   end_there e h = let there = seen.agrees.end_ports_exist e.node e.port (((end_ports_law facts).0 e).0 h) in (there.port, there.named, there.end_port)
 
-  -- one GUID, one place
-  some_end : (place : ℕ) (node : Node) → IsNodeAt f place node → (p : NodePort) × (p.node ≡ place) × InFabric WholeFabric facts held f (seen_whole seen) p node
-  some_end place node at =
-      elim (is_switch node.kind) as (λ t. is_switch node.kind ≡ t → (p : NodePort) × (p.node ≡ place) × InFabric WholeFabric facts held f (seen_whole seen) p node) [
-        | true ↦ λ k. (port_at place 0, refl, switch_end WholeFabric facts held f (seen_whole seen) place node at k tt)
+  -- one GUID, one id
+  some_end : (id : ℕ) (node : Node) → IsNodeAt f id node → (p : NodePort) × (p.node ≡ id) × InFabric WholeFabric facts held f (seen_whole seen) p node
+  some_end id node at =
+      elim (is_switch node.kind) as (λ t. is_switch node.kind ≡ t → (p : NodePort) × (p.node ≡ id) × InFabric WholeFabric facts held f (seen_whole seen) p node) [
+        | true ↦ λ k. (port_at id 0, refl, switch_end WholeFabric facts held f (seen_whole seen) id node at k tt)
         | false ↦ λ k.
-            let some = (seen.is_fabric.counts place node at).0 in
+            let some = (seen.is_fabric.counts id node at).0 in
             let number : EndNumber node.ports 1 (is_switch node.kind) = subst (EndNumber node.ports 1) (sym k) (omega arith, some) in
-            (port_at place 1, refl, as_part WholeFabric facts held f (seen_whole seen) (port_at place 1) node at (node, at, number) tt)
+            (port_at id 1, refl, as_part WholeFabric facts held f (seen_whole seen) (port_at id 1) node at (node, at, number) tt)
       ] refl
 
   pub one_port : (p q : NodePort) (node : Node) (e : EndPort) → IsPortNamed f e.node e.port p → IsNodeAt f q.node node → name q node ≡ e → p ≡ q
@@ -146,8 +146,8 @@ module _ (facts : Facts) (held : HeldPlan) (f : Fabric) (seen : IsSeen (cells_of
       let guid : x.node ≡ e.node = sym its.guid_is ∙ ap (λ (n : Node). n.guid) node ∙ named.guid_is in
       let port : x.port ≡ e.port = sym its.port_is ∙ ap (λ (p : NodePort). p.port) same ∙ named.port_is in
       apart (λ i. Some (Taken (record { node = guid i; port = port i })))
-  not_there source target lid e (Some (Lost g cause)) named (others, place, lost) apart hops d = (packets_end_once f lid source).1 hops others target place d lost
-  not_there source target lid e None named (others, place, lost) apart hops d = (packets_end_once f lid source).1 hops others target place d lost
+  not_there source target lid e (Some (Lost g cause)) named (others, id, lost) apart hops d = (packets_end_once f lid source).1 hops others target id d lost
+  not_there source target lid e None named (others, id, lost) apart hops d = (packets_end_once f lid source).1 hops others target id d lost
 
   pub miss : HoldsLids held → (failure : Failure) → IsHeldFailure cells held failure → SomeMisses f
   miss lids failure h =

@@ -4,9 +4,9 @@ use Rattle.std.specs.Prelude.{Option, slice_get, slice_index_or}
 use Rattle.std.specs.Option.{option_map_or}
 use Rattle.subnet_view.specs.Reading.{Cells, switches}
 use Rattle.plan_file.specs.Held.{HeldPlan}
-use Rattle.audit.specs.declared.far.Far.{Far}
-use Rattle.audit.specs.declared.far.Far.TheVariants.{Nothing}
-use Rattle.audit.specs.declared.node.Node.{Node}
+use Rattle.audit.specs.declared.far_end.Far.{Far}
+use Rattle.audit.specs.declared.far_end.Far.TheVariants.{Nothing}
+use Rattle.audit.specs.declared.audited_switch.AuditedSwitch.{AuditedSwitch}
 use Rattle.audit.specs.Network.{node_of, row_of}
 
 -- what is told of an element that a function gives
@@ -16,10 +16,10 @@ told f p d [] k = refl
 told f p d (x ∷ xs) zero = refl
 told f p d (x ∷ xs) (suc k) = told f p d xs k
 
-pub far_there : (cells : Cells) (held : HeldPlan) (nodes : List Node) (k p : ℕ) (found : Option Node) → nodes ≡ map (node_of cells held) (switches cells)
+pub far_there : (cells : Cells) (held : HeldPlan) (nodes : List AuditedSwitch) (k p : ℕ) (found : Option AuditedSwitch) → nodes ≡ map (node_of cells held) (switches cells)
     → slice_get nodes k ≡ found
     → option_map_or (λ node. slice_index_or node.row p Nothing) found Nothing
     ≡ option_map_or (λ g. slice_index_or (row_of cells g) p Nothing) (slice_get (switches cells) k) Nothing
 far_there cells held nodes k p found are is =
-    let far : Node → Far = λ node. slice_index_or node.row p Nothing in
+    let far : AuditedSwitch → Far = λ node. slice_index_or node.row p Nothing in
     ap (λ o. option_map_or far o Nothing) (sym is ∙ ap (λ ns. slice_get ns k) are) ∙ told (node_of cells held) far Nothing (switches cells) k

@@ -8,22 +8,22 @@ use Rattle.std.proofs.lemmas.Option.{slice_get-get_or}
 use Rattle.std.specs.List.{find}
 use Rattle.plan_file.specs.declared.held.HeldBlock.{HeldBlock}
 use Rattle.plan_file.specs.Held.{HeldPlan}
-use Rattle.audit.specs.Steps.{AreBlank, with_block}
+use Rattle.audit.specs.NextHops.{AreBlank, with_block}
 use Rattle.audit.specs.Tables.{is_block_of, entry_in}
 
--- the last of some blocks that is of the number and of the switch at a place
+-- the last of some blocks that is of the number and of the switch at a s
 abbrev last_of : List HeldBlock → ℕ → ℕ → Option HeldBlock
-last_of blocks place number = find (is_block_of place number) (reverse blocks)
+last_of blocks s number = find (is_block_of s number) (reverse blocks)
 
 -- the rows have the last of the blocks so far
 pub record AreGathered (held : HeldPlan) (number : ℕ) (rows : List (List ℕ)) (index : ℕ) : Type 0 where
   pub as_many : length rows ≡ length held.switches
-  pub entry : (place i : ℕ) → place < length rows
-      → slice_index_or (slice_index_or rows place []) i 255 ≡ entry_in (last_of (take index held.blocks) place number) i
+  pub entry : (s i : ℕ) → s < length rows
+      → slice_index_or (slice_index_or rows s []) i 255 ≡ entry_in (last_of (take index held.blocks) s number) i
 
 -- blank rows
 pub no_rows : AreBlank 0 []
-no_rows = record { as_many = refl; entry = λ place i. refl }
+no_rows = record { as_many = refl; entry = λ s i. refl }
 
 blank_entry : (d n i : ℕ) → slice_index_or (replicate n d) i d ≡ d
 blank_entry d zero i = refl
@@ -31,12 +31,12 @@ blank_entry d (suc n) zero = refl
 blank_entry d (suc n) (suc i) = blank_entry d n i
 
 row_more : (rows : List (List ℕ)) (row : List ℕ) → ((i : ℕ) → slice_index_or row i 255 ≡ 255)
-    → ((place i : ℕ) → slice_index_or (slice_index_or rows place []) i 255 ≡ 255)
-    → (place i : ℕ) → slice_index_or (slice_index_or (rows ++ row ∷ []) place []) i 255 ≡ 255
+    → ((s i : ℕ) → slice_index_or (slice_index_or rows s []) i 255 ≡ 255)
+    → (s i : ℕ) → slice_index_or (slice_index_or (rows ++ row ∷ []) s []) i 255 ≡ 255
 row_more [] row blank rest zero i = blank i
-row_more [] row blank rest (suc place) i = refl
+row_more [] row blank rest (suc s) i = refl
 row_more (r ∷ rows) row blank rest zero i = rest 0 i
-row_more (r ∷ rows) row blank rest (suc place) i = row_more rows row blank (λ p k. rest (suc p) k) place i
+row_more (r ∷ rows) row blank rest (suc s) i = row_more rows row blank (λ p k. rest (suc p) k) s i
 
 pub blank_more : (count : ℕ) (rows : List (List ℕ)) (row : List ℕ) → AreBlank count rows → row ≡ replicate 64 255 → AreBlank (count + 1) (rows ++ row ∷ [])
 blank_more count rows row h e =
@@ -47,18 +47,18 @@ blank_more count rows row h e =
     }
 
 pub none_gathered : (held : HeldPlan) (number : ℕ) (rows : List (List ℕ)) → AreBlank (length held.switches) rows → AreGathered held number rows 0
-none_gathered held number rows h = record { as_many = h.as_many; entry = λ place i less. h.entry place i }
+none_gathered held number rows h = record { as_many = h.as_many; entry = λ s i less. h.entry s i }
 
 and_true : (b : Bool) → (b && true) ≡ b
 and_true true = refl
 and_true false = refl
 
 -- the last of the blocks with one more
-last_more : (blocks : List HeldBlock) (k : ℕ) (d : HeldBlock) (place number : ℕ) → k < length blocks
-    → last_of (take (k + 1) blocks) place number ≡ cond (is_block_of place number (get_or blocks k d)) (Some (get_or blocks k d)) (last_of (take k blocks) place number)
-last_more blocks k d place number less =
-    ap (λ xs. find (is_block_of place number) (reverse xs)) (take_more blocks k d less)
-    ∙ ap (find (is_block_of place number)) (reverse-append (take k blocks) (get_or blocks k d ∷ []))
+last_more : (blocks : List HeldBlock) (k : ℕ) (d : HeldBlock) (s number : ℕ) → k < length blocks
+    → last_of (take (k + 1) blocks) s number ≡ cond (is_block_of s number (get_or blocks k d)) (Some (get_or blocks k d)) (last_of (take k blocks) s number)
+last_more blocks k d s number less =
+    ap (λ xs. find (is_block_of s number) (reverse xs)) (take_more blocks k d less)
+    ∙ ap (find (is_block_of s number)) (reverse-append (take k blocks) (get_or blocks k d ∷ []))
 
 -- a block of another number
 pub other_more : (held : HeldPlan) (number : ℕ) (rows : List (List ℕ)) (k : ℕ) (d : HeldBlock) → AreGathered held number rows k → k < length held.blocks
@@ -67,11 +67,11 @@ other_more held number rows k d h less other =
     let b : HeldBlock = get_or held.blocks k d in
     record {
       as_many = h.as_many;
-      entry = λ place i within.
-          h.entry place i within
-          ∙ sym (ap (λ x. entry_in x i) (last_more held.blocks k d place number less
-          ∙ ap (λ t. cond t (Some b) (last_of (take k held.blocks) place number))
-          (ap (λ t. (b.switch == place) && t) (ne_eqb b.number number other) ∙ and_right (b.switch == place) false refl)));
+      entry = λ s i within.
+          h.entry s i within
+          ∙ sym (ap (λ x. entry_in x i) (last_more held.blocks k d s number less
+          ∙ ap (λ t. cond t (Some b) (last_of (take k held.blocks) s number))
+          (ap (λ t. (b.switch == s) && t) (ne_eqb b.number number other) ∙ and_right (b.switch == s) false refl)));
     }
 
 -- a block of the number
@@ -88,25 +88,25 @@ block_more held number rows new k d h less same put = record { as_many = as_many
     as_many : length new ≡ length held.switches
     as_many = ap length e ∙ length-set rows b.switch b.entries ∙ h.as_many
 
-    last_is : (place : ℕ) → last_of (take (k + 1) held.blocks) place number ≡ cond (b.switch == place) (Some b) (last_of (take k held.blocks) place number)
-    last_is place =
-        last_more held.blocks k d place number less
-        ∙ ap (λ t. cond ((b.switch == place) && t) (Some b) (last_of (take k held.blocks) place number)) (eq-eqb b.number number same)
-        ∙ ap (λ t. cond t (Some b) (last_of (take k held.blocks) place number)) (and_true (b.switch == place))
+    last_is : (s : ℕ) → last_of (take (k + 1) held.blocks) s number ≡ cond (b.switch == s) (Some b) (last_of (take k held.blocks) s number)
+    last_is s =
+        last_more held.blocks k d s number less
+        ∙ ap (λ t. cond ((b.switch == s) && t) (Some b) (last_of (take k held.blocks) s number)) (eq-eqb b.number number same)
+        ∙ ap (λ t. cond t (Some b) (last_of (take k held.blocks) s number)) (and_true (b.switch == s))
 
-    entry : (place i : ℕ) → place < length new → slice_index_or (slice_index_or new place []) i 255 ≡ entry_in (last_of (take (k + 1) held.blocks) place number) i
-    entry place i within =
+    entry : (s i : ℕ) → s < length new → slice_index_or (slice_index_or new s []) i 255 ≡ entry_in (last_of (take (k + 1) held.blocks) s number) i
+    entry s i within =
         let long = length-set rows b.switch b.entries in
         let longer = ap length e in
-        let inside : place < length rows = omega arith in
-        let stands = ap (λ xs. slice_index_or (slice_index_or xs place []) i 255) e in
-        elim (cases_eq place b.switch) [
+        let inside : s < length rows = omega arith in
+        let stands = ap (λ xs. slice_index_or (slice_index_or xs s []) i 255) e in
+        elim (cases_eq s b.switch) [
           | inl here ↦ (
-              stands ∙ ap (λ row. slice_index_or row i 255) (get_or-set_at rows b.switch place b.entries [] here (omega arith))
-              ∙ sym (ap (λ x. entry_in x i) (last_is place
-              ∙ ap (λ t. cond t (Some b) (last_of (take k held.blocks) place number)) (eq-eqb b.switch place (sym here)))))
+              stands ∙ ap (λ row. slice_index_or row i 255) (get_or-set_at rows b.switch s b.entries [] here (omega arith))
+              ∙ sym (ap (λ x. entry_in x i) (last_is s
+              ∙ ap (λ t. cond t (Some b) (last_of (take k held.blocks) s number)) (eq-eqb b.switch s (sym here)))))
           | inr apart ↦ (
-              stands ∙ ap (λ row. slice_index_or row i 255) (get_or-set_other rows b.switch place b.entries [] apart) ∙ h.entry place i inside
-              ∙ sym (ap (λ x. entry_in x i) (last_is place
-              ∙ ap (λ t. cond t (Some b) (last_of (take k held.blocks) place number)) (ne_eqb b.switch place (λ q. apart (sym q))))))
+              stands ∙ ap (λ row. slice_index_or row i 255) (get_or-set_other rows b.switch s b.entries [] apart) ∙ h.entry s i inside
+              ∙ sym (ap (λ x. entry_in x i) (last_is s
+              ∙ ap (λ t. cond t (Some b) (last_of (take k held.blocks) s number)) (ne_eqb b.switch s (λ q. apart (sym q))))))
         ]

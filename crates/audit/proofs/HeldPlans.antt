@@ -15,8 +15,8 @@ use Rattle.lid_assign.specs.Lids.{top_of as lid_top}
 use Rattle.lid_assign.proofs.LidLaws.{lids_law}
 use Rattle.subnet_view.specs.declared.end_port.EndPort.{EndPort}
 use Rattle.updown_routes.specs.Routing.{Routing}
-use Rattle.spread_rule.specs.Rules.{RuleValue, routing_by}
-use Rattle.lft_blocks.specs.Entries.{Next, home_of_lid, blocks, block_count}
+use Rattle.lft_blocks.specs.Rules.{RuleValue, routing_by}
+use Rattle.lft_blocks.specs.Entries.{Next, attachment_of_lid, blocks, block_count}
 use Rattle.lft_blocks.specs.Plan.{SwitchTable, PlanValue, plan_of, tables_of}
 use Rattle.lft_blocks.specs.PlanLaws.{HasBlock, block_of}
 use Rattle.lft_blocks.proofs.BlockLaws.{made_at}
@@ -24,7 +24,7 @@ use Rattle.lft_blocks.proofs.HeldEntries.{planned_block, owned_to_top, owned_fro
 use Rattle.lft_blocks.proofs.HeldEntries.{entry_of as planned_entry}
 use Rattle.plan_file.specs.Held.{HeldPlan}
 use Rattle.plan_file.specs.Printed.{owned_lids, blocks_of, with_top}
-use Rattle.audit.specs.Tables.{counted, place_of, entry_in, entry_at, entry_for, entry_of, top_at}
+use Rattle.audit.specs.Tables.{counted, index_of, entry_in, entry_at, entry_for, entry_of, top_at}
 use Rattle.audit.proofs.HeldTables.{found, block_found, placed, slice_mapped}
 
 -- the plan's tables and LIDs as they are held
@@ -36,10 +36,10 @@ made rule lmc cells top = record {
 }
 
 -- a switch has its table of the plan
-pub table_there : (guids : List ℕ) (homes : ℕ → Option (ℕ × ℕ)) (next : Next) (count g : ℕ) → Contains guids g
-    → (table : SwitchTable) × (find (λ t. t.guid == g) (tables_of homes next count guids) ≡ Some table)
-table_there guids homes next count g h =
-    let F : ℕ → SwitchTable = λ s. record { guid = s; blocks = blocks homes next count s } in
+pub table_there : (guids : List ℕ) (attachments : ℕ → Option (ℕ × ℕ)) (next : Next) (count g : ℕ) → Contains guids g
+    → (table : SwitchTable) × (find (λ t. t.guid == g) (tables_of attachments next count guids) ≡ Some table)
+table_there guids attachments next count g h =
+    let F : ℕ → SwitchTable = λ s. record { guid = s; blocks = blocks attachments next count s } in
     let it = found (λ (t : SwitchTable). t.guid == g) (map F guids) (F g) (contains_map F guids g h) (eq-eqb g g refl) in
     (it.x, it.is)
 
@@ -49,10 +49,10 @@ pub of_find : (b : ℕ) (block : List ℕ) (o : Option SwitchTable) → option_a
 of_find b block None e = absurd (cc)
 of_find b block (Some t) e = (t, refl, e)
 
-at_place : (xs : List ℕ) (i x d : ℕ) → slice_get xs i ≡ Some x → get_or xs i d ≡ x
-at_place [] i x d e = cc
-at_place (y ∷ xs) zero x d e = same_Some y x e
-at_place (y ∷ xs) (suc i) x d e = at_place xs i x d e
+at_index : (xs : List ℕ) (i x d : ℕ) → slice_get xs i ≡ Some x → get_or xs i d ≡ x
+at_index [] i x d e = cc
+at_index (y ∷ xs) zero x d e = same_Some y x e
+at_index (y ∷ xs) (suc i) x d e = at_index xs i x d e
 
 module _ (rule : RuleValue) (lmc : ℕ) (facts : Facts) (has_room : ¬ (IsNoRoom lmc (cells_of facts))) where
   abbrev pub given : Given
@@ -72,9 +72,9 @@ module _ (rule : RuleValue) (lmc : ℕ) (facts : Facts) (has_room : ¬ (IsNoRoom
     plan = plan_of rule lmc cells
 
     -- a usable switch has the greatest LID as its top
-    pub top_of_switch : (g : ℕ) → Contains (switches cells) g → top_at held (place_of held g) ≡ top
+    pub top_of_switch : (g : ℕ) → Contains (switches cells) g → top_at held (index_of held g) ≡ top
     top_of_switch g there =
-        let (table, is) = table_there (switches cells) (home_of_lid cells given) routing.next (block_count (lid_top given)) g there in
+        let (table, is) = table_there (switches cells) (attachment_of_lid cells given) routing.next (block_count (lid_top given)) g there in
         let (k, placed_is, table_is) = placed top plan.tables g table is in
         ap (top_at held) placed_is
         ∙ ap (λ o. option_map_or (λ s. s.top) o 0) (slice_mapped (with_top top) plan.tables k table table_is)
@@ -95,7 +95,7 @@ module _ (rule : RuleValue) (lmc : ℕ) (facts : Facts) (has_room : ¬ (IsNoRoom
         ap (λ o. entry_at held o lid) placed_is
         ∙ ap (λ o. entry_in o (lid % 64)) found_is
         ∙ ap (λ es. get_or es (lid % 64) 255) entries_is
-        ∙ at_place block (lid % 64) (planned_entry routing lmc cells g (64 * b + (0 + lid % 64))) 255 stands
+        ∙ at_index block (lid % 64) (planned_entry routing lmc cells g (64 * b + (0 + lid % 64))) 255 stands
         ∙ ap (planned_entry routing lmc cells g) whole
 
     -- which counts where the LID is owned

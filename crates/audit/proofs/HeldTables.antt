@@ -1,4 +1,4 @@
--- Blocks and switches of tables as a text holds them: each block is found at its switch's place.
+-- Blocks and switches of tables as a text holds them: each block is found at its switch's index.
 use Rattle.std.proofs.Common.{◌≡◌, ℕ, zero, suc, ◌+◌, ◌<◌, ◌≤◌, Bool, true, false, List, [], ◌∷◌, ◌++◌, length, get_or}
 use Rattle.std.proofs.Common.{None, Some, refl, sym, ap, ◌∙◌, subst, arith, inl, inr, ◌⊎◌, add-zero}
 use Rattle.std.specs.Prelude.{slice_get, map, Contains, reverse, ◌==◌, ◌&&◌}
@@ -17,25 +17,25 @@ use Rattle.plan_file.specs.Printed.{blocks_from, blocks_of, with_top}
 use Rattle.audit.specs.Tables.{is_block_of}
 
 -- the blocks of tables, and where each is from
-from_list : (place number : ℕ) (blocks : List (List ℕ)) (y : HeldBlock) → Contains (blocks_from place number blocks) y
-    → (b : ℕ) × (y.switch ≡ place) × (y.number ≡ number + b) × (slice_get blocks b ≡ Some y.entries)
-from_list place number [] y h = absurd (contains_none y h)
-from_list place number (x ∷ blocks) y h =
-    elim (contains_cases (record { switch = place; number = number; entries = x }) y (blocks_from place (number + 1) blocks) h) [
+from_list : (index number : ℕ) (blocks : List (List ℕ)) (y : HeldBlock) → Contains (blocks_from index number blocks) y
+    → (b : ℕ) × (y.switch ≡ index) × (y.number ≡ number + b) × (slice_get blocks b ≡ Some y.entries)
+from_list index number [] y h = absurd (contains_none y h)
+from_list index number (x ∷ blocks) y h =
+    elim (contains_cases (record { switch = index; number = number; entries = x }) y (blocks_from index (number + 1) blocks) h) [
       | inl e ↦
           let at = sym (ap (λ (z : HeldBlock). z.number) e) ∙ sym (add-zero number) in
           (0, sym (ap (λ (z : HeldBlock). z.switch) e), at, ap (λ (z : HeldBlock). Some z.entries) e)
-      | inr l ↦ let (b, switch, at, there) = from_list place (number + 1) blocks y l in (suc b, switch, omega arith, there)
+      | inr l ↦ let (b, switch, at, there) = from_list index (number + 1) blocks y l in (suc b, switch, omega arith, there)
     ]
 
-in_list : (place number b : ℕ) (blocks : List (List ℕ)) (block : List ℕ) → slice_get blocks b ≡ Some block
-    → (y : HeldBlock) × Contains (blocks_from place number blocks) y × (y.switch ≡ place) × (y.number ≡ number + b)
-in_list place number b [] block e = cc
-in_list place number zero (x ∷ blocks) block e =
-    (record { switch = place; number = number; entries = x }, contains_here _ (blocks_from place (number + 1) blocks), refl, omega arith)
-in_list place number (suc b) (x ∷ blocks) block e =
-    let (y, there, switch, at) = in_list place (number + 1) b blocks block e in
-    (y, contains_later (record { switch = place; number = number; entries = x }) y (blocks_from place (number + 1) blocks) there, switch, omega arith)
+in_list : (index number b : ℕ) (blocks : List (List ℕ)) (block : List ℕ) → slice_get blocks b ≡ Some block
+    → (y : HeldBlock) × Contains (blocks_from index number blocks) y × (y.switch ≡ index) × (y.number ≡ number + b)
+in_list index number b [] block e = cc
+in_list index number zero (x ∷ blocks) block e =
+    (record { switch = index; number = number; entries = x }, contains_here _ (blocks_from index (number + 1) blocks), refl, omega arith)
+in_list index number (suc b) (x ∷ blocks) block e =
+    let (y, there, switch, at) = in_list index (number + 1) b blocks block e in
+    (y, contains_later (record { switch = index; number = number; entries = x }) y (blocks_from index (number + 1) blocks) there, switch, omega arith)
 
 -- of one list or the other
 either : {X : Type 0} (xs ys : List X) (x : X) → Contains (xs ++ ys) x → Contains xs x ⊎ Contains ys x
@@ -58,51 +58,51 @@ behind : {X : Type 0} (xs ys : List X) (x : X) → Contains ys x → Contains (x
 behind [] ys x h = h
 behind (y ∷ xs) ys x h = contains_later y x (xs ++ ys) (behind xs ys x h)
 
-from_at_least : (place : ℕ) (tables : List SwitchTable) (y : HeldBlock) → Contains (blocks_of place tables) y → place ≤ y.switch
-from_at_least place [] y h = absurd (contains_none y h)
-from_at_least place (t ∷ tables) y h =
-    elim (either (blocks_from place 0 t.blocks) (blocks_of (suc place) tables) y h) [
-      | inl own ↦ let (b, switch, at, there) = from_list place 0 t.blocks y own in omega arith
-      | inr later ↦ let more = from_at_least (suc place) tables y later in omega arith
+from_at_least : (index : ℕ) (tables : List SwitchTable) (y : HeldBlock) → Contains (blocks_of index tables) y → index ≤ y.switch
+from_at_least index [] y h = absurd (contains_none y h)
+from_at_least index (t ∷ tables) y h =
+    elim (either (blocks_from index 0 t.blocks) (blocks_of (suc index) tables) y h) [
+      | inl own ↦ let (b, switch, at, there) = from_list index 0 t.blocks y own in omega arith
+      | inr later ↦ let more = from_at_least (suc index) tables y later in omega arith
     ]
 
--- a block is that of its number, of the table at its switch's place
-from_tables : (place : ℕ) (tables : List SwitchTable) (y : HeldBlock) (k : ℕ) (table : SwitchTable) → Contains (blocks_of place tables) y
-    → slice_get tables k ≡ Some table → y.switch ≡ place + k → slice_get table.blocks y.number ≡ Some y.entries
-from_tables place [] y k table h e at = absurd (contains_none y h)
-from_tables place (t ∷ tables) y zero table h e at =
-    elim (either (blocks_from place 0 t.blocks) (blocks_of (suc place) tables) y h) [
+-- a block is that of its number, of the table at its switch's index
+from_tables : (index : ℕ) (tables : List SwitchTable) (y : HeldBlock) (k : ℕ) (table : SwitchTable) → Contains (blocks_of index tables) y
+    → slice_get tables k ≡ Some table → y.switch ≡ index + k → slice_get table.blocks y.number ≡ Some y.entries
+from_tables index [] y k table h e at = absurd (contains_none y h)
+from_tables index (t ∷ tables) y zero table h e at =
+    elim (either (blocks_from index 0 t.blocks) (blocks_of (suc index) tables) y h) [
       | inl own ↦
-          let (b, switch, number, there) = from_list place 0 t.blocks y own in
+          let (b, switch, number, there) = from_list index 0 t.blocks y own in
           let same : t ≡ table = same_Some t table e in
           let is : y.number ≡ b = omega arith in
           subst (λ (z : SwitchTable). slice_get z.blocks y.number ≡ Some y.entries) same (ap (slice_get t.blocks) is ∙ there)
-      | inr later ↦ let more = from_at_least (suc place) tables y later in absurd (omega arith)
+      | inr later ↦ let more = from_at_least (suc index) tables y later in absurd (omega arith)
     ]
-from_tables place (t ∷ tables) y (suc k) table h e at =
-    elim (either (blocks_from place 0 t.blocks) (blocks_of (suc place) tables) y h) [
-      | inl own ↦ let (b, switch, number, there) = from_list place 0 t.blocks y own in absurd (omega arith)
-      | inr later ↦ from_tables (suc place) tables y k table later e (omega arith)
+from_tables index (t ∷ tables) y (suc k) table h e at =
+    elim (either (blocks_from index 0 t.blocks) (blocks_of (suc index) tables) y h) [
+      | inl own ↦ let (b, switch, number, there) = from_list index 0 t.blocks y own in absurd (omega arith)
+      | inr later ↦ from_tables (suc index) tables y k table later e (omega arith)
     ]
 
 -- each block of a table is there
-record InTables (place k b : ℕ) (tables : List SwitchTable) : Type 0 where
+record InTables (index k b : ℕ) (tables : List SwitchTable) : Type 0 where
   y : HeldBlock
-  there : Contains (blocks_of place tables) y
-  switch : y.switch ≡ place + k
+  there : Contains (blocks_of index tables) y
+  switch : y.switch ≡ index + k
   number : y.number ≡ b
 
-in_tables : (place : ℕ) (tables : List SwitchTable) (k b : ℕ) (table : SwitchTable) (block : List ℕ) → slice_get tables k ≡ Some table
-    → slice_get table.blocks b ≡ Some block → InTables place k b tables
-in_tables place [] k b table block e there = cc
-in_tables place (t ∷ tables) zero b table block e there =
+in_tables : (index : ℕ) (tables : List SwitchTable) (k b : ℕ) (table : SwitchTable) (block : List ℕ) → slice_get tables k ≡ Some table
+    → slice_get table.blocks b ≡ Some block → InTables index k b tables
+in_tables index [] k b table block e there = cc
+in_tables index (t ∷ tables) zero b table block e there =
     let same : t ≡ table = same_Some t table e in
-    let (y, own, switch, number) = in_list place 0 b t.blocks block (ap (λ (z : SwitchTable). slice_get z.blocks b) same ∙ there) in
-    record { y = y; there = in_front (blocks_from place 0 t.blocks) (blocks_of (suc place) tables) y own; switch = omega arith; number = omega arith }
-in_tables place (t ∷ tables) (suc k) b table block e there =
-    let later = in_tables (suc place) tables k b table block e there in
+    let (y, own, switch, number) = in_list index 0 b t.blocks block (ap (λ (z : SwitchTable). slice_get z.blocks b) same ∙ there) in
+    record { y = y; there = in_front (blocks_from index 0 t.blocks) (blocks_of (suc index) tables) y own; switch = omega arith; number = omega arith }
+in_tables index (t ∷ tables) (suc k) b table block e there =
+    let later = in_tables (suc index) tables k b table block e there in
     let switch = later.switch in
-    let there = behind (blocks_from place 0 t.blocks) (blocks_of (suc place) tables) later.y later.there in
+    let there = behind (blocks_from index 0 t.blocks) (blocks_of (suc index) tables) later.y later.there in
     record { y = later.y; there = there; switch = omega arith; number = later.number }
 
 -- in the reversed list
@@ -189,7 +189,7 @@ within_length [] i x e = cc
 within_length (y ∷ xs) zero x e = omega arith
 within_length (y ∷ xs) (suc i) x e = let less = within_length xs i x e in omega arith
 
--- the place of a switch is that of its table
+-- the index of a switch is that of its table
 module _ (top : ℕ) (tables : List SwitchTable) (g : ℕ) where
   abbrev its : HeldSwitch → Bool
   its s = s.guid == g
@@ -203,11 +203,11 @@ module _ (top : ℕ) (tables : List SwitchTable) (g : ℕ) where
       elim (position its (map (with_top top) tables)) as (λ o. position its (map (with_top top) tables) ≡ o
       → (k : ℕ) × (position its (map (with_top top) tables) ≡ Some k) × (slice_get tables k ≡ Some table)) [
         | None ↦ λ q. absurd (nowhere q)
-        | Some k ↦ λ q. (k, q, at_place k q)
+        | Some k ↦ λ q. (k, q, at_index k q)
       ] refl
     where
-      at_place : (k : ℕ) → position its (map (with_top top) tables) ≡ Some k → slice_get tables k ≡ Some table
-      at_place k q =
+      at_index : (k : ℕ) → position its (map (with_top top) tables) ≡ Some k → slice_get tables k ≡ Some table
+      at_index k q =
           let p = position-Some its (map (with_top top) tables) k no_switch q in
           let (t, there) = some_there (with_top top) tables k p.0 in
           let here : (t.guid == g) ≡ true = sym (ap its (get_mapped (with_top top) tables k t no_switch there)) ∙ p.1 in

@@ -21,7 +21,7 @@ use Rattle.std.proofs.lemmas.List.Sums.{fails_before_first}
 use Rattle.std.proofs.lemmas.List.Quantifiers.{position-Some}
 use Rattle.text_words.proofs.Splits.{unfound}
 use Rattle.updown_routes.proofs.Components.{same_tests}
-use Rattle.audit.specs.Steps.{AreBrought, AreBlocks, IsBrought, LineIsRight, AllArrive, IsFailureOf, is_at}
+use Rattle.audit.specs.NextHops.{AreBrought, AreBlocks, IsBrought, LineIsRight, AllArrive, IsFailureOf, is_at}
 use Rattle.audit.specs.Tables.{is_owner, is_same_end}
 
 pub same_ends : (e x : EndPort) → is_same_end e x ≡ true → x ≡ e
@@ -58,8 +58,8 @@ at_is e None h = cc
 at_is e (Some (Lost g cause)) h = cc
 at_is e (Some (Taken x)) h = ap (λ y. Some (Taken y)) (same_ends e x h)
 
-at_place : {X : Type 0} (xs : List X) (k : ℕ) (d : X) → k < length xs → slice_get xs k ≡ Some (get_or xs k d)
-at_place xs k d h = slice_get-get_or xs k d h
+at_index : {X : Type 0} (xs : List X) (k : ℕ) (d : X) → k < length xs → slice_get xs k ≡ Some (get_or xs k d)
+at_index xs k d h = slice_get-get_or xs k d h
 
 at_contains : (xs : List EndPort) (k : ℕ) (x : EndPort) → slice_get xs k ≡ Some x → Contains xs x
 at_contains [] k x e = cc
@@ -75,8 +75,8 @@ pub none_elsewhere : (cells : Cells) (held : HeldPlan) (line : HeldLid) (ends : 
 none_elsewhere cells held line ends are e = λ is_end source is.
     let as_many = are.as_many in
     let less = is.1 in
-    let there : slice_get ends is.0 ≡ Some (get_or ends is.0 None) = at_place ends is.0 None (omega arith) in
-    let this : slice_get (end_ports cells) is.0 ≡ Some source = at_place (end_ports cells) is.0 source is.1 ∙ ap (λ x. Some x) is.2 in
+    let there : slice_get ends is.0 ≡ Some (get_or ends is.0 None) = at_index ends is.0 None (omega arith) in
+    let this : slice_get (end_ports cells) is.0 ≡ Some source = at_index (end_ports cells) is.0 source is.1 ∙ ap (λ x. Some x) is.2 in
     let past : length ends ≤ position_or_len (λ end. not (is_at line.port end)) ends = ltb-false _ _ (unfound _ _ e) in
     let passes : not (is_at line.port (get_or ends is.0 None)) ≡ false = fails_before_first (λ end. not (is_at line.port end)) ends is.0 None (omega arith) in
     let at : get_or ends is.0 None ≡ Some (Taken line.port) = at_is line.port (get_or ends is.0 None) (not_not _ passes) in
@@ -85,28 +85,28 @@ none_elsewhere cells held line ends are e = λ is_end source is.
 not_at : (line : HeldLid) (end : Option End) → not (is_at line.port end) ≡ true → end ≢ Some (Taken line.port)
 not_at line end h same = let is : is_at line.port end ≡ true = ap (is_at line.port) same ∙ same_itself line.port in cc
 
-pub one_elsewhere : (cells : Cells) (held : HeldPlan) (line : HeldLid) (ends : List (Option End)) (place : ℕ) (source : EndPort) (end : Option End)
-    → AreBrought cells held line.lid ends → Contains (end_ports cells) line.port → position (λ x. not (is_at line.port x)) ends ≡ Some place
-    → slice_get (end_ports cells) place ≡ Some source → end ≡ get_or ends place None
+pub one_elsewhere : (cells : Cells) (held : HeldPlan) (line : HeldLid) (ends : List (Option End)) (index : ℕ) (source : EndPort) (end : Option End)
+    → AreBrought cells held line.lid ends → Contains (end_ports cells) line.port → position (λ x. not (is_at line.port x)) ends ≡ Some index
+    → slice_get (end_ports cells) index ≡ Some source → end ≡ get_or ends index None
     → IsFailureOf cells held line (record { line = line; source = source; end = end })
-one_elsewhere cells held line ends place source end are is_end e this is =
-    let found = position-Some (λ x. not (is_at line.port x)) ends place None e in
-    let there : slice_get ends place ≡ Some end = at_place ends place None found.0 ∙ ap (λ x. Some x) (sym is) in
+one_elsewhere cells held line ends index source end are is_end e this is =
+    let found = position-Some (λ x. not (is_at line.port x)) ends index None e in
+    let there : slice_get ends index ≡ Some end = at_index ends index None found.0 ∙ ap (λ x. Some x) (sym is) in
     let other : not (is_at line.port end) ≡ true = ap (λ x. not (is_at line.port x)) is ∙ found.1 in
     record {
       line_is = refl;
       fails = record {
-        is_source = at_contains (end_ports cells) place source this;
+        is_source = at_contains (end_ports cells) index source this;
         is_end_port = is_end;
-        brought = are.brought place source end this there;
+        brought = are.brought index source end this there;
         elsewhere = not_at line end other;
       };
     }
 
-pub place_within : (cells : Cells) (held : HeldPlan) (lid : ℕ) (line : HeldLid) (ends : List (Option End)) (place : ℕ) → AreBrought cells held lid ends
-    → position (λ x. not (is_at line.port x)) ends ≡ Some place → (place < length (end_ports cells)) × (place < length ends)
-place_within cells held lid line ends place are e =
-    let found = position-Some (λ x. not (is_at line.port x)) ends place None e in let as_many = are.as_many in let less = found.0 in (omega arith, less)
+pub index_within : (cells : Cells) (held : HeldPlan) (lid : ℕ) (line : HeldLid) (ends : List (Option End)) (index : ℕ) → AreBrought cells held lid ends
+    → position (λ x. not (is_at line.port x)) ends ≡ Some index → (index < length (end_ports cells)) × (index < length ends)
+index_within cells held lid line ends index are e =
+    let found = position-Some (λ x. not (is_at line.port x)) ends index None e in let as_many = are.as_many in let less = found.0 in (omega arith, less)
 
 -- line by line ------------------------------------------------------------------------
 

@@ -16,34 +16,34 @@ use Rattle.subnet_view.proofs.Attachments.{attached_law}
 use Rattle.subnet_view.proofs.EndPortList.{end_ports_law}
 use Rattle.subnet_view.proofs.WireEnds.{linked, across_back}
 use Rattle.subnet_view.proofs.WireLaws.{wire_law}
-use Rattle.port_graph.specs.declared.exit.Exit.{Exit}
+use Rattle.port_graph.specs.declared.edge.Edge.{Edge}
 use Rattle.lid_assign.specs.Lids.{IsNoRoom, lids, owner_of, top_of}
-use Rattle.updown_routes.specs.Crossing.{Crossing}
+use Rattle.updown_routes.specs.SwitchEdges.{SwitchEdges}
 use Rattle.updown_routes.specs.Graph.{graph_of}
 use Rattle.updown_routes.specs.GraphLaws.{IsSwitch}
 use Rattle.updown_routes.specs.Ranks.{in_one_component, root_of}
 use Rattle.updown_routes.specs.Routing.{Routing, Passes, FollowsRule}
 use Rattle.updown_routes.proofs.Components.{component_itself, component_symm, component_trans, joined, rooted}
-use Rattle.updown_routes.proofs.Graphs.{exit_is_wire, exit_to_usable, graph_law, wire_end}
+use Rattle.updown_routes.proofs.Graphs.{edge_is_wire, edge_to_usable, graph_law, wire_end}
 use Rattle.updown_routes.proofs.Switches.{graph_guids, switch_usable, usable_switch}
-use Rattle.spread_rule.specs.Rules.{RuleValue, routing_by}
-use Rattle.spread_rule.proofs.Whole.{rules_are_routings}
-use Rattle.lft_blocks.specs.Entries.{home_of}
-use Rattle.lft_blocks.proofs.HeldEntries.{entry_of as planned_entry, entry_by_home}
-use Rattle.lft_blocks.proofs.HomeSwitches.{home_is_switch}
+use Rattle.lft_blocks.specs.Rules.{RuleValue, routing_by}
+use Rattle.lft_blocks.proofs.RulesRoute.{rules_are_routings}
+use Rattle.lft_blocks.specs.Entries.{attachment_of}
+use Rattle.lft_blocks.proofs.HeldEntries.{entry_of as planned_entry, entry_by_attachment}
+use Rattle.lft_blocks.proofs.AttachmentSwitches.{attachment_is_switch}
 use Rattle.plan_file.specs.declared.held.HeldLid.{HeldLid}
 use Rattle.plan_file.specs.Held.{HeldPlan}
 use Rattle.plan_file.proofs.PlanRanges.{wire_small}
 use Rattle.audit.specs.declared.end.Cause.{Cause}
 use Rattle.audit.specs.declared.end.Cause.TheVariants.{NoLink, Foreign}
 use Rattle.audit.specs.declared.end.End.TheVariants.{Taken, Lost}
-use Rattle.audit.specs.declared.far.Far.TheVariants.{Nothing}
-use Rattle.audit.specs.declared.step.Step.{Step}
-use Rattle.audit.specs.declared.step.Step.TheVariants.{To, Ends}
+use Rattle.audit.specs.declared.far_end.Far.TheVariants.{Nothing}
+use Rattle.audit.specs.declared.next_hop.NextHop.{NextHop}
+use Rattle.audit.specs.declared.next_hop.NextHop.TheVariants.{To, Ends}
 use Rattle.audit.specs.Network.{far_at, far_to, far_of, row_of, index_in}
-use Rattle.audit.specs.Steps.{at_port, over, cause_of, by_entry, steps_of, sent, IsBrought}
+use Rattle.audit.specs.NextHops.{at_port, over, cause_of, by_entry, next_hops_of, sent, IsBrought}
 use Rattle.audit.specs.Tables.{entry_for, is_owner, owners_of}
-use Rattle.audit.specs.Walks.{after, onward}
+use Rattle.audit.specs.WalkEnds.{after, onward}
 use Rattle.audit.proofs.FabricParts.{index_there}
 use Rattle.audit.proofs.FabricsJudged.{owner_line, line_owner}
 use Rattle.plan_file.proofs.OwnedLids.{line_owned}
@@ -53,9 +53,9 @@ use Rattle.audit.proofs.PlanSteps.{contains_at, index_is, no_wire_at_0}
 
 -- the switch at which an end port lies, and the root of its component
 pub record HasRoot (cells : Cells) (e : EndPort) (r : ℕ) : Type 0 where
-  pub home : ℕ × ℕ
-  pub home_is : home_of cells e ≡ Some home
-  pub root_is : root_of (graph_of cells) home.0 ≡ Some r
+  pub attachment : ℕ × ℕ
+  pub attachment_is : attachment_of cells e ≡ Some attachment
+  pub root_is : root_of (graph_of cells) attachment.0 ≡ Some r
 
 -- how an end port lies to another one of its component
 pub data Meets (cells : Cells) (e owner : EndPort) : Type 0 where
@@ -85,7 +85,7 @@ module _ (by : RuleValue) (lmc : ℕ) (facts : Facts) (range : AreInRange facts)
   abbrev held : HeldPlan
   held = made by lmc cells top
 
-  abbrev graph : List Crossing
+  abbrev graph : List SwitchEdges
   graph = graph_of cells
 
   abbrev rule : Routing
@@ -100,20 +100,20 @@ module _ (by : RuleValue) (lmc : ℕ) (facts : Facts) (range : AreInRange facts)
   abbrev owners : List EndPort
   owners = owners_of held lid
 
-  abbrev steps : List Step
-  steps = steps_of cells held lid
+  abbrev steps : List NextHop
+  steps = next_hops_of cells held lid
 
-  abbrev end : Step
+  abbrev end : NextHop
   end = Ends (Taken owner)
 
   -- from a step the packet comes to the owner
-  abbrev Comes : Step → Type 0
+  abbrev Comes : NextHop → Type 0
   Comes s = (n : ℕ) × (after n steps s ≡ end)
 
-  further : (s : Step) → Comes (onward steps s) → Comes s
+  further : (s : NextHop) → Comes (onward steps s) → Comes s
   further s (n, is) = (suc n, is)
 
-  comes_by : (s t : Step) → s ≡ t → Comes t → Comes s
+  comes_by : (s t : NextHop) → s ≡ t → Comes t → Comes s
   comes_by s t e c = subst Comes (sym e) c
 
   -- why a switch does not send it on
@@ -139,10 +139,10 @@ module _ (by : RuleValue) (lmc : ℕ) (facts : Facts) (range : AreInRange facts)
   -- an end port of a usable switch is its port 0
   at_switch : (e : EndPort) → Contains (end_ports cells) e → is_usable cells e.node ≡ true → e.port ≡ 0
   at_switch e there usable =
-      let (kind, ports, known, place, rest) = ((end_ports_law facts).0 e).0 there in
+      let (kind, ports, known, index, rest) = ((end_ports_law facts).0 e).0 there in
       let node_is_switch = (and_parts (is_switch_node cells e.node) (is_some (cap_of cells e.node)) usable).0 in
       let is : is_switch kind ≡ true = ap (λ o. option_map_or (λ n. is_switch n.0) o false) (sym known) ∙ node_is_switch in
-      subst (λ t. MatchBool t (e.port ≡ 0) ((1 ≤ e.port) × (e.port ≤ ports))) is place
+      subst (λ t. MatchBool t (e.port ≡ 0) ((1 ≤ e.port) × (e.port ≤ ports))) is index
 
   -- what a switch does is by the plan's entry
   at_index : (i g entry : ℕ) → slice_get (switches cells) i ≡ Some g → planned_entry rule lmc cells g lid ≡ entry
@@ -177,43 +177,43 @@ module _ (by : RuleValue) (lmc : ℕ) (facts : Facts) (range : AreInRange facts)
             ∙ ap (λ x. Ends x) owner_takes
       ] refl
 
-  -- at the home of the owner its switch takes the packet, or sends it to the owner
-  module _ (home : ℕ × ℕ) (home_is : home_of cells owner ≡ Some home) where
-    entry_home : planned_entry rule lmc cells home.0 lid ≡ home.1
-    entry_home =
-        entry_by_home rule lmc cells home.0 lid owner home owned home_is
-        ∙ ap (λ t. cond t home.1 (unwrap_or (rule.next lid home.0 home.0) 255)) (eq-eqb home.0 home.0 refl)
+  -- at the attachment of the owner its switch takes the packet, or sends it to the owner
+  module _ (attachment : ℕ × ℕ) (attachment_is : attachment_of cells owner ≡ Some attachment) where
+    entry_attachment : planned_entry rule lmc cells attachment.0 lid ≡ attachment.1
+    entry_attachment =
+        entry_by_attachment rule lmc cells attachment.0 lid owner attachment owned attachment_is
+        ∙ ap (λ t. cond t attachment.1 (unwrap_or (rule.next lid attachment.0 attachment.0) 255)) (eq-eqb attachment.0 attachment.0 refl)
 
-    at_home : by_entry owners home.0 (why home.0) (row_of cells home.0) home.1 ≡ end
-    at_home =
+    at_attachment : by_entry owners attachment.0 (why attachment.0) (row_of cells attachment.0) attachment.1 ≡ end
+    at_attachment =
         elim (is_usable cells owner.node) as
-        (λ t. is_usable cells owner.node ≡ t → cond t (Some (owner.node, 0)) (attached cells owner.node owner.port) ≡ Some home
-        → by_entry owners home.0 (why home.0) (row_of cells home.0) home.1 ≡ end) [
+        (λ t. is_usable cells owner.node ≡ t → cond t (Some (owner.node, 0)) (attached cells owner.node owner.port) ≡ Some attachment
+        → by_entry owners attachment.0 (why attachment.0) (row_of cells attachment.0) attachment.1 ≡ end) [
           | true ↦ λ u k.
               let own : ℕ × ℕ = (owner.node, 0) in
-              let same : own ≡ home = same_Some own home k in
+              let same : own ≡ attachment = same_Some own attachment k in
               let number : 0 ≡ owner.port = sym (at_switch owner is_end u) in
               ap (λ (x : ℕ × ℕ). by_entry owners x.0 (why x.0) (row_of cells x.0) x.1) (sym same)
               ∙ (λ i. Ends (Taken (record { node = owner.node; port = number i })))
           | false ↦ λ u k.
-              let its = (attached_law cells owner.node owner.port home.0 home.1).0 k in
-              let back = across_back cells owner.node owner.port home ((wire_law cells owner.node owner.port home.0 home.1).1 its.wire) in
-              over_wire home.0 home.1 (owner.node, owner.port) back ∙ to_owner home.0 (why home.0) (owner.node, owner.port) refl u
-        ] refl home_is
+              let its = (attached_law cells owner.node owner.port attachment.0 attachment.1).0 k in
+              let back = across_back cells owner.node owner.port attachment ((wire_law cells owner.node owner.port attachment.0 attachment.1).1 its.wire) in
+              over_wire attachment.0 attachment.1 (owner.node, owner.port) back ∙ to_owner attachment.0 (why attachment.0) (owner.node, owner.port) refl u
+        ] refl attachment_is
 
     -- along the ports of the rule
-    along : (es : List Exit) (s i : ℕ) → slice_get (switches cells) i ≡ Some s → FollowsRule rule lid home.0 s es → Passes graph s es → Comes (To i)
+    along : (es : List Edge) (s i : ℕ) → slice_get (switches cells) i ≡ Some s → FollowsRule rule lid attachment.0 s es → Passes graph s es → Comes (To i)
     along [] s i at follows passes =
         further (To i) (comes_by (onward steps (To i)) end
-        (at_index i home.0 home.1 (at ∙ ap (λ x. Some x) follows) entry_home ∙ at_home) (0, refl))
+        (at_index i attachment.0 attachment.1 (at ∙ ap (λ x. Some x) follows) entry_attachment ∙ at_attachment) (0, refl))
     along (e ∷ es) s i at (apart, next, follows) (there, passes) =
-        let x = exit_is_wire cells s e there in
+        let x = edge_is_wire cells s e there in
         let entry : planned_entry rule lmc cells s lid ≡ e.port =
-        entry_by_home rule lmc cells s lid owner home owned home_is
-        ∙ ap (λ t. cond t home.1 (unwrap_or (rule.next lid s home.0) 255))
-        (false_from_ne_true (home.0 == s) (λ k. eqb-false s home.0 apart (sym (eqb-true home.0 s k))))
+        entry_by_attachment rule lmc cells s lid owner attachment owned attachment_is
+        ∙ ap (λ t. cond t attachment.1 (unwrap_or (rule.next lid s attachment.0) 255))
+        (false_from_ne_true (attachment.0 == s) (λ k. eqb-false s attachment.0 apart (sym (eqb-true attachment.0 s k))))
         ∙ ap (λ o. unwrap_or o 255) next in
-        let to = indexed cells e.to (usable_switch facts e.to (exit_to_usable cells s e.port e.to x)) in
+        let to = indexed cells e.to (usable_switch facts e.to (edge_to_usable cells s e.port e.to x)) in
         let goes : onward steps (To i) ≡ To to.index =
         at_index i s e.port at entry ∙ over_wire s e.port (e.to, x.end_port) x.wire ∙ ap (λ o. over owners s (why s) (far_at (e.to, x.end_port) o)) to.is in
         further (To i) (comes_by (onward steps (To i)) (To to.index) goes (along es e.to to.index to.at follows passes))
@@ -221,50 +221,50 @@ module _ (by : RuleValue) (lmc : ℕ) (facts : Facts) (range : AreInRange facts)
     is_in_graph : (g : ℕ) → Contains (switches cells) g → IsSwitch graph g
     is_in_graph g h = subst (λ (xs : List ℕ). Contains xs g) (sym (graph_guids cells)) h
 
-    home_there : IsSwitch graph home.0
-    home_there = is_in_graph home.0 (home_is_switch facts owner home home_is)
+    attachment_there : IsSwitch graph attachment.0
+    attachment_there = is_in_graph attachment.0 (attachment_is_switch facts owner attachment attachment_is)
 
     -- from a switch of the component
-    from_switch : (s i : ℕ) → slice_get (switches cells) i ≡ Some s → in_one_component graph s home.0 ≡ true → Comes (To i)
+    from_switch : (s i : ℕ) → slice_get (switches cells) i ≡ Some s → in_one_component graph s attachment.0 ≡ true → Comes (To i)
     from_switch s i at together =
         let there = is_in_graph s (contains_at (switches cells) i s at) in
-        let (n, cost) = (rules_are_routings by facts).reaches s home.0 there home_there together in
-        let way = (rules_are_routings by facts).leads lid s home.0 n there cost in
-        along way.exits s i at way.by_rule way.passes
+        let (n, cost) = (rules_are_routings by facts).reaches s attachment.0 there attachment_there together in
+        let way = (rules_are_routings by facts).leads lid s attachment.0 n there cost in
+        along way.edges s i at way.by_rule way.passes
 
     -- of one root, of one component
-    one_root : (s r : ℕ) → Contains (switches cells) s → root_of graph s ≡ Some r → root_of graph home.0 ≡ Some r → in_one_component graph s home.0 ≡ true
+    one_root : (s r : ℕ) → Contains (switches cells) s → root_of graph s ≡ Some r → root_of graph attachment.0 ≡ Some r → in_one_component graph s attachment.0 ≡ true
     one_root s r listed its others =
         let good = graph_law facts in
         let there = is_in_graph s listed in
         let a = rooted graph good s there in
-        let b = rooted graph good home.0 home_there in
+        let b = rooted graph good attachment.0 attachment_there in
         let same : a.root ≡ b.root = same_Some a.root b.root (sym a.is_root ∙ its ∙ sym others ∙ b.is_root) in
         let from = component_symm graph good a.root s there (joined graph good a.root s a.rank a.is_rank) in
-        let on = subst (λ (x : ℕ). in_one_component graph x home.0 ≡ true) (sym same) (joined graph good b.root home.0 b.rank b.is_rank) in
-        component_trans graph good s a.root home.0 there from on
+        let on = subst (λ (x : ℕ). in_one_component graph x attachment.0 ≡ true) (sym same) (joined graph good b.root attachment.0 b.rank b.is_rank) in
+        component_trans graph good s a.root attachment.0 there from on
 
-  own_home : (e : EndPort) → is_usable cells e.node ≡ true → home_of cells e ≡ Some (e.node, 0)
-  own_home e u = ap (λ t. cond t (Some (e.node, 0)) (attached cells e.node e.port)) u
+  own_attachment : (e : EndPort) → is_usable cells e.node ≡ true → attachment_of cells e ≡ Some (e.node, 0)
+  own_attachment e u = ap (λ t. cond t (Some (e.node, 0)) (attached cells e.node e.port)) u
 
-  wired_home : (e : EndPort) (home : ℕ × ℕ) → is_usable cells e.node ≡ false → home_of cells e ≡ Some home → attached cells e.node e.port ≡ Some home
-  wired_home e home u h = sym (ap (λ t. cond t (Some (e.node, 0)) (attached cells e.node e.port)) u) ∙ h
+  wired_attachment : (e : EndPort) (attachment : ℕ × ℕ) → is_usable cells e.node ≡ false → attachment_of cells e ≡ Some attachment → attached cells e.node e.port ≡ Some attachment
+  wired_attachment e attachment u h = sym (ap (λ t. cond t (Some (e.node, 0)) (attached cells e.node e.port)) u) ∙ h
 
   -- a packet of a usable switch
   by_switch : (e : EndPort) (i : ℕ) → Contains (end_ports cells) e → slice_get (switches cells) i ≡ Some e.node → Meets cells e owner → Comes (To i)
   by_switch e i listed at (itself is) =
       let usable = switch_usable facts e.node (contains_at (switches cells) i e.node at) in
       let good = graph_law facts in
-      let home : ℕ × ℕ = (e.node, 0) in
-      let home_is : home_of cells owner ≡ Some home = ap (home_of cells) (sym is) ∙ own_home e usable in
-      from_switch home home_is e.node i at (component_itself graph good e.node (home_there home home_is))
+      let attachment : ℕ × ℕ = (e.node, 0) in
+      let attachment_is : attachment_of cells owner ≡ Some attachment = ap (attachment_of cells) (sym is) ∙ own_attachment e usable in
+      from_switch attachment attachment_is e.node i at (component_itself graph good e.node (attachment_there attachment attachment_is))
   by_switch e i listed at (of_root r from to) =
       let there = contains_at (switches cells) i e.node at in
       let usable = switch_usable facts e.node there in
       let own : ℕ × ℕ = (e.node, 0) in
-      let is : own ≡ from.home = same_Some own from.home (sym (own_home e usable) ∙ from.home_is) in
+      let is : own ≡ from.attachment = same_Some own from.attachment (sym (own_attachment e usable) ∙ from.attachment_is) in
       let root = ap (λ (x : ℕ × ℕ). root_of graph x.0) is ∙ from.root_is in
-      from_switch to.home to.home_is e.node i at (one_root to.home to.home_is e.node r there root to.root_is)
+      from_switch to.attachment to.attachment_is e.node i at (one_root to.attachment to.attachment_is e.node r there root to.root_is)
   by_switch e i listed at (by_wire w) =
       let usable = switch_usable facts e.node (contains_at (switches cells) i e.node at) in
       absurd (no_wire_at_0 cells e.node (owner.node, owner.port) (ap (across cells e.node) (sym (at_switch e listed usable)) ∙ w))
@@ -274,13 +274,13 @@ module _ (by : RuleValue) (lmc : ℕ) (facts : Facts) (range : AreInRange facts)
       → Comes (over owners e.node NoLink (far_of cells e.node e.port))
   by_adapter e apart other (itself is) = let holds : is_owner owners e ≡ true = ap (is_owner owners) is ∙ owner_holds in absurd (cc)
   by_adapter e apart other (of_root r from to) =
-      let w = ((attached_law cells e.node e.port from.home.0 from.home.1).0 (wired_home e from.home apart from.home_is)).wire in
-      let wire = (wire_law cells e.node e.port from.home.0 from.home.1).1 w in
-      let there = home_is_switch facts e from.home from.home_is in
-      let at = indexed cells from.home.0 there in
+      let w = ((attached_law cells e.node e.port from.attachment.0 from.attachment.1).0 (wired_attachment e from.attachment apart from.attachment_is)).wire in
+      let wire = (wire_law cells e.node e.port from.attachment.0 from.attachment.1).1 w in
+      let there = attachment_is_switch facts e from.attachment from.attachment_is in
+      let at = indexed cells from.attachment.0 there in
       comes_by (over owners e.node NoLink (far_of cells e.node e.port)) (To at.index)
-      (ap (λ o. over owners e.node NoLink (far_to (switches cells) o)) wire ∙ ap (λ o. over owners e.node NoLink (far_at from.home o)) at.is)
-      (from_switch to.home to.home_is from.home.0 at.index at.at (one_root to.home to.home_is from.home.0 r there from.root_is to.root_is))
+      (ap (λ o. over owners e.node NoLink (far_to (switches cells) o)) wire ∙ ap (λ o. over owners e.node NoLink (far_at from.attachment o)) at.is)
+      (from_switch to.attachment to.attachment_is from.attachment.0 at.index at.at (one_root to.attachment to.attachment_is from.attachment.0 r there from.root_is to.root_is))
   by_adapter e apart other (by_wire w) =
       elim (is_usable cells owner.node) as (λ t. is_usable cells owner.node ≡ t → Comes (over owners e.node NoLink (far_of cells e.node e.port))) [
         | true ↦ λ u.

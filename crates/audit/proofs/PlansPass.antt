@@ -5,16 +5,16 @@ use Rattle.std.specs.Option.{option_map_or}
 use Rattle.std.specs.List.{find}
 use Rattle.std.proofs.lemmas.Bool.{and_parts, false_from_ne_true}
 use Rattle.std.proofs.lemmas.Option.{same_Some, slice_get-get_or}
-use Rattle.smp_bytes.specs.declared.cable.NodePort.{NodePort}
+use Rattle.fabric_model.specs.declared.cable.NodePort.{NodePort}
 use Rattle.smp_bytes.specs.NodeType.{is_switch}
-use Rattle.smp_bytes.specs.Fabric.{Node, Fabric, IsNodeAt, IsEndPort, range_at, owns}
-use Rattle.smp_bytes.specs.FabricWalks.{IsConnected}
+use Rattle.fabric_model.specs.Fabric.{Node, Fabric, IsNodeAt, IsEndPort, range_at, owns}
+use Rattle.fabric_model.specs.FabricWalks.{IsConnected}
 use Rattle.fact_store.specs.View.{Facts, cells_of}
 use Rattle.subnet_view.specs.declared.end_port.EndPort.{EndPort}
 use Rattle.subnet_view.specs.Reading.{Cells, switches, is_usable, is_switch_node, cap_of}
 use Rattle.subnet_view.proofs.Members.{contains_none}
 use Rattle.subnet_view.proofs.Apart.{contains-from_map}
-use Rattle.spread_rule.specs.Rules.{RuleValue, routing_by}
+use Rattle.lft_blocks.specs.Rules.{RuleValue, routing_by}
 use Rattle.lft_blocks.specs.Plan.{PlanValue, plan_of}
 use Rattle.plan_file.specs.Held.{HeldPlan, nothing_held}
 use Rattle.plan_file.proofs.OwnedLids.{line_owned, owner_at, owner_listed}
@@ -25,11 +25,11 @@ use Rattle.lid_assign.specs.Lids.{top_of as lid_top}
 use Rattle.lid_assign.proofs.LidLaws.{lids_law, ports_apart}
 use Rattle.lid_assign.proofs.Owners.{given-from_owner, lid-from_given}
 use Rattle.lid_assign.proofs.Ranges.{in_from_test, test_from_in}
-use Rattle.lft_blocks.specs.Entries.{home_of_lid}
+use Rattle.lft_blocks.specs.Entries.{attachment_of_lid}
 use Rattle.lft_blocks.specs.Entries.{entry as table_entry}
 use Rattle.std.specs.Prelude.{MatchOption, is_some}
 use Rattle.std.proofs.lemmas.List.FromFn.{length-map-range_with_len}
-use Rattle.smp_bytes.specs.Forwarding.{IsDelivered}
+use Rattle.fabric_model.specs.Forwarding.{IsDelivered}
 use Rattle.lft_blocks.specs.Plan.{block_at as plan_block}
 use Rattle.lft_blocks.specs.Arrival.{HoldsBlock, HoldsPlan}
 use Rattle.lft_blocks.specs.PlanLaws.{HasBlock, block_of}
@@ -37,7 +37,7 @@ use Rattle.lft_blocks.proofs.BlockOwners.{blocks_are_of_switches}
 use Rattle.lft_blocks.proofs.WholeFabrics.{packets_arrive_if_connected}
 use Rattle.subnet_view.specs.Agreement.{WholeFabric, IsEndPortIn}
 use Rattle.audit.specs.declared.end.Failure.{Failure}
-use Rattle.audit.specs.Steps.{IsHeldFailure}
+use Rattle.audit.specs.NextHops.{IsHeldFailure}
 use Rattle.audit.specs.Fabrics.{IsSeen, HoldsLids, PlansPass}
 use Rattle.audit.specs.Tables.{entry_in, entry_at, is_owner, owners_of}
 use Rattle.audit.specs.Tables.{block_at as held_block}
@@ -119,24 +119,24 @@ module _ (by : RuleValue) (lmc : ℕ) (facts : Facts) (has_room : ¬ (IsNoRoom l
       ∙ (λ i. Some (sym base_is i, sym lmc_is i))
 
   -- a switch has the greatest LID as its top
-  top_held : (place : ℕ) (node : Node) → IsNodeAt f place node → is_switch node.kind ≡ true → f.top place ≡ top
-  top_held place node at kind =
+  top_held : (index : ℕ) (node : Node) → IsNodeAt f index node → is_switch node.kind ≡ true → f.top index ≡ top
+  top_held index node at kind =
       let g = node.guid in
-      let there : Contains (switches cells) g = ((switches_law facts).0 g).1 ((usable_law cells g).0 (usable WholeFabric facts held f (seen_whole seen) place node at kind tt)) in
-      seen.holds.tops place node at kind ∙ top_of_switch by lmc facts has_room top top_is g there
+      let there : Contains (switches cells) g = ((switches_law facts).0 g).1 ((usable_law cells g).0 (usable WholeFabric facts held f (seen_whole seen) index node at kind tt)) in
+      seen.holds.tops index node at kind ∙ top_of_switch by lmc facts has_room top top_is g there
 
   -- a block of the plan stands in the switch's table
-  block_held : (place : ℕ) (node : Node) (b : ℕ) (block : List ℕ) → IsNodeAt f place node → is_switch node.kind ≡ true
-      → plan_block plan node.guid b ≡ Some block → length block ≡ 64 → HoldsBlock f place b block
-  block_held place node b block at kind there whole i less =
+  block_held : (index : ℕ) (node : Node) (b : ℕ) (block : List ℕ) → IsNodeAt f index node → is_switch node.kind ≡ true
+      → plan_block plan node.guid b ≡ Some block → length block ≡ 64 → HoldsBlock f index b block
+  block_held index node b block at kind there whole i less =
       let g = node.guid in
       let (table, is, has) = of_find b block (find (λ t. t.guid == g) plan.tables) there in
       let (k, placed_is, table_is) = placed top plan.tables g table is in
       let (y, found_is, entries_is) = block_found plan.tables k b table block table_is has in
       let number : (64 * b + i) / 64 ≡ b = omega arith in
       let rest : (64 * b + i) % 64 ≡ i = omega arith in
-      let entry : f.entry place (64 * b + i) ≡ get_or block i 255 =
-      seen.holds.entries place node (64 * b + i) at kind
+      let entry : f.entry index (64 * b + i) ≡ get_or block i 255 =
+      seen.holds.entries index node (64 * b + i) at kind
       ∙ ap (λ o. entry_at held o (64 * b + i)) placed_is
       ∙ (λ j. entry_in (held_block held k (number j)) (rest j))
       ∙ ap (λ o. entry_in o i) found_is
@@ -155,7 +155,7 @@ module _ (by : RuleValue) (lmc : ℕ) (facts : Facts) (has_room : ¬ (IsNoRoom l
       let kind : is_switch node.kind ≡ true =
       sym (known_type WholeFabric facts held f (seen_whole seen) port node here) ∙ (and_parts (is_switch_node cells g) (is_some (cap_of cells g)) test).0 in
       let whole : length block ≡ 64 =
-      ap length of.1 ∙ length-map-range_with_len (λ i. table_entry (home_of_lid cells given) rule.next g (64 * b + i)) 0 64 in
+      ap length of.1 ∙ length-map-range_with_len (λ i. table_entry (attachment_of_lid cells given) rule.next g (64 * b + i)) 0 64 in
       block_held port.node node b block here.node_there kind there whole
 
   plan_held : HoldsPlan WholeFabric plan f

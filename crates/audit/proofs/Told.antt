@@ -5,17 +5,17 @@ use Rattle.std.specs.Option.{option_map_or}
 use Rattle.std.proofs.lemmas.Bool.{cases_lt, eqb-true, le-ltb, ltb-true, ltb-false}
 use Rattle.std.proofs.lemmas.Option.{same_Some}
 use Rattle.std.proofs.lemmas.List.FromFn.{get_or-map-range_with_len, length-map-range_with_len}
-use Rattle.smp_bytes.specs.declared.cable.NodePort.{NodePort}
-use Rattle.smp_bytes.specs.declared.course.Course.{Course}
-use Rattle.smp_bytes.specs.declared.course.Course.TheVariants.{Delivers, LeavesBy, Drops}
-use Rattle.smp_bytes.specs.Cables.{is_same_port}
+use Rattle.fabric_model.specs.declared.cable.NodePort.{NodePort}
+use Rattle.fabric_model.specs.declared.course.Course.{Course}
+use Rattle.fabric_model.specs.declared.course.Course.TheVariants.{Delivers, LeavesBy, Drops}
+use Rattle.fabric_model.specs.Cables.{is_same_port}
 use Rattle.smp_bytes.specs.NodeType.{is_switch}
-use Rattle.smp_bytes.specs.Fabric.{Node, Fabric, IsFabric, IsNodeAt, IsEndPort, is_switch_at, owns}
-use Rattle.smp_bytes.specs.FabricWalks.{IsWire, AreNeighbors, Walk, IsJoinedTo, vertex_of}
-use Rattle.smp_bytes.specs.Forwarding.{Standing, sent_from, arrived_at, course, adapter_course, entry_course, switch_course, Hop, Goes, IsLost}
-use Rattle.smp_bytes.proofs.Cabled.{same_port-is, same_port-refl}
-use Rattle.smp_bytes.proofs.FabricWalks.{port_at, same_port, EndNumber, type_at, walk_further, vertex_node, switch_vertex, adapter_vertex, adapter_start, switch_number}
-use Rattle.smp_bytes.proofs.Forwarded.{packets_end_once}
+use Rattle.fabric_model.specs.Fabric.{Node, Fabric, IsFabric, IsNodeAt, is_switch_at, owns}
+use Rattle.fabric_model.specs.FabricWalks.{IsWire, AreNeighbors, Walk, IsJoinedTo, vertex_of}
+use Rattle.fabric_model.specs.Forwarding.{Standing, sent_from, arrived_at, course, adapter_course, entry_course, switch_course, Hop, Goes, IsLost}
+use Rattle.fabric_model.proofs.Cabled.{same_port-is, same_port-refl}
+use Rattle.fabric_model.proofs.FabricWalks.{port_at, same_port, EndNumber, type_at, walk_further, vertex_node, switch_vertex, adapter_vertex, adapter_start, switch_number}
+use Rattle.fabric_model.proofs.Forwarded.{packets_end_once}
 use Rattle.fact_store.specs.View.{Facts, cells_of}
 use Rattle.subnet_view.specs.declared.end_port.EndPort.{EndPort}
 use Rattle.subnet_view.specs.Reading.{Cells, switches}
@@ -26,15 +26,15 @@ use Rattle.audit.specs.declared.end.Cause.{Cause}
 use Rattle.audit.specs.declared.end.Cause.TheVariants.{NoLink, Foreign}
 use Rattle.audit.specs.declared.end.End.{End}
 use Rattle.audit.specs.declared.end.End.TheVariants.{Taken, Lost}
-use Rattle.audit.specs.declared.far.Far.{Far}
-use Rattle.audit.specs.declared.far.Far.TheVariants.{Nothing}
-use Rattle.audit.specs.declared.step.Step.{Step}
-use Rattle.audit.specs.declared.step.Step.TheVariants.{To, Ends}
+use Rattle.audit.specs.declared.far_end.Far.{Far}
+use Rattle.audit.specs.declared.far_end.Far.TheVariants.{Nothing}
+use Rattle.audit.specs.declared.next_hop.NextHop.{NextHop}
+use Rattle.audit.specs.declared.next_hop.NextHop.TheVariants.{To, Ends}
 use Rattle.audit.specs.Fabrics.{IsSeenIn, EndsAs, PacketsEndAsTold, PacketsEndAsToldInParts}
-use Rattle.audit.specs.Network.{index_in, far_at, far_to, far_of, row_of, source_of}
-use Rattle.audit.specs.Steps.{IsBrought, at_port, over, cause_of, by_entry, steps_of, sent, first_step}
+use Rattle.audit.specs.Network.{index_in, far_at, far_to, far_of, row_of, sender_of}
+use Rattle.audit.specs.NextHops.{IsBrought, at_port, over, cause_of, by_entry, next_hops_of, sent, first_hop}
 use Rattle.audit.specs.Tables.{owners_of, is_owner, entry_for, top_of, entry_of}
-use Rattle.audit.specs.Walks.{onward, after, IsEndOf}
+use Rattle.audit.specs.WalkEnds.{onward, after, IsEndOf}
 use Rattle.audit.proofs.FabricParts.{InFabric, as_part, seen_whole, vertex_part, switch_end, listed, indexed, wire_told, told_wire}
 
 same_out : (p q : NodePort) → LeavesBy p ≡ LeavesBy q → p ≡ q
@@ -95,15 +95,15 @@ module _ (f : Fabric) (lid : ℕ) where
   -- what a node does
   abbrev node_does : Standing → Node → Course
   node_does st n =
-      cond (is_switch n.kind) (switch_course n.ports st.place.node (f.top st.place.node) lid (f.entry st.place.node lid)) (adapter_course (owns f st.place lid) st)
+      cond (is_switch n.kind) (switch_course n.ports st.at.node (f.top st.at.node) lid (f.entry st.at.node lid)) (adapter_course (owns f st.at lid) st)
 
-  course_at : (st : Standing) (node : Node) → IsNodeAt f st.place.node node → course f lid st ≡ node_does st node
+  course_at : (st : Standing) (node : Node) → IsNodeAt f st.at.node node → course f lid st ≡ node_does st node
   course_at st node at = ap (λ o. option_map_or (node_does st) o Drops) at
 
-  adapter_is : (st : Standing) (node : Node) → IsNodeAt f st.place.node node → is_switch node.kind ≡ false → course f lid st ≡ adapter_course (owns f st.place lid) st
+  adapter_is : (st : Standing) (node : Node) → IsNodeAt f st.at.node node → is_switch node.kind ≡ false → course f lid st ≡ adapter_course (owns f st.at lid) st
   adapter_is st node at kind =
       course_at st node at
-      ∙ ap (λ t. cond t (switch_course node.ports st.place.node (f.top st.place.node) lid (f.entry st.place.node lid)) (adapter_course (owns f st.place lid) st)) kind
+      ∙ ap (λ t. cond t (switch_course node.ports st.at.node (f.top st.at.node) lid (f.entry st.at.node lid)) (adapter_course (owns f st.at lid) st)) kind
 
   takes_own : (q : NodePort) (node : Node) → IsNodeAt f q.node node → is_switch node.kind ≡ false → owns f q lid ≡ true → course f lid (arrived_at q) ≡ Delivers q
   takes_own q node at kind own = adapter_is (arrived_at q) node at kind ∙ ap (λ t. cond t (Delivers q) Drops) own
@@ -126,10 +126,10 @@ module _ (part : Part) (facts : Facts) (held : HeldPlan) (f : Fabric) (seen : Is
   -- a packet stands at the switch of an index
   record At (i : ℕ) (st : Standing) : Type 0 where
     node : Node
-    at : IsNodeAt f st.place.node node
+    at : IsNodeAt f st.at.node node
     kind : is_switch node.kind ≡ true
     index : slice_get (switches cells) i ≡ Some node.guid
-    within : part (port_at st.place.node 0)
+    within : part (port_at st.at.node 0)
 
   -- it goes over a wire to the switch of an index
   record Crosses (st : Standing) (j : ℕ) : Type 0 where
@@ -143,7 +143,7 @@ module _ (part : Part) (facts : Facts) (held : HeldPlan) (f : Fabric) (seen : Is
   LeadsTo st (Lost g cause) = Never f lid st
 
   -- what a step says becomes of the packet
-  abbrev Leads : Standing → Step → Type 0
+  abbrev Leads : Standing → NextHop → Type 0
   Leads st (To j) = Crosses st j
   Leads st (Ends x) = LeadsTo st x
 
@@ -199,7 +199,7 @@ module _ (part : Part) (facts : Facts) (held : HeldPlan) (f : Fabric) (seen : Is
       ] refl
 
   -- by a port of a node whose vertex is v
-  module _ (cause : Cause) (st : Standing) (p v : NodePort) (node : Node) (here : InFabric part facts held f seen v node) (place : v.node ≡ p.node)
+  module _ (cause : Cause) (st : Standing) (p v : NodePort) (node : Node) (here : InFabric part facts held f seen v node) (at_node : v.node ≡ p.node)
       (within : part (vertex_of f p))
       (leaves : course f lid st ≡ LeavesBy p)
       (again : (course f lid (arrived_at p) ≡ LeavesBy p) ⊎ (course f lid (arrived_at p) ≡ Drops)) where
@@ -214,7 +214,7 @@ module _ (part : Part) (facts : Facts) (held : HeldPlan) (f : Fabric) (seen : Is
     no_cable none =
         elim (across cells g p.port) as (λ o. across cells g p.port ≡ o → Leads st (over owners g cause (far_of cells g p.port))) [
           | None ↦ λ e. lost_there (never_stuck f lid st p leaves none) e
-          | Some x ↦ λ e. let w = told_wire part facts held f seen p v node x.0 x.1 here place within e in let wire = w.wire in absurd (cc)
+          | Some x ↦ λ e. let w = told_wire part facts held f seen p v node x.0 x.1 here at_node within e in let wire = w.wire in absurd (cc)
         ] refl
 
     looped : (q : NodePort) → f.across p ≡ Some q → p ≡ q → Leads st (over owners g cause (far_of cells g p.port))
@@ -224,14 +224,14 @@ module _ (part : Part) (facts : Facts) (held : HeldPlan) (f : Fabric) (seen : Is
         elim again [ inl on ↦ never_loops f lid p on loop | inr drops ↦ never_dropped f lid (arrived_at p) drops ] in
         elim (across cells g p.port) as (λ o. across cells g p.port ≡ o → Leads st (over owners g cause (far_of cells g p.port))) [
           | None ↦ λ e. lost_there (never_on f lid st p p leaves loop never) e
-          | Some x ↦ λ e. let w = told_wire part facts held f seen p v node x.0 x.1 here place within e in
+          | Some x ↦ λ e. let w = told_wire part facts held f seen p v node x.0 x.1 here at_node within e in
               absurd (w.apart (same_Some p w.to (sym loop ∙ w.wire)))
         ] refl
 
     wired : (q : NodePort) → f.across p ≡ Some q → p ≢ q → Leads st (over owners g cause (far_of cells g p.port))
     wired q wire apart =
         let (far, at_far, low, high) = seen.is_fabric.cabled q p (seen.is_fabric.both_ways p q wire) in
-        let at : IsNodeAt f p.node node = sym (ap (slice_get f.nodes) place) ∙ here.node_there in
+        let at : IsNodeAt f p.node node = sym (ap (slice_get f.nodes) at_node) ∙ here.node_there in
         let told : across cells g p.port ≡ Some (far.guid, q.port) = wire_told part facts held f seen p q node far wire apart at at_far within in
         subst (λ (o : Option (ℕ × ℕ)). Leads st (over owners g cause (far_to (switches cells) o))) (sym told)
         (crossing g cause st p q far leaves wire at_far (closed p q within (record { cable = wire; different = apart })) (index_in (switches cells) far.guid) refl)
@@ -257,13 +257,13 @@ module _ (part : Part) (facts : Facts) (held : HeldPlan) (f : Fabric) (seen : Is
   abbrev why : Node → Cause
   why node = cause_of cells held lid node.guid
 
-  pub switch_goes : (st : Standing) (node : Node) → IsNodeAt f st.place.node node → is_switch node.kind ≡ true → part (port_at st.place.node 0)
-      → course f lid st ≡ entry_course node.ports st.place.node (entry node)
+  pub switch_goes : (st : Standing) (node : Node) → IsNodeAt f st.at.node node → is_switch node.kind ≡ true → part (port_at st.at.node 0)
+      → course f lid st ≡ entry_course node.ports st.at.node (entry node)
   switch_goes st node at kind within =
-      let k = st.place.node in
+      let k = st.at.node in
       let here = switch_end part facts held f seen k node at kind within in
       course_at f lid st node at
-      ∙ ap (λ t. cond t (switch_course node.ports k (f.top k) lid (f.entry k lid)) (adapter_course (owns f st.place lid) st)) kind
+      ∙ ap (λ t. cond t (switch_course node.ports k (f.top k) lid (f.entry k lid)) (adapter_course (owns f st.at lid) st)) kind
       ∙ ap (λ n. switch_course node.ports k n lid (f.entry k lid)) (seen.holds.tops (port_at k 0) node here kind)
       ∙ ap (λ n. switch_course node.ports k (top_of held node.guid) lid n) (seen.holds.entries (port_at k 0) node lid here kind)
       ∙ counts (lid == 0 || nat_lt (top_of held node.guid) lid) node.ports k (entry_of held node.guid lid)
@@ -315,7 +315,7 @@ module _ (part : Part) (facts : Facts) (held : HeldPlan) (f : Fabric) (seen : Is
   switch_leads : (i : ℕ) (st : Standing) (a : At i st) → Leads st (by_entry owners a.node.guid (why a.node) (row_of cells a.node.guid) (entry a.node))
   switch_leads i st a =
       let node = a.node in
-      let k = st.place.node in
+      let k = st.at.node in
       let n = entry node in
       let goes = switch_goes st node a.at a.kind a.within in
       let few = (seen.is_fabric.counts k node a.at).1 in
@@ -343,7 +343,7 @@ module _ (part : Part) (facts : Facts) (held : HeldPlan) (f : Fabric) (seen : Is
                   (never_dropped f lid st drops)
               | false ↦ λ e.
                   let within = has n node.ports e in
-                  let leaves : (s : Standing) → s.place.node ≡ k → IsNodeAt f s.place.node node → course f lid s ≡ LeavesBy (port_at k n) =
+                  let leaves : (s : Standing) → s.at.node ≡ k → IsNodeAt f s.at.node node → course f lid s ≡ LeavesBy (port_at k n) =
                   λ s same at. switch_goes s node at a.kind (subst (λ (m : ℕ). part (port_at m 0)) (sym same) a.within) ∙ ap (λ m. entry_course node.ports m n) same
                   ∙ ap (λ t. cond t Drops (cond (n == 0) (Delivers (port_at k 0)) (LeavesBy (port_at k n)))) e
                   ∙ ap (λ t. cond t (Delivers (port_at k 0)) (LeavesBy (port_at k n))) z in
@@ -354,17 +354,17 @@ module _ (part : Part) (facts : Facts) (held : HeldPlan) (f : Fabric) (seen : Is
 
   -- step by step ------------------------------------------------------------------------
 
-  abbrev steps : List Step
-  steps = steps_of cells held lid
+  abbrev steps : List NextHop
+  steps = next_hops_of cells held lid
 
-  step_at : (guids : List ℕ) (F : ℕ → Step) (i h : ℕ) (d : Step) → slice_get guids i ≡ Some h → slice_index_or (map F guids) i d ≡ F h
+  step_at : (guids : List ℕ) (F : ℕ → NextHop) (i h : ℕ) (d : NextHop) → slice_get guids i ≡ Some h → slice_index_or (map F guids) i d ≡ F h
   step_at [] F i h d e = cc
   step_at (x ∷ guids) F zero h d e = ap F (same_Some x h e)
   step_at (x ∷ guids) F (suc i) h d e = step_at guids F i h d e
 
   onward_leads : (i : ℕ) (st : Standing) → At i st → Leads st (onward steps (To i))
   onward_leads i st a =
-      let F : ℕ → Step = λ h. by_entry owners h (cause_of cells held lid h) (row_of cells h) (entry_for held lid h) in
+      let F : ℕ → NextHop = λ h. by_entry owners h (cause_of cells held lid h) (row_of cells h) (entry_for held lid h) in
       subst (Leads st) (sym (step_at (switches cells) F i a.node.guid (To i) a.index)) (switch_leads i st a)
 
   after_end : (n : ℕ) (x : End) → after n steps (Ends x) ≡ Ends x
@@ -394,10 +394,10 @@ module _ (part : Part) (facts : Facts) (held : HeldPlan) (f : Fabric) (seen : Is
       ] (onward_leads i st a) e
 
   -- a walk that goes on for ever
-  abbrev GoesOn : Step → Type 0
+  abbrev GoesOn : NextHop → Type 0
   GoesOn s = (n : ℕ) → (i : ℕ) × (after n steps s ≡ To i)
 
-  not_leaving : (st : Standing) (s : Step) → Leads st s → GoesOn s → (p : NodePort) × (course f lid st ≡ LeavesBy p)
+  not_leaving : (st : Standing) (s : NextHop) → Leads st s → GoesOn s → (p : NodePort) × (course f lid st ≡ LeavesBy p)
   not_leaving st (To j) c on = (c.hop.out, c.leaves)
   not_leaving st (Ends x) l on = let first = (on 0).1 in absurd (cc)
 
@@ -421,11 +421,11 @@ module _ (part : Part) (facts : Facts) (held : HeldPlan) (f : Fabric) (seen : Is
 
   -- from the port that sends it ------------------------------------------------------------
 
-  abbrev Begins : Standing → Step → Type 0
+  abbrev Begins : Standing → NextHop → Type 0
   Begins st (To i) = At i st ⊎ Crosses st i
   Begins st (Ends x) = LeadsTo st x
 
-  as_begun : (st : Standing) (s : Step) → Leads st s → Begins st s
+  as_begun : (st : Standing) (s : NextHop) → Leads st s → Begins st s
   as_begun st (To i) c = inr c
   as_begun st (Ends x) l = l
 
@@ -463,7 +463,7 @@ module _ (part : Part) (facts : Facts) (held : HeldPlan) (f : Fabric) (seen : Is
         as_begun st (over owners node.guid NoLink (far_of cells node.guid source.port))
         (leaving NoLink st source source node here refl (subst part (sym (adapter_vertex f source (type_at f source.node node at ∙ kind))) here.in_part) leaves (inr (drops_other f lid source node at kind other)))
 
-    begins : Begins st (first_step owners (source_of cells this))
+    begins : Begins st (first_hop owners (sender_of cells this))
     begins =
         elim (index_in (switches cells) node.guid) as
         (λ o. index_in (switches cells) node.guid ≡ o → Begins st (sent owners this o (far_of cells node.guid source.port))) [
@@ -476,7 +476,7 @@ module _ (part : Part) (facts : Facts) (held : HeldPlan) (f : Fabric) (seen : Is
               ] refl)
         ] refl
 
-    lost : Never f lid st → (hops : List Hop) × (place : ℕ) × IsLost f lid source hops place
+    lost : Never f lid st → (hops : List Hop) × (at_node : ℕ) × IsLost f lid source hops at_node
     lost never =
         elim (packets_end_once f lid source).0 [
           | inl d ↦ let (hops, target, delivered) = d in absurd (never hops delivered.0 target delivered.1 delivered.2)
@@ -487,7 +487,7 @@ module _ (part : Part) (facts : Facts) (held : HeldPlan) (f : Fabric) (seen : Is
     ended (Taken e) d = (d.hops, d.target, d.named, (d.end, d.goes, d.delivers))
     ended (Lost g cause) never = lost never
 
-    told : (s : Step) (end : Option End) → Begins st s → IsEndOf steps s end → EndsAs f lid source end
+    told : (s : NextHop) (end : Option End) → Begins st s → IsEndOf steps s end → EndsAs f lid source end
     told (To i) (Some x) (inl a) w = ended x (ends w.0 i st x a w.1)
     told (To i) (Some x) (inr c) w = ended x (carried st i x c (ends w.0 i (arrived_at c.hop.into) x c.there w.1))
     told (To i) None (inl a) on = lost (never_rounds i st a on)
@@ -500,7 +500,7 @@ pub packets_end_in : (part : Part) (facts : Facts) (held : HeldPlan) (f : Fabric
     → IsBrought (cells_of facts) held lid (record { node = node.guid; port = source.port }) end → EndsAs f lid source end
 packets_end_in part facts held f seen closed source node lid end here some brought =
     told part facts held f seen closed lid some source node here
-    (first_step (owners_of held lid) (source_of (cells_of facts) (record { node = node.guid; port = source.port }))) end
+    (first_hop (owners_of held lid) (sender_of (cells_of facts) (record { node = node.guid; port = source.port }))) end
     (begins part facts held f seen closed lid some source node here) brought
 
 pub packets_end_as_told : PacketsEndAsTold

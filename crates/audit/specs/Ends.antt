@@ -3,12 +3,12 @@ use Rattle.std.specs.Prelude.{◌≡◌, ℕ, Bool, false, ◌&&◌, List, Optio
 use Rattle.std.specs.List.{list_all}
 use Rattle.subnet_view.specs.declared.end_port.EndPort.{EndPort}
 use Rattle.audit.specs.declared.end.End.{End}
-use Rattle.audit.specs.declared.far.Source.{Source}
-use Rattle.audit.specs.declared.step.Step.{Step}
+use Rattle.audit.specs.declared.senders.Sender.{Sender}
+use Rattle.audit.specs.declared.next_hop.NextHop.{NextHop}
 use Rattle.audit.specs.Network.{all_begin, first_switch}
-use Rattle.audit.specs.Steps.{first_step, is_at}
+use Rattle.audit.specs.NextHops.{first_hop, is_at}
 use Rattle.audit.specs.Tables.{is_same_end}
-use Rattle.audit.specs.Walks.{end_of, onward}
+use Rattle.audit.specs.WalkEnds.{end_of, onward}
 
 -- where they end, for each end port that sends one, in their order; None is that it goes round for ever
 pub record Ended : Type 0 where
@@ -16,11 +16,11 @@ pub record Ended : Type 0 where
   pub ends : List (Option End)
 
 -- where the packet of a source ends
-abbrev pub end_from : List EndPort → List Step → Source → Option End
-end_from owners walks source = end_of (onward walks (first_step owners source))
+abbrev pub end_from : List EndPort → List NextHop → Sender → Option End
+end_from owners walks source = end_of (onward walks (first_hop owners source))
 
 -- whether what each walk comes to is the port
-abbrev pub arrivals : EndPort → List Step → List Bool
+abbrev pub arrivals : EndPort → List NextHop → List Bool
 arrivals port walks = map (λ walk. is_at port (end_of walk)) walks
 
 -- whether the walk from a switch does
@@ -37,7 +37,7 @@ abbrev pub all_come : Bool → List Bool → Bool → Bool
 all_come begin arrive sole = begin && sole && list_all (λ arrives. arrives) arrive
 
 -- the switches to which packets come first, whether the walk from each switch comes to the port, and what is seen by these
-pub record AreEnds (port : EndPort) (sources : List Source) (firsts : List (Option ℕ)) (owners : List EndPort) (walks : List Step) (arrive : List Bool)
+pub record AreEnds (port : EndPort) (sources : List Sender) (firsts : List (Option ℕ)) (owners : List EndPort) (walks : List NextHop) (arrive : List Bool)
     (sole all : Bool) : Type 0 where
   pub firsts_are : firsts ≡ map first_switch sources
   pub arrive_is : arrive ≡ arrivals port walks

@@ -2,16 +2,16 @@
 -- InfiniBand Architecture Specification, Volume 1: subnet management, PortInfo (LID), SwitchInfo (LinearFDBTop) and LinearForwardingTable;
 -- switches, unicast forwarding by the linear forwarding table.
 use Rattle.std.specs.Prelude.{◌≡◌, ◌≤◌, ℕ, List, Contains, Option, None, Some, IsTrue}
-use Rattle.smp_bytes.specs.declared.cable.NodePort.{NodePort}
+use Rattle.fabric_model.specs.declared.cable.NodePort.{NodePort}
 use Rattle.smp_bytes.specs.NodeType.{is_switch}
-use Rattle.smp_bytes.specs.Fabric.{Node, Fabric, IsFabric, IsNodeAt, IsEndPort, owns}
-use Rattle.smp_bytes.specs.Forwarding.{Hop, IsDelivered, IsLost}
+use Rattle.fabric_model.specs.Fabric.{Node, Fabric, IsFabric, IsNodeAt, IsEndPort, owns}
+use Rattle.fabric_model.specs.Forwarding.{Hop, IsDelivered, IsLost}
 use Rattle.fact_store.specs.View.{Facts, cells_of}
 use Rattle.subnet_view.specs.Reading.{Cells}
 use Rattle.subnet_view.specs.Agreement.{Part, WholeFabric, IsEndPortIn, IsPortNamed, AgreesOn, Covers}
-use Rattle.smp_bytes.specs.FabricWalks.{IsConnected, IsJoinedTo}
+use Rattle.fabric_model.specs.FabricWalks.{IsConnected, IsJoinedTo}
 use Rattle.lid_assign.specs.Lids.{IsNoRoom}
-use Rattle.spread_rule.specs.Rules.{RuleValue}
+use Rattle.lft_blocks.specs.Rules.{RuleValue}
 use Rattle.lft_blocks.specs.Plan.{plan_of}
 use Rattle.plan_file.specs.Printed.{held_plan}
 use Rattle.plan_file.specs.Held.{HeldPlan}
@@ -19,7 +19,7 @@ use Rattle.audit.specs.declared.end.End.{End}
 use Rattle.audit.specs.declared.end.Failure.{Failure}
 use Rattle.audit.specs.declared.end.End.TheVariants.{Taken, Lost}
 use Rattle.plan_file.specs.declared.held.HeldLid.{HeldLid}
-use Rattle.audit.specs.Steps.{IsBrought, AllArrive, IsHeldFailure}
+use Rattle.audit.specs.NextHops.{IsBrought, AllArrive, IsHeldFailure}
 use Rattle.audit.specs.Tables.{owners_of, is_owner, top_of, entry_of}
 
 -- an end port owns a LID where a line says that it holds it; a switch has the top and the entries of its lines, a top of 0 where it has none,
@@ -27,8 +27,8 @@ use Rattle.audit.specs.Tables.{owners_of, is_owner, top_of, entry_of}
 pub record HoldsTables (held : HeldPlan) (f : Fabric) : Type 0 where
   pub lids : (port : NodePort) (node : Node) (lid : ℕ) → IsNodeAt f port.node node → IsEndPort f port → 1 ≤ lid
       → owns f port lid ≡ is_owner (owners_of held lid) (record { node = node.guid; port = port.port })
-  pub tops : (place : ℕ) (node : Node) → IsNodeAt f place node → IsTrue (is_switch node.kind) → f.top place ≡ top_of held node.guid
-  pub entries : (place : ℕ) (node : Node) (lid : ℕ) → IsNodeAt f place node → IsTrue (is_switch node.kind) → f.entry place lid ≡ entry_of held node.guid lid
+  pub tops : (id : ℕ) (node : Node) → IsNodeAt f id node → IsTrue (is_switch node.kind) → f.top id ≡ top_of held node.guid
+  pub entries : (id : ℕ) (node : Node) (lid : ℕ) → IsNodeAt f id node → IsTrue (is_switch node.kind) → f.entry id lid ≡ entry_of held node.guid lid
 
 -- a fabric that is as the facts say, and holds the tables
 pub record IsSeen (cells : Cells) (held : HeldPlan) (f : Fabric) : Type 0 where
@@ -53,8 +53,8 @@ pub record IsSeenIn (part : Part) (cells : Cells) (held : HeldPlan) (f : Fabric)
 -- a packet that ends at a port is delivered there, and any other is lost
 abbrev pub EndsAs : Fabric → ℕ → NodePort → Option End → Type 0
 EndsAs f lid source (Some (Taken e)) = (hops : List Hop) × (target : NodePort) × IsPortNamed f e.node e.port target × IsDelivered f lid source hops target
-EndsAs f lid source (Some (Lost g cause)) = (hops : List Hop) × (place : ℕ) × IsLost f lid source hops place
-EndsAs f lid source None = (hops : List Hop) × (place : ℕ) × IsLost f lid source hops place
+EndsAs f lid source (Some (Lost g cause)) = (hops : List Hop) × (id : ℕ) × IsLost f lid source hops id
+EndsAs f lid source None = (hops : List Hop) × (id : ℕ) × IsLost f lid source hops id
 
 -- in each such fabric the packets of each end port end as the facts and the tables tell
 abbrev pub PacketsEndAsTold : Type 0

@@ -1,8 +1,8 @@
 pub mod Ends
-pub mod Exits
+pub mod Edges
 pub mod Fabrics
 pub mod Network
 pub mod Owners
-pub mod Steps
+pub mod NextHops
 pub mod Tables
-pub mod Walks
+pub mod WalkEnds

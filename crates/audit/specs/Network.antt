@@ -12,13 +12,13 @@ use Rattle.fact_store.specs.View.{Facts}
 use Rattle.fact_store.specs.Coded.{facts_code}
 use Rattle.plan_file.specs.contracts.held.Held as held
 use Rattle.plan_file.specs.Held.{HeldPlan}
-use Rattle.audit.specs.Tables.{number_of, place_of, top_of}
+use Rattle.audit.specs.Tables.{number_of, index_of, top_of}
 use Rattle.audit.specs.Owners.{AreOwners}
-use Rattle.audit.specs.declared.node.Node.{Node}
+use Rattle.audit.specs.declared.audited_switch.AuditedSwitch.{AuditedSwitch}
 use Rattle.audit.specs.declared.owners.Owner.{Owner}
-use Rattle.audit.specs.declared.far.Far.{Far}
-use Rattle.audit.specs.declared.far.Far.TheVariants.{Nothing, Switch, Port}
-use Rattle.audit.specs.declared.far.Source.{Source}
+use Rattle.audit.specs.declared.far_end.Far.{Far}
+use Rattle.audit.specs.declared.far_end.Far.TheVariants.{Nothing, Switch, Port}
+use Rattle.audit.specs.declared.senders.Sender.{Sender}
 
 -- the index of a GUID
 abbrev pub index_in : List ℕ → ℕ → Option ℕ
@@ -45,8 +45,8 @@ abbrev pub far_by : Cells → ℕ → Far
 far_by cells n = option_map_or (λ g. slice_index_or (row_of cells g) (n % 256) Nothing) (slice_get (switches cells) (n / 256)) Nothing
 
 -- an end port as a source: the index of its switch, where it is one's, and where its wire leads
-abbrev pub source_of : Cells → EndPort → Source
-source_of cells e = record { port = e; switch = index_in (switches cells) e.node; far = far_of cells e.node e.port }
+abbrev pub sender_of : Cells → EndPort → Sender
+sender_of cells e = record { port = e; switch = index_in (switches cells) e.node; far = far_of cells e.node e.port }
 
 -- the index of the usable switch to which a wire leads
 abbrev pub switch_over : Far → Option ℕ
@@ -59,7 +59,7 @@ abbrev pub first_by : Option ℕ → Far → Option ℕ
 first_by (Some index) far = Some index
 first_by None far = switch_over far
 
-abbrev pub first_switch : Source → Option ℕ
+abbrev pub first_switch : Sender → Option ℕ
 first_switch source = first_by source.switch source.far
 
 -- one of so many switches
@@ -71,9 +71,9 @@ is_among count (Some index) = nat_lt index count
 abbrev pub all_begin : ℕ → List (Option ℕ) → Bool
 all_begin count firsts = list_all (is_among count) firsts
 
--- a usable switch: where the wires in its ports lead, its place among the switches that are held, its top, and the number of its ports
-abbrev pub node_of : Cells → HeldPlan → ℕ → Node
-node_of cells held g = record { guid = g; row = row_of cells g; place = place_of held g; top = top_of held g; ports = port_count_of cells g }
+-- a usable switch: where the wires in its ports lead, its index among the switches that are held, its top, and the number of its ports
+abbrev pub node_of : Cells → HeldPlan → ℕ → AuditedSwitch
+node_of cells held g = record { guid = g; row = row_of cells g; index = index_of held g; top = top_of held g; ports = port_count_of cells g }
 
 -- the facts of a subnet, and the tables that its switches hold
 pub record Seen : Type 0 where
@@ -85,9 +85,9 @@ abbrev pub seen_code : Coded Seen
 seen_code = code_by (Facts × HeldPlan) (coded× facts_code (held.the_row).coded) (λ s. (s.facts, s.held)) (λ p. record { facts = p.0; held = p.1 }) (λ _. refl)
 
 -- the usable switches by rising GUID, the end ports as sources, in their order, the switches to which their packets come first, whether each has one, the numbers of the blocks, and who holds each LID
-pub record IsNetwork (cells : Cells) (held : HeldPlan) (nodes : List Node) (sources : List Source) (firsts : List (Option ℕ)) (begin : Bool) (numbers : List ℕ) (owners : List Owner) : Type 0 where
+pub record IsNetwork (cells : Cells) (held : HeldPlan) (nodes : List AuditedSwitch) (sources : List Sender) (firsts : List (Option ℕ)) (begin : Bool) (numbers : List ℕ) (owners : List Owner) : Type 0 where
   pub nodes_are : nodes ≡ map (node_of cells held) (switches cells)
-  pub sources_are : sources ≡ map (source_of cells) (end_ports cells)
+  pub sources_are : sources ≡ map (sender_of cells) (end_ports cells)
   pub firsts_are : firsts ≡ map first_switch sources
   pub begin_is : begin ≡ all_begin (length nodes) firsts
   pub numbers_are : numbers ≡ map number_of held.blocks

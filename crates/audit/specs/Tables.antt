@@ -17,40 +17,40 @@ is_same_end e x = x.node == e.node && x.port == e.port
 abbrev pub is_owner : List EndPort → EndPort → Bool
 is_owner owners e = list_any (is_same_end e) owners
 
--- the place of a switch among those that are held
-abbrev pub place_of : HeldPlan → ℕ → Option ℕ
-place_of held g = position (λ s. s.guid == g) held.switches
+-- the index of a switch among those that are held
+abbrev pub index_of : HeldPlan → ℕ → Option ℕ
+index_of held g = position (λ s. s.guid == g) held.switches
 
--- the top of the switch at a place, and 0 where there is none
+-- the top of the switch at an index, and 0 where there is none
 abbrev pub top_at : HeldPlan → Option ℕ → ℕ
-top_at held place = option_map_or (λ s. s.top) (option_and_then (slice_get held.switches) place) 0
+top_at held index = option_map_or (λ s. s.top) (option_and_then (slice_get held.switches) index) 0
 
 abbrev pub number_of : HeldBlock → ℕ
 number_of x = x.number
 
--- the block of a number of the switch at a place
+-- the block of a number of the switch at an index
 abbrev pub is_block_of : ℕ → ℕ → HeldBlock → Bool
-is_block_of place number x = x.switch == place && x.number == number
+is_block_of index number x = x.switch == index && x.number == number
 
 -- the last such block; a text that is read has no two
 abbrev pub block_at : HeldPlan → ℕ → ℕ → Option HeldBlock
-block_at held place number = find (is_block_of place number) (reverse held.blocks)
+block_at held index number = find (is_block_of index number) (reverse held.blocks)
 
 -- the entry in a block, and 255 where the block is not held
 abbrev pub entry_in : Option HeldBlock → ℕ → ℕ
 entry_in block i = option_map_or (λ x. slice_index_or x.entries i 255) block 255
 
--- the entry of the switch at a place for a LID, and 255 where it is not held
+-- the entry of the switch at an index for a LID, and 255 where it is not held
 abbrev pub entry_at : HeldPlan → Option ℕ → ℕ → ℕ
-entry_at held place lid = option_map_or (λ k. entry_in (block_at held k (lid / 64)) (lid % 64)) place 255
+entry_at held index lid = option_map_or (λ k. entry_in (block_at held k (lid / 64)) (lid % 64)) index 255
 
 -- the top of a switch, and 0 where it is not held
 abbrev pub top_of : HeldPlan → ℕ → ℕ
-top_of held g = top_at held (place_of held g)
+top_of held g = top_at held (index_of held g)
 
 -- the entry of a switch for a LID, and 255 where it is not held
 abbrev pub entry_of : HeldPlan → ℕ → ℕ → ℕ
-entry_of held g lid = entry_at held (place_of held g) lid
+entry_of held g lid = entry_at held (index_of held g) lid
 
 -- the entry that counts: none does for LID 0 and LIDs over the top
 abbrev pub counted : ℕ → ℕ → ℕ → ℕ

@@ -1,7 +1,7 @@
 //! The first packet that does not come to the end port that holds its LID.
 ghost use Rattle.std.specs.Prelude.{◌≡◌, ◌/◌, IfOk, MatchOption};
 ghost use Rattle.fact_store.specs.View.{cells_of};
-ghost use Rattle.audit.specs.Steps.{AllArrive, AreBlocks, IsFailureOf, IsHeldFailure, LineIsRight};
+ghost use Rattle.audit.specs.NextHops.{AllArrive, AreBlocks, IsFailureOf, IsHeldFailure, LineIsRight};
 
 use crate::end::Failure;
 use crate::network::{Blocks, Network};
@@ -48,10 +48,10 @@ fn failure_of(
     let ends = network.ends(alloc, blocks, line)?;
     match ends.first_elsewhere() {
         None => Ok(None),
-        Some(place) => Ok(Some(Failure {
+        Some(index) => Ok(Some(Failure {
             line: *line,
-            source: network.end_port(place),
-            end: ends.at(place),
+            source: network.end_port(index),
+            end: ends.at(index),
         })),
     }
 }

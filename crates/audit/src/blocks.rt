@@ -1,12 +1,12 @@
 ghost use Rattle.std.specs.Prelude.{◌≡◌, IfOk, length, map, slice_get};
-ghost use Rattle.audit.specs.Steps.{AreBlank, AreBlocks, with_block, with_row};
+ghost use Rattle.audit.specs.NextHops.{AreBlank, AreBlocks, with_block, with_row};
 ghost use Rattle.audit.specs.Tables.{number_of};
 
 use plan_file::{Held, HeldBlock};
 use std::alloc::{AllocError, Global};
 
 #[tactic(auto, using(crate::proofs::Gathered::none_gathered))]
-/// The blocks of a number, by the places of their switches among those that are held; entries that are not held
+/// The blocks of a number, by the indices of their switches among those that are held; entries that are not held
 /// are 255. Takes a walk over the numbers of all blocks.
 pub(crate) fn blocks(
     alloc: Global,
@@ -18,19 +18,19 @@ pub(crate) fn blocks(
     ensures { IfOk result (λ rows. AreBlocks held.now number rows.items) }
 {
     let mut rows = no_blocks(alloc, held)?;
-    for (place, other) in numbers.iter().enumerate() {
+    for (index, other) in numbers.iter().enumerate() {
         if *other == number {
-            put_block(&mut rows, held.blocks(), place);
+            put_block(&mut rows, held.blocks(), index);
         }
     }
     Ok(rows)
 }
 
-/// Puts the block at a place where that of its switch is.
-fn put_block(rows: &mut Vec<[u8; 64]>, blocks: &[HeldBlock], place: usize)
-    ensures { rows.new.items ≡ with_block rows.old.items (slice_get blocks.now place) }
+/// Puts the block at an index where that of its switch is.
+fn put_block(rows: &mut Vec<[u8; 64]>, blocks: &[HeldBlock], index: usize)
+    ensures { rows.new.items ≡ with_block rows.old.items (slice_get blocks.now index) }
 {
-    match blocks.get(place) {
+    match blocks.get(index) {
         Some(block) => put_row(rows, block),
         None => {}
     }

@@ -3,14 +3,14 @@ ghost use Rattle.std.specs.Prelude.{◌≡◌, ◌&&◌, IfOk, None, length, map
 ghost use Rattle.std.specs.List.{list_all};
 ghost use Rattle.audit.specs.Ends.{all_come, arrivals, comes_by, end_from, is_sole};
 ghost use Rattle.audit.specs.Network.{all_begin, first_switch};
-ghost use Rattle.audit.specs.Steps.{is_at};
+ghost use Rattle.audit.specs.NextHops.{is_at};
 ghost use Rattle.audit.specs.Tables.{is_same_end};
 
-use crate::column::first_step;
 use crate::end::End;
-use crate::far::Source;
-use crate::step::Step;
-use crate::walks::{end_of, onward};
+use crate::next_hop::NextHop;
+use crate::next_hops::first_hop;
+use crate::senders::Sender;
+use crate::walk_ends::{end_of, onward};
 use std::alloc::{AllocError, Global};
 use std::marker::Model;
 use subnet_view::EndPort;
@@ -20,13 +20,13 @@ use subnet_view::EndPort;
 pub struct Ends<'a> {
     /// The end port.
     port: EndPort,
-    sources: &'a [Source],
+    sources: &'a [Sender],
     /// For each source the index of the switch to which its packet comes first.
     firsts: &'a [Option<usize>],
     /// The end ports that hold the LID.
     owners: Vec<EndPort>,
     /// What the walks from the switches come to.
-    walks: Vec<Step>,
+    walks: Vec<NextHop>,
     /// Whether that is the end port.
     arrive: Vec<bool>,
     /// Whether no other end port holds the LID.
@@ -51,11 +51,11 @@ impl<'a> Ends<'a> {
     pub(crate) fn new(
         alloc: Global,
         port: EndPort,
-        sources: &'a [Source],
+        sources: &'a [Sender],
         firsts: &'a [Option<usize>],
         begin: bool,
         owners: Vec<EndPort>,
-        walks: Vec<Step>,
+        walks: Vec<NextHop>,
     ) -> Result<Self, AllocError>
         requires firsts { firsts.now ≡ map first_switch sources.now }
         requires begin { begin ≡ all_begin (length walks.items) firsts.now }
@@ -77,24 +77,24 @@ impl<'a> Ends<'a> {
         })
     }
 
-    /// Where the packet of the end port at a place ends; None is that it goes round for ever. Takes some steps.
-    pub fn at(&self, place: usize) -> Option<End>
-        ensures { result ≡ slice_index_or self.now.ends place None }
+    /// Where the packet of the end port at an index ends; None is that it goes round for ever. Takes some steps.
+    pub fn at(&self, index: usize) -> Option<End>
+        ensures { result ≡ slice_index_or self.now.ends index None }
     {
-        end_at(&self.owners, &self.walks, self.sources, place)
+        end_at(&self.owners, &self.walks, self.sources, index)
     }
 
     /// Whether it ends at the port. Takes a step or two where it does, and no other end port holds the LID.
-    pub fn arrives(&self, place: usize) -> bool
-        ensures { result ≡ is_at self.now.port (slice_index_or self.now.ends place None) }
+    pub fn arrives(&self, index: usize) -> bool
+        ensures { result ≡ is_at self.now.port (slice_index_or self.now.ends index None) }
     {
-        if comes_there(self.sole, self.firsts, &self.arrive, place) {
+        if comes_there(self.sole, self.firsts, &self.arrive, index) {
             return true;
         }
-        is_at(&self.port, &self.at(place))
+        is_at(&self.port, &self.at(index))
     }
 
-    /// The place of the first that does not end at the port; None where all do. Takes one step where all come first to a
+    /// The index of the first that does not end at the port; None where all do. Takes one step where all come first to a
     /// switch, each walk from a switch comes to the port, and no other end port holds the LID; else what `arrives` does
     /// for each.
     pub fn first_elsewhere(&self) -> Option<usize>
@@ -110,9 +110,9 @@ impl<'a> Ends<'a> {
     fn look_elsewhere(&self) -> Option<usize>
         ensures { result ≡ position (λ end. not (is_at self.now.port end)) self.now.ends }
     {
-        for place in 0..self.count() {
-            if !self.arrives(place) {
-                return Some(place);
+        for index in 0..self.count() {
+            if !self.arrives(index) {
+                return Some(index);
             }
         }
         None
@@ -127,36 +127,36 @@ impl<'a> Ends<'a> {
 }
 
 #[tactic(auto, using(crate::proofs::Arrivals::found_there, crate::proofs::Arrivals::none_there))]
-/// Where the packet of the source at a place ends, and None where there is none.
-fn end_at(owners: &[EndPort], walks: &[Step], sources: &[Source], place: usize) -> Option<End>
-    ensures { result ≡ slice_index_or (map (end_from owners.now walks.now) sources.now) place None }
+/// Where the packet of the source at an index ends, and None where there is none.
+fn end_at(owners: &[EndPort], walks: &[NextHop], sources: &[Sender], index: usize) -> Option<End>
+    ensures { result ≡ slice_index_or (map (end_from owners.now walks.now) sources.now) index None }
 {
-    if place < sources.len() {
-        end_from(owners, walks, &sources[place])
+    if index < sources.len() {
+        end_from(owners, walks, &sources[index])
     } else {
         None
     }
 }
 
 /// Where the packet of a source ends.
-fn end_from(owners: &[EndPort], walks: &[Step], source: &Source) -> Option<End>
+fn end_from(owners: &[EndPort], walks: &[NextHop], source: &Sender) -> Option<End>
     ensures { result ≡ end_from owners.now walks.now source.now }
 {
-    end_of(onward(walks, first_step(owners, source)))
+    end_of(onward(walks, first_hop(owners, source)))
 }
 
 /// Whether the walk from the first switch comes to the port, which alone holds the LID.
-fn comes_there(sole: bool, firsts: &[Option<usize>], arrive: &[bool], place: usize) -> bool
-    ensures { result ≡ (sole && comes_by (slice_index_or firsts.now place None) arrive.now) }
+fn comes_there(sole: bool, firsts: &[Option<usize>], arrive: &[bool], index: usize) -> bool
+    ensures { result ≡ (sole && comes_by (slice_index_or firsts.now index None) arrive.now) }
 {
-    sole && comes_by(first_at(firsts, place), arrive)
+    sole && comes_by(first_at(firsts, index), arrive)
 }
 
-/// The index of the switch to which the packet of the source at a place comes first.
-fn first_at(firsts: &[Option<usize>], place: usize) -> Option<usize>
-    ensures { result ≡ slice_index_or firsts.now place None }
+/// The index of the switch to which the packet of the source at an index comes first.
+fn first_at(firsts: &[Option<usize>], index: usize) -> Option<usize>
+    ensures { result ≡ slice_index_or firsts.now index None }
 {
-    firsts.get(place).copied().flatten()
+    firsts.get(index).copied().flatten()
 }
 
 /// Whether the walk from a switch comes to the port, by what each does.
@@ -170,7 +170,7 @@ fn comes_by(first: Option<usize>, arrive: &[bool]) -> bool
 }
 
 /// Whether what each walk comes to is the port.
-fn arrivals(alloc: Global, port: &EndPort, walks: &[Step]) -> Result<Vec<bool>, AllocError>
+fn arrivals(alloc: Global, port: &EndPort, walks: &[NextHop]) -> Result<Vec<bool>, AllocError>
     ensures { IfOk result (λ arrive. arrive.items ≡ arrivals port.now walks.now) }
 {
     walks

@@ -2,8 +2,8 @@
 ghost use Rattle.std.specs.Prelude.{◌≡◌};
 ghost use Rattle.audit.specs.Tables.{block_at, entry_at, entry_for, is_block_of};
 
-use crate::column::counted;
-use crate::node::{place_of, top_at};
+use crate::audited_switch::{index_of, top_at};
+use crate::next_hops::counted;
 use plan_file::{Held, HeldBlock};
 use smp_bytes::{Guid, Lid};
 
@@ -11,37 +11,37 @@ use smp_bytes::{Guid, Lid};
 pub(crate) fn entry_for(held: &Held, switch: Guid, lid: Lid) -> u8
     ensures { result ≡ entry_for held.now lid switch }
 {
-    let place = place_of(held, switch);
-    counted(lid, top_at(held, place), entry_at(held, place, lid))
+    let index = index_of(held, switch);
+    counted(lid, top_at(held, index), entry_at(held, index, lid))
 }
 
-/// The entry of the switch at a place.
-fn entry_at(held: &Held, place: Option<usize>, lid: Lid) -> u8
-    ensures { result ≡ entry_at held.now place lid }
+/// The entry of the switch at an index.
+fn entry_at(held: &Held, index: Option<usize>, lid: Lid) -> u8
+    ensures { result ≡ entry_at held.now index lid }
 {
-    let Some(place) = place else {
+    let Some(index) = index else {
         return 255;
     };
-    match block_at(held, place, lid.number() / 64) {
+    match block_at(held, index, lid.number() / 64) {
         Some(block) => block.entries[usize::from(lid.number()) % 64],
         None => 255,
     }
 }
 
-/// The last block of a number of the switch at a place.
-fn block_at(held: &Held, place: usize, number: u16) -> Option<HeldBlock>
-    ensures { result ≡ block_at held.now place number }
+/// The last block of a number of the switch at an index.
+fn block_at(held: &Held, index: usize, number: u16) -> Option<HeldBlock>
+    ensures { result ≡ block_at held.now index number }
 {
     held.blocks()
         .iter()
         .rev()
         .copied()
-        .find(|block| is_block_of(place, number, block))
+        .find(|block| is_block_of(index, number, block))
 }
 
-/// Whether a block is of a number and of the switch at a place.
-fn is_block_of(place: usize, number: u16, block: &HeldBlock) -> bool
-    ensures { result ≡ is_block_of place number block.now }
+/// Whether a block is of a number and of the switch at an index.
+fn is_block_of(index: usize, number: u16, block: &HeldBlock) -> bool
+    ensures { result ≡ is_block_of index number block.now }
 {
-    block.switch == place && block.number == number
+    block.switch == index && block.number == number
 }

@@ -1,6 +1,6 @@
 //! The laws of what tables do.
 ghost use Rattle.audit.specs.Fabrics.{FabricsAreJudged, PacketsEndAsTold, PacketsEndAsToldInParts, PlansPass};
-ghost use Rattle.audit.specs.Steps.{EndsAreFound};
+ghost use Rattle.audit.specs.NextHops.{EndsAreFound};
 
 /// After as many steps as there are usable switches a packet has ended, or goes round for ever: it has one end, and that
 /// is where it is then.

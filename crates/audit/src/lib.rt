@@ -2,26 +2,28 @@
 #![tactic(auto)]
 
 mod arrival;
+mod audited_switch;
 mod blocks;
-mod column;
 mod end;
 mod ends;
 mod entry;
-mod far;
+mod far_end;
+mod far_ends;
 pub mod laws;
 mod network;
-mod node;
+mod next_hop;
+mod next_hops;
 mod owners;
-mod row;
-mod step;
-mod walks;
+mod walk_ends;
 
 pub use arrival::first_failure;
 pub use end::{Cause, End, Failure};
 pub use ends::Ends;
-pub use far::{Far, Source};
+pub use far_end::Far;
 pub use network::{Blocks, Network};
-pub use step::Step;
+pub use next_hop::NextHop;
+pub use senders::Sender;
 
+mod senders;
 #[cfg(test)]
 mod tests;

@@ -2,22 +2,23 @@ ghost use Rattle.std.specs.Prelude.{◌≡◌, ◌<◌, ◌/◌, IfOk, length, m
 ghost use Rattle.fact_store.specs.View.{cells_of};
 ghost use Rattle.subnet_view.specs.EndPorts.{end_ports};
 ghost use Rattle.subnet_view.specs.Reading.{switches};
-ghost use Rattle.audit.specs.Exits.{exits_of, greatest_top};
-ghost use Rattle.audit.specs.Network.{far_by, source_of};
-ghost use Rattle.audit.specs.Steps.{AreBlocks, AreBrought, entry_by};
+ghost use Rattle.audit.specs.Edges.{edges_of, greatest_top};
+ghost use Rattle.audit.specs.Network.{far_by, sender_of};
+ghost use Rattle.audit.specs.NextHops.{AreBlocks, AreBrought, entry_by};
 ghost use Rattle.audit.specs.Tables.{is_owner};
 
+use crate::audited_switch::{AuditedSwitch, greatest_top, nodes};
 use crate::blocks::{blocks, numbers};
-use crate::column::{exits, steps};
 use crate::ends::Ends;
 use crate::entry::entry_for;
-use crate::far::{Far, Source, all_begin, firsts, sources};
-use crate::node::{Node, greatest_top, nodes};
+use crate::far_end::Far;
+use crate::next_hops::{edges, steps};
 use crate::owners::{Owner, owners, owners_of};
-use crate::walks::ends;
+use crate::senders::{Sender, all_begin, firsts, sources};
+use crate::walk_ends::ends;
 use fact_store::{Refused, Store};
 use plan_file::{Held, HeldLid};
-use port_graph::Exit;
+use port_graph::Edge;
 use smp_bytes::{Guid, Lid};
 use std::alloc::{AllocError, Global};
 use std::marker::Model;
@@ -29,9 +30,9 @@ pub struct Network<'a> {
     store: &'a Store,
     held: &'a Held,
     /// The usable switches, by rising GUID.
-    nodes: Vec<Node>,
+    nodes: Vec<AuditedSwitch>,
     /// The end ports, in their order.
-    sources: Vec<Source>,
+    sources: Vec<Sender>,
     /// For each source the index of the switch to which its packets come first.
     firsts: Vec<Option<usize>>,
     /// Whether each has one.
@@ -59,7 +60,7 @@ impl<'a> Model for Network<'a> {
 #[derive(Drop)]
 pub struct Blocks {
     pub(crate) number: u16,
-    /// By the places of their switches among those that are held.
+    /// By the indices of their switches among those that are held.
     pub(crate) rows: Vec<[u8; 64]>,
 }
 
@@ -144,17 +145,17 @@ impl<'a> Network<'a> {
 
     /// For each usable switch, by rising GUID, the port by which it sends packets for a LID on to another usable
     /// switch, with that one's index; None where it does not. Takes a step for each switch.
-    pub fn exits(
+    pub fn edges(
         &self,
         alloc: Global,
         blocks: &Blocks,
         lid: Lid,
-    ) -> Result<Vec<Option<Exit>>, AllocError>
+    ) -> Result<Vec<Option<Edge>>, AllocError>
         requires held { AreBlocks self.now.held blocks.now.number blocks.now.rows.items }
         requires number { blocks.now.number ≡ lid / 64 }
-        ensures { IfOk result (λ exits. exits.items ≡ exits_of (cells_of self.now.facts) self.now.held lid) }
+        ensures { IfOk result (λ edges. edges.items ≡ edges_of (cells_of self.now.facts) self.now.held lid) }
     {
-        exits(alloc, &self.nodes, &blocks.rows, lid)
+        edges(alloc, &self.nodes, &blocks.rows, lid)
     }
 
     /// How many usable switches there are.
@@ -192,8 +193,8 @@ impl<'a> Network<'a> {
     }
 
     /// The end ports as sources, in their order.
-    pub fn sources(&self) -> &[Source]
-        ensures { result.now ≡ map (source_of (cells_of self.now.facts)) (end_ports (cells_of self.now.facts)) }
+    pub fn sources(&self) -> &[Sender]
+        ensures { result.now ≡ map (sender_of (cells_of self.now.facts)) (end_ports (cells_of self.now.facts)) }
     {
         &self.sources
     }
@@ -216,12 +217,12 @@ impl<'a> Network<'a> {
         Some(entry_for(self.held, node, lid))
     }
 
-    /// The end port at a place, in their order. Takes one step.
-    pub(crate) fn end_port(&self, place: usize) -> EndPort
-        requires { place < length (end_ports (cells_of self.now.facts)) }
-        ensures { slice_get (end_ports (cells_of self.now.facts)) place ≡ Some result }
+    /// The end port at an index, in their order. Takes one step.
+    pub(crate) fn end_port(&self, index: usize) -> EndPort
+        requires { index < length (end_ports (cells_of self.now.facts)) }
+        ensures { slice_get (end_ports (cells_of self.now.facts)) index ≡ Some result }
     {
-        self.sources[place].port
+        self.sources[index].port
     }
 
     /// Whether the port is an end port of the view. Takes two searches.

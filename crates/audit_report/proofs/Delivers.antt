@@ -1,19 +1,19 @@
 -- Where tables pass by facts, packets are delivered in the part of a fabric that the facts tell of.
 use Rattle.std.proofs.Common.{◌≡◌, ◌≢◌, ◌≤◌, ℕ, Bool, true, false, cond, ◌||◌, List, [], ◌∷◌, Option, None, Some, refl, sym, ap, ◌∙◌, subst}
-use Rattle.std.specs.Prelude.{Contains, IsTrue, is_some, nat_lt, option_and_then, option_map, slice_get, ◌==◌}
+use Rattle.std.specs.Prelude.{Contains, is_some, nat_lt, option_and_then, option_map, slice_get, ◌==◌}
 use Rattle.std.specs.Option.{option_map_or}
 use Rattle.std.proofs.lemmas.Bool.{and_left, eq-eqb}
 use Rattle.std.proofs.lemmas.Option.{same_Some}
-use Rattle.smp_bytes.specs.declared.cable.NodePort.{NodePort}
-use Rattle.smp_bytes.specs.declared.course.Course.{Course}
-use Rattle.smp_bytes.specs.declared.course.Course.TheVariants.{Delivers, LeavesBy, Drops}
-use Rattle.smp_bytes.specs.Cables.{is_same_port}
+use Rattle.fabric_model.specs.declared.cable.NodePort.{NodePort}
+use Rattle.fabric_model.specs.declared.course.Course.{Course}
+use Rattle.fabric_model.specs.declared.course.Course.TheVariants.{Delivers, LeavesBy, Drops}
+use Rattle.fabric_model.specs.Cables.{is_same_port}
 use Rattle.smp_bytes.specs.NodeType.{is_switch}
-use Rattle.smp_bytes.specs.Fabric.{Node, Fabric, IsFabric, IsNodeAt, IsEndPort, is_switch_at, owns}
-use Rattle.smp_bytes.specs.FabricWalks.{IsWire, IsJoinedTo, vertex_of}
-use Rattle.smp_bytes.specs.Forwarding.{Standing, arrived_at, sent_from, course, adapter_course, entry_course, switch_course, Hop, Goes, IsDelivered}
-use Rattle.smp_bytes.proofs.Cabled.{same_port-is, same_port-refl}
-use Rattle.smp_bytes.proofs.FabricWalks.{port_at, same_port, EndNumber, type_at, vertex_node, switch_vertex, adapter_vertex, vertex_is_end, switch_number}
+use Rattle.fabric_model.specs.Fabric.{Node, Fabric, IsFabric, IsNodeAt, IsEndPort, is_switch_at, owns}
+use Rattle.fabric_model.specs.FabricWalks.{IsJoinedTo, vertex_of}
+use Rattle.fabric_model.specs.Forwarding.{Standing, arrived_at, sent_from, course, adapter_course, entry_course, switch_course, Hop, Goes, IsDelivered}
+use Rattle.fabric_model.proofs.Cabled.{same_port-is, same_port-refl}
+use Rattle.fabric_model.proofs.FabricWalks.{port_at, same_port, EndNumber, type_at, vertex_node, switch_vertex, adapter_vertex, vertex_is_end, switch_number}
 use Rattle.fact_store.specs.View.{Facts, cells_of}
 use Rattle.subnet_view.specs.declared.end_port.EndPort.{EndPort}
 use Rattle.subnet_view.specs.EndPorts.{end_ports}
@@ -27,38 +27,38 @@ use Rattle.updown_routes.specs.Graph.{graph_of}
 use Rattle.updown_routes.specs.Ranks.{root_of}
 use Rattle.updown_routes.proofs.Components.{rooted, same_root}
 use Rattle.updown_routes.proofs.Graphs.{graph_law}
-use Rattle.updown_routes.proofs.Joined.{HasHome, LiesAt, Meets, apart, by_wire, itself, joined_meet, same, switch_in_graph, wired}
-use Rattle.updown_routes.proofs.PartWires.{IsTold, known_type, switch_at_place, switch_known, switch_port, switch_usable}
+use Rattle.updown_routes.proofs.Joined.{HasAttachment, LiesAt, Meets, apart, by_wire, itself, joined_meet, same, switch_in_graph, wired}
+use Rattle.updown_routes.proofs.PartWires.{IsTold, known_type, switch_at_index, switch_known, switch_port, switch_usable}
 use Rattle.updown_routes.proofs.Switches.{usable_switch}
-use Rattle.lft_blocks.specs.Entries.{home_of}
+use Rattle.lft_blocks.specs.Entries.{attachment_of}
 use Rattle.audit.specs.declared.end.End.TheVariants.{Taken}
-use Rattle.audit.specs.Fabrics.{ArrivesAt, IsSeenIn}
+use Rattle.audit.specs.Fabrics.{IsSeenIn}
 use Rattle.audit.proofs.FabricsJudged.{owner_line}
 use Rattle.audit.proofs.Judged.{same_itself}
 use Rattle.audit.proofs.Told.{IsClosed, joined_closed, packets_end_as_told_in_parts}
 use Rattle.audit.specs.Tables.{is_same_end}
 use Rattle.audit_report.specs.Laws.{PassingAuditsDeliver}
-use Rattle.audit_report.specs.Seats.{in_one_component, is_one_root, leads_to, root_at}
+use Rattle.audit_report.specs.Sites.{in_one_component, is_one_root, leads_to, root_at}
 
 -- what is delivered stays within what is joined -----------------------------------------------
 
 module _ (f : Fabric) (lid : ℕ) (s : Standing) where
   abbrev StaysAt : Course → Type 0
-  StaysAt (Delivers p) = vertex_of f p ≡ vertex_of f s.place
-  StaysAt (LeavesBy p) = vertex_of f p ≡ vertex_of f s.place
+  StaysAt (Delivers p) = vertex_of f p ≡ vertex_of f s.at
+  StaysAt (LeavesBy p) = vertex_of f p ≡ vertex_of f s.at
   StaysAt Drops = Unit {0}
 
   at_adapter : (own : Bool) → StaysAt (adapter_course own s)
   at_adapter true = refl
-  at_adapter false = elim s.by_wire as (λ t. StaysAt (cond t Drops (LeavesBy s.place))) [ true ↦ tt | false ↦ refl ]
+  at_adapter false = elim s.by_wire as (λ t. StaysAt (cond t Drops (LeavesBy s.at))) [ true ↦ tt | false ↦ refl ]
 
-  at_switch : (node : Node) → IsNodeAt f s.place.node node → is_switch node.kind ≡ true → (ports top entry : ℕ)
-      → StaysAt (switch_course ports s.place.node top lid entry)
+  at_switch : (node : Node) → IsNodeAt f s.at.node node → is_switch node.kind ≡ true → (ports top entry : ℕ)
+      → StaysAt (switch_course ports s.at.node top lid entry)
   at_switch node at kind ports top entry =
-      let k = s.place.node in
+      let k = s.at.node in
       let switch : is_switch_at f k ≡ true = type_at f k node at ∙ kind in
-      let vertex : (n : ℕ) → vertex_of f (port_at k n) ≡ vertex_of f s.place =
-      λ n. switch_vertex f (port_at k n) switch ∙ sym (switch_vertex f s.place switch) in
+      let vertex : (n : ℕ) → vertex_of f (port_at k n) ≡ vertex_of f s.at =
+      λ n. switch_vertex f (port_at k n) switch ∙ sym (switch_vertex f s.at switch) in
       elim (lid == 0 || nat_lt top lid) as (λ t. StaysAt (cond t Drops (entry_course ports k entry))) [
         | true ↦ tt
         | false ↦ (elim (entry == 255 || nat_lt ports entry) as
@@ -73,14 +73,14 @@ module _ (f : Fabric) (lid : ℕ) (s : Standing) where
 
   stays : StaysAt (course f lid s)
   stays =
-      let k = s.place.node in
-      let does : Node → Course = λ n. cond (is_switch n.kind) (switch_course n.ports k (f.top k) lid (f.entry k lid)) (adapter_course (owns f s.place lid) s) in
+      let k = s.at.node in
+      let does : Node → Course = λ n. cond (is_switch n.kind) (switch_course n.ports k (f.top k) lid (f.entry k lid)) (adapter_course (owns f s.at lid) s) in
       elim (slice_get f.nodes k) as (λ o. slice_get f.nodes k ≡ o → StaysAt (option_map_or does o Drops)) [
         | None ↦ λ e. tt
         | Some node ↦ λ e. (elim (is_switch node.kind) as (λ t. is_switch node.kind ≡ t
-            → StaysAt (cond t (switch_course node.ports k (f.top k) lid (f.entry k lid)) (adapter_course (owns f s.place lid) s))) [
+            → StaysAt (cond t (switch_course node.ports k (f.top k) lid (f.entry k lid)) (adapter_course (owns f s.at lid) s))) [
               | true ↦ λ kind. at_switch node e kind node.ports (f.top k) (f.entry k lid)
-              | false ↦ λ kind. at_adapter (owns f s.place lid)
+              | false ↦ λ kind. at_adapter (owns f s.at lid)
             ] refl)
       ] refl
 
@@ -104,13 +104,13 @@ module _ (part : Part) (f : Fabric) (fab : IsFabric f) (closed : IsClosed part f
   moved : (p q : NodePort) → vertex_of f q ≡ vertex_of f p → Within p → Within q
   moved p q e within = (subst part (sym e) within.0, subst (IsEndPort f) (sym e) within.1)
 
-  goes_within : (hops : List Hop) (st end : Standing) (target : NodePort) → Within st.place → Goes f lid st hops end → course f lid end ≡ Delivers target
+  goes_within : (hops : List Hop) (st end : Standing) (target : NodePort) → Within st.at → Goes f lid st hops end → course f lid end ≡ Delivers target
       → Within target
   goes_within [] st end target within g d =
       let delivers : course f lid st ≡ Delivers target = ap (course f lid) g ∙ d in
-      moved st.place target (subst (StaysAt f lid st) delivers (stays f lid st)) within
+      moved st.at target (subst (StaysAt f lid st) delivers (stays f lid st)) within
   goes_within (h ∷ hops) st end target within g d =
-      let out : Within h.out = moved st.place h.out (subst (StaysAt f lid st) g.0 (stays f lid st)) within in
+      let out : Within h.out = moved st.at h.out (subst (StaysAt f lid st) g.0 (stays f lid st)) within in
       goes_within hops (arrived_at h.into) end target (over h.out h.into out g.1) g.2 d
 
 -- what is joined lies in one component ----------------------------------------------------------
@@ -143,24 +143,24 @@ module _ {cells : Cells} {f : Fabric} {origin : NodePort} (told : IsTold cells f
   of_type v node here = known_type told v node here ∙ sym (type_at f v.node node here.node_there)
 
   -- facts know where an end port lies
-  lies : (v h : NodePort) (node : Node) (g : ℕ) (here : InPart v node) (home : HasHome f origin v h g) → LiesAt f v h
-      → home_of cells (name v node) ≡ Some (g, h.port)
-  lies v h node g here home (itself s z e) =
-      let node_is : node ≡ home.there.node =
-      same_Some node home.there.node (sym here.node_there ∙ ap (λ (p : NodePort). slice_get f.nodes p.node) e ∙ home.there.at) in
-      let guid : node.guid ≡ g = ap (λ (n : Node). n.guid) node_is ∙ home.there.guid in
+  lies : (v h : NodePort) (node : Node) (g : ℕ) (here : InPart v node) (attachment : HasAttachment f origin v h g) → LiesAt f v h
+      → attachment_of cells (name v node) ≡ Some (g, h.port)
+  lies v h node g here attachment (itself s z e) =
+      let node_is : node ≡ attachment.there.node =
+      same_Some node attachment.there.node (sym here.node_there ∙ ap (λ (p : NodePort). slice_get f.nodes p.node) e ∙ attachment.there.at) in
+      let guid : node.guid ≡ g = ap (λ (n : Node). n.guid) node_is ∙ attachment.there.guid in
       let number : 0 ≡ h.port = sym z ∙ ap (λ (p : NodePort). p.port) e in
-      let usable : is_usable cells node.guid ≡ true = ap (is_usable cells) guid ∙ switch_usable told home.there in
+      let usable : is_usable cells node.guid ≡ true = ap (is_usable cells) guid ∙ switch_usable told attachment.there in
       ap (λ t. cond t (Some (node.guid, 0)) (attached cells node.guid v.port)) usable ∙ (λ i. Some (guid i, number i))
-  lies v h node g here home (by_wire s e) =
-      let different : v ≢ h = λ is. cc (s, ap (λ (p : NodePort). is_switch_at f p.node) is, switch_at_place home.there) in
+  lies v h node g here attachment (by_wire s e) =
+      let different : v ≢ h = λ is. cc (s, ap (λ (p : NodePort). is_switch_at f p.node) is, switch_at_index attachment.there) in
       let wire : across cells node.guid v.port ≡ Some (g, h.port) =
       (wire_law cells node.guid v.port g h.port).1 (told.covers.wires_told node.guid v.port g h.port
       (record {
         from = v;
         to = h;
         from_named = named v node here;
-        to_named = switch_port home.there h.port;
+        to_named = switch_port attachment.there h.port;
         wire = record { cable = e; different = different };
         in_part = subst (IsJoinedTo f origin) (sym (adapter_vertex f v s)) here.in_part;
       })) in
@@ -169,11 +169,11 @@ module _ {cells : Cells} {f : Fabric} {origin : NodePort} (told : IsTold cells f
       (and_left (is_switch_node cells node.guid) (is_some (cap_of cells node.guid)) no_switch)
       ∙ ap (λ t. cond t None (option_and_then (λ q. cond (is_switch_node cells q.0) (Some q) None) (across cells node.guid v.port))) no_switch
       ∙ ap (option_and_then (λ q. cond (is_switch_node cells q.0) (Some q) None)) wire
-      ∙ ap (λ t. cond t (Some (g, h.port)) None) (switch_known told home.there)
+      ∙ ap (λ t. cond t (Some (g, h.port)) None) (switch_known told attachment.there)
 
-  root_known : (v h : NodePort) (node : Node) (g : ℕ) → InPart v node → HasHome f origin v h g → root_at cells (name v node) ≡ root_of (graph_of cells) g
-  root_known v h node g here home =
-      ap (λ (o : Option (ℕ × ℕ)). option_and_then (root_of (graph_of cells)) (option_map (λ h. h.0) o)) (lies v h node g here home home.lies)
+  root_known : (v h : NodePort) (node : Node) (g : ℕ) → InPart v node → HasAttachment f origin v h g → root_at cells (name v node) ≡ root_of (graph_of cells) g
+  root_known v h node g here attachment =
+      ap (λ (o : Option (ℕ × ℕ)). option_and_then (root_of (graph_of cells)) (option_map (λ h. h.0) o)) (lies v h node g here attachment attachment.lies)
 
   -- two that meet
   of_meeting : (v w : NodePort) (a b : Node) → InPart v a → InPart w b → Meets cells f origin v w → in_one_component cells (name v a) (name w b) ≡ true
@@ -263,9 +263,9 @@ passing_audits_deliver facts held f origin is_end seen passes source target a b 
     let found_there : IsEndPortIn part f (vertex_of f found) its.node =
     record { node_there = ap (slice_get f.nodes) (vertex_node f found) ∙ its.node_there; end_port = within.1; in_part = within.0 } in
     let guid : its.node.guid ≡ b.guid = its.guid_is ∙ ap (λ (y : EndPort). y.node) owner in
-    let place : found.node ≡ target.node =
+    let index : found.node ≡ target.node =
     sym (vertex_node f found) ∙ seen.covers.guids_distinct (vertex_of f found) target its.node b found_there into guid in
-    let is : found ≡ target = same_port found target place (its.port_is ∙ ap (λ (y : EndPort). y.port) owner) in
+    let is : found ≡ target = same_port found target index (its.port_is ∙ ap (λ (y : EndPort). y.port) owner) in
     record {
       hops = hops;
       delivered = subst (λ (n : ℕ). IsDelivered f n source hops target) l.lid_is (subst (IsDelivered f l.line.lid source hops) is delivered);

@@ -6,7 +6,7 @@ use Rattle.std.proofs.lemmas.Bool.{cases_lt, lt-ltb, le-ltb}
 use Rattle.std.proofs.lemmas.List.{append-nil, length-append, length-take-le, take_all, take_more, take-append-le}
 use Rattle.std.proofs.lemmas.List.Elements.{filter-append}
 use Rattle.std.proofs.lemmas.List.Sums.{sum_by_push}
-use Rattle.audit_report.specs.Told.{Listed, first_of, listed, listed_of, noted}
+use Rattle.audit_report.specs.FirstFew.{Listed, first_of, listed, listed_of, first_few}
 
 module _ {X : Type 0} where
   -- the first so many of a list with one more
@@ -25,10 +25,10 @@ module _ {X : Type 0} where
             take-append-le n ys (x ∷ []) h ∙ sym (ap (λ t. cond t (take n ys ++ x ∷ []) (take n ys)) many)
       ]
 
-  pub first_more : (p : X → Bool) (xs : List X) (x : X) → first_of p (xs ++ x ∷ []) ≡ cond (p x) (noted (first_of p xs) x) (first_of p xs)
+  pub first_more : (p : X → Bool) (xs : List X) (x : X) → first_of p (xs ++ x ∷ []) ≡ cond (p x) (first_few (first_of p xs) x) (first_of p xs)
   first_more p xs x =
       ap (λ ys. take 20 ys) (filter-append p xs (x ∷ []))
-      ∙ (elim (p x) as (λ t. take 20 (filter p xs ++ cond t (x ∷ []) []) ≡ cond t (noted (first_of p xs) x) (first_of p xs)) [
+      ∙ (elim (p x) as (λ t. take 20 (filter p xs ++ cond t (x ∷ []) []) ≡ cond t (first_few (first_of p xs) x) (first_of p xs)) [
         | true ↦ take_one 20 (filter p xs) x
         | false ↦ ap (λ ys. take 20 ys) (append-nil (filter p xs))
       ])
@@ -39,13 +39,13 @@ module _ {X : Type 0} where
       let counted : count_by p (xs ++ x ∷ []) ≡ count_by p xs + cond (p x) 1 0 = sum_by_push (λ (y : X). cond (p y) 1 0) xs x in
       (λ i. record { first = first_more p xs x i; count = counted i })
       ∙ (elim (p x) as
-      (λ t. ◌≡◌ {A = Listed X} (record { first = cond t (noted (first_of p xs) x) (first_of p xs); count = count_by p xs + cond t 1 0 })
+      (λ t. ◌≡◌ {A = Listed X} (record { first = cond t (first_few (first_of p xs) x) (first_of p xs); count = count_by p xs + cond t 1 0 })
       (cond t (listed (listed_of p xs) x) (listed_of p xs))) [
         | true ↦ refl
         | false ↦ λ i. record { first = first_of p xs; count = add-zero (count_by p xs) i }
       ])
 
-  -- the element at a place passes, and is told
+  -- the element at an index passes, and is told
   pub told_more : (p : X → Bool) (xs : List X) (i : ℕ) (x : X) (told new : Listed X) → told ≡ listed_of p (take i xs) → i < length xs → x ≡ get_or xs i x
       → p x ≡ true → new ≡ listed told x → new ≡ listed_of p (take (i + 1) xs)
   told_more p xs i x told new h less is passes e =

@@ -14,32 +14,32 @@ use Rattle.plan_file.specs.Held.{HeldPlan}
 use Rattle.plan_file.proofs.Lists.{in_lists, from_lists}
 use Rattle.audit.specs.declared.end.End.TheVariants.{Taken}
 use Rattle.audit.specs.Network.{Seen}
-use Rattle.audit.specs.Steps.{end_for, is_at}
+use Rattle.audit.specs.NextHops.{end_for, is_at}
 use Rattle.audit.specs.Tables.{is_owner, is_same_end}
 use Rattle.audit.proofs.InTime.{end_found, end_is}
 use Rattle.audit.proofs.Judged.{same_ends, same_itself, at_is}
-use Rattle.audit_circles.specs.Waiting.{NoneShorter}
-use Rattle.audit_circles.proofs.Orders.{never_both}
-use Rattle.audit_ways.specs.declared.ways.WayFigures.{WayFigures}
-use Rattle.audit.specs.Steps.{IsBrought}
-use Rattle.audit_report.specs.declared.packet.Packet.{Packet}
-use Rattle.audit_report.specs.declared.tally.Tally.{Tally}
+use Rattle.audit_channels.specs.Waiting.{NoneShorter}
+use Rattle.audit_channels.proofs.Orders.{never_both}
+use Rattle.audit_channels.specs.declared.ways.WayFigures.{WayFigures}
+use Rattle.audit.specs.NextHops.{IsBrought}
+use Rattle.audit_report.specs.declared.sent_packet.SentPacket.{SentPacket}
+use Rattle.audit_report.specs.declared.packet_tally.PacketTally.{PacketTally}
 use Rattle.audit_report.specs.declared.unmatched.Unmatched.{Unmatched}
 use Rattle.audit_report.specs.Packets.{arrives, packet_of, packets_for, packets_of, sent_to}
-use Rattle.audit_report.specs.Passing.{EachArrives, CanRise, IsSound, IsCircle, IsFound}
-use Rattle.audit_report.specs.Seats.{in_one_component}
+use Rattle.audit_report.specs.Passing.{EachArrives, CanRise, IsSound, IsCycle, IsFound}
+use Rattle.audit_report.specs.Sites.{in_one_component}
 
 -- counting all ------------------------------------------------------------------------
 
 -- an element more
-one_more : (x : Packet) (ps : List Packet) → count_by arrives (x ∷ ps) ≡ cond (arrives x) 1 0 + count_by arrives ps
-one_more x ps = sum_by-cons (λ (p : Packet). cond (arrives p) 1 0) x ps
+one_more : (x : SentPacket) (ps : List SentPacket) → count_by arrives (x ∷ ps) ≡ cond (arrives x) 1 0 + count_by arrives ps
+one_more x ps = sum_by-cons (λ (p : SentPacket). cond (arrives p) 1 0) x ps
 
-first_of_all : (x : Packet) (ps : List Packet) (b : Bool) → cond b 1 0 + count_by arrives ps ≡ length ps + 1 → (b ≡ true) × (count_by arrives ps ≡ length ps)
+first_of_all : (x : SentPacket) (ps : List SentPacket) (b : Bool) → cond b 1 0 + count_by arrives ps ≡ length ps + 1 → (b ≡ true) × (count_by arrives ps ≡ length ps)
 first_of_all x ps true h = (refl, omega arith)
 first_of_all x ps false h = let most = count_by-le-length arrives ps in absurd (omega arith)
 
-each_arrives : (ps : List Packet) → count_by arrives ps ≡ length ps → (p : Packet) → Contains ps p → arrives p ≡ true
+each_arrives : (ps : List SentPacket) → count_by arrives ps ≡ length ps → (p : SentPacket) → Contains ps p → arrives p ≡ true
 each_arrives [] h p k = absurd (contains_none p k)
 each_arrives (x ∷ ps) h p k =
     let parts = first_of_all x ps (arrives x) (omega (arith, one_more x ps, h)) in
@@ -48,7 +48,7 @@ each_arrives (x ∷ ps) h p k =
       | inr later ↦ each_arrives ps parts.1 p later
     ]
 
-all_counted : (ps : List Packet) → ((p : Packet) → Contains ps p → arrives p ≡ true) → count_by arrives ps ≡ length ps
+all_counted : (ps : List SentPacket) → ((p : SentPacket) → Contains ps p → arrives p ≡ true) → count_by arrives ps ≡ length ps
 all_counted [] h = refl
 all_counted (x ∷ ps) h =
     let rest = all_counted ps (λ p k. h p (contains_later x p ps k)) in
@@ -72,7 +72,7 @@ module _ (cells : Cells) (held : HeldPlan) where
       in_lists (packets_for cells held) held.lids line (packet_of cells held line e) is_held
       (subst (λ (t : Bool). Contains (cond t (sent_to cells held line) []) (packet_of cells held line e)) (sym (owned line.port there)) sent)
 
-  pub record IsSent (p : Packet) : Type 0 where
+  pub record IsSent (p : SentPacket) : Type 0 where
     line : HeldLid
     is_held : Contains held.lids line
     there : Contains (end_ports cells) line.port
@@ -81,7 +81,7 @@ module _ (cells : Cells) (held : HeldPlan) where
     joined : in_one_component cells source line.port ≡ true
     is : p ≡ packet_of cells held line source
 
-  of_line : (line : HeldLid) (p : Packet) → Contains held.lids line → Contains (packets_for cells held line) p → IsSent p
+  of_line : (line : HeldLid) (p : SentPacket) → Contains held.lids line → Contains (packets_for cells held line) p → IsSent p
   of_line line p is_held h =
       elim (is_owner (end_ports cells) line.port) as (λ t. is_owner (end_ports cells) line.port ≡ t → Contains (cond t (sent_to cells held line) []) p → IsSent p) [
         | true ↦ λ q k.
@@ -91,7 +91,7 @@ module _ (cells : Cells) (held : HeldPlan) where
         | false ↦ λ q k. absurd (contains_none p k)
       ] refl h
 
-  from_packets : (p : Packet) → Contains (packets_of cells held) p → IsSent p
+  from_packets : (p : SentPacket) → Contains (packets_of cells held) p → IsSent p
   from_packets p h = let i = from_lists (packets_for cells held) held.lids p h in of_line i.0 p i.1 i.2
 
   -- all arrive exactly where as many arrive as there are
@@ -108,32 +108,32 @@ module _ (cells : Cells) (held : HeldPlan) where
       sym (end_found cells held i.line.lid i.source (Some (Taken i.line.port)) (h i.line i.is_held i.source i.there i.is_end i.joined)) in
       ap arrives i.is ∙ ap (is_at i.line.port) end ∙ same_itself i.line.port)
 
-  -- there is no circle exactly where channels can be numbered
-  no_circle : (circle : List ℕ) → IsCircle cells held circle → CanRise cells held → length circle ≡ 0
-  no_circle [] h k = refl
-  no_circle (channel ∷ later) h k = absurd (never_both cells held k.0 (channel ∷ later) k.1 h)
+  -- there is no cycle exactly where channels can be numbered
+  no_cycle : (cycle : List ℕ) → IsCycle cells held cycle → CanRise cells held → length cycle ≡ 0
+  no_cycle [] h k = refl
+  no_cycle (channel ∷ later) h k = absurd (never_both cells held k.0 (channel ∷ later) k.1 h)
 
-  can_rise : (circle : List ℕ) → IsCircle cells held circle → length circle ≡ 0 → CanRise cells held
+  can_rise : (cycle : List ℕ) → IsCycle cells held cycle → length cycle ≡ 0 → CanRise cells held
   can_rise [] h e = h
   can_rise (channel ∷ later) h e = absurd (omega arith)
 
-pub sound_is : (seen : Seen) (tally : Tally) (unmatched : Unmatched) (count : ℕ) (ways : WayFigures) (circle : List ℕ) (b : Bool)
-    → IsFound seen tally unmatched count ways circle
-    → b ≡ ((tally.all.arrived == tally.all.sent) && (length circle == 0)) → IsTrue b ↔ IsSound (cells_of seen.facts) seen.held
-sound_is seen tally unmatched count ways circle b found is =
+pub sound_is : (seen : Seen) (tally : PacketTally) (unmatched : Unmatched) (count : ℕ) (ways : WayFigures) (cycle : List ℕ) (b : Bool)
+    → IsFound seen tally unmatched count ways cycle
+    → b ≡ ((tally.all.arrived == tally.all.sent) && (length cycle == 0)) → IsTrue b ↔ IsSound (cells_of seen.facts) seen.held
+sound_is seen tally unmatched count ways cycle b found is =
     let cells = cells_of seen.facts in
     let held = seen.held in
     let counted = found.counted.all in (
       λ t.
-          let parts = and_parts (tally.all.arrived == tally.all.sent) (length circle == 0) (sym is ∙ t) in
+          let parts = and_parts (tally.all.arrived == tally.all.sent) (length cycle == 0) (sym is ∙ t) in
           let same : tally.all.arrived ≡ tally.all.sent = eqb-true tally.all.arrived tally.all.sent parts.0 in
           record {
             arrive = arrive_all cells held (sym counted.arrived ∙ same ∙ counted.sent);
-            rise = can_rise cells held circle found.waits (eqb-true (length circle) 0 parts.1);
+            rise = can_rise cells held cycle found.waits (eqb-true (length cycle) 0 parts.1);
           },
-      λ p. is ∙ and_from (tally.all.arrived == tally.all.sent) (length circle == 0)
+      λ p. is ∙ and_from (tally.all.arrived == tally.all.sent) (length cycle == 0)
           (eq-eqb tally.all.arrived tally.all.sent (counted.arrived ∙ count_all cells held p.arrive ∙ sym counted.sent))
-          (eq-eqb (length circle) 0 (no_circle cells held circle found.waits p.rise)),
+          (eq-eqb (length cycle) 0 (no_cycle cells held cycle found.waits p.rise)),
     )
 
 -- no channels are the fewest

@@ -13,8 +13,8 @@ use Rattle.subnet_view.proofs.Members.{contains_here, contains_later, contains_c
 use Rattle.subnet_view.proofs.Apart.{contains_map, contains-from_map}
 use Rattle.lid_assign.specs.Lids.{Given, IsNoRoom, lids, lmc_of, top_of, top_among}
 use Rattle.lid_assign.proofs.LidLaws.{lids_law}
-use Rattle.spread_rule.specs.Rules.{RuleValue, routing_by}
-use Rattle.lft_blocks.specs.Entries.{home_of_lid, block_count, blocks}
+use Rattle.lft_blocks.specs.Rules.{RuleValue, routing_by}
+use Rattle.lft_blocks.specs.Entries.{attachment_of_lid, block_count, blocks}
 use Rattle.lft_blocks.specs.Plan.{SwitchTable, plan_of}
 use Rattle.plan_file.specs.declared.held.HeldLid.{HeldLid}
 use Rattle.plan_file.specs.declared.held.HeldSwitch.{HeldSwitch}
@@ -26,7 +26,7 @@ use Rattle.audit.proofs.HeldPlans.{made}
 use Rattle.audit.proofs.Judged.{same_ends, same_itself}
 use Rattle.audit_report.specs.declared.unmatched.Unmatched.{Unmatched}
 use Rattle.audit_report.specs.Passing.{EachHasTables, EachHoldsLid, HoldsLid, HoldsTables, IsWholeFor}
-use Rattle.audit_report.specs.Told.{Listed}
+use Rattle.audit_report.specs.FirstFew.{Listed}
 use Rattle.audit_report.specs.Unmatched.{IsUnmatched, has_lid, is_held, lidless, tableless}
 
 -- all of a list pass exactly where none is counted that does not
@@ -134,7 +134,7 @@ module _ (by : RuleValue) (lmc : ℕ) (facts : Facts) (has_room : ¬ (IsNoRoom l
   table_there : (g top : ℕ) → Contains (switches its_cells) g → HoldsTables (made by lmc its_cells top) g
   table_there g top there =
       let F : ℕ → SwitchTable = λ s.
-      record { guid = s; blocks = blocks (home_of_lid its_cells given) (routing_by by its_cells).next (block_count (top_of given)) s } in
+      record { guid = s; blocks = blocks (attachment_of_lid its_cells given) (routing_by by its_cells).next (block_count (top_of given)) s } in
       record {
         switch = with_top top (F g);
         is_held = contains_map (with_top top) (map F (switches its_cells)) (F g) (contains_map F (switches its_cells) g there);
@@ -147,8 +147,8 @@ module _ (by : RuleValue) (lmc : ℕ) (facts : Facts) (has_room : ¬ (IsNoRoom l
 
   pub plan_whole : IsWholeFor its_cells (held_plan (plan_of by lmc its_cells))
   plan_whole =
-      let told : Option ℕ → HeldPlan = λ o. option_map_or (λ top. made by lmc its_cells top) o nothing_held in
-      elim (top_of given) as (λ o. top_of given ≡ o → IsWholeFor its_cells (told o)) [
+      let few : Option ℕ → HeldPlan = λ o. option_map_or (λ top. made by lmc its_cells top) o nothing_held in
+      elim (top_of given) as (λ o. top_of given ≡ o → IsWholeFor its_cells (few o)) [
         | None ↦ λ none. record {
           lids = λ e there. (let (first, listed) = given_port e there in absurd (no_top given.ports (e, first) none listed));
           tables = λ e g there switch. (let (first, listed) = given_port e there in absurd (no_top given.ports (e, first) none listed));

@@ -13,8 +13,8 @@ use Rattle.subnet_view.proofs.WireEnds.{same_port}
 use Rattle.lid_assign.specs.Lids.{IsNoRoom, lids, top_of}
 use Rattle.updown_routes.specs.Graph.{graph_of}
 use Rattle.updown_routes.specs.Ranks.{root_of}
-use Rattle.spread_rule.specs.Rules.{RuleValue}
-use Rattle.lft_blocks.specs.Entries.{home_of}
+use Rattle.lft_blocks.specs.Rules.{RuleValue}
+use Rattle.lft_blocks.specs.Entries.{attachment_of}
 use Rattle.lft_blocks.specs.Plan.{plan_of}
 use Rattle.plan_file.specs.Held.{HeldPlan, nothing_held}
 use Rattle.plan_file.specs.Printed.{held_plan}
@@ -23,7 +23,7 @@ use Rattle.audit.proofs.HeldPlans.{made}
 use Rattle.audit.proofs.Judged.{same_ends}
 use Rattle.audit.proofs.PlanPackets.{HasRoot, Meets, itself, of_root, by_wire, brought}
 use Rattle.audit_report.specs.Passing.{EachArrives}
-use Rattle.audit_report.specs.Seats.{in_one_component, root_at, is_one_root, leads_to}
+use Rattle.audit_report.specs.Sites.{in_one_component, root_at, is_one_root, leads_to}
 
 roots : (a b : Option ℕ) → is_one_root a b ≡ true → (r : ℕ) × (a ≡ Some r) × (b ≡ Some r)
 roots None b h = absurd (cc)
@@ -36,9 +36,9 @@ led owner (Some q) h = ap (λ x. Some x) (same_port owner.node owner.port q h)
 
 has_root : (cells : Cells) (e : EndPort) (r : ℕ) → root_at cells e ≡ Some r → HasRoot cells e r
 has_root cells e r h =
-    elim (home_of cells e) as (λ o. home_of cells e ≡ o → option_and_then (root_of (graph_of cells)) (option_map (λ h. h.0) o) ≡ Some r → HasRoot cells e r) [
+    elim (attachment_of cells e) as (λ o. attachment_of cells e ≡ o → option_and_then (root_of (graph_of cells)) (option_map (λ h. h.0) o) ≡ Some r → HasRoot cells e r) [
       | None ↦ λ k m. absurd (cc)
-      | Some home ↦ λ k m. record { home = home; home_is = k; root_is = m }
+      | Some attachment ↦ λ k m. record { attachment = attachment; attachment_is = k; root_is = m }
     ] refl h
 
 meets : (cells : Cells) (e owner : EndPort) → in_one_component cells e owner ≡ true → Meets cells e owner

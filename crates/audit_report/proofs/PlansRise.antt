@@ -13,31 +13,31 @@ use Rattle.fact_store.specs.View.{Facts, cells_of}
 use Rattle.subnet_view.specs.Reading.{Cells, switches}
 use Rattle.subnet_view.specs.Wires.{across}
 use Rattle.subnet_view.specs.declared.end_port.EndPort.{EndPort}
-use Rattle.port_graph.specs.declared.exit.Exit.{Exit}
+use Rattle.port_graph.specs.declared.edge.Edge.{Edge}
 use Rattle.lid_assign.specs.Lids.{IsNoRoom, greatest, lids, owner_of, top_of}
 use Rattle.updown_routes.specs.Channels.{numbers_along}
-use Rattle.updown_routes.specs.Crossing.{Crossing}
+use Rattle.updown_routes.specs.SwitchEdges.{SwitchEdges}
 use Rattle.updown_routes.specs.Graph.{graph_of}
 use Rattle.updown_routes.specs.GraphLaws.{IsSwitch}
 use Rattle.updown_routes.specs.Routing.{Routing, Leads, Passes, FollowsRule}
-use Rattle.updown_routes.proofs.Graphs.{exit_is_wire}
+use Rattle.updown_routes.proofs.Graphs.{edge_is_wire}
 use Rattle.updown_routes.proofs.Switches.{graph_guids}
-use Rattle.lft_blocks.specs.Entries.{home_of, port_to}
-use Rattle.lft_blocks.proofs.HomeSwitches.{home_is_switch}
-use Rattle.spread_rule.specs.Rules.{RuleValue, routing_by}
-use Rattle.spread_rule.proofs.Whole.{rules_are_routings}
+use Rattle.lft_blocks.specs.Entries.{attachment_of, port_to}
+use Rattle.lft_blocks.proofs.AttachmentSwitches.{attachment_is_switch}
+use Rattle.lft_blocks.specs.Rules.{RuleValue, routing_by}
+use Rattle.lft_blocks.proofs.RulesRoute.{rules_are_routings}
 use Rattle.lft_blocks.specs.Plan.{plan_of}
 use Rattle.plan_file.specs.Held.{HeldPlan, nothing_held}
 use Rattle.plan_file.specs.Printed.{held_plan}
 use Rattle.plan_file.proofs.NextPorts.{next_has_cost}
 use Rattle.plan_file.proofs.PlanRanges.{wire_small}
-use Rattle.audit.specs.Exits.{exit_by}
+use Rattle.audit.specs.Edges.{edge_by}
 use Rattle.audit.specs.Network.{row_of}
 use Rattle.audit.specs.Tables.{counted, entry_for}
 use Rattle.audit.specs.Tables.{top_of as top_held}
 use Rattle.audit.proofs.HeldPlans.{made, entry_counts, entry_held, top_of_switch}
-use Rattle.audit.proofs.Tops.{entry_above, no_exit_by, none_above, uncounted}
-use Rattle.audit_circles.specs.Waiting.{WaitsFor}
+use Rattle.audit.proofs.Tops.{entry_above, no_edge_by, none_above, uncounted}
+use Rattle.audit_channels.specs.Waiting.{WaitsFor}
 use Rattle.audit_report.specs.Passing.{CanRise}
 use Rattle.audit.proofs.PlanSteps.{contains_at, of_column, leaves, on_way}
 
@@ -69,7 +69,7 @@ module _ (by : RuleValue) (facts : Facts) (lid t : ℕ) (t_there : Contains (swi
   abbrev cells : Cells
   cells = cells_of facts
 
-  abbrev graph : List Crossing
+  abbrev graph : List SwitchEdges
   graph = graph_of cells
 
   abbrev rule : Routing
@@ -84,25 +84,25 @@ module _ (by : RuleValue) (facts : Facts) (lid t : ℕ) (t_there : Contains (swi
       let (n, cost) = next_has_cost by facts lid s t p (is_switch s there) (is_switch t t_there) next in
       (n, (rules_are_routings by facts).leads lid s t n (is_switch s there) cost)
 
-  exit_end : (s p : ℕ) (q : ℕ × ℕ) (e : Exit) → Passes graph s (e ∷ []) → rule.next lid s t ≡ Some e.port → rule.next lid s t ≡ Some p
+  edge_end : (s p : ℕ) (q : ℕ × ℕ) (e : Edge) → Passes graph s (e ∷ []) → rule.next lid s t ≡ Some e.port → rule.next lid s t ≡ Some p
       → across cells s p ≡ Some q → e.to ≡ q.0
-  exit_end s p q e passes its next wire =
-      let x = exit_is_wire cells s e passes.0 in
+  edge_end s p q e passes its next wire =
+      let x = edge_is_wire cells s e passes.0 in
       let port : e.port ≡ p = same_Some e.port p (sym its ∙ next) in
       let end : ℕ × ℕ = (e.to, x.end_port) in
       ap (λ (y : ℕ × ℕ). y.0) (same_Some end q (sym x.wire ∙ ap (across cells s) port ∙ wire))
 
-  along : (s p r : ℕ) (a b : ℕ × ℕ) (es : List Exit) → FollowsRule rule lid t s es → Passes graph s es
+  along : (s p r : ℕ) (a b : ℕ × ℕ) (es : List Edge) → FollowsRule rule lid t s es → Passes graph s es
       → IsStrictlyIncreasing (numbers_along rule.channel s es) → (s == t) ≡ false → (a.0 == t) ≡ false
       → rule.next lid s t ≡ Some p → rule.next lid a.0 t ≡ Some r → across cells s p ≡ Some a → across cells a.0 r ≡ Some b
       → rule.channel s a.0 < rule.channel a.0 b.0
   along s p r a b [] follows passes rises apart past next then wire more = absurd (eqb-false s t apart follows)
   along s p r a b (e ∷ []) (_, its, end) passes rises apart past next then wire more =
-      absurd (eqb-false a.0 t past (sym (exit_end s p a e (passes.0, tt) its next wire) ∙ end))
+      absurd (eqb-false a.0 t past (sym (edge_end s p a e (passes.0, tt) its next wire) ∙ end))
   along s p r a b (e ∷ d ∷ es) (_, its, (_, that, _)) (there, (further, _)) rises apart past next then wire more =
-      let to : e.to ≡ a.0 = exit_end s p a e (there, tt) its next wire in
+      let to : e.to ≡ a.0 = edge_end s p a e (there, tt) its next wire in
       let on = subst (λ (x : ℕ). Passes graph x (d ∷ [])) to (further, tt) in
-      let end : d.to ≡ b.0 = exit_end a.0 r b d on (ap (λ x. rule.next lid x t) (sym to) ∙ that) then more in
+      let end : d.to ≡ b.0 = edge_end a.0 r b d on (ap (λ x. rule.next lid x t) (sym to) ∙ that) then more in
       let less : rule.channel s e.to < rule.channel e.to d.to = rises 0 (omega arith) in
       subst (λ (x : ℕ × ℕ). rule.channel s x.0 < rule.channel x.0 x.1) (λ k. (to k, end k)) less
 
@@ -111,7 +111,7 @@ module _ (by : RuleValue) (facts : Facts) (lid t : ℕ) (t_there : Contains (swi
       → rule.channel s a.0 < rule.channel a.0 b.0
   rises s p r a b there apart past next then wire more =
       let (n, way) = way_there s p there next in
-      along s p r a b way.exits way.by_rule way.passes way.channels_rise apart past next then wire more
+      along s p r a b way.edges way.by_rule way.passes way.channels_rise apart past next then wire more
 
 module _ (by : RuleValue) (lmc : ℕ) (facts : Facts) (range : AreInRange facts) (has_room : ¬ (IsNoRoom lmc (cells_of facts)))
     (top : ℕ) (top_is : top_of (lids lmc (cells_of facts)) ≡ Some top) where
@@ -125,8 +125,8 @@ module _ (by : RuleValue) (lmc : ℕ) (facts : Facts) (range : AreInRange facts)
   held = made by lmc its_cells top
 
   -- without an owner no switch has an entry
-  abbrev exit : ℕ → ℕ → Option Exit
-  exit lid g = exit_by (row_of its_cells g) (entry_for held lid g)
+  abbrev edge : ℕ → ℕ → Option Edge
+  edge lid g = edge_by (row_of its_cells g) (entry_for held lid g)
 
   no_entry : (lid g : ℕ) → Contains (switches its_cells) g → owner_of (lids lmc its_cells) lid ≡ None → entry_for held lid g ≡ 255
   no_entry lid g there none =
@@ -135,14 +135,14 @@ module _ (by : RuleValue) (lmc : ℕ) (facts : Facts) (range : AreInRange facts)
         | inr within ↦
             ap (counted lid (top_held held g))
             (entry_held by lmc facts has_room top top_is g lid there within
-            ∙ ap (λ o. option_map_or (port_to its_rule.next lid g) (option_and_then (home_of its_cells) o) 255) none)
+            ∙ ap (λ o. option_map_or (port_to its_rule.next lid g) (option_and_then (attachment_of its_cells) o) 255) none)
             ∙ uncounted lid (top_held held g)
       ]
 
-  no_exit : (lid i : ℕ) (x : Exit) → owner_of (lids lmc its_cells) lid ≡ None → slice_index_or (map (exit lid) (switches its_cells)) i None ≡ Some x → ⊥
-  no_exit lid i x none leaves =
-      let (g, at, exits) = of_column (exit lid) (switches its_cells) i x leaves in
-      let is : exit lid g ≡ None = no_exit_by its_cells g (entry_for held lid g) (no_entry lid g (contains_at (switches its_cells) i g at) none) in
+  no_edge : (lid i : ℕ) (x : Edge) → owner_of (lids lmc its_cells) lid ≡ None → slice_index_or (map (edge lid) (switches its_cells)) i None ≡ Some x → ⊥
+  no_edge lid i x none leaves =
+      let (g, at, edges) = of_column (edge lid) (switches its_cells) i x leaves in
+      let is : edge lid g ≡ None = no_edge_by its_cells g (entry_for held lid g) (no_entry lid g (contains_at (switches its_cells) i g at) none) in
       cc
 
   no_wire_at_255 : (g : ℕ) (q : ℕ × ℕ) → across its_cells g 255 ≡ Some q → ⊥
@@ -153,10 +153,10 @@ module _ (by : RuleValue) (lmc : ℕ) (facts : Facts) (range : AreInRange facts)
   owned_rise a b w e owned =
       let lid = w.lid in
       let takes = w.takes in
-      let (g, at, exits) = of_column (exit lid) (switches its_cells) w.switch takes.first takes.leaves in
-      let (h, at_next, exits_next) = of_column (exit lid) (switches its_cells) takes.first.to takes.second takes.leaves_there in
-      let first = leaves its_cells g (entry_for held lid g) takes.first exits in
-      let second = leaves its_cells h (entry_for held lid h) takes.second exits_next in
+      let (g, at, edges) = of_column (edge lid) (switches its_cells) w.switch takes.first takes.leaves in
+      let (h, at_next, edges_next) = of_column (edge lid) (switches its_cells) takes.first.to takes.second takes.leaves_there in
+      let first = leaves its_cells g (entry_for held lid g) takes.first edges in
+      let second = leaves its_cells h (entry_for held lid h) takes.second edges_next in
       let here : first.end.0 ≡ h = same_Some first.end.0 h (sym first.index ∙ at_next) in
       let g_there = contains_at (switches its_cells) w.switch g at in
       let h_there = contains_at (switches its_cells) takes.first.to h at_next in
@@ -166,11 +166,11 @@ module _ (by : RuleValue) (lmc : ℕ) (facts : Facts) (range : AreInRange facts)
       let on = on_way its_rule lmc facts no_wire_at_255 lid e owned h (entry_for held lid h) second.end
       (sym (entry_counts by lmc facts has_room top top_is h lid e h_there owned)) second.wire
       (contains_at (switches its_cells) takes.second.to second.end.0 second.index) in
-      let t = way.home.0 in
-      let same : on.home ≡ way.home = same_Some on.home way.home (sym on.home_is ∙ way.home_is) in
+      let t = way.attachment.0 in
+      let same : on.attachment ≡ way.attachment = same_Some on.attachment way.attachment (sym on.attachment_is ∙ way.attachment_is) in
       let apart : (first.end.0 == t) ≡ false = (λ k. here k == (sym same k).0) ∙ on.apart in
       let next = (λ k. its_rule.next lid (here k) (sym same k).0) ∙ on.next in
-      let less = rises by facts lid t (home_is_switch facts e way.home way.home_is) g (entry_for held lid g) (entry_for held lid h) first.end second.end
+      let less = rises by facts lid t (attachment_is_switch facts e way.attachment way.attachment_is) g (entry_for held lid g) (entry_for held lid h) first.end second.end
       g_there way.apart apart way.next next first.wire (ap (λ x. across its_cells x (entry_for held lid h)) here ∙ second.wire) in
       let a_is : a ≡ 256 * w.switch + entry_for held lid g = takes.channel_is ∙ ap (λ p. 256 * w.switch + p) first.port_is in
       let b_is : b ≡ 256 * takes.first.to + entry_for held lid h = takes.next_is ∙ ap (λ p. 256 * takes.first.to + p) second.port_is in
@@ -185,7 +185,7 @@ module _ (by : RuleValue) (lmc : ℕ) (facts : Facts) (range : AreInRange facts)
   rise_in_turn a b w =
       elim (owner_of (lids lmc its_cells) w.lid) as (λ o. owner_of (lids lmc its_cells) w.lid ≡ o
       → slice_index_or (numbers its_rule its_cells) a 0 < slice_index_or (numbers its_rule its_cells) b 0) [
-        | None ↦ λ none. let takes = w.takes in absurd (no_exit w.lid w.switch takes.first none takes.leaves)
+        | None ↦ λ none. let takes = w.takes in absurd (no_edge w.lid w.switch takes.first none takes.leaves)
         | Some e ↦ λ owned. owned_rise a b w e owned
       ] refl
 

@@ -12,29 +12,29 @@ use Rattle.subnet_view.specs.Reading.{Cells}
 use Rattle.plan_file.specs.declared.held.HeldLid.{HeldLid}
 use Rattle.plan_file.specs.Held.{HeldPlan}
 use Rattle.audit.specs.declared.end.End.{End}
-use Rattle.audit.specs.Steps.{AreBlocks, AreBrought, end_for, is_at}
+use Rattle.audit.specs.NextHops.{AreBlocks, AreBrought, end_for, is_at}
 use Rattle.audit.specs.Tables.{is_owner}
 use Rattle.audit.proofs.Arrivals.{all_there}
 use Rattle.audit.proofs.InTime.{found_at}
-use Rattle.audit_report.specs.declared.packet.Packet.{Packet}
-use Rattle.audit_report.specs.declared.tally.Tally.{Tally}
+use Rattle.audit_report.specs.declared.sent_packet.SentPacket.{SentPacket}
+use Rattle.audit_report.specs.declared.packet_tally.PacketTally.{PacketTally}
 use Rattle.audit_report.specs.Packets.{arrives, is_between, packet_of, packets_for, packets_of, sent_to}
-use Rattle.audit_report.specs.declared.seat.Seat.{Seat}
-use Rattle.audit_report.specs.Seats.{are_adapters, are_joined, are_joined_adapters, in_one_component, seat_of}
-use Rattle.audit_report.specs.Tally.{IsTally, IsWith}
+use Rattle.audit_report.specs.declared.site.Site.{Site}
+use Rattle.audit_report.specs.Sites.{are_adapters, are_joined, are_joined_adapters, in_one_component, site_of}
+use Rattle.audit_report.specs.PacketTally.{IsTally, IsWith}
 use Rattle.audit_report.proofs.Counted.{tally_more}
 
 module _ (cells : Cells) (held : HeldPlan) (line : HeldLid) where
   -- the packets of the first end ports
-  abbrev sent_by : ℕ → List Packet
+  abbrev sent_by : ℕ → List SentPacket
   sent_by n = map (packet_of cells held line) (filter (λ e. in_one_component cells e line.port) (take n (end_ports cells)))
 
   -- they are counted besides those before
-  pub record AreCounted (old : Tally) (n : ℕ) (new : Tally) : Type 0 where
-    pub counted : (packets : List Packet) → IsTally packets old → IsTally (packets ++ sent_by n) new
+  pub record AreCounted (old : PacketTally) (n : ℕ) (new : PacketTally) : Type 0 where
+    pub counted : (packets : List SentPacket) → IsTally packets old → IsTally (packets ++ sent_by n) new
 
-  pub none_counted : (tally : Tally) → AreCounted tally 0 tally
-  none_counted tally = record { counted = λ packets h. subst (λ (ps : List Packet). IsTally ps tally) (sym (append-nil packets)) h }
+  pub none_counted : (tally : PacketTally) → AreCounted tally 0 tally
+  none_counted tally = record { counted = λ packets h. subst (λ (ps : List SentPacket). IsTally ps tally) (sym (append-nil packets)) h }
 
   -- the packets of one end port more
   sent_more : (n : ℕ) (e : EndPort) → n < length (end_ports cells) → e ≡ get_or (end_ports cells) n e
@@ -49,30 +49,30 @@ module _ (cells : Cells) (held : HeldPlan) (line : HeldLid) where
         | false ↦ refl
       ])
 
-  pub one_counted : (old tally new : Tally) (n : ℕ) (e : EndPort) (packet : Packet) → AreCounted old n tally → n < length (end_ports cells)
+  pub one_counted : (old tally new : PacketTally) (n : ℕ) (e : EndPort) (packet : SentPacket) → AreCounted old n tally → n < length (end_ports cells)
       → e ≡ get_or (end_ports cells) n e → in_one_component cells e line.port ≡ true → packet ≡ packet_of cells held line e → IsWith tally packet new
       → AreCounted old (n + 1) new
   one_counted old tally new n e packet h less is joined packet_is w = record {
     counted = λ packets before.
         let more = sent_more n e less is ∙ ap (λ t. sent_by n ++ cond t (packet_of cells held line e ∷ []) []) joined ∙ ap (λ p. sent_by n ++ p ∷ []) (sym packet_is) in
-        subst (λ (ps : List Packet). IsTally ps new) (append_assoc packets (sent_by n) (packet ∷ []) ∙ ap (λ ps. packets ++ ps) (sym more))
+        subst (λ (ps : List SentPacket). IsTally ps new) (append_assoc packets (sent_by n) (packet ∷ []) ∙ ap (λ ps. packets ++ ps) (sym more))
         (tally_more (packets ++ sent_by n) tally new packet (h.counted packets before) w);
   }
 
-  pub none_more : (old tally : Tally) (n : ℕ) (e : EndPort) → AreCounted old n tally → n < length (end_ports cells)
+  pub none_more : (old tally : PacketTally) (n : ℕ) (e : EndPort) → AreCounted old n tally → n < length (end_ports cells)
       → e ≡ get_or (end_ports cells) n e → in_one_component cells e line.port ≡ false → AreCounted old (n + 1) tally
   none_more old tally n e h less is joined = record {
     counted = λ packets before.
         let more = sent_more n e less is ∙ ap (λ t. sent_by n ++ cond t (packet_of cells held line e ∷ []) []) joined ∙ append-nil (sent_by n) in
-        subst (λ (ps : List Packet). IsTally ps tally) (ap (λ ps. packets ++ ps) (sym more)) (h.counted packets before);
+        subst (λ (ps : List SentPacket). IsTally ps tally) (ap (λ ps. packets ++ ps) (sym more)) (h.counted packets before);
   }
 
-  pub all_counted : (old tally : Tally) (n : ℕ) → AreCounted old n tally → length (end_ports cells) ≤ n
-      → (packets : List Packet) → IsTally packets old → IsTally (packets ++ sent_to cells held line) tally
+  pub all_counted : (old tally : PacketTally) (n : ℕ) → AreCounted old n tally → length (end_ports cells) ≤ n
+      → (packets : List SentPacket) → IsTally packets old → IsTally (packets ++ sent_to cells held line) tally
   all_counted old tally n h past packets before =
       let all : sent_by n ≡ sent_to cells held line =
       ap (λ xs. map (packet_of cells held line) (filter (λ e. in_one_component cells e line.port) xs)) (take_all n (end_ports cells) past) in
-      subst (λ (ps : List Packet). IsTally ps tally) (ap (λ ps. packets ++ ps) all) (h.counted packets before)
+      subst (λ (ps : List SentPacket). IsTally ps tally) (ap (λ ps. packets ++ ps) all) (h.counted packets before)
 
   -- the end that is found for an end port's packet
   pub end_there : (ends : List (Option End)) (n : ℕ) (e : EndPort) (end : Option End) → AreBrought cells held line.lid ends → n < length (end_ports cells)
@@ -101,16 +101,16 @@ module _ (cells : Cells) (held : HeldPlan) (line : HeldLid) where
       ap (is_at line.port) (sym (found_at cells held line.lid ends k line.port h less)) ∙ ap (λ p. is_at p (get_or ends k None)) (sym own) ∙ there))
 
   -- as many as end ports are joined to that of the line
-  joined_sent : (owner : Seat) (ports : List EndPort) → owner ≡ seat_of cells line.port
-      → count_by (λ seat. are_joined seat owner) (map (seat_of cells) ports)
+  joined_sent : (owner : Site) (ports : List EndPort) → owner ≡ site_of cells line.port
+      → count_by (λ site. are_joined site owner) (map (site_of cells) ports)
       ≡ length (map (packet_of cells held line) (filter (λ e. in_one_component cells e line.port) ports))
   joined_sent owner [] own = refl
   joined_sent owner (x ∷ ports) own =
       let joined : EndPort → Bool = λ e. in_one_component cells e line.port in
       let rest = joined_sent owner ports own in
-      let split = sum_by-cons (λ (seat : Seat). cond (are_joined seat owner) 1 0) (seat_of cells x) (map (seat_of cells) ports) in
-      let same : are_joined (seat_of cells x) owner ≡ joined x = ap (are_joined (seat_of cells x)) own in
-      let one : ◌≡◌ {A = ℕ} (cond (are_joined (seat_of cells x) owner) 1 0) (cond (joined x) 1 0) = ap (λ t. cond t 1 0) same in
+      let split = sum_by-cons (λ (site : Site). cond (are_joined site owner) 1 0) (site_of cells x) (map (site_of cells) ports) in
+      let same : are_joined (site_of cells x) owner ≡ joined x = ap (are_joined (site_of cells x)) own in
+      let one : ◌≡◌ {A = ℕ} (cond (are_joined (site_of cells x) owner) 1 0) (cond (joined x) 1 0) = ap (λ t. cond t 1 0) same in
       let sent : length (map (packet_of cells held line) (filter joined (x ∷ ports)))
       ≡ cond (joined x) 1 0 + length (map (packet_of cells held line) (filter joined ports)) =
       elim (joined x) as (λ t. length (map (packet_of cells held line) (cond t (x ∷ filter joined ports) (filter joined ports)))
@@ -120,23 +120,23 @@ module _ (cells : Cells) (held : HeldPlan) (line : HeldLid) where
       ] in
       split ∙ omega (arith, rest, one, sent)
 
-  pub all_sent : (owner : Seat) (seats : List Seat) (count : ℕ) → owner ≡ seat_of cells line.port → seats ≡ map (seat_of cells) (end_ports cells)
-      → count ≡ count_by (λ seat. are_joined seat owner) seats → count ≡ length (sent_to cells held line)
-  all_sent owner seats count own are is =
-      is ∙ ap (count_by (λ seat. are_joined seat owner)) are ∙ joined_sent owner (end_ports cells) own
+  pub all_sent : (owner : Site) (sites : List Site) (count : ℕ) → owner ≡ site_of cells line.port → sites ≡ map (site_of cells) (end_ports cells)
+      → count ≡ count_by (λ site. are_joined site owner) sites → count ≡ length (sent_to cells held line)
+  all_sent owner sites count own are is =
+      is ∙ ap (count_by (λ site. are_joined site owner)) are ∙ joined_sent owner (end_ports cells) own
 
   -- and as many between adapters as adapter ports are joined to that of the line
-  between_sent : (owner : Seat) (ports : List EndPort) → owner ≡ seat_of cells line.port
-      → count_by (λ seat. are_joined_adapters seat owner) (map (seat_of cells) ports)
+  between_sent : (owner : Site) (ports : List EndPort) → owner ≡ site_of cells line.port
+      → count_by (λ site. are_joined_adapters site owner) (map (site_of cells) ports)
       ≡ length (filter is_between (map (packet_of cells held line) (filter (λ e. in_one_component cells e line.port) ports)))
   between_sent owner [] own = refl
   between_sent owner (x ∷ ports) own =
       let joined : EndPort → Bool = λ e. in_one_component cells e line.port in
-      let sent : List Packet = map (packet_of cells held line) (filter joined ports) in
+      let sent : List SentPacket = map (packet_of cells held line) (filter joined ports) in
       let rest = between_sent owner ports own in
-      let split = sum_by-cons (λ (seat : Seat). cond (are_joined_adapters seat owner) 1 0) (seat_of cells x) (map (seat_of cells) ports) in
-      let one : ◌≡◌ {A = ℕ} (cond (are_joined_adapters (seat_of cells x) owner) 1 0) (cond (joined x && are_adapters x line.port) 1 0) =
-      ap (λ (o : Seat). cond (are_joined_adapters (seat_of cells x) o) 1 0) own in
+      let split = sum_by-cons (λ (site : Site). cond (are_joined_adapters site owner) 1 0) (site_of cells x) (map (site_of cells) ports) in
+      let one : ◌≡◌ {A = ℕ} (cond (are_joined_adapters (site_of cells x) owner) 1 0) (cond (joined x && are_adapters x line.port) 1 0) =
+      ap (λ (o : Site). cond (are_joined_adapters (site_of cells x) o) 1 0) own in
       let more : cond (joined x && are_adapters x line.port) 1 0 + length (filter is_between sent)
       ≡ length (filter is_between (map (packet_of cells held line) (cond (joined x) (x ∷ filter joined ports) (filter joined ports)))) =
       elim (joined x) as (λ t. cond (t && are_adapters x line.port) 1 0 + length (filter is_between sent)
@@ -150,20 +150,20 @@ module _ (cells : Cells) (held : HeldPlan) (line : HeldLid) where
       ] in
       split ∙ omega (arith, rest, one) ∙ more
 
-  pub adapters_sent : (owner : Seat) (seats : List Seat) (count : ℕ) → owner ≡ seat_of cells line.port → seats ≡ map (seat_of cells) (end_ports cells)
-      → count ≡ count_by (λ seat. are_joined_adapters seat owner) seats → count ≡ length (filter is_between (sent_to cells held line))
-  adapters_sent owner seats count own are is =
-      is ∙ ap (count_by (λ seat. are_joined_adapters seat owner)) are ∙ between_sent owner (end_ports cells) own
+  pub adapters_sent : (owner : Site) (sites : List Site) (count : ℕ) → owner ≡ site_of cells line.port → sites ≡ map (site_of cells) (end_ports cells)
+      → count ≡ count_by (λ site. are_joined_adapters site owner) sites → count ≡ length (filter is_between (sent_to cells held line))
+  adapters_sent owner sites count own are is =
+      is ∙ ap (count_by (λ site. are_joined_adapters site owner)) are ∙ between_sent owner (end_ports cells) own
 
 -- line by line --------------------------------------------------------------------------
 
 -- those of the first lines
-pub record AreSurveyed (cells : Cells) (held : HeldPlan) (lines : List HeldLid) (number : ℕ) (rows : List (List ℕ)) (n : ℕ) (tally : Tally) : Type 0 where
+pub record AreSurveyed (cells : Cells) (held : HeldPlan) (lines : List HeldLid) (number : ℕ) (rows : List (List ℕ)) (n : ℕ) (tally : PacketTally) : Type 0 where
   pub blocks : AreBlocks held number rows
   pub counted : IsTally (flat_map (packets_for cells held) (take n lines)) tally
 
 module _ (cells : Cells) (held : HeldPlan) (lines : List HeldLid) where
-  pub none_surveyed : (number : ℕ) (rows : List (List ℕ)) (tally : Tally) → AreBlocks held number rows → IsTally [] tally
+  pub none_surveyed : (number : ℕ) (rows : List (List ℕ)) (tally : PacketTally) → AreBlocks held number rows → IsTally [] tally
       → AreSurveyed cells held lines number rows 0 tally
   none_surveyed number rows tally b h = record { blocks = b; counted = h }
 
@@ -174,18 +174,18 @@ module _ (cells : Cells) (held : HeldPlan) (lines : List HeldLid) where
       ∙ flat_map-append (packets_for cells held) (take n lines) (line ∷ [])
       ∙ ap (λ ps. flat_map (packets_for cells held) (take n lines) ++ ps) (append-nil (packets_for cells held line))
 
-  pub line_surveyed : (before number : ℕ) (old rows : List (List ℕ)) (n : ℕ) (line : HeldLid) (tally new : Tally)
+  pub line_surveyed : (before number : ℕ) (old rows : List (List ℕ)) (n : ℕ) (line : HeldLid) (tally new : PacketTally)
       → AreSurveyed cells held lines before old n tally → AreBlocks held number rows → n < length lines → line ≡ get_or lines n line
       → is_owner (end_ports cells) line.port ≡ true
-      → ((packets : List Packet) → IsTally packets tally → IsTally (packets ++ sent_to cells held line) new) → AreSurveyed cells held lines number rows (n + 1) new
+      → ((packets : List SentPacket) → IsTally packets tally → IsTally (packets ++ sent_to cells held line) new) → AreSurveyed cells held lines number rows (n + 1) new
   line_surveyed before number old rows n line tally new h b less is there add = record {
     blocks = b;
     counted =
         let more = lines_more n line less is ∙ ap (λ t. flat_map (packets_for cells held) (take n lines) ++ cond t (sent_to cells held line) []) there in
-        subst (λ (ps : List Packet). IsTally ps new) (sym more) (add (flat_map (packets_for cells held) (take n lines)) h.counted);
+        subst (λ (ps : List SentPacket). IsTally ps new) (sym more) (add (flat_map (packets_for cells held) (take n lines)) h.counted);
   }
 
-  pub line_passed : (before number : ℕ) (old rows : List (List ℕ)) (n : ℕ) (line : HeldLid) (tally : Tally)
+  pub line_passed : (before number : ℕ) (old rows : List (List ℕ)) (n : ℕ) (line : HeldLid) (tally : PacketTally)
       → AreSurveyed cells held lines before old n tally → AreBlocks held number rows → n < length lines → line ≡ get_or lines n line
       → is_owner (end_ports cells) line.port ≡ false → AreSurveyed cells held lines number rows (n + 1) tally
   line_passed before number old rows n line tally h b less is there = record {
@@ -194,10 +194,10 @@ module _ (cells : Cells) (held : HeldPlan) (lines : List HeldLid) where
         let more =
         lines_more n line less is ∙ ap (λ t. flat_map (packets_for cells held) (take n lines) ++ cond t (sent_to cells held line) []) there
         ∙ append-nil (flat_map (packets_for cells held) (take n lines)) in
-        subst (λ (ps : List Packet). IsTally ps tally) (sym more) h.counted;
+        subst (λ (ps : List SentPacket). IsTally ps tally) (sym more) h.counted;
   }
 
-  pub all_surveyed : (number : ℕ) (rows : List (List ℕ)) (n : ℕ) (tally : Tally) → AreSurveyed cells held lines number rows n tally
+  pub all_surveyed : (number : ℕ) (rows : List (List ℕ)) (n : ℕ) (tally : PacketTally) → AreSurveyed cells held lines number rows n tally
       → lines ≡ held.lids → length lines ≤ n → IsTally (packets_of cells held) tally
   all_surveyed number rows n tally h are past =
       subst (λ (ls : List HeldLid). IsTally (flat_map (packets_for cells held) ls) tally) (take_all n lines past ∙ are) h.counted

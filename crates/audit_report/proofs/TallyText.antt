@@ -4,12 +4,11 @@ use Rattle.std.specs.Prelude.{ℕ, codes, count_by, filter, not}
 use Rattle.std.proofs.lemmas.List.Sums.{sum_by-cons}
 use Rattle.subnet_view.specs.Reading.{Cells}
 use Rattle.plan_file.specs.Held.{HeldPlan}
-use Rattle.audit_report.specs.declared.packet.Packet.{Packet}
-use Rattle.audit_report.specs.declared.tally.Tally.{Tally}
-use Rattle.audit_report.specs.AuditText.{counts_line, counts_told, missed_line, missed_text, packets_told, pairs_told, pairs_text, tally_text}
+use Rattle.audit_report.specs.declared.sent_packet.SentPacket.{SentPacket}
+use Rattle.audit_report.specs.declared.packet_tally.PacketTally.{PacketTally}
+use Rattle.audit_report.specs.AuditText.{counts_line, missed_line, missed_text, packets_told, pairs_told, pairs_text, tally_text}
 use Rattle.audit_report.specs.Packets.{arrives, is_between}
-use Rattle.audit_report.specs.Pairs.{ArePairs}
-use Rattle.audit_report.specs.Tally.{IsTally}
+use Rattle.audit_report.specs.PacketTally.{IsTally}
 
 module _ {X : Type 0} (p : X → Bool) where
   -- those that pass, and the others
@@ -37,8 +36,8 @@ module _ {X : Type 0} (p : X → Bool) where
         | false ↦ omega (arith, rest, in_others)
       ])
 
-module _ (cells : Cells) (held : HeldPlan) (packets : List Packet) (tally : Tally) (h : IsTally packets tally) where
-  abbrev others : List Packet
+module _ (cells : Cells) (held : HeldPlan) (packets : List SentPacket) (tally : PacketTally) (h : IsTally packets tally) where
+  abbrev others : List SentPacket
   others = filter (λ packet. not (is_between packet)) packets
 
   sent_apart : tally.all.sent - tally.between.sent ≡ length others

@@ -4,7 +4,7 @@ use Rattle.std.specs.Io.KnownBytes.{Appends}
 use Rattle.std.proofs.lemmas.List.{take_more}
 use Rattle.std.proofs.Math.Seq.{drop-cons}
 use Rattle.std.specs.Prelude.{IsErr, OnErr}
-use Rattle.record_file.specs.declared.stream.sink.WriteFault.{WriteFault}
+use Rattle.byte_io.specs.declared.sink.WriteFault.{WriteFault}
 use Rattle.record_file.proofs.Writing.{HasWritten, written_more}
 
 pub written_next : {X : Type 0} (text : X → List ℕ) (a b c : Option (List ℕ)) (xs : List X) (i : ℕ) (x : X) → HasWritten text a b (take i xs) (drop i xs) xs

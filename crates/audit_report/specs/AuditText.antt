@@ -12,20 +12,20 @@ use Rattle.audit.specs.declared.end.Cause.{Cause}
 use Rattle.audit.specs.declared.end.Cause.TheVariants.{AboveTop, NoEntry, NoPort, NoLink, Foreign}
 use Rattle.audit.specs.declared.end.End.{End}
 use Rattle.audit.specs.declared.end.End.TheVariants.{Taken, Lost}
-use Rattle.audit.specs.Steps.{entry_by}
-use Rattle.audit_ways.specs.declared.figures.Figures.{Figures}
-use Rattle.audit_ways.specs.Figures.{figures_of}
-use Rattle.audit_ways.specs.Ways.{hops_of, loads_of}
-use Rattle.audit_report.specs.declared.packet.Packet.{Packet}
+use Rattle.audit.specs.NextHops.{entry_by}
+use Rattle.audit_channels.specs.declared.figures.Figures.{Figures}
+use Rattle.audit_channels.specs.Figures.{figures_of}
+use Rattle.audit_channels.specs.Ways.{hops_of, loads_of}
+use Rattle.audit_report.specs.declared.sent_packet.SentPacket.{SentPacket}
 use Rattle.audit_report.specs.declared.causes.Causes.{Causes}
 use Rattle.audit_report.specs.declared.pairs.Pairs.{Pairs}
-use Rattle.audit_report.specs.declared.tally.Tally.{Tally}
+use Rattle.audit_report.specs.declared.packet_tally.PacketTally.{PacketTally}
 use Rattle.audit_report.specs.declared.unmatched.Unmatched.{Unmatched}
 use Rattle.audit_report.specs.Causes.{causes_of}
 use Rattle.audit_report.specs.Disputed.{disputed}
 use Rattle.audit_report.specs.Packets.{arrives, goes_round, is_between, is_lost, is_misdelivered, packets_of}
 use Rattle.audit_report.specs.Passing.{Audited}
-use Rattle.audit_report.specs.Told.{Listed, listed_of, more_of}
+use Rattle.audit_report.specs.FirstFew.{Listed, listed_of, more_of}
 use Rattle.audit_report.specs.Unmatched.{lidless, tableless, twice, unknown, unowned}
 
 -- of some packets, which words tell, how many there are, and how many arrive
@@ -82,14 +82,14 @@ end_text cells held lid (Some (Taken e)) = taken_text e
 end_text cells held lid (Some (Lost g cause)) = lost_text cells held lid g cause
 
 -- a word, the end port that sends a packet, and its LID
-abbrev pub sent_text : List ℕ → Packet → List ℕ
+abbrev pub sent_text : List ℕ → SentPacket → List ℕ
 sent_text word packet = word ++ codes " " ++ port_text packet.source.node packet.source.port ++ codes " " ++ decimal packet.line.lid
 
 -- and where it ends
-abbrev pub packet_line : Cells → HeldPlan → List ℕ → Packet → List ℕ
+abbrev pub packet_line : Cells → HeldPlan → List ℕ → SentPacket → List ℕ
 packet_line cells held word packet = sent_text word packet ++ end_text cells held packet.line.lid packet.end ++ codes "\n"
 
-abbrev pub packets_text : Cells → HeldPlan → List ℕ → List Packet → List ℕ
+abbrev pub packets_text : Cells → HeldPlan → List ℕ → List SentPacket → List ℕ
 packets_text cells held word packets = flat_map (packet_line cells held word) packets
 
 -- how many more there are of a kind than are told
@@ -101,7 +101,7 @@ abbrev pub kind_text : {X : Type 0} → (List ℕ → X → List ℕ) → List �
 kind_text line word listed = flat_map (line word) listed.first ++ more_line word (more_of listed)
 
 -- the first packets of a kind, and how many more there are
-abbrev pub listed_text : Cells → HeldPlan → List ℕ → Listed Packet → List ℕ
+abbrev pub listed_text : Cells → HeldPlan → List ℕ → Listed SentPacket → List ℕ
 listed_text cells held word listed = kind_text (packet_line cells held) word listed
 
 -- a word, a LID, and the end port that holds it
@@ -136,22 +136,22 @@ ways_text hops load = figures_line (codes "hops") hops ++ figures_line (codes "l
 abbrev pub channel_text : Cells → ℕ → List ℕ
 channel_text cells channel = codes " " ++ port_text (slice_index (switches cells) (channel / 256)) (channel % 256)
 
--- the channels of a circle
+-- the channels of a cycle
 abbrev pub channels_text : Cells → List ℕ → List ℕ
 channels_text cells [] = codes " none"
 channels_text cells (channel ∷ later) = codes " on one lane" ++ flat_map (channel_text cells) (channel ∷ later)
 
 -- channels that wait for each other are a credit loop, here on one virtual lane
-abbrev pub circle_line : Cells → List ℕ → List ℕ
-circle_line cells circle = codes "credit loop" ++ channels_text cells circle ++ codes "\n"
+abbrev pub cycle_line : Cells → List ℕ → List ℕ
+cycle_line cells cycle = codes "credit loop" ++ channels_text cells cycle ++ codes "\n"
 
 -- packets that do not arrive
-abbrev pub missed_text : Cells → HeldPlan → Listed Packet → Listed Packet → Listed Packet → List ℕ
+abbrev pub missed_text : Cells → HeldPlan → Listed SentPacket → Listed SentPacket → Listed SentPacket → List ℕ
 missed_text cells held lost misdelivered round =
     listed_text cells held (codes "lost") lost ++ listed_text cells held (codes "misdelivered") misdelivered ++ listed_text cells held (codes "round") round
 
 -- what is counted of packets, and the first of each kind that do not arrive
-abbrev pub tally_text : Cells → HeldPlan → Tally → List ℕ
+abbrev pub tally_text : Cells → HeldPlan → PacketTally → List ℕ
 tally_text cells held tally =
     pairs_text tally.all tally.between ++ missed_line tally.causes tally.misdelivered.count tally.round.count
     ++ missed_text cells held tally.lost tally.misdelivered tally.round
@@ -168,17 +168,17 @@ abbrev pub disputed_line : ℕ → List ℕ
 disputed_line count = if count == 0 then [] else codes "disputed " ++ decimal count ++ codes "\n"
 
 -- how many of some packets there are, and arrive
-abbrev pub counts_told : List ℕ → List Packet → List ℕ
+abbrev pub counts_told : List ℕ → List SentPacket → List ℕ
 counts_told words packets = counts_line words (length packets) (count_by arrives packets)
 
 -- of all, of those between adapter ports, and of the others, of which an end is a switch's
-abbrev pub pairs_told : List Packet → List ℕ
+abbrev pub pairs_told : List SentPacket → List ℕ
 pairs_told packets =
     counts_told (codes "") packets ++ counts_told (codes "between adapters ") (filter is_between packets)
     ++ counts_told (codes "with a switch ") (filter (λ packet. not (is_between packet)) packets)
 
 -- how many of some packets arrive, how many of each kind do not, and the first of these
-abbrev pub packets_told : Cells → HeldPlan → List Packet → List ℕ
+abbrev pub packets_told : Cells → HeldPlan → List SentPacket → List ℕ
 packets_told cells held packets =
     pairs_told packets ++ missed_line (causes_of packets) (count_by is_misdelivered packets) (count_by goes_round packets)
     ++ missed_text cells held (listed_of is_lost packets) (listed_of is_misdelivered packets) (listed_of goes_round packets)
@@ -194,11 +194,11 @@ unmatched_told cells held =
 abbrev pub ways_told : Cells → HeldPlan → List ℕ
 ways_told cells held = ways_text (figures_of (hops_of cells held)) (figures_of (loads_of cells held))
 
--- the packets, where tables and facts differ, disputed facts, ways and loads, and the circle
+-- the packets, where tables and facts differ, disputed facts, ways and loads, and the cycle
 abbrev pub text_of : Cells → HeldPlan → List ℕ → List ℕ
-text_of cells held circle =
+text_of cells held cycle =
     packets_told cells held (packets_of cells held) ++ unmatched_told cells held ++ disputed_line (disputed cells) ++ ways_told cells held
-    ++ circle_line cells circle
+    ++ cycle_line cells cycle
 
 unfoldable pub audit_text : Audited → List ℕ
-audit_text audit = text_of (cells_of audit.facts) audit.held audit.circle
+audit_text audit = text_of (cells_of audit.facts) audit.held audit.cycle

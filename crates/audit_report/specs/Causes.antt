@@ -1,11 +1,11 @@
 -- How many packets are lost for each cause.
-use Rattle.std.specs.Prelude.{◌≡◌, ◌+◌, ℕ, Bool, true, false, List, Option, None, Some, count_by, if◌then◌else◌}
+use Rattle.std.specs.Prelude.{◌≡◌, ◌+◌, Bool, true, false, List, Option, None, Some, count_by, if◌then◌else◌}
 use Rattle.audit.specs.declared.end.Cause.{Cause}
 use Rattle.audit.specs.declared.end.Cause.TheVariants.{AboveTop, NoEntry, NoPort, NoLink, Foreign}
 use Rattle.audit.specs.declared.end.End.{End}
 use Rattle.audit.specs.declared.end.End.TheVariants.{Taken, Lost}
 use Rattle.audit_report.specs.declared.causes.Causes.{Causes}
-use Rattle.audit_report.specs.declared.packet.Packet.{Packet}
+use Rattle.audit_report.specs.declared.sent_packet.SentPacket.{SentPacket}
 
 abbrev pub is_cause : Cause → Cause → Bool
 is_cause AboveTop AboveTop = true
@@ -21,11 +21,11 @@ is_lost_end_for cause None = false
 is_lost_end_for cause (Some (Taken e)) = false
 is_lost_end_for cause (Some (Lost g why)) = is_cause cause why
 
-abbrev pub is_lost_for : Cause → Packet → Bool
+abbrev pub is_lost_for : Cause → SentPacket → Bool
 is_lost_for cause packet = is_lost_end_for cause packet.end
 
 -- how many of these packets are
-abbrev pub causes_of : List Packet → Causes
+abbrev pub causes_of : List SentPacket → Causes
 causes_of packets = record {
   above_top = count_by (is_lost_for AboveTop) packets;
   no_entry = count_by (is_lost_for NoEntry) packets;

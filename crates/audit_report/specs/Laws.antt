@@ -1,13 +1,13 @@
 -- The laws of audits.
 use Rattle.std.specs.Prelude.{◌≤◌, ℕ, IsTrue}
-use Rattle.smp_bytes.specs.declared.cable.NodePort.{NodePort}
-use Rattle.smp_bytes.specs.Fabric.{Node, Fabric, IsEndPort, owns}
-use Rattle.smp_bytes.specs.FabricWalks.{IsJoinedTo}
+use Rattle.fabric_model.specs.declared.cable.NodePort.{NodePort}
+use Rattle.fabric_model.specs.Fabric.{Node, Fabric, IsEndPort, owns}
+use Rattle.fabric_model.specs.FabricWalks.{IsJoinedTo}
 use Rattle.fact_store.specs.Sighting.{AreInRange}
 use Rattle.fact_store.specs.View.{Facts, cells_of}
 use Rattle.subnet_view.specs.Agreement.{Part, IsEndPortIn}
 use Rattle.lid_assign.specs.Lids.{IsNoRoom}
-use Rattle.spread_rule.specs.Rules.{RuleValue}
+use Rattle.lft_blocks.specs.Rules.{RuleValue}
 use Rattle.lft_blocks.specs.Plan.{plan_of}
 use Rattle.plan_file.specs.Held.{HeldPlan}
 use Rattle.plan_file.specs.Printed.{held_plan}

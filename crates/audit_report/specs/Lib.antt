@@ -1,11 +1,12 @@
 pub mod AuditText
-pub mod Disputed
 pub mod Causes
+pub mod Disputed
+pub mod FirstFew
 pub mod Laws
+pub mod PacketTally
 pub mod Packets
 pub mod Pairs
 pub mod Passing
-pub mod Seats
-pub mod Tally
-pub mod Told
+pub mod RunAudit
+pub mod Sites
 pub mod Unmatched

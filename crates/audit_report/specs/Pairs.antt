@@ -1,11 +1,11 @@
 -- How many packets there are, and how many of them arrive.
 use Rattle.std.specs.Prelude.{◌≡◌, ◌+◌, ◌&&◌, ℕ, Bool, List, count_by, length, if◌then◌else◌}
-use Rattle.audit_report.specs.declared.packet.Packet.{Packet}
+use Rattle.audit_report.specs.declared.sent_packet.SentPacket.{SentPacket}
 use Rattle.audit_report.specs.declared.pairs.Pairs.{Pairs}
 use Rattle.audit_report.specs.Packets.{arrives}
 
 -- of these packets
-pub record ArePairs (packets : List Packet) (pairs : Pairs) : Type 0 where
+pub record ArePairs (packets : List SentPacket) (pairs : Pairs) : Type 0 where
   pub sent : pairs.sent ≡ length packets
   pub arrived : pairs.arrived ≡ count_by arrives packets
 

@@ -14,16 +14,16 @@ use Rattle.plan_file.specs.declared.held.HeldSwitch.{HeldSwitch}
 use Rattle.plan_file.specs.Held.{HeldPlan}
 use Rattle.audit.specs.declared.end.End.TheVariants.{Taken}
 use Rattle.audit.specs.Network.{Seen}
-use Rattle.audit.specs.Steps.{IsBrought}
-use Rattle.audit_circles.specs.Waiting.{RiseOnWays, WaitInCircle}
-use Rattle.audit_ways.specs.declared.ways.WayFigures.{WayFigures}
-use Rattle.audit_ways.specs.Ways.{IsToldOfWays}
-use Rattle.audit_report.specs.declared.tally.Tally.{Tally}
+use Rattle.audit.specs.NextHops.{IsBrought}
+use Rattle.audit_channels.specs.Waiting.{RiseOnWays, WaitInCycle}
+use Rattle.audit_channels.specs.declared.ways.WayFigures.{WayFigures}
+use Rattle.audit_channels.specs.Ways.{IsToldOfWays}
+use Rattle.audit_report.specs.declared.packet_tally.PacketTally.{PacketTally}
 use Rattle.audit_report.specs.declared.unmatched.Unmatched.{Unmatched}
 use Rattle.audit_report.specs.Disputed.{disputed}
 use Rattle.audit_report.specs.Packets.{packets_of}
-use Rattle.audit_report.specs.Seats.{in_one_component}
-use Rattle.audit_report.specs.Tally.{IsTally}
+use Rattle.audit_report.specs.Sites.{in_one_component}
+use Rattle.audit_report.specs.PacketTally.{IsTally}
 use Rattle.audit_report.specs.Unmatched.{IsUnmatched}
 
 -- an end port of the facts holds the LID, and each packet for it that an end port of its component sends is delivered there
@@ -64,7 +64,7 @@ pub record IsWholeFor (cells : Cells) (held : HeldPlan) : Type 0 where
   pub lids : EachHoldsLid cells held
   pub tables : EachHasTables cells held
 
--- and what is there is right: packets arrive, and never wait in a circle
+-- and what is there is right: packets arrive, and never wait in a credit loop
 pub record IsSound (cells : Cells) (held : HeldPlan) : Type 0 where
   pub arrive : EachArrives cells held
   pub rise : CanRise cells held
@@ -74,27 +74,27 @@ pub record Passes (cells : Cells) (held : HeldPlan) : Type 0 where
   pub whole : IsWholeFor cells held
   pub sound : IsSound cells held
 
--- channels that wait for each other in a circle; none where they can be numbered so
-abbrev pub IsCircle : Cells → HeldPlan → List ℕ → Type 0
-IsCircle cells held [] = CanRise cells held
-IsCircle cells held (channel ∷ later) = WaitInCircle cells held (channel ∷ later)
+-- channels that wait for each other in a credit loop; none where they can be numbered so
+abbrev pub IsCycle : Cells → HeldPlan → List ℕ → Type 0
+IsCycle cells held [] = CanRise cells held
+IsCycle cells held (channel ∷ later) = WaitInCycle cells held (channel ∷ later)
 
--- facts and tables, and the circle that is told
+-- facts and tables, and the cycle that is told
 pub record Audited : Type 0 where
   pub facts : Facts
   pub held : HeldPlan
-  pub circle : List ℕ
+  pub cycle : List ℕ
 
 -- stored as pairs
 abbrev pub audited_code : Coded Audited
 audited_code =
-    code_by (Facts × (HeldPlan × List ℕ)) (coded× facts_code (coded× (held_plan.the_row).coded (coded_list coded_ℕ))) (λ a. (a.facts, (a.held, a.circle)))
-    (λ p. record { facts = p.0; held = p.1.0; circle = p.1.1 }) (λ _. refl)
+    code_by (Facts × (HeldPlan × List ℕ)) (coded× facts_code (coded× (held_plan.the_row).coded (coded_list coded_ℕ))) (λ a. (a.facts, (a.held, a.cycle)))
+    (λ p. record { facts = p.0; held = p.1.0; cycle = p.1.1 }) (λ _. refl)
 
 -- what is found of facts and tables
-pub record IsFound (seen : Seen) (tally : Tally) (unmatched : Unmatched) (count : ℕ) (ways : WayFigures) (circle : List ℕ) : Type 0 where
+pub record IsFound (seen : Seen) (tally : PacketTally) (unmatched : Unmatched) (count : ℕ) (ways : WayFigures) (cycle : List ℕ) : Type 0 where
   pub counted : IsTally (packets_of (cells_of seen.facts) seen.held) tally
   pub differ : IsUnmatched (cells_of seen.facts) seen.held unmatched
   pub count_is : count ≡ disputed (cells_of seen.facts)
   pub told : IsToldOfWays (cells_of seen.facts) seen.held ways
-  pub waits : IsCircle (cells_of seen.facts) seen.held circle
+  pub waits : IsCycle (cells_of seen.facts) seen.held cycle

@@ -8,7 +8,7 @@ use Rattle.plan_file.specs.declared.held.HeldLid.{HeldLid}
 use Rattle.plan_file.specs.Held.{HeldPlan}
 use Rattle.audit.specs.Tables.{is_owner, is_same_end}
 use Rattle.audit_report.specs.declared.unmatched.Unmatched.{Unmatched}
-use Rattle.audit_report.specs.Told.{Listed, listed_of}
+use Rattle.audit_report.specs.FirstFew.{Listed, listed_of}
 
 -- LIDs with ports that are no end ports of the facts
 abbrev pub unowned : Cells → HeldPlan → Listed HeldLid

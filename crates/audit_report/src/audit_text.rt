@@ -3,9 +3,9 @@ ghost use Rattle.std.specs.Prelude.{◌≡◌, ◌-◌, ◌++◌, ◌/◌, IsTru
 ghost use Rattle.std.specs.List.{flat_map};
 ghost use Rattle.fact_store.specs.View.{cells_of};
 ghost use Rattle.subnet_view.specs.Reading.{switches};
-ghost use Rattle.record_file.specs.Writes.{Writes};
+ghost use Rattle.byte_io.specs.Writes.{Writes};
 ghost use Rattle.lft_blocks.specs.WritesPart.{WritesPart};
-ghost use Rattle.audit_report.specs.AuditText.{audit_text, channel_text, channels_text, circle_line, disputed_line};
+ghost use Rattle.audit_report.specs.AuditText.{audit_text, channel_text, channels_text, cycle_line, disputed_line};
 ghost use Rattle.audit_report.specs.AuditText.{cause_text, causes_text, count_text, counts_line, listed_text, missed_line};
 ghost use Rattle.audit_report.specs.AuditText.{more_line, others_text, pairs_text, tally_text};
 ghost use Rattle.audit_report.specs.AuditText.{figures_line, figures_text, hundredths_text, ways_text};
@@ -13,23 +13,23 @@ ghost use Rattle.audit_report.specs.AuditText.{end_text, entry_text, lid_line, p
 ghost use Rattle.audit_report.specs.AuditText.{lost_text, missed_text, sent_text, switch_line, taken_text, unmatched_text};
 
 use crate::causes::Causes;
-use crate::packet::Packet;
+use crate::first_few::FirstFew;
+use crate::packet_tally::PacketTally;
 use crate::pairs::Pairs;
 use crate::report::Audit;
-use crate::tally::Tally;
-use crate::told::Told;
+use crate::sent_packet::SentPacket;
 use crate::unmatched::Unmatched;
 use audit::{Cause, End, Network};
-use audit_ways::{Figures, WayFigures};
+use audit_channels::{Figures, WayFigures};
+use byte_io::{Sink, WriteFault, write_guid, write_number, write_port};
 use plan_file::HeldLid;
-use record_file::{Sink, WriteFault, write_guid, write_number, write_port};
 use smp_bytes::{Guid, Lid, PortNum};
 use subnet_view::EndPort;
 
 /// Writes how many packets there are and how many arrive, of all, between adapter ports, and with a switch; for what the
 /// others do not; of these the first 20 of each kind, by rising LID and then by the order of end ports, and how many more
 /// there are; the first 20 of each kind in which tables and facts differ, and how many more there are; how many facts are
-/// disputed, if some are; the wires that packets between adapter ports take, and the loads of channels; and a circle of
+/// disputed, if some are; the wires that packets between adapter ports take, and the loads of channels; and a cycle of
 /// channels, if there is one; and flushes. It takes no memory.
 pub fn write_audit<W: Sink>(sink: &mut W, audit: &Audit) -> Result<(), WriteFault>
     ensures writes { Writes W.written W.has_failed result sink.old sink.new (audit_text audit.now) }
@@ -39,12 +39,16 @@ pub fn write_audit<W: Sink>(sink: &mut W, audit: &Audit) -> Result<(), WriteFaul
     write_unmatched(sink, &audit.unmatched)?;
     write_disputed(sink, audit.disputed)?;
     write_ways(sink, &audit.ways)?;
-    write_circle(sink, &audit.network, &audit.circle)?;
+    write_cycle(sink, &audit.network, &audit.cycle)?;
     sink.flush()
 }
 
 /// Writes what is counted of packets, and the first of each kind that do not arrive.
-fn write_tally<W: Sink>(sink: &mut W, network: &Network, tally: &Tally) -> Result<(), WriteFault>
+fn write_tally<W: Sink>(
+    sink: &mut W,
+    network: &Network,
+    tally: &PacketTally,
+) -> Result<(), WriteFault>
     ensures { WritesPart W.written W.has_failed result sink.old sink.new
         (tally_text (cells_of network.now.facts) network.now.held tally.now) }
 {
@@ -141,7 +145,11 @@ fn write_count<W: Sink>(sink: &mut W, word: &str, count: u64) -> Result<(), Writ
 }
 
 /// Writes the first packets of each kind that do not arrive, and how many more there are.
-fn write_missed<W: Sink>(sink: &mut W, network: &Network, tally: &Tally) -> Result<(), WriteFault>
+fn write_missed<W: Sink>(
+    sink: &mut W,
+    network: &Network,
+    tally: &PacketTally,
+) -> Result<(), WriteFault>
     ensures { WritesPart W.written W.has_failed result sink.old sink.new
         (missed_text (cells_of network.now.facts) network.now.held
         tally.now.lost tally.now.misdelivered tally.now.round) }
@@ -156,13 +164,13 @@ fn write_listed<W: Sink>(
     sink: &mut W,
     network: &Network,
     word: &str,
-    told: &Told<Packet>,
+    few: &FirstFew<SentPacket>,
 ) -> Result<(), WriteFault>
     ensures { WritesPart W.written W.has_failed result sink.old sink.new
-        (listed_text (cells_of network.now.facts) network.now.held word.now told.now) }
+        (listed_text (cells_of network.now.facts) network.now.held word.now few.now) }
 {
-    write_packets(sink, network, word, told.first())?;
-    write_more(sink, word, told.more())
+    write_packets(sink, network, word, few.first())?;
+    write_more(sink, word, few.more())
 }
 
 /// Writes a line for each of these packets.
@@ -170,7 +178,7 @@ fn write_packets<W: Sink>(
     sink: &mut W,
     network: &Network,
     word: &str,
-    packets: &[Packet],
+    packets: &[SentPacket],
 ) -> Result<(), WriteFault>
     ensures { WritesPart W.written W.has_failed result sink.old sink.new
         (packets_text (cells_of network.now.facts) network.now.held word.now packets.now) }
@@ -186,7 +194,7 @@ fn write_packet<W: Sink>(
     sink: &mut W,
     network: &Network,
     word: &str,
-    packet: &Packet,
+    packet: &SentPacket,
 ) -> Result<(), WriteFault>
     ensures { WritesPart W.written W.has_failed result sink.old sink.new
         (packet_line (cells_of network.now.facts) network.now.held word.now packet.now) }
@@ -197,7 +205,7 @@ fn write_packet<W: Sink>(
 }
 
 /// Writes a word, the end port that sends a packet, and its LID.
-fn write_sent<W: Sink>(sink: &mut W, word: &str, packet: &Packet) -> Result<(), WriteFault>
+fn write_sent<W: Sink>(sink: &mut W, word: &str, packet: &SentPacket) -> Result<(), WriteFault>
     ensures { Writes W.written W.has_failed result sink.old sink.new (sent_text word.now packet.now) }
 {
     sink.write(word.as_bytes())?;
@@ -286,12 +294,12 @@ fn write_unmatched<W: Sink>(sink: &mut W, unmatched: &Unmatched) -> Result<(), W
     write_ports(sink, "lidless", &unmatched.lidless)
 }
 
-/// Writes LIDs that are told, and how many more there are.
-fn write_lids<W: Sink>(sink: &mut W, word: &str, told: &Told<HeldLid>) -> Result<(), WriteFault>
-    ensures { WritesPart W.written W.has_failed result sink.old sink.new (kind_text lid_line word.now told.now) }
+/// Writes LIDs that are few, and how many more there are.
+fn write_lids<W: Sink>(sink: &mut W, word: &str, few: &FirstFew<HeldLid>) -> Result<(), WriteFault>
+    ensures { WritesPart W.written W.has_failed result sink.old sink.new (kind_text lid_line word.now few.now) }
 {
-    write_each_lid(sink, word, told.first())?;
-    write_more(sink, word, told.more())
+    write_each_lid(sink, word, few.first())?;
+    write_more(sink, word, few.more())
 }
 
 /// Writes a line for each of these LIDs.
@@ -316,12 +324,12 @@ fn write_lid<W: Sink>(sink: &mut W, word: &str, line: &HeldLid) -> Result<(), Wr
     sink.write(b"\n")
 }
 
-/// Writes switches that are told, and how many more there are.
-fn write_switches<W: Sink>(sink: &mut W, word: &str, told: &Told<Guid>) -> Result<(), WriteFault>
-    ensures { WritesPart W.written W.has_failed result sink.old sink.new (kind_text switch_line word.now told.now) }
+/// Writes switches that are few, and how many more there are.
+fn write_switches<W: Sink>(sink: &mut W, word: &str, few: &FirstFew<Guid>) -> Result<(), WriteFault>
+    ensures { WritesPart W.written W.has_failed result sink.old sink.new (kind_text switch_line word.now few.now) }
 {
-    write_each_switch(sink, word, told.first())?;
-    write_more(sink, word, told.more())
+    write_each_switch(sink, word, few.first())?;
+    write_more(sink, word, few.more())
 }
 
 /// Writes a line for each of these switches.
@@ -344,12 +352,12 @@ fn write_switch<W: Sink>(sink: &mut W, word: &str, guid: Guid) -> Result<(), Wri
     sink.write(b"\n")
 }
 
-/// Writes end ports that are told, and how many more there are.
-fn write_ports<W: Sink>(sink: &mut W, word: &str, told: &Told<EndPort>) -> Result<(), WriteFault>
-    ensures { WritesPart W.written W.has_failed result sink.old sink.new (kind_text port_line word.now told.now) }
+/// Writes end ports that are few, and how many more there are.
+fn write_ports<W: Sink>(sink: &mut W, word: &str, few: &FirstFew<EndPort>) -> Result<(), WriteFault>
+    ensures { WritesPart W.written W.has_failed result sink.old sink.new (kind_text port_line word.now few.now) }
 {
-    write_each_port(sink, word, told.first())?;
-    write_more(sink, word, told.more())
+    write_each_port(sink, word, few.first())?;
+    write_more(sink, word, few.more())
 }
 
 /// Writes a line for each of these end ports.
@@ -372,7 +380,7 @@ fn write_end_port<W: Sink>(sink: &mut W, word: &str, port: &EndPort) -> Result<(
     sink.write(b"\n")
 }
 
-/// Writes how many more there are of a kind than are told, if there are more.
+/// Writes how many more there are of a kind than are few, if there are more.
 fn write_more<W: Sink>(sink: &mut W, word: &str, count: u64) -> Result<(), WriteFault>
     ensures { WritesPart W.written W.has_failed result sink.old sink.new (more_line word.now count) }
 {
@@ -444,34 +452,30 @@ fn write_hundredths<W: Sink>(sink: &mut W, number: u64) -> Result<(), WriteFault
     write_number(sink, number % 10)
 }
 
-/// Writes the line of a circle, each channel as the switch and the port by which packets take it.
-fn write_circle<W: Sink>(
-    sink: &mut W,
-    network: &Network,
-    circle: &[usize],
-) -> Result<(), WriteFault>
+/// Writes the line of a cycle, each channel as the switch and the port by which packets take it.
+fn write_cycle<W: Sink>(sink: &mut W, network: &Network, cycle: &[usize]) -> Result<(), WriteFault>
     ensures { WritesPart W.written W.has_failed result sink.old sink.new
-        (circle_line (cells_of network.now.facts) circle.now) }
+        (cycle_line (cells_of network.now.facts) cycle.now) }
 {
     sink.write(b"credit loop")?;
-    write_channels(sink, network, circle)?;
+    write_channels(sink, network, cycle)?;
     sink.write(b"\n")
 }
 
-/// Writes the channels of a circle.
+/// Writes the channels of a cycle.
 fn write_channels<W: Sink>(
     sink: &mut W,
     network: &Network,
-    circle: &[usize],
+    cycle: &[usize],
 ) -> Result<(), WriteFault>
     ensures { WritesPart W.written W.has_failed result sink.old sink.new
-        (channels_text (cells_of network.now.facts) circle.now) }
+        (channels_text (cells_of network.now.facts) cycle.now) }
 {
-    if circle.is_empty() {
+    if cycle.is_empty() {
         return sink.write(b" none");
     }
     sink.write(b" on one lane")?;
-    write_each_channel(sink, network, circle)
+    write_each_channel(sink, network, cycle)
 }
 
 /// Writes each of these channels.

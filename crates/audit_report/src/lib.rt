@@ -1,19 +1,22 @@
 //! What the forwarding tables that a subnet's switches hold do with its packets, as text: which do not arrive, where
-//! tables and facts differ, and whether channels can wait for each other in a circle.
+//! tables and facts differ, and whether channels can wait for each other in a credit loop.
 #![tactic(auto)]
 
+mod audit_run;
 mod audit_text;
 mod causes;
 mod disputed;
+mod first_few;
 pub mod laws;
-mod packet;
+mod packet_tally;
 mod pairs;
+mod read_tables;
 mod report;
-mod seat;
+mod sent_packet;
+mod site;
 mod survey;
-mod tally;
-mod told;
 mod unmatched;
 
+pub use audit_run::run_audit;
 pub use audit_text::write_audit;
 pub use report::Audit;

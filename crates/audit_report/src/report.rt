@@ -1,17 +1,15 @@
 ghost use Rattle.std.specs.Prelude.{◌≡◌, ◌↔◌, IfOk, IsTrue};
 ghost use Rattle.fact_store.specs.View.{cells_of};
-ghost use Rattle.audit_circles.specs.Waiting.{NoneShorter};
-ghost use Rattle.audit_report.specs.Passing.{EachHasTables, EachHoldsLid, IsCircle, IsSound, IsWholeFor, Passes};
+ghost use Rattle.audit_channels.specs.Waiting.{NoneShorter};
+ghost use Rattle.audit_report.specs.Passing.{EachHasTables, EachHoldsLid, IsCycle, IsSound, IsWholeFor, Passes};
 
 use crate::disputed::disputed;
-use crate::seat::seats;
+use crate::packet_tally::PacketTally;
+use crate::site::sites;
 use crate::survey::survey;
-use crate::tally::Tally;
 use crate::unmatched::Unmatched;
 use audit::Network;
-use audit_circles::channel_order;
-use audit_ways::{WayFigures, figures_of_ways};
-use channel_order::ChannelOrder;
+use audit_channels::{ChannelOrder, WayFigures, channel_order, figures_of_ways};
 use fact_store::{Refused, Store};
 use plan_file::Held;
 use std::alloc::{AllocError, Global};
@@ -21,14 +19,14 @@ use std::marker::Model;
 #[derive(Drop)]
 pub struct Audit<'a> {
     pub(crate) network: Network<'a>,
-    pub(crate) tally: Tally,
+    pub(crate) tally: PacketTally,
     pub(crate) unmatched: Unmatched,
     /// How many facts are disputed.
     pub(crate) disputed: usize,
     /// How far packets go between adapter ports, and the loads of channels.
     pub(crate) ways: WayFigures,
-    /// Channels that wait for each other in a circle; none where there is no circle.
-    pub(crate) circle: Vec<usize>,
+    /// Channels that wait for each other in a credit loop; none where there is none.
+    pub(crate) cycle: Vec<usize>,
 }
 
 impl<'a> Model for Audit<'a> {
@@ -38,40 +36,40 @@ impl<'a> Model for Audit<'a> {
 
     ghost coded = { audited_code };
 
-    ghost view = { λ a. record { facts = a.network.facts; held = a.network.held; circle = a.circle.items } };
+    ghost view = { λ a. record { facts = a.network.facts; held = a.network.held; cycle = a.cycle.items } };
 
-    ghost invariant = { λ a. IsFound a.network a.tally a.unmatched a.disputed a.ways a.circle.items };
+    ghost invariant = { λ a. IsFound a.network a.tally a.unmatched a.disputed a.ways a.cycle.items };
 }
 
 impl<'a> Audit<'a> {
     /// Follows the packets that the end ports of the view send to the LIDs which are held, each from every end port of the
     /// component in which the LID's end port lies, by these tables; counts the wires and the channels that those between
-    /// adapter ports take; and orders channels. Takes what `Network::ends` and `Network::exits` do for each LID twice, and a
+    /// adapter ports take; and orders channels. Takes what `Network::ends` and `Network::edges` do for each LID twice, and a
     /// step or two for each two end ports.
     pub fn of(alloc: Global, store: &'a Store, held: &'a Held) -> Result<Self, Refused>
         ensures facts { IfOk result (λ audit. audit.facts ≡ store.now) }
         ensures held { IfOk result (λ audit. audit.held ≡ held.now) }
-        ensures circle { IfOk result (λ audit. IsCircle (cells_of store.now) held.now audit.circle) }
-        ensures shortest { IfOk result (λ audit. NoneShorter (cells_of store.now) held.now audit.circle) }
+        ensures cycle { IfOk result (λ audit. IsCycle (cells_of store.now) held.now audit.cycle) }
+        ensures shortest { IfOk result (λ audit. NoneShorter (cells_of store.now) held.now audit.cycle) }
     {
         let network = Network::of(alloc, store, held)?;
-        let seats = seats(alloc, store)?;
-        let tally = survey(alloc, &network, &seats)?;
+        let sites = sites(alloc, store)?;
+        let tally = survey(alloc, &network, &sites)?;
         let unmatched = Unmatched::of(alloc, store, held)?;
         let disputed = disputed(store);
         let ways = figures_of_ways(alloc, &network)?;
-        let circle = circle_of(alloc, &network)?;
+        let cycle = cycle_of(alloc, &network)?;
         Ok(Audit {
             network,
             tally,
             unmatched,
             disputed,
             ways,
-            circle,
+            cycle,
         })
     }
 
-    /// Whether nothing is missing, each packet arrives, and there is no circle.
+    /// Whether nothing is missing, each packet arrives, and there is no cycle.
     pub fn passes(&self) -> bool
         ensures { IsTrue result ↔ Passes (cells_of self.now.facts) self.now.held }
     {
@@ -99,22 +97,22 @@ impl<'a> Audit<'a> {
         self.unmatched.tableless.count() == 0 || self.network.sources().is_empty()
     }
 
-    /// Whether each packet arrives, and there is no circle.
+    /// Whether each packet arrives, and there is no cycle.
     fn is_sound(&self) -> bool
         ensures { IsTrue result ↔ IsSound (cells_of self.now.facts) self.now.held }
     {
-        self.tally.all.arrived == self.tally.all.sent && self.circle.is_empty()
+        self.tally.all.arrived == self.tally.all.sent && self.cycle.is_empty()
     }
 }
 
-/// Channels that wait for each other in a circle, as few as there are; none where there is no circle.
+/// Channels that wait for each other in a credit loop, as few as there are; none where there is none.
 #[tactic(auto, using(crate::proofs::Judged::none_is_shorter))]
-fn circle_of(alloc: Global, network: &Network) -> Result<Vec<usize>, AllocError>
-    ensures circle { IfOk result (λ circle. IsCircle (cells_of network.now.facts) network.now.held circle.items) }
-    ensures shortest { IfOk result (λ circle. NoneShorter (cells_of network.now.facts) network.now.held circle.items) }
+fn cycle_of(alloc: Global, network: &Network) -> Result<Vec<usize>, AllocError>
+    ensures cycle { IfOk result (λ cycle. IsCycle (cells_of network.now.facts) network.now.held cycle.items) }
+    ensures shortest { IfOk result (λ cycle. NoneShorter (cells_of network.now.facts) network.now.held cycle.items) }
 {
     match channel_order(alloc, network)? {
         ChannelOrder::Rises(_) => Ok(Vec::new(alloc)),
-        ChannelOrder::Circle(channels) => Ok(channels),
+        ChannelOrder::Cycle(channels) => Ok(channels),
     }
 }

@@ -3,8 +3,8 @@ ghost use Rattle.std.specs.Prelude.{◌≡◌, IfOk};
 ghost use Rattle.fact_store.specs.View.{cells_of};
 ghost use Rattle.audit_report.specs.Unmatched.{IsUnmatched, has_lid, is_held, is_twice, lidless_among, tableless_among, twice, unknown, unowned};
 
-use crate::seat::is_same_end;
-use crate::told::Told;
+use crate::first_few::FirstFew;
+use crate::site::is_same_end;
 use fact_store::{Refused, Store};
 use plan_file::{Held, HeldLid};
 use smp_bytes::Guid;
@@ -15,15 +15,15 @@ use subnet_view::{EndPort, end_ports, is_end_port, is_usable, switches};
 #[derive(Drop)]
 pub(crate) struct Unmatched {
     /// LIDs with ports that are no end ports of the facts.
-    pub(crate) unowned: Told<HeldLid>,
+    pub(crate) unowned: FirstFew<HeldLid>,
     /// LIDs that more than one port holds.
-    pub(crate) twice: Told<HeldLid>,
+    pub(crate) twice: FirstFew<HeldLid>,
     /// Switches with tables that are no usable switches of the facts.
-    pub(crate) unknown: Told<Guid>,
+    pub(crate) unknown: FirstFew<Guid>,
     /// Usable switches without tables.
-    pub(crate) tableless: Told<Guid>,
+    pub(crate) tableless: FirstFew<Guid>,
     /// End ports of the facts without a LID.
-    pub(crate) lidless: Told<EndPort>,
+    pub(crate) lidless: FirstFew<EndPort>,
 }
 
 impl Unmatched {
@@ -50,29 +50,29 @@ impl Unmatched {
 }
 
 /// LIDs with ports that are no end ports of the facts.
-fn unowned(alloc: Global, held: &Held, store: &Store) -> Result<Told<HeldLid>, AllocError>
-    ensures { IfOk result (λ told. told ≡ unowned (cells_of store.now) held.now) }
+fn unowned(alloc: Global, held: &Held, store: &Store) -> Result<FirstFew<HeldLid>, AllocError>
+    ensures { IfOk result (λ few. few ≡ unowned (cells_of store.now) held.now) }
 {
-    let mut told = Told::new(alloc);
+    let mut few = FirstFew::new(alloc);
     for line in held.lids() {
         if !is_end_port(store, line.port.node, line.port.port) {
-            told.add(*line)?;
+            few.add(*line)?;
         }
     }
-    Ok(told)
+    Ok(few)
 }
 
 /// LIDs that more than one port holds, with each of these.
-fn twice(alloc: Global, held: &Held) -> Result<Told<HeldLid>, AllocError>
-    ensures { IfOk result (λ told. told ≡ twice held.now) }
+fn twice(alloc: Global, held: &Held) -> Result<FirstFew<HeldLid>, AllocError>
+    ensures { IfOk result (λ few. few ≡ twice held.now) }
 {
-    let mut told = Told::new(alloc);
+    let mut few = FirstFew::new(alloc);
     for line in held.lids() {
         if is_twice(held, line) {
-            told.add(*line)?;
+            few.add(*line)?;
         }
     }
-    Ok(told)
+    Ok(few)
 }
 
 /// Whether more than one port holds the LID.
@@ -87,29 +87,29 @@ fn is_twice(held: &Held, line: &HeldLid) -> bool
 }
 
 /// Switches with tables that are no usable switches of the facts.
-fn unknown(alloc: Global, held: &Held, store: &Store) -> Result<Told<Guid>, AllocError>
-    ensures { IfOk result (λ told. told ≡ unknown (cells_of store.now) held.now) }
+fn unknown(alloc: Global, held: &Held, store: &Store) -> Result<FirstFew<Guid>, AllocError>
+    ensures { IfOk result (λ few. few ≡ unknown (cells_of store.now) held.now) }
 {
-    let mut told = Told::new(alloc);
+    let mut few = FirstFew::new(alloc);
     for switch in held.switches() {
         if !is_usable(store, switch.guid) {
-            told.add(switch.guid)?;
+            few.add(switch.guid)?;
         }
     }
-    Ok(told)
+    Ok(few)
 }
 
 /// Usable switches without tables.
-fn tableless(alloc: Global, held: &Held, guids: &[Guid]) -> Result<Told<Guid>, AllocError>
-    ensures { IfOk result (λ told. told ≡ tableless_among guids.now held.now) }
+fn tableless(alloc: Global, held: &Held, guids: &[Guid]) -> Result<FirstFew<Guid>, AllocError>
+    ensures { IfOk result (λ few. few ≡ tableless_among guids.now held.now) }
 {
-    let mut told = Told::new(alloc);
+    let mut few = FirstFew::new(alloc);
     for guid in guids {
         if !is_held(held, *guid) {
-            told.add(*guid)?;
+            few.add(*guid)?;
         }
     }
-    Ok(told)
+    Ok(few)
 }
 
 /// Whether the switch has tables.
@@ -120,16 +120,16 @@ fn is_held(held: &Held, guid: Guid) -> bool
 }
 
 /// End ports without a LID.
-fn lidless(alloc: Global, held: &Held, ports: &[EndPort]) -> Result<Told<EndPort>, AllocError>
-    ensures { IfOk result (λ told. told ≡ lidless_among ports.now held.now) }
+fn lidless(alloc: Global, held: &Held, ports: &[EndPort]) -> Result<FirstFew<EndPort>, AllocError>
+    ensures { IfOk result (λ few. few ≡ lidless_among ports.now held.now) }
 {
-    let mut told = Told::new(alloc);
+    let mut few = FirstFew::new(alloc);
     for port in ports {
         if !has_lid(held, port) {
-            told.add(*port)?;
+            few.add(*port)?;
         }
     }
-    Ok(told)
+    Ok(few)
 }
 
 /// Whether a line gives the end port a LID.

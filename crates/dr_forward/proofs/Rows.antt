@@ -7,7 +7,7 @@ use Rattle.std.specs.Prelude.{nat_lt, None, if◌then◌else◌}
 use Rattle.smp_bytes.specs.Field.{number_in, are_apart}
 use Rattle.smp_bytes.specs.Packet.{hop_pointer, hop_count, initial_path, return_path, is_returning, fault_of}
 use Rattle.smp_bytes.proofs.FieldLaws.{length-with_number, number_in-with_number, number_in-with_number_apart}
-use Rattle.smp_bytes.proofs.PlaceLaws.{get_or-with_number}
+use Rattle.smp_bytes.proofs.OffsetLaws.{get_or-with_number}
 use Rattle.smp_bytes.proofs.RequestLaws.{hop_pointer_parses, path_parses}
 use Rattle.dr_forward.specs.declared.here.Here.{Here}
 use Rattle.dr_forward.specs.declared.verdict.Verdict.TheVariants.{Out, ToAgent, ToManager}
@@ -104,22 +104,22 @@ module _ (here : Here) (packet : List ℕ) where
 
 -- neither the hop pointer nor the path back
 abbrev pub IsKeptInStep : ℕ → Type 0
-IsKeptInStep place = (place < 6) ⊎ ((7 ≤ place) × (place < 192))
+IsKeptInStep offset = (offset < 6) ⊎ ((7 ≤ offset) × (offset < 192))
 
 -- a packet with another hop pointer
 pub record IsPointed (pointer : ℕ) (old new : List ℕ) : Type 0 where
   pub count : length new ≡ 256
   pub pointer_is : number_in hop_pointer new ≡ pointer
-  pub kept : (place : ℕ) → IsKeptInStep place → get_or new place 0 ≡ get_or old place 0
+  pub kept : (offset : ℕ) → IsKeptInStep offset → get_or new offset 0 ≡ get_or old offset 0
   pub parses : fault_of old ≡ None → pointer ≤ number_in hop_count old + 1 → fault_of new ≡ None
 
-outside : (place : ℕ) → IsKeptInStep place → (place < 6) ⊎ (6 + 1 ≤ place)
-outside place (inl h) = inl h
-outside place (inr h) = inr (omega (arith, h.0))
+outside : (offset : ℕ) → IsKeptInStep offset → (offset < 6) ⊎ (6 + 1 ≤ offset)
+outside offset (inl h) = inl h
+outside offset (inr h) = inr (omega (arith, h.0))
 
-before_notes : (at place : ℕ) → IsKeptInStep place → (place < 192 + at) ⊎ (192 + at + 1 ≤ place)
-before_notes at place (inl h) = inl (omega (arith, h))
-before_notes at place (inr h) = inl (omega (arith, h.1))
+before_notes : (at offset : ℕ) → IsKeptInStep offset → (offset < 192 + at) ⊎ (192 + at + 1 ≤ offset)
+before_notes at offset (inl h) = inl (omega (arith, h))
+before_notes at offset (inr h) = inl (omega (arith, h.1))
 
 notes_apart : (at i : ℕ) → (i < at) ⊎ (at < i) → are_apart (return_path i) (return_path at) ≡ true
 notes_apart at i (inl h) = grind (arith, nat_tests)
@@ -131,7 +131,7 @@ module _ (packet : List ℕ) (long : length packet ≡ 256) where
       record {
         count = length-with_number hop_pointer pointer packet (omega (arith, long)) ∙ long;
         pointer_is = number_in-with_number hop_pointer pointer packet (omega (arith, long)) small;
-        kept = λ place k. get_or-with_number hop_pointer pointer packet place (omega (arith, long)) (outside place k);
+        kept = λ offset k. get_or-with_number hop_pointer pointer packet offset (omega (arith, long)) (outside offset k);
         parses = λ parses within. hop_pointer_parses packet pointer long small (λ directed. within) parses;
       }
 
@@ -148,8 +148,8 @@ module _ (packet : List ℕ) (long : length packet ≡ 256) where
         count = length-with_number (return_path at) here.arrival first (omega (arith, moved.count, path)) ∙ moved.count;
         pointer_is = number_in-with_number_apart hop_pointer (return_path at) here.arrival first (omega (arith, moved.count, path)) (grind (arith, nat_tests))
             ∙ moved.pointer_is;
-        kept = λ place k. get_or-with_number (return_path at) here.arrival first place (omega (arith, moved.count, path)) (before_notes at place k)
-            ∙ moved.kept place k;
+        kept = λ offset k. get_or-with_number (return_path at) here.arrival first offset (omega (arith, moved.count, path)) (before_notes at offset k)
+            ∙ moved.kept offset k;
         parses = λ parses within. path_parses (192 + at) here.arrival first moved.count (omega arith) (omega (arith, path)) (moved.parses parses within);
       }
 
@@ -175,7 +175,7 @@ module _ (packet : List ℕ) (long : length packet ≡ 256) where
       ∙ number_in-with_number (return_path (number_in hop_pointer packet)) here.arrival (pointed (number_in hop_pointer packet + 1) packet)
       (omega (arith, moved.count, path)) small
 
-  -- and what was noted at other places stays
+  -- and what was noted at other offsets stays
   pub moved_on_keeps_notes : (here : Here) (i : ℕ) → number_in hop_pointer packet < 64 → i < 64
       → (i < number_in hop_pointer packet) ⊎ (number_in hop_pointer packet < i)
       → number_in (return_path i) (moved_on here packet) ≡ number_in (return_path i) packet

@@ -16,18 +16,18 @@ use Rattle.dr_forward.proofs.Rows.{out_row, agent_row, back_row, home_row, IsKep
 
 -- the same bytes but for the hop pointer and the path back
 abbrev pub IsKeptFrom : List ℕ → List ℕ → Type 0
-IsKeptFrom old new = (place : ℕ) → IsKeptInStep place → get_or new place 0 ≡ get_or old place 0
+IsKeptFrom old new = (offset : ℕ) → IsKeptInStep offset → get_or new offset 0 ≡ get_or old offset 0
 
 -- the field holds no byte that a step writes
 abbrev pub IsKeptField : Field → Type 0
 IsKeptField f = (f.at + f.len ≤ 6) ⊎ ((7 ≤ f.at) × (f.at + f.len ≤ 192))
 
-place_kept : (f : Field) (place : ℕ) → IsKeptField f → f.at ≤ place → place < f.at + f.len → IsKeptInStep place
-place_kept f place (inl before) from less = inl (omega arith)
-place_kept f place (inr within) from less = inr (omega (arith, within.0), omega (arith, within.1))
+offset_kept : (f : Field) (offset : ℕ) → IsKeptField f → f.at ≤ offset → offset < f.at + f.len → IsKeptInStep offset
+offset_kept f offset (inl before) from less = inl (omega arith)
+offset_kept f offset (inr within) from less = inr (omega (arith, within.0), omega (arith, within.1))
 
 pub field_kept : (f : Field) (old new : List ℕ) → IsKeptField f → IsKeptFrom old new → number_in f new ≡ number_in f old
-field_kept f old new in_kept kept = number_in-alike f new old (λ place from less. kept place (place_kept f place in_kept from less))
+field_kept f old new in_kept kept = number_in-alike f new old (λ offset from less. kept offset (offset_kept f offset in_kept from less))
 
 -- the way out --------------------------------------------------------------------------
 
@@ -69,7 +69,7 @@ module _ {path request : List ℕ} (r : IsRequestOver path request) (noted : ℕ
         record {
           count = new.count;
           parses = new.parses o.parses (omega (arith, o.pointer, within, out_hops));
-          kept = λ place h. new.kept place h ∙ o.kept place h;
+          kept = λ offset h. new.kept offset h ∙ o.kept offset h;
           pointer = new.pointer_is ∙ ap (λ n. n + 1) o.pointer;
           notes = notes;
         }
@@ -82,13 +82,13 @@ module _ {path request : List ℕ} (r : IsRequestOver path request) (noted : ℕ
             ∙ arrives some
 
         notes : (i : ℕ) → 0 < i → i < k + 1 → number_in (return_path i) (moved_on here bytes) ≡ noted i
-        notes i some less = by_place (i == k) refl
+        notes i some less = by_index (i == k) refl
           where
-            by_place : (b : Bool) → (i == k) ≡ b → number_in (return_path i) (moved_on here bytes) ≡ noted i
-            by_place true e =
+            by_index : (b : Bool) → (i == k) ≡ b → number_in (return_path i) (moved_on here bytes) ≡ noted i
+            by_index true e =
                 let same : i ≡ k = eqb-true i k e in
                 subst (λ n. number_in (return_path n) (moved_on here bytes) ≡ noted n) (sym same) (here_noted (omega (arith, some, same)))
-            by_place false e =
+            by_index false e =
                 let before : i < k = omega (arith, less, eqb-false i k e) in
                 moved_on_keeps_notes bytes o.count here i (omega (arith, o.pointer, within, r.short)) (omega (arith, before, within, r.short))
                 (inl (omega (arith, before, o.pointer)))
@@ -138,9 +138,9 @@ pub record IsAnswerBack (hops : ℕ) (answer : List ℕ) : Type 0 where
   pub returning : is_returning answer ≡ true
   pub hops_are : number_in hop_count answer ≡ hops
 
-kept_in_answer : (place : ℕ) → (128 ≤ place) ⊎ ((6 ≤ place) × (place < 64)) → IsKeptInAnswer place
-kept_in_answer place (inl h) = inr (inr h)
-kept_in_answer place (inr h) = inr (inl h)
+kept_in_answer : (offset : ℕ) → (128 ≤ offset) ⊎ ((6 ≤ offset) × (offset < 64)) → IsKeptInAnswer offset
+kept_in_answer offset (inl h) = inr (inr h)
+kept_in_answer offset (inr h) = inr (inl h)
 
 -- what an agent answers at the end of the path begins the way back
 pub record Turns (path : List ℕ) (noted : ℕ → ℕ) (answer : List ℕ) : Type 0 where
@@ -152,12 +152,12 @@ module _ {path request : List ℕ} (r : IsRequestOver path request) (noted : ℕ
     (a : HoldsAnswer bytes (answer_packet bytes given payload) given payload) where
   same_field : (f : Field) → (128 ≤ f.at) ⊎ ((6 ≤ f.at) × (f.at + f.len ≤ 64)) → number_in f (answer_packet bytes given payload) ≡ number_in f bytes
   same_field f apart =
-      number_in-alike f (answer_packet bytes given payload) bytes (λ place from less. a.kept place (kept_in_answer place (inside f place apart from less)))
+      number_in-alike f (answer_packet bytes given payload) bytes (λ offset from less. a.kept offset (kept_in_answer offset (inside f offset apart from less)))
     where
-      inside : (f : Field) (place : ℕ) → (128 ≤ f.at) ⊎ ((6 ≤ f.at) × (f.at + f.len ≤ 64)) → f.at ≤ place → place < f.at + f.len
-          → (128 ≤ place) ⊎ ((6 ≤ place) × (place < 64))
-      inside f place (inl h) from less = inl (omega arith)
-      inside f place (inr h) from less = inr (omega (arith, h.0), omega (arith, h.1))
+      inside : (f : Field) (offset : ℕ) → (128 ≤ f.at) ⊎ ((6 ≤ f.at) × (f.at + f.len ≤ 64)) → f.at ≤ offset → offset < f.at + f.len
+          → (128 ≤ offset) ⊎ ((6 ≤ offset) × (offset < 64))
+      inside f offset (inl h) from less = inl (omega arith)
+      inside f offset (inr h) from less = inr (omega (arith, h.0), omega (arith, h.1))
 
   pub turns : Turns path noted (answer_packet bytes given payload)
   turns =
@@ -165,7 +165,7 @@ module _ {path request : List ℕ} (r : IsRequestOver path request) (noted : ℕ
         begins = record {
           count = a.count;
           parses = a.parses;
-          kept = λ place h. refl;
+          kept = λ offset h. refl;
           pointer = same_field hop_pointer (inr (omega arith, omega arith)) ∙ o.pointer;
           notes = λ i some most. same_field (return_path i) (inl (omega arith)) ∙ o.notes i some (omega (arith, most));
         };
@@ -204,7 +204,7 @@ module _ {hops : ℕ} {answer : List ℕ} (r : IsAnswerBack hops answer) (noted 
         then = record {
           count = new.count;
           parses = new.parses b.parses (omega (arith, most, back_hops));
-          kept = λ place h. new.kept place h ∙ b.kept place h;
+          kept = λ offset h. new.kept offset h ∙ b.kept offset h;
           pointer = new.pointer_is ∙ is;
           notes = λ i one upto. pointed_keeps_notes bytes b.count k i (omega (arith, upto, r.short)) ∙ b.notes i one upto;
         };
@@ -227,7 +227,7 @@ module _ {hops : ℕ} {answer : List ℕ} (r : IsAnswerBack hops answer) (noted 
       let new = pointed_is bytes b.count 0 (omega arith) in
       record {
         step_is = home_row here bytes back_returning (b.pointer ∙ ap (λ n. n + 1) first);
-        kept = λ place h. new.kept place h ∙ b.kept place h;
+        kept = λ offset h. new.kept offset h ∙ b.kept offset h;
         count = new.count;
         parses = new.parses b.parses (omega arith);
         pointer = new.pointer_is;

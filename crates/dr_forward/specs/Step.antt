@@ -23,7 +23,7 @@ discarded packet reason = record { packet = packet; verdict = Discard reason }
 abbrev pub pointed : ℕ → List ℕ → List ℕ
 pointed pointer packet = with_number hop_pointer pointer packet
 
--- the packet with the port by which it came noted for the way back, at its place on the path
+-- the packet with the port by which it came noted for the way back, at its index on the path
 abbrev pub noted : ℕ → Here → List ℕ → List ℕ
 noted at here packet = with_number (return_path at) here.arrival packet
 

@@ -17,7 +17,7 @@ fn out(port: u8) -> Verdict {
     Verdict::Out(PortNum::new(port))
 }
 
-/// A request for NodeInfo over a path of so many hops, with its pointer at a place, which may be on its way back.
+/// A request for NodeInfo over a path of so many hops, with its pointer at an index, which may be on its way back.
 fn packet(hops: u8, path: [u8; 2], pointer: u8, is_returning: bool) -> Result<Smp, SmpFault> {
     let (get, node_info) = (Method::GET, AttributeId::NODE_INFO);
     let request = Smp::directed(get, node_info, 0, 1, &Path::<63>::new(), &[0; 64]);

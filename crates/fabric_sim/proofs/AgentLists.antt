@@ -5,7 +5,7 @@ use Rattle.std.specs.Option.{option_map_or}
 use Rattle.std.proofs.lemmas.Option.{slice_get_within, get_or_from_slice_get}
 use Rattle.std.proofs.lemmas.List.Elements.{All-set, All-get_or}
 use Rattle.std.proofs.lemmas.Bool.{and_parts, leb-true}
-use Rattle.smp_bytes.specs.declared.cable.NodePort.{NodePort}
+use Rattle.fabric_model.specs.declared.cable.NodePort.{NodePort}
 use Rattle.attr_codec.specs.declared.port_state.PortState.TheVariants.{Down}
 use Rattle.node_agents.specs.Agent.{Agent, has_seat, state_at}
 use Rattle.node_agents.specs.AnswerLaws.{KeepsShape}
@@ -21,7 +21,7 @@ Related R (Some a) (Some b) = R a b
 
 -- one list of agents and another, agent by agent
 abbrev pub AllRelated : (Agent → Agent → Type 0) → List Agent → List Agent → Type 0
-AllRelated R xs ys = (place : ℕ) → Related R (slice_get xs place) (slice_get ys place)
+AllRelated R xs ys = (id : ℕ) → Related R (slice_get xs id) (slice_get ys id)
 
 module _ (R : Agent → Agent → Type 0) (same : (a : Agent) → R a a) where
   related-same : (m : Option Agent) → Related R m m
@@ -29,18 +29,18 @@ module _ (R : Agent → Agent → Type 0) (same : (a : Agent) → R a a) where
   related-same (Some a) = same a
 
   related-set : (xs : List Agent) (at : ℕ) (new : Agent) → ((a : Agent) → slice_get xs at ≡ Some a → R a new) → AllRelated R xs (slice_set xs at new)
-  related-set [] at new h place = tt
+  related-set [] at new h id = tt
   related-set (x ∷ xs) zero new h zero = h x refl
-  related-set (x ∷ xs) zero new h (suc place) = related-same (slice_get xs place)
+  related-set (x ∷ xs) zero new h (suc id) = related-same (slice_get xs id)
   related-set (x ∷ xs) (suc at) new h zero = same x
-  related-set (x ∷ xs) (suc at) new h (suc place) = related-set xs at new h place
+  related-set (x ∷ xs) (suc at) new h (suc id) = related-set xs at new h id
 
   -- one agent changed within the relation
   pub related_changed : (xs : List Agent) (at : ℕ) (change : Agent → Agent) → ((a : Agent) → slice_get xs at ≡ Some a → R a (change a)) → AllRelated R xs (with_changed xs at change)
   related_changed xs at change h = by (slice_get xs at) refl
     where
       by : (m : Option Agent) → slice_get xs at ≡ m → AllRelated R xs (option_map_or (λ a. slice_set xs at (change a)) m xs)
-      by None e = λ place. related-same (slice_get xs place)
+      by None e = λ id. related-same (slice_get xs id)
       by (Some a) e = related-set xs at (change a) (λ b k. let same : a ≡ b = cc in subst (λ x. R x (change a)) same (h a e))
 
 -- how many there are
@@ -51,8 +51,8 @@ length-changed xs at change = by (slice_get xs at)
     by None = refl
     by (Some a) = length-set xs at (change a)
 
-pub all_at : (P : Agent → Type 0) (xs : List Agent) (place : ℕ) (a : Agent) → All P xs → slice_get xs place ≡ Some a → P a
-all_at P xs place a all at = subst P (get_or_from_slice_get xs place a a at) (All-get_or P xs place a (slice_get_within xs place a at) all)
+pub all_at : (P : Agent → Type 0) (xs : List Agent) (id : ℕ) (a : Agent) → All P xs → slice_get xs id ≡ Some a → P a
+all_at P xs id a all at = subst P (get_or_from_slice_get xs id a a at) (All-get_or P xs id a (slice_get_within xs id a at) all)
 
 -- what holds of each agent
 pub all_changed : (P : Agent → Type 0) (xs : List Agent) (at : ℕ) (change : Agent → Agent) → All P xs → ((a : Agent) → slice_get xs at ≡ Some a → P a → P (change a)) → All P (with_changed xs at change)
@@ -62,9 +62,9 @@ all_changed P xs at change all h = by (slice_get xs at) refl
     by None e = all
     by (Some a) e = All-set P xs at (change a) (h a e (all_at P xs at a all e)) all
 
--- the agent in the place of one
-pub changed_at_place : (xs : List Agent) (at : ℕ) (a : Agent) (change : Agent → Agent) → slice_get xs at ≡ Some a → slice_get (with_changed xs at change) at ≡ Some (change a)
-changed_at_place xs at a change e = ap (λ m. slice_get (option_map_or (λ b. slice_set xs at (change b)) m xs) at) e ∙ set-there xs at a (change a) e
+-- the agent put where one was
+pub changed_at_id : (xs : List Agent) (at : ℕ) (a : Agent) (change : Agent → Agent) → slice_get xs at ≡ Some a → slice_get (with_changed xs at change) at ≡ Some (change a)
+changed_at_id xs at a change e = ap (λ m. slice_get (option_map_or (λ b. slice_set xs at (change b)) m xs) at) e ∙ set-there xs at a (change a) e
   where
     set-there : (xs : List Agent) (at : ℕ) (a new : Agent) → slice_get xs at ≡ Some a → slice_get (slice_set xs at new) at ≡ Some new
     set-there [] at a new e = cc
@@ -72,19 +72,19 @@ changed_at_place xs at a change e = ap (λ m. slice_get (option_map_or (λ b. sl
     set-there (x ∷ xs) (suc at) a new e = set-there xs at a new e
 
 -- any other is as it was
-pub others_stay : (xs : List Agent) (at place : ℕ) (change : Agent → Agent) → at ≢ place → slice_get (with_changed xs at change) place ≡ slice_get xs place
-others_stay xs at place change ne = by (slice_get xs at)
+pub others_stay : (xs : List Agent) (at id : ℕ) (change : Agent → Agent) → at ≢ id → slice_get (with_changed xs at change) id ≡ slice_get xs id
+others_stay xs at id change ne = by (slice_get xs at)
   where
-    set-elsewhere : (xs : List Agent) (at place : ℕ) (new : Agent) → at ≢ place → slice_get (slice_set xs at new) place ≡ slice_get xs place
-    set-elsewhere [] at place new ne = refl
+    set-elsewhere : (xs : List Agent) (at id : ℕ) (new : Agent) → at ≢ id → slice_get (slice_set xs at new) id ≡ slice_get xs id
+    set-elsewhere [] at id new ne = refl
     set-elsewhere (x ∷ xs) zero zero new ne = absurd (ne refl)
-    set-elsewhere (x ∷ xs) zero (suc place) new ne = refl
+    set-elsewhere (x ∷ xs) zero (suc id) new ne = refl
     set-elsewhere (x ∷ xs) (suc at) zero new ne = refl
-    set-elsewhere (x ∷ xs) (suc at) (suc place) new ne = set-elsewhere xs at place new (λ e. ne (ap suc e))
+    set-elsewhere (x ∷ xs) (suc at) (suc id) new ne = set-elsewhere xs at id new (λ e. ne (ap suc e))
 
-    by : (m : Option Agent) → slice_get (option_map_or (λ a. slice_set xs at (change a)) m xs) place ≡ slice_get xs place
+    by : (m : Option Agent) → slice_get (option_map_or (λ a. slice_set xs at (change a)) m xs) id ≡ slice_get xs id
     by None = refl
-    by (Some a) = set-elsewhere xs at place (change a) ne
+    by (Some a) = set-elsewhere xs at id (change a) ne
 
 -- what is kept --------------------------------------------------------------------------
 
@@ -146,15 +146,15 @@ seats_before xs ys k p = by (slice_get xs p.node) (slice_get ys p.node) (k p.nod
     by (Some a) (Some b) h e = h.seats p.port e
 
 -- the agent before
-pub record Before (R : Agent → Agent → Type 0) (xs : List Agent) (place : ℕ) (b : Agent) : Type 0 where
+pub record Before (R : Agent → Agent → Type 0) (xs : List Agent) (id : ℕ) (b : Agent) : Type 0 where
   pub agent : Agent
-  pub there : slice_get xs place ≡ Some agent
+  pub there : slice_get xs id ≡ Some agent
   pub related : R agent b
 
-pub before : (R : Agent → Agent → Type 0) (xs ys : List Agent) → AllRelated R xs ys → (place : ℕ) (b : Agent) → slice_get ys place ≡ Some b → Before R xs place b
-before R xs ys k place b e = by (slice_get xs place) (slice_get ys place) refl e (k place)
+pub before : (R : Agent → Agent → Type 0) (xs ys : List Agent) → AllRelated R xs ys → (id : ℕ) (b : Agent) → slice_get ys id ≡ Some b → Before R xs id b
+before R xs ys k id b e = by (slice_get xs id) (slice_get ys id) refl e (k id)
   where
-    by : (m n : Option Agent) → slice_get xs place ≡ m → n ≡ Some b → Related R m n → Before R xs place b
+    by : (m n : Option Agent) → slice_get xs id ≡ m → n ≡ Some b → Related R m n → Before R xs id b
     by None None f e h = cc
     by None (Some c) f e h = absurd h
     by (Some a) None f e h = absurd h

@@ -9,17 +9,17 @@ use Rattle.std.proofs.lemmas.List.Elements.{All-map, All-weaker}
 use Rattle.smp_bytes.specs.declared.node_type.NodeType.{NodeType}
 use Rattle.smp_bytes.specs.declared.node_type.NodeType.TheVariants.{ChannelAdapter, Switch, Router}
 use Rattle.smp_bytes.specs.NodeType as types
-use Rattle.smp_bytes.specs.declared.cable.NodePort.{NodePort}
-use Rattle.smp_bytes.specs.declared.cable.Cable.{Cable}
-use Rattle.smp_bytes.specs.Cables.{is_same_port, other_end}
-use Rattle.smp_bytes.proofs.Cabled.{same_port-is, same_port-refl}
+use Rattle.fabric_model.specs.declared.cable.NodePort.{NodePort}
+use Rattle.fabric_model.specs.declared.cable.Cable.{Cable}
+use Rattle.fabric_model.specs.Cables.{is_same_port, other_end}
+use Rattle.fabric_model.proofs.Cabled.{same_port-is, same_port-refl}
 use Rattle.attr_codec.specs.declared.port_state.PortState.TheVariants.{Down}
 use Rattle.topo_file.specs.declared.node.Node.{Node}
 use Rattle.topo_file.specs.Topology.{Layout, IsTopology, IsNode, IsOfKind, IsPortIn, IsLinkIn, AreApart}
 use Rattle.node_agents.specs.Agent.{Agent, IsAgent, IsAgentNode, fresh_agent, has_seat, state_at, port_in}
 use Rattle.node_agents.proofs.Made.{agents_are_made}
 use Rattle.fabric_sim.specs.Simulation.{Simulation, IsSimulation, across, has_cable_port}
-use Rattle.fabric_sim.specs.Changes.{joined}
+use Rattle.fabric_sim.specs.Changes.{cabled_at}
 use Rattle.fabric_sim.specs.Build.{agent_node, new_agent, no_peers, uncabled, cabled}
 use Rattle.fabric_sim.proofs.AgentLists.{cable_ports_stay}
 use Rattle.fabric_sim.proofs.PeerLists.{same_or_apart}
@@ -73,28 +73,28 @@ is_down node (suc port) h = ap (λ p. p.state) (all-same node.ports port (port_i
 pub across_none : (nodes : List Node) (p : NodePort) → across (map no_peers nodes) p ≡ None
 across_none nodes p = by nodes p.node
   where
-    by : (nodes : List Node) (place : ℕ) → get_or (get_or (map no_peers nodes) place []) p.port None ≡ None
-    by [] place = refl
+    by : (nodes : List Node) (id : ℕ) → get_or (get_or (map no_peers nodes) id []) p.port None ≡ None
+    by [] id = refl
     by (node ∷ nodes) zero = all-same (node.ports + 1) p.port None
-    by (node ∷ nodes) (suc place) = by nodes place
+    by (node ∷ nodes) (suc id) = by nodes id
 
--- the agent at a place is a node's
-pub record OfNode (nodes : List Node) (place : ℕ) (a : Agent) : Type 0 where
+-- the agent of an id is a node's
+pub record OfNode (nodes : List Node) (id : ℕ) (a : Agent) : Type 0 where
   pub node : Node
-  pub there : slice_get nodes place ≡ Some node
+  pub there : slice_get nodes id ≡ Some node
   pub agent : new_agent node ≡ a
 
-of_node : (nodes : List Node) (place : ℕ) (a : Agent) → slice_get (map new_agent nodes) place ≡ Some a → OfNode nodes place a
-of_node nodes place a e = by (slice_get nodes place) refl (sym (slice_get-map new_agent nodes place) ∙ e)
+of_node : (nodes : List Node) (id : ℕ) (a : Agent) → slice_get (map new_agent nodes) id ≡ Some a → OfNode nodes id a
+of_node nodes id a e = by (slice_get nodes id) refl (sym (slice_get-map new_agent nodes id) ∙ e)
   where
-    by : (m : Option Node) → slice_get nodes place ≡ m → option_map new_agent m ≡ Some a → OfNode nodes place a
+    by : (m : Option Node) → slice_get nodes id ≡ m → option_map new_agent m ≡ Some a → OfNode nodes id a
     by None f h = cc
     by (Some node) f h = record { node = node; there = f; agent = cc }
 
-list-at : (nodes : List Node) (place : ℕ) (node : Node) → slice_get nodes place ≡ Some node → length (get_or (map no_peers nodes) place []) ≡ node.ports + 1
-list-at [] place node e = cc
+list-at : (nodes : List Node) (id : ℕ) (node : Node) → slice_get nodes id ≡ Some node → length (get_or (map no_peers nodes) id []) ≡ node.ports + 1
+list-at [] id node e = cc
 list-at (x ∷ xs) zero node e = let same : x ≡ node = cc in length-replicate (x.ports + 1) None ∙ ap (λ n. n.ports + 1) same
-list-at (x ∷ xs) (suc place) node e = list-at xs place node e
+list-at (x ∷ xs) (suc id) node e = list-at xs id node e
 
 pub uncabled_is : (nodes : List Node) (first : ℕ) → length nodes ≤ 1024 → All IsNode nodes → first < 2 ^ 64 → IsSimulation (uncabled nodes first)
 uncabled_is nodes first few all fits =
@@ -104,8 +104,8 @@ uncabled_is nodes first few all fits =
       seats = λ p h. nobody-sits p h;
       cables = record {
         lists = length-map nodes no_peers ∙ sym (length-map nodes new_agent);
-        fit = λ place a e. let of = of_node nodes place a e in
-            list-at nodes place of.node of.there ∙ (sym (ap (λ n. n.ports + 1) (node_of_new of.node)) ∙ ap (λ a. a.node.ports + 1) of.agent);
+        fit = λ id a e. let of = of_node nodes id a e in
+            list-at nodes id of.node of.there ∙ (sym (ap (λ n. n.ports + 1) (node_of_new of.node)) ∙ ap (λ a. a.node.ports + 1) of.agent);
         ends = λ p q e. let none = across_none nodes p in cc;
         lead_back = λ p q e. let none = across_none nodes p in cc;
         down = λ p a e port. let of = of_node nodes p.node a e in
@@ -133,9 +133,9 @@ link_port nodes p is =
 
 -- one link more ---------------------------------------------------------------------------
 
-pub cabled-append : (links : List Cable) (link : Cable) (s : Simulation) → cabled (links ++ link ∷ []) s ≡ joined (cabled links s) link.one link.other
+pub cabled-append : (links : List Cable) (link : Cable) (s : Simulation) → cabled (links ++ link ∷ []) s ≡ cabled_at (cabled links s) link.one link.other
 cabled-append [] link s = refl
-cabled-append (l ∷ links) link s = cabled-append links link (joined s l.one l.other)
+cabled-append (l ∷ links) link s = cabled-append links link (cabled_at s l.one l.other)
 
 -- no link is in a port from which each is apart
 pub free : (links : List Cable) (p : NodePort) → All (λ l. (l.one ≢ p) × (l.other ≢ p)) links → other_end links p ≡ None
@@ -177,18 +177,18 @@ keep (Some q) = refl
 -- the cables with a link more
 pub link_added : (links : List Cable) (link : Cable) (s : Simulation) → IsSimulation s → has_cable_port s.agents link.one ≡ true → has_cable_port s.agents link.other ≡ true
     → other_end links link.one ≡ None → other_end links link.other ≡ None
-    → ((r : NodePort) → across s.peers r ≡ other_end links r) → (r : NodePort) → across (joined s link.one link.other).peers r ≡ other_end (links ++ link ∷ []) r
-unfolding joined
+    → ((r : NodePort) → across s.peers r ≡ other_end links r) → (r : NodePort) → across (cabled_at s link.one link.other).peers r ≡ other_end (links ++ link ∷ []) r
+unfolding cabled_at
 link_added links link s is hp hq free_p free_q cables r =
     let p : NodePort = link.one in
     let q : NodePort = link.other in
     let ends : Ends s p q true (Some q) (Some p) = joined_ends s p q hp hq in
     elim (same_or_apart p r) [
-      | inl e ↦ subst (λ r. across (joined s p q).peers r ≡ other_end (links ++ link ∷ []) r) e
+      | inl e ↦ subst (λ r. across (cabled_at s p q).peers r ≡ other_end (links ++ link ∷ []) r) e
           (across_p s is p q true (Some q) (Some p) ends
           ∙ sym (other_end-append links link p None free_p ∙ cond-true _ _ _ (same_port-refl p)))
       | inr np ↦ elim (same_or_apart q r) [
-        | inl e ↦ subst (λ r. p ≢ r → across (joined s p q).peers r ≡ other_end (links ++ link ∷ []) r) e
+        | inl e ↦ subst (λ r. p ≢ r → across (cabled_at s p q).peers r ≡ other_end (links ++ link ∷ []) r) e
             (λ np. across_q s is p q true (Some q) (Some p) ends
             ∙ sym (other_end-append links link q None free_q ∙ (cond-false _ _ _ (not_port p q np) ∙ cond-true _ _ _ (same_port-refl q)))) np
         | inr nq ↦ across_other s is p q true (Some q) (Some p) ends r np nq
@@ -198,8 +198,8 @@ link_added links link s is hp hq free_p free_q cables r =
     ]
 
 -- the ports into which a cable can go stay
-pub joined_ports : (s : Simulation) (p q : NodePort) → IsSimulation s → has_cable_port s.agents p ≡ true → has_cable_port s.agents q ≡ true → (r : NodePort) → has_cable_port (joined s p q).agents r ≡ has_cable_port s.agents r
-unfolding joined
+pub joined_ports : (s : Simulation) (p q : NodePort) → IsSimulation s → has_cable_port s.agents p ≡ true → has_cable_port s.agents q ≡ true → (r : NodePort) → has_cable_port (cabled_at s p q).agents r ≡ has_cable_port s.agents r
+unfolding cabled_at
 joined_ports s p q is hp hq r = cable_ports_stay s.agents _ (keeps_both s is p q true (Some q) (Some p) (joined_ends s p q hp hq)) r
 
 -- a link of a topology is in ports that no earlier one is in
@@ -269,14 +269,14 @@ module _ (t : Layout) (first i : ℕ) (s : Simulation) (link : Cable) (so_far : 
   pub one_left : i < length t.links
   one_left = slice_get_within t.links i link (sym at)
 
-  pub links_in_more : (u : Simulation) → u ≡ joined s link.one link.other → LinksIn t first (i + 1) u
+  pub links_in_more : (u : Simulation) → u ≡ cabled_at s link.one link.other → LinksIn t first (i + 1) u
   links_in_more u e =
       let left : i < length t.links = one_left in
       record {
         topology = so_far.topology;
         within = omega arith;
         valid = subst IsSimulation (sym e) (joined_is s link.one link.other so_far.valid one_port other_port one_free other_free);
-        built = e ∙ (ap (λ w. joined w link.one link.other) so_far.built
+        built = e ∙ (ap (λ w. cabled_at w link.one link.other) so_far.built
             ∙ (sym (cabled-append (take i t.links) link (uncabled t.nodes first)) ∙ ap (λ ls. cabled ls (uncabled t.nodes first)) (sym next.more)));
         ports = λ p. ap (λ (w : Simulation). has_cable_port w.agents p) e ∙ (joined_ports s link.one link.other so_far.valid one_port other_port p ∙ so_far.ports p);
         cables = λ p. ap (λ (w : Simulation). across w.peers p) e

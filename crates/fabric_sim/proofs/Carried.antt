@@ -4,7 +4,7 @@ use Rattle.std.proofs.lemmas.Bool.{and_parts, and_from, leb-true, le-leb}
 use Rattle.std.proofs.lemmas.Option.{same_Some, slice_get-map}
 use Rattle.std.specs.Prelude.{Option, Some, None, option_map, slice_get, nat_le, ◌==◌, ◌||◌}
 use Rattle.std.specs.Option.{option_map_or}
-use Rattle.smp_bytes.specs.declared.cable.NodePort.{NodePort}
+use Rattle.fabric_model.specs.declared.cable.NodePort.{NodePort}
 use Rattle.smp_bytes.specs.Header.{port_info}
 use Rattle.smp_bytes.specs.Field.{number_in, bits_in, bytes_in}
 use Rattle.smp_bytes.specs.Packet.{attribute_id, attribute_modifier, attribute_data}
@@ -15,7 +15,7 @@ use Rattle.attr_codec.specs.PortInfo.{port_state, number_of_state}
 use Rattle.node_agents.specs.declared.agent_node.AgentNode.{AgentNode}
 use Rattle.node_agents.specs.Agent.{Agent, IsAgent, is_switch, node_of, state_at}
 use Rattle.node_agents.specs.PortInfo.{port_meant}
-use Rattle.node_agents.specs.Answers.{answered}
+use Rattle.node_agents.specs.Answers.{after_answer}
 use Rattle.node_agents.specs.AnswerLaws as agents
 use Rattle.node_agents.specs.AnswerLaws.{IsPacket}
 use Rattle.node_agents.proofs.Says.{answers_say}
@@ -34,18 +34,18 @@ use Rattle.fabric_sim.proofs.TripsOut.{IsPortOf}
 -- what an agent says is so of the fabric -------------------------------------------------------
 
 -- the node of an agent is that of the fabric at the beginning
-node_there : {start s : Simulation} → IsAlong start s → (place : ℕ) (a : Agent) → agent_at s place ≡ Some a
-    → (b : Agent) × (agent_at start place ≡ Some b) × (b.node ≡ a.node)
-node_there {start = start} {s = s} along place a there = by_start (slice_get start.agents place) refl
+node_there : {start s : Simulation} → IsAlong start s → (id : ℕ) (a : Agent) → agent_at s id ≡ Some a
+    → (b : Agent) × (agent_at start id ≡ Some b) × (b.node ≡ a.node)
+node_there {start = start} {s = s} along id a there = by_start (slice_get start.agents id) refl
   where
-    named : option_map (λ (x : Agent). x.node) (slice_get start.agents place) ≡ Some a.node
+    named : option_map (λ (x : Agent). x.node) (slice_get start.agents id) ≡ Some a.node
     named =
-        sym (slice_get-map (λ (x : Agent). x.node) start.agents place)
-        ∙ ap (λ ns. slice_get ns place) (sym along.nodes)
-        ∙ slice_get-map (λ (x : Agent). x.node) s.agents place
+        sym (slice_get-map (λ (x : Agent). x.node) start.agents id)
+        ∙ ap (λ ns. slice_get ns id) (sym along.nodes)
+        ∙ slice_get-map (λ (x : Agent). x.node) s.agents id
         ∙ ap (option_map (λ (x : Agent). x.node)) there
 
-    by_start : (m : Option Agent) → slice_get start.agents place ≡ m → (b : Agent) × (agent_at start place ≡ Some b) × (b.node ≡ a.node)
+    by_start : (m : Option Agent) → slice_get start.agents id ≡ m → (b : Agent) × (agent_at start id ≡ Some b) × (b.node ≡ a.node)
     by_start None e = absurd (cc (sym (ap (option_map (λ (x : Agent). x.node)) e) ∙ named))
     by_start (Some b) e = (b, e, same_Some b.node a.node (sym (ap (option_map (λ (x : Agent). x.node)) e) ∙ named))
 
@@ -157,17 +157,17 @@ module _ {start s : Simulation} (along : IsAlong start s) (is : IsSimulation s) 
 
 -- the agent's answer to a request that came to the end of its path
 pub agents_say : {start s : Simulation} → IsAlong start s → IsSimulation s → (n : ℕ) (flight : Flight) (request : List ℕ) → IsAskedBy s n flight request
-    → (r : IsRequestFor AnySends (SaysSo start) start (port_of flight.place) request)
-    → SaysSo start r.origin (port_of flight.place) (answer_at s (port_of flight.place) request)
+    → (r : IsRequestFor AnySends (SaysSo start) start (port_of flight.whereabouts) request)
+    → SaysSo start r.origin (port_of flight.whereabouts) (answer_at s (port_of flight.whereabouts) request)
 agents_say {start = start} {s = s} along is n flight request asked r =
-    subst (SaysSo start r.origin p) (sym (ap (λ o. option_map_or (λ x. (answered x request p.port).packet) o request) a.1))
-    (λ done_is. said_of along is p r.within a.0 a.1 (answered a.0 request p.port).packet
+    subst (SaysSo start r.origin p) (sym (ap (λ o. option_map_or (λ x. (after_answer x request p.port).packet) o request) a.1))
+    (λ done_is. said_of along is p r.within a.0 a.1 (after_answer a.0 request p.port).packet
     (answers_say a.0 request p.port (agent_there s.agents p.node a.0 along.agents a.1) asked.whole (upto along is p r.within a.0 a.1) done_is))
   where
     p : NodePort
-    p = port_of flight.place
+    p = port_of flight.whereabouts
 
-    a : (x : Agent) × (agent_at s (port_of flight.place).node ≡ Some x)
+    a : (x : Agent) × (agent_at s (port_of flight.whereabouts).node ≡ Some x)
     a =
         let parts = and_parts (nat_le 1 p.port) (nat_le p.port (port_count s p.node)) asked.port in
         let from_one : 1 ≤ p.port = leb-true _ _ parts.0 in

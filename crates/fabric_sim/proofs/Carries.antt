@@ -1,14 +1,14 @@
 -- Each call keeps all packets on their courses.
 use Rattle.std.proofs.Common.{◌≡◌, ℕ, ◌≤◌, true}
 use Rattle.std.specs.Prelude.{Ok, Result}
-use Rattle.smp_bytes.specs.declared.cable.NodePort.{NodePort}
+use Rattle.fabric_model.specs.declared.cable.NodePort.{NodePort}
 use Rattle.fabric_sim.specs.declared.packet.Packet.{Packet}
 use Rattle.fabric_sim.specs.declared.fault.FabricFault.{FabricFault}
 use Rattle.fabric_sim.specs.declared.delivered.Delivered.{Delivered}
 use Rattle.fabric_sim.specs.declared.delivered.Delivered.TheVariants as delivered_is
 use Rattle.fabric_sim.specs.Simulation.{Simulation, IsSimulation, AreCables, port_count, is_seat_at}
-use Rattle.fabric_sim.specs.Delivery.{delivered}
-use Rattle.fabric_sim.specs.Changes.{injected, repeated, lost}
+use Rattle.fabric_sim.specs.Delivery.{after_deliver}
+use Rattle.fabric_sim.specs.Changes.{after_inject, after_repeat, after_lose}
 use Rattle.fabric_sim.specs.Calls.{Inject, Deliver, Lose, Repeat}
 use Rattle.fabric_sim.proofs.Carried.{agents_say}
 use Rattle.fabric_sim.proofs.Courses.{AnySends, SaysSo, AreOnCourse, IsOnCourse, IsForManager}
@@ -28,9 +28,9 @@ pub record Carries (start s : Simulation) : Type 0 where
 abbrev pub HandsUpOnCourse : Simulation → Result Delivered FabricFault → Type 0
 HandsUpOnCourse start result = (at : NodePort) (packet : Packet) → result ≡ Ok (delivered_is.ToManager at packet) → IsForManager start at packet.bytes
 
-module _ {start : Simulation} (cables : AreCables start) (counts : (place : ℕ) → port_count start place ≤ 254)
+module _ {start : Simulation} (cables : AreCables start) (counts : (id : ℕ) → port_count start id ≤ 254)
     (s : Simulation) (c : Carries start s) where
-  pub deliveries_carry : (n : ℕ) → Carries start (delivered s n).fabric
+  pub deliveries_carry : (n : ℕ) → Carries start (after_deliver s n).fabric
   deliveries_carry n =
       record {
         along = along_call keep s (Deliver n) c.along;
@@ -38,10 +38,10 @@ module _ {start : Simulation} (cables : AreCables start) (counts : (place : ℕ)
         flights = deliveries_trace AnySends (SaysSo start) cables counts c.along c.is c.flights n (agents_say c.along c.is n);
       }
 
-  pub deliveries_hand_up : (n : ℕ) → HandsUpOnCourse start (delivered s n).result
+  pub deliveries_hand_up : (n : ℕ) → HandsUpOnCourse start (after_deliver s n).result
   deliveries_hand_up n = deliveries_hand_up_traced AnySends (SaysSo start) cables counts c.along c.is c.flights n
 
-  pub injections_carry : (p : NodePort) (packet : Packet) → (is_seat_at s p ≡ true → IsOnCourse start p packet.bytes) → Carries start (injected s p packet).fabric
+  pub injections_carry : (p : NodePort) (packet : Packet) → (is_seat_at s p ≡ true → IsOnCourse start p packet.bytes) → Carries start (after_inject s p packet).fabric
   injections_carry p packet on =
       record {
         along = along_call keep s (Inject p packet) c.along;
@@ -49,7 +49,7 @@ module _ {start : Simulation} (cables : AreCables start) (counts : (place : ℕ)
         flights = injections_trace AnySends (SaysSo start) cables counts c.along c.is c.flights p packet on;
       }
 
-  pub copies_carry : (n : ℕ) → Carries start (repeated s n).fabric
+  pub copies_carry : (n : ℕ) → Carries start (after_repeat s n).fabric
   copies_carry n =
       record {
         along = along_call keep s (Repeat n) c.along;
@@ -57,7 +57,7 @@ module _ {start : Simulation} (cables : AreCables start) (counts : (place : ℕ)
         flights = copies_trace AnySends (SaysSo start) cables counts c.along c.is c.flights n;
       }
 
-  pub losses_carry : (n : ℕ) → Carries start (lost s n).fabric
+  pub losses_carry : (n : ℕ) → Carries start (after_lose s n).fabric
   losses_carry n =
       record {
         along = along_call keep s (Lose n) c.along;

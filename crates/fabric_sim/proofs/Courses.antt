@@ -1,7 +1,7 @@
 -- Packets on directed routes: which path they have come, and from where; and that each answer, where its status is 0, tells what
 -- is so at its path's end.
 use Rattle.std.proofs.Common.{◌≡◌, ℕ, List}
-use Rattle.smp_bytes.specs.declared.cable.NodePort.{NodePort}
+use Rattle.fabric_model.specs.declared.cable.NodePort.{NodePort}
 use Rattle.smp_bytes.specs.Header.{done}
 use Rattle.smp_bytes.specs.Packet.{status}
 use Rattle.fabric_sim.specs.declared.flight.Flight.{Flight}

@@ -4,17 +4,17 @@ use Rattle.std.proofs.lemmas.Bool.{eqb-false}
 use Rattle.std.proofs.lemmas.List.Elements.{All-head, All-tail}
 use Rattle.std.specs.Prelude.{Option, Some, None, All, is_none, is_some, not, ◌==◌, ◌&&◌, ◌||◌, Ok}
 use Rattle.std.specs.Option.{option_map_or}
-use Rattle.smp_bytes.specs.declared.cable.NodePort.{NodePort}
-use Rattle.smp_bytes.specs.declared.course.Course.{Course}
-use Rattle.smp_bytes.specs.declared.course.Course.TheVariants as course_is
+use Rattle.fabric_model.specs.declared.cable.NodePort.{NodePort}
+use Rattle.fabric_model.specs.declared.course.Course.{Course}
+use Rattle.fabric_model.specs.declared.course.Course.TheVariants as course_is
 use Rattle.smp_bytes.specs.Packet.{fault_of, is_directed, is_response}
-use Rattle.smp_bytes.specs.Forwarding.{course}
+use Rattle.fabric_model.specs.Forwarding.{course}
 use Rattle.dr_forward.specs.declared.verdict.Verdict.{Verdict}
 use Rattle.dr_forward.specs.declared.verdict.Verdict.TheVariants.{Out, ToAgent, ToManager, Discard}
 use Rattle.dr_forward.specs.Step.{step}
 use Rattle.fabric_sim.specs.declared.packet.Packet.{Packet}
-use Rattle.fabric_sim.specs.declared.flight.Place.{Place}
-use Rattle.fabric_sim.specs.declared.flight.Place.TheVariants.{Seat, Arrived}
+use Rattle.fabric_sim.specs.declared.flight.Whereabouts.{Whereabouts}
+use Rattle.fabric_sim.specs.declared.flight.Whereabouts.TheVariants.{Seat, Arrived}
 use Rattle.fabric_sim.specs.declared.flight.Flight.{Flight}
 use Rattle.fabric_sim.specs.declared.fault.FabricFault.TheVariants.{NoSuchPacket, NoSuchPort, SerialsSpent}
 use Rattle.fabric_sim.specs.declared.delivered.Delivered.TheVariants.{Answered}
@@ -22,8 +22,8 @@ use Rattle.fabric_sim.specs.declared.delivered.Reason.TheVariants.{Down, Unreada
 use Rattle.fabric_sim.specs.declared.outcome.Outcome.{Outcome}
 use Rattle.fabric_sim.specs.declared.outcome.Outcome.TheVariants.{Moves, Asks, HandsUp, Drops}
 use Rattle.fabric_sim.specs.Simulation.{Simulation, IsSimulation, IsWaiting, CanWait, across, is_seat_at, fabric_of, port_of, is_at_seat, is_by_wire, is_numbered, flight_with}
-use Rattle.fabric_sim.specs.Delivery.{CanFare, carrying, leaving, is_for_manager, here_at, at_agent, by_verdict, directed_outcome, by_course, lid_routed_outcome, outcome_of, refused, with_flight, without, asked, launched, brought, delivered_flight, delivered}
-use Rattle.fabric_sim.specs.Changes.{addressed, injected, copied, repeated, lost}
+use Rattle.fabric_sim.specs.Delivery.{CanFare, carrying, leaving, is_for_manager, here_at, at_agent, by_verdict, directed_outcome, by_course, lid_routed_outcome, outcome_of, refused, with_flight, without, asked, after_enqueue, after_outcome, delivered_flight, after_deliver}
+use Rattle.fabric_sim.specs.Changes.{addressed, after_inject, copied, after_repeat, after_lose}
 use Rattle.fabric_sim.proofs.Invariants.{with_flight_is, without_is, moved_to_is, asked_is}
 
 -- where a packet goes it can wait -------------------------------------------------------------
@@ -57,16 +57,16 @@ module _ (s : Simulation) (is : IsSimulation s) where
   fares_by_course p packet (course_is.LeavesBy out) = leaves out packet
   fares_by_course p packet course_is.Drops = tt
 
-  pub fares : (place : Place) (packet : Packet) → CanFare s (outcome_of s place packet)
+  pub fares : (whereabouts : Whereabouts) (packet : Packet) → CanFare s (outcome_of s whereabouts packet)
   unfolding outcome_of
-  fares place packet =
-      let p = port_of place in
+  fares whereabouts packet =
+      let p = port_of whereabouts in
       let stepped = step (here_at s p) packet.bytes in
       both (is_some (fault_of packet.bytes)) (Drops Unreadable) _ tt
-      (both (not (is_at_seat place) && is_none (across s.peers p)) (Drops Down) _ tt
-      (both (is_directed packet.bytes) (directed_outcome s p packet) (lid_routed_outcome s place packet)
+      (both (not (is_at_seat whereabouts) && is_none (across s.peers p)) (Drops Down) _ tt
+      (both (is_directed packet.bytes) (directed_outcome s p packet) (lid_routed_outcome s whereabouts packet)
       (fares_by_verdict p (carrying packet stepped.packet) stepped.verdict)
-      (fares_by_course p packet (course (fabric_of s) packet.dlid (record { place = p; by_wire = is_by_wire place })))))
+      (fares_by_course p packet (course (fabric_of s) packet.dlid (record { at = p; by_wire = is_by_wire whereabouts })))))
 
 -- calls ---------------------------------------------------------------------------------------
 
@@ -83,8 +83,8 @@ module _ (s : Simulation) (is : IsSimulation s) where
   left : (s.next == 2 ^ 64) ≡ false → s.next < 2 ^ 64
   left e = omega (arith, is.next, eqb-false s.next (2 ^ 64) e)
 
-  brought_is : (flight : Flight) (o : Outcome) → CanWait s flight.place → CanFare s o → IsSimulation (brought s flight o).fabric
-  brought_is flight (Moves place packet) waits can = moved_to_is s flight.serial place packet is can
+  brought_is : (flight : Flight) (o : Outcome) → CanWait s flight.whereabouts → CanFare s o → IsSimulation (after_outcome s flight o).fabric
+  brought_is flight (Moves whereabouts packet) waits can = moved_to_is s flight.serial whereabouts packet is can
   brought_is flight (Asks request slid dlid) waits can = by_serial (s.next == 2 ^ 64) refl
     where
       by_serial : (b : Bool) → (s.next == 2 ^ 64) ≡ b
@@ -94,42 +94,42 @@ module _ (s : Simulation) (is : IsSimulation s) where
   brought_is flight (HandsUp packet) waits can = without_is s flight.serial is
   brought_is flight (Drops reason) waits can = without_is s flight.serial is
 
-  pub delivered_is : (serial : ℕ) → IsSimulation (delivered s serial).fabric
-  unfolding delivered
+  pub delivered_is : (serial : ℕ) → IsSimulation (after_deliver s serial).fabric
+  unfolding after_deliver
   delivered_is serial = by_flight (flight_with s.flights serial) refl
     where
       by_flight : (o : Option Flight) → flight_with s.flights serial ≡ o → IsSimulation (delivered_flight s o).fabric
       by_flight None e = is
       by_flight (Some flight) e =
-          brought_is flight (outcome_of s flight.place flight.packet) (found_waits s s.flights serial flight is.waiting e).place
-          (fares s is flight.place flight.packet)
+          brought_is flight (outcome_of s flight.whereabouts flight.packet) (found_waits s s.flights serial flight is.waiting e).whereabouts
+          (fares s is flight.whereabouts flight.packet)
 
-  launched_is : (place : Place) (packet : Packet) → CanWait s place → IsSimulation (launched s place packet).fabric
-  launched_is place packet can = by_serial (s.next == 2 ^ 64) refl
+  launched_is : (whereabouts : Whereabouts) (packet : Packet) → CanWait s whereabouts → IsSimulation (after_enqueue s whereabouts packet).fabric
+  launched_is whereabouts packet can = by_serial (s.next == 2 ^ 64) refl
     where
       by_serial : (b : Bool) → (s.next == 2 ^ 64) ≡ b
-          → IsSimulation (cond b (refused s SerialsSpent) (record { fabric = with_flight s place packet; result = Ok s.next })).fabric
+          → IsSimulation (cond b (refused s SerialsSpent) (record { fabric = with_flight s whereabouts packet; result = Ok s.next })).fabric
       by_serial true e = is
-      by_serial false e = with_flight_is s place packet is can (left e)
+      by_serial false e = with_flight_is s whereabouts packet is can (left e)
 
-  pub injected_is : (p : NodePort) (packet : Packet) → IsSimulation (injected s p packet).fabric
-  unfolding injected
+  pub injected_is : (p : NodePort) (packet : Packet) → IsSimulation (after_inject s p packet).fabric
+  unfolding after_inject
   injected_is p packet = by_seat (is_seat_at s p) refl
     where
-      by_seat : (b : Bool) → is_seat_at s p ≡ b → IsSimulation (cond (not b) (refused s NoSuchPort) (launched s (Seat p) (addressed s p packet))).fabric
+      by_seat : (b : Bool) → is_seat_at s p ≡ b → IsSimulation (cond (not b) (refused s NoSuchPort) (after_enqueue s (Seat p) (addressed s p packet))).fabric
       by_seat false e = is
       by_seat true e = launched_is (Seat p) (addressed s p packet) (record { port = is.seats p e; seat = λ h. e })
 
-  pub repeated_is : (serial : ℕ) → IsSimulation (repeated s serial).fabric
-  unfolding repeated
+  pub repeated_is : (serial : ℕ) → IsSimulation (after_repeat s serial).fabric
+  unfolding after_repeat
   repeated_is serial = by_flight (flight_with s.flights serial) refl
     where
       by_flight : (o : Option Flight) → flight_with s.flights serial ≡ o → IsSimulation (copied s o).fabric
       by_flight None e = is
-      by_flight (Some flight) e = launched_is flight.place flight.packet (found_waits s s.flights serial flight is.waiting e).place
+      by_flight (Some flight) e = launched_is flight.whereabouts flight.packet (found_waits s s.flights serial flight is.waiting e).whereabouts
 
-  pub lost_is : (serial : ℕ) → IsSimulation (lost s serial).fabric
-  unfolding lost
+  pub lost_is : (serial : ℕ) → IsSimulation (after_lose s serial).fabric
+  unfolding after_lose
   lost_is serial = by_flight (is_none (flight_with s.flights serial))
     where
       by_flight : (b : Bool) → IsSimulation (cond b (refused {R = Unit {0}} s NoSuchPacket) (record { fabric = without s serial; result = Ok tt })).fabric

@@ -3,8 +3,8 @@ use Rattle.std.proofs.Common.{◌≡◌, ◌≢◌, ℕ, ◌<◌, ◌⊎◌, inl
 use Rattle.std.specs.Prelude.{Option, None}
 use Rattle.std.proofs.lemmas.Bool.{cases_lt, cases_eq}
 use Rattle.std.proofs.lemmas.List.{get_or_past, set_past}
-use Rattle.smp_bytes.specs.declared.cable.NodePort.{NodePort}
-use Rattle.fabric_sim.specs.Simulation.{across, HasPeerPlace}
+use Rattle.fabric_model.specs.declared.cable.NodePort.{NodePort}
+use Rattle.fabric_sim.specs.Simulation.{across, HasPeerSlot}
 use Rattle.fabric_sim.specs.Changes.{with_peer}
 
 -- two ports are the same, or not
@@ -28,20 +28,20 @@ ports_differ p q ne n m = elim (same_or_apart p q) [ inl e ↦ ne e | inr k ↦ 
     at : (x y : ℕ) → x ≡ y → (u v : ℕ) → u ≡ v → ◌≡◌ {A = NodePort} (record { node = x; port = u }) (record { node = y; port = v })
     at x y e u v f = cc
 
--- a node with a place for a port has a list
-pub has_list : (peers : List (List (Option NodePort))) (p : NodePort) → HasPeerPlace peers p → p.node < length peers
-has_list peers p place =
+-- a node with a slot for a port has a list
+pub has_list : (peers : List (List (Option NodePort))) (p : NodePort) → HasPeerSlot peers p → p.node < length peers
+has_list peers p slot =
     elim (cases_lt p.node (length peers)) [
       | inl lt ↦ lt
       | inr ge ↦ let none : length (get_or peers p.node []) ≡ 0 = ap length (get_or_past peers p.node [] ge) in absurd (omega arith)
     ]
 
 -- what was written is read
-pub across_here : (peers : List (List (Option NodePort))) (p : NodePort) (other : Option NodePort) → HasPeerPlace peers p → across (with_peer peers p other) p ≡ other
-across_here peers p other place =
+pub across_here : (peers : List (List (Option NodePort))) (p : NodePort) (other : Option NodePort) → HasPeerSlot peers p → across (with_peer peers p other) p ≡ other
+across_here peers p other slot =
     let row : List (Option NodePort) = set (get_or peers p.node []) p.port other in
-    ap (λ xs. get_or xs p.port None) (get_or-set_same peers p.node row [] (has_list peers p place))
-    ∙ get_or-set_same (get_or peers p.node []) p.port other None place
+    ap (λ xs. get_or xs p.port None) (get_or-set_same peers p.node row [] (has_list peers p slot))
+    ∙ get_or-set_same (get_or peers p.node []) p.port other None slot
 
 -- at any other port it is as it was
 pub across_apart : (peers : List (List (Option NodePort))) (p q : NodePort) (other : Option NodePort) → p ≢ q → across (with_peer peers p other) q ≡ across peers q
@@ -75,6 +75,6 @@ length-row peers p other node =
 pub length-with_peer : (peers : List (List (Option NodePort))) (p : NodePort) (other : Option NodePort) → length (with_peer peers p other) ≡ length peers
 length-with_peer peers p other = length-set peers p.node (set (get_or peers p.node []) p.port other)
 
--- a place stays
-pub has_place_after : (peers : List (List (Option NodePort))) (p q : NodePort) (other : Option NodePort) → HasPeerPlace peers q → HasPeerPlace (with_peer peers p other) q
-has_place_after peers p q other place = let n = length-row peers p other q.node in omega arith
+-- a slot stays
+pub has_slot_after : (peers : List (List (Option NodePort))) (p q : NodePort) (other : Option NodePort) → HasPeerSlot peers q → HasPeerSlot (with_peer peers p other) q
+has_slot_after peers p q other slot = let n = length-row peers p other q.node in omega arith

@@ -1,11 +1,11 @@
 -- A ping finds the port at which a packet is delivered.
 use Rattle.std.proofs.Common.{◌≡◌, ℕ, zero, suc, ◌+◌, ◌<◌, List, [], ◌∷◌, length, arith, ap, ◌∙◌}
 use Rattle.std.specs.Option.{option_map_or}
-use Rattle.smp_bytes.specs.declared.cable.NodePort.{NodePort}
-use Rattle.smp_bytes.specs.declared.course.Course.TheVariants.{Delivers}
-use Rattle.smp_bytes.specs.Fabric.{Fabric}
-use Rattle.smp_bytes.specs.Forwarding.{Standing, Hop, Goes, sent_from, arrived_at, course, wire_bound}
-use Rattle.smp_bytes.proofs.Forwarded.{few_wires_in_all}
+use Rattle.fabric_model.specs.declared.cable.NodePort.{NodePort}
+use Rattle.fabric_model.specs.declared.course.Course.TheVariants.{Delivers}
+use Rattle.fabric_model.specs.Fabric.{Fabric}
+use Rattle.fabric_model.specs.Forwarding.{Standing, Hop, Goes, sent_from, arrived_at, course, wire_bound}
+use Rattle.fabric_model.proofs.Forwarded.{few_wires_in_all}
 use Rattle.fabric_sim.specs.declared.ping.Ping.{Ping}
 use Rattle.fabric_sim.specs.declared.ping.Ping.TheVariants.{Reached, Lost}
 use Rattle.fabric_sim.specs.Ping.{ping_on, ping_by, PingsFind}
@@ -20,7 +20,7 @@ module _ (f : Fabric) (lid : ℕ) (end : Standing) (target : NodePort) (delivers
   found_on (h ∷ hops) s (suc left) n few (leaves, wire, goes) =
       let next : NodePort → Ping = λ into. ping_on f lid left (n + 1) (arrived_at into) in
       ap (ping_by f s n next) leaves
-      ∙ ap (λ m. option_map_or next m (Lost s.place.node)) wire
+      ∙ ap (λ m. option_map_or next m (Lost s.at.node)) wire
       ∙ found_on hops (arrived_at h.into) left (n + 1) (omega (arith, few)) goes
       ∙ ap (λ m. Reached target m) (omega arith)
 

@@ -3,15 +3,15 @@ use Rattle.std.proofs.Common.{◌≡◌, ◌≢◌, ℕ, ◌+◌, ◌≤◌, ◌
 use Rattle.std.specs.Prelude.{Option, Some, None, All, slice_get, slice_set}
 use Rattle.std.specs.Option.{option_map_or}
 use Rattle.std.proofs.lemmas.Bool.{cases_eq}
-use Rattle.smp_bytes.specs.declared.cable.NodePort.{NodePort}
+use Rattle.fabric_model.specs.declared.cable.NodePort.{NodePort}
 use Rattle.attr_codec.specs.declared.port_state.PortState.{PortState}
 use Rattle.attr_codec.specs.declared.port_state.PortState.TheVariants.{Down}
-use Rattle.node_agents.specs.Agent.{Agent, IsAgent, state_at, wired}
-use Rattle.fabric_sim.specs.Simulation.{Simulation, IsSimulation, HasPeerPlace, across, has_cable_port}
+use Rattle.node_agents.specs.Agent.{Agent, IsAgent, state_at, after_set_wired}
+use Rattle.fabric_sim.specs.Simulation.{Simulation, IsSimulation, HasPeerSlot, across, has_cable_port}
 use Rattle.fabric_sim.specs.Delivery.{with_changed}
-use Rattle.fabric_sim.specs.Changes.{with_peer, joined, parted}
-use Rattle.fabric_sim.proofs.AgentLists.{AllRelated, Related, KeepsSeats, at_agent, all_at, length-changed, all_changed, related_changed, keeps_seats_same, changed_at_place, others_stay, cable_ports_stay, NoNewSeats, no_new_seats_same, seats_before}
-use Rattle.fabric_sim.proofs.PeerLists.{same_or_apart, ports_differ, across_here, across_apart, length-row, length-with_peer, has_place_after}
+use Rattle.fabric_sim.specs.Changes.{with_peer, cabled_at, uncabled_at}
+use Rattle.fabric_sim.proofs.AgentLists.{AllRelated, Related, KeepsSeats, at_agent, all_at, length-changed, all_changed, related_changed, keeps_seats_same, changed_at_id, others_stay, cable_ports_stay, NoNewSeats, no_new_seats_same, seats_before}
+use Rattle.fabric_sim.proofs.PeerLists.{same_or_apart, ports_differ, across_here, across_apart, length-row, length-with_peer, has_slot_after}
 use Rattle.fabric_sim.proofs.PortChanges.{state_by, keeps_seats-wired, no_new_seats-wired, state-wired, state-wired_other, is_agent-wired}
 use Rattle.fabric_sim.proofs.Invariants.{recabled}
 
@@ -23,18 +23,18 @@ state_of agents p = option_map_or (λ a. state_at a p.port) (slice_get agents p.
 
 -- the agents with a port wired, or with its wire taken away
 abbrev pub wired_at : List Agent → NodePort → Bool → List Agent
-wired_at agents p b = with_changed agents p.node (λ a. wired a p.port b)
+wired_at agents p b = with_changed agents p.node (λ a. after_set_wired a p.port b)
 
 pub keeps_wired : (agents : List Agent) (p : NodePort) (b : Bool) → AllRelated KeepsSeats agents (wired_at agents p b)
-keeps_wired agents p b = related_changed KeepsSeats keeps_seats_same agents p.node (λ a. wired a p.port b) (λ a e. keeps_seats-wired a p.port b)
+keeps_wired agents p b = related_changed KeepsSeats keeps_seats_same agents p.node (λ a. after_set_wired a p.port b) (λ a e. keeps_seats-wired a p.port b)
 
 no-new : (agents : List Agent) (p : NodePort) (b : Bool) → AllRelated NoNewSeats agents (wired_at agents p b)
-no-new agents p b = related_changed NoNewSeats no_new_seats_same agents p.node (λ a. wired a p.port b) (λ a e. no_new_seats-wired a p.port b)
+no-new agents p b = related_changed NoNewSeats no_new_seats_same agents p.node (λ a. after_set_wired a p.port b) (λ a e. no_new_seats-wired a p.port b)
 
 all-wired : (agents : List Agent) (p : NodePort) (b : Bool) → has_cable_port agents p ≡ true → All IsAgent agents → All IsAgent (wired_at agents p b)
 all-wired agents p b port all =
     let at = at_agent agents p port in
-    all_changed IsAgent agents p.node (λ a. wired a p.port b) all (λ a e h. is_agent-wired a p.port b at.least h)
+    all_changed IsAgent agents p.node (λ a. after_set_wired a p.port b) all (λ a e h. is_agent-wired a p.port b at.least h)
 
 state-here : (agents : List Agent) (p : NodePort) (b : Bool) → All IsAgent agents → has_cable_port agents p ≡ true → state_of (wired_at agents p b) p ≡ state_by b
 state-here agents p b all port =
@@ -42,7 +42,7 @@ state-here agents p b all port =
     let is : IsAgent at.agent = all_at IsAgent agents p.node at.agent all at.there in
     let count : length at.agent.ports ≡ at.agent.node.ports + 1 = is.count in
     let most : p.port ≤ at.agent.node.ports = at.most in
-    ap (λ m. option_map_or (λ a. state_at a p.port) m Down) (changed_at_place agents p.node at.agent (λ a. wired a p.port b) at.there)
+    ap (λ m. option_map_or (λ a. state_at a p.port) m Down) (changed_at_id agents p.node at.agent (λ a. after_set_wired a p.port b) at.there)
     ∙ state-wired at.agent p.port b (omega arith)
 
 -- at another port of the node
@@ -51,23 +51,23 @@ state-beside agents p port b ne = by (slice_get agents p.node) refl
   where
     by : (m : Option Agent) → slice_get agents p.node ≡ m → state_of (wired_at agents p b) (record { node = p.node; port = port }) ≡ state_of agents (record { node = p.node; port = port })
     by None e =
-        let unchanged : wired_at agents p b ≡ agents = ap (λ m. option_map_or (λ a. slice_set agents p.node (wired a p.port b)) m agents) e in
+        let unchanged : wired_at agents p b ≡ agents = ap (λ m. option_map_or (λ a. slice_set agents p.node (after_set_wired a p.port b)) m agents) e in
         ap (λ xs. state_of xs (record { node = p.node; port = port })) unchanged
     by (Some a) e =
-        ap (λ m. option_map_or (λ a. state_at a port) m Down) (changed_at_place agents p.node a (λ a. wired a p.port b) e)
+        ap (λ m. option_map_or (λ a. state_at a port) m Down) (changed_at_id agents p.node a (λ a. after_set_wired a p.port b) e)
         ∙ (state-wired_other a p.port port b ne ∙ sym (ap (λ m. option_map_or (λ a. state_at a port) m Down) e))
 
 state-apart : (agents : List Agent) (p q : NodePort) (b : Bool) → p ≢ q → state_of (wired_at agents p b) q ≡ state_of agents q
 state-apart agents p q b ne =
     elim (cases_eq p.node q.node) [
-      | inr n ↦ ap (λ m. option_map_or (λ a. state_at a q.port) m Down) (others_stay agents p.node q.node (λ a. wired a p.port b) n)
+      | inr n ↦ ap (λ m. option_map_or (λ a. state_at a q.port) m Down) (others_stay agents p.node q.node (λ a. after_set_wired a p.port b) n)
       | inl n ↦ subst (λ k. state_of (wired_at agents p b) (record { node = k; port = q.port }) ≡ state_of agents (record { node = k; port = q.port })) n
           (state-beside agents p q.port b (λ m. ports_differ p q ne n (sym m)))
     ]
 
--- a cable port has a place for its other end
-pub place_of : (s : Simulation) (r : NodePort) → IsSimulation s → has_cable_port s.agents r ≡ true → HasPeerPlace s.peers r
-place_of s r is port =
+-- a cable port has a slot for its other end
+pub peer_slot : (s : Simulation) (r : NodePort) → IsSimulation s → has_cable_port s.agents r ≡ true → HasPeerSlot s.peers r
+peer_slot s r is port =
     let at = at_agent s.agents r port in
     let fit : length (get_or s.peers r.node []) ≡ at.agent.node.ports + 1 = is.cables.fit r.node at.agent at.there in
     let most : r.port ≤ at.agent.node.ports = at.most in
@@ -94,13 +94,13 @@ module _ (s : Simulation) (is : IsSimulation s) (p q : NodePort) (b : Bool) (at_
   q_port_then = cable_ports_stay s.agents (wired_at s.agents p b) (keeps_wired s.agents p b) q ∙ ends.q_port
 
   pub across_q : across peers_now q ≡ at_q
-  across_q = across_here (with_peer s.peers p at_p) q at_q (has_place_after s.peers p q at_p (place_of s q is ends.q_port))
+  across_q = across_here (with_peer s.peers p at_p) q at_q (has_slot_after s.peers p q at_p (peer_slot s q is ends.q_port))
 
   pub across_p : across peers_now p ≡ at_p
   across_p =
       elim (same_or_apart p q) [
         | inl e ↦ subst (λ r. across peers_now r ≡ at_p) (sym e) (across_q ∙ ends.loop e)
-        | inr ne ↦ across_apart (with_peer s.peers p at_p) q p at_q (λ e. ne (sym e)) ∙ across_here s.peers p at_p (place_of s p is ends.p_port)
+        | inr ne ↦ across_apart (with_peer s.peers p at_p) q p at_q (λ e. ne (sym e)) ∙ across_here s.peers p at_p (peer_slot s p is ends.p_port)
       ]
 
   pub across_other : (r : NodePort) → p ≢ r → q ≢ r → across peers_now r ≡ across s.peers r
@@ -120,7 +120,7 @@ module _ (s : Simulation) (is : IsSimulation s) (p q : NodePort) (b : Bool) (at_
   state-other r np nq = state-apart (wired_at s.agents p b) q r b nq ∙ state-apart s.agents p r b np
 
   pub keeps_both : AllRelated KeepsSeats s.agents agents_now
-  keeps_both place = by (slice_get s.agents place) (slice_get (wired_at s.agents p b) place) (slice_get agents_now place) (keeps_wired s.agents p b place) (keeps_wired (wired_at s.agents p b) q b place)
+  keeps_both id = by (slice_get s.agents id) (slice_get (wired_at s.agents p b) id) (slice_get agents_now id) (keeps_wired s.agents p b id) (keeps_wired (wired_at s.agents p b) q b id)
     where
       by : (l m n : Option Agent) → Related KeepsSeats l m → Related KeepsSeats m n → Related KeepsSeats l n
       by None None None h k = tt
@@ -163,12 +163,12 @@ module _ (s : Simulation) (is : IsSimulation s) (p q : NodePort) (b : Bool) (at_
   pub ends_written : ((r t : NodePort) → across peers_now r ≡ Some t → across peers_now t ≡ Some r) → IsSimulation (record s { agents = agents_now; peers = peers_now })
   ends_written back =
       recabled s agents_now peers_now is
-      (length-changed (wired_at s.agents p b) q.node (λ a. wired a q.port b) ∙ length-changed s.agents p.node (λ a. wired a p.port b))
+      (length-changed (wired_at s.agents p b) q.node (λ a. after_set_wired a q.port b) ∙ length-changed s.agents p.node (λ a. after_set_wired a p.port b))
       (all-wired (wired_at s.agents p b) q b q_port_then (all-wired s.agents p b ends.p_port is.agents))
       keeps_both
       (λ r h. is.seats r (seats_before s.agents (wired_at s.agents p b) (no-new s.agents p b) r (seats_before (wired_at s.agents p b) agents_now (no-new (wired_at s.agents p b) q b) r h)))
       (length-with_peer (with_peer s.peers p at_p) q at_q ∙ length-with_peer s.peers p at_p)
-      (λ place. length-row (with_peer s.peers p at_p) q at_q place ∙ length-row s.peers p at_p place)
+      (λ id. length-row (with_peer s.peers p at_p) q at_q id ∙ length-row s.peers p at_p id)
       cabled-now back
       (λ r a e port.
       let there : has_cable_port s.agents r ≡ true = sym (cable_ports_stay s.agents agents_now keeps_both r) ∙ port in
@@ -183,8 +183,8 @@ pub joined_ends : (s : Simulation) (p q : NodePort) → has_cable_port s.agents 
 joined_ends s p q hp hq =
     record { p_port = hp; q_port = hq; loop = λ e. cc; down_p = (λ d. cc, λ d. cc); down_q = (λ d. cc, λ d. cc) }
 
-pub joined_is : (s : Simulation) (p q : NodePort) → IsSimulation s → has_cable_port s.agents p ≡ true → has_cable_port s.agents q ≡ true → across s.peers p ≡ None → across s.peers q ≡ None → IsSimulation (joined s p q)
-unfolding joined
+pub joined_is : (s : Simulation) (p q : NodePort) → IsSimulation s → has_cable_port s.agents p ≡ true → has_cable_port s.agents q ≡ true → across s.peers p ≡ None → across s.peers q ≡ None → IsSimulation (cabled_at s p q)
+unfolding cabled_at
 joined_is s p q is hp hq free_p free_q =
     let ends : Ends s p q true (Some q) (Some p) = joined_ends s p q hp hq in
     let peers : List (List (Option NodePort)) = with_peer (with_peer s.peers p (Some q)) q (Some p) in
@@ -215,8 +215,8 @@ parted-ends : (s : Simulation) (p q : NodePort) → has_cable_port s.agents p �
 parted-ends s p q hp hq =
     record { p_port = hp; q_port = hq; loop = λ e. refl; down_p = (λ d. refl, λ d. refl); down_q = (λ d. refl, λ d. refl) }
 
-pub parted_is : (s : Simulation) (p q : NodePort) → IsSimulation s → across s.peers p ≡ Some q → IsSimulation (parted s p q)
-unfolding parted
+pub parted_is : (s : Simulation) (p q : NodePort) → IsSimulation s → across s.peers p ≡ Some q → IsSimulation (uncabled_at s p q)
+unfolding uncabled_at
 parted_is s p q is cable =
     let hp : has_cable_port s.agents p ≡ true = is.cables.ends p q cable in
     let cable_back : across s.peers q ≡ Some p = is.cables.lead_back p q cable in

@@ -4,8 +4,8 @@ use Rattle.std.proofs.lemmas.Bool.{and_parts, leb-true}
 use Rattle.std.proofs.lemmas.Option.{slice_get-map}
 use Rattle.std.specs.Prelude.{Option, None, Some, nat_le, option_map, slice_get}
 use Rattle.std.specs.Option.{option_map_or}
-use Rattle.smp_bytes.specs.declared.cable.NodePort.{NodePort}
-use Rattle.smp_bytes.specs.Fabric.{Node, IsCablePort}
+use Rattle.fabric_model.specs.declared.cable.NodePort.{NodePort}
+use Rattle.fabric_model.specs.Fabric.{Node, IsCablePort}
 use Rattle.node_agents.specs.Agent.{Agent, node_of}
 use Rattle.fabric_sim.specs.Simulation.{Simulation, agent_at, port_count, is_cable_port, fabric_of}
 use Rattle.fabric_sim.specs.SeenFabric.{SimulationsAreFabrics}
@@ -13,11 +13,11 @@ use Rattle.fabric_sim.proofs.TripShapes.{agent_there}
 use Rattle.fabric_sim.proofs.TripEnds.{agents_of, agent_by_port}
 
 -- a node that is seen is an agent's
-pub agent_seen : (s : Simulation) (place : ℕ) (node : Node) → slice_get (map node_of s.agents) place ≡ Some node
-    → (a : Agent) × (agent_at s place ≡ Some a) × (node_of a ≡ node)
-agent_seen s place node at = go (agent_at s place) refl (sym (slice_get-map node_of s.agents place) ∙ at)
+pub agent_seen : (s : Simulation) (id : ℕ) (node : Node) → slice_get (map node_of s.agents) id ≡ Some node
+    → (a : Agent) × (agent_at s id ≡ Some a) × (node_of a ≡ node)
+agent_seen s id node at = go (agent_at s id) refl (sym (slice_get-map node_of s.agents id) ∙ at)
   where
-    go : (o : Option Agent) → agent_at s place ≡ o → option_map node_of o ≡ Some node → (a : Agent) × (agent_at s place ≡ Some a) × (node_of a ≡ node)
+    go : (o : Option Agent) → agent_at s id ≡ o → option_map node_of o ≡ Some node → (a : Agent) × (agent_at s id ≡ Some a) × (node_of a ≡ node)
     go None e k = absurd (cc)
     go (Some a) e k = (a, e, cc)
 
@@ -33,9 +33,9 @@ cable_port s p e =
 pub simulations_are_fabrics : SimulationsAreFabrics
 simulations_are_fabrics s is =
     record {
-      counts = λ place node at.
-          let (a, there, same) = agent_seen s place node at in
-          subst (λ (n : Node). (1 ≤ n.ports) × (n.ports ≤ 254)) same (agent_there s.agents place a (agents_of s.agents is.agents) there).node.ports;
+      counts = λ id node at.
+          let (a, there, same) = agent_seen s id node at in
+          subst (λ (n : Node). (1 ≤ n.ports) × (n.ports ≤ 254)) same (agent_there s.agents id a (agents_of s.agents is.agents) there).node.ports;
       cabled = λ p q e. cable_port s p (is.cables.ends p q e);
       both_ways = is.cables.lead_back;
     }

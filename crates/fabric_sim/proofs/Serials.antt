@@ -1,4 +1,4 @@
--- Packets in flight by rising serial numbers: one is found, moved or taken away at its place.
+-- Packets in flight by rising serial numbers: one is found, moved or taken away at its index.
 use Rattle.std.proofs.Common.{◌≡◌, ◌≢◌, ℕ, zero, suc, ◌<◌, ◌≤◌, true, false, List, [], ◌∷◌, inl, inr, length, get_or, refl, arith, ap, sym, ◌∙◌, subst}
 use Rattle.std.specs.Prelude.{Option, Some, None, Result, Ok, Err, option_map, remove, slice_get, slice_set, if◌then◌else◌}
 use Rattle.std.specs.Result.{result_ok}
@@ -106,23 +106,23 @@ moved_at (x ∷ xs) (suc i) moved f rising at same =
     let here : (if is_numbered moved.serial x then moved else x) ≡ x = cond-false _ _ _ (numbered-other x moved.serial (λ e. omega arith)) in
     let rest : with_moved xs moved ≡ slice_set xs i moved = moved_at xs i moved f (rising-tail x xs rising) at same in cc
 
--- at a place ----------------------------------------------------------------------------
+-- at an index ----------------------------------------------------------------------------
 
--- the packet at a place
-pub record AtPlace (flights : List Flight) (i serial : ℕ) : Type 0 where
+-- the packet at an index
+pub record AtIndex (flights : List Flight) (i serial : ℕ) : Type 0 where
   pub flight : Flight
   pub at : slice_get flights i ≡ Some flight
   pub within : i < length flights
   pub number : flight.serial ≡ serial
 
-pub at_place : (flights : List Flight) (i serial : ℕ) → IsFlightAt flights i serial → AtPlace flights i serial
-at_place flights i serial h = by (slice_get flights i) refl h
+pub at_index : (flights : List Flight) (i serial : ℕ) → IsFlightAt flights i serial → AtIndex flights i serial
+at_index flights i serial h = by (slice_get flights i) refl h
   where
-    by : (m : Option Flight) → slice_get flights i ≡ m → option_map (λ f. f.serial) m ≡ Some serial → AtPlace flights i serial
+    by : (m : Option Flight) → slice_get flights i ≡ m → option_map (λ f. f.serial) m ≡ Some serial → AtIndex flights i serial
     by None e h = cc
     by (Some f) e h = record { flight = f; at = e; within = slice_get_within flights i f e; number = cc }
 
--- a place has the packet of its number
+-- an index has the packet of its number
 pub finds_at : (flights : List Flight) (i : ℕ) (f : Flight) → AreRising flights → slice_get flights i ≡ Some f → Finds flights f.serial (Some i)
 finds_at flights i f rising at = (ap (option_map (λ y. y.serial)) at, at ∙ sym (found_at flights i f rising at))
 

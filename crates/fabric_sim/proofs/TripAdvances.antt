@@ -6,7 +6,7 @@ use Rattle.std.proofs.lemmas.Bool.{eqb-true}
 use Rattle.std.specs.Prelude.{Some, count_by, All}
 use Rattle.fabric_sim.specs.declared.flight.Flight.{Flight}
 use Rattle.fabric_sim.specs.Simulation.{Simulation, flight_with}
-use Rattle.fabric_sim.specs.Delivery.{delivered}
+use Rattle.fabric_sim.specs.Delivery.{after_deliver}
 use Rattle.fabric_sim.specs.Calls.{Call, Inject, Deliver, Lose, Repeat, Seat, after_call, after_calls, is_delivery_of}
 use Rattle.fabric_sim.specs.ThereAndBack.{KeepsPacket}
 use Rattle.fabric_sim.proofs.TripCalls.{KeepAgents, along_call, kept_call}
@@ -18,7 +18,7 @@ use Rattle.fabric_sim.proofs.TripShapes.{IsAlong}
 pub record Advances (start : Simulation) (n last : ℕ) (At : Simulation → ℕ → Type 0) : Type 0 where
   pub flies : (s : Simulation) (k : ℕ) → At s k → (f : Flight) × (flight_with s.flights n ≡ Some f)
   pub keeps : (s u : Simulation) (k : ℕ) → At s k → ((f : Flight) → flight_with s.flights n ≡ Some f → flight_with u.flights n ≡ Some f) → At u k
-  pub delivers : (s : Simulation) (k : ℕ) → IsAlong start s → At s k → k < last → At (delivered s n).fabric (suc k)
+  pub delivers : (s : Simulation) (k : ℕ) → IsAlong start s → At s k → k < last → At (after_deliver s n).fabric (suc k)
 
 deliveries : ℕ → List Call → ℕ
 deliveries n calls = count_by (is_delivery_of n) calls

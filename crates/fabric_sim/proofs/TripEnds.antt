@@ -5,37 +5,37 @@ use Rattle.std.proofs.lemmas.List.Elements.{All-head, All-tail}
 use Rattle.std.proofs.lemmas.List.{ext_get_or, get_or-drop, get_or-take, length-drop, length-take-le}
 use Rattle.std.specs.Prelude.{Option, Some, None, slice_get, slice_set, slice_index, All, Ok, count_by, take, drop, not}
 use Rattle.std.specs.Option.{option_map_or}
-use Rattle.smp_bytes.specs.declared.cable.NodePort.{NodePort}
+use Rattle.fabric_model.specs.declared.cable.NodePort.{NodePort}
 use Rattle.smp_bytes.specs.Header.{sm_info}
 use Rattle.smp_bytes.specs.Field.{Field, number_in, bytes_in}
 use Rattle.smp_bytes.specs.Packet as field
 use Rattle.smp_bytes.specs.Packet.{is_directed, is_response, is_returning, is_lid_routed, fault_of, status}
 use Rattle.smp_bytes.specs.Requests.{directed}
 use Rattle.smp_bytes.specs.ReadBack.{FitsRequest, HoldsRequest, HoldsPath, HoldsAnswer}
-use Rattle.smp_bytes.specs.DirectedWalk.{directed_end}
+use Rattle.fabric_model.specs.DirectedWalk.{directed_end}
 use Rattle.smp_bytes.proofs.BitLaws.{byte-number_in}
-use Rattle.smp_bytes.proofs.DirectedWalks.{stops_along}
+use Rattle.fabric_model.proofs.DirectedWalks.{stops_along}
 use Rattle.smp_bytes.proofs.FieldLaws.{number_in-alike}
 use Rattle.smp_bytes.proofs.Made.{directed_reads_back}
-use Rattle.smp_bytes.proofs.PlaceLaws.{bytes_in-alike}
+use Rattle.smp_bytes.proofs.OffsetLaws.{bytes_in-alike}
 use Rattle.dr_forward.specs.Step.{Stepped, moved_on}
 use Rattle.dr_forward.proofs.Rows.{passed}
 use Rattle.dr_forward.proofs.Trips.{IsKeptFrom, field_kept, IsRequestOver, IsOut, ComesToAgent, comes_to_agent, out_asks, IsBack, Turns, turns}
 use Rattle.node_agents.specs.Agent.{Agent, IsAgent, has_seat}
-use Rattle.node_agents.specs.Answers.{met, answered, status_told, payload_told}
+use Rattle.node_agents.specs.Answers.{after_request, after_answer, status_told, payload_told}
 use Rattle.node_agents.specs.AnswerLaws.{IsPacket}
 use Rattle.node_agents.proofs.Made.{agents_are_made}
 use Rattle.node_agents.proofs.Outcomes.{answers_hold}
 use Rattle.node_agents.proofs.SameRequests.{AskSame, agents_same, ToldSame, told_same}
 use Rattle.node_agents.proofs.Shapes.{answered_keeps_shape, answered_is_agent}
-use Rattle.fabric_sim.specs.declared.flight.Place.TheVariants.{Seat}
+use Rattle.fabric_sim.specs.declared.flight.Whereabouts.TheVariants.{Seat}
 use Rattle.fabric_sim.specs.declared.flight.Flight.{Flight}
 use Rattle.fabric_sim.specs.declared.delivered.Delivered.TheVariants as delivered_is
 use Rattle.fabric_sim.specs.declared.outcome.Outcome.TheVariants.{Asks}
-use Rattle.fabric_sim.specs.Simulation.{Simulation, IsSimulation, IsWaiting, agent_at, port_count, is_seat_at, fabric_of, port_of, flight_with, without_flight, answer_place}
+use Rattle.fabric_sim.specs.Simulation.{Simulation, IsSimulation, IsWaiting, agent_at, port_count, is_seat_at, fabric_of, port_of, flight_with, without_flight, answer_whereabouts}
 use Rattle.fabric_sim.specs.declared.delivered.Delivered.{Delivered}
-use Rattle.fabric_sim.specs.Delivery.{Called, with_changed, with_flight, by_verdict, carrying, outcome_of, brought, asked, answer_at, delivered_flight, delivered}
-use Rattle.fabric_sim.specs.Changes.{injected}
+use Rattle.fabric_sim.specs.Delivery.{Called, with_changed, with_flight, by_verdict, carrying, outcome_of, after_outcome, asked, answer_at, delivered_flight, after_deliver}
+use Rattle.fabric_sim.specs.Changes.{after_inject}
 use Rattle.fabric_sim.specs.Calls.{Call, Inject, Deliver, after_calls, is_delivery_of}
 use Rattle.fabric_sim.specs.ThereAndBack.{ThereAndBack, directed_packet, BeginsWith, IsAnswerOver, IsAnsweredAt, ComesHome, KeepsPacket}
 use Rattle.fabric_sim.proofs.TripFlights.{AreGiven, found_last, given_without}
@@ -92,12 +92,12 @@ given_of s (f ∷ flights) all = ((All-head (IsWaiting s) f flights all).given, 
 pub along_itself : (s : Simulation) → IsSimulation s → IsAlong s s
 along_itself s is = record { nodes = refl; peers = refl; agents = agents_of s.agents is.agents; given = given_of s s.flights is.waiting; next = omega arith }
 
-pub few_ports : (s : Simulation) → AreAgents s.agents → (place : ℕ) → port_count s place ≤ 254
-few_ports s all place = by_agent (slice_get s.agents place) refl
+pub few_ports : (s : Simulation) → AreAgents s.agents → (id : ℕ) → port_count s id ≤ 254
+few_ports s all id = by_agent (slice_get s.agents id) refl
   where
-    by_agent : (o : Option Agent) → slice_get s.agents place ≡ o → option_map_or (λ (a : Agent). a.node.ports) o 0 ≤ 254
+    by_agent : (o : Option Agent) → slice_get s.agents id ≡ o → option_map_or (λ (a : Agent). a.node.ports) o 0 ≤ 254
     by_agent None e = omega arith
-    by_agent (Some a) e = (agent_there s.agents place a all e).node.ports.1
+    by_agent (Some a) e = (agent_there s.agents id a all e).node.ports.1
 
 -- what the agent is asked and tells ------------------------------------------------------------
 
@@ -109,16 +109,16 @@ asks_as_sent request bytes long count kept =
       attribute_is = field_kept field.attribute_id request bytes (inr (omega arith, omega arith)) kept;
       modifier_is = field_kept field.attribute_modifier request bytes (inr (omega arith, omega arith)) kept;
       data_is = bytes_in-alike field.attribute_data bytes request (omega (arith, count)) (omega (arith, long))
-          (λ place from less. kept place (inr (omega arith, omega arith)));
+          (λ offset from less. kept offset (inr (omega arith, omega arith)));
     }
 
 -- the turn -----------------------------------------------------------------------------------------
 
 -- an agent is where a port is
-pub agent_by_port : (s : Simulation) (place : ℕ) → 1 ≤ port_count s place → (a : Agent) × (agent_at s place ≡ Some a)
-agent_by_port s place some = by_agent (slice_get s.agents place) refl
+pub agent_by_port : (s : Simulation) (id : ℕ) → 1 ≤ port_count s id → (a : Agent) × (agent_at s id ≡ Some a)
+agent_by_port s id some = by_agent (slice_get s.agents id) refl
   where
-    by_agent : (o : Option Agent) → slice_get s.agents place ≡ o → (a : Agent) × (agent_at s place ≡ Some a)
+    by_agent : (o : Option Agent) → slice_get s.agents id ≡ o → (a : Agent) × (agent_at s id ≡ Some a)
     by_agent None e = absurd (omega (arith, some, ap (λ o. option_map_or (λ (a : Agent). a.node.ports) o 0) e))
     by_agent (Some a) e = (a, e)
 
@@ -133,21 +133,21 @@ seat_in_port s p all seat = by_agent (slice_get s.agents p.node) refl
         omega (arith, count, (agent_there s.agents p.node a all e).node.ports.0)
 
 -- the agent that is changed
-set_there : (agents : List Agent) (place : ℕ) (a to : Agent) → slice_get agents place ≡ Some a → slice_get (slice_set agents place to) place ≡ Some to
-set_there [] place a to h = absurd (cc)
+set_there : (agents : List Agent) (id : ℕ) (a to : Agent) → slice_get agents id ≡ Some a → slice_get (slice_set agents id to) id ≡ Some to
+set_there [] id a to h = absurd (cc)
 set_there (x ∷ agents) zero a to h = refl
-set_there (x ∷ agents) (suc place) a to h = set_there agents place a to h
+set_there (x ∷ agents) (suc id) a to h = set_there agents id a to h
 
-pub changed_there : (agents : List Agent) (place : ℕ) (a : Agent) (change : Agent → Agent) → slice_get agents place ≡ Some a
-    → slice_get (with_changed agents place change) place ≡ Some (change a)
-changed_there agents place a change h =
-    ap (λ o. slice_get (option_map_or (λ x. slice_set agents place (change x)) o agents) place) h ∙ set_there agents place a (change a) h
+pub changed_there : (agents : List Agent) (id : ℕ) (a : Agent) (change : Agent → Agent) → slice_get agents id ≡ Some a
+    → slice_get (with_changed agents id change) id ≡ Some (change a)
+changed_there agents id a change h =
+    ap (λ o. slice_get (option_map_or (λ x. slice_set agents id (change x)) o agents) id) h ∙ set_there agents id a (change a) h
 
 module _ {start : Simulation} {origin end : NodePort} {path request : List ℕ} (t : Trip start origin end path request) (s : Simulation) (n : ℕ)
     (along : IsAlong start s) (left : s.next < 2 ^ 64) (no_manager : number_in field.attribute_id request ≢ sm_info) (some : 1 ≤ port_count start end.node)
     (whole : IsPacket request) (o : IsOutThere t s n (length path)) where
   at : NodePort
-  at = port_of o.flight.place
+  at = port_of o.flight.whereabouts
 
   at_end : at ≡ end
   unfolding at
@@ -169,20 +169,20 @@ module _ {start : Simulation} {origin end : NodePort} {path request : List ℕ} 
   no_business : (number_in field.attribute_id bytes == sm_info) ≡ false
   no_business = ne_eqb _ _ (λ e. no_manager (sym asks_the_same.attribute_is ∙ e))
 
-  outcome_turn : outcome_of s o.flight.place o.flight.packet ≡ Asks bytes o.flight.packet.slid o.flight.packet.dlid
+  outcome_turn : outcome_of s o.flight.whereabouts o.flight.packet ≡ Asks bytes o.flight.packet.slid o.flight.packet.dlid
   unfolding bytes here
   outcome_turn =
       outcome_here t s n along (length path) o (omega arith)
-      ∙ ap (λ (x : Stepped). by_verdict s (port_of o.flight.place) (carrying o.flight.packet x.packet) x.verdict) comes.step_is
+      ∙ ap (λ (x : Stepped). by_verdict s (port_of o.flight.whereabouts) (carrying o.flight.packet x.packet) x.verdict) comes.step_is
       ∙ passed (is_response bytes) _ _ _ (out_asks t.asks (noted t) (noted_small t) then)
-      (passed (number_in field.attribute_id bytes == sm_info && is_seat_at s (port_of o.flight.place)) _ _ _
-      (ap (λ b. b && is_seat_at s (port_of o.flight.place)) no_business) refl)
+      (passed (number_in field.attribute_id bytes == sm_info && is_seat_at s (port_of o.flight.whereabouts)) _ _ _
+      (ap (λ b. b && is_seat_at s (port_of o.flight.whereabouts)) no_business) refl)
 
-  turned_is : delivered s n ≡ record { fabric = asked s o.flight bytes o.flight.packet.slid o.flight.packet.dlid; result = Ok (delivered_is.Answered s.next) }
-  unfolding delivered
+  turned_is : after_deliver s n ≡ record { fabric = asked s o.flight bytes o.flight.packet.slid o.flight.packet.dlid; result = Ok (delivered_is.Answered s.next) }
+  unfolding after_deliver
   turned_is =
       ap (delivered_flight s) o.there
-      ∙ ap (brought s o.flight) outcome_turn
+      ∙ ap (after_outcome s o.flight) outcome_turn
       ∙ passed (s.next == 2 ^ 64) _ _ _ (ne_eqb s.next (2 ^ 64) (λ e. omega (arith, e, left))) refl
 
   the_agent : (a : Agent) × (agent_at s end.node ≡ Some a)
@@ -203,48 +203,48 @@ module _ {start : Simulation} {origin end : NodePort} {path request : List ℕ} 
 
   -- what the agent answers
   pub answer : List ℕ
-  answer = (answered agent bytes end.port).packet
+  answer = (after_answer agent bytes end.port).packet
 
   answer_is : answer_at s at bytes ≡ answer
   unfolding answer at
   answer_is =
-      ap (λ (p : NodePort). option_map_or (λ a. (answered a bytes p.port).packet) (agent_at s p.node) bytes) at_end
-      ∙ ap (λ x. option_map_or (λ a. (answered a bytes end.port).packet) x bytes) agent_there_is
+      ap (λ (p : NodePort). option_map_or (λ a. (after_answer a bytes p.port).packet) (agent_at s p.node) bytes) at_end
+      ∙ ap (λ x. option_map_or (λ a. (after_answer a bytes end.port).packet) x bytes) agent_there_is
 
-  pub answered_result : (delivered s n).result ≡ Ok (delivered_is.Answered s.next)
+  pub answered_result : (after_deliver s n).result ≡ Ok (delivered_is.Answered s.next)
   answered_result = ap (λ (c : Called Delivered). c.result) turned_is
 
-  pub answered_agent : agent_at (delivered s n).fabric end.node ≡ Some (answered agent request end.port).agent
+  pub answered_agent : agent_at (after_deliver s n).fabric end.node ≡ Some (after_answer agent request end.port).agent
   unfolding at
   answered_agent =
       ap (λ (c : Called Delivered). agent_at c.fabric end.node) turned_is
-      ∙ ap (λ (p : NodePort). slice_get (with_changed s.agents p.node (λ a. (answered a bytes p.port).agent)) end.node) at_end
-      ∙ changed_there s.agents end.node agent (λ a. (answered a bytes end.port).agent) agent_there_is
+      ∙ ap (λ (p : NodePort). slice_get (with_changed s.agents p.node (λ a. (after_answer a bytes p.port).agent)) end.node) at_end
+      ∙ changed_there s.agents end.node agent (λ a. (after_answer a bytes end.port).agent) agent_there_is
       ∙ ap (λ a. Some a) (agents_same agent bytes request end.port asks_the_same)
 
   -- the answer begins its way back
   pub turning : Turns path (noted t) answer
-  unfolding answer answered
+  unfolding answer after_answer
   turning =
-      let told = (met agent bytes end.port).told in
+      let told = (after_request agent bytes end.port).told in
       turns t.asks (noted t) (noted_small t) then (status_told told) (payload_told told bytes) (answers_hold agent bytes end.port is_agent whole_bytes)
 
   answer_flight : Flight
   answer_flight =
       record {
         serial = s.next;
-        place = answer_place o.flight.place;
+        whereabouts = answer_whereabouts o.flight.whereabouts;
         packet = record { bytes = answer_at s at bytes; slid = o.flight.packet.slid; dlid = o.flight.packet.dlid };
       }
 
-  pub back_begins : (own : BeginsWith origin.port path) → IsBackThere t own turning.reads (delivered s n).fabric s.next (length path)
+  pub back_begins : (own : BeginsWith origin.port path) → IsBackThere t own turning.reads (after_deliver s n).fabric s.next (length path)
   unfolding answer_flight at
   back_begins own =
       record {
         flight = answer_flight;
         there = ap (λ (c : Called Delivered). flight_with c.fabric.flights s.next) turned_is
             ∙ found_last (without_flight s.flights o.flight.serial) answer_flight (given_without s.flights o.flight.serial s.next along.given);
-        place = record { last = λ e. ap answer_place o.place; before = λ less. absurd (omega (arith, less)) };
+        whereabouts = record { last = λ e. ap answer_whereabouts o.whereabouts; before = λ less. absurd (omega (arith, less)) };
         bytes = subst (λ x. IsBack answer (noted t) (length path) (length path) x) (sym answer_is) turning.begins;
         most = omega arith;
       }
@@ -256,10 +256,10 @@ module _ {start : Simulation} {origin end : NodePort} {path request : List ℕ} 
     pub pointer : number_in field.hop_pointer packet ≡ 0
 
   module _ (packet : List ℕ) (tells : Tells packet) (holds_path : HoldsPath request path) (short : length path ≤ 63) where
-    told : ToldSame (answered agent bytes end.port).packet (answered agent request end.port).packet
+    told : ToldSame (after_answer agent bytes end.port).packet (after_answer agent request end.port).packet
     told = told_same agent bytes request end.port is_agent whole_bytes whole asks_the_same
 
-    answer_holds : HoldsAnswer bytes answer (status_told (met agent bytes end.port).told) (payload_told (met agent bytes end.port).told bytes)
+    answer_holds : HoldsAnswer bytes answer (status_told (after_request agent bytes end.port).told) (payload_told (after_request agent bytes end.port).told bytes)
     unfolding answer
     answer_holds = answers_hold agent bytes end.port is_agent whole_bytes
 
@@ -269,7 +269,7 @@ module _ {start : Simulation} {origin end : NodePort} {path request : List ℕ} 
     from_request : (f : Field) → (7 ≤ f.at) × (f.at + f.len ≤ 64) → number_in f packet ≡ number_in f request
     from_request f within =
         from_answer f (inr (within.0, omega (arith, within.1)))
-        ∙ number_in-alike f answer bytes (λ place from less. answer_holds.kept place (inr (inl (omega (arith, within.0), omega (arith, within.1)))))
+        ∙ number_in-alike f answer bytes (λ offset from less. answer_holds.kept offset (inr (inl (omega (arith, within.0), omega (arith, within.1)))))
         ∙ field_kept f request bytes (inr (within.0, omega (arith, within.1))) then.kept
 
     path_byte : (i : ℕ) → i < length path → get_or packet (129 + i) 0 ≡ slice_index path i
@@ -294,7 +294,7 @@ module _ {start : Simulation} {origin end : NodePort} {path request : List ℕ} 
         let word = from_answer field.status_word (inl (omega arith)) in
         (λ j. cond (class j == 0x81) (word j % 2 ^ 15) (word j))
 
-    pub answers_over : IsAnswerOver path request (answered agent request end.port).packet packet
+    pub answers_over : IsAnswerOver path request (after_answer agent request end.port).packet packet
     unfolding answer
     answers_over =
         record {
@@ -308,7 +308,7 @@ module _ {start : Simulation} {origin end : NodePort} {path request : List ℕ} 
           attribute_modifier = from_request field.attribute_modifier (omega arith, omega arith);
           status = same_status ∙ told.status_is;
           attribute_data = bytes_in-alike field.attribute_data packet answer (omega (arith, tells.count)) (omega (arith, answer_holds.count))
-              (λ place from less. tells.kept place (inr (omega arith, omega arith)))
+              (λ offset from less. tells.kept offset (inr (omega arith, omega arith)))
               ∙ told.data_is;
         }
 
@@ -357,10 +357,10 @@ module _ (s : Simulation) (origin end : NodePort) (method attribute modifier tid
           subst (λ (x : NodePort). 1 ≤ port_count s x.node) same (omega (arith, there.some, there.most))
 
   sent : Simulation
-  sent = (injected s origin (directed_packet made)).fabric
+  sent = (after_inject s origin (directed_packet made)).fabric
 
   sent_is : sent ≡ with_flight s (Seat origin) (directed_packet made)
-  unfolding sent injected
+  unfolding sent after_inject
   sent_is =
       let no_lids : is_lid_routed made ≡ false = ap (λ n. n == 0x01) reads.1.class in
       ap (λ (c : Called ℕ). c.fabric)
@@ -373,7 +373,7 @@ module _ (s : Simulation) (origin end : NodePort) (method attribute modifier tid
   along_sent = along_call keep s (Inject origin (directed_packet made)) (along_itself s is)
 
   first_flight : Flight
-  first_flight = record { serial = s.next; place = Seat origin; packet = directed_packet made }
+  first_flight = record { serial = s.next; whereabouts = Seat origin; packet = directed_packet made }
 
   out_begins : IsOutThere trip sent s.next 0
   unfolding first_flight
@@ -381,11 +381,11 @@ module _ (s : Simulation) (origin end : NodePort) (method attribute modifier tid
       record {
         flight = first_flight;
         there = ap (λ (x : Simulation). flight_with x.flights s.next) sent_is ∙ found_last s.flights first_flight (along_itself s is).given;
-        place = refl;
+        whereabouts = refl;
         bytes = record {
           count = reads.0.count;
           parses = reads.0.parses;
-          kept = λ place h. refl;
+          kept = λ offset h. refl;
           pointer = reads.1.hop_pointer;
           notes = λ i some less. absurd (omega (arith, less));
         };
@@ -395,7 +395,7 @@ module _ (s : Simulation) (origin end : NodePort) (method attribute modifier tid
   out_advances =
       record {
         flies = λ u k o. (o.flight, o.there);
-        keeps = λ u v k o same. record { flight = o.flight; there = same o.flight o.there; place = o.place; bytes = o.bytes };
+        keeps = λ u v k o same. record { flight = o.flight; there = same o.flight o.there; whereabouts = o.whereabouts; bytes = o.bytes };
         delivers = λ u k along o less. deliver_out trip u s.next along k o less;
       }
 
@@ -431,7 +431,7 @@ module _ (s : Simulation) (origin end : NodePort) (method attribute modifier tid
           }
 
       turned : Simulation
-      turned = (delivered arrived s.next).fabric
+      turned = (after_deliver arrived s.next).fabric
 
       along_turned : IsAlong s turned
       unfolding turned
@@ -460,7 +460,7 @@ module _ (s : Simulation) (origin end : NodePort) (method attribute modifier tid
               back_there = record {
                 flight = o.back_there.flight;
                 there = same o.back_there.flight o.back_there.there;
-                place = o.back_there.place;
+                whereabouts = o.back_there.whereabouts;
                 bytes = o.back_there.bytes;
                 most = o.back_there.most;
               };
@@ -470,7 +470,7 @@ module _ (s : Simulation) (origin end : NodePort) (method attribute modifier tid
         where
           one_back : (u : Simulation) (j : ℕ) → IsAlong s u → (k : ℕ) → k + j ≡ length path
               → IsBackThere trip own turns_there.reads u arrived.next k → j < length path
-              → IsBackAfter (delivered u arrived.next).fabric (suc j)
+              → IsBackAfter (after_deliver u arrived.next).fabric (suc j)
           one_back u j along zero sum o less = absurd (omega (arith, sum, less))
           one_back u j along (suc k) sum o less =
               record { stop = k; sum = omega (arith, sum); back_there = deliver_back trip own turns_there.reads u arrived.next along (suc k) o k refl }
@@ -502,7 +502,7 @@ module _ (s : Simulation) (origin end : NodePort) (method attribute modifier tid
         handed : HandedUp trip own turns_there.reads last arrived.next along_last home.stop home.back_there
         handed = deliver_home trip own turns_there.reads last arrived.next along_last home.stop home.back_there (omega (arith, home.sum))
 
-        comes_home : ComesHome last arrived.next origin path made (answered the_answering made end.port).packet
+        comes_home : ComesHome last arrived.next origin path made (after_answer the_answering made end.port).packet
         unfolding the_answering turns_there its_answer
         comes_home =
             record {

@@ -3,45 +3,45 @@ use Rattle.std.proofs.Common.{◌≡◌, ℕ, zero, suc, ◌<◌, ◌≤◌, ◌
 use Rattle.std.proofs.lemmas.Bool.{and_parts, leb-true}
 use Rattle.std.specs.Prelude.{Some, None, not, is_some, is_none, slice_index, nat_le}
 use Rattle.std.specs.Option.{option_map_or}
-use Rattle.smp_bytes.specs.declared.cable.NodePort.{NodePort}
+use Rattle.fabric_model.specs.declared.cable.NodePort.{NodePort}
 use Rattle.smp_bytes.specs.Packet.{fault_of, is_directed}
-use Rattle.smp_bytes.specs.Fabric.{is_switch_at}
-use Rattle.smp_bytes.proofs.DirectedWalks.{Stops}
+use Rattle.fabric_model.specs.Fabric.{is_switch_at}
+use Rattle.fabric_model.proofs.DirectedWalks.{Stops}
 use Rattle.dr_forward.specs.declared.here.Here.{Here}
 use Rattle.dr_forward.specs.Step.{Stepped, moved_on}
 use Rattle.dr_forward.proofs.Rows.{taken, passed}
 use Rattle.dr_forward.proofs.Trips.{IsRequestOver, IsOut, GoesOut, out_directed, goes_out}
 use Rattle.fabric_sim.specs.declared.packet.Packet.{Packet}
-use Rattle.fabric_sim.specs.declared.flight.Place.{Place}
-use Rattle.fabric_sim.specs.declared.flight.Place.TheVariants.{Seat, Arrived}
+use Rattle.fabric_sim.specs.declared.flight.Whereabouts.{Whereabouts}
+use Rattle.fabric_sim.specs.declared.flight.Whereabouts.TheVariants.{Seat, Arrived}
 use Rattle.fabric_sim.specs.declared.flight.Flight.{Flight}
 use Rattle.fabric_sim.specs.declared.delivered.Reason.TheVariants.{Down}
 use Rattle.fabric_sim.specs.declared.outcome.Outcome.TheVariants.{Moves, Drops}
 use Rattle.fabric_sim.specs.Simulation.{Simulation, AreCables, port_count, across, fabric_of, port_of, is_at_seat, flight_with, with_moved}
-use Rattle.fabric_sim.specs.Delivery.{carrying, leaving, here_at, by_verdict, directed_outcome, outcome_of, brought, delivered_flight, delivered}
+use Rattle.fabric_sim.specs.Delivery.{carrying, leaving, here_at, by_verdict, directed_outcome, outcome_of, after_outcome, delivered_flight, after_deliver}
 use Rattle.fabric_sim.proofs.TripFlights.{found_given, found_moved}
 use Rattle.fabric_sim.proofs.TripShapes.{IsAlong, port_count_stays, switch_stays}
 
 -- deliveries ------------------------------------------------------------------------------
 
--- the port of a place is up, or the packet waits at its sender's seat
-abbrev pub MayGo : Simulation → Place → Type 0
-MayGo s place = (not (is_at_seat place) && is_none (across s.peers (port_of place))) ≡ false
+-- the port of these whereabouts is up, or the packet waits at its sender's seat
+abbrev pub MayGo : Simulation → Whereabouts → Type 0
+MayGo s whereabouts = (not (is_at_seat whereabouts) && is_none (across s.peers (port_of whereabouts))) ≡ false
 
-pub may_go_over : (s : Simulation) (place : Place) (q : NodePort) → across s.peers (port_of place) ≡ Some q → MayGo s place
-may_go_over s place q wire = by_seat (not (is_at_seat place))
+pub may_go_over : (s : Simulation) (whereabouts : Whereabouts) (q : NodePort) → across s.peers (port_of whereabouts) ≡ Some q → MayGo s whereabouts
+may_go_over s whereabouts q wire = by_seat (not (is_at_seat whereabouts))
   where
-    by_seat : (b : Bool) → (b && is_none (across s.peers (port_of place))) ≡ false
+    by_seat : (b : Bool) → (b && is_none (across s.peers (port_of whereabouts))) ≡ false
     by_seat true = ap is_none wire
     by_seat false = refl
 
 -- a directed packet makes one step
-pub outcome_directed : (s : Simulation) (place : Place) (packet : Packet) → fault_of packet.bytes ≡ None → MayGo s place → is_directed packet.bytes ≡ true
-    → outcome_of s place packet ≡ directed_outcome s (port_of place) packet
+pub outcome_directed : (s : Simulation) (whereabouts : Whereabouts) (packet : Packet) → fault_of packet.bytes ≡ None → MayGo s whereabouts → is_directed packet.bytes ≡ true
+    → outcome_of s whereabouts packet ≡ directed_outcome s (port_of whereabouts) packet
 unfolding outcome_of
-outcome_directed s place packet parses up directed =
+outcome_directed s whereabouts packet parses up directed =
     passed (is_some (fault_of packet.bytes)) _ _ _ (ap is_some parses)
-    (passed (not (is_at_seat place) && is_none (across s.peers (port_of place))) _ _ _ up (taken (is_directed packet.bytes) _ _ directed))
+    (passed (not (is_at_seat whereabouts) && is_none (across s.peers (port_of whereabouts))) _ _ _ up (taken (is_directed packet.bytes) _ _ directed))
 
 -- a packet leaves by a port with a cable
 pub leaves_over : (s : Simulation) (out into : NodePort) (packet : Packet) → across s.peers out ≡ Some into
@@ -65,7 +65,7 @@ pub record Trip (start : Simulation) (origin end : NodePort) (path request : Lis
   pub cables : AreCables start
   pub stops : Stops (fabric_of start) origin path end
   pub asks : IsRequestOver path request
-  pub counts : (place : ℕ) → port_count start place ≤ 254
+  pub counts : (id : ℕ) → port_count start id ≤ 254
 
 module _ {start : Simulation} {origin end : NodePort} {path request : List ℕ} (t : Trip start origin end path request) where
   -- the port by which the packet comes to a stop
@@ -73,11 +73,11 @@ module _ {start : Simulation} {origin end : NodePort} {path request : List ℕ} 
   noted k = (t.stops.at k).port
 
   -- where it waits there
-  abbrev pub stop_place : ℕ → Place
-  stop_place zero = Seat origin
-  stop_place (suc k) = Arrived (t.stops.at (suc k))
+  abbrev pub stop_whereabouts : ℕ → Whereabouts
+  stop_whereabouts zero = Seat origin
+  stop_whereabouts (suc k) = Arrived (t.stops.at (suc k))
 
-  pub stop_port : (k : ℕ) → port_of (stop_place k) ≡ t.stops.at k
+  pub stop_port : (k : ℕ) → port_of (stop_whereabouts k) ≡ t.stops.at k
   stop_port zero = sym t.stops.first
   stop_port (suc k) = refl
 
@@ -99,22 +99,22 @@ module _ {start : Simulation} {origin end : NodePort} {path request : List ℕ} 
   pub record IsOutThere (s : Simulation) (n k : ℕ) : Type 0 where
     pub flight : Flight
     pub there : flight_with s.flights n ≡ Some flight
-    pub place : flight.place ≡ stop_place k
+    pub whereabouts : flight.whereabouts ≡ stop_whereabouts k
     pub bytes : IsOut request noted k flight.packet.bytes
 
   -- the packet may go on from each stop
-  stop_up : (s : Simulation) → IsAlong start s → (k : ℕ) → k ≤ length path → MayGo s (stop_place k)
+  stop_up : (s : Simulation) → IsAlong start s → (k : ℕ) → k ≤ length path → MayGo s (stop_whereabouts k)
   stop_up s along zero most = refl
   stop_up s along (suc k) most =
-      may_go_over s (stop_place (suc k)) _ (ap (λ ps. across ps (t.stops.at (suc k))) along.peers ∙ wire_back k (omega arith))
+      may_go_over s (stop_whereabouts (suc k)) _ (ap (λ ps. across ps (t.stops.at (suc k))) along.peers ∙ wire_back k (omega arith))
 
   module _ (s : Simulation) (n : ℕ) (along : IsAlong start s) (k : ℕ) (o : IsOutThere s n k) where
-    pub at_stop : port_of o.flight.place ≡ t.stops.at k
-    at_stop = ap port_of o.place ∙ stop_port k
+    pub at_stop : port_of o.flight.whereabouts ≡ t.stops.at k
+    at_stop = ap port_of o.whereabouts ∙ stop_port k
 
     -- the node there, as a step sees it
     unfoldable pub here : Here
-    here = here_at s (port_of o.flight.place)
+    here = here_at s (port_of o.flight.whereabouts)
 
     pub arrives : 0 < k → here.arrival ≡ noted k
     unfolding here noted
@@ -122,25 +122,25 @@ module _ {start : Simulation} {origin end : NodePort} {path request : List ℕ} 
 
     pub is_switch_here : is_switch_at (fabric_of start) (t.stops.at k).node ≡ true → here.is_switch ≡ true
     unfolding here
-    is_switch_here h = switch_stays along (port_of o.flight.place).node ∙ ap (λ (p : NodePort). is_switch_at (fabric_of start) p.node) at_stop ∙ h
+    is_switch_here h = switch_stays along (port_of o.flight.whereabouts).node ∙ ap (λ (p : NodePort). is_switch_at (fabric_of start) p.node) at_stop ∙ h
 
     pub ports_here : here.ports ≡ port_count start (t.stops.at k).node
     unfolding here
-    ports_here = port_count_stays along (port_of o.flight.place).node ∙ ap (λ (p : NodePort). port_count start p.node) at_stop
+    ports_here = port_count_stays along (port_of o.flight.whereabouts).node ∙ ap (λ (p : NodePort). port_count start p.node) at_stop
 
-    pub outcome_here : k ≤ length path → outcome_of s o.flight.place o.flight.packet ≡ directed_outcome s (port_of o.flight.place) o.flight.packet
+    pub outcome_here : k ≤ length path → outcome_of s o.flight.whereabouts o.flight.packet ≡ directed_outcome s (port_of o.flight.whereabouts) o.flight.packet
     outcome_here most =
-        outcome_directed s o.flight.place o.flight.packet o.bytes.parses (subst (MayGo s) (sym o.place) (stop_up s along k most))
+        outcome_directed s o.flight.whereabouts o.flight.packet o.bytes.parses (subst (MayGo s) (sym o.whereabouts) (stop_up s along k most))
         (out_directed t.asks noted noted_small o.bytes)
 
     -- one delivery takes it to the next stop
     module _ (less : k < length path) where
       moved : Flight
-      moved = record { serial = n; place = stop_place (suc k); packet = carrying o.flight.packet (moved_on here o.flight.packet.bytes) }
+      moved = record { serial = n; whereabouts = stop_whereabouts (suc k); packet = carrying o.flight.packet (moved_on here o.flight.packet.bytes) }
 
-      next_wire : across s.peers (record { node = (port_of o.flight.place).node; port = slice_index path k }) ≡ Some (t.stops.at (suc k))
+      next_wire : across s.peers (record { node = (port_of o.flight.whereabouts).node; port = slice_index path k }) ≡ Some (t.stops.at (suc k))
       next_wire =
-          ap (λ ps. across ps (record { node = (port_of o.flight.place).node; port = slice_index path k })) along.peers
+          ap (λ ps. across ps (record { node = (port_of o.flight.whereabouts).node; port = slice_index path k })) along.peers
           ∙ ap (λ (p : NodePort). across start.peers (record { node = p.node; port = slice_index path k })) at_stop
           ∙ t.stops.wires k less
 
@@ -159,27 +159,27 @@ module _ {start : Simulation} {origin end : NodePort} {path request : List ℕ} 
           goes_out t.asks noted noted_small o.bytes here less passes arrives next_port.some
           (subst (λ m. slice_index path k ≤ m) (sym ports_here) next_port.most)
 
-      outcome_out : outcome_of s o.flight.place o.flight.packet ≡ Moves (stop_place (suc k)) moved.packet
+      outcome_out : outcome_of s o.flight.whereabouts o.flight.packet ≡ Moves (stop_whereabouts (suc k)) moved.packet
       unfolding moved here
       outcome_out =
           outcome_here (omega (arith, less))
-          ∙ ap (λ (x : Stepped). by_verdict s (port_of o.flight.place) (carrying o.flight.packet x.packet) x.verdict) going.step_is
+          ∙ ap (λ (x : Stepped). by_verdict s (port_of o.flight.whereabouts) (carrying o.flight.packet x.packet) x.verdict) going.step_is
           ∙ leaves_over s _ (t.stops.at (suc k)) moved.packet next_wire
 
-      fabric_out : (delivered s n).fabric ≡ record s { flights = with_moved s.flights moved }
-      unfolding delivered moved
+      fabric_out : (after_deliver s n).fabric ≡ record s { flights = with_moved s.flights moved }
+      unfolding after_deliver moved
       fabric_out =
           ap (λ o. (delivered_flight s o).fabric) o.there
-          ∙ ap (λ x. (brought s o.flight x).fabric) outcome_out
-          ∙ ap (λ m. record s { flights = with_moved s.flights (record { serial = m; place = stop_place (suc k); packet = moved.packet }) })
+          ∙ ap (λ x. (after_outcome s o.flight x).fabric) outcome_out
+          ∙ ap (λ m. record s { flights = with_moved s.flights (record { serial = m; whereabouts = stop_whereabouts (suc k); packet = moved.packet }) })
           (found_given s.flights n s.next o.flight along.given o.there).0
 
-      pub deliver_out : IsOutThere (delivered s n).fabric n (suc k)
+      pub deliver_out : IsOutThere (after_deliver s n).fabric n (suc k)
       unfolding moved
       deliver_out =
           record {
             flight = moved;
             there = ap (λ (f : Simulation). flight_with f.flights n) fabric_out ∙ found_moved s.flights moved o.flight o.there;
-            place = refl;
+            whereabouts = refl;
             bytes = subst (λ m. IsOut request noted m moved.packet.bytes) (omega arith) going.then;
           }

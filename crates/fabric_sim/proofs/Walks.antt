@@ -5,10 +5,10 @@ use Rattle.std.proofs.lemmas.List.{take_all, length-take-le}
 use Rattle.std.proofs.lemmas.Option.{same_Some}
 use Rattle.std.specs.Prelude.{Option, Some, None, option_and_then, slice_index, take}
 use Rattle.std.specs.Option.{option_map_or}
-use Rattle.smp_bytes.specs.declared.cable.NodePort.{NodePort}
-use Rattle.smp_bytes.specs.Fabric.{Fabric, is_switch_at}
-use Rattle.smp_bytes.specs.DirectedWalk.{on_by, directed_end}
-use Rattle.smp_bytes.proofs.DirectedWalks.{walks_go_on}
+use Rattle.fabric_model.specs.declared.cable.NodePort.{NodePort}
+use Rattle.fabric_model.specs.Fabric.{Fabric, is_switch_at}
+use Rattle.fabric_model.specs.DirectedWalk.{on_by, directed_end}
+use Rattle.fabric_model.proofs.DirectedWalks.{walks_go_on}
 
 -- the end of the walk along the first ports of a path
 abbrev pub stop : Fabric → NodePort → List ℕ → ℕ → Option NodePort

@@ -1,13 +1,13 @@
 -- The fabric of a topology: its nodes with agents to which nothing was written, and a cable for each of its links.
 use Rattle.std.specs.Prelude.{ℕ, ◌+◌, ◌-◌, ◌++◌, List, [], ◌∷◌, map, length, replicate, Option, None}
-use Rattle.smp_bytes.specs.declared.cable.NodePort.{NodePort}
-use Rattle.smp_bytes.specs.declared.cable.Cable.{Cable}
+use Rattle.fabric_model.specs.declared.cable.NodePort.{NodePort}
+use Rattle.fabric_model.specs.declared.cable.Cable.{Cable}
 use Rattle.topo_file.specs.declared.node.Node.{Node}
 use Rattle.topo_file.specs.Topology.{Layout}
 use Rattle.node_agents.specs.declared.agent_node.AgentNode.{AgentNode}
 use Rattle.node_agents.specs.Agent.{Agent, fresh_agent}
 use Rattle.fabric_sim.specs.Simulation.{Simulation}
-use Rattle.fabric_sim.specs.Changes.{joined}
+use Rattle.fabric_sim.specs.Changes.{cabled_at}
 
 -- its description is the node's name, with zeros after it
 abbrev pub agent_node : Node → AgentNode
@@ -26,7 +26,7 @@ uncabled nodes first = record { agents = map new_agent nodes; peers = map no_pee
 -- with a cable for each link
 abbrev pub cabled : List Cable → Simulation → Simulation
 cabled [] s = s
-cabled (link ∷ links) s = cabled links (joined s link.one link.other)
+cabled (link ∷ links) s = cabled links (cabled_at s link.one link.other)
 
 abbrev pub simulation_of : Layout → ℕ → Simulation
 simulation_of t first = cabled t.links (uncabled t.nodes first)

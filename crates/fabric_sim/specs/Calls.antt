@@ -1,10 +1,10 @@
 -- The calls of a fabric that change no cable, one after the other.
 use Rattle.std.specs.Prelude.{ℕ, Bool, false, List, [], ◌∷◌, ◌==◌}
-use Rattle.smp_bytes.specs.declared.cable.NodePort.{NodePort}
+use Rattle.fabric_model.specs.declared.cable.NodePort.{NodePort}
 use Rattle.fabric_sim.specs.declared.packet.Packet.{Packet}
 use Rattle.fabric_sim.specs.Simulation.{Simulation}
-use Rattle.fabric_sim.specs.Delivery.{delivered}
-use Rattle.fabric_sim.specs.Changes.{injected, repeated, lost, manager_seated}
+use Rattle.fabric_sim.specs.Delivery.{after_deliver}
+use Rattle.fabric_sim.specs.Changes.{after_inject, after_repeat, after_lose, after_seat}
 
 pub data Call : Type 0 where
   Inject : (from : NodePort) (packet : Packet) → Call
@@ -14,11 +14,11 @@ pub data Call : Type 0 where
   Seat : (at : NodePort) → Call
 
 abbrev pub after_call : Simulation → Call → Simulation
-after_call s (Inject from packet) = (injected s from packet).fabric
-after_call s (Deliver serial) = (delivered s serial).fabric
-after_call s (Lose serial) = (lost s serial).fabric
-after_call s (Repeat serial) = (repeated s serial).fabric
-after_call s (Seat at) = (manager_seated s at).fabric
+after_call s (Inject from packet) = (after_inject s from packet).fabric
+after_call s (Deliver serial) = (after_deliver s serial).fabric
+after_call s (Lose serial) = (after_lose s serial).fabric
+after_call s (Repeat serial) = (after_repeat s serial).fabric
+after_call s (Seat at) = (after_seat s at).fabric
 
 abbrev pub after_calls : List Call → Simulation → Simulation
 after_calls [] s = s

@@ -1,15 +1,15 @@
--- One delivery: what becomes of a packet at the place where it waits.
+-- One delivery: what becomes of a packet where it waits.
 -- InfiniBand Architecture Specification, Volume 1: subnet management, directed routes; switches, unicast forwarding.
 use Rattle.std.specs.Prelude.{◌≡◌, ℕ, ◌+◌, ◌^◌, Bool, ◌&&◌, ◌||◌, not, List, [], ◌∷◌, ◌++◌, slice_get, slice_set, ◌==◌, if◌then◌else◌, Option, Some, None, is_some, is_none, Result, Ok, Err, IsOk}
 use Rattle.std.specs.Option.{option_map_or}
-use Rattle.smp_bytes.specs.declared.cable.NodePort.{NodePort}
-use Rattle.smp_bytes.specs.declared.course.Course.{Course}
-use Rattle.smp_bytes.specs.declared.course.Course.TheVariants as course_is
+use Rattle.fabric_model.specs.declared.cable.NodePort.{NodePort}
+use Rattle.fabric_model.specs.declared.course.Course.{Course}
+use Rattle.fabric_model.specs.declared.course.Course.TheVariants as course_is
 use Rattle.smp_bytes.specs.Header.{sm_info}
 use Rattle.smp_bytes.specs.Field.{number_in}
 use Rattle.smp_bytes.specs.Packet.{attribute_id, fault_of, is_directed, is_response}
-use Rattle.smp_bytes.specs.Fabric.{is_switch_at}
-use Rattle.smp_bytes.specs.Forwarding.{course}
+use Rattle.fabric_model.specs.Fabric.{is_switch_at}
+use Rattle.fabric_model.specs.Forwarding.{course}
 use Rattle.dr_forward.specs.declared.verdict.Verdict.{Verdict}
 use Rattle.dr_forward.specs.declared.verdict.Verdict.TheVariants.{Out, ToAgent, ToManager, Discard}
 use Rattle.dr_forward.specs.declared.verdict.DiscardReason.{DiscardReason}
@@ -17,10 +17,10 @@ use Rattle.dr_forward.specs.declared.verdict.DiscardReason.TheVariants as off
 use Rattle.dr_forward.specs.declared.here.Here.{Here}
 use Rattle.dr_forward.specs.Step.{step}
 use Rattle.node_agents.specs.Agent.{Agent}
-use Rattle.node_agents.specs.Answers.{answered}
+use Rattle.node_agents.specs.Answers.{after_answer}
 use Rattle.fabric_sim.specs.declared.packet.Packet.{Packet}
-use Rattle.fabric_sim.specs.declared.flight.Place.{Place}
-use Rattle.fabric_sim.specs.declared.flight.Place.TheVariants.{Arrived}
+use Rattle.fabric_sim.specs.declared.flight.Whereabouts.{Whereabouts}
+use Rattle.fabric_sim.specs.declared.flight.Whereabouts.TheVariants.{Arrived}
 use Rattle.fabric_sim.specs.declared.flight.Flight.{Flight}
 use Rattle.fabric_sim.specs.declared.delivered.Reason.{Reason}
 use Rattle.fabric_sim.specs.declared.delivered.Reason.TheVariants.{Course as OffCourse, Transit, OutPort, Down, Unreadable, NoRoute}
@@ -30,7 +30,7 @@ use Rattle.fabric_sim.specs.declared.outcome.Outcome.{Outcome}
 use Rattle.fabric_sim.specs.declared.outcome.Outcome.TheVariants.{Moves, Asks, HandsUp, Drops}
 use Rattle.fabric_sim.specs.declared.fault.FabricFault.{FabricFault}
 use Rattle.fabric_sim.specs.declared.fault.FabricFault.TheVariants.{Memory, NoSuchPacket, SerialsSpent}
-use Rattle.fabric_sim.specs.Simulation.{Simulation, agent_at, port_count, is_seat_at, across, fabric_of, port_of, is_at_seat, is_by_wire, answer_place, flight_with, without_flight, with_moved, CanWait}
+use Rattle.fabric_sim.specs.Simulation.{Simulation, agent_at, port_count, is_seat_at, across, fabric_of, port_of, is_at_seat, is_by_wire, answer_whereabouts, flight_with, without_flight, with_moved, CanWait}
 
 -- where the packet goes ---------------------------------------------------------------------
 
@@ -88,21 +88,21 @@ by_course s p packet (course_is.Delivers q) = arrived s p packet
 by_course s p packet (course_is.LeavesBy out) = leaving s out packet
 by_course s p packet course_is.Drops = Drops NoRoute
 
-abbrev pub lid_routed_outcome : Simulation → Place → Packet → Outcome
-lid_routed_outcome s place packet =
-    by_course s (port_of place) packet (course (fabric_of s) packet.dlid (record { place = port_of place; by_wire = is_by_wire place }))
+abbrev pub lid_routed_outcome : Simulation → Whereabouts → Packet → Outcome
+lid_routed_outcome s whereabouts packet =
+    by_course s (port_of whereabouts) packet (course (fabric_of s) packet.dlid (record { at = port_of whereabouts; by_wire = is_by_wire whereabouts }))
 
 -- any packet: it has to parse, and where it came by a wire or is an answer that was made there, its port has to be up
-unfoldable pub outcome_of : Simulation → Place → Packet → Outcome
-outcome_of s place packet =
+unfoldable pub outcome_of : Simulation → Whereabouts → Packet → Outcome
+outcome_of s whereabouts packet =
     if is_some (fault_of packet.bytes) then Drops Unreadable
-    else if not (is_at_seat place) && is_none (across s.peers (port_of place)) then Drops Down
-    else if is_directed packet.bytes then directed_outcome s (port_of place) packet
-    else lid_routed_outcome s place packet
+    else if not (is_at_seat whereabouts) && is_none (across s.peers (port_of whereabouts)) then Drops Down
+    else if is_directed packet.bytes then directed_outcome s (port_of whereabouts) packet
+    else lid_routed_outcome s whereabouts packet
 
 -- what moves can wait where it comes to
 abbrev pub CanFare : Simulation → Outcome → Type 0
-CanFare s (Moves place packet) = CanWait s place
+CanFare s (Moves whereabouts packet) = CanWait s whereabouts
 CanFare s (Asks request slid dlid) = Unit {0}
 CanFare s (HandsUp packet) = Unit {0}
 CanFare s (Drops reason) = Unit {0}
@@ -114,7 +114,7 @@ pub record Called (R : Type 0) : Type 0 where
   pub fabric : Simulation
   pub result : Result R FabricFault
 
--- a call has come to this, but for want of memory: that is answered only where it is not refused, and leaves everything
+-- a call has come to this, but for lack of memory: that is answered only where it is not refused, and leaves everything
 -- as it is
 abbrev pub ComesTo : {R : Type 0} → Result R FabricFault → Simulation → Simulation → Called R → Type 0
 ComesTo (Err Memory) old new called = (new ≡ old) × IsOk called.result
@@ -126,49 +126,49 @@ refused s fault = record { fabric = s; result = Err fault }
 
 -- the agents with one changed
 abbrev pub with_changed : List Agent → ℕ → (Agent → Agent) → List Agent
-with_changed agents place change = option_map_or (λ a. slice_set agents place (change a)) (slice_get agents place) agents
+with_changed agents id change = option_map_or (λ a. slice_set agents id (change a)) (slice_get agents id) agents
 
 -- one packet more, under the next serial number
-abbrev pub with_flight : Simulation → Place → Packet → Simulation
-with_flight s place packet =
-    record s { flights = s.flights ++ record { serial = s.next; place = place; packet = packet } ∷ []; next = s.next + 1 }
+abbrev pub with_flight : Simulation → Whereabouts → Packet → Simulation
+with_flight s whereabouts packet =
+    record s { flights = s.flights ++ record { serial = s.next; whereabouts = whereabouts; packet = packet } ∷ []; next = s.next + 1 }
 
 -- the same as a call, where a serial number is left
-abbrev pub launched : Simulation → Place → Packet → Called ℕ
-launched s place packet = if s.next == 2 ^ 64 then refused s SerialsSpent else record { fabric = with_flight s place packet; result = Ok s.next }
+abbrev pub after_enqueue : Simulation → Whereabouts → Packet → Called ℕ
+after_enqueue s whereabouts packet = if s.next == 2 ^ 64 then refused s SerialsSpent else record { fabric = with_flight s whereabouts packet; result = Ok s.next }
 
 -- without the packet of a number
 abbrev pub without : Simulation → ℕ → Simulation
 without s serial = record s { flights = without_flight s.flights serial }
 
--- the packet at another place
-abbrev pub moved_to : Simulation → ℕ → Place → Packet → Simulation
-moved_to s serial place packet = record s { flights = with_moved s.flights (record { serial = serial; place = place; packet = packet }) }
+-- the packet at other whereabouts
+abbrev pub moved_to : Simulation → ℕ → Whereabouts → Packet → Simulation
+moved_to s serial whereabouts packet = record s { flights = with_moved s.flights (record { serial = serial; whereabouts = whereabouts; packet = packet }) }
 
 -- what the agent at a port answers to a request
 abbrev pub answer_at : Simulation → NodePort → List ℕ → List ℕ
-answer_at s p bytes = option_map_or (λ a. (answered a bytes p.port).packet) (agent_at s p.node) bytes
+answer_at s p bytes = option_map_or (λ a. (after_answer a bytes p.port).packet) (agent_at s p.node) bytes
 
 -- the agent has answered the request that waited there, and its answer waits in its stead
 abbrev pub asked : Simulation → Flight → List ℕ → ℕ → ℕ → Simulation
 asked s flight request slid dlid =
-    let p = port_of flight.place in
-    let told = record (without s flight.serial) { agents = with_changed s.agents p.node (λ a. (answered a request p.port).agent) } in
-    with_flight told (answer_place flight.place) (record { bytes = answer_at s p request; slid = slid; dlid = dlid })
+    let p = port_of flight.whereabouts in
+    let told = record (without s flight.serial) { agents = with_changed s.agents p.node (λ a. (after_answer a request p.port).agent) } in
+    with_flight told (answer_whereabouts flight.whereabouts) (record { bytes = answer_at s p request; slid = slid; dlid = dlid })
 
 -- the packet fares so; an answer needs a serial number of its own
-abbrev pub brought : Simulation → Flight → Outcome → Called Delivered
-brought s flight (Moves place packet) = record { fabric = moved_to s flight.serial place packet; result = Ok (delivered_is.Moved flight.serial) }
-brought s flight (Asks request slid dlid) =
+abbrev pub after_outcome : Simulation → Flight → Outcome → Called Delivered
+after_outcome s flight (Moves whereabouts packet) = record { fabric = moved_to s flight.serial whereabouts packet; result = Ok (delivered_is.Moved flight.serial) }
+after_outcome s flight (Asks request slid dlid) =
     if s.next == 2 ^ 64 then refused s SerialsSpent
     else record { fabric = asked s flight request slid dlid; result = Ok (delivered_is.Answered s.next) }
-brought s flight (HandsUp packet) = record { fabric = without s flight.serial; result = Ok (delivered_is.ToManager (port_of flight.place) packet) }
-brought s flight (Drops reason) = record { fabric = without s flight.serial; result = Ok (delivered_is.Discarded reason) }
+after_outcome s flight (HandsUp packet) = record { fabric = without s flight.serial; result = Ok (delivered_is.ToManager (port_of flight.whereabouts) packet) }
+after_outcome s flight (Drops reason) = record { fabric = without s flight.serial; result = Ok (delivered_is.Discarded reason) }
 
 abbrev pub delivered_flight : Simulation → Option Flight → Called Delivered
 delivered_flight s None = refused s NoSuchPacket
-delivered_flight s (Some flight) = brought s flight (outcome_of s flight.place flight.packet)
+delivered_flight s (Some flight) = after_outcome s flight (outcome_of s flight.whereabouts flight.packet)
 
 -- one step of the packet with a serial number
-unfoldable pub delivered : Simulation → ℕ → Called Delivered
-delivered s serial = delivered_flight s (flight_with s.flights serial)
+unfoldable pub after_deliver : Simulation → ℕ → Called Delivered
+after_deliver s serial = delivered_flight s (flight_with s.flights serial)

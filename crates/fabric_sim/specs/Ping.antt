@@ -2,11 +2,11 @@
 -- InfiniBand Architecture Specification, Volume 1: switches, unicast forwarding by the linear forwarding table.
 use Rattle.std.specs.Prelude.{◌≡◌, ℕ, zero, suc, ◌+◌, List, length, Option, Some, None, if◌then◌else◌}
 use Rattle.std.specs.Option.{option_map_or}
-use Rattle.smp_bytes.specs.declared.cable.NodePort.{NodePort}
-use Rattle.smp_bytes.specs.declared.course.Course.{Course}
-use Rattle.smp_bytes.specs.declared.course.Course.TheVariants.{Delivers, LeavesBy, Drops}
-use Rattle.smp_bytes.specs.Fabric.{Fabric}
-use Rattle.smp_bytes.specs.Forwarding.{Standing, Hop, sent_from, arrived_at, course, wire_bound, IsDelivered, IsLost}
+use Rattle.fabric_model.specs.declared.cable.NodePort.{NodePort}
+use Rattle.fabric_model.specs.declared.course.Course.{Course}
+use Rattle.fabric_model.specs.declared.course.Course.TheVariants.{Delivers, LeavesBy, Drops}
+use Rattle.fabric_model.specs.Fabric.{Fabric}
+use Rattle.fabric_model.specs.Forwarding.{Standing, Hop, sent_from, arrived_at, course, wire_bound, IsDelivered, IsLost}
 use Rattle.fabric_sim.specs.declared.fault.FabricFault.{FabricFault}
 use Rattle.fabric_sim.specs.declared.fault.FabricFault.TheVariants.{NoSuchPort}
 use Rattle.fabric_sim.specs.Simulation.{Simulation, is_port}
@@ -16,12 +16,12 @@ use Rattle.fabric_sim.specs.declared.ping.Ping.TheVariants.{Reached, Lost}
 -- what becomes of a packet after so many wires, by its course and by what becomes of it at the other end of a wire
 abbrev pub ping_by : Fabric → Standing → ℕ → (NodePort → Ping) → Course → Ping
 ping_by f s hops on (Delivers p) = Reached p hops
-ping_by f s hops on (LeavesBy out) = option_map_or on (f.across out) (Lost s.place.node)
-ping_by f s hops on Drops = Lost s.place.node
+ping_by f s hops on (LeavesBy out) = option_map_or on (f.across out) (Lost s.at.node)
+ping_by f s hops on Drops = Lost s.at.node
 
 -- the same, where it may take so many wires more, after which it is lost where it is
 abbrev pub ping_on : Fabric → ℕ → ℕ → ℕ → Standing → Ping
-ping_on f lid zero hops s = Lost s.place.node
+ping_on f lid zero hops s = Lost s.at.node
 ping_on f lid (suc left) hops s = ping_by f s hops (λ into. ping_on f lid left (hops + 1) (arrived_at into)) (course f lid s)
 
 -- a packet for a LID, sent from a port
@@ -43,7 +43,7 @@ pub record DeliversOver (f : Fabric) (lid : ℕ) (source target : NodePort) (cou
 abbrev pub PingsTell : Type 0
 PingsTell = (f : Fabric) (lid : ℕ) (source : NodePort)
     → ((target : NodePort) (count : ℕ) → ping f lid source ≡ Reached target count → DeliversOver f lid source target count)
-    × ((place : ℕ) → ping f lid source ≡ Lost place → (hops : List Hop) × IsLost f lid source hops place)
+    × ((id : ℕ) → ping f lid source ≡ Lost id → (hops : List Hop) × IsLost f lid source hops id)
 
 -- and what is so a ping finds: a packet that is delivered, at that port and over that many wires
 abbrev pub PingsFind : Type 0

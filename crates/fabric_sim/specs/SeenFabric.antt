@@ -1,5 +1,5 @@
 -- What packets see of a simulation is a fabric.
-use Rattle.smp_bytes.specs.Fabric.{IsFabric}
+use Rattle.fabric_model.specs.Fabric.{IsFabric}
 use Rattle.fabric_sim.specs.Simulation.{Simulation, IsSimulation, fabric_of}
 
 -- its nodes have 1 to 254 ports, and its cables lead from port to port and back

@@ -1,15 +1,15 @@
 -- A simulated fabric: the agents of its nodes, the cables between their ports, and the packets on their way.
 use Rattle.std.specs.Prelude.{◌≡◌, ℕ, ◌+◌, ◌^◌, ◌<◌, ◌≤◌, ◌↔◌, ◌&&◌, ◌||◌, not, Bool, true, false, List, [], map, length, All, AllPairs, find, filter, slice_get, slice_index_or, nat_le, ◌==◌, if◌then◌else◌, Option, Some, None, option_map}
 use Rattle.std.specs.Option.{option_map_or}
-use Rattle.smp_bytes.specs.declared.cable.NodePort.{NodePort}
-use Rattle.smp_bytes.specs.Fabric.{Fabric, is_switch_at}
+use Rattle.fabric_model.specs.declared.cable.NodePort.{NodePort}
+use Rattle.fabric_model.specs.Fabric.{Fabric, is_switch_at}
 use Rattle.attr_codec.specs.declared.port_state.PortState.TheVariants.{Down}
 use Rattle.node_agents.specs.Agent.{Agent, IsAgent, node_of, state_at, base_lid_at, lmc_at, entry_at, has_seat}
-use Rattle.fabric_sim.specs.declared.flight.Place.{Place}
-use Rattle.fabric_sim.specs.declared.flight.Place.TheVariants.{Seat, Arrived, Made}
+use Rattle.fabric_sim.specs.declared.flight.Whereabouts.{Whereabouts}
+use Rattle.fabric_sim.specs.declared.flight.Whereabouts.TheVariants.{Seat, Arrived, Made}
 use Rattle.fabric_sim.specs.declared.flight.Flight.{Flight}
 
--- The agents by the places of their nodes; for each node the other ends of the cables in its ports, from port 0 on, in
+-- The agents by the ids of their nodes; for each node the other ends of the cables in its ports, from port 0 on, in
 -- which no cable can be; the packets in flight, by rising serial number; and the serial number that is given next, 2 ^ 64
 -- where none is left.
 pub record Simulation : Type 0 where
@@ -26,11 +26,11 @@ next_serial (Some serial) = serial
 -- nodes and ports ----------------------------------------------------------------------
 
 abbrev pub agent_at : Simulation → ℕ → Option Agent
-agent_at s place = slice_get s.agents place
+agent_at s id = slice_get s.agents id
 
 -- how many ports a node has from 1 on
 abbrev pub port_count : Simulation → ℕ → ℕ
-port_count s place = option_map_or (λ a. a.node.ports) (agent_at s place) 0
+port_count s id = option_map_or (λ a. a.node.ports) (agent_at s id) 0
 
 -- a port from 1 to its node's count, into which a cable can go
 abbrev pub has_cable_port : List Agent → NodePort → Bool
@@ -55,39 +55,39 @@ fabric_of s =
       across = across s.peers;
       base_lid = λ p. option_map_or (λ a. base_lid_at a p.port) (agent_at s p.node) 0;
       lmc = λ p. option_map_or (λ a. lmc_at a p.port) (agent_at s p.node) 0;
-      entry = λ place lid. option_map_or (λ a. entry_at a lid) (agent_at s place) 255;
-      top = λ place. option_map_or (λ a. a.top) (agent_at s place) 0;
+      entry = λ id lid. option_map_or (λ a. entry_at a lid) (agent_at s id) 255;
+      top = λ id. option_map_or (λ a. a.top) (agent_at s id) 0;
     }
 
 -- a port of the fabric: a cable port, or port 0 of a switch
 abbrev pub is_port : Simulation → NodePort → Bool
 is_port s p = nat_le p.port (port_count s p.node) && (nat_le 1 p.port || is_switch_at (fabric_of s) p.node)
 
--- places -----------------------------------------------------------------------------
+-- whereabouts -----------------------------------------------------------------------------
 
 -- the port where a packet waits
-abbrev pub port_of : Place → NodePort
+abbrev pub port_of : Whereabouts → NodePort
 port_of (Seat p) = p
 port_of (Arrived p) = p
 port_of (Made p) = p
 
 -- the packet waits where its sender sits
-abbrev pub is_at_seat : Place → Bool
+abbrev pub is_at_seat : Whereabouts → Bool
 is_at_seat (Seat p) = true
 is_at_seat (Arrived p) = false
 is_at_seat (Made p) = false
 
 -- the packet came to its port by a wire
-abbrev pub is_by_wire : Place → Bool
+abbrev pub is_by_wire : Whereabouts → Bool
 is_by_wire (Seat p) = false
 is_by_wire (Arrived p) = true
 is_by_wire (Made p) = false
 
 -- where the answer to a request waits that waited there: at its sender's seat, or where it is made
-abbrev pub answer_place : Place → Place
-answer_place (Seat p) = Seat p
-answer_place (Arrived p) = Made p
-answer_place (Made p) = Made p
+abbrev pub answer_whereabouts : Whereabouts → Whereabouts
+answer_whereabouts (Seat p) = Seat p
+answer_whereabouts (Arrived p) = Made p
+answer_whereabouts (Made p) = Made p
 
 -- packets in flight -----------------------------------------------------------------------
 
@@ -102,7 +102,7 @@ flight_with flights serial = find (is_numbered serial) flights
 abbrev pub IsFlightAt : List Flight → ℕ → ℕ → Type 0
 IsFlightAt flights i serial = option_map (λ flight. flight.serial) (slice_get flights i) ≡ Some serial
 
--- the place of the packet with a serial number, or that there is none
+-- the index of the packet with a serial number, or that there is none
 abbrev pub Finds : List Flight → ℕ → Option ℕ → Type 0
 Finds flights serial None = flight_with flights serial ≡ None
 Finds flights serial (Some i) = IsFlightAt flights i serial × (slice_get flights i ≡ flight_with flights serial)
@@ -111,19 +111,19 @@ Finds flights serial (Some i) = IsFlightAt flights i serial × (slice_get flight
 abbrev pub without_flight : List Flight → ℕ → List Flight
 without_flight flights serial = filter (λ flight. not (is_numbered serial flight)) flights
 
--- with another in the place of the one that has its serial number
+-- with another instead of the one that has its serial number
 abbrev pub with_moved : List Flight → Flight → List Flight
 with_moved flights moved = map (λ flight. if is_numbered moved.serial flight then moved else flight) flights
 
 -- what holds of each simulation ---------------------------------------------------------
 
--- a place for the other end of the cable in a port
-abbrev pub HasPeerPlace : List (List (Option NodePort)) → NodePort → Type 0
-HasPeerPlace peers p = p.port < length (slice_index_or peers p.node [])
+-- a slot for the other end of the cable in a port
+abbrev pub HasPeerSlot : List (List (Option NodePort)) → NodePort → Type 0
+HasPeerSlot peers p = p.port < length (slice_index_or peers p.node [])
 
--- a list of the other ends for each node, with a place for each of its ports, port 0 among them
+-- a list of the other ends for each node, with a slot for each of its ports, port 0 among them
 abbrev pub FitsPorts : Simulation → Type 0
-FitsPorts s = (place : ℕ) (a : Agent) → agent_at s place ≡ Some a → length (slice_index_or s.peers place []) ≡ a.node.ports + 1
+FitsPorts s = (id : ℕ) (a : Agent) → agent_at s id ≡ Some a → length (slice_index_or s.peers id []) ≡ a.node.ports + 1
 
 -- a port from 1 on is down exactly where no cable is in it
 abbrev pub AreUncabledDown : Simulation → Type 0
@@ -138,14 +138,14 @@ pub record AreCables (s : Simulation) : Type 0 where
   pub lead_back : (p q : NodePort) → across s.peers p ≡ Some q → across s.peers q ≡ Some p
   pub down : AreUncabledDown s
 
--- a packet can wait at a port, and at a seat where its place is one
-pub record CanWait (s : Simulation) (place : Place) : Type 0 where
-  pub port : is_cable_port s (port_of place) ≡ true
-  pub seat : is_at_seat place ≡ true → is_seat_at s (port_of place) ≡ true
+-- a packet can wait at a port, and at a seat where its whereabouts are one
+pub record CanWait (s : Simulation) (whereabouts : Whereabouts) : Type 0 where
+  pub port : is_cable_port s (port_of whereabouts) ≡ true
+  pub seat : is_at_seat whereabouts ≡ true → is_seat_at s (port_of whereabouts) ≡ true
 
 -- a packet in flight waits where it can, under a number that was given
 pub record IsWaiting (s : Simulation) (flight : Flight) : Type 0 where
-  pub place : CanWait s flight.place
+  pub whereabouts : CanWait s flight.whereabouts
   pub given : flight.serial < s.next
 
 -- serial numbers rise

@@ -1,13 +1,13 @@
 -- What a packet that came back over a directed route says of the node at the end of its path.
 -- InfiniBand Architecture Specification, Volume 1: subnet management, NodeInfo, PortInfo and SwitchInfo; directed route SMPs.
 use Rattle.std.specs.Prelude.{◌≡◌, ◌↔◌, ◌⊎◌, ℕ, ◌≤◌, true, List, Some, if◌then◌else◌}
-use Rattle.smp_bytes.specs.declared.cable.NodePort.{NodePort}
+use Rattle.fabric_model.specs.declared.cable.NodePort.{NodePort}
 use Rattle.smp_bytes.specs.Header.{node_info, switch_info, port_info, done}
 use Rattle.smp_bytes.specs.Field.{number_in, bits_in, bytes_in}
 use Rattle.smp_bytes.specs.Packet.{attribute_id, attribute_modifier, attribute_data, hop_count, status}
 use Rattle.smp_bytes.specs.NodeType.{is_switch}
-use Rattle.smp_bytes.specs.Fabric.{Node, Fabric, IsNodeAt}
-use Rattle.smp_bytes.specs.DirectedWalk.{directed_end}
+use Rattle.fabric_model.specs.Fabric.{Node, Fabric, IsNodeAt}
+use Rattle.fabric_model.specs.DirectedWalk.{directed_end}
 use Rattle.attr_codec.specs.declared.node_info.NodeInfo.{NodeInfo}
 use Rattle.attr_codec.specs.NodeInfo.{node_info_in}
 use Rattle.attr_codec.specs.NodeTypeNumber.{number_of_type}
@@ -28,7 +28,7 @@ pub record SaysNode (node : Node) (port : ℕ) (info : NodeInfo) : Type 0 where
 
 -- a port is up where a cable is in it; a switch's port 0 always is
 abbrev pub IsUp : Fabric → ℕ → Node → ℕ → Type 0
-IsUp f place node port = ((is_switch node.kind ≡ true) × (port ≡ 0)) ⊎ ((far : NodePort) × (f.across (record { node = place; port = port }) ≡ Some far))
+IsUp f id node port = ((is_switch node.kind ≡ true) × (port ≡ 0)) ⊎ ((far : NodePort) × (f.across (record { node = id; port = port }) ≡ Some far))
 
 -- the number of a port state that is up: Initialize, Armed or Active
 abbrev pub IsUpState : ℕ → Type 0
@@ -40,9 +40,9 @@ abbrev pub port_asked : Node → ℕ → ℕ → ℕ
 port_asked node modifier arrival = if is_switch node.kind then modifier else arrival
 
 -- a port of the node that is up exactly where its state says so
-pub record SaysPort (f : Fabric) (place : ℕ) (node : Node) (port state : ℕ) : Type 0 where
+pub record SaysPort (f : Fabric) (id : ℕ) (node : Node) (port state : ℕ) : Type 0 where
   pub within : port ≤ node.ports
-  pub up : IsUpState state ↔ IsUp f place node port
+  pub up : IsUpState state ↔ IsUp f id node port
 
 -- a switch, and the entries that its forwarding table has room for
 pub record SaysSwitch (node : Node) (entries : ℕ) : Type 0 where

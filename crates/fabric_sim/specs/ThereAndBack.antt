@@ -1,20 +1,20 @@
 -- There and back: a request on a directed route is answered at the end of its path, and the answer comes to its sender.
 use Rattle.std.specs.Prelude.{◌≡◌, ◌≢◌, ℕ, ◌<◌, ◌≤◌, ◌^◌, true, List, [], ◌∷◌, length, Some, Ok, All, count_by}
-use Rattle.smp_bytes.specs.declared.cable.NodePort.{NodePort}
+use Rattle.fabric_model.specs.declared.cable.NodePort.{NodePort}
 use Rattle.smp_bytes.specs.Header.{get_resp, sm_info}
 use Rattle.smp_bytes.specs.Field.{number_in, bytes_in}
 use Rattle.smp_bytes.specs.Packet as field
 use Rattle.smp_bytes.specs.Packet.{is_returning, status, max_hops, permissive_lid}
 use Rattle.smp_bytes.specs.Requests.{directed}
 use Rattle.smp_bytes.specs.ReadBack.{FitsRequest}
-use Rattle.smp_bytes.specs.DirectedWalk.{directed_end}
+use Rattle.fabric_model.specs.DirectedWalk.{directed_end}
 use Rattle.node_agents.specs.Agent.{Agent}
-use Rattle.node_agents.specs.Answers.{answered}
+use Rattle.node_agents.specs.Answers.{after_answer}
 use Rattle.fabric_sim.specs.declared.packet.Packet.{Packet}
 use Rattle.fabric_sim.specs.declared.delivered.Delivered.TheVariants as delivered_is
 use Rattle.fabric_sim.specs.Simulation.{Simulation, IsSimulation, agent_at, is_seat_at, fabric_of}
-use Rattle.fabric_sim.specs.Delivery.{delivered}
-use Rattle.fabric_sim.specs.Changes.{injected}
+use Rattle.fabric_sim.specs.Delivery.{after_deliver}
+use Rattle.fabric_sim.specs.Changes.{after_inject}
 use Rattle.fabric_sim.specs.Calls.{Call, Lose, after_calls, is_delivery_of}
 
 -- a directed request has no LID-routed part
@@ -50,13 +50,13 @@ Deliver calls serial count = All (KeepsPacket serial) calls × (count_by (is_del
 -- the delivery of a request is answered by an agent, at this port
 pub record IsAnsweredAt (s : Simulation) (serial : ℕ) (request : List ℕ) (at : NodePort) (agent : Agent) : Type 0 where
   pub there : agent_at s at.node ≡ Some agent
-  pub result : (delivered s serial).result ≡ Ok (delivered_is.Answered s.next)
-  pub after : agent_at (delivered s serial).fabric at.node ≡ Some (answered agent request at.port).agent
+  pub result : (after_deliver s serial).result ≡ Ok (delivered_is.Answered s.next)
+  pub after : agent_at (after_deliver s serial).fabric at.node ≡ Some (after_answer agent request at.port).agent
 
 -- the delivery of an answer hands it up to the manager at a port
 pub record ComesHome (s : Simulation) (serial : ℕ) (at : NodePort) (path request told : List ℕ) : Type 0 where
   pub packet : Packet
-  pub result : (delivered s serial).result ≡ Ok (delivered_is.ToManager at packet)
+  pub result : (after_deliver s serial).result ≡ Ok (delivered_is.ToManager at packet)
   pub answer : IsAnswerOver path request told packet.bytes
 
 -- Whatever else is called, as long as no cable changes and the packet is not lost: the delivery after as many as the path
@@ -70,9 +70,9 @@ ThereAndBack =
     → length path ≤ max_hops → All (λ port. port < 2 ^ 8) path → BeginsWith origin.port path → directed_end (fabric_of s) origin path ≡ Some end
     → (there back : List Call) →
     let request = directed method attribute modifier tid path payload in
-    let sent = (injected s origin (directed_packet request)).fabric in
+    let sent = (after_inject s origin (directed_packet request)).fabric in
     let arrived = after_calls there sent in
-    let turned = (delivered arrived s.next).fabric in
+    let turned = (after_deliver arrived s.next).fabric in
     Deliver there s.next (length path) → arrived.next < 2 ^ 64
     → (agent : Agent) × IsAnsweredAt arrived s.next request end agent
-    × (Deliver back arrived.next (length path) → ComesHome (after_calls back turned) arrived.next origin path request (answered agent request end.port).packet)
+    × (Deliver back arrived.next (length path) → ComesHome (after_calls back turned) arrived.next origin path request (after_answer agent request end.port).packet)

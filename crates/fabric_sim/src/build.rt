@@ -1,16 +1,16 @@
 ghost use Rattle.std.specs.Prelude.{◌≡◌, ◌≤◌, ◌-◌, ◌++◌, length, replicate, IfOk};
 ghost use Rattle.node_agents.specs.Agent.{IsAgentNode};
 ghost use Rattle.topo_file.specs.Topology.{IsTopology, IsNode};
-ghost use Rattle.smp_bytes.specs.Cables.{other_end};
-ghost use Rattle.smp_bytes.specs.declared.cable.NodePort.{NodePort};
+ghost use Rattle.fabric_model.specs.Cables.{other_end};
+ghost use Rattle.fabric_model.specs.declared.cable.NodePort.{NodePort};
 ghost use Rattle.fabric_sim.specs.Simulation.{across};
 ghost use Rattle.fabric_sim.specs.Build.{agent_node, uncabled, simulation_of};
 
 use crate::fabric::Fabric;
 use crate::peers::Peers;
 use attr_codec::{Attribute, NodeDescription};
+use fabric_model::NodeId;
 use node_agents::{Agent, AgentNode};
-use smp_bytes::NodeId;
 use std::alloc::{AllocError, Global};
 use std::collections::VecDeque;
 use topo_file::{Node, Topology};
@@ -18,7 +18,7 @@ use topo_file::{Node, Topology};
 impl Fabric {
     /// The fabric of a topology: an agent for each of its nodes, to which nothing was written, and a cable for each of
     /// its links. Nothing is in flight, and serial numbers are given from `first_serial` on. Takes a step for each port
-    /// of each node. Refused for want of memory alone.
+    /// of each node. Refused for lack of memory alone.
     pub fn of(alloc: Global, topology: &Topology, first_serial: u64) -> Result<Fabric, AllocError>
         ensures fabric { IfOk result (λ fabric.
             fabric ≡ simulation_of topology.now first_serial) }

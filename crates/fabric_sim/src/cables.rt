@@ -1,14 +1,14 @@
 ghost use Rattle.std.specs.Prelude.{◌≡◌, true, None, Some};
-ghost use Rattle.node_agents.specs.Agent.{wired};
-ghost use Rattle.fabric_sim.specs.Simulation.{is_cable_port, has_cable_port, across, HasPeerPlace};
+ghost use Rattle.node_agents.specs.Agent.{after_set_wired};
+ghost use Rattle.fabric_sim.specs.Simulation.{is_cable_port, has_cable_port, across, HasPeerSlot};
 ghost use Rattle.fabric_sim.specs.Delivery.{with_changed};
-ghost use Rattle.fabric_sim.specs.Changes.{with_peer, joined, plugged, parted, cut};
+ghost use Rattle.fabric_sim.specs.Changes.{with_peer, cabled_at, after_plug, uncabled_at, after_cut};
 
 use crate::fabric::Fabric;
 use crate::fault::FabricFault;
 use crate::peers::Peers;
+use fabric_model::NodePort;
 use node_agents::Agent;
-use smp_bytes::NodePort;
 
 impl Fabric {
     /// Plugs a cable into two ports, or a loop into one port given twice. Both become Initialize. Takes no memory.
@@ -16,10 +16,10 @@ impl Fabric {
     /// # Errors
     ///
     /// `NoSuchPort` where either is no port from 1 to its node's count, and `PortTaken` where a cable is in either.
-    #[tactic(auto, unfolding(crate::specs::Changes::plugged))]
+    #[tactic(auto, unfolding(crate::specs::Changes::after_plug))]
     pub fn plug(&mut self, one: NodePort, other: NodePort) -> Result<(), FabricFault>
-        ensures fabric { self.new ≡ (plugged self.old one other).fabric }
-        ensures result { result ≡ (plugged self.old one other).result }
+        ensures fabric { self.new ≡ (after_plug self.old one other).fabric }
+        ensures result { result ≡ (after_plug self.old one other).result }
     {
         if !self.is_cable_port(&one) || !self.is_cable_port(&other) {
             return Err(FabricFault::NoSuchPort);
@@ -32,13 +32,13 @@ impl Fabric {
     }
 
     /// Plugs a cable into two free ports, or a loop into one.
-    #[tactic(auto, unfolding(crate::specs::Changes::joined))]
+    #[tactic(auto, unfolding(crate::specs::Changes::cabled_at))]
     pub(crate) fn join(&mut self, one: &NodePort, other: &NodePort)
         requires one { is_cable_port self.old one.now ≡ true }
         requires other { is_cable_port self.old other.now ≡ true }
         requires one_free { across self.old.peers one.now ≡ None }
         requires other_free { across self.old.peers other.now ≡ None }
-        ensures { self.new ≡ joined self.old one.now other.now }
+        ensures { self.new ≡ cabled_at self.old one.now other.now }
     {
         set_wired(&mut self.agents, one, true);
         set_wired(&mut self.agents, other, true);
@@ -51,10 +51,10 @@ impl Fabric {
     /// # Errors
     ///
     /// `NoSuchPort`, also where no cable is in the port.
-    #[tactic(auto, unfolding(crate::specs::Changes::cut))]
+    #[tactic(auto, unfolding(crate::specs::Changes::after_cut))]
     pub fn cut(&mut self, at: NodePort) -> Result<(), FabricFault>
-        ensures fabric { self.new ≡ (cut self.old at).fabric }
-        ensures result { result ≡ (cut self.old at).result }
+        ensures fabric { self.new ≡ (after_cut self.old at).fabric }
+        ensures result { result ≡ (after_cut self.old at).result }
     {
         let Some(other) = self.across(&at) else {
             return Err(FabricFault::NoSuchPort);
@@ -64,10 +64,10 @@ impl Fabric {
     }
 
     /// Takes a cable out of its two ports.
-    #[tactic(auto, unfolding(crate::specs::Changes::parted))]
+    #[tactic(auto, unfolding(crate::specs::Changes::uncabled_at))]
     fn part(&mut self, one: &NodePort, other: &NodePort)
         requires { across self.old.peers one.now ≡ Some other.now }
-        ensures { self.new ≡ parted self.old one.now other.now }
+        ensures { self.new ≡ uncabled_at self.old one.now other.now }
     {
         set_wired(&mut self.agents, one, false);
         set_wired(&mut self.agents, other, false);
@@ -80,17 +80,17 @@ impl Fabric {
 fn set_wired(agents: &mut [Agent], port: &NodePort, is_wired: bool)
     requires { has_cable_port agents.old port.now ≡ true }
     ensures { agents.new
-        ≡ with_changed agents.old port.now.node (λ a. wired a port.now.port is_wired) }
+        ≡ with_changed agents.old port.now.node (λ a. after_set_wired a port.now.port is_wired) }
 {
-    let agent = &mut agents[port.node.place()];
+    let agent = &mut agents[port.node.number()];
     agent.set_wired(port.port, is_wired);
 }
 
 /// Puts the other end of a cable down at a port, or strikes it out.
 fn set_peer(peers: &mut [Peers], port: &NodePort, other: Option<NodePort>)
-    requires { HasPeerPlace peers.old port.now }
+    requires { HasPeerSlot peers.old port.now }
     ensures { peers.new ≡ with_peer peers.old port.now other }
 {
-    let peers = &mut peers[port.node.place()];
+    let peers = &mut peers[port.node.number()];
     peers.set(port.port, other);
 }

@@ -1,42 +1,43 @@
 ghost use Rattle.std.specs.Prelude.{◌≡◌, ◌<◌, length, slice_get, Some, None, true, false};
 ghost use Rattle.smp_bytes.specs.Packet.{is_directed, fault_of};
-ghost use Rattle.smp_bytes.specs.Forwarding.{course};
+ghost use Rattle.fabric_model.specs.Forwarding.{course};
 ghost use Rattle.fabric_sim.specs.declared.outcome.Outcome.TheVariants.{Asks};
 ghost use Rattle.fabric_sim.specs.Simulation.{port_of, is_cable_port, fabric_of};
-ghost use Rattle.fabric_sim.specs.Delivery.{carrying, here_at, is_for_manager, leaving, at_agent, by_verdict, by_course, arrived, directed_outcome, lid_routed_outcome, outcome_of, CanFare, brought, delivered};
+ghost use Rattle.fabric_sim.specs.Delivery.{carrying, here_at, is_for_manager, leaving, at_agent, by_verdict, by_course, arrived, directed_outcome, lid_routed_outcome, outcome_of, CanFare, after_outcome, after_deliver};
 
 use crate::delivered::{Delivered, Reason};
 use crate::fabric::Fabric;
 use crate::fault::FabricFault;
-use crate::flight::{Flight, Place};
+use crate::flight::{Flight, Whereabouts};
 use crate::outcome::Outcome;
 use crate::packet::Packet;
 use dr_forward::{Here, Verdict, step};
-use smp_bytes::{AttributeId, Course, Lid, NodePort, Smp, SmpClass};
+use fabric_model::{Course, NodePort};
+use smp_bytes::{AttributeId, Lid, Smp, SmpClass};
 
 impl Fabric {
     /// One step of the packet in flight that has the serial number: it moves over a wire, is answered, is handed to a
     /// subnet manager, or is discarded. Takes no memory. The first packet in flight takes one search step, and any
-    /// other as many as their number has binary digits, and its place is closed by the others.
+    /// other as many as their number has binary digits, and its gap is closed by the others.
     ///
     /// # Errors
     ///
     /// `NoSuchPacket`, and `SerialsSpent` where an agent is to answer and no serial number is left.
-    #[tactic(auto, unfolding(crate::specs::Delivery::delivered))]
+    #[tactic(auto, unfolding(crate::specs::Delivery::after_deliver))]
     pub fn deliver(&mut self, serial: u64) -> Result<Delivered, FabricFault>
-        ensures fabric { self.new ≡ (delivered self.old serial).fabric }
-        ensures result { result ≡ (delivered self.old serial).result }
+        ensures fabric { self.new ≡ (after_deliver self.old serial).fabric }
+        ensures result { result ≡ (after_deliver self.old serial).result }
     {
         let Some(i) = self.find(serial) else {
             return Err(FabricFault::NoSuchPacket);
         };
         let flight = self.flights[i];
-        let outcome = self.outcome(flight.place, &flight.packet);
-        self.bring(i, &flight, outcome)
+        let outcome = self.outcome(flight.whereabouts, &flight.packet);
+        self.apply(i, &flight, outcome)
     }
 
-    /// Moves, answers, hands up or discards the packet of a place among those in flight.
-    fn bring(
+    /// Moves, answers, hands up or discards the packet of an index among those in flight.
+    fn apply(
         &mut self,
         i: usize,
         flight: &Flight,
@@ -44,18 +45,18 @@ impl Fabric {
     ) -> Result<Delivered, FabricFault>
         requires at { slice_get self.old.flights i ≡ Some flight.now }
         requires can { CanFare self.old outcome }
-        ensures fabric { self.new ≡ (brought self.old flight.now outcome).fabric }
-        ensures result { result ≡ (brought self.old flight.now outcome).result }
+        ensures fabric { self.new ≡ (after_outcome self.old flight.now outcome).fabric }
+        ensures result { result ≡ (after_outcome self.old flight.now outcome).result }
     {
         match outcome {
-            Outcome::Moves(place, packet) => {
-                self.move_to(i, flight.serial, place, packet);
+            Outcome::Moves(whereabouts, packet) => {
+                self.move_to(i, flight.serial, whereabouts, packet);
                 Ok(Delivered::Moved(flight.serial))
             }
             Outcome::Asks(smp, slid, dlid) => self.ask(i, flight, &smp, slid, dlid),
             Outcome::HandsUp(packet) => {
                 self.remove(i, flight.serial);
-                Ok(Delivered::ToManager(flight.place.port(), packet))
+                Ok(Delivered::ToManager(flight.whereabouts.port(), packet))
             }
             Outcome::Drops(reason) => {
                 self.remove(i, flight.serial);
@@ -74,19 +75,19 @@ impl Fabric {
         dlid: Lid,
     ) -> Result<Delivered, FabricFault>
         requires at { slice_get self.old.flights i ≡ Some flight.now }
-        ensures fabric { self.new ≡ (brought self.old flight.now (Asks request.now slid dlid)).fabric }
-        ensures result { result ≡ (brought self.old flight.now (Asks request.now slid dlid)).result }
+        ensures fabric { self.new ≡ (after_outcome self.old flight.now (Asks request.now slid dlid)).fabric }
+        ensures result { result ≡ (after_outcome self.old flight.now (Asks request.now slid dlid)).result }
     {
         let Some(serial) = self.next else {
             return Err(FabricFault::SerialsSpent);
         };
-        let at = flight.place.port();
-        let agent = &mut self.agents[at.node.place()];
+        let at = flight.whereabouts.port();
+        let agent = &mut self.agents[at.node.number()];
         let answer = agent.answer(request, at.port);
         self.flights.remove(i);
         self.flights.push_back_reserved(Flight {
             serial,
-            place: flight.place.answer_place(),
+            whereabouts: flight.whereabouts.answer_whereabouts(),
             packet: Packet {
                 bytes: *answer.bytes(),
                 slid,
@@ -99,21 +100,21 @@ impl Fabric {
 
     /// What becomes of a packet where it waits.
     #[tactic(auto, using(crate::proofs::AgentLists::within_agents), unfolding(crate::specs::Delivery::outcome_of))]
-    fn outcome(&self, place: Place, packet: &Packet) -> Outcome
-        requires { is_cable_port self.now (port_of place) ≡ true }
-        ensures outcome { result ≡ outcome_of self.now place packet.now }
+    fn outcome(&self, whereabouts: Whereabouts, packet: &Packet) -> Outcome
+        requires { is_cable_port self.now (port_of whereabouts) ≡ true }
+        ensures outcome { result ≡ outcome_of self.now whereabouts packet.now }
         ensures can { CanFare self.now result }
     {
         let Ok(smp) = Smp::parse(&packet.bytes) else {
             return Outcome::Drops(Reason::Unreadable);
         };
-        let at = place.port();
-        if !place.is_seat() && self.across(&at).is_none() {
+        let at = whereabouts.port();
+        if !whereabouts.is_seat() && self.across(&at).is_none() {
             return Outcome::Drops(Reason::Down);
         }
         match smp.class() {
             SmpClass::DirectedRoute => self.directed_outcome(&at, smp, packet),
-            SmpClass::LidRouted => self.lid_routed_outcome(place, &smp, packet),
+            SmpClass::LidRouted => self.lid_routed_outcome(whereabouts, &smp, packet),
         }
     }
 
@@ -174,14 +175,14 @@ impl Fabric {
     }
 
     /// What the node does with a packet that is forwarded by its DLID.
-    fn lid_routed_outcome(&self, place: Place, smp: &Smp, packet: &Packet) -> Outcome
+    fn lid_routed_outcome(&self, whereabouts: Whereabouts, smp: &Smp, packet: &Packet) -> Outcome
         requires bytes { smp.now ≡ packet.now.bytes }
-        requires port { (port_of place).node < length self.now.agents }
-        ensures outcome { result ≡ lid_routed_outcome self.now place packet.now }
+        requires port { (port_of whereabouts).node < length self.now.agents }
+        ensures outcome { result ≡ lid_routed_outcome self.now whereabouts packet.now }
         ensures can { CanFare self.now result }
     {
-        let at = place.port();
-        match self.course(packet.dlid, &at, place.is_by_wire()) {
+        let at = whereabouts.port();
+        match self.course(packet.dlid, &at, whereabouts.is_by_wire()) {
             Course::Delivers(_) => self.arrival(&at, smp, packet),
             Course::LeavesBy(out) => self.leaving(&out, packet),
             Course::Drops => Outcome::Drops(Reason::NoRoute),
@@ -207,7 +208,7 @@ impl Fabric {
         ensures can { CanFare self.now result }
     {
         match self.across(out) {
-            Some(into) => Outcome::Moves(Place::Arrived(into), *packet),
+            Some(into) => Outcome::Moves(Whereabouts::Arrived(into), *packet),
             None => Outcome::Drops(Reason::Down),
         }
     }

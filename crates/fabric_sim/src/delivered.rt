@@ -1,6 +1,6 @@
 use crate::packet::Packet;
 use dr_forward::DiscardReason;
-use smp_bytes::NodePort;
+use fabric_model::NodePort;
 
 /// Why a packet goes no further.
 #[derive(Clone, Copy, Debug, PartialEq, Eq)]

@@ -1,11 +1,12 @@
 ghost use Rattle.std.specs.Prelude.{◌≡◌, ◌<◌, length, slice_get, option_copied, true, Some, IfSome};
-ghost use Rattle.smp_bytes.specs.Fabric.{is_switch_at};
+ghost use Rattle.fabric_model.specs.Fabric.{is_switch_at};
 ghost use Rattle.fabric_sim.specs.Simulation.{agent_at, across, is_seat_at, is_cable_port, fabric_of};
 
 use crate::flight::Flight;
 use crate::peers::Peers;
+use fabric_model::{NodeId, NodePort};
 use node_agents::Agent;
-use smp_bytes::{Lid, NodeId, NodePort};
+use smp_bytes::Lid;
 use std::collections::VecDeque;
 use std::marker::Model;
 
@@ -44,7 +45,7 @@ impl Fabric {
     pub fn agent(&self, node: NodeId) -> Option<&Agent>
         ensures { option_copied result ≡ agent_at self.now node }
     {
-        self.agents.get(node.place())
+        self.agents.get(node.number())
     }
 
     /// How many packets are in flight.
@@ -66,7 +67,7 @@ impl Fabric {
         ensures other { result ≡ across self.now.peers port.now }
         ensures port { IfSome result (λ other. is_cable_port self.now other ≡ true) }
     {
-        self.peers.get(port.node.place())?.across(port.port)
+        self.peers.get(port.node.number())?.across(port.port)
     }
 
     /// Whether a subnet manager sits at a port.
@@ -74,7 +75,7 @@ impl Fabric {
         ensures seat { result ≡ is_seat_at self.now port.now }
         ensures port { result ≡ true → is_cable_port self.now port.now ≡ true }
     {
-        match self.agents.get(port.node.place()) {
+        match self.agents.get(port.node.number()) {
             Some(agent) => agent.has_seat(port.port),
             None => false,
         }
@@ -85,7 +86,7 @@ impl Fabric {
         requires { node < length self.now.agents }
         ensures { agent_at self.now node ≡ Some result.now }
     {
-        &self.agents[node.place()]
+        &self.agents[node.number()]
     }
 
     /// Whether a node is a switch.

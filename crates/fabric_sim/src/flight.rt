@@ -1,12 +1,12 @@
 ghost use Rattle.std.specs.Prelude.{◌≡◌};
-ghost use Rattle.fabric_sim.specs.Simulation.{port_of, is_at_seat, is_by_wire, answer_place};
+ghost use Rattle.fabric_sim.specs.Simulation.{port_of, is_at_seat, is_by_wire, answer_whereabouts};
 
 use crate::packet::Packet;
-use smp_bytes::NodePort;
+use fabric_model::NodePort;
 
 /// Where a packet in flight waits.
 #[derive(Clone, Copy, Debug, PartialEq, Eq)]
-pub enum Place {
+pub enum Whereabouts {
     /// At the port where the subnet manager sits that sent it, or that sent the request which it answers there.
     Seat(NodePort),
     /// At a port to which it came by a wire.
@@ -15,13 +15,13 @@ pub enum Place {
     Made(NodePort),
 }
 
-impl Place {
+impl Whereabouts {
     /// The port where the packet waits.
     pub fn port(&self) -> NodePort
         ensures { result ≡ port_of self.now }
     {
         match *self {
-            Place::Seat(port) | Place::Arrived(port) | Place::Made(port) => port,
+            Whereabouts::Seat(port) | Whereabouts::Arrived(port) | Whereabouts::Made(port) => port,
         }
     }
 
@@ -29,23 +29,23 @@ impl Place {
     pub(crate) fn is_seat(&self) -> bool
         ensures { result ≡ is_at_seat self.now }
     {
-        matches!(*self, Place::Seat(_))
+        matches!(*self, Whereabouts::Seat(_))
     }
 
     /// Whether the packet came to its port by a wire.
     pub(crate) fn is_by_wire(&self) -> bool
         ensures { result ≡ is_by_wire self.now }
     {
-        matches!(*self, Place::Arrived(_))
+        matches!(*self, Whereabouts::Arrived(_))
     }
 
     /// Where the answer to a request waits that waited here.
-    pub(crate) fn answer_place(&self) -> Place
-        ensures { result ≡ answer_place self.now }
+    pub(crate) fn answer_whereabouts(&self) -> Whereabouts
+        ensures { result ≡ answer_whereabouts self.now }
     {
         match *self {
-            Place::Seat(port) => Place::Seat(port),
-            Place::Arrived(port) | Place::Made(port) => Place::Made(port),
+            Whereabouts::Seat(port) => Whereabouts::Seat(port),
+            Whereabouts::Arrived(port) | Whereabouts::Made(port) => Whereabouts::Made(port),
         }
     }
 }
@@ -56,7 +56,7 @@ pub struct Flight {
     /// Its serial number, which no other packet has or had.
     pub serial: u64,
     /// Where it waits.
-    pub place: Place,
+    pub whereabouts: Whereabouts,
     /// The packet.
     pub packet: Packet,
 }

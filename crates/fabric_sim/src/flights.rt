@@ -1,14 +1,15 @@
 ghost use Rattle.std.specs.Prelude.{◌≡◌};
-ghost use Rattle.fabric_sim.specs.Simulation.{Finds, IsFlightAt, CanWait, answer_place};
-ghost use Rattle.fabric_sim.specs.Delivery.{ComesTo, brought, launched, moved_to, without};
+ghost use Rattle.fabric_sim.specs.Simulation.{Finds, IsFlightAt, CanWait};
+ghost use Rattle.fabric_sim.specs.Delivery.{ComesTo, after_enqueue, moved_to, without};
+ghost use Rattle.fabric_sim.specs.Changes.{after_repeat, after_lose};
 
 use crate::fabric::Fabric;
 use crate::fault::FabricFault;
-use crate::flight::{Flight, Place};
+use crate::flight::{Flight, Whereabouts};
 use crate::packet::Packet;
 
 impl Fabric {
-    /// The place of the packet with a serial number among those in flight. The first takes one step, and any other a
+    /// The index of the packet with a serial number among those in flight. The first takes one step, and any other a
     /// search.
     pub(crate) fn find(&self, serial: u64) -> Option<usize>
         ensures { Finds self.now.flights serial result }
@@ -30,16 +31,20 @@ impl Fabric {
     }
 
     /// One packet more.
-    pub(crate) fn launch(&mut self, place: Place, packet: Packet) -> Result<u64, FabricFault>
-        requires { CanWait self.old place }
-        ensures { ComesTo result self.old self.new (launched self.old place packet) }
+    pub(crate) fn enqueue(
+        &mut self,
+        whereabouts: Whereabouts,
+        packet: Packet,
+    ) -> Result<u64, FabricFault>
+        requires { CanWait self.old whereabouts }
+        ensures { ComesTo result self.old self.new (after_enqueue self.old whereabouts packet) }
     {
         let Some(serial) = self.next else {
             return Err(FabricFault::SerialsSpent);
         };
         let flight = Flight {
             serial,
-            place,
+            whereabouts,
             packet,
         };
         if self.flights.push_back(flight).is_err() {
@@ -49,24 +54,64 @@ impl Fabric {
         Ok(serial)
     }
 
-    /// Moves the packet of a place among those in flight.
-    pub(crate) fn move_to(&mut self, i: usize, serial: u64, place: Place, packet: Packet)
+    /// Moves the packet of an index among those in flight.
+    pub(crate) fn move_to(
+        &mut self,
+        i: usize,
+        serial: u64,
+        whereabouts: Whereabouts,
+        packet: Packet,
+    )
         requires at { IsFlightAt self.old.flights i serial }
-        requires place { CanWait self.old place }
-        ensures { self.new ≡ moved_to self.old serial place packet }
+        requires whereabouts { CanWait self.old whereabouts }
+        ensures { self.new ≡ moved_to self.old serial whereabouts packet }
     {
         self.flights[i] = Flight {
             serial,
-            place,
+            whereabouts,
             packet,
         };
     }
 
-    /// Takes the packet of a place among those in flight away.
+    /// Takes the packet of an index among those in flight away.
     pub(crate) fn remove(&mut self, i: usize, serial: u64)
         requires { IsFlightAt self.old.flights i serial }
         ensures { self.new ≡ without self.old serial }
     {
         self.flights.remove(i);
+    }
+
+    /// Loses the packet in flight that has the serial number. Takes no memory.
+    ///
+    /// # Errors
+    ///
+    /// `NoSuchPacket`.
+    #[tactic(auto, unfolding(crate::specs::Changes::after_lose))]
+    pub fn lose(&mut self, serial: u64) -> Result<(), FabricFault>
+        ensures fabric { self.new ≡ (after_lose self.old serial).fabric }
+        ensures result { result ≡ (after_lose self.old serial).result }
+    {
+        let Some(i) = self.find(serial) else {
+            return Err(FabricFault::NoSuchPacket);
+        };
+        self.remove(i, serial);
+        Ok(())
+    }
+
+    /// Copies the packet in flight that has the serial number: the copy waits at the same whereabouts, and its own serial
+    /// number is given.
+    ///
+    /// # Errors
+    ///
+    /// `NoSuchPacket`, `SerialsSpent`, and `Memory`.
+    #[tactic(auto, unfolding(crate::specs::Changes::after_repeat))]
+    pub fn repeat(&mut self, serial: u64) -> Result<u64, FabricFault>
+        ensures { ComesTo result self.old self.new (after_repeat self.old serial) }
+    {
+        let Some(i) = self.find(serial) else {
+            return Err(FabricFault::NoSuchPacket);
+        };
+        let flight = self.flights[i];
+        self.enqueue(flight.whereabouts, flight.packet)
     }
 }

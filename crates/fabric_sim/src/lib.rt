@@ -3,14 +3,14 @@
 
 mod build;
 mod cables;
-mod changes;
+mod course;
 mod deliver;
 mod delivered;
 mod fabric;
 mod fault;
 mod flight;
 mod flights;
-mod forward;
+mod inject;
 pub mod laws;
 mod outcome;
 mod packet;
@@ -20,9 +20,10 @@ mod ping;
 pub use delivered::{Delivered, Reason};
 pub use fabric::Fabric;
 pub use fault::FabricFault;
-pub use flight::{Flight, Place};
+pub use flight::{Flight, Whereabouts};
 pub use packet::Packet;
 pub use ping::Ping;
 
+mod seats;
 #[cfg(test)]
 mod tests;

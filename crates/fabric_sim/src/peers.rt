@@ -1,6 +1,7 @@
 ghost use Rattle.std.specs.Prelude.{◌≡◌, ◌+◌, ◌<◌, None, length, replicate, slice_index_or, slice_set, IfOk};
 
-use smp_bytes::{NodePort, PortNum};
+use fabric_model::NodePort;
+use smp_bytes::PortNum;
 use std::alloc::{AllocError, Global};
 use std::marker::Model;
 
@@ -12,7 +13,7 @@ pub(crate) struct Peers {
 
 impl Model for Peers {
     ghost use Rattle.std.specs.Prelude.{List, Option};
-    ghost use Rattle.smp_bytes.specs.declared.cable.NodePort.{NodePort};
+    ghost use Rattle.fabric_model.specs.declared.cable.NodePort.{NodePort};
 
     ghost Value = { List (Option NodePort) };
 

@@ -1,4 +1,14 @@
-use smp_bytes::{NodeId, NodePort};
+ghost use Rattle.std.specs.Prelude.{◌≡◌, ◌<◌, IfOk, true};
+ghost use Rattle.fabric_model.specs.Fabric.{switch_count};
+ghost use Rattle.fabric_model.specs.Forwarding.{course};
+ghost use Rattle.smp_bytes.specs.Judges.{Judges};
+ghost use Rattle.fabric_sim.specs.Simulation.{fabric_of, is_port};
+ghost use Rattle.fabric_sim.specs.Ping.{ping, ping_fault};
+
+use crate::fabric::Fabric;
+use crate::fault::FabricFault;
+use fabric_model::{Course, NodeId, NodePort};
+use smp_bytes::Lid;
 
 /// Where a packet for a LID comes to.
 #[derive(Clone, Copy, Debug, PartialEq, Eq)]
@@ -7,4 +17,38 @@ pub enum Ping {
     Reached(NodePort, usize),
     /// To no port: it is lost at this node.
     Lost(NodeId),
+}
+
+impl Fabric {
+    /// Where a packet for a LID comes to that is sent from a port: over which wires switches forward it, by their
+    /// tables alone. From a port of a switch it begins at the switch. It is lost after two wires for each switch and
+    /// two more, for then it goes round. Takes a step for each node, and one for each wire. No memory.
+    ///
+    /// # Errors
+    ///
+    /// `NoSuchPort`. Port 0 of a switch is a port.
+    pub fn ping(&self, from: NodePort, lid: Lid) -> Result<Ping, FabricFault>
+        ensures judged { Judges result (ping_fault self.now from) }
+        ensures ping { IfOk result (λ comes. comes ≡ ping (fabric_of self.now) lid from) }
+    {
+        if !self.is_port(&from) {
+            return Err(FabricFault::NoSuchPort);
+        }
+        let bound = 2 * self.switch_count() + 2;
+        let mut at = from;
+        let mut is_by_wire = false;
+        for hops in 0..bound {
+            let out = match self.course(lid, &at, is_by_wire) {
+                Course::Delivers(port) => return Ok(Ping::Reached(port, hops)),
+                Course::LeavesBy(out) => out,
+                Course::Drops => return Ok(Ping::Lost(at.node)),
+            };
+            let Some(into) = self.across(&out) else {
+                return Ok(Ping::Lost(at.node));
+            };
+            at = into;
+            is_by_wire = true;
+        }
+        Ok(Ping::Lost(at.node))
+    }
 }

@@ -1,12 +1,13 @@
 //! Requests there and their answers back, each refusal, each reason to discard a packet, and pings.
 use super::*;
-use smp_bytes::{AttributeId, Lid, Method, NodeId, NodePort, Path, PortNum, Smp};
+use fabric_model::{NodeId, NodePort};
+use smp_bytes::{AttributeId, Lid, Method, Path, PortNum, Smp};
 use std::alloc::Global;
 use std::process::Abort;
 use std::test::Fail;
 use topo_file::parse;
 
-/// Three switches in a ring, at the places 0 to 2, and an adapter at two of them, at 3 and 4.
+/// Three switches in a ring, the nodes 0 to 2, and an adapter at two of them, at 3 and 4.
 const RING: &str = r#"Switch 4 "S1" guid 0x10
 [1] "S2"[1]
 [2] "S3"[1]
@@ -72,7 +73,7 @@ fn said(delivered: Result<Delivered, FabricFault>) -> (&'static str, u64) {
     match delivered {
         Ok(Delivered::Moved(serial)) => ("moved", serial),
         Ok(Delivered::Answered(serial)) => ("answered", serial),
-        Ok(Delivered::ToManager(port, _)) => ("manager", port.node.place() as u64),
+        Ok(Delivered::ToManager(port, _)) => ("manager", port.node.number() as u64),
         Ok(Delivered::Discarded(reason)) => match reason {
             Reason::Course => ("course", 0),
             Reason::Transit => ("transit", 0),
@@ -138,10 +139,10 @@ fn fate_of(alloc: Global, packet: Packet) -> Result<(&'static str, u64), Fail> {
     Ok(carried(&mut fabric, serial))
 }
 
-/// A request for NodeInfo over no hop, with another byte at a place.
-fn turned(place: usize, byte: u8) -> Packet {
+/// A request for NodeInfo over no hop, with another byte at an offset.
+fn turned(offset: usize, byte: u8) -> Packet {
     let mut packet = get_node_info([0; 3]);
-    if let Some(turned) = packet.bytes.get_mut(place) {
+    if let Some(turned) = packet.bytes.get_mut(offset) {
         *turned = byte;
     }
     packet
@@ -253,8 +254,8 @@ fn pinged(fabric: &Fabric, lid: u16) -> (usize, u8, usize) {
 
 fn spot(ping: &Ping) -> (usize, u8, usize) {
     match ping {
-        Ping::Reached(port, hops) => (port.node.place(), port.port.number(), *hops),
-        Ping::Lost(node) => (node.place(), 0, 99),
+        Ping::Reached(port, hops) => (port.node.number(), port.port.number(), *hops),
+        Ping::Lost(node) => (node.number(), 0, 99),
     }
 }
 

@@ -14,7 +14,7 @@ use Rattle.std.specs.FinMap.Entries as sorted
 use Rattle.fact_join.specs.declared.cell.Cell.{Cell}
 use Rattle.fact_store.specs.declared.key.Key.{Key}
 use Rattle.fact_store.specs.declared.value.Value.{Value}
-use Rattle.fact_store.specs.Cells.{IsPlaceFor}
+use Rattle.fact_store.specs.Cells.{IsIndexFor}
 use Rattle.fact_store.specs.Key.{key_cmp}
 use Rattle.fact_store.specs.Seen.{seen}
 use Rattle.fact_store.proofs.Entries.{put_all, entries-from_entries}
@@ -62,27 +62,27 @@ entries-rising es h =
     let made : entries (from_entries {R = key_cmp} es) ≡ es = entries-from_entries es ∙ put_all-rising es h in
     ap entries (ap seen (sym made) ∙ seen_of_its_cells (from_entries es)) ∙ made
 
--- by their place -----------------------------------------------------------------------------
+-- by their index -----------------------------------------------------------------------------
 
--- what stands at a place is there
+-- what stands at an index is there
 pub contains_at : (es : List (Key × Cell Value)) (i : ℕ) (e : Key × Cell Value) → slice_get es i ≡ Some e → Contains es e
 contains_at es i e h = (i, slice_get_within es i e h, get_or_from_slice_get es i e e h)
 
--- what is there stands at a place
+-- what is there stands at an index
 pub at_contains : (es : List (Key × Cell Value)) (e : Key × Cell Value) (h : Contains es e) → slice_get es h.0 ≡ Some e
 at_contains es e h = slice_get-get_or es h.0 e h.1 ∙ ap Some h.2
 
--- the keys rise with the places
-pub rising_places : (es : List (Key × Cell Value)) → T (sorted.is_sorted key_cmp es) → (i j : ℕ) (e f : Key × Cell Value) → i < j → slice_get es i ≡ Some e → slice_get es j ≡ Some f → key_cmp e.0 f.0 ≡ Less
-rising_places [] h i j e f l p q = absurd (cc)
-rising_places (x ∷ es) h zero zero e f l p q = absurd (omega arith)
-rising_places (x ∷ es) h zero (suc j) e f l p q =
+-- the keys rise with the indices
+pub rising_indices : (es : List (Key × Cell Value)) → T (sorted.is_sorted key_cmp es) → (i j : ℕ) (e f : Key × Cell Value) → i < j → slice_get es i ≡ Some e → slice_get es j ≡ Some f → key_cmp e.0 f.0 ≡ Less
+rising_indices [] h i j e f l p q = absurd (cc)
+rising_indices (x ∷ es) h zero zero e f l p q = absurd (omega arith)
+rising_indices (x ∷ es) h zero (suc j) e f l p q =
     subst (λ (z : Key × Cell Value). key_cmp z.0 f.0 ≡ Less) (some_is x e p) (below_at x.0 es (first_true _ _ h) f (contains_at es j f q))
   where
     some_is : (a b : Key × Cell Value) → Some a ≡ Some b → a ≡ b
     some_is a b e = cc
-rising_places (x ∷ es) h (suc i) zero e f l p q = absurd (omega arith)
-rising_places (x ∷ es) h (suc i) (suc j) e f l p q = rising_places es (second_true _ _ h) i j e f (omega arith) p q
+rising_indices (x ∷ es) h (suc i) zero e f l p q = absurd (omega arith)
+rising_indices (x ∷ es) h (suc i) (suc j) e f l p q = rising_indices es (second_true _ _ h) i j e f (omega arith) p q
 
 -- one put in ---------------------------------------------------------------------------------
 
@@ -98,7 +98,7 @@ below_more k [] (suc i) e h l = both_true _ _ (is_lt_less _ l) tt
 below_more k (x ∷ es) zero e h l = both_true _ _ (is_lt_less _ l) h
 below_more k (x ∷ es) (suc i) e h l = both_true _ _ (first_true _ _ h) (below_more k es i e (second_true _ _ h) l)
 
--- a key between those before the place and those from it on
+-- a key between those before the index and those from it on
 pub rising-insert : (es : List (Key × Cell Value)) (i : ℕ) (k : Key) (c : Cell Value) → T (sorted.is_sorted key_cmp es) → i ≤ length es → ((j : ℕ) (e : Key × Cell Value) → j < i → slice_get es j ≡ Some e → key_cmp e.0 k ≡ Less) → ((j : ℕ) (e : Key × Cell Value) → i ≤ j → slice_get es j ≡ Some e → key_cmp e.0 k ≡ Greater) → T (sorted.is_sorted key_cmp (insert es i (k, c)))
 rising-insert es zero k c h l f g = both_true _ _ (below_each k es (λ j e p. g j e (omega arith) p)) h
 rising-insert [] (suc i) k c h l f g = absurd (omega arith)
@@ -107,7 +107,7 @@ rising-insert (x ∷ es) (suc i) k c h l f g =
     (rising-insert es i k c (second_true _ _ h) (omega arith) (λ j e p q. f (suc j) e (omega arith) q) (λ j e p q. g (suc j) e (omega arith) q))
 
 -- where a search ends
-pub ends_at : (es : List (Key × Cell Value)) (i : ℕ) (k : Key) → T (sorted.is_sorted key_cmp es) → i ≤ length es → ((j : ℕ) (e : Key × Cell Value) → j < i → slice_get es j ≡ Some e → key_cmp e.0 k ≡ Less) → ((j : ℕ) (e : Key × Cell Value) → i ≤ j → slice_get es j ≡ Some e → key_cmp e.0 k ≡ Greater) → IsPlaceFor k es i
+pub ends_at : (es : List (Key × Cell Value)) (i : ℕ) (k : Key) → T (sorted.is_sorted key_cmp es) → i ≤ length es → ((j : ℕ) (e : Key × Cell Value) → j < i → slice_get es j ≡ Some e → key_cmp e.0 k ≡ Less) → ((j : ℕ) (e : Key × Cell Value) → i ≤ j → slice_get es j ≡ Some e → key_cmp e.0 k ≡ Greater) → IsIndexFor k es i
 ends_at es i k h l f g =
     record {
       within = l;

@@ -18,7 +18,7 @@ pub record IsDropping (floor : ℕ) (was cells : List (Key × Cell Value)) (i le
   pub done : take left cells ≡ kept floor (take i was)
   pub rest : drop i cells ≡ drop i was
 
--- the same, of cells and a place that are these
+-- the same, of cells and an index that are these
 pub dropping_to : (floor : ℕ) (was cells cells' : List (Key × Cell Value)) (i left left' : ℕ) → cells' ≡ cells → left' ≡ left → IsDropping floor was cells i left → IsDropping floor was cells' i left'
 dropping_to floor was cells cells' i left left' e el d =
     subst (λ (s : List (Key × Cell Value)). IsDropping floor was s i left') (sym e) (subst (λ (n : ℕ). IsDropping floor was cells i n) (sym el) d)

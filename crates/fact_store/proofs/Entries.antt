@@ -15,7 +15,7 @@ use Rattle.fact_store.specs.Seen.{cell_at, seen}
 use Rattle.fact_store.specs.View.{Facts, cell_for, cells_of, view}
 use Rattle.fact_store.proofs.Keys.{key_total}
 
--- each entry put in its place, the last one first
+-- each entry put in at its index, the last one first
 abbrev pub put_all : List (Key × Cell Value) → List (Key × Cell Value)
 put_all [] = []
 put_all (e ∷ es) = put key_cmp e.0 e.1 (put_all es)

@@ -56,7 +56,7 @@ module _ (floor : ℕ) (cells : List (Key × Cell Value)) (are : AreHeld floor c
   pub are_in_range : AreInRange facts
   are_in_range = λ q c e. in_range cells (λ x k. All-contains IsSighting cells x are.are.in_range k) q c (ap (λ (m : CellMap). get m q) (sym found_is) ∙ e)
 
-  -- a cell that stands at a place is that of its key
+  -- a cell that stands at an index is that of its key
   pub get_at : (i : ℕ) (key : Key) (c : Cell Value) → slice_get cells i ≡ Some (key, c) → cell_for facts key ≡ Some c
   get_at i key c e = contained_get facts.found key c (subst (λ (s : List (Key × Cell Value)). Contains s (key, c)) (sym entries_are) (contains_at cells i (key, c) e))
 
@@ -183,10 +183,10 @@ pub is_merge : (x y z : Facts) → z ≡ merge x y → IsMerge x y z
 is_merge x y z e = subst (IsMerge x y) (sym e) (merge_law x y)
 
 -- one more of a list is merged
-pub one_more_merged : (facts was new : Facts) (told : List (Key × Cell Value)) (i : ℕ) (x : Key × Cell Value) → x ≡ get_or told i x → i < length told → was ≡ merge facts (view (take i told)) → new ≡ merge was (view (x ∷ [])) → new ≡ merge facts (view (take (i + 1) told))
-one_more_merged facts was new told i x e h old is =
-    is ∙ ap (λ (f : Facts). merge f (view (x ∷ []))) old ∙ merge_is_associative facts (view (take i told)) (view (x ∷ []))
-    ∙ ap (merge facts) (sym (view_of_all 1 (take i told) (x ∷ [])) ∙ ap view (sym (taken told i x e h)))
+pub one_more_merged : (facts was new : Facts) (sightings : List (Key × Cell Value)) (i : ℕ) (x : Key × Cell Value) → x ≡ get_or sightings i x → i < length sightings → was ≡ merge facts (view (take i sightings)) → new ≡ merge was (view (x ∷ [])) → new ≡ merge facts (view (take (i + 1) sightings))
+one_more_merged facts was new sightings i x e h old is =
+    is ∙ ap (λ (f : Facts). merge f (view (x ∷ []))) old ∙ merge_is_associative facts (view (take i sightings)) (view (x ∷ []))
+    ∙ ap (merge facts) (sym (view_of_all 1 (take i sightings) (x ∷ [])) ∙ ap view (sym (taken sightings i x e h)))
 
 -- the newest ------------------------------------------------------------------------------------
 

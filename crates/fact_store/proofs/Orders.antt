@@ -85,4 +85,4 @@ contained_get x q c h = get-entries x q ∙ contained_found (entries x) (entries
 
 -- the next key -----------------------------------------------------------------------------
 
--- the keys by their place --------------------------------------------------------------------
+-- the keys by their index --------------------------------------------------------------------

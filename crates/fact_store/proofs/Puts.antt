@@ -7,7 +7,7 @@ use Rattle.std.specs.FinMap.{get}
 use Rattle.fact_join.specs.declared.cell.Cell.{Cell}
 use Rattle.fact_store.specs.declared.key.Key.{Key}
 use Rattle.fact_store.specs.declared.value.Value.{Value}
-use Rattle.fact_store.specs.Cells.{AreCells, IsPlaceFor}
+use Rattle.fact_store.specs.Cells.{AreCells, IsIndexFor}
 use Rattle.fact_store.specs.Key.{key_cmp}
 use Rattle.fact_store.specs.Merge.{join, merge_maps}
 use Rattle.fact_store.specs.Sighting.{IsSighting}
@@ -31,31 +31,31 @@ join_in_range k c d g h =
           | inr m ↦ (elim (contains_cases (k, d) x [] m) [ inl e ↦ subst IsSighting e h | inr z ↦ absurd (contains_none x z) ])
         ]
 
-module _ (cells : List (Key × Cell Value)) (are : AreCells cells) (i : ℕ) (told : Key × Cell Value) (new : List (Key × Cell Value)) where
-  module _ (place : IsPlaceFor told.0 cells i) (in_range' : IsSighting told) (is : new ≡ insert cells i told) where
+module _ (cells : List (Key × Cell Value)) (are : AreCells cells) (i : ℕ) (sighting : Key × Cell Value) (new : List (Key × Cell Value)) where
+  module _ (index : IsIndexFor sighting.0 cells i) (in_range' : IsSighting sighting) (is : new ≡ insert cells i sighting) where
     -- they stay in order and in range
     pub put_cells : AreCells new
     put_cells =
         record {
-          rising = subst (λ (s : List (Key × Cell Value)). is_sorted key_cmp s ≡ true) (sym is) (place.rising told.1);
+          rising = subst (λ (s : List (Key × Cell Value)). is_sorted key_cmp s ≡ true) (sym is) (index.rising sighting.1);
           in_range = subst (All IsSighting) (sym is)
-              (All-append IsSighting (take i cells) (told ∷ drop i cells) (All-take IsSighting i cells are.in_range) (All-cons IsSighting told (drop i cells) in_range' (All-drop IsSighting i cells are.in_range)));
+              (All-append IsSighting (take i cells) (sighting ∷ drop i cells) (All-take IsSighting i cells are.in_range) (All-cons IsSighting sighting (drop i cells) in_range' (All-drop IsSighting i cells are.in_range)));
         }
 
     -- and say what they said, and this
-    pub put_seen : seen new ≡ merge_maps (seen cells) (seen (told ∷ []))
-    put_seen = ap seen is ∙ seen-insert cells i told
+    pub put_seen : seen new ≡ merge_maps (seen cells) (seen (sighting ∷ []))
+    put_seen = ap seen is ∙ seen-insert cells i sighting
 
-  module _ (was : Key × Cell Value) (at : slice_get cells i ≡ Some was) (same : was.0 ≡ told.0) (joined : Key × Cell Value) (joined_is : joined ≡ (was.0, join was.1 told.1)) (in_range' : IsSighting joined) (is : new ≡ set cells i joined) where
+  module _ (was : Key × Cell Value) (at : slice_get cells i ≡ Some was) (same : was.0 ≡ sighting.0) (joined : Key × Cell Value) (joined_is : joined ≡ (was.0, join was.1 sighting.1)) (in_range' : IsSighting joined) (is : new ≡ set cells i joined) where
     -- the same, where the key has a cell
     pub joined_cells : AreCells new
     joined_cells =
         record {
-          rising = subst (λ (s : List (Key × Cell Value)). is_sorted key_cmp s ≡ true) (sym (is ∙ ap (set cells i) joined_is)) (shown _ (rising-set was.0 was.1 (join was.1 told.1) cells i at (held _ are.rising)));
+          rising = subst (λ (s : List (Key × Cell Value)). is_sorted key_cmp s ≡ true) (sym (is ∙ ap (set cells i) joined_is)) (shown _ (rising-set was.0 was.1 (join was.1 sighting.1) cells i at (held _ are.rising)));
           in_range = subst (All IsSighting) (sym is) (All-set IsSighting cells i joined in_range' are.in_range);
         }
 
-    pub joined_seen : seen new ≡ merge_maps (seen cells) (seen (told ∷ []))
+    pub joined_seen : seen new ≡ merge_maps (seen cells) (seen (sighting ∷ []))
     joined_seen =
-        ap seen (is ∙ ap (set cells i) joined_is) ∙ seen-set cells i was.0 was.1 told.1 at
-        ∙ ap (λ (k : Key). merge_maps (seen cells) (seen ((k, told.1) ∷ []))) same
+        ap seen (is ∙ ap (set cells i) joined_is) ∙ seen-set cells i was.0 was.1 sighting.1 at
+        ∙ ap (λ (k : Key). merge_maps (seen cells) (seen ((k, sighting.1) ∷ []))) same

@@ -9,12 +9,12 @@ use Rattle.std.specs.declared.cmp.Ordering.TheVariants.{Less, Equal, Greater}
 use Rattle.fact_join.specs.declared.cell.Cell.{Cell}
 use Rattle.fact_store.specs.declared.key.Key.{Key}
 use Rattle.fact_store.specs.declared.value.Value.{Value}
-use Rattle.fact_store.specs.Cells.{AreCells, IsPlaceFor}
+use Rattle.fact_store.specs.Cells.{AreCells, IsIndexFor}
 use Rattle.fact_store.specs.Comparisons.{CountsSearch, HasDigits, IsBudget, Leaves, all, later, earlier, with_key, without}
 use Rattle.fact_store.specs.Key.{key_cmp}
 use Rattle.fact_store.proofs.Keys.{key_total}
 use Rattle.fact_store.proofs.Orders.{greater_back}
-use Rattle.fact_store.proofs.CellOrder.{held, less_back, ends_at, rising_places}
+use Rattle.fact_store.proofs.CellOrder.{held, less_back, ends_at, rising_indices}
 
 -- digits --------------------------------------------------------------------------------------------
 
@@ -84,7 +84,7 @@ one_more_digit n steps most b some = let half = halved n steps most b some in fe
 
 -- a search --------------------------------------------------------------------------------------------
 
--- the key's place lies from `low` on and not after `high`, and so many keys were compared
+-- the key's index lies from `low` on and not after `high`, and so many keys were compared
 pub record IsNarrowed (key : Key) (cells : List (Key × Cell Value)) (low high steps : ℕ) : Type 0 where
   pub ordered : low ≤ high
   pub upto : high ≤ length cells
@@ -120,7 +120,7 @@ module _ (key : Key) (cells : List (Key × Cell Value)) (are : AreCells cells) (
         upto = n.upto;
         below = λ j f h k. elim (cases_order j m) [
           | inl i ↦ subst (λ (z : Key × Cell Value). key_cmp z.0 key ≡ Less) (some_is e f (sym at ∙ ap (slice_get cells) (sym i) ∙ k)) l
-          | inr (inl b) ↦ key_total.trans f.0 e.0 key (rising_places cells (held _ are.rising) j m f e b k at) l
+          | inr (inl b) ↦ key_total.trans f.0 e.0 key (rising_indices cells (held _ are.rising) j m f e b k at) l
           | inr (inr a) ↦ absurd (omega arith)
         ];
         above = n.above;
@@ -142,7 +142,7 @@ module _ (key : Key) (cells : List (Key × Cell Value)) (are : AreCells cells) (
         above = λ j f h k. elim (cases_order j m) [
           | inl i ↦ subst (λ (z : Key × Cell Value). key_cmp z.0 key ≡ Greater) (some_is e f (sym at ∙ ap (slice_get cells) (sym i) ∙ k)) g
           | inr (inl b) ↦ absurd (omega arith)
-          | inr (inr a) ↦ greater_back key f.0 (key_total.trans key e.0 f.0 (less_back e.0 key g) (rising_places cells (held _ are.rising) m j e f a at k))
+          | inr (inr a) ↦ greater_back key f.0 (key_total.trans key e.0 f.0 (less_back e.0 key g) (rising_indices cells (held _ are.rising) m j e f a at k))
         ];
         compared = e.0 ∷ n.compared;
         leaves = earlier n.compared low high m e n.leaves from until at g;
@@ -161,18 +161,18 @@ module _ (key : Key) (cells : List (Key × Cell Value)) (are : AreCells cells) (
         counted = omega (arith, n.counted);
       }
 
--- where no place is left
+-- where no index is left
 pub ends_without : (key : Key) (cells : List (Key × Cell Value)) (low high steps : ℕ) → IsNarrowed key cells low high steps → high ≤ low → CountsSearch key cells steps
 ends_without key cells low high steps n h =
     record { compared = n.compared; is_search = without n.compared low high n.leaves h; counted = n.counted }
 
 -- a key that comes after the last one goes in at the end
-pub behind_last : (key : Key) (cells : List (Key × Cell Value)) (are : AreCells cells) (last : Key × Cell Value) (m : ℕ) → m + 1 ≡ length cells → slice_get cells m ≡ Some last → key_cmp last.0 key ≡ Less → IsPlaceFor key cells (length cells)
+pub behind_last : (key : Key) (cells : List (Key × Cell Value)) (are : AreCells cells) (last : Key × Cell Value) (m : ℕ) → m + 1 ≡ length cells → slice_get cells m ≡ Some last → key_cmp last.0 key ≡ Less → IsIndexFor key cells (length cells)
 behind_last key cells are last m end at less =
     ends_at cells (length cells) key (held _ are.rising) (omega arith)
     (λ j e h k. elim (cases_order j m) [
       | inl i ↦ subst (λ (z : Key × Cell Value). key_cmp z.0 key ≡ Less) (some_is last e (sym at ∙ ap (slice_get cells) (sym i) ∙ k)) less
-      | inr (inl b) ↦ key_total.trans e.0 last.0 key (rising_places cells (held _ are.rising) j m e last b k at) less
+      | inr (inl b) ↦ key_total.trans e.0 last.0 key (rising_indices cells (held _ are.rising) j m e last b k at) less
       | inr (inr a) ↦ absurd (omega arith)
     ])
     (λ j e h k. elim (slice_get_cases cells j).1 [ inl w ↦ absurd (let low = w.1 in omega arith) | inr w ↦ absurd (cc) ])

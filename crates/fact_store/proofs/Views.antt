@@ -77,8 +77,8 @@ pub view_of_all : (floor : ℕ) (s t : List (Key × Cell Value)) → view_at flo
 view_of_all floor s t = at_same_floor floor (max floor floor) (seen (s ++ t)) (omega arith) ∙ view_of_both floor floor s t
 
 -- what is merged into facts may be looked at from their floor
-pub told_at_floor : (x : Facts) (s : List (Key × Cell Value)) → merge x (view_at x.floor s) ≡ merge x (view s)
-told_at_floor x s =
+pub sightings_at_floor : (x : Facts) (s : List (Key × Cell Value)) → merge x (view_at x.floor s) ≡ merge x (view s)
+sightings_at_floor x s =
     ap (λ (z : Facts). merge z (view_at x.floor s)) (sym (view_of_its_cells x))
     ∙ sym (view_of_both x.floor x.floor (cells_of x) s)
     ∙ at_same_floor (max x.floor x.floor) (max x.floor 1) (seen (cells_of x ++ s)) (omega (arith, floor_from_one x))
@@ -86,8 +86,8 @@ told_at_floor x s =
     ∙ ap (λ (z : Facts). merge z (view s)) (view_of_its_cells x)
 
 -- a sighting below the floor tells nothing
-pub told_below : (floor : ℕ) (s : List (Key × Cell Value)) (x : Key × Cell Value) → is_kept floor x.1 ≡ false → view_at floor s ≡ merge (view_at floor s) (view (x ∷ []))
-told_below floor s x e =
+pub sighting_below : (floor : ℕ) (s : List (Key × Cell Value)) (x : Key × Cell Value) → is_kept floor x.1 ≡ false → view_at floor s ≡ merge (view_at floor s) (view (x ∷ []))
+sighting_below floor s x e =
     ap (view_at floor) (sym (append-nil s)) ∙ view_of_all floor s []
     ∙ ap (merge (view_at floor s)) (same_facts (view_at floor []) (view_at floor (x ∷ [])) refl
     (found_at_floor floor [] ∙ ap (λ t. seen (cond t (x ∷ []) [])) (sym e) ∙ sym (found_at_floor floor (x ∷ []))))

@@ -22,12 +22,12 @@ pub record AreHeld (floor : ℕ) (cells : List (Key × Cell Value)) : Type 0 whe
   pub kept : All (λ s. IsTrue (is_kept floor s.1)) cells
 
 -- a key that has no cell would have it here
-pub record IsPlaceFor (key : Key) (cells : List (Key × Cell Value)) (place : ℕ) : Type 0 where
-  pub within : place ≤ length cells
+pub record IsIndexFor (key : Key) (cells : List (Key × Cell Value)) (index : ℕ) : Type 0 where
+  pub within : index ≤ length cells
   pub absent : get (seen cells) key ≡ None
-  pub rising : (c : Cell Value) → IsTrue (is_sorted key_cmp (insert cells place (key, c)))
+  pub rising : (c : Cell Value) → IsTrue (is_sorted key_cmp (insert cells index (key, c)))
 
 -- where a key has its cell, or would
 abbrev pub IsSearched : Key → List (Key × Cell Value) → Result ℕ ℕ → Type 0
-IsSearched key cells (Ok place) = (c : Cell Value) × (slice_get cells place ≡ Some (key, c))
-IsSearched key cells (Err place) = IsPlaceFor key cells place
+IsSearched key cells (Ok index) = (c : Cell Value) × (slice_get cells index ≡ Some (key, c))
+IsSearched key cells (Err index) = IsIndexFor key cells index

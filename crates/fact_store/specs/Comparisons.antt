@@ -9,20 +9,20 @@ use Rattle.fact_store.specs.Key.{key_cmp}
 
 -- a search: -----------------------------------------------------------------------
 
--- the keys that were compared, the last one first, leave the places from one on and before another: each stood at a
--- place among those that the earlier ones left, and leaves those on the side of the key that is sought
+-- the keys that were compared, the last one first, leave the indices from one on and before another: each stood at an
+-- index among those that the earlier ones left, and leaves those on the side of the key that is sought
 pub data Leaves (key : Key) (cells : List (Key × Cell Value)) : List Key → ℕ → ℕ → Type 0 where
   all : Leaves key cells [] 0 (length cells)
-  later : (compared : List Key) (low high place : ℕ) (e : Key × Cell Value) → Leaves key cells compared low high → low ≤ place → place < high
-      → slice_get cells place ≡ Some e → key_cmp e.0 key ≡ Less → Leaves key cells (e.0 ∷ compared) (place + 1) high
-  earlier : (compared : List Key) (low high place : ℕ) (e : Key × Cell Value) → Leaves key cells compared low high → low ≤ place → place < high
-      → slice_get cells place ≡ Some e → key_cmp e.0 key ≡ Greater → Leaves key cells (e.0 ∷ compared) low place
+  later : (compared : List Key) (low high index : ℕ) (e : Key × Cell Value) → Leaves key cells compared low high → low ≤ index → index < high
+      → slice_get cells index ≡ Some e → key_cmp e.0 key ≡ Less → Leaves key cells (e.0 ∷ compared) (index + 1) high
+  earlier : (compared : List Key) (low high index : ℕ) (e : Key × Cell Value) → Leaves key cells compared low high → low ≤ index → index < high
+      → slice_get cells index ≡ Some e → key_cmp e.0 key ≡ Greater → Leaves key cells (e.0 ∷ compared) low index
 
--- a search ends where no place is left, or with the key at one of those that are
+-- a search ends where no index is left, or with the key at one of those that are
 pub data IsSearch (key : Key) (cells : List (Key × Cell Value)) : List Key → Type 0 where
   without : (compared : List Key) (low high : ℕ) → Leaves key cells compared low high → high ≤ low → IsSearch key cells compared
-  with_key : (compared : List Key) (low high place : ℕ) (e : Key × Cell Value) → Leaves key cells compared low high → low ≤ place → place < high
-      → slice_get cells place ≡ Some e → key_cmp e.0 key ≡ Equal → IsSearch key cells (e.0 ∷ compared)
+  with_key : (compared : List Key) (low high index : ℕ) (e : Key × Cell Value) → Leaves key cells compared low high → low ≤ index → index < high
+      → slice_get cells index ≡ Some e → key_cmp e.0 key ≡ Equal → IsSearch key cells (e.0 ∷ compared)
 
 -- so many keys are compared
 pub record CountsSearch (key : Key) (cells : List (Key × Cell Value)) (steps : ℕ) : Type 0 where
@@ -35,7 +35,7 @@ abbrev pub HasDigits : ℕ → ℕ → Type 0
 HasDigits n zero = Unit {0}
 HasDigits n (suc digits) = 2 ^ digits ≤ n
 
--- a search of n places that compared so many keys may compare one more for each further binary digit of n, and each of
+-- a search of n indices that compared so many keys may compare one more for each further binary digit of n, and each of
 -- these leaves half of what is left at most, which is no more than this
 pub record IsBudget (n steps most : ℕ) : Type 0 where
   pub left : ℕ

@@ -113,31 +113,31 @@ report_fault report =
 
 -- facts -------------------------------------------------------------------------------
 
-abbrev pub Told : Type 0
-Told = List (Key × Cell Value)
+abbrev pub Sightings : Type 0
+Sightings = List (Key × Cell Value)
 
 -- the port that the GUID of the answer is of: a switch has one, for its management port
 abbrev pub guid_port : NodeType → ℕ → ℕ
 guid_port kind local_port = if is_switch kind then 0 else local_port
 
 -- the link between the port that was asked and the port before it, from both ends
-abbrev pub told_of_link : ℕ → Context → NodeInfo → Told
-told_of_link generation (Via peer port) info =
+abbrev pub sightings_of_link : ℕ → Context → NodeInfo → Sightings
+sightings_of_link generation (Via peer port) info =
     (Link info.node_guid info.local_port_num, Known generation (Peer peer port)) ∷
     (Link peer port, Known generation (Peer info.node_guid info.local_port_num)) ∷ []
-told_of_link generation Start info = []
-told_of_link generation (About guid) info = []
+sightings_of_link generation Start info = []
+sightings_of_link generation (About guid) info = []
 
-abbrev pub told_of_kind : ℕ → Context → NodeInfo → Option NodeType → Told
-told_of_kind generation context info None = []
-told_of_kind generation context info (Some kind) =
+abbrev pub sightings_of_kind : ℕ → Context → NodeInfo → Option NodeType → Sightings
+sightings_of_kind generation context info None = []
+sightings_of_kind generation context info (Some kind) =
     (Node info.node_guid, Known generation (Kind kind info.num_ports))
     ∷ (PortGuid info.node_guid (guid_port kind info.local_port_num), Known generation (Guid info.port_guid))
-    ∷ told_of_link generation context info
+    ∷ sightings_of_link generation context info
 
 -- a node's kind and ports, a port's GUID, and the link that led there
-abbrev pub told_by_node_info : ℕ → Context → List ℕ → Told
-told_by_node_info generation context packet = told_of_kind generation context (node_info_of packet) (type_of_number (node_info_of packet).node_type)
+abbrev pub sightings_by_node_info : ℕ → Context → List ℕ → Sightings
+sightings_by_node_info generation context packet = sightings_of_kind generation context (node_info_of packet) (type_of_number (node_info_of packet).node_type)
 
 -- Initialize, Armed and Active are up; Down, and numbers that no state has, are not
 abbrev pub is_up_state : ℕ → Bool
@@ -148,25 +148,25 @@ abbrev pub payload_of : List ℕ → List ℕ
 payload_of packet = bytes_in attribute_data packet
 
 -- whether a port of the node is up, and the LID that it claims
-abbrev pub told_by_port_info : ℕ → Context → List ℕ → Told
-told_by_port_info generation (About node) packet =
+abbrev pub sightings_by_port_info : ℕ → Context → List ℕ → Sightings
+sightings_by_port_info generation (About node) packet =
     (Port node (number_in attribute_modifier packet), Known generation (Up (is_up_state (bits_in port_state (payload_of packet)))))
     ∷ (Claim node (number_in attribute_modifier packet), Known generation (Lid (number_in base_lid (payload_of packet)))) ∷ []
-told_by_port_info generation Start packet = []
-told_by_port_info generation (Via guid port) packet = []
+sightings_by_port_info generation Start packet = []
+sightings_by_port_info generation (Via guid port) packet = []
 
 -- how many LIDs the switch's forwarding table has room for
-abbrev pub told_by_switch_info : ℕ → Context → List ℕ → Told
-told_by_switch_info generation (About node) packet = (Cap node, Known generation (Count (number_in linear_fdb_cap (payload_of packet)))) ∷ []
-told_by_switch_info generation Start packet = []
-told_by_switch_info generation (Via guid port) packet = []
+abbrev pub sightings_by_switch_info : ℕ → Context → List ℕ → Sightings
+sightings_by_switch_info generation (About node) packet = (Cap node, Known generation (Count (number_in linear_fdb_cap (payload_of packet)))) ∷ []
+sightings_by_switch_info generation Start packet = []
+sightings_by_switch_info generation (Via guid port) packet = []
 
-abbrev pub told_by_packet : ℕ → Context → List ℕ → Told
-told_by_packet generation context packet =
-    if number_in attribute_id packet == node_info then told_by_node_info generation context packet
-    else if number_in attribute_id packet == port_info then told_by_port_info generation context packet
-    else told_by_switch_info generation context packet
+abbrev pub sightings_by_packet : ℕ → Context → List ℕ → Sightings
+sightings_by_packet generation context packet =
+    if number_in attribute_id packet == node_info then sightings_by_node_info generation context packet
+    else if number_in attribute_id packet == port_info then sightings_by_port_info generation context packet
+    else sightings_by_switch_info generation context packet
 
 -- the sightings of a report that has no fault
-abbrev pub sightings_of : Report → Told
-sightings_of report = told_by_packet report.generation report.context report.bytes
+abbrev pub sightings_of : Report → Sightings
+sightings_of report = sightings_by_packet report.generation report.context report.bytes

@@ -4,7 +4,7 @@ use Rattle.page_list.specs.Rest.{rest_of}
 use Rattle.fact_join.specs.declared.cell.Cell.{Cell}
 use Rattle.fact_store.specs.declared.key.Key.{Key}
 use Rattle.fact_store.specs.declared.value.Value.{Value}
-use Rattle.fact_store.specs.declared.walk.Cells.{Cells}
+use Rattle.fact_store.specs.declared.cells.Cells.{Cells}
 
 -- the cells that are left, with their keys
 abbrev pub cells_left : Cells → List (Key × Cell Value)

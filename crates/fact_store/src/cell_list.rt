@@ -9,7 +9,7 @@ ghost use Rattle.fact_store.specs.Seen.{seen};
 ghost use Rattle.fact_store.specs.View.{view, view_at};
 ghost use Rattle.fact_store.specs.Floor.{is_kept, kept};
 
-use crate::find::{compare, place_of};
+use crate::search::{compare, index_of};
 use crate::sighting::Sighting;
 use fact_join::Join;
 use page_list::{Iter, PageList};
@@ -34,12 +34,12 @@ pub(crate) fn put(cells: &mut PageList<Sighting>, sighting: Sighting)
     ensures put { seen cells.new.items ≡ merge_maps (seen cells.old.items) (seen (sighting ∷ [])) }
     ensures room { cells.old.room ≤ cells.new.room + 1 }
 {
-    match place_of(cells, &sighting.key()) {
-        Ok(place) => {
-            let held = cells.get(place).unwrap();
-            cells.set(place, join_cells(&held, &sighting));
+    match index_of(cells, &sighting.key()) {
+        Ok(index) => {
+            let held = cells.get(index).unwrap();
+            cells.set(index, join_cells(&held, &sighting));
         }
-        Err(place) => cells.insert(place, sighting),
+        Err(index) => cells.insert(index, sighting),
     }
 }
 

@@ -4,9 +4,9 @@ ghost use Rattle.fact_store.specs.Report.{sightings_of};
 ghost use Rattle.fact_store.specs.View.{view};
 
 use crate::report::Report;
+use crate::report_facts::sightings;
 use crate::report_fault::ReportFault;
 use crate::store::Store;
-use crate::told::sightings;
 use thiserror::Error;
 
 /// Why a store did not take a report.
@@ -23,17 +23,17 @@ impl Store {
     ghost use Rattle.smp_bytes.specs.Judges.{JudgesButFor};
     ghost use Rattle.fact_store.specs.Ingest.{ingest_fault, is_memory};
 
-    /// Takes in what a report tells. Want of memory is the last check.
+    /// Takes in what a report tells. Out of memory is the last check.
     pub fn ingest(&mut self, report: &Report) -> Result<(), IngestFault>
         ensures judged { JudgesButFor is_memory result (ingest_fault report.now) }
         ensures ok { OnOk result (self.new ≡ merge self.old (view (sightings_of report.now))) }
         ensures err { OnErr result (self.new ≡ self.old) }
     {
-        let told = match sightings(report) {
-            Ok(told) => told,
+        let sightings = match sightings(report) {
+            Ok(sightings) => sightings,
             Err(fault) => return Err(IngestFault::Report(fault)),
         };
-        match self.add_all(told.as_slice()) {
+        match self.add_all(sightings.as_slice()) {
             Ok(()) => Ok(()),
             Err(_) => Err(IngestFault::Memory),
         }

@@ -23,7 +23,7 @@ pub enum Key {
 impl Key {
     ghost use Rattle.fact_store.specs.Key.{key_numbers};
 
-    /// The place of its kind among the kinds, the GUID and the port; the port is 0 where there is none.
+    /// The index of its kind among the kinds, the GUID and the port; the port is 0 where there is none.
     fn sort_key(self) -> [u64; 3]
         ensures { result ≡ key_numbers self }
     {

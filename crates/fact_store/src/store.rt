@@ -6,11 +6,11 @@ ghost use Rattle.fact_store.specs.Sighting.{AreInRange};
 ghost use Rattle.fact_store.specs.Walk.{cells_left};
 
 use crate::cell_list::{drop_below, merge_cells, put_kept};
-use crate::find::find;
+use crate::cells::Cells;
 use crate::key::Key;
+use crate::search::find;
 use crate::sighting::Sighting;
 use crate::value::Value;
-use crate::walk::Cells;
 use fact_join::Cell;
 use page_list::PageList;
 use smp_bytes::Generation;
@@ -33,7 +33,7 @@ impl From<AllocError> for Refused {
 }
 
 /// As many sightings as a report tells go in one after the other.
-const FEW: usize = 4;
+const SIGHTINGS_PER_REPORT: usize = 4;
 
 /// What is held of a subnet: the view of all that was put in, a cell for each key. What is older than its floor is
 /// forgotten for good.
@@ -105,9 +105,9 @@ impl Store {
         ensures ok { OnOk result (self.new ≡ merge self.old (view sightings.now)) }
         ensures err { OnErr result (self.new ≡ self.old) }
     {
-        if sightings.len() > FEW {
-            let told = store_of(self.cells.allocator(), self.floor, sightings)?;
-            self.merge(&told)?;
+        if sightings.len() > SIGHTINGS_PER_REPORT {
+            let other = store_of(self.cells.allocator(), self.floor, sightings)?;
+            self.merge(&other)?;
             return Ok(());
         }
         self.add_few(sightings)
@@ -194,8 +194,8 @@ impl Store {
         ensures in_range { AreInRange self.now }
     {
         let found = find(&self.cells, &key);
-        let cell = match found.place {
-            Ok(place) => Some(self.cells.get(place).unwrap().cell()),
+        let cell = match found.index {
+            Ok(index) => Some(self.cells.get(index).unwrap().cell()),
             Err(_) => None,
         };
         (cell, found.steps)
@@ -209,7 +209,7 @@ impl Store {
         self.cells.len()
     }
 
-    /// The key at place `i` in the order of the keys, from 0 on, with its cell. Halves the pages at each step.
+    /// The key at index `i` in the order of the keys, from 0 on, with its cell. Halves the pages at each step.
     pub fn cell(&self, i: usize) -> Option<Sighting>
         ensures exact { result ≡ slice_get (cells_of self.now) i }
         ensures in_range { AreInRange self.now }
@@ -241,12 +241,12 @@ impl Store {
 }
 
 /// The newer of two generations, where there may be none yet.
-fn newer(held: Option<Generation>, told: Generation) -> Generation
-    ensures { result ≡ max (unwrap_or held 0) told }
+fn newer(held: Option<Generation>, other: Generation) -> Generation
+    ensures { result ≡ max (unwrap_or held 0) other }
 {
     match held {
-        None => told,
-        Some(held) => { if held < told { told } else { held } }
+        None => other,
+        Some(held) => { if held < other { other } else { held } }
     }
 }
 

@@ -30,9 +30,9 @@ of_text true e = cc
 of_text false e = cc
 
 pub never_failed : (fault : Fault) → status_of fault ≡ Failed → ⊥
-never_failed (Open place) e = cc
-never_failed (File place fault) e = of_file fault e
-never_failed (Text place fault) e = of_text (is_of_text fault) e
+never_failed (Open input) e = cc
+never_failed (File input fault) e = of_file fault e
+never_failed (Text input fault) e = of_text (is_of_text fault) e
 never_failed (NoRoom why) e = cc
 never_failed Write e = cc
 never_failed Memory e = cc

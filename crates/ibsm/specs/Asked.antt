@@ -7,15 +7,15 @@ use Rattle.clap.specs.Matches.{subcommand_name_of}
 use Rattle.clap.specs.Simple.{subcommand_rows_of}
 use Rattle.clap.specs.Walk.{Row}
 use Rattle.clap.specs.declared.parser.matches.ArgMatches.{ArgMatches}
-use Rattle.sm_cli.specs.declared.run.Command.{Command}
+use Rattle.sm_cli.specs.declared.run.Invocation.{Invocation}
 use Rattle.sm_cli.specs.declared.run.Output.{Output}
 use Rattle.sm_cli.specs.declared.run.Output.TheVariants.{Facts, Join, Plan}
 use Rattle.sm_cli.specs.declared.rooted.RootedPlan.{RootedPlan}
 use Rattle.sm_cli.specs.declared.run.RuleKind.{RuleKind}
 use Rattle.sm_cli.specs.declared.run.RuleKind.TheVariants.{UpDown, Spread}
 use Rattle.sm_cli.specs.Kinds.{value_of_kind}
-use Rattle.spread_rule.specs.Rules.{RuleValue}
-use Rattle.sm_manager.specs.Planning.{Planning}
+use Rattle.lft_blocks.specs.Rules.{RuleValue}
+use Rattle.lft_blocks.specs.Planning.{Planning}
 use Rattle.ibsm.specs.declared.opener.OpenFault.{OpenFault}
 use Rattle.ibsm.specs.Audits.{AuditsFiles}
 use Rattle.ibsm.specs.Ending.{AnswersFiles, RunsFiles}
@@ -91,7 +91,7 @@ RootsLackSpread roots rule = IsSome roots × (rule ≢ Some (codes "spread"))
 -- the words ask for a command, and the files that they name were read and answered
 pub record AnswersWords {S : Type 0} (answers : List ℕ → Result S OpenFault → Type 0) (left : S → Option (List ℕ)) (has_failed : S → Bool)
     (matches : ArgMatches) (written written' : Option (List ℕ)) : Type 0 where
-  pub command : Command
+  pub command : Invocation
   pub asked : subcommand_name_of matches ≡ Some (word_of command.output)
   pub floor : IsFloor (word_named (codes "floor") matches) command.floor
   pub lmc : HasLmc (word_named (codes "lmc") matches) command.output

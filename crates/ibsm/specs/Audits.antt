@@ -3,7 +3,7 @@ use Rattle.std.specs.Prelude.{◌⊎◌, Bool, true, false, List, [], ◌∷◌,
 use Rattle.std.specs.Borrow.{Bor}
 use Rattle.sm_cli.specs.declared.exit_status.ExitStatus.{ExitStatus}
 use Rattle.sm_cli.specs.declared.exit_status.ExitStatus.TheVariants.{Done, Failed}
-use Rattle.audit_run.specs.Run.{HasAudited, IsAuditFault}
+use Rattle.audit_report.specs.RunAudit.{HasAudited, IsAuditFault}
 use Rattle.sm_cli.specs.declared.whose_fault.WhoseFault.{WhoseFault}
 use Rattle.ibsm.specs.declared.opener.OpenFault.{OpenFault}
 use Rattle.ibsm.specs.Opening.{AreOpened}

@@ -5,18 +5,18 @@ use Rattle.std.specs.Borrow.{Bor}
 use Rattle.sm_cli.specs.FaultText.{fault_text, program_line}
 use Rattle.sm_cli.specs.ExitStatus.{status_of}
 use Rattle.sm_cli.specs.Run.{HasAnswered, IsFaultOf}
-use Rattle.sm_manager.specs.Planning.{Planning}
-use Rattle.sm_run.specs.Run.{HasRun, IsRunFault}
+use Rattle.lft_blocks.specs.Planning.{Planning}
+use Rattle.schedule_run.specs.Run.{HasRun, IsRunFault}
 use Rattle.sm_cli.specs.declared.fault.Fault.{Fault}
 use Rattle.sm_cli.specs.declared.fault.Fault.TheVariants.{Open, File, Text, NoRoom, Write, Memory}
 use Rattle.sm_cli.specs.declared.exit_status.ExitStatus.{ExitStatus}
-use Rattle.sm_cli.specs.declared.run.Command.{Command}
+use Rattle.sm_cli.specs.declared.run.Invocation.{Invocation}
 use Rattle.ibsm.specs.declared.opener.OpenFault.{OpenFault}
 use Rattle.ibsm.specs.Opening.{AreOpened, IsOpenFault}
 
 -- the files with these names were opened and read, and what they say together was written
 pub record AnswersFiles {S : Type 0} (answers : List ℕ → Result S OpenFault → Type 0) (left : S → Option (List ℕ)) (has_failed : S → Bool)
-    (command : Command) (names : List (Bor (List ℕ))) (written written' : Option (List ℕ)) : Type 0 where
+    (command : Invocation) (names : List (Bor (List ℕ))) (written written' : Option (List ℕ)) : Type 0 where
   pub olds : List S
   pub news : List S
   pub opened : AreOpened answers names olds
@@ -24,7 +24,7 @@ pub record AnswersFiles {S : Type 0} (answers : List ℕ → Result S OpenFault 
 
 -- they were opened, and a run over them ends with the fault
 pub record FailsOverFiles {S : Type 0} (answers : List ℕ → Result S OpenFault → Type 0) (left : S → Option (List ℕ)) (has_failed : S → Bool)
-    (interruptions : S → ℕ) (command : Command) (names : List (Bor (List ℕ))) (output_failed : Bool) (fault : Fault) : Type 0 where
+    (interruptions : S → ℕ) (command : Invocation) (names : List (Bor (List ℕ))) (output_failed : Bool) (fault : Fault) : Type 0 where
   pub olds : List S
   pub news : List S
   pub opened : AreOpened answers names olds
@@ -32,7 +32,7 @@ pub record FailsOverFiles {S : Type 0} (answers : List ℕ → Result S OpenFaul
 
 -- why the files with these names are not answered: they are not open, or a run over them ends early
 abbrev pub IsAnswersFault : {S : Type 0} → (List ℕ → Result S OpenFault → Type 0) → (S → Option (List ℕ)) → (S → Bool) → (S → ℕ)
-    → Command → List (Bor (List ℕ)) → Bool → Fault → Type 0
+    → Invocation → List (Bor (List ℕ)) → Bool → Fault → Type 0
 IsAnswersFault answers left has_failed interruptions command names output_failed fault =
     IsOpenFault answers names fault ⊎ FailsOverFiles answers left has_failed interruptions command names output_failed fault
 
@@ -63,16 +63,16 @@ abbrev pub IsRunsFault : {S : Type 0} → (List ℕ → Result S OpenFault → T
 IsRunsFault answers left has_failed interruptions names planning prints output_failed fault =
     IsOpenFault answers names fault ⊎ FailsToRunFiles answers left has_failed interruptions names planning prints output_failed fault
 
--- the name of a file, and nothing where there is no file of that place
+-- the name of a file, and nothing where there is no file of that input
 abbrev pub name_at : Option (Bor (List ℕ)) → List ℕ
 name_at None = []
 name_at (Some name) = name.now
 
 -- the name of the file that a fault speaks of
 abbrev pub name_of : List (Bor (List ℕ)) → Fault → List ℕ
-name_of names (Open place) = name_at (slice_get names place)
-name_of names (File place fault) = name_at (slice_get names place)
-name_of names (Text place fault) = name_at (slice_get names place)
+name_of names (Open input) = name_at (slice_get names input)
+name_of names (File input fault) = name_at (slice_get names input)
+name_of names (Text input fault) = name_at (slice_get names input)
 name_of names (NoRoom why) = []
 name_of names Write = []
 name_of names Memory = []

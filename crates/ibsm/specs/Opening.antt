@@ -14,29 +14,29 @@ OpensBehind answers (Err fault) old new = answers (Err fault) × (new ≡ old)
 -- these files were opened by these names, one by each, in their order
 pub record AreOpened {S : Type 0} (answers : List ℕ → Result S OpenFault → Type 0) (names : List (Bor (List ℕ))) (files : List S) : Type 0 where
   pub one_each : length files ≡ length names
-  pub opened : (place : ℕ) (name : Bor (List ℕ)) (file : S) → slice_get names place ≡ Some name → slice_get files place ≡ Some file
+  pub opened : (input : ℕ) (name : Bor (List ℕ)) (file : S) → slice_get names input ≡ Some name → slice_get files input ≡ Some file
       → answers name.now (Ok file)
 
 -- a name was asked for, and is not missing: its file was opened, or memory was refused for that
 abbrev pub IsThere : {S : Type 0} → (Result S OpenFault → Type 0) → Type 0
 IsThere {S} answers = ((file : S) × answers (Ok file)) ⊎ answers (Err Memory)
 
--- the names before a place are there
+-- the names before an input are there
 abbrev pub AreThere : {S : Type 0} → (List ℕ → Result S OpenFault → Type 0) → List (Bor (List ℕ)) → ℕ → Type 0
-AreThere answers names place = (k : ℕ) (name : Bor (List ℕ)) → k < place → slice_get names k ≡ Some name → IsThere (answers name.now)
+AreThere answers names input = (k : ℕ) (name : Bor (List ℕ)) → k < input → slice_get names k ≡ Some name → IsThere (answers name.now)
 
--- the name at a place is missing, and none before it
-pub record IsFirstMissing {S : Type 0} (answers : List ℕ → Result S OpenFault → Type 0) (names : List (Bor (List ℕ))) (place : ℕ) : Type 0 where
+-- the name at an input is missing, and none before it
+pub record IsFirstMissing {S : Type 0} (answers : List ℕ → Result S OpenFault → Type 0) (names : List (Bor (List ℕ))) (input : ℕ) : Type 0 where
   pub name : Bor (List ℕ)
-  pub there : slice_get names place ≡ Some name
+  pub there : slice_get names input ≡ Some name
   pub missing : answers name.now (Err Missing)
-  pub before : AreThere answers names place
+  pub before : AreThere answers names input
 
 -- memory was refused as a name was asked for
 pub record WasRefusedMemory {S : Type 0} (answers : List ℕ → Result S OpenFault → Type 0) (names : List (Bor (List ℕ))) : Type 0 where
-  pub place : ℕ
+  pub input : ℕ
   pub name : Bor (List ℕ)
-  pub there : slice_get names place ≡ Some name
+  pub there : slice_get names input ≡ Some name
   pub refused : answers name.now (Err Memory)
 
 -- so it was, and none of the names is missing
@@ -46,6 +46,6 @@ pub record LacksMemory {S : Type 0} (answers : List ℕ → Result S OpenFault �
 
 -- why the files with these names are not open
 abbrev pub IsOpenFault : {S : Type 0} → (List ℕ → Result S OpenFault → Type 0) → List (Bor (List ℕ)) → Fault → Type 0
-IsOpenFault answers names (faults.Open place) = IsFirstMissing answers names place
+IsOpenFault answers names (faults.Open input) = IsFirstMissing answers names input
 IsOpenFault answers names faults.Memory = LacksMemory answers names
 IsOpenFault answers names _ = ⊥

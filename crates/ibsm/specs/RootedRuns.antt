@@ -2,7 +2,7 @@
 use Rattle.std.specs.Prelude.{◌⊎◌, Bool, List, [], ◌∷◌, ℕ, Option, Result}
 use Rattle.std.specs.Borrow.{Bor}
 use Rattle.sm_cli.specs.declared.whose_fault.WhoseFault.{WhoseFault}
-use Rattle.sm_run.specs.Rooted.{HasRunRooted, IsRootedRunFault}
+use Rattle.schedule_run.specs.Rooted.{HasRunRooted, IsRootedRunFault}
 use Rattle.ibsm.specs.declared.opener.OpenFault.{OpenFault}
 use Rattle.ibsm.specs.Opening.{AreOpened}
 use Rattle.ibsm.specs.Whose.{IsOpenFaultOf}

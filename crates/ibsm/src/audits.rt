@@ -5,8 +5,8 @@ ghost use Rattle.ibsm.specs.Whose.{SaysWhose};
 
 use crate::files::{open_behind_text, say_whose};
 use crate::opener::Opener;
-use audit_run::run_audit;
-use record_file::{Sink, ToWrite};
+use audit_report::run_audit;
+use byte_io::{Sink, ToWrite};
 use sm_cli::{ExitStatus, Fault, WhoseFault};
 use smp_bytes::Generation;
 use std::io::Write;

@@ -1,24 +1,24 @@
 //! The subcommands that read files.
 ghost use Rattle.std.specs.Prelude.{◌≡◌, ◌⊎◌, [], ◌∷◌, Err, length, IfOk, IfErr, OnOk, OnErr, IsTrue};
 ghost use Rattle.sm_cli.specs.ExitStatus.{status_of};
-ghost use Rattle.sm_run.specs.Prints.{Prints, PrintsSome};
+ghost use Rattle.schedule_run.specs.Prints.{Prints, PrintsSome};
 ghost use Rattle.ibsm.specs.Ending.{AnswersFiles, IsAnswersFault, IsRunsFault, IsSaid, RunsFiles, SaysWhy};
 ghost use Rattle.ibsm.specs.Ending.{fault_line, name_of};
 ghost use Rattle.ibsm.specs.Opening.{AreOpened, IsOpenFault};
 ghost use Rattle.ibsm.specs.Whose.{IsOpenFaultOf, status_of_whose, whose_line};
 
 use crate::opener::{OpenFault, Opener};
-use record_file::{Sink, ToWrite};
-use sm_cli::{Command, ExitStatus, Fault, WhoseFault, run_files, write_fault};
-use sm_manager::Planning;
-use sm_run::run_schedule;
+use byte_io::{Sink, ToWrite};
+use lft_blocks::Planning;
+use schedule_run::run_schedule;
+use sm_cli::{ExitStatus, Fault, Invocation, WhoseFault, run_files, write_fault};
 use std::io::Write;
 
 /// Does what the command asks for with the files of these names, and says on `errors` why it cannot.
 /// All are opened before the first is read.
 pub(crate) fn answer_or_explain<R, O, E>(
     rt: &R,
-    command: Command,
+    command: Invocation,
     names: &[&str],
     output: &mut ToWrite<O>,
     errors: &mut ToWrite<E>,
@@ -145,7 +145,7 @@ pub(crate) fn say_whose<E: Write>(
 /// Writes what the command asks for of all that the files with these names say.
 fn answer<R, O>(
     rt: &R,
-    command: Command,
+    command: Invocation,
     names: &[&str],
     output: &mut ToWrite<O>,
 ) -> Result<(), Fault>
@@ -177,11 +177,11 @@ where
 {
     let mut files = Vec::new(rt.alloc());
     let mut has_memory = true;
-    for (place, name) in names.iter().enumerate() {
+    for (input, name) in names.iter().enumerate() {
         match rt.open_behind(name, &mut files) {
             Ok(()) => {}
             Err(OpenFault::Memory) => has_memory = false,
-            Err(OpenFault::Missing) => return Err(Fault::Open { place }),
+            Err(OpenFault::Missing) => return Err(Fault::Open { input }),
         }
     }
     if has_memory {
@@ -218,8 +218,8 @@ fn name_of<'a>(names: &[&'a str], fault: &Fault) -> &'a str
     ensures { result.now ≡ name_of names.now fault.now }
 {
     match fault {
-        Fault::Open { place } | Fault::File { place, .. } | Fault::Text { place, .. } => names
-            .get(*place)
+        Fault::Open { input } | Fault::File { input, .. } | Fault::Text { input, .. } => names
+            .get(*input)
             .copied()
             .unwrap_or(""),
         Fault::NoRoom(_) | Fault::Write | Fault::Memory => "",

@@ -2,7 +2,7 @@
 ghost use Rattle.std.specs.Prelude.{ℕ, List, Result};
 ghost use Rattle.ibsm.specs.Opening.{OpensBehind};
 
-use record_file::{FromRead, Source};
+use byte_io::{FromRead, Source};
 use std::io::BufReader;
 use std::rt::Files;
 use std::{fs, io};

@@ -5,7 +5,7 @@ ghost use Rattle.ibsm.specs.Whose.{SaysWhose};
 
 use crate::files::{open_behind_text, say_whose};
 use crate::opener::Opener;
-use record_file::{Sink, ToWrite};
+use byte_io::{Sink, ToWrite};
 use sm_cli::{ExitStatus, Fault, RootedPlan, WhoseFault, run_rooted};
 use std::io::Write;
 

@@ -1,15 +1,15 @@
 //! Runs whose managers plan from roots that a file names.
 ghost use Rattle.std.specs.Prelude.{◌≡◌, ◌⊎◌, Err, length, IfErr, IsTrue, OnErr, OnOk};
-ghost use Rattle.sm_run.specs.Prints.{Prints, PrintsSome};
+ghost use Rattle.schedule_run.specs.Prints.{Prints, PrintsSome};
 ghost use Rattle.ibsm.specs.RootedRuns.{IsRunsRootedFault, RunsRootedFiles};
 ghost use Rattle.ibsm.specs.Whose.{SaysWhose};
 
 use crate::files::{open_behind_text, say_whose};
 use crate::opener::Opener;
 use attr_codec::Lmc;
-use record_file::{Sink, ToWrite};
+use byte_io::{Sink, ToWrite};
+use schedule_run::run_rooted_schedule;
 use sm_cli::{ExitStatus, Fault, WhoseFault};
-use sm_run::run_rooted_schedule;
 use std::io::Write;
 
 /// Runs a schedule in the fabric of a topology, with managers that plan from the roots that a file names, and says on

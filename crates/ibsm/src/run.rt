@@ -2,7 +2,7 @@
 ghost use Rattle.std.specs.Prelude.{◌≡◌, ◌⊎◌, ◌↔◌, None, Some, IfSome, IsSome, IsTrue, codes, is_some, map, length, slice_get, false, true};
 ghost use Rattle.clap.specs.Matches.{subcommand_name_of};
 ghost use Rattle.clap.specs.Matches.{first_value, found_of};
-ghost use Rattle.sm_run.specs.Prints.{Prints};
+ghost use Rattle.schedule_run.specs.Prints.{Prints};
 ghost use Rattle.ibsm.specs.Asked.{AnswersWords, AsksRule, AuditsWords, HasLmc, HasNoRoots, HasRule, IsFloor, IsLmc, IsRule, PlansWords};
 ghost use Rattle.ibsm.specs.Asked.{RootsLackSpread, RunsRootedWords, RunsWords, files_named, word_named, word_of};
 
@@ -16,11 +16,11 @@ use crate::opener::Opener;
 use crate::plans::plan_or_explain;
 use crate::rooted_runs::run_rooted_or_explain;
 use attr_codec::Lmc;
+use byte_io::{Sink, ToWrite};
 use clap::error::ErrorKind;
 use clap::{ArgMatches, Error};
-use record_file::{Sink, ToWrite};
-use sm_cli::{Command, ExitStatus, Fault, Output, RootedPlan, RuleKind, rule_of_kind};
-use sm_manager::Planning;
+use lft_blocks::Planning;
+use sm_cli::{ExitStatus, Fault, Invocation, Output, RootedPlan, RuleKind, rule_of_kind};
 use smp_bytes::Generation;
 use std::alloc::{AllocError, Global};
 use std::io::{BufWriter, Write};
@@ -41,7 +41,7 @@ where
     }
 }
 
-/// The same; an `Err` is want of memory, of which nothing has been said yet.
+/// The same; an `Err` says that memory ran out, of which nothing has been said yet.
 fn try_run<R, O, E>(rt: &R, output: O, errors: &mut ToWrite<E>) -> Result<ExitStatus, AllocError>
 where
     R: Env + Opener + Print + Eprint + AllocGlobal,
@@ -57,7 +57,7 @@ where
             let error = roots_without_spread(rt.alloc(), matches.subcommand_name())?;
             explain(rt, &error, errors)
         }
-        Ok(matches) => Ok(obey(rt, &matches, &mut ToWrite::new(writer), errors)),
+        Ok(matches) => Ok(dispatch(rt, &matches, &mut ToWrite::new(writer), errors)),
         Err(error) => explain(rt, &error, errors),
     }
 }
@@ -112,7 +112,7 @@ fn is_spread(words: &ArgMatches<'_>) -> bool
 
 #[tactic(auto, using(crate::proofs::Statuses::not_failed, crate::proofs::Statuses::whose_not_failed))]
 /// Does what the words ask for, and says on `errors` why it cannot.
-fn obey<R, O, E>(
+fn dispatch<R, O, E>(
     rt: &R,
     matches: &ArgMatches<'_>,
     output: &mut ToWrite<O>,
@@ -156,7 +156,7 @@ where
 }
 
 /// The command that the words of the command line ask for, and the names of its files.
-pub(crate) fn asked<'m, 'a>(matches: &'m ArgMatches<'a>) -> Option<(Command, &'m [&'a str])>
+pub(crate) fn asked<'m, 'a>(matches: &'m ArgMatches<'a>) -> Option<(Invocation, &'m [&'a str])>
     ensures command { IfSome result (λ asked. subcommand_name_of matches.now ≡ Some (word_of asked.0.output)) }
     ensures floor { IfSome result (λ asked. IsFloor (word_named (codes "floor") matches.now) asked.0.floor) }
     ensures lmc { IfSome result (λ asked. HasLmc (word_named (codes "lmc") matches.now) asked.0.output) }
@@ -167,7 +167,7 @@ pub(crate) fn asked<'m, 'a>(matches: &'m ArgMatches<'a>) -> Option<(Command, &'m
     let (name, words) = matches.subcommand()?;
     let output = output_of(name, words)?;
     let floor = floor_of(words)?;
-    Some((Command { output, floor }, words.get_strs(FILE)?))
+    Some((Invocation { output, floor }, words.get_strs(FILE)?))
 }
 
 /// What the subcommand of a name, with these words behind it, is to write.

@@ -10,25 +10,25 @@ use Rattle.subnet_view.specs.Reading.{is_usable, switches, IsUsable}
 use Rattle.subnet_view.proofs.Members.{contains_later, contains_cases, contains_none, contains_first}
 use Rattle.subnet_view.proofs.UsableSwitches.{usable_law, switches_law}
 use Rattle.lid_assign.specs.Lids.{lids, top_of}
-use Rattle.lft_blocks.specs.Entries.{Next, home_of_lid, block, block_count, blocks}
+use Rattle.lft_blocks.specs.Entries.{Next, attachment_of_lid, block, block_count, blocks}
 use Rattle.lft_blocks.specs.Plan.{SwitchTable, tables_of, plan_by, block_at}
 use Rattle.lft_blocks.specs.PlanLaws.{HasBlock, block_of, BlocksAreOfSwitches}
 use Rattle.lft_blocks.proofs.BlockLaws.{made_at}
 
-module _ (homes : ℕ → Option (ℕ × ℕ)) (next : Next) (count g : ℕ) where
+module _ (attachments : ℕ → Option (ℕ × ℕ)) (next : Next) (count g : ℕ) where
   abbrev its_table : Option SwitchTable
-  its_table = Some (record { guid = g; blocks = blocks homes next count g })
+  its_table = Some (record { guid = g; blocks = blocks attachments next count g })
 
   abbrev found : List ℕ → Option SwitchTable
-  found guids = find (λ table. table.guid == g) (tables_of homes next count guids)
+  found guids = find (λ table. table.guid == g) (tables_of attachments next count guids)
 
   -- a switch's table is found
   table_of_switch : (guids : List ℕ) → Contains guids g → found guids ≡ its_table
   table_of_switch [] h = absurd (contains_none g h)
   table_of_switch (x ∷ guids) h =
-      let table : SwitchTable = record { guid = x; blocks = blocks homes next count x } in
+      let table : SwitchTable = record { guid = x; blocks = blocks attachments next count x } in
       elim (x == g) as (λ t. (x == g) ≡ t → cond t (Some table) (found guids) ≡ its_table) [
-        | true ↦ λ e. let same = eqb-true x g e in λ i. Some (record { guid = same i; blocks = blocks homes next count (same i) })
+        | true ↦ λ e. let same = eqb-true x g e in λ i. Some (record { guid = same i; blocks = blocks attachments next count (same i) })
         | false ↦ λ e. (elim (contains_cases x g guids h) [
           | inl same ↦ absurd (true≢false (sym (eq-eqb x g same) ∙ e))
           | inr k ↦ table_of_switch guids k
@@ -39,7 +39,7 @@ module _ (homes : ℕ → Option (ℕ × ℕ)) (next : Next) (count g : ℕ) whe
   table_of_none : (guids : List ℕ) → (Contains guids g → ⊥) → found guids ≡ None
   table_of_none [] none = refl
   table_of_none (x ∷ guids) none =
-      let table : SwitchTable = record { guid = x; blocks = blocks homes next count x } in
+      let table : SwitchTable = record { guid = x; blocks = blocks attachments next count x } in
       elim (x == g) as (λ t. (x == g) ≡ t → cond t (Some table) (found guids) ≡ None) [
         | true ↦ λ e. absurd (none (contains_first guids (eqb-true x g e)))
         | false ↦ λ e. table_of_none guids (λ k. none (contains_later x g guids k))
@@ -49,7 +49,7 @@ module _ (homes : ℕ → Option (ℕ × ℕ)) (next : Next) (count g : ℕ) whe
 pub blocks_are_of_switches : BlocksAreOfSwitches
 blocks_are_of_switches rule lmc facts g b =
     let cells = cells_of facts in
-    let homes = home_of_lid cells (lids lmc cells) in
+    let attachments = attachment_of_lid cells (lids lmc cells) in
     let next = rule.next in
     let count = block_count (top_of (lids lmc cells)) in
     let at = option_and_then (λ (table : SwitchTable). slice_get table.blocks b) in
@@ -58,18 +58,18 @@ blocks_are_of_switches rule lmc facts g b =
     elim (is_usable cells g) as (λ t. is_usable cells g ≡ t → P (block_at (plan_by rule lmc cells) g b)) [
       | true ↦ λ u.
           let usable = (usable_law cells g).0 u in
-          let it = ap at (table_of_switch homes next count g (switches cells) (switch.1 usable)) in
+          let it = ap at (table_of_switch attachments next count g (switches cells) (switch.1 usable)) in
           elim (cases_lt b count) [
             | inl l ↦
-                let place : 0 + b ≡ b = omega arith in
-                let is = it ∙ made_at (block homes next g) 0 count b l ∙ ap (λ j. Some (block homes next g j)) place in
+                let index : 0 + b ≡ b = omega arith in
+                let is = it ∙ made_at (block attachments next g) 0 count b l ∙ ap (λ j. Some (block attachments next g j)) index in
                 subst P (sym is) ((usable, l), refl)
             | inr m ↦
-                let past = slice_get_past (blocks homes next count g) b (omega (arith, m, length-map-range_with_len (block homes next g) 0 count)) in
+                let past = slice_get_past (blocks attachments next count g) b (omega (arith, m, length-map-range_with_len (block attachments next g) 0 count)) in
                 subst P (sym (it ∙ past)) (λ h. absurd (omega (arith, m, h.1)))
           ]
       | false ↦ λ u.
           let unusable = λ (k : IsUsable cells g). true≢false (sym ((usable_law cells g).1 k) ∙ u) in
-          let none = table_of_none homes next count g (switches cells) (λ k. unusable (switch.0 k)) in
+          let none = table_of_none attachments next count g (switches cells) (λ k. unusable (switch.0 k)) in
           subst P (sym (ap at none)) (λ h. unusable h.0)
     ] refl

@@ -5,12 +5,12 @@ use Rattle.std.proofs.lemmas.Bool.{eqb-true, and_parts}
 use Rattle.std.proofs.lemmas.Option.{same_Some, some_pair_parts}
 use Rattle.std.specs.Prelude.{Option, None, Some, Contains, MatchBool, MatchOption, IsSome, slice_get}
 use Rattle.std.specs.FinMap.{find}
-use Rattle.smp_bytes.specs.declared.cable.NodePort.{NodePort}
-use Rattle.smp_bytes.specs.declared.cable.Cable.{Cable}
+use Rattle.fabric_model.specs.declared.cable.NodePort.{NodePort}
+use Rattle.fabric_model.specs.declared.cable.Cable.{Cable}
 use Rattle.smp_bytes.specs.NodeType.{is_switch}
-use Rattle.smp_bytes.specs.Cables.{is_same_port, other_end}
-use Rattle.smp_bytes.specs.Fabric.{Node, Fabric, IsNodeAt, IsEndPortNumber, range_at}
-use Rattle.smp_bytes.proofs.FabricWalks.{port_at, same_port}
+use Rattle.fabric_model.specs.Cables.{is_same_port, other_end}
+use Rattle.fabric_model.specs.Fabric.{Node, Fabric, IsNodeAt, IsEndPortNumber, range_at}
+use Rattle.fabric_model.proofs.FabricWalks.{port_at, same_port}
 use Rattle.fact_join.specs.declared.cell.Cell.{Cell}
 use Rattle.fact_join.specs.declared.cell.Cell.TheVariants.{Known, Disputed}
 use Rattle.fact_store.specs.declared.key.Key.{Key}
@@ -30,7 +30,7 @@ use Rattle.subnet_view.proofs.WireLaws.{wire_law}
 use Rattle.lid_assign.specs.Lids.{lids, range_of, top_of}
 use Rattle.updown_routes.specs.Graph.{graph_of}
 use Rattle.updown_routes.specs.Routing.{updown}
-use Rattle.spread_rule.specs.Rules.{up_and_down}
+use Rattle.lft_blocks.specs.Rules.{up_and_down}
 use Rattle.lft_blocks.specs.Plan.{plan_of, block_at}
 use Rattle.lft_blocks.specs.PlanLaws.{HasBlock, block_of}
 use Rattle.lft_blocks.specs.Arrival.{HoldsBlock, HoldsPlan}
@@ -65,15 +65,15 @@ module _ {X : Type 0} (P : X → Type 0) where
   each_map m [] h = tt
   each_map m (y ∷ ys) h = (h.0, each_map m ys h.1)
 
--- of each node at its place
-abbrev pub EachPlace : (ℕ → Node → Type 0) → List Node → Type 0
-EachPlace P [] = Unit {0}
-EachPlace P (x ∷ xs) = P 0 x × EachPlace (λ k. P (suc k)) xs
+-- of each node at its index
+abbrev pub EachIndexed : (ℕ → Node → Type 0) → List Node → Type 0
+EachIndexed P [] = Unit {0}
+EachIndexed P (x ∷ xs) = P 0 x × EachIndexed (λ k. P (suc k)) xs
 
-pub place_at : (P : ℕ → Node → Type 0) (xs : List Node) → EachPlace P xs → (k : ℕ) (x : Node) → slice_get xs k ≡ Some x → P k x
-place_at P [] h k x e = absurd (cc)
-place_at P (y ∷ xs) h zero x e = subst (P 0) (same_Some y x e) h.0
-place_at P (y ∷ xs) h (suc k) x e = place_at (λ n. P (suc n)) xs h.1 k x e
+pub indexed_at : (P : ℕ → Node → Type 0) (xs : List Node) → EachIndexed P xs → (k : ℕ) (x : Node) → slice_get xs k ≡ Some x → P k x
+indexed_at P [] h k x e = absurd (cc)
+indexed_at P (y ∷ xs) h zero x e = subst (P 0) (same_Some y x e) h.0
+indexed_at P (y ∷ xs) h (suc k) x e = indexed_at (λ n. P (suc n)) xs h.1 k x e
 
 -- end ports of switches, and of nodes with one port
 abbrev pub end_of : Node → ℕ
@@ -89,15 +89,15 @@ end_number n p one h =
       | false ↦ λ q k. omega (arith, one q, k.0, k.1)
     ] refl h
 
-module _ (part : Part) (f : Fabric) (one : EachPlace (λ k n. HasOneEnd n) f.nodes) (P : ℕ → Node → ℕ → Type 0) where
-  pub end_cases : EachPlace (λ k n. P k n (end_of n)) f.nodes → (port : NodePort) (node : Node) → IsEndPortIn part f port node → P port.node node port.port
+module _ (part : Part) (f : Fabric) (one : EachIndexed (λ k n. HasOneEnd n) f.nodes) (P : ℕ → Node → ℕ → Type 0) where
+  pub end_cases : EachIndexed (λ k n. P k n (end_of n)) f.nodes → (port : NodePort) (node : Node) → IsEndPortIn part f port node → P port.node node port.port
   end_cases h port node here =
       let (other, there, number) = here.end_port in
       let same : other ≡ node = same_Some other node (sym there ∙ here.node_there) in
       let e : end_of node ≡ port.port =
-      end_number node port.port (place_at (λ k n. HasOneEnd n) f.nodes one port.node node here.node_there)
+      end_number node port.port (indexed_at (λ k n. HasOneEnd n) f.nodes one port.node node here.node_there)
       (subst (λ (x : Node). IsEndPortNumber x port.port) same number) in
-      subst (P port.node node) e (place_at (λ k n. P k n (end_of n)) f.nodes h port.node node here.node_there)
+      subst (P port.node node) e (indexed_at (λ k n. P k n (end_of n)) f.nodes h port.node node here.node_there)
 
 -- of each cable, from both ends
 same_ports : (p q : NodePort) → is_same_port p q ≡ true → p ≡ q
@@ -155,15 +155,15 @@ pub record TellsCable (cells : Cells) (f : Fabric) (p q : NodePort) : Type 0 whe
   pub other_there : IsNodeAt f q.node other
   pub told : across cells one.guid p.port ≡ Some (other.guid, q.port)
 
--- the facts tell of the node at a place, whose GUID has that place alone
+-- the facts tell of the node at an index, whose GUID has that index alone
 abbrev pub TellsNode : (ℕ → ℕ) → Cells → ℕ → Node → ℕ → Type 0
-TellsNode place_of cells k n p = (place_of n.guid ≡ k) × TellsEndPort cells n p
+TellsNode index_of cells k n p = (index_of n.guid ≡ k) × TellsEndPort cells n p
 
-module _ (part : Part) (cells : Cells) (f : Fabric) (one : EachPlace (λ k n. HasOneEnd n) f.nodes) (place_of : ℕ → ℕ)
-    (told : EachPlace (λ k n. TellsNode place_of cells k n (end_of n)) f.nodes) (stand : Each (Stands part f) cells)
+module _ (part : Part) (cells : Cells) (f : Fabric) (one : EachIndexed (λ k n. HasOneEnd n) f.nodes) (index_of : ℕ → ℕ)
+    (told : EachIndexed (λ k n. TellsNode index_of cells k n (end_of n)) f.nodes) (stand : Each (Stands part f) cells)
     (cables : (p q : NodePort) → f.across p ≡ Some q → TellsCable cells f p q) where
-  tells : (port : NodePort) (node : Node) → IsEndPortIn part f port node → TellsNode place_of cells port.node node port.port
-  tells = end_cases part f one (TellsNode place_of cells) told
+  tells : (port : NodePort) (node : Node) → IsEndPortIn part f port node → TellsNode index_of cells port.node node port.port
+  tells = end_cases part f one (TellsNode index_of cells) told
 
   stands : (key : Key) (c : Cell Value) → find key_cmp key cells ≡ Some c → Stands part f (key, c)
   stands key c e = each_at (Stands part f) cells stand (key, c) (found_in key cells c e)
@@ -192,7 +192,7 @@ module _ (part : Part) (cells : Cells) (f : Fabric) (one : EachPlace (λ k n. Ha
   pub agreement : AgreesOn part cells f
   agreement =
       record {
-        guids_distinct = λ p q a b at_p at_q e. sym (tells p a at_p).0 ∙ ap place_of e ∙ (tells q b at_q).0;
+        guids_distinct = λ p q a b at_p at_q e. sym (tells p a at_p).0 ∙ ap index_of e ∙ (tells q b at_q).0;
         tells_end_ports = λ port node here. (tells port node here).1;
         end_ports_exist = end_port_stands;
         switches_exist = λ g (ports, kind, cap). switch_stands g cap;
@@ -206,9 +206,9 @@ abbrev pub planned_entry : ℕ → Cells → ℕ → ℕ → ℕ
 planned_entry lmc cells g lid = entry_of (updown (graph_of cells)) lmc cells g lid
 
 -- a table whose entries are the plan's holds the plan's blocks
-blocks_held : (lmc : ℕ) (facts : Facts) (f : Fabric) (place g : ℕ) → ((lid : ℕ) → planned_entry lmc (cells_of facts) g lid ≡ f.entry place lid)
-    → (b : ℕ) (block : List ℕ) → block_at (plan_of up_and_down lmc (cells_of facts)) g b ≡ Some block → HoldsBlock f place b block
-blocks_held lmc facts f place g same b block there i h =
+blocks_held : (lmc : ℕ) (facts : Facts) (f : Fabric) (index g : ℕ) → ((lid : ℕ) → planned_entry lmc (cells_of facts) g lid ≡ f.entry index lid)
+    → (b : ℕ) (block : List ℕ) → block_at (plan_of up_and_down lmc (cells_of facts)) g b ≡ Some block → HoldsBlock f index b block
+blocks_held lmc facts f index g same b block there i h =
     let cells = cells_of facts in
     let rule = updown (graph_of cells) in
     let is : block ≡ block_of rule lmc cells g b =
@@ -216,19 +216,19 @@ blocks_held lmc facts f place g same b block there i h =
     (blocks_are_of_switches rule lmc facts g b)).1 in
     ap (λ (xs : List ℕ). slice_get xs i) is
     ∙ made_at (λ j. planned_entry lmc cells g (64 * b + j)) 0 64 i h
-    ∙ ap (λ (n : ℕ). Some n) (same (64 * b + (0 + i)) ∙ ap (f.entry place) (shift b i))
+    ∙ ap (λ (n : ℕ). Some n) (same (64 * b + (0 + i)) ∙ ap (f.entry index) (shift b i))
   where
     shift : (b i : ℕ) → 64 * b + (0 + i) ≡ 64 * b + i
     shift b i = omega arith
 
--- the node at a place holds what the plan gives it
+-- the node at an index holds what the plan gives it
 pub record HasPlanned (lmc : ℕ) (cells : Cells) (f : Fabric) (k : ℕ) (n : Node) (p : ℕ) : Type 0 where
   pub range : range_of (lids lmc cells) (record { node = n.guid; port = p }) ≡ Some (range_at f (port_at k p))
   pub top : is_switch n.kind ≡ true → top_of (lids lmc cells) ≡ Some (f.top k)
   pub table : (l : ℕ) → planned_entry lmc cells n.guid l ≡ f.entry k l
 
-pub holding : (part : Part) (lmc : ℕ) (facts : Facts) (f : Fabric) → EachPlace (λ k n. HasOneEnd n) f.nodes
-    → EachPlace (λ k n. HasPlanned lmc (cells_of facts) f k n (end_of n)) f.nodes → HoldsPlan part (plan_of up_and_down lmc (cells_of facts)) f
+pub holding : (part : Part) (lmc : ℕ) (facts : Facts) (f : Fabric) → EachIndexed (λ k n. HasOneEnd n) f.nodes
+    → EachIndexed (λ k n. HasPlanned lmc (cells_of facts) f k n (end_of n)) f.nodes → HoldsPlan part (plan_of up_and_down lmc (cells_of facts)) f
 holding part lmc facts f one rows =
     let row = end_cases part f one (HasPlanned lmc (cells_of facts) f) rows in
     λ port node here. record {

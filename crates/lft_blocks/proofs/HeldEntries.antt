@@ -1,10 +1,10 @@
--- What a switch's table holds for a LID of the plan: the plan's entry, and that is the home's port or the next port towards the home.
+-- What a switch's table holds for a LID of the plan: the plan's entry, and that is the attachment's port or the next port towards the attachment.
 use Rattle.std.proofs.Common.{◌≡◌, ◌≤◌, ◌+◌, ◌*◌, ◌/◌, ◌%◌, ℕ, suc, List, true, sym, ap, ◌∙◌, arith, cond, ◌==◌}
 use Rattle.std.proofs.lemmas.Option.{same_Some}
 use Rattle.std.specs.Prelude.{None, Some, MatchOption, option_and_then, unwrap_or, slice_get}
 use Rattle.std.specs.Option.{option_map_or}
-use Rattle.smp_bytes.specs.declared.cable.NodePort.{NodePort}
-use Rattle.smp_bytes.specs.Fabric.{Node, Fabric}
+use Rattle.fabric_model.specs.declared.cable.NodePort.{NodePort}
+use Rattle.fabric_model.specs.Fabric.{Node, Fabric}
 use Rattle.fact_store.specs.View.{Facts, cells_of}
 use Rattle.subnet_view.specs.declared.end_port.EndPort.{EndPort}
 use Rattle.subnet_view.specs.Reading.{Cells, is_usable}
@@ -14,7 +14,7 @@ use Rattle.lid_assign.specs.Lids.{Given, lids, owner_of, top_of, AreLids}
 use Rattle.lid_assign.proofs.Owners.{given-from_owner}
 use Rattle.lid_assign.proofs.Tops.{at_most_top}
 use Rattle.updown_routes.specs.Routing.{Routing}
-use Rattle.lft_blocks.specs.Entries.{home_of, home_of_lid, port_to, entry, block_count}
+use Rattle.lft_blocks.specs.Entries.{attachment_of, attachment_of_lid, port_to, entry, block_count}
 use Rattle.lft_blocks.specs.Plan.{plan_by, block_at}
 use Rattle.lft_blocks.specs.PlanLaws.{HasBlock, block_of}
 use Rattle.lft_blocks.specs.Arrival.{HoldsPlan}
@@ -23,13 +23,13 @@ use Rattle.lft_blocks.proofs.BlockOwners.{blocks_are_of_switches}
 
 -- the plan's entry of a switch for a LID
 abbrev pub entry_of : Routing → ℕ → Cells → ℕ → ℕ → ℕ
-entry_of rule lmc cells s lid = entry (home_of_lid cells (lids lmc cells)) rule.next s lid
+entry_of rule lmc cells s lid = entry (attachment_of_lid cells (lids lmc cells)) rule.next s lid
 
--- a switch's entry for an owned LID goes by the owner's home
-pub entry_by_home : (rule : Routing) (lmc : ℕ) (cells : Cells) (s lid : ℕ) (e : EndPort) (home : ℕ × ℕ) → owner_of (lids lmc cells) lid ≡ Some e
-    → home_of cells e ≡ Some home → entry_of rule lmc cells s lid ≡ cond (home.0 == s) home.1 (unwrap_or (rule.next lid s home.0) 255)
-entry_by_home rule lmc cells s lid e home h k =
-    ap (λ o. option_map_or (port_to rule.next lid s) o 255) (ap (option_and_then (home_of cells)) h ∙ k)
+-- a switch's entry for an owned LID goes by the owner's attachment
+pub entry_by_attachment : (rule : Routing) (lmc : ℕ) (cells : Cells) (s lid : ℕ) (e : EndPort) (attachment : ℕ × ℕ) → owner_of (lids lmc cells) lid ≡ Some e
+    → attachment_of cells e ≡ Some attachment → entry_of rule lmc cells s lid ≡ cond (attachment.0 == s) attachment.1 (unwrap_or (rule.next lid s attachment.0) 255)
+entry_by_attachment rule lmc cells s lid e attachment h k =
+    ap (λ o. option_map_or (port_to rule.next lid s) o 255) (ap (option_and_then (attachment_of cells)) h ∙ k)
 
 -- where a LID is owned there is a greatest, and it is not above that
 pub owned_to_top : (given : Given) (e : EndPort) (lid : ℕ) → owner_of given lid ≡ Some e

@@ -3,11 +3,11 @@ use Rattle.std.proofs.Common.{◌≡◌, ◌≢◌, ◌↔◌, ℕ, List, sym, a
 use Rattle.std.proofs.lemmas.Bool.{and_left}
 use Rattle.std.proofs.lemmas.Option.{same_Some}
 use Rattle.std.specs.Prelude.{IsTrue, Option, None, Some, Contains, is_some, option_map, option_and_then, slice_get}
-use Rattle.smp_bytes.specs.declared.cable.NodePort.{NodePort}
-use Rattle.smp_bytes.specs.Fabric.{Node, Fabric, IsEndPort, is_switch_at, range_at, owns}
-use Rattle.smp_bytes.specs.FabricWalks.{IsJoinedTo}
+use Rattle.fabric_model.specs.declared.cable.NodePort.{NodePort}
+use Rattle.fabric_model.specs.Fabric.{Node, Fabric, IsEndPort, is_switch_at, range_at, owns}
+use Rattle.fabric_model.specs.FabricWalks.{IsJoinedTo}
 use Rattle.smp_bytes.specs.LidRange.{has_lid}
-use Rattle.smp_bytes.proofs.FabricWalks.{same_port, type_at, adapter_vertex}
+use Rattle.fabric_model.proofs.FabricWalks.{same_port, type_at, adapter_vertex}
 use Rattle.subnet_view.specs.declared.end_port.EndPort.{EndPort}
 use Rattle.subnet_view.specs.Reading.{Cells, cap_of, is_switch_node, is_usable}
 use Rattle.subnet_view.specs.EndPorts.{HasEndPorts, end_ports}
@@ -18,9 +18,9 @@ use Rattle.subnet_view.proofs.WireLaws.{wire_law}
 use Rattle.lid_assign.specs.Lids.{lids, lid_of, lmc_of, owner_of, AreLids}
 use Rattle.lid_assign.proofs.Owners.{given-from_owner}
 use Rattle.updown_routes.specs.Routing.{Routing}
-use Rattle.updown_routes.proofs.PartWires.{IsTold, switch_at_place, switch_port, switch_known, switch_usable, known_type}
-use Rattle.updown_routes.proofs.Joined.{LiesAt, HasHome, itself, by_wire}
-use Rattle.lft_blocks.specs.Entries.{home_of}
+use Rattle.updown_routes.proofs.PartWires.{IsTold, switch_at_index, switch_port, switch_known, switch_usable, known_type}
+use Rattle.updown_routes.proofs.Joined.{LiesAt, HasAttachment, itself, by_wire}
+use Rattle.lft_blocks.specs.Entries.{attachment_of}
 use Rattle.lft_blocks.specs.Plan.{plan_by}
 use Rattle.lft_blocks.specs.Arrival.{HoldsPlan}
 use Rattle.lft_blocks.proofs.HeldEntries.{HasBlocks}
@@ -95,10 +95,10 @@ module _ {rule : Routing} {lmc : ℕ} {cells : Cells} {f : Fabric} {origin : Nod
       same_port v target.port (told.covers.guids_distinct v target.port node target.named.node here (owner_in_part target) guid)
       (ap (λ (e : EndPort). e.port) same ∙ sym target.named.port_is)
 
-  -- facts know the owner's home
-  pub owner_home : (target : OwnerPort f origin lid owner) {h : NodePort} {g : ℕ} → HasHome f origin target.port h g
-      → home_of cells owner ≡ Some (g, h.port)
-  owner_home target {h = h} {g = g} home = where_it_lies home.lies
+  -- facts know the owner's attachment
+  pub owner_attachment : (target : OwnerPort f origin lid owner) {h : NodePort} {g : ℕ} → HasAttachment f origin target.port h g
+      → attachment_of cells owner ≡ Some (g, h.port)
+  owner_attachment target {h = h} {g = g} attachment = where_it_lies attachment.lies
     where
       of_type : is_switch_node cells owner.node ≡ is_switch_at f target.port.node
       of_type =
@@ -106,16 +106,16 @@ module _ {rule : Routing} {lmc : ℕ} {cells : Cells} {f : Fabric} {origin : Nod
           ∙ known_type told target.port target.named.node (owner_in_part target)
           ∙ sym (type_at f target.port.node target.named.node target.named.node_there)
 
-      where_it_lies : LiesAt f target.port h → home_of cells owner ≡ Some (g, h.port)
+      where_it_lies : LiesAt f target.port h → attachment_of cells owner ≡ Some (g, h.port)
       where_it_lies (itself s z e) =
-          let node : target.named.node ≡ home.there.node = same_Some target.named.node home.there.node
-          (sym target.named.node_there ∙ ap (λ (p : NodePort). slice_get f.nodes p.node) e ∙ home.there.at) in
-          let guid : owner.node ≡ g = sym target.named.guid_is ∙ ap (λ (n : Node). n.guid) node ∙ home.there.guid in
+          let node : target.named.node ≡ attachment.there.node = same_Some target.named.node attachment.there.node
+          (sym target.named.node_there ∙ ap (λ (p : NodePort). slice_get f.nodes p.node) e ∙ attachment.there.at) in
+          let guid : owner.node ≡ g = sym target.named.guid_is ∙ ap (λ (n : Node). n.guid) node ∙ attachment.there.guid in
           let number : 0 ≡ h.port = sym z ∙ ap (λ (p : NodePort). p.port) e in
-          let usable : is_usable cells owner.node ≡ true = ap (is_usable cells) guid ∙ switch_usable told home.there in
+          let usable : is_usable cells owner.node ≡ true = ap (is_usable cells) guid ∙ switch_usable told attachment.there in
           ap (λ t. cond t (Some (owner.node, 0)) (attached cells owner.node owner.port)) usable ∙ (λ i. Some (guid i, number i))
       where_it_lies (by_wire s e) =
-          let apart : target.port ≢ h = λ same. cc (s, ap (λ (p : NodePort). is_switch_at f p.node) same, switch_at_place home.there) in
+          let apart : target.port ≢ h = λ same. cc (s, ap (λ (p : NodePort). is_switch_at f p.node) same, switch_at_index attachment.there) in
           let its_vertex = subst (IsJoinedTo f origin) (sym (adapter_vertex f target.port s)) target.joined in
           let wire : across cells owner.node owner.port ≡ Some (g, h.port) =
           (wire_law cells owner.node owner.port g h.port).1 (told.covers.wires_told owner.node owner.port g h.port
@@ -123,7 +123,7 @@ module _ {rule : Routing} {lmc : ℕ} {cells : Cells} {f : Fabric} {origin : Nod
             from = target.port;
             to = h;
             from_named = target.named;
-            to_named = switch_port home.there h.port;
+            to_named = switch_port attachment.there h.port;
             wire = record { cable = e; different = apart };
             in_part = its_vertex;
           })) in
@@ -132,4 +132,4 @@ module _ {rule : Routing} {lmc : ℕ} {cells : Cells} {f : Fabric} {origin : Nod
           (and_left (is_switch_node cells owner.node) (is_some (cap_of cells owner.node)) no_switch)
           ∙ ap (λ t. cond t None (option_and_then (λ q. cond (is_switch_node cells q.0) (Some q) None) (across cells owner.node owner.port))) no_switch
           ∙ ap (option_and_then (λ q. cond (is_switch_node cells q.0) (Some q) None)) wire
-          ∙ ap (λ t. cond t (Some (g, h.port)) None) (switch_known told home.there)
+          ∙ ap (λ t. cond t (Some (g, h.port)) None) (switch_known told attachment.there)

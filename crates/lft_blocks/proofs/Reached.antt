@@ -2,12 +2,12 @@
 use Rattle.std.proofs.Common.{◌≡◌, ◌≤◌, ℕ, suc, List, [], ◌∷◌, ◌++◌, refl, sym, ap, ◌∙◌, subst, arith, Bool, true, false, cond, not, map, length}
 use Rattle.std.proofs.lemmas.Bool.{and_left, and_right, both_ways}
 use Rattle.std.specs.Prelude.{Some}
-use Rattle.smp_bytes.specs.declared.cable.NodePort.{NodePort}
-use Rattle.smp_bytes.specs.declared.course.Course.TheVariants.{Delivers}
-use Rattle.smp_bytes.specs.Fabric.{Fabric, IsEndPort, is_switch_at, owns}
-use Rattle.smp_bytes.specs.FabricWalks.{IsJoinedTo}
-use Rattle.smp_bytes.specs.Forwarding.{Standing, sent_from, arrived_at, course, Hop, Goes, IsDelivered}
-use Rattle.smp_bytes.proofs.FabricWalks.{port_at, same_port, type_at}
+use Rattle.fabric_model.specs.declared.cable.NodePort.{NodePort}
+use Rattle.fabric_model.specs.declared.course.Course.TheVariants.{Delivers}
+use Rattle.fabric_model.specs.Fabric.{Fabric, IsEndPort, is_switch_at, owns}
+use Rattle.fabric_model.specs.FabricWalks.{IsJoinedTo}
+use Rattle.fabric_model.specs.Forwarding.{Standing, sent_from, arrived_at, course, Hop, Goes, IsDelivered}
+use Rattle.fabric_model.proofs.FabricWalks.{port_at, same_port, type_at}
 use Rattle.fact_store.specs.View.{Facts, cells_of}
 use Rattle.subnet_view.specs.declared.end_port.EndPort.{EndPort}
 use Rattle.subnet_view.specs.Reading.{Cells}
@@ -20,19 +20,19 @@ use Rattle.updown_routes.specs.Graph.{graph_of}
 use Rattle.updown_routes.specs.Ranks.{in_one_component}
 use Rattle.updown_routes.specs.Routing.{Routing, IsRouting, stops, Leads}
 use Rattle.updown_routes.proofs.Components.{component_itself}
-use Rattle.spread_rule.specs.Rules.{RuleValue, routing_by}
-use Rattle.spread_rule.proofs.Whole.{rules_are_routings}
+use Rattle.lft_blocks.specs.Rules.{RuleValue, routing_by}
+use Rattle.lft_blocks.proofs.RulesRoute.{rules_are_routings}
 use Rattle.updown_routes.proofs.Switches.{usable_switch}
 use Rattle.updown_routes.proofs.Graphs.{graph_law}
-use Rattle.updown_routes.proofs.PartWires.{IsTold, SwitchIn, one_place, switch_at_place}
-use Rattle.updown_routes.proofs.Joined.{LiesAt, HasHome, itself, by_wire, Meets, same, wired, apart, own_home, switch_in_graph, joined_meet}
+use Rattle.updown_routes.proofs.PartWires.{IsTold, SwitchIn, one_index, switch_at_index}
+use Rattle.updown_routes.proofs.Joined.{LiesAt, HasAttachment, itself, by_wire, Meets, same, wired, apart, own_attachment, switch_in_graph, joined_meet}
 use Rattle.lft_blocks.specs.Plan.{plan_by, plan_of}
 use Rattle.lft_blocks.specs.Arrival.{guid_at, is_between_switches, switch_hops, switches_met, HoldsPlan, IsInForceWithin, IsRoutedWay}
 use Rattle.lft_blocks.specs.Arrival.{EveryPacketArrives, PacketsArriveByEachRouting, PacketsArriveWhereCovered}
 use Rattle.lft_blocks.proofs.HeldEntries.{entry_of, planned_block}
-use Rattle.lft_blocks.proofs.OwnerPorts.{IsPlanned, OwnerPort, owner_port, owner_there, lid_is_owners, owner_home}
+use Rattle.lft_blocks.proofs.OwnerPorts.{IsPlanned, OwnerPort, owner_port, owner_there, lid_is_owners, owner_attachment}
 use Rattle.lft_blocks.proofs.Courses.{WayTaken, guid_there, way_taken, goes_on}
-use Rattle.lft_blocks.proofs.Courses.{adapter_takes, adapter_sends, switch_takes, switch_sends, entry_at_home}
+use Rattle.lft_blocks.proofs.Courses.{adapter_takes, adapter_sends, switch_takes, switch_sends, entry_at_attachment}
 use Rattle.lft_blocks.proofs.Routed.{arrival_ports, arrivals, adapter_hops, way_arrivals, way_switch_hops, way_adapter_hops}
 use Rattle.lft_blocks.proofs.Routed.{routed_by_way, routed_past_switches}
 
@@ -41,7 +41,7 @@ pub record Started (f : Fabric) (lid : ℕ) (source h : NodePort) (a : ℕ) : Ty
   pub before : List Hop
   pub start : Standing
   pub goes : Goes f lid (sent_from source) before start
-  pub here : start.place.node ≡ h.node
+  pub here : start.at.node ≡ h.node
   pub met : (rest : List Hop) → switches_met f source (before ++ rest) ≡ a ∷ arrivals f rest
   pub between : (rest : List Hop) → switch_hops f (before ++ rest) ≡ switch_hops f rest
   pub few : (rest : List Hop) → length (adapter_hops f (before ++ rest)) ≤ suc (length (adapter_hops f rest))
@@ -66,8 +66,8 @@ module _ {rule : Routing} {lmc : ℕ} {cells : Cells} {f : Fabric} {origin : Nod
   Delivery source = (hops : List Hop) × IsDelivered f lid source hops target.port × IsRoutedWay rule f source hops
 
   starts : (source : NodePort) {h : NodePort} {a : ℕ} → IsEndPort f source → (is_switch_at f source.node ≡ false → owns f source lid ≡ false)
-      → HasHome f origin source h a → Started f lid source h a
-  starts source {h = h} {a = a} (node, at, number) other home = from_port home.lies
+      → HasAttachment f origin source h a → Started f lid source h a
+  starts source {h = h} {a = a} (node, at, number) other attachment = from_port attachment.lies
     where
       from_port : LiesAt f source h → Started f lid source h a
       from_port (itself s z e) =
@@ -78,13 +78,13 @@ module _ {rule : Routing} {lmc : ℕ} {cells : Cells} {f : Fabric} {origin : Nod
             here = ap (λ (p : NodePort). p.node) e;
             met = λ rest.
                 ap (λ t. map (guid_at f) (cond t (source ∷ arrival_ports f rest) (arrival_ports f rest))) s
-                ∙ ap (λ g. g ∷ arrivals f rest) (guid_there source home.there (ap (λ (p : NodePort). p.node) e));
+                ∙ ap (λ g. g ∷ arrivals f rest) (guid_there source attachment.there (ap (λ (p : NodePort). p.node) e));
             between = λ rest. refl;
             few = λ rest. omega arith;
           }
       from_port (by_wire s e) =
           let hop : Hop = record { out = source; into = h } in
-          let at_switch = switch_at_place home.there in
+          let at_switch = switch_at_index attachment.there in
           record {
             before = hop ∷ [];
             start = arrived_at h;
@@ -95,20 +95,20 @@ module _ {rule : Routing} {lmc : ℕ} {cells : Cells} {f : Fabric} {origin : Nod
                 let met_there : List NodePort = cond (is_switch_at f h.node) (h ∷ arrived) arrived in
                 ap (λ t. map (guid_at f) (cond t (source ∷ met_there) met_there)) s
                 ∙ ap (λ t. map (guid_at f) (cond t (h ∷ arrived) arrived)) at_switch
-                ∙ ap (λ g. g ∷ arrivals f rest) (guid_there h home.there refl);
+                ∙ ap (λ g. g ∷ arrivals f rest) (guid_there h attachment.there refl);
             between = λ rest. ap (λ t. cond t (hop ∷ switch_hops f rest) (switch_hops f rest))
                 (and_left (is_switch_at f source.node) (is_switch_at f h.node) s);
             few = λ rest. one_more (not (is_between_switches f hop)) hop (adapter_hops f rest);
           }
 
-  ends : {k : NodePort} {b : ℕ} (last : Standing) → HasHome f origin target.port k b → SwitchIn f origin last.place.node b → Ended f lid last target.port
-  ends {k = k} {b = b} last home there = to_port home.lies
+  ends : {k : NodePort} {b : ℕ} (last : Standing) → HasAttachment f origin target.port k b → SwitchIn f origin last.at.node b → Ended f lid last target.port
+  ends {k = k} {b = b} last attachment there = to_port attachment.lies
     where
-      place_is : last.place.node ≡ k.node
-      place_is = one_place told there home.there
+      node_is : last.at.node ≡ k.node
+      node_is = one_index told there attachment.there
 
       entry : entry_of rule lmc cells b lid ≡ k.port
-      entry = entry_at_home told planned (owner_home told planned target home)
+      entry = entry_at_attachment told planned (owner_attachment told planned target attachment)
 
       to_port : LiesAt f target.port k → Ended f lid last target.port
       to_port (itself s z e) =
@@ -118,15 +118,15 @@ module _ {rule : Routing} {lmc : ℕ} {cells : Cells} {f : Fabric} {origin : Nod
             end = last;
             goes = refl;
             takes = switch_takes told planned last there refl (entry ∙ zero_port)
-                ∙ ap Delivers (same_port (port_at last.place.node 0) k place_is (sym zero_port) ∙ sym e);
+                ∙ ap Delivers (same_port (port_at last.at.node 0) k node_is (sym zero_port) ∙ sym e);
             met = refl;
             between = refl;
             few = omega arith;
           }
       to_port (by_wire s e) =
-          let out : NodePort = port_at last.place.node k.port in
+          let out : NodePort = port_at last.at.node k.port in
           let hop : Hop = record { out = out; into = target.port } in
-          let wire : f.across out ≡ Some target.port = ap f.across (same_port out k place_is refl) ∙ told.is_fabric.both_ways target.port k e in
+          let wire : f.across out ≡ Some target.port = ap f.across (same_port out k node_is refl) ∙ told.is_fabric.both_ways target.port k e in
           record {
             after = hop ∷ [];
             end = arrived_at target.port;
@@ -141,10 +141,10 @@ module _ {rule : Routing} {lmc : ℕ} {cells : Cells} {f : Fabric} {origin : Nod
   -- the wires to the first switch, those of the way, and those to the owner
   joined_parts : (source : NodePort) {h : NodePort} {a b n : ℕ} → rule.cost a b ≡ Some n
       → (way : Leads (graph_of cells) rule lid a b n) (first : Started f lid source h a)
-      (taken : WayTaken f origin lid first.start a b way.exits)
+      (taken : WayTaken f origin lid first.start a b way.edges)
       → Ended f lid taken.end target.port → Delivery source
   joined_parts source {a = a} {b = b} {n = n} its_cost way first taken last =
-      let es = way.exits in
+      let es = way.edges in
       let rest = taken.hops ++ last.after in
       let met : switches_met f source (first.before ++ rest) ≡ stops a es =
       first.met rest ∙ ap (λ gs. a ∷ gs) (way_arrivals f es taken.hops last.after a taken.follows last.met) in
@@ -164,21 +164,21 @@ module _ {rule : Routing} {lmc : ℕ} {cells : Cells} {f : Fabric} {origin : Nod
 
   -- over switches of one component
   over_switches : (source : NodePort) {h k : NodePort} {a b : ℕ} → IsEndPort f source → (is_switch_at f source.node ≡ false → owns f source lid ≡ false)
-      → HasHome f origin source h a → HasHome f origin target.port k b → in_one_component (graph_of cells) a b ≡ true → Delivery source
+      → HasAttachment f origin source h a → HasAttachment f origin target.port k b → in_one_component (graph_of cells) a b ≡ true → Delivery source
   over_switches source {a = a} {b = b} is_end other from to joins =
       let a_switch = switch_in_graph told from.there in
       let (n, its_cost) = routing.reaches a b a_switch (switch_in_graph told to.there) joins in
       let way = routing.leads lid a b n a_switch its_cost in
       let first = starts source is_end other from in
-      let taken = way_taken told planned (owner_home told planned target to) way.exits first.start from.there first.here way.by_rule way.passes in
+      let taken = way_taken told planned (owner_attachment told planned target to) way.edges first.start from.there first.here way.by_rule way.passes in
       joined_parts source its_cost way first taken (ends taken.end to taken.there)
 
   from_switch : (source : NodePort) → IsEndPort f source → IsJoinedTo f origin source → is_switch_at f source.node ≡ true
       → Meets cells f origin source target.port → Delivery source
   from_switch source is_end j s (same e) =
-      let (g, home) = own_home f origin source is_end j s in
-      over_switches source is_end (λ r. absurd (cc)) home (subst (λ (p : NodePort). HasHome f origin p source g) e home)
-      (component_itself (graph_of cells) told.is_graph g (switch_in_graph told home.there))
+      let (g, attachment) = own_attachment f origin source is_end j s in
+      over_switches source is_end (λ r. absurd (cc)) attachment (subst (λ (p : NodePort). HasAttachment f origin p source g) e attachment)
+      (component_itself (graph_of cells) told.is_graph g (switch_in_graph told attachment.there))
   from_switch source is_end j s (wired r t e) = absurd (cc)
   from_switch source is_end j s (apart h k a b from to e) = over_switches source is_end (λ r. absurd (cc)) from to e
 

@@ -8,27 +8,27 @@ use Rattle.std.specs.Option.{option_map_or}
 use Rattle.std.specs.List.{range_with_len}
 use Rattle.std.specs.List.Sorted.{IsStrictlyIncreasing}
 use Rattle.smp_bytes.proofs.Members.{contains_here, contains_later, contains_cases, contains_none, contains_filter, contains-from_filter}
-use Rattle.spread_routes.specs.Orders.{numbers_from}
+use Rattle.spread_labels.specs.Orders.{numbers_from}
 use Rattle.port_graph.proofs.SearchSteps.{all_from_contained}
-use Rattle.spread_routes.proofs.Earlier.{filter_more, numbers_more}
-use Rattle.spread_routes.proofs.Growing.{numbers_below, numbers_there}
-use Rattle.updown_routes.specs.Crossing.{Crossing}
+use Rattle.spread_labels.proofs.Earlier.{filter_more, numbers_more}
+use Rattle.spread_labels.proofs.Growing.{numbers_below, numbers_there}
+use Rattle.updown_routes.specs.SwitchEdges.{SwitchEdges}
 use Rattle.updown_routes.specs.Graph.{guids_of}
-use Rattle.lft_blocks.specs.declared.home.Home.{Home}
+use Rattle.lft_blocks.specs.declared.attachment.Attachment.{Attachment}
 use Rattle.lft_blocks.specs.Entries.{Next, port_to, entry, blocks}
-use Rattle.lft_blocks.specs.Homes.{meant, AreWithin, ArePlaced}
+use Rattle.lft_blocks.specs.Attachments.{meant, AreWithin, AreIndexed}
 use Rattle.lft_blocks.specs.Plan.{SwitchTable, tables_of}
-use Rattle.lft_blocks.specs.Rows.{AreLidsAt, AreRows, AreWritten, IsRow, block_of_row, blocks_of_row, entry_before, entry_by, home_port, is_home_at, lids_at, lids_before, placed_home, table_of_row, written}
-use Rattle.lft_blocks.proofs.HomeTables.{same_test}
+use Rattle.lft_blocks.specs.TableRows.{AreLidsAt, AreRows, AreWritten, IsRow, block_of_row, blocks_of_row, entry_before, entry_by, attachment_port, is_attachment_at, lids_at, lids_before, attachment_by_index, table_of_row, written}
+use Rattle.lft_blocks.proofs.AttachmentTables.{same_test}
 
 -- what is written of LIDs whose ports are those of a function ----------------------------------
 
-module _ (homes : List (Option Home)) (o : Bool) (f : ℕ → Option ℕ) where
+module _ (attachments : List (Option Attachment)) (o : Bool) (f : ℕ → Option ℕ) where
   abbrev after : List ℕ → List ℕ → List ℕ
-  after row lids = written homes o row lids (map f lids)
+  after row lids = written attachments o row lids (map f lids)
 
   abbrev here : ℕ → ℕ
-  here k = entry_by homes o k (f k)
+  here k = entry_by attachments o k (f k)
 
   pub as_long : (lids row : List ℕ) → length (after row lids) ≡ length row
   as_long [] row = refl
@@ -74,36 +74,36 @@ turned a b =
       | inr other ↦ ne_eqb a b other ∙ sym (ne_eqb b a (λ e. other (sym e)))
     ]
 
-module _ (next : Next) (guids : List ℕ) (homes : List (Option Home)) (t own : ℕ) where
+module _ (next : Next) (guids : List ℕ) (attachments : List (Option Attachment)) (t own : ℕ) where
   abbrev ports_of : List ℕ → List (Option ℕ)
   ports_of lids = map (λ lid. next lid (slice_index guids own) (slice_index guids t)) lids
 
   abbrev f : ℕ → Option ℕ
   f lid = next lid (slice_index guids own) (slice_index guids t)
 
-  entry_more : (row : List ℕ) → IsRow next guids homes t own row → (lid : ℕ) → lid < length homes → (home : Option Home) → slice_index_or homes lid None ≡ home
-      → get_or (after homes (own == t) f row (lids_at homes t)) lid 0 ≡ entry_before next guids (t + 1) own lid home
+  entry_more : (row : List ℕ) → IsRow next guids attachments t own row → (lid : ℕ) → lid < length attachments → (attachment : Option Attachment) → slice_index_or attachments lid None ≡ attachment
+      → get_or (after attachments (own == t) f row (lids_at attachments t)) lid 0 ≡ entry_before next guids (t + 1) own lid attachment
   entry_more row is lid h None e =
-      elsewhere homes (own == t) f (lids_at homes t) row lid
-      (λ c. let p = contains-from_filter (λ l. is_home_at t (slice_index_or homes l None)) (numbers_from 0 (length homes)) lid c in
-      absurd (let no : is_home_at t None ≡ true = ap (is_home_at t) (sym e) ∙ p.1 in cc))
+      elsewhere attachments (own == t) f (lids_at attachments t) row lid
+      (λ c. let p = contains-from_filter (λ l. is_attachment_at t (slice_index_or attachments l None)) (numbers_from 0 (length attachments)) lid c in
+      absurd (let no : is_attachment_at t None ≡ true = ap (is_attachment_at t) (sym e) ∙ p.1 in cc))
       ∙ is.entries lid h ∙ ap (entry_before next guids t own lid) e
   entry_more row is lid h (Some x) e =
       elim (cases_eq x.switch t) [
         | inl same ↦
-            let among : Contains (lids_at homes t) lid =
-            contains_filter (λ l. is_home_at t (slice_index_or homes l None)) (numbers_from 0 (length homes)) lid (numbers_there (length homes) 0 lid (omega arith) (omega arith))
-            (ap (is_home_at t) e ∙ eq-eqb x.switch t same) in
+            let among : Contains (lids_at attachments t) lid =
+            contains_filter (λ l. is_attachment_at t (slice_index_or attachments l None)) (numbers_from 0 (length attachments)) lid (numbers_there (length attachments) 0 lid (omega arith) (omega arith))
+            (ap (is_attachment_at t) e ∙ eq-eqb x.switch t same) in
             let below : nat_lt x.switch (t + 1) ≡ true = lt-ltb x.switch (t + 1) (omega (arith, same)) in
-            there homes (own == t) f (lids_at homes t) row lid (omega (arith, is.all)) among
-            ∙ (λ i. cond (turned own t i) (home_port (e i)) (unwrap_or (f lid) 255))
+            there attachments (own == t) f (lids_at attachments t) row lid (omega (arith, is.all)) among
+            ∙ (λ i. cond (turned own t i) (attachment_port (e i)) (unwrap_or (f lid) 255))
             ∙ (λ i. cond (sym same i == own) x.port (unwrap_or (next lid (slice_index guids own) (slice_index guids (sym same i))) 255))
             ∙ sym (ap (λ b. cond b (cond (x.switch == own) x.port (unwrap_or (next lid (slice_index guids own) (slice_index guids x.switch)) 255)) 255) below)
         | inr other ↦
             let less : nat_lt x.switch t ≡ nat_lt x.switch (t + 1) = less_alike x.switch t other in
-            elsewhere homes (own == t) f (lids_at homes t) row lid
-            (λ c. let p = contains-from_filter (λ l. is_home_at t (slice_index_or homes l None)) (numbers_from 0 (length homes)) lid c in
-            other (eqb-true x.switch t (ap (is_home_at t) (sym e) ∙ p.1)))
+            elsewhere attachments (own == t) f (lids_at attachments t) row lid
+            (λ c. let p = contains-from_filter (λ l. is_attachment_at t (slice_index_or attachments l None)) (numbers_from 0 (length attachments)) lid c in
+            other (eqb-true x.switch t (ap (is_attachment_at t) (sym e) ∙ p.1)))
             ∙ is.entries lid h ∙ ap (entry_before next guids t own lid) e
             ∙ ap (λ b. cond b (cond (x.switch == own) x.port (unwrap_or (next lid (slice_index guids own) (slice_index guids x.switch)) 255)) 255) less
       ]
@@ -115,74 +115,74 @@ module _ (next : Next) (guids : List ℕ) (homes : List (Option Home)) (t own : 
             | inr m ↦ let above : b < a = grind arith in le-ltb a b m ∙ sym (le-ltb a (b + 1) (omega arith))
           ]
 
-  pub row_more : (row : List ℕ) → IsRow next guids homes t own row → IsRow next guids homes (t + 1) own (written homes (own == t) row (lids_at homes t) (ports_of (lids_at homes t)))
+  pub row_more : (row : List ℕ) → IsRow next guids attachments t own row → IsRow next guids attachments (t + 1) own (written attachments (own == t) row (lids_at attachments t) (ports_of (lids_at attachments t)))
   row_more row is = record {
-    all = as_long homes (own == t) f (lids_at homes t) row ∙ is.all;
-    entries = λ lid h. entry_more row is lid h (slice_index_or homes lid None) refl;
+    all = as_long attachments (own == t) f (lids_at attachments t) row ∙ is.all;
+    entries = λ lid h. entry_more row is lid h (slice_index_or attachments lid None) refl;
   }
 
-pub rows_more : (next : Next) (guids : List ℕ) (homes : List (Option Home)) (t : ℕ) (ports : List (List (Option ℕ))) (old new : List (List ℕ))
-    → ports ≡ map (λ s. map (λ lid. next lid s (slice_index guids t)) (lids_at homes t)) guids
-    → AreWritten homes t (lids_at homes t) ports old new → AreRows next guids homes t old → AreRows next guids homes (t + 1) new
-rows_more next guids homes t ports old new are to rows = record {
+pub rows_more : (next : Next) (guids : List ℕ) (attachments : List (Option Attachment)) (t : ℕ) (ports : List (List (Option ℕ))) (old new : List (List ℕ))
+    → ports ≡ map (λ s. map (λ lid. next lid s (slice_index guids t)) (lids_at attachments t)) guids
+    → AreWritten attachments t (lids_at attachments t) ports old new → AreRows next guids attachments t old → AreRows next guids attachments (t + 1) new
+rows_more next guids attachments t ports old new are to rows = record {
   all = to.0 ∙ rows.all;
   each = λ own h.
       let row = slice_index_or old own [] in
-      let port : slice_index_or ports own [] ≡ map (λ lid. next lid (slice_index guids own) (slice_index guids t)) (lids_at homes t) =
-      ap (λ xs. get_or xs own []) are ∙ get_or-map (λ s. map (λ lid. next lid s (slice_index guids t)) (lids_at homes t)) guids own 0 [] h in
-      subst (IsRow next guids homes (t + 1) own) (sym (to.1 own (omega (arith, rows.all)) ∙ ap (written homes (own == t) row (lids_at homes t)) port))
-      (row_more next guids homes t own row (rows.each own h));
+      let port : slice_index_or ports own [] ≡ map (λ lid. next lid (slice_index guids own) (slice_index guids t)) (lids_at attachments t) =
+      ap (λ xs. get_or xs own []) are ∙ get_or-map (λ s. map (λ lid. next lid s (slice_index guids t)) (lids_at attachments t)) guids own 0 [] h in
+      subst (IsRow next guids attachments (t + 1) own) (sym (to.1 own (omega (arith, rows.all)) ∙ ap (written attachments (own == t) row (lids_at attachments t)) port))
+      (row_more next guids attachments t own row (rows.each own h));
 }
 
 -- at first there is no way ---------------------------------------------------------------------
 
-none_before : (next : Next) (guids : List ℕ) (own lid : ℕ) (home : Option Home) → 255 ≡ entry_before next guids 0 own lid home
+none_before : (next : Next) (guids : List ℕ) (own lid : ℕ) (attachment : Option Attachment) → 255 ≡ entry_before next guids 0 own lid attachment
 none_before next guids own lid None = refl
 none_before next guids own lid (Some h) =
     sym (ap (λ b. cond b (cond (h.switch == own) h.port (unwrap_or (next lid (slice_index guids own) (slice_index guids h.switch)) 255)) 255) (le-ltb h.switch 0 (omega arith)))
 
-pub no_rows : (next : Next) (guids : List ℕ) (homes : List (Option Home)) (n : ℕ) (rows : List (List ℕ)) → n ≡ length guids → rows ≡ replicate n (replicate (length homes) 255)
-    → AreRows next guids homes 0 rows
-no_rows next guids homes n rows many are = record {
-  all = ap length are ∙ length-replicate n (replicate (length homes) 255) ∙ many;
+pub no_rows : (next : Next) (guids : List ℕ) (attachments : List (Option Attachment)) (n : ℕ) (rows : List (List ℕ)) → n ≡ length guids → rows ≡ replicate n (replicate (length attachments) 255)
+    → AreRows next guids attachments 0 rows
+no_rows next guids attachments n rows many are = record {
+  all = ap length are ∙ length-replicate n (replicate (length attachments) 255) ∙ many;
   each = λ own h.
-      let row : replicate (length homes) 255 ≡ slice_index_or rows own [] =
-      sym (ap (λ xs. get_or xs own []) are ∙ get_or-replicate n own (replicate (length homes) 255) [] (omega arith)) in
-      subst (IsRow next guids homes 0 own) row (record {
-        all = length-replicate (length homes) 255;
-        entries = λ lid l. get_or-replicate (length homes) lid 255 0 l ∙ none_before next guids own lid (slice_index_or homes lid None);
+      let row : replicate (length attachments) 255 ≡ slice_index_or rows own [] =
+      sym (ap (λ xs. get_or xs own []) are ∙ get_or-replicate n own (replicate (length attachments) 255) [] (omega arith)) in
+      subst (IsRow next guids attachments 0 own) row (record {
+        all = length-replicate (length attachments) 255;
+        entries = λ lid l. get_or-replicate (length attachments) lid 255 0 l ∙ none_before next guids own lid (slice_index_or attachments lid None);
       });
 }
 
 -- and at last each entry is there ----------------------------------------------------------------
 
-module _ (graph : List Crossing) (guids : List ℕ) (theirs : guids ≡ guids_of graph) (rising : IsStrictlyIncreasing guids) (next : Next) (homes : List (Option Home)) (within : AreWithin (length guids) homes) where
-  entry_at_last : (own lid : ℕ) → own < length guids → (home : Option Home) → slice_index_or homes lid None ≡ home
-      → entry_before next guids (length guids) own lid home ≡ option_map_or (port_to next lid (slice_index guids own)) (option_map (meant guids) home) 255
+module _ (graph : List SwitchEdges) (guids : List ℕ) (theirs : guids ≡ guids_of graph) (rising : IsStrictlyIncreasing guids) (next : Next) (attachments : List (Option Attachment)) (within : AreWithin (length guids) attachments) where
+  entry_at_last : (own lid : ℕ) → own < length guids → (attachment : Option Attachment) → slice_index_or attachments lid None ≡ attachment
+      → entry_before next guids (length guids) own lid attachment ≡ option_map_or (port_to next lid (slice_index guids own)) (option_map (meant guids) attachment) 255
   entry_at_last own lid h None e = refl
   entry_at_last own lid h (Some x) e =
-      let below : x.switch < length guids = subst (λ (o : Option Home). MatchOption o (Unit {0}) (λ y. y.switch < length guids)) e (within lid) in
+      let below : x.switch < length guids = subst (λ (o : Option Attachment). MatchOption o (Unit {0}) (λ y. y.switch < length guids)) e (within lid) in
       ap (λ b. cond b (cond (x.switch == own) x.port (unwrap_or (next lid (slice_index guids own) (slice_index guids x.switch)) 255)) 255) (lt-ltb x.switch (length guids) below)
       ∙ ap (λ b. cond b x.port (unwrap_or (next lid (slice_index guids own) (slice_index guids x.switch)) 255)) (same_test graph guids theirs rising x.switch own below h)
 
-  module _ (count : ℕ) (long : length homes ≡ 64 * count) where
-    row_blocks : (own : ℕ) (row : List ℕ) → own < length guids → IsRow next guids homes (length guids) own row
-        → blocks_of_row row count ≡ blocks (placed_home guids homes) next count (slice_index guids own)
-    row_blocks own row h is = same_maps (block_of_row row) (λ b. map (at_place b) (range_with_len 0 64)) count
-        (λ b l. same_maps (λ i. slice_index row (64 * b + i)) (at_place b) 64 (λ i m.
-        is.entries (64 * b + i) (omega arith) ∙ entry_at_last own (64 * b + i) h (slice_index_or homes (64 * b + i) None) refl))
+  module _ (count : ℕ) (long : length attachments ≡ 64 * count) where
+    row_blocks : (own : ℕ) (row : List ℕ) → own < length guids → IsRow next guids attachments (length guids) own row
+        → blocks_of_row row count ≡ blocks (attachment_by_index guids attachments) next count (slice_index guids own)
+    row_blocks own row h is = same_maps (block_of_row row) (λ b. map (at_index b) (range_with_len 0 64)) count
+        (λ b l. same_maps (λ i. slice_index row (64 * b + i)) (at_index b) 64 (λ i m.
+        is.entries (64 * b + i) (omega arith) ∙ entry_at_last own (64 * b + i) h (slice_index_or attachments (64 * b + i) None) refl))
       where
-        at_place : ℕ → ℕ → ℕ
-        at_place b i = entry (placed_home guids homes) next (slice_index guids own) (64 * b + i)
+        at_index : ℕ → ℕ → ℕ
+        at_index b i = entry (attachment_by_index guids attachments) next (slice_index guids own) (64 * b + i)
 
         same_maps : {X : Type 0} (g k : ℕ → X) (n : ℕ) → ((i : ℕ) → i < n → g i ≡ k i) → map g (range_with_len 0 n) ≡ map k (range_with_len 0 n)
         same_maps g k n same = fill_by_all k (map g (range_with_len 0 n)) n (g 0) (length-map-range_with_len g 0 n)
             (λ i h. get_or-map-range_with_len g 0 n i i (g 0) h (omega arith) ∙ same i h)
 
-    pub tables_are : (rows : List (List ℕ)) → AreRows next guids homes (length guids) rows
-        → map (table_of_row guids rows count) (range_with_len 0 (length guids)) ≡ tables_of (placed_home guids homes) next count guids
+    pub tables_are : (rows : List (List ℕ)) → AreRows next guids attachments (length guids) rows
+        → map (table_of_row guids rows count) (range_with_len 0 (length guids)) ≡ tables_of (attachment_by_index guids attachments) next count guids
     tables_are rows are =
-        sym (fill_by_all (table_of_row guids rows count) (tables_of (placed_home guids homes) next count guids) (length guids) none (length-map guids by_guid)
+        sym (fill_by_all (table_of_row guids rows count) (tables_of (attachment_by_index guids attachments) next count guids) (length guids) none (length-map guids by_guid)
         (λ own h. get_or-map by_guid guids own 0 none h
         ∙ (λ i. record { guid = slice_index guids own; blocks = sym (row_blocks own (slice_index_or rows own []) h (are.each own h)) i })))
       where
@@ -190,14 +190,14 @@ module _ (graph : List Crossing) (guids : List ℕ) (theirs : guids ≡ guids_of
         none = record { guid = 0; blocks = [] }
 
         by_guid : ℕ → SwitchTable
-        by_guid g = record { guid = g; blocks = blocks (placed_home guids homes) next count g }
+        by_guid g = record { guid = g; blocks = blocks (attachment_by_index guids attachments) next count g }
 
--- homes that have places, by their places
-pub placed_itself : (guids : List ℕ) (homes : List (Option Home)) → AreWithin (length guids) homes → ArePlaced guids (placed_home guids homes) homes
-placed_itself guids homes within lid = record { same = refl; within = within lid }
+-- attachments that have indices, by their indices
+pub indexed_itself : (guids : List ℕ) (attachments : List (Option Attachment)) → AreWithin (length guids) attachments → AreIndexed guids (attachment_by_index guids attachments) attachments
+indexed_itself guids attachments within lid = record { same = refl; within = within lid }
 
-pub same_homes : (guids : List ℕ) (homes : ℕ → Option (ℕ × ℕ)) (placed : List (Option Home)) → ArePlaced guids homes placed → placed_home guids placed ≡ homes
-same_homes guids homes placed are = λ i lid. (are lid).same i
+pub same_attachments : (guids : List ℕ) (attachments : ℕ → Option (ℕ × ℕ)) (indexed : List (Option Attachment)) → AreIndexed guids attachments indexed → attachment_by_index guids indexed ≡ attachments
+same_attachments guids attachments indexed are = λ i lid. (are lid).same i
 
 -- what the code is handed ------------------------------------------------------------------------
 
@@ -208,42 +208,42 @@ lids_more test n b is =
     ap (filter test) (ap (numbers_from 0) (add-one n) ∙ numbers_more 0 n ∙ ap (λ x. numbers_from 0 n ++ x ∷ []) last)
     ∙ filter_more test (numbers_from 0 n) n ∙ ap (λ c. filter test (numbers_from 0 n) ++ cond c (n ∷ []) []) is
 
--- it is a LID at the switch of its home alone
-pub lid_added : (homes : List (Option Home)) (n switches : ℕ) (home : Home) (old new : List (List ℕ)) → slice_index_or homes n None ≡ Some home → home.switch < switches
-    → new ≡ slice_set old home.switch (get_or old home.switch [] ++ n ∷ []) → AreLidsAt homes n switches old → AreLidsAt homes (n + 1) switches new
-lid_added homes n switches home old new is below set are = subst (AreLidsAt homes (n + 1) switches) (sym set) (record {
-  all = length-set old home.switch (get_or old home.switch [] ++ n ∷ []) ∙ are.all;
-  each = λ t h. elim (cases_eq home.switch t) [
+-- it is a LID at the switch of its attachment alone
+pub lid_added : (attachments : List (Option Attachment)) (n switches : ℕ) (attachment : Attachment) (old new : List (List ℕ)) → slice_index_or attachments n None ≡ Some attachment → attachment.switch < switches
+    → new ≡ slice_set old attachment.switch (get_or old attachment.switch [] ++ n ∷ []) → AreLidsAt attachments n switches old → AreLidsAt attachments (n + 1) switches new
+lid_added attachments n switches attachment old new is below set are = subst (AreLidsAt attachments (n + 1) switches) (sym set) (record {
+  all = length-set old attachment.switch (get_or old attachment.switch [] ++ n ∷ []) ∙ are.all;
+  each = λ t h. elim (cases_eq attachment.switch t) [
     | inl same ↦
-        subst (λ (x : ℕ). get_or (slice_set old home.switch (get_or old home.switch [] ++ n ∷ [])) x [] ≡ lids_before homes (n + 1) x) same
-        (get_or-set_same old home.switch (get_or old home.switch [] ++ n ∷ []) [] (omega (arith, are.all))
-        ∙ ap (λ xs. xs ++ n ∷ []) (are.each home.switch below)
-        ∙ sym (lids_more (λ lid. is_home_at home.switch (slice_index_or homes lid None)) n true (ap (is_home_at home.switch) is ∙ eq-eqb home.switch home.switch refl)))
+        subst (λ (x : ℕ). get_or (slice_set old attachment.switch (get_or old attachment.switch [] ++ n ∷ [])) x [] ≡ lids_before attachments (n + 1) x) same
+        (get_or-set_same old attachment.switch (get_or old attachment.switch [] ++ n ∷ []) [] (omega (arith, are.all))
+        ∙ ap (λ xs. xs ++ n ∷ []) (are.each attachment.switch below)
+        ∙ sym (lids_more (λ lid. is_attachment_at attachment.switch (slice_index_or attachments lid None)) n true (ap (is_attachment_at attachment.switch) is ∙ eq-eqb attachment.switch attachment.switch refl)))
     | inr other ↦
-        let none = ap (is_home_at t) is ∙ ne_eqb home.switch t other in
-        get_or-set_other old home.switch t (get_or old home.switch [] ++ n ∷ []) [] (λ e. other (sym e)) ∙ are.each t h
-        ∙ sym (append-nil (lids_before homes n t)) ∙ sym (lids_more (λ lid. is_home_at t (slice_index_or homes lid None)) n false none)
+        let none = ap (is_attachment_at t) is ∙ ne_eqb attachment.switch t other in
+        get_or-set_other old attachment.switch t (get_or old attachment.switch [] ++ n ∷ []) [] (λ e. other (sym e)) ∙ are.each t h
+        ∙ sym (append-nil (lids_before attachments n t)) ∙ sym (lids_more (λ lid. is_attachment_at t (slice_index_or attachments lid None)) n false none)
   ];
 })
 
-pub lid_passed : (homes : List (Option Home)) (n switches : ℕ) (lists : List (List ℕ)) → slice_index_or homes n None ≡ None
-    → AreLidsAt homes n switches lists → AreLidsAt homes (n + 1) switches lists
-lid_passed homes n switches lists is are = record {
+pub lid_passed : (attachments : List (Option Attachment)) (n switches : ℕ) (lists : List (List ℕ)) → slice_index_or attachments n None ≡ None
+    → AreLidsAt attachments n switches lists → AreLidsAt attachments (n + 1) switches lists
+lid_passed attachments n switches lists is are = record {
   all = are.all;
-  each = λ t h. are.each t h ∙ sym (append-nil (lids_before homes n t))
-      ∙ sym (lids_more (λ lid. is_home_at t (slice_index_or homes lid None)) n false (ap (is_home_at t) is));
+  each = λ t h. are.each t h ∙ sym (append-nil (lids_before attachments n t))
+      ∙ sym (lids_more (λ lid. is_attachment_at t (slice_index_or attachments lid None)) n false (ap (is_attachment_at t) is));
 }
 
 -- the LIDs at a switch have entries
-pub lids_within : (homes : List (Option Home)) (t : ℕ) → All (λ lid. lid < length homes) (lids_at homes t)
-lids_within homes t =
-    all_from_contained (λ lid. lid < length homes) (lids_at homes t)
-    (λ lid h. omega (arith, numbers_below (length homes) 0 lid (contains-from_filter (λ l. is_home_at t (slice_index_or homes l None)) (numbers_from 0 (length homes)) lid h).0))
+pub lids_within : (attachments : List (Option Attachment)) (t : ℕ) → All (λ lid. lid < length attachments) (lids_at attachments t)
+lids_within attachments t =
+    all_from_contained (λ lid. lid < length attachments) (lids_at attachments t)
+    (λ lid h. omega (arith, numbers_below (length attachments) 0 lid (contains-from_filter (λ l. is_attachment_at t (slice_index_or attachments l None)) (numbers_from 0 (length attachments)) lid h).0))
 
--- rows are as long as there are homes
-pub rows_long : (next : Next) (guids : List ℕ) (homes : List (Option Home)) (t : ℕ) (rows : List (List ℕ)) → AreRows next guids homes t rows → All (λ row. length row ≡ length homes) rows
-rows_long next guids homes t rows are k d h =
-    subst (λ (row : List ℕ). length row ≡ length homes) (get_or_default rows k [] d h) (are.each k (omega (arith, are.all))).all
+-- rows are as long as there are attachments
+pub rows_long : (next : Next) (guids : List ℕ) (attachments : List (Option Attachment)) (t : ℕ) (rows : List (List ℕ)) → AreRows next guids attachments t rows → All (λ row. length row ≡ length attachments) rows
+rows_long next guids attachments t rows are k d h =
+    subst (λ (row : List ℕ). length row ≡ length attachments) (get_or_default rows k [] d h) (are.each k (omega (arith, are.all))).all
 
 -- lists that are made of numbers, each as long
 pub each_long : {V X : Type 0} (f : V → List X) (g : ℕ → List X) (vs : List V) (ys : List ℕ) (n : ℕ) → map f vs ≡ map g ys → ((y : ℕ) → length (g y) ≡ n) → All (λ v. length (f v) ≡ n) vs

@@ -9,38 +9,38 @@ use Rattle.subnet_view.specs.declared.end_port.EndPort.{EndPort}
 use Rattle.subnet_view.proofs.BesideClaims.{is_claim, switch_same, usable_same, count_same, switches_same, across_same, attached_same}
 use Rattle.lid_assign.specs.Lids.{lids, owner_of, top_of}
 use Rattle.lid_assign.proofs.Staying.{same_but_claims, lids_settle}
-use Rattle.updown_routes.specs.Graph.{exit_at, graph_of}
-use Rattle.spread_rule.specs.Bearing.{bearing_of, bears, bears_at}
-use Rattle.spread_rule.specs.Rules.{RuleValue}
-use Rattle.spread_rule.proofs.Whole.{rules_stay}
-use Rattle.lft_blocks.specs.Entries.{home_of, block_count}
+use Rattle.updown_routes.specs.Graph.{edge_at, graph_of}
+use Rattle.spread_routes.specs.LeafSwitches.{leaf_switches_of, is_leaf, has_adapter_at}
+use Rattle.lft_blocks.specs.Rules.{RuleValue}
+use Rattle.lft_blocks.proofs.RulesRoute.{rules_stay}
+use Rattle.lft_blocks.specs.Entries.{attachment_of, block_count}
 use Rattle.lft_blocks.specs.Plan.{tables_of, plan_of}
 use Rattle.lft_blocks.specs.PlanLaws.{PlansStay}
 
 module _ (x y : Facts) (same : (key : Key) → is_claim key ≡ false → cell_for x key ≡ cell_for y key) where
-  exit_same : (g p : ℕ) → exit_at (cells_of x) g p ≡ exit_at (cells_of y) g p
-  exit_same g p = λ i. option_and_then (λ q. cond (switch_same x y same q.0 i) (Some (record { port = p; to = q.0 })) None) (across_same x y same g p i)
+  edge_same : (g p : ℕ) → edge_at (cells_of x) g p ≡ edge_at (cells_of y) g p
+  edge_same g p = λ i. option_and_then (λ q. cond (switch_same x y same q.0 i) (Some (record { port = p; to = q.0 })) None) (across_same x y same g p i)
 
   graph_same : graph_of (cells_of x) ≡ graph_of (cells_of y)
-  graph_same = λ i. map (λ g. record { guid = g; exits = filter_map (λ p. exit_same g p i) (range_with_len 1 (count_same x y same g i)) }) (switches_same x y same i)
+  graph_same = λ i. map (λ g. record { guid = g; edges = filter_map (λ p. edge_same g p i) (range_with_len 1 (count_same x y same g i)) }) (switches_same x y same i)
 
-  home_same : (e : EndPort) → home_of (cells_of x) e ≡ home_of (cells_of y) e
-  home_same e = λ i. cond (usable_same x y same e.node i) (Some (e.node, 0)) (attached_same x y same e.node e.port i)
+  attachment_same : (e : EndPort) → attachment_of (cells_of x) e ≡ attachment_of (cells_of y) e
+  attachment_same e = λ i. cond (usable_same x y same e.node i) (Some (e.node, 0)) (attached_same x y same e.node e.port i)
 
-  bears_at_same : (g p : ℕ) → bears_at (cells_of x) g p ≡ bears_at (cells_of y) g p
-  bears_at_same g p = λ i. option_map_or (λ q. not (usable_same x y same q.0 i)) (across_same x y same g p i) false
+  has_adapter_at_same : (g p : ℕ) → has_adapter_at (cells_of x) g p ≡ has_adapter_at (cells_of y) g p
+  has_adapter_at_same g p = λ i. option_map_or (λ q. not (usable_same x y same q.0 i)) (across_same x y same g p i) false
 
-  bears_same : (g : ℕ) → bears (cells_of x) g ≡ bears (cells_of y) g
-  bears_same g = λ i. list_any (λ p. bears_at_same g p i) (range_with_len 1 (count_same x y same g i))
+  is_leaf_same : (g : ℕ) → is_leaf (cells_of x) g ≡ is_leaf (cells_of y) g
+  is_leaf_same g = λ i. list_any (λ p. has_adapter_at_same g p i) (range_with_len 1 (count_same x y same g i))
 
-  bearing_same : bearing_of (cells_of x) ≡ bearing_of (cells_of y)
-  bearing_same = λ i. filter (λ g. bears_same g i) (switches_same x y same i)
+  leaf_switches_same : leaf_switches_of (cells_of x) ≡ leaf_switches_of (cells_of y)
+  leaf_switches_same = λ i. filter (λ g. is_leaf_same g i) (switches_same x y same i)
 
   plan_same : (rule : RuleValue) (lmc : ℕ) → lids lmc (cells_of x) ≡ lids lmc (cells_of y) → plan_of rule lmc (cells_of x) ≡ plan_of rule lmc (cells_of y)
   plan_same rule lmc given =
       λ i. record {
         given = given i;
-        tables = tables_of (λ lid. option_and_then (λ e. home_same e i) (owner_of (given i) lid)) (rules_stay rule x y graph_same bearing_same i).next
+        tables = tables_of (λ lid. option_and_then (λ e. attachment_same e i) (owner_of (given i) lid)) (rules_stay rule x y graph_same leaf_switches_same i).next
             (block_count (top_of (given i))) (switches_same x y same i);
       }
 

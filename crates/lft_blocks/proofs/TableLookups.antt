@@ -15,11 +15,11 @@ module _ (guids : List ℕ) (tables : List SwitchTable) (are : AreTables guids t
   as_many : length guids ≡ length tables
   as_many = ap length are.theirs ∙ length-map tables (λ table. table.guid)
 
-  -- the GUID at a place is that of the table there
+  -- the GUID at an index is that of the table there
   guid_at : (i : ℕ) (t : SwitchTable) → i < length tables → get_or guids i 0 ≡ (get_or tables i t).guid
   guid_at i t h = ap (λ (xs : List ℕ). get_or xs i 0) are.theirs ∙ get_or-map (λ (table : SwitchTable). table.guid) tables i t 0 h
 
-  -- the table at the place of a GUID is found
+  -- the table at the index of a GUID is found
   table_found : (guid i : ℕ) (t : SwitchTable) → i < length guids → get_or guids i 0 ≡ guid → t ≡ get_or tables i t → find (λ table. table.guid == guid) tables ≡ Some t
   table_found guid i t h e there =
       let within : i < length tables = omega (arith, as_many) in
@@ -46,7 +46,7 @@ module _ (guids : List ℕ) (tables : List SwitchTable) (are : AreTables guids t
             absurd (none (subst (λ (x : List ℕ × ℕ). Contains x.0 x.1) (λ i. (sym are.theirs i, eqb-true t.guid guid f.1 i)) there))
       ] refl
 
--- a block of the switch at a place
+-- a block of the switch at an index
 pub block_found : (plan : PlanValue) (guids : List ℕ) (guid b i : ℕ) (t : SwitchTable) → AreTables guids plan.tables → i < length guids → slice_index guids i ≡ guid → t ≡ get_or plan.tables i t
     → block_at plan guid b ≡ slice_get t.blocks b
 block_found plan guids guid b i t are h e there =

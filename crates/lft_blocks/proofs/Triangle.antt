@@ -1,11 +1,11 @@
 -- A small fabric that holds the plan of the facts that tell of it, with LMC 1: three switches in a triangle, with an adapter on the second and on the third.
 use Rattle.std.proofs.Common.{◌≡◌, ℕ, suc, true, List, [], ◌∷◌, ◌++◌, map}
 use Rattle.std.specs.Prelude.{slice_index_or}
-use Rattle.smp_bytes.specs.declared.cable.Cable.{Cable}
+use Rattle.fabric_model.specs.declared.cable.Cable.{Cable}
 use Rattle.smp_bytes.specs.declared.node_type.NodeType.TheVariants.{ChannelAdapter, Switch}
-use Rattle.smp_bytes.specs.Cables.{other_end}
-use Rattle.smp_bytes.specs.Fabric.{Node, Fabric}
-use Rattle.smp_bytes.proofs.FabricWalks.{port_at}
+use Rattle.fabric_model.specs.Cables.{other_end}
+use Rattle.fabric_model.specs.Fabric.{Node, Fabric}
+use Rattle.fabric_model.proofs.FabricWalks.{port_at}
 use Rattle.fact_join.specs.declared.cell.Cell.{Cell}
 use Rattle.fact_join.specs.declared.cell.Cell.TheVariants.{Known}
 use Rattle.fact_store.specs.declared.key.Key.{Key}

@@ -5,10 +5,10 @@ use Rattle.std.proofs.lemmas.Option.{same_Some}
 use Rattle.std.specs.Prelude.{None, Some, option_and_then, slice_get, slice_index_or}
 use Rattle.std.specs.Option.{option_map_or}
 use Rattle.fact_store.specs.View.{cells_of}
-use Rattle.smp_bytes.specs.declared.cable.NodePort.{NodePort}
-use Rattle.smp_bytes.specs.Fabric.{Node, IsFabric, IsCablePort, IsEndPort}
-use Rattle.smp_bytes.specs.FabricWalks.{IsWire, AreNeighbors, IsJoinedTo, IsConnected, vertex_of}
-use Rattle.smp_bytes.proofs.FabricWalks.{port_at, joined_over}
+use Rattle.fabric_model.specs.declared.cable.NodePort.{NodePort}
+use Rattle.fabric_model.specs.Fabric.{Node, IsFabric, IsCablePort, IsEndPort}
+use Rattle.fabric_model.specs.FabricWalks.{IsWire, AreNeighbors, IsJoinedTo, IsConnected, vertex_of}
+use Rattle.fabric_model.proofs.FabricWalks.{port_at, joined_over}
 use Rattle.fact_join.specs.declared.cell.Cell.{Cell}
 use Rattle.fact_store.specs.declared.key.Key.{Key}
 use Rattle.fact_store.specs.declared.value.Value.{Value}
@@ -18,25 +18,25 @@ use Rattle.subnet_view.specs.Agreement.{Part, WholeFabric, IsEndPortIn, IsPortNa
 use Rattle.lid_assign.specs.Lids.{IsNoRoom, lids, owner_of}
 use Rattle.updown_routes.specs.Graph.{graph_of}
 use Rattle.updown_routes.specs.Routing.{updown}
-use Rattle.spread_rule.specs.Rules.{up_and_down}
-use Rattle.lft_blocks.specs.Entries.{home_of, port_to}
+use Rattle.lft_blocks.specs.Rules.{up_and_down}
+use Rattle.lft_blocks.specs.Entries.{attachment_of, port_to}
 use Rattle.lft_blocks.specs.Plan.{plan_of}
 use Rattle.lft_blocks.specs.Arrival.{Arrives, IsInForce}
 use Rattle.lft_blocks.proofs.HeldEntries.{owned_to_top}
 use Rattle.lft_blocks.proofs.Reached.{every_packet_arrives}
 use Rattle.lft_blocks.proofs.WholeFabrics.{packets_arrive_if_connected}
-use Rattle.lft_blocks.proofs.FabricCases.{Each, EachPlace, next, each_append, each_all, each_map}
-use Rattle.lft_blocks.proofs.FabricCases.{HasOneEnd, end_of, end_cases, place_at, cable_cases, Stands, TellsCable, agreement, planned_entry, HasPlanned, holding}
+use Rattle.lft_blocks.proofs.FabricCases.{Each, EachIndexed, next, each_append, each_all, each_map}
+use Rattle.lft_blocks.proofs.FabricCases.{HasOneEnd, end_of, end_cases, indexed_at, cable_cases, Stands, TellsCable, agreement, planned_entry, HasPlanned, holding}
 use Rattle.lft_blocks.proofs.Triangle.{switch, adapter, cables, tables, triangle}
 use Rattle.lft_blocks.proofs.Triangle.{NamedWire, wires, nodes_told, ports_told, link_told, up_told, caps_told, cells, facts, facts_have}
 
-one_end : EachPlace (λ k n. HasOneEnd n) triangle.nodes
+one_end : EachIndexed (λ k n. HasOneEnd n) triangle.nodes
 one_end = next (λ e. absurd (cc)) (next (λ e. absurd (cc)) (next (λ e. absurd (cc)) (next (λ e. refl) (next (λ e. refl) tt))))
 
 is_fabric : IsFabric triangle
 is_fabric =
     record {
-      counts = place_at (λ k n. (1 ≤ n.ports) × (n.ports ≤ 254)) triangle.nodes
+      counts = indexed_at (λ k n. (1 ≤ n.ports) × (n.ports ≤ 254)) triangle.nodes
           (next (omega arith, omega arith)
           (next (omega arith, omega arith)
           (next (omega arith, omega arith)
@@ -87,7 +87,7 @@ over n p m q e h =
 abbrev FromEach : ℕ → Node → ℕ → Type 0
 FromEach k n p = IsJoinedTo triangle (port_at k p) (port_at 1 0)
 
-from_each : EachPlace (λ k n. FromEach k n (end_of n)) triangle.nodes
+from_each : EachIndexed (λ k n. FromEach k n (end_of n)) triangle.nodes
 from_each =
     next (over 0 1 1 1 refl (λ e. omega arith))
     (next (0, refl)
@@ -99,7 +99,7 @@ from_each =
 abbrev ToEach : ℕ → Node → ℕ → Type 0
 ToEach k n p = IsJoinedTo triangle (port_at 1 0) (port_at k p)
 
-to_each : EachPlace (λ k n. ToEach k n (end_of n)) triangle.nodes
+to_each : EachIndexed (λ k n. ToEach k n (end_of n)) triangle.nodes
 to_each =
     next (over 1 1 0 1 refl (λ e. omega arith))
     (next (0, refl)
@@ -118,17 +118,17 @@ is_connected a b at_a at_b =
 
 -- what the facts say is there -----------------------------------------------------------------
 
-port_named : (g p place : ℕ) (node : Node) → slice_get triangle.nodes place ≡ Some node → node.guid ≡ g → IsPortNamed triangle g p (port_at place p)
-port_named g p place node at e = record { node = node; node_there = at; guid_is = e; port_is = refl }
+port_named : (g p index : ℕ) (node : Node) → slice_get triangle.nodes index ≡ Some node → node.guid ≡ g → IsPortNamed triangle g p (port_at index p)
+port_named g p index node at e = record { node = node; node_there = at; guid_is = e; port_is = refl }
 
 module _ (part : Part) (all : (v : NodePort) → IsEndPort triangle v → part v) where
-  -- an end port of the part, of the node at a place
-  end_stands : (g p place : ℕ) (node : Node) → slice_get triangle.nodes place ≡ Some node → node.guid ≡ g → IsEndPort triangle (port_at place p)
+  -- an end port of the part, of the node at an index
+  end_stands : (g p index : ℕ) (node : Node) → slice_get triangle.nodes index ≡ Some node → node.guid ≡ g → IsEndPort triangle (port_at index p)
       → HasEndPort part triangle g p
-  end_stands g p place node at e end =
-      record { port = port_at place p; named = port_named g p place node at e; end_port = end; in_part = all (port_at place p) end }
+  end_stands g p index node at e end =
+      record { port = port_at index p; named = port_named g p index node at e; end_port = end; in_part = all (port_at index p) end }
 
-  -- a wire of the part, from the place n to the place m
+  -- a wire of the part, from the index n to the index m
   wire_stands : (g p h q n m : ℕ) (a b : Node) → slice_get triangle.nodes n ≡ Some a → a.guid ≡ g → slice_get triangle.nodes m ≡ Some b → b.guid ≡ h
       → triangle.across (port_at n p) ≡ Some (port_at m q) → (n ≡ m → ⊥) → part (vertex_of triangle (port_at n p)) → HasWire part triangle g p h q
   wire_stands g p h q n m a b at_n is_a at_m is_b e apart joined =
@@ -191,13 +191,13 @@ cables_told =
     (next (cable_told 1 3 3 1 (switch 32) (adapter 256) refl refl refl refl)
     (next (cable_told 2 3 4 1 (switch 48) (adapter 512) refl refl refl refl) tt)))))
 
-abbrev place_of : ℕ → ℕ
-place_of g = cond (g == 16) 0 (cond (g == 32) 1 (cond (g == 48) 2 (cond (g == 256) 3 4)))
+abbrev index_of : ℕ → ℕ
+index_of g = cond (g == 16) 0 (cond (g == 32) 1 (cond (g == 48) 2 (cond (g == 256) 3 4)))
 
 module _ (part : Part) (all : (v : NodePort) → IsEndPort triangle v → part v) where
   agrees : AgreesOn part cells triangle
   agrees =
-      agreement part cells triangle one_end place_of
+      agreement part cells triangle one_end index_of
       (next (refl, record { kind = refl; port_guid = refl; cap = λ e. refl })
       (next (refl, record { kind = refl; port_guid = refl; cap = λ e. refl })
       (next (refl, record { kind = refl; port_guid = refl; cap = λ e. refl })
@@ -211,7 +211,7 @@ module _ (part : Part) (all : (v : NodePort) → IsEndPort triangle v → part v
 entry_past : (g lid : ℕ) → 8 ≤ lid → planned_entry 1 cells g lid ≡ 255
 entry_past g lid past =
     elim (owner_of (lids 1 cells) lid) as
-    (λ o. owner_of (lids 1 cells) lid ≡ o → option_map_or (port_to (updown (graph_of cells)).next lid g) (option_and_then (home_of cells) o) 255 ≡ 255) [
+    (λ o. owner_of (lids 1 cells) lid ≡ o → option_map_or (port_to (updown (graph_of cells)).next lid g) (option_and_then (attachment_of cells) o) 255 ≡ 255) [
       | None ↦ λ e. refl
       | Some owner ↦ λ e. let (top, is, low) = owned_to_top (lids 1 cells) owner lid e in absurd (omega (arith, low, same_Some top 7 (sym is)))
     ] refl
@@ -235,7 +235,7 @@ entries_are k g a b c d e f x y short (suc (suc (suc (suc (suc (suc (suc (suc n)
     entry_past g lid (omega arith) ∙ sym (get_or_past (slice_index_or tables k []) lid 255 (omega (arith, short)))
 
 -- each node's LID, top and table
-rows : EachPlace (λ k n. HasPlanned 1 cells triangle k n (end_of n)) triangle.nodes
+rows : EachIndexed (λ k n. HasPlanned 1 cells triangle k n (end_of n)) triangle.nodes
 rows =
     next (record { range = refl; top = λ e. refl; table = entries_are 0 16 refl refl refl refl refl refl refl refl (omega arith) })
     (next (record { range = refl; top = λ e. refl; table = entries_are 1 32 refl refl refl refl refl refl refl refl (omega arith) })
@@ -253,7 +253,7 @@ module _ (part : Part) (all : (v : NodePort) → IsEndPort triangle v → part v
         is_fabric = is_fabric;
         agrees = subst (λ (c : Cells). AgreesOn part c triangle) (sym facts_have) (agrees part all);
         holds = holding part 1 facts triangle one_end
-            (subst (λ (c : Cells). EachPlace (λ k n. HasPlanned 1 c triangle k n (end_of n)) triangle.nodes) (sym facts_have) rows);
+            (subst (λ (c : Cells). EachIndexed (λ k n. HasPlanned 1 c triangle k n (end_of n)) triangle.nodes) (sym facts_have) rows);
       }
 
 facts_have_room : ¬ (IsNoRoom 1 (cells_of facts))

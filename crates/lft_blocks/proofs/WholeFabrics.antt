@@ -1,10 +1,10 @@
 -- In a connected fabric what an end port is joined to is all of it, so every packet arrives.
 use Rattle.std.specs.Prelude.{ℕ}
 use Rattle.fact_store.specs.View.{cells_of}
-use Rattle.smp_bytes.specs.declared.cable.NodePort.{NodePort}
-use Rattle.smp_bytes.specs.Fabric.{Node, Fabric, IsFabric, IsEndPort}
-use Rattle.smp_bytes.specs.FabricWalks.{IsJoinedTo, IsConnected, vertex_of}
-use Rattle.smp_bytes.proofs.FabricWalks.{vertex_is_end}
+use Rattle.fabric_model.specs.declared.cable.NodePort.{NodePort}
+use Rattle.fabric_model.specs.Fabric.{Node, Fabric, IsFabric, IsEndPort}
+use Rattle.fabric_model.specs.FabricWalks.{IsJoinedTo, IsConnected, vertex_of}
+use Rattle.fabric_model.proofs.FabricWalks.{vertex_is_end}
 use Rattle.subnet_view.specs.Reading.{Cells}
 use Rattle.subnet_view.specs.Agreement.{WholeFabric, IsEndPortIn, HasEndPort, HasWire, AgreesOn}
 use Rattle.lft_blocks.specs.Plan.{PlanValue, plan_of}

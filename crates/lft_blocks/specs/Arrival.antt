@@ -4,11 +4,11 @@
 use Rattle.std.specs.Prelude.{◌≡◌, ◌≢◌, ◌<◌, ◌≤◌, ℕ, ◌+◌, ◌*◌, Bool, not, ◌&&◌, List, [], ◌∷◌, map, filter, length, count_by, AllPairs, Some, IsTrue, slice_get}
 use Rattle.std.specs.Option.{option_map_or}
 use Rattle.std.specs.List.Sorted.{IsStrictlyIncreasing}
-use Rattle.smp_bytes.specs.declared.cable.NodePort.{NodePort}
+use Rattle.fabric_model.specs.declared.cable.NodePort.{NodePort}
 use Rattle.smp_bytes.specs.NodeType.{is_switch}
-use Rattle.smp_bytes.specs.Fabric.{Node, Fabric, IsFabric, IsEndPort, is_switch_at, range_at}
-use Rattle.smp_bytes.specs.FabricWalks.{IsJoinedTo, IsConnected}
-use Rattle.smp_bytes.specs.Forwarding.{Hop, IsDelivered}
+use Rattle.fabric_model.specs.Fabric.{Node, Fabric, IsFabric, IsEndPort, is_switch_at, range_at}
+use Rattle.fabric_model.specs.FabricWalks.{IsJoinedTo, IsConnected}
+use Rattle.fabric_model.specs.Forwarding.{Hop, IsDelivered}
 use Rattle.fact_store.specs.View.{Facts, cells_of}
 use Rattle.subnet_view.specs.declared.end_port.EndPort.{EndPort}
 use Rattle.subnet_view.specs.Reading.{Cells}
@@ -16,12 +16,12 @@ use Rattle.subnet_view.specs.Agreement.{Part, WholeFabric, IsEndPortIn, IsPortNa
 use Rattle.lid_assign.specs.Lids.{IsNoRoom, range_of, owner_of, top_of}
 use Rattle.updown_routes.specs.Graph.{graph_of}
 use Rattle.updown_routes.specs.Routing.{Routing, IsRouting}
-use Rattle.spread_rule.specs.Rules.{RuleValue, routing_by}
+use Rattle.lft_blocks.specs.Rules.{RuleValue, routing_by}
 use Rattle.lft_blocks.specs.Plan.{PlanValue, plan_by, plan_of, block_at}
 
--- the block stands in the table of the switch at a place, from LID 64 b on
+-- the block stands in the table of a switch, from LID 64 b on
 abbrev pub HoldsBlock : Fabric → ℕ → ℕ → List ℕ → Type 0
-HoldsBlock f place b block = (i : ℕ) → i < 64 → slice_get block i ≡ Some (f.entry place (64 * b + i))
+HoldsBlock f node b block = (i : ℕ) → i < 64 → slice_get block i ≡ Some (f.entry node (64 * b + i))
 
 -- an end port has its LID and its LMC of the plan; a switch has the plan's greatest LID or a greater one as its top, and its blocks of the plan
 pub record HoldsPlanAt (plan : PlanValue) (f : Fabric) (port : NodePort) (node : Node) : Type 0 where

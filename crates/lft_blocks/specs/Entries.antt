@@ -8,28 +8,28 @@ use Rattle.subnet_view.specs.Wires.{attached}
 use Rattle.lid_assign.specs.Lids.{Given, owner_of}
 
 -- the usable switch and the port of it at which an end port lies: a switch's own port 0, or the port that an adapter port is wired to
-abbrev pub home_of : Cells → EndPort → Option (ℕ × ℕ)
-home_of cells e = if is_usable cells e.node then Some (e.node, 0) else attached cells e.node e.port
+abbrev pub attachment_of : Cells → EndPort → Option (ℕ × ℕ)
+attachment_of cells e = if is_usable cells e.node then Some (e.node, 0) else attached cells e.node e.port
 
--- the home of the end port that has a LID
-abbrev pub home_of_lid : Cells → Given → ℕ → Option (ℕ × ℕ)
-home_of_lid cells given lid = option_and_then (home_of cells) (owner_of given lid)
+-- the attachment of the end port that has a LID
+abbrev pub attachment_of_lid : Cells → Given → ℕ → Option (ℕ × ℕ)
+attachment_of_lid cells given lid = option_and_then (attachment_of cells) (owner_of given lid)
 
 -- the port by which a packet for a LID leaves a switch for another, where there is a way
 abbrev pub Next : Type 0
 Next = ℕ → ℕ → ℕ → Option ℕ
 
--- at the home switch the home's port, elsewhere the next port towards it, and 255 where there is no way
+-- at the attachment switch the attachment's port, elsewhere the next port towards it, and 255 where there is no way
 abbrev pub port_to : Next → ℕ → ℕ → ℕ × ℕ → ℕ
-port_to next lid s home = if home.0 == s then home.1 else unwrap_or (next lid s home.0) 255
+port_to next lid s attachment = if attachment.0 == s then attachment.1 else unwrap_or (next lid s attachment.0) 255
 
--- the entry of the switch s for a LID; 255 where nobody has it or its owner has no home
+-- the entry of the switch s for a LID; 255 where nobody has it or its owner has no attachment
 abbrev pub entry : (ℕ → Option (ℕ × ℕ)) → Next → ℕ → ℕ → ℕ
-entry homes next s lid = option_map_or (port_to next lid s) (homes lid) 255
+entry attachments next s lid = option_map_or (port_to next lid s) (attachments lid) 255
 
 -- the entries for 64 LIDs from 64 b on
 abbrev pub block : (ℕ → Option (ℕ × ℕ)) → Next → ℕ → ℕ → List ℕ
-block homes next s b = map (λ i. entry homes next s (64 * b + i)) (range_with_len 0 64)
+block attachments next s b = map (λ i. entry attachments next s (64 * b + i)) (range_with_len 0 64)
 
 -- so many blocks that the last one has the greatest LID; none without a LID
 abbrev pub block_count : Option ℕ → ℕ
@@ -37,4 +37,4 @@ block_count top = option_map_or (λ lid. suc (lid / 64)) top 0
 
 -- the blocks of the switch s from 0 on
 abbrev pub blocks : (ℕ → Option (ℕ × ℕ)) → Next → ℕ → ℕ → List (List ℕ)
-blocks homes next count s = map (block homes next s) (range_with_len 0 count)
+blocks attachments next count s = map (block attachments next s) (range_with_len 0 count)

@@ -1,8 +1,10 @@
+pub mod Arrival
+pub mod Attachments
 pub mod Entries
 pub mod Plan
-pub mod PlanText
 pub mod PlanLaws
-pub mod Arrival
-pub mod Homes
-pub mod Rows
+pub mod PlanText
+pub mod Planning
+pub mod Rules
+pub mod TableRows
 pub mod WritesPart

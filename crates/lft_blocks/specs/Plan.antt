@@ -5,8 +5,8 @@ use Rattle.std.specs.List.Sorted.{IsStrictlyIncreasing}
 use Rattle.subnet_view.specs.Reading.{Cells, switches}
 use Rattle.lid_assign.specs.Lids.{Given, lids, top_of}
 use Rattle.updown_routes.specs.Routing.{Routing}
-use Rattle.spread_rule.specs.Rules.{RuleValue, routing_by}
-use Rattle.lft_blocks.specs.Entries.{Next, home_of_lid, block_count, blocks}
+use Rattle.lft_blocks.specs.Rules.{RuleValue, routing_by}
+use Rattle.lft_blocks.specs.Entries.{Next, attachment_of_lid, block_count, blocks}
 
 -- a usable switch and its blocks from 0 on
 pub record SwitchTable : Type 0 where
@@ -20,13 +20,13 @@ pub record PlanValue : Type 0 where
 
 -- the table of each of these switches
 abbrev pub tables_of : (ℕ → Option (ℕ × ℕ)) → Next → ℕ → List ℕ → List SwitchTable
-tables_of homes next count guids = map (λ s. record { guid = s; blocks = blocks homes next count s }) guids
+tables_of attachments next count guids = map (λ s. record { guid = s; blocks = blocks attachments next count s }) guids
 
 -- the plan of a view by a rule of routing and under an LMC
 abbrev pub plan_by : Routing → ℕ → Cells → PlanValue
 plan_by rule lmc cells =
     let given = lids lmc cells in
-    record { given = given; tables = tables_of (home_of_lid cells given) rule.next (block_count (top_of given)) (switches cells) }
+    record { given = given; tables = tables_of (attachment_of_lid cells given) rule.next (block_count (top_of given)) (switches cells) }
 
 -- the plan of a view by a rule that can be asked for
 abbrev pub plan_of : RuleValue → ℕ → Cells → PlanValue

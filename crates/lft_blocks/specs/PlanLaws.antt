@@ -6,8 +6,8 @@ use Rattle.subnet_view.specs.Reading.{Cells, IsUsable}
 use Rattle.lid_assign.specs.Lids.{IsNoRoom, lids, lid_of, top_of}
 use Rattle.lid_assign.specs.Stability.{IsClaimed, GrowsFrom}
 use Rattle.updown_routes.specs.Routing.{Routing}
-use Rattle.spread_rule.specs.Rules.{RuleValue}
-use Rattle.lft_blocks.specs.Entries.{Next, home_of_lid, entry, block, block_count, blocks}
+use Rattle.lft_blocks.specs.Rules.{RuleValue}
+use Rattle.lft_blocks.specs.Entries.{Next, attachment_of_lid, entry, block, block_count, blocks}
 use Rattle.lft_blocks.specs.Plan.{plan_by, plan_of, block_at}
 
 -- once the LIDs of a view are claimed, its plan stays
@@ -20,10 +20,10 @@ abbrev pub LidsStayInPlans : Type 0
 LidsStayInPlans = (rule : RuleValue) (lmc : ℕ) (x z : Facts) → ¬ (IsNoRoom lmc (cells_of x)) → ¬ (IsNoRoom lmc (cells_of z)) → GrowsFrom lmc (cells_of x) (cells_of z)
     → (e : EndPort) (lid : ℕ) → lid_of (plan_of rule lmc (cells_of x)).given e ≡ Some lid → lid_of (plan_of rule lmc (cells_of z)).given e ≡ Some lid
 
--- block b has the entry for the LID 64 b + i at the place i
+-- block b has the entry for the LID 64 b + i at the index i
 abbrev pub BlocksHoldEntries : Type 0
-BlocksHoldEntries = (homes : ℕ → Option (ℕ × ℕ)) (next : Next) (count s b i : ℕ) (ports : List ℕ)
-    → slice_get (blocks homes next count s) b ≡ Some ports → i < 64 → slice_get ports i ≡ Some (entry homes next s (64 * b + i))
+BlocksHoldEntries = (attachments : ℕ → Option (ℕ × ℕ)) (next : Next) (count s b i : ℕ) (ports : List ℕ)
+    → slice_get (blocks attachments next count s) b ≡ Some ports → i < 64 → slice_get ports i ≡ Some (entry attachments next s (64 * b + i))
 
 -- the GUID is a usable switch's, and the greatest LID is in this block or a later one
 abbrev pub HasBlock : ℕ → Cells → ℕ → ℕ → Type 0
@@ -31,7 +31,7 @@ HasBlock lmc cells g b = IsUsable cells g × (b < block_count (top_of (lids lmc 
 
 -- block b of the switch g
 abbrev pub block_of : Routing → ℕ → Cells → ℕ → ℕ → List ℕ
-block_of rule lmc cells g b = block (home_of_lid cells (lids lmc cells)) rule.next g b
+block_of rule lmc cells g b = block (attachment_of_lid cells (lids lmc cells)) rule.next g b
 
 -- a plan has just these blocks, by whatever rule
 abbrev pub BlocksAreOfSwitches : Type 0

@@ -1,7 +1,7 @@
 -- What a call promises that writes a part of a text, which may be empty.
 use Rattle.std.specs.Prelude.{ℕ, Bool, List, Option, Result, OnOk, OnErr, IsTrue}
 use Rattle.std.specs.Io.KnownBytes.{Appends}
-use Rattle.record_file.specs.declared.stream.sink.WriteFault.{WriteFault}
+use Rattle.byte_io.specs.declared.sink.WriteFault.{WriteFault}
 
 -- at Ok what the sink holds has grown by the part, and at Err the sink has failed
 pub record WritesPart {W : Type 0} (written : W → Option (List ℕ)) (has_failed : W → Bool) (result : Result (Unit {0}) WriteFault) (old new : W)

@@ -1,9 +1,9 @@
 ghost use Rattle.std.specs.Prelude.{◌≡◌, ◌≤◌, ◌<◌, length, map, IfOk};
 ghost use Rattle.std.specs.List.{range_with_len};
 ghost use Rattle.lft_blocks.specs.Entries.{block_count};
-ghost use Rattle.lft_blocks.specs.Homes.{AreWithin, entry_in, block_in};
+ghost use Rattle.lft_blocks.specs.Attachments.{AreWithin, entry_in, block_in};
 
-use crate::home::Home;
+use crate::attachment::Attachment;
 use smp_bytes::Lid;
 use std::alloc::{AllocError, Global};
 
@@ -24,44 +24,44 @@ pub fn block_count(top: Option<Lid>) -> usize
 /// The blocks of the switch at the index `own`, by the ports of its row.
 pub(crate) fn blocks(
     alloc: Global,
-    homes: &[Option<Home>],
+    attachments: &[Option<Attachment>],
     row: &[u8],
     own: usize,
     count: usize,
 ) -> Result<Vec<[u8; 64]>, AllocError>
-    requires within { AreWithin (length row.now) homes.now }
+    requires within { AreWithin (length row.now) attachments.now }
     requires few { count ≤ 1024 }
     ensures { IfOk result (λ blocks.
-        blocks.items ≡ map (block_in homes.now row.now own) (range_with_len 0 count)) }
+        blocks.items ≡ map (block_in attachments.now row.now own) (range_with_len 0 count)) }
 {
     let mut blocks = Vec::with_capacity(alloc, count)?;
     for b in 0..count {
-        blocks.push(block(homes, row, own, b))?;
+        blocks.push(block(attachments, row, own, b))?;
     }
     Ok(blocks)
 }
 
 /// A block of the switch.
-fn block(homes: &[Option<Home>], row: &[u8], own: usize, b: usize) -> [u8; 64]
-    requires within { AreWithin (length row.now) homes.now }
+fn block(attachments: &[Option<Attachment>], row: &[u8], own: usize, b: usize) -> [u8; 64]
+    requires within { AreWithin (length row.now) attachments.now }
     requires few { b < 1024 }
-    ensures { result ≡ block_in homes.now row.now own b }
+    ensures { result ≡ block_in attachments.now row.now own b }
 {
     let mut block = [NO_WAY; 64];
     for i in 0..64 {
-        block[i] = entry(homes, row, own, 64 * b + i);
+        block[i] = entry(attachments, row, own, 64 * b + i);
     }
     block
 }
 
 /// The entry of the switch for a LID.
-fn entry(homes: &[Option<Home>], row: &[u8], own: usize, lid: usize) -> u8
-    requires { AreWithin (length row.now) homes.now }
-    ensures { result ≡ entry_in homes.now row.now own lid }
+fn entry(attachments: &[Option<Attachment>], row: &[u8], own: usize, lid: usize) -> u8
+    requires { AreWithin (length row.now) attachments.now }
+    ensures { result ≡ entry_in attachments.now row.now own lid }
 {
-    match homes.get(lid).copied().flatten() {
-        Some(home) if home.switch == own => home.port.number(),
-        Some(home) => row[home.switch],
+    match attachments.get(lid).copied().flatten() {
+        Some(attachment) if attachment.switch == own => attachment.port.number(),
+        Some(attachment) => row[attachment.switch],
         None => NO_WAY,
     }
 }

@@ -1,6 +1,7 @@
 //! The laws of plans.
 ghost use Rattle.lft_blocks.specs.Arrival.{PacketsArriveByEachRouting, PacketsArriveIfConnected, PacketsArriveWhereCovered};
 ghost use Rattle.lft_blocks.specs.PlanLaws.{PlansStay, LidsStayInPlans, BlocksHoldEntries, BlocksAreOfSwitches};
+ghost use Rattle.lft_blocks.specs.Rules.{RulesAreRoutings, RulesStay};
 
 /// Where the facts differ from those of a view with room in claims alone, and each end port claims the LID
 /// that it has, the plan is the same.
@@ -14,7 +15,7 @@ pub fn lids_stay_in_plans()
     ensures { LidsStayInPlans }
 {}
 
-/// Block `b` of a switch has at place `i` the entry for the LID `64 * b + i`.
+/// Block `b` of a switch has at index `i` the entry for the LID `64 * b + i`.
 pub fn blocks_hold_entries()
     ensures { BlocksHoldEntries }
 {}
@@ -44,4 +45,15 @@ pub fn packets_arrive_where_covered()
 /// `Plan::of` promises the same of what is joined to one end port, of any fabric.
 pub fn packets_arrive_if_connected()
     ensures { PacketsArriveIfConnected }
+{}
+
+/// Each rule that can be asked for is one of routing, on the wires of any view.
+pub fn rules_are_routings()
+    ensures { RulesAreRoutings }
+{}
+
+/// Each leads packets alike in views that tell of the same wires between switches and of the same leaf
+/// switches, whatever else they tell.
+pub fn rules_stay()
+    ensures { RulesStay }
 {}

@@ -2,17 +2,21 @@
 //! 64 entries.
 #![tactic(auto)]
 
+mod attachment;
 mod block;
-mod home;
 pub mod laws;
 mod plan;
 mod plan_text;
-mod row;
+mod planning;
+mod rule;
 mod spread_table;
 mod table;
+mod table_row;
+mod updown_table;
 
 pub use block::block_count;
 pub use lid_assign::LidFault as PlanFault;
 pub use plan::Plan;
 pub use plan_text::{write_block, write_lid, write_plan, write_switch};
-pub use spread_rule::Rule;
+pub use planning::Planning;
+pub use rule::Rule;

@@ -7,22 +7,23 @@ ghost use Rattle.lid_assign.specs.LidFault.{is_memory, lid_fault, no_room};
 ghost use Rattle.lid_assign.specs.Lids.{top_of};
 ghost use Rattle.updown_routes.specs.Graph.{graph_of, guids_of};
 ghost use Rattle.updown_routes.specs.Routing.{updown};
-ghost use Rattle.lft_blocks.specs.Entries.{home_of_lid, block_count};
-ghost use Rattle.spread_rule.specs.Rules.{rule_of};
+ghost use Rattle.lft_blocks.specs.Entries.{attachment_of_lid, block_count};
+ghost use Rattle.lft_blocks.specs.Rules.{rule_of};
 ghost use Rattle.lft_blocks.specs.Arrival.{EveryPacketArrivesBy};
-ghost use Rattle.lft_blocks.specs.Homes.{AreWithin};
-ghost use Rattle.lft_blocks.specs.Rows.{placed_home};
+ghost use Rattle.lft_blocks.specs.Attachments.{AreWithin};
+ghost use Rattle.lft_blocks.specs.TableRows.{attachment_by_index};
 ghost use Rattle.lft_blocks.specs.Plan.{tables_of, plan_by, block_at, switches_of};
 
+use crate::Rule;
+use crate::attachment::{Attachment, attachments, index_of};
 use crate::block::block_count;
-use crate::home::{Home, homes, index_of};
 use crate::spread_table::spread_tables;
-use crate::table::{Table, tables};
+use crate::table::Table;
+use crate::updown_table::tables;
 use attr_codec::Lmc;
 use fact_store::{Refused, Store};
 use lid_assign::{LidFault as PlanFault, LidMap, assign};
 use smp_bytes::{Guid, Lid};
-use spread_rule::Rule;
 use std::alloc::Global;
 use std::marker::Model;
 use subnet_view::Wires;
@@ -95,7 +96,7 @@ impl Plan {
         &self.switches
     }
 
-    /// A block of a switch. Place `i` of block `b` has the port by which packets for the LID `64 * b + i`
+    /// A block of a switch. Entry `i` of block `b` has the port by which packets for the LID `64 * b + i`
     /// leave: 0 where the switch has that LID itself, and 255 where nobody has it or no way leads there.
     /// None exactly where the GUID is no usable switch's, or the block comes after that of the greatest LID.
     /// Takes a search.
@@ -124,16 +125,23 @@ fn tables_of(
 ) -> Result<Vec<Table>, Refused>
     requires { graph.now ≡ graph_of (cells_of wires.now) }
     ensures { IfOk result (λ tables. tables.items
-        ≡ tables_of (home_of_lid (cells_of wires.now) lids.now)
+        ≡ tables_of (attachment_of_lid (cells_of wires.now) lids.now)
         (rule_of rule.now (cells_of wires.now)).next
         (block_count (top_of lids.now)) (guids_of graph.now)) }
 {
     let guids = graph.switches();
     let count = block_count(lids.top());
-    let homes = homes(alloc, wires, guids, lids, count)?;
+    let attachments = attachments(alloc, wires, guids, lids, count)?;
     match rule {
-        Rule::UpDown => Ok(updown_tables(alloc, graph, &homes, count)?),
-        Rule::Spread { roots } => Ok(spread_tables(alloc, wires, graph, &homes, roots, count)?),
+        Rule::UpDown => Ok(updown_tables(alloc, graph, &attachments, count)?),
+        Rule::Spread { roots } => Ok(spread_tables(
+            alloc,
+            wires,
+            graph,
+            &attachments,
+            roots,
+            count,
+        )?),
     }
 }
 
@@ -141,16 +149,16 @@ fn tables_of(
 fn updown_tables(
     alloc: Global,
     graph: &Graph,
-    homes: &[Option<Home>],
+    attachments: &[Option<Attachment>],
     count: usize,
 ) -> Result<Vec<Table>, Refused>
     requires rising { IsStrictlyIncreasing (guids_of graph.now) }
-    requires within { AreWithin (length (guids_of graph.now)) homes.now }
+    requires within { AreWithin (length (guids_of graph.now)) attachments.now }
     requires few { count ≤ 1024 }
     ensures { IfOk result (λ tables. tables.items
-        ≡ tables_of (placed_home (guids_of graph.now) homes.now) (updown graph.now).next
+        ≡ tables_of (attachment_by_index (guids_of graph.now) attachments.now) (updown graph.now).next
         count (guids_of graph.now)) }
 {
     let routes = Routes::of(alloc, graph)?;
-    Ok(tables(alloc, &routes, homes, graph.switches(), count)?)
+    Ok(tables(alloc, &routes, attachments, graph.switches(), count)?)
 }

@@ -3,7 +3,7 @@ ghost use Rattle.std.specs.Prelude.{List, Option, None, Some, IsTrue, OnOk};
 ghost use Rattle.std.specs.Option.{option_map_or};
 ghost use Rattle.std.specs.List.{flat_map};
 ghost use Rattle.hex.specs.Hex.{encode_lower};
-ghost use Rattle.record_file.specs.Writes.{Writes};
+ghost use Rattle.byte_io.specs.Writes.{Writes};
 ghost use Rattle.lft_blocks.specs.WritesPart.{WritesPart};
 ghost use Rattle.lft_blocks.specs.PlanText.{lmc_text, lid_line, owner_line, lids_text, switch_line};
 ghost use Rattle.lft_blocks.specs.PlanText.{block_line, blocks_text, table_text, tables_text, plan_text};
@@ -11,8 +11,8 @@ ghost use Rattle.lft_blocks.specs.PlanText.{block_line, blocks_text, table_text,
 use crate::plan::Plan;
 use crate::table::Table;
 use attr_codec::Lmc;
+use byte_io::{Sink, WriteFault, write_guid, write_number, write_port};
 use lid_assign::LidMap;
-use record_file::{Sink, WriteFault, write_guid, write_number, write_port};
 use smp_bytes::{Guid, Lid};
 use subnet_view::EndPort;
 

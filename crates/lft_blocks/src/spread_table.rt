@@ -3,17 +3,17 @@ ghost use Rattle.std.specs.Prelude.{◌≡◌, ◌<◌, ◌≤◌, ◌*◌, [], 
 ghost use Rattle.std.specs.List.{range_with_len};
 ghost use Rattle.fact_store.specs.View.{cells_of};
 ghost use Rattle.updown_routes.specs.Graph.{graph_of, guids_of};
-ghost use Rattle.spread_rule.specs.Bearing.{bearing_of};
-ghost use Rattle.spread_rule.specs.Spread.{spread_at, spread_by};
-ghost use Rattle.lft_blocks.specs.Homes.{AreWithin};
+ghost use Rattle.spread_routes.specs.LeafSwitches.{leaf_switches_of};
+ghost use Rattle.spread_routes.specs.Spread.{spread_at, spread_by};
+ghost use Rattle.lft_blocks.specs.Attachments.{AreWithin};
 ghost use Rattle.lft_blocks.specs.Plan.{tables_of};
-ghost use Rattle.lft_blocks.specs.Rows.{AreRows, placed_home, table_of_row};
+ghost use Rattle.lft_blocks.specs.TableRows.{AreRows, attachment_by_index, table_of_row};
 
-use crate::home::Home;
-use crate::row::{Row, lids_by_switch, write_rows};
+use crate::attachment::Attachment;
 use crate::table::Table;
+use crate::table_row::{TableRow, lids_by_switch, write_rows};
 use smp_bytes::{Guid, PortNum};
-use spread_rule::{Spread, bearing_switches};
+use spread_routes::{Spread, leaf_switches};
 use std::alloc::{AllocError, Global};
 use std::mem;
 use subnet_view::Wires;
@@ -24,23 +24,23 @@ pub(crate) fn spread_tables(
     alloc: Global,
     wires: &Wires,
     graph: &Graph,
-    homes: &[Option<Home>],
+    attachments: &[Option<Attachment>],
     roots: &[Guid],
     count: usize,
 ) -> Result<Vec<Table>, AllocError>
     requires graph { graph.now ≡ graph_of (cells_of wires.now) }
-    requires within { AreWithin (length (guids_of graph.now)) homes.now }
+    requires within { AreWithin (length (guids_of graph.now)) attachments.now }
     requires few { count ≤ 1024 }
-    requires all { length homes.now ≡ 64 * count }
+    requires all { length attachments.now ≡ 64 * count }
     ensures { IfOk result (λ tables. tables.items ≡ tables_of
-        (placed_home (guids_of graph.now) homes.now)
-        (spread_by graph.now (bearing_of (cells_of wires.now)) roots.now).next
+        (attachment_by_index (guids_of graph.now) attachments.now)
+        (spread_by graph.now (leaf_switches_of (cells_of wires.now)) roots.now).next
         count (guids_of graph.now)) }
 {
     let guids = graph.switches();
-    let bearing = bearing_switches(alloc, wires, guids)?;
-    let spread = Spread::of(alloc, graph, &bearing, roots)?;
-    let mut rows = rows(alloc, &spread, homes, guids.len())?;
+    let leaves = leaf_switches(alloc, wires, guids)?;
+    let spread = Spread::of(alloc, graph, &leaves, roots)?;
+    let mut rows = rows(alloc, &spread, attachments, guids.len())?;
     tables_of(alloc, guids, &mut rows, count)
 }
 
@@ -48,32 +48,32 @@ pub(crate) fn spread_tables(
 fn rows(
     alloc: Global,
     spread: &Spread,
-    homes: &[Option<Home>],
+    attachments: &[Option<Attachment>],
     switches: usize,
-) -> Result<Vec<Row>, AllocError>
+) -> Result<Vec<TableRow>, AllocError>
     requires switches { switches ≡ length spread.now.graph }
-    requires within { AreWithin switches homes.now }
-    requires few { length homes.now ≤ 65536 }
+    requires within { AreWithin switches attachments.now }
+    requires few { length attachments.now ≤ 65536 }
     ensures { IfOk result (λ rows. AreRows (spread_at spread.now).next
-        (guids_of spread.now.graph) homes.now switches rows.items) }
+        (guids_of spread.now.graph) attachments.now switches rows.items) }
 {
-    let mut rows = no_ways(alloc, switches, homes.len())?;
+    let mut rows = no_ways(alloc, switches, attachments.len())?;
     let mut ports = no_ports(alloc, switches)?;
-    let lids = lids_by_switch(alloc, homes, switches)?;
+    let lids = lids_by_switch(alloc, attachments, switches)?;
     for target in 0..switches {
         spread.ports_to(alloc, target, &lids[target], &mut ports)?;
-        write_rows(&mut rows, homes, &lids[target], &ports, target);
+        write_rows(&mut rows, attachments, &lids[target], &ports, target);
     }
     Ok(rows)
 }
 
 /// So many rows of so many entries, and no way anywhere.
-fn no_ways(alloc: Global, switches: usize, len: usize) -> Result<Vec<Row>, AllocError>
+fn no_ways(alloc: Global, switches: usize, len: usize) -> Result<Vec<TableRow>, AllocError>
     ensures { IfOk result (λ rows. rows.items ≡ replicate switches (replicate len 255)) }
 {
     let mut rows = Vec::with_capacity(alloc, switches)?;
     for _ in 0..switches {
-        rows.push(Row::new(alloc, len)?)?;
+        rows.push(TableRow::new(alloc, len)?)?;
     }
     Ok(rows)
 }
@@ -93,7 +93,7 @@ fn no_ports(alloc: Global, switches: usize) -> Result<Vec<Vec<Option<PortNum>>>,
 fn tables_of(
     alloc: Global,
     guids: &[Guid],
-    rows: &mut [Row],
+    rows: &mut [TableRow],
     count: usize,
 ) -> Result<Vec<Table>, AllocError>
     requires few { count ≤ 1024 }
@@ -104,7 +104,7 @@ fn tables_of(
 {
     let mut tables = Vec::with_capacity(alloc, guids.len())?;
     for own in 0..guids.len() {
-        let row = mem::replace(&mut rows[own], Row::empty(alloc));
+        let row = mem::replace(&mut rows[own], TableRow::empty(alloc));
         let blocks = row.blocks(alloc, count)?;
         tables.push(Table::new(guids[own], blocks))?;
     }

@@ -1,21 +1,15 @@
-ghost use Rattle.std.specs.Prelude.{◌≡◌, ◌<◌, ◌≤◌, length, map, unwrap_or, slice_get, IfOk};
+ghost use Rattle.std.specs.Prelude.{◌≡◌, ◌<◌, slice_get};
 ghost use Rattle.std.specs.Option.{option_copied};
-ghost use Rattle.std.specs.List.{range_with_len};
-ghost use Rattle.updown_routes.specs.Ports.{next_port_at};
-ghost use Rattle.lft_blocks.specs.Homes.{AreWithin, row_of, table_in};
 
-use crate::block::{NO_WAY, blocks};
-use crate::home::Home;
+use crate::block::blocks;
 use smp_bytes::Guid;
-use std::alloc::{AllocError, Global};
 use std::marker::Model;
-use updown_routes::Routes;
 
 /// The forwarding table of a switch.
 #[derive(Drop)]
 pub(crate) struct Table {
-    guid: Guid,
-    blocks: Vec<[u8; 64]>,
+    pub(crate) guid: Guid,
+    pub(crate) blocks: Vec<[u8; 64]>,
 }
 
 impl Model for Table {
@@ -53,70 +47,5 @@ impl Table {
         ensures { result.now ≡ self.now.blocks }
     {
         &self.blocks
-    }
-}
-
-/// The table of each switch. Each entry takes two steps.
-pub(crate) fn tables(
-    alloc: Global,
-    routes: &Routes,
-    homes: &[Option<Home>],
-    guids: &[Guid],
-    count: usize,
-) -> Result<Vec<Table>, AllocError>
-    requires within { AreWithin (length guids.now) homes.now }
-    requires few { count ≤ 1024 }
-    ensures { IfOk result (λ tables. tables.items
-        ≡ map (table_in homes.now routes.now guids.now count)
-        (range_with_len 0 (length guids.now))) }
-{
-    let mut tables = Vec::with_capacity(alloc, guids.len())?;
-    for own in 0..guids.len() {
-        tables.push(table_at(alloc, routes, homes, guids, count, own)?)?;
-    }
-    Ok(tables)
-}
-
-/// The table of the switch at the index `own`.
-fn table_at(
-    alloc: Global,
-    routes: &Routes,
-    homes: &[Option<Home>],
-    guids: &[Guid],
-    count: usize,
-    own: usize,
-) -> Result<Table, AllocError>
-    requires within { AreWithin (length guids.now) homes.now }
-    requires few { count ≤ 1024 }
-    requires own { own < length guids.now }
-    ensures { IfOk result (λ table.
-        table ≡ table_in homes.now routes.now guids.now count own) }
-{
-    let row = row(alloc, routes, own, guids.len())?;
-    let blocks = blocks(alloc, homes, &row, own, count)?;
-    Ok(Table {
-        guid: guids[own],
-        blocks,
-    })
-}
-
-/// The next port from the switch at the index `own` towards each of so many, and 255 where there is no way.
-fn row(alloc: Global, routes: &Routes, own: usize, len: usize) -> Result<Vec<u8>, AllocError>
-    ensures { IfOk result (λ row. row.items ≡ row_of routes.now own len) }
-{
-    let mut row = Vec::with_capacity(alloc, len)?;
-    for to in 0..len {
-        row.push(port_towards(routes, own, to))?;
-    }
-    Ok(row)
-}
-
-/// The next port, and 255 where there is no way.
-fn port_towards(routes: &Routes, own: usize, to: usize) -> u8
-    ensures { result ≡ unwrap_or (next_port_at routes.now own to) 255 }
-{
-    match routes.next_port_at(own, to) {
-        Some(port) => port.number(),
-        None => NO_WAY,
     }
 }

@@ -15,7 +15,7 @@ use Rattle.lid_assign.specs.Lids.{room, kept, least_open, hand_out, handed_out, 
 use Rattle.lid_assign.proofs.Ranges.{some_width, meets_at, common_number, multiples_apart}
 use Rattle.lid_assign.proofs.Rising.{apart-from_rising, rising-count_up, within-count_up, contains-count_up, length-count_up, no_more_than}
 use Rattle.lid_assign.proofs.KeptClaims.{Ports, kept_fits, ports-with_kept}
-use Rattle.lid_assign.proofs.HandOut.{Placed, numbers_of, so_many, least_open_is, none_is_open, PairsApart}
+use Rattle.lid_assign.proofs.HandOut.{GivenLids, numbers_of, so_many, least_open_is, none_is_open, PairsApart}
 use Rattle.lid_assign.proofs.LidLaws.{ranges_of, among_ranges, handed, ports-given, each_fits, pairs}
 
 -- how many end ports keep no claim
@@ -86,7 +86,7 @@ module _ (room lmc : ℕ) where
     few : length taken < most
     own : (r : Range) → Contains taken r → IsOwn room lmc r
 
-  no_rest : (x : EndPort × ℕ) (o : Option Placed) → option_map (λ given. x ∷ given) o ≡ None → o ≡ None
+  no_rest : (x : EndPort × ℕ) (o : Option GivenLids) → option_map (λ given. x ∷ given) o ≡ None → o ≡ None
   no_rest x None e = refl
   no_rest x (Some given) e = absurd (cc)
 
@@ -138,7 +138,7 @@ module _ (lmc : ℕ) (cells : Cells) where
       let x = among_ranges lmc (kept lmc cells) r h in record { of = x.0; lid = x.1; is_its = x.3; it_fits = kept_fits lmc cells x.0 x.1 x.2 }) e in
       record { port = s.port; taken = s.taken; finds_none = s.finds_none; few = omega (arith, s.few, keepers_and_others lmc (kept lmc cells), count-end_ports); own = s.own }
     where
-      nothing : (o : Option Placed) → not (is_some o) ≡ true → o ≡ None
+      nothing : (o : Option GivenLids) → not (is_some o) ≡ true → o ≡ None
       nothing None h = refl
       nothing (Some given) h = absurd (cc)
 
@@ -187,7 +187,7 @@ module _ (lmc : ℕ) (cells : Cells) where
             ))
       ]
     where
-      lids_apart : (given : Placed) → PairsApart lmc given → Apart (map (λ x. x.1) given)
+      lids_apart : (given : GivenLids) → PairsApart lmc given → Apart (map (λ x. x.1) given)
       lids_apart [] p = tt
       lids_apart (x ∷ given) p = (
         λ h.

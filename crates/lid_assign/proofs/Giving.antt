@@ -5,11 +5,11 @@ use Rattle.std.proofs.lemmas.List.{append_assoc}
 use Rattle.std.specs.Prelude.{Contains, Option, None, Some, option_map, option_and_then}
 use Rattle.subnet_view.specs.declared.end_port.EndPort.{EndPort}
 use Rattle.subnet_view.proofs.Members.{contains_cases, list_any_true, list_any_at}
-use Rattle.lid_assign.specs.declared.give.Next.{Next}
+use Rattle.lid_assign.specs.declared.hand_out.Next.{Next}
 use Rattle.lid_assign.specs.Ranges.{width_of, Range, range_at, meets, is_in, fits, Fits}
 use Rattle.lid_assign.specs.Lids.{least_open, hand_out}
 use Rattle.lid_assign.specs.Marks.{any_marked, from_on, AreMarkedMore, AreTaken, ArePassed, IsUnmarked, NoneUnmarked, IsLeastUnmarked}
-use Rattle.lid_assign.proofs.HandOut.{Placed, so_many, IsBlocked, is_least_open, open_is_none}
+use Rattle.lid_assign.proofs.HandOut.{GivenLids, so_many, IsBlocked, is_least_open, open_is_none}
 use Rattle.lid_assign.proofs.KeptClaims.{Ports}
 use Rattle.lid_assign.proofs.LidLaws.{ranges_of, among_ranges}
 use Rattle.lid_assign.proofs.Marking.{at_marked, not_marked}
@@ -68,18 +68,18 @@ taken_more room ranges old new r are m =
 -- end port by end port ------------------------------------------------------------------------
 
 -- what was given, and what the rest is given, are all that is given
-pub record IsGiving (room lmc : ℕ) (handed : Option Placed) (given : Placed) (rest : Ports) (marks : List Bool) (next : Next) : Type 0 where
+pub record IsGiving (room lmc : ℕ) (handed : Option GivenLids) (given : GivenLids) (rest : Ports) (marks : List Bool) (next : Next) : Type 0 where
   pub ranges : List Range
   pub follows : option_map (λ more. given ++ more) (hand_out room lmc ranges rest) ≡ handed
   pub taken : AreTaken room ranges marks
   pub passed : ArePassed lmc marks next
   pub some : (r : Range) → Contains ranges r → 1 ≤ r.width
 
-after : (given : Placed) (x : EndPort × ℕ) (o : Option Placed) → option_map (λ more. (given ++ x ∷ []) ++ more) o ≡ option_map (λ more. given ++ more) (option_map (λ more. x ∷ more) o)
+after : (given : GivenLids) (x : EndPort × ℕ) (o : Option GivenLids) → option_map (λ more. (given ++ x ∷ []) ++ more) o ≡ option_map (λ more. given ++ more) (option_map (λ more. x ∷ more) o)
 after given x None = refl
 after given x (Some more) = ap (λ xs. Some xs) (append_assoc given (x ∷ []) more)
 
-module _ (room lmc : ℕ) (handed : Option Placed) (given : Placed) (e : EndPort) (rest : Ports) (marks : List Bool) (next : Next) where
+module _ (room lmc : ℕ) (handed : Option GivenLids) (given : GivenLids) (e : EndPort) (rest : Ports) (marks : List Bool) (next : Next) where
   -- one that keeps its claim
   pub given_kept : (c : ℕ) → IsGiving room lmc handed given ((e, Some c) ∷ rest) marks next → IsGiving room lmc handed (given ++ (e, c) ∷ []) rest marks next
   given_kept c g =
@@ -116,7 +116,7 @@ module _ (room lmc : ℕ) (handed : Option Placed) (given : Placed) (e : EndPort
       sym (ap (λ o. option_map (λ more. given ++ more) (option_and_then (λ c. option_map (λ more. (e, c) ∷ more) (hand_out room lmc (range_at lmc e c ∷ g.ranges) rest)) o)) least) ∙ g.follows
 
 -- all are given
-pub given_all : (room lmc : ℕ) (handed : Option Placed) (given : Placed) (rest : Ports) (marks : List Bool) (next : Next) → rest ≡ [] → IsGiving room lmc handed given rest marks next
+pub given_all : (room lmc : ℕ) (handed : Option GivenLids) (given : GivenLids) (rest : Ports) (marks : List Bool) (next : Next) → rest ≡ [] → IsGiving room lmc handed given rest marks next
     → Some given ≡ handed
 given_all room lmc handed given rest marks next none g =
     ap (λ xs. Some xs) (sym (append-nil given)) ∙ ap (λ ports. option_map (λ more. given ++ more) (hand_out room lmc g.ranges ports)) (sym none) ∙ g.follows
@@ -126,11 +126,11 @@ given_all room lmc handed given rest marks next none g =
 pub some_ranges : (lmc : ℕ) (ports : Ports) (r : Range) → Contains (ranges_of lmc ports) r → 1 ≤ r.width
 some_ranges lmc ports r h = let x = among_ranges lmc ports r h in subst (λ (s : Range). 1 ≤ s.width) (sym x.3) (some_width lmc x.0)
 
-same_handed : (o : Option Placed) → option_map (λ more. [] ++ more) o ≡ o
+same_handed : (o : Option GivenLids) → option_map (λ more. [] ++ more) o ≡ o
 same_handed None = refl
 same_handed (Some more) = refl
 
-pub giving_start : (room lmc : ℕ) (keepers : Ports) (given : Placed) (marks : List Bool) (next : Next) → given ≡ [] → AreTaken room (ranges_of lmc keepers) marks → ArePassed lmc marks next
+pub giving_start : (room lmc : ℕ) (keepers : Ports) (given : GivenLids) (marks : List Bool) (next : Next) → given ≡ [] → AreTaken room (ranges_of lmc keepers) marks → ArePassed lmc marks next
     → IsGiving room lmc (hand_out room lmc (ranges_of lmc keepers) keepers) given keepers marks next
 giving_start room lmc keepers given marks next none are p =
     record {

@@ -11,8 +11,8 @@ use Rattle.lid_assign.proofs.Ranges.{some_width, meets_turned, fits_from_test, t
 use Rattle.lid_assign.proofs.Rising.{least_is_found, found_is_least, none_is_found, found_none}
 use Rattle.lid_assign.proofs.KeptClaims.{Ports, KeptApart}
 
-abbrev pub Placed : Type 0
-Placed = List (EndPort × ℕ)
+abbrev pub GivenLids : Type 0
+GivenLids = List (EndPort × ℕ)
 
 -- so many numbers from one on
 abbrev pub so_many : ℕ → ℕ → Range
@@ -88,7 +88,7 @@ module _ (room : ℕ) (taken : List Range) where
 -- step by step ----------------------------------------------------------------------
 
 -- the LIDs are what is handed out to these end ports in turn
-abbrev pub Hands : ℕ → ℕ → List Range → Ports → Placed → Type 0
+abbrev pub Hands : ℕ → ℕ → List Range → Ports → GivenLids → Type 0
 Hands room lmc taken [] [] = Unit {0}
 Hands room lmc taken [] (x ∷ given) = ⊥
 Hands room lmc taken ((e, o) ∷ ports) [] = ⊥
@@ -96,15 +96,15 @@ Hands room lmc taken ((e, Some c) ∷ ports) ((f, n) ∷ given) = (e ≡ f) × (
 Hands room lmc taken ((e, None) ∷ ports) ((f, n) ∷ given) = (e ≡ f) × (least_open room taken (width_of lmc e) ≡ Some n) × Hands room lmc (range_at lmc e n ∷ taken) ports given
 
 module _ (room lmc : ℕ) where
-  not_some_none : (x : EndPort × ℕ) (o : Option Placed) → option_map (λ given. x ∷ given) o ≡ Some [] → ⊥
+  not_some_none : (x : EndPort × ℕ) (o : Option GivenLids) → option_map (λ given. x ∷ given) o ≡ Some [] → ⊥
   not_some_none x None e = cc
   not_some_none x (Some given) e = cc
 
-  first_and_rest : (x y : EndPort × ℕ) (o : Option Placed) (given : Placed) → option_map (λ given. x ∷ given) o ≡ Some (y ∷ given) → (x ≡ y) × (o ≡ Some given)
+  first_and_rest : (x y : EndPort × ℕ) (o : Option GivenLids) (given : GivenLids) → option_map (λ given. x ∷ given) o ≡ Some (y ∷ given) → (x ≡ y) × (o ≡ Some given)
   first_and_rest x y None given e = absurd (cc)
   first_and_rest x y (Some rest) given e = (cc, cc)
 
-  pub hands_from : (taken : List Range) (ports : Ports) (given : Placed) → hand_out room lmc taken ports ≡ Some given → Hands room lmc taken ports given
+  pub hands_from : (taken : List Range) (ports : Ports) (given : GivenLids) → hand_out room lmc taken ports ≡ Some given → Hands room lmc taken ports given
   hands_from taken [] [] e = tt
   hands_from taken [] (x ∷ given) e = absurd (cc)
   hands_from taken ((x, Some c) ∷ ports) [] e = not_some_none (x, c) (hand_out room lmc taken ports) e
@@ -129,7 +129,7 @@ module _ (room lmc : ℕ) where
             (ap (λ z. z.0) r.0, p ∙ ap (λ m. Some m) i, hands_from (range_at lmc x n ∷ taken) ports given rest)
       ] refl e
 
-  pub hands_to : (taken : List Range) (ports : Ports) (given : Placed) → Hands room lmc taken ports given → hand_out room lmc taken ports ≡ Some given
+  pub hands_to : (taken : List Range) (ports : Ports) (given : GivenLids) → Hands room lmc taken ports given → hand_out room lmc taken ports ≡ Some given
   hands_to taken [] [] h = refl
   hands_to taken [] (x ∷ given) h = absurd h
   hands_to taken ((x, o) ∷ ports) [] h = absurd (none taken x o ports h)
@@ -145,7 +145,7 @@ module _ (room lmc : ℕ) where
 
   -- where given numbers come from ------------------------------------------------------
 
-  pub hands_ports : (taken : List Range) (ports : Ports) (given : Placed) → Hands room lmc taken ports given → map (λ x. x.0) given ≡ map (λ x. x.0) ports
+  pub hands_ports : (taken : List Range) (ports : Ports) (given : GivenLids) → Hands room lmc taken ports given → map (λ x. x.0) given ≡ map (λ x. x.0) ports
   hands_ports taken [] [] h = refl
   hands_ports taken [] (x ∷ given) h = absurd h
   hands_ports taken ((x, Some c) ∷ ports) [] h = absurd h
@@ -162,7 +162,7 @@ module _ (room lmc : ℕ) where
   abbrev pub GivenFrom : List Range → Ports → EndPort → ℕ → Type 0
   GivenFrom taken ports e n = Contains ports (e, Some n) ⊎ TakesOpen taken ports e n
 
-  pub given_from : (taken : List Range) (ports : Ports) (given : Placed) → Hands room lmc taken ports given → (e : EndPort) (n : ℕ) → Contains given (e, n)
+  pub given_from : (taken : List Range) (ports : Ports) (given : GivenLids) → Hands room lmc taken ports given → (e : EndPort) (n : ℕ) → Contains given (e, n)
       → GivenFrom taken ports e n
   given_from taken [] [] h e n k = absurd (contains_none (e, n) k)
   given_from taken [] (x ∷ given) h e n k = absurd h
@@ -203,7 +203,7 @@ module _ (room lmc : ℕ) where
         | inr k ↦ k
       ]
 
-  pub kept_given : (taken : List Range) (ports : Ports) (given : Placed) → Hands room lmc taken ports given → (e : EndPort) (n : ℕ) → Contains ports (e, Some n) → Contains given (e, n)
+  pub kept_given : (taken : List Range) (ports : Ports) (given : GivenLids) → Hands room lmc taken ports given → (e : EndPort) (n : ℕ) → Contains ports (e, Some n) → Contains given (e, n)
   kept_given taken [] given h e n k = absurd (contains_none (e, Some n) k)
   kept_given taken ((x, Some c) ∷ ports) [] h e n k = absurd h
   kept_given taken ((x, None) ∷ ports) [] h e n k = absurd h
@@ -220,7 +220,7 @@ module _ (room lmc : ℕ) where
 
 -- no number is given twice -------------------------------------------------------------
 
-abbrev pub PairsApart : ℕ → Placed → Type 0
+abbrev pub PairsApart : ℕ → GivenLids → Type 0
 PairsApart lmc [] = Unit {0}
 PairsApart lmc (x ∷ given) = ((y : EndPort × ℕ) → Contains given y → meets (numbers_of lmc x) (numbers_of lmc y) ≡ false) × PairsApart lmc given
 
@@ -231,7 +231,7 @@ module _ (room lmc : ℕ) where
   abbrev AreAmong : Ports → List Range → Type 0
   AreAmong ports taken = (e : EndPort) (c : ℕ) → Contains ports (e, Some c) → Contains taken (range_at lmc e c)
 
-  pub given_apart : (taken : List Range) (ports : Ports) (given : Placed) → Hands room lmc taken ports given → KeptApart lmc ports → AreAmong ports taken → PairsApart lmc given
+  pub given_apart : (taken : List Range) (ports : Ports) (given : GivenLids) → Hands room lmc taken ports given → KeptApart lmc ports → AreAmong ports taken → PairsApart lmc given
   given_apart taken [] [] h a s = tt
   given_apart taken [] (x ∷ given) h a s = absurd h
   given_apart taken ((x, Some c) ∷ ports) [] h a s = absurd h
@@ -254,7 +254,7 @@ module _ (room lmc : ℕ) where
         given_apart (range_at lmc x m ∷ taken) ports given h.2 a (λ e d k. contains_later (range_at lmc x m) (range_at lmc e d) taken (s e d (contains_later (x, None) (e, Some d) ports k))),
       )
 
-  pub same_from_pairs : (given : Placed) → PairsApart lmc given → (x y : EndPort × ℕ) → Contains given x → Contains given y → meets (numbers_of lmc x) (numbers_of lmc y) ≡ true → x ≡ y
+  pub same_from_pairs : (given : GivenLids) → PairsApart lmc given → (x y : EndPort × ℕ) → Contains given x → Contains given y → meets (numbers_of lmc x) (numbers_of lmc y) ≡ true → x ≡ y
   same_from_pairs [] a x y h k e = absurd (contains_none x h)
   same_from_pairs (z ∷ given) a x y h k e =
       elim (contains_cases z x given h) [
@@ -274,19 +274,19 @@ module _ (room lmc : ℕ) where
   narrower : (x : EndPort × Option ℕ) (ports : Ports) (e : EndPort) → IsOther (x ∷ ports) e → IsOther ports e
   narrower x ports e o c h = o c (contains_later x (e, Some c) ports h)
 
-  no_split : (a : Placed) (x : EndPort × ℕ) (b : Placed) → [] ≡ a ++ x ∷ b → ⊥
+  no_split : (a : GivenLids) (x : EndPort × ℕ) (b : GivenLids) → [] ≡ a ++ x ∷ b → ⊥
   no_split [] x b e = cc
   no_split (y ∷ a) x b e = cc
 
   -- a range that was taken before, or of an end port before
-  abbrev pub IsMetBefore : List Range → Placed → Range → Type 0
+  abbrev pub IsMetBefore : List Range → GivenLids → Range → Type 0
   IsMetBefore taken earlier r = (t : Range) × (meets r t ≡ true) × (Contains taken t ⊎ ((x : EndPort × ℕ) × Contains earlier x × (t ≡ numbers_of lmc x)))
 
-  later_met : (taken : List Range) (y : EndPort × ℕ) (earlier : Placed) (r : Range) → IsMetBefore taken earlier r → IsMetBefore taken (y ∷ earlier) r
+  later_met : (taken : List Range) (y : EndPort × ℕ) (earlier : GivenLids) (r : Range) → IsMetBefore taken earlier r → IsMetBefore taken (y ∷ earlier) r
   later_met taken y earlier r (t, e, inl h) = (t, e, inl h)
   later_met taken y earlier r (t, e, inr h) = (t, e, inr (h.0, contains_later y h.0 earlier h.1, h.2))
 
-  first_met : (taken : List Range) (y : EndPort × ℕ) (s : Range) (earlier : Placed) (r : Range) → s ≡ numbers_of lmc y → IsMetBefore (s ∷ taken) earlier r → IsMetBefore taken (y ∷ earlier) r
+  first_met : (taken : List Range) (y : EndPort × ℕ) (s : Range) (earlier : GivenLids) (r : Range) → s ≡ numbers_of lmc y → IsMetBefore (s ∷ taken) earlier r → IsMetBefore taken (y ∷ earlier) r
   first_met taken y s earlier r q (t, e, inl h) =
       elim (contains_cases s t taken h) [
         | inl i ↦ (t, e, inr (y, contains_here y earlier, sym i ∙ q))
@@ -294,7 +294,7 @@ module _ (room lmc : ℕ) where
       ]
   first_met taken y s earlier r q (t, e, inr h) = (t, e, inr (h.0, contains_later y h.0 earlier h.1, h.2))
 
-  pub lesser_met : (taken : List Range) (ports : Ports) (given : Placed) → Hands room lmc taken ports given → (earlier later : Placed) (e : EndPort) (n m : ℕ)
+  pub lesser_met : (taken : List Range) (ports : Ports) (given : GivenLids) → Hands room lmc taken ports given → (earlier later : GivenLids) (e : EndPort) (n m : ℕ)
       → given ≡ earlier ++ (e, n) ∷ later → IsOther ports e → Fits room (range_at lmc e m) → m < n → IsMetBefore taken earlier (range_at lmc e m)
   lesser_met taken [] [] h earlier later e n m q o f l = absurd (no_split earlier (e, n) later q)
   lesser_met taken [] (x ∷ given) h earlier later e n m q o f l = absurd h

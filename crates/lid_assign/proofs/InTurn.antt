@@ -4,12 +4,12 @@ use Rattle.std.specs.Prelude.{Option, None, Some, is_some, option_map, replicate
 use Rattle.subnet_view.specs.declared.end_port.EndPort.{EndPort}
 use Rattle.subnet_view.specs.Reading.{Cells, claim_of}
 use Rattle.subnet_view.specs.EndPorts.{end_ports, ports_after}
-use Rattle.lid_assign.specs.declared.give.Next.{Next}
+use Rattle.lid_assign.specs.declared.hand_out.Next.{Next}
 use Rattle.lid_assign.specs.Ranges.{width_of}
 use Rattle.lid_assign.specs.Lids.{room, kept_claim, with_kept, kept, handed_out, is_no_room}
 use Rattle.lid_assign.specs.Marks.{from_on, fitting, unmarked, AreMarkedMore, AreTaken, ArePassed, NoneUnmarked, IsLeastUnmarked}
 use Rattle.lid_assign.proofs.Giving.{IsGiving, giving_start, given_kept, given_open, given_none, given_all}
-use Rattle.lid_assign.proofs.HandOut.{Placed}
+use Rattle.lid_assign.proofs.HandOut.{GivenLids}
 use Rattle.lid_assign.proofs.Keeping.{AreClaimed, claimed_start, IsKeeping, keeping_start, keeping_more, taken_all, unmarked_is, claimed_more}
 use Rattle.lid_assign.proofs.KeptClaims.{Ports}
 use Rattle.lid_assign.proofs.LidLaws.{ranges_of}
@@ -50,7 +50,7 @@ in_turn_all lmc cells last claimed taken none k = taken_all lmc cells k.done (le
 -- giving, where what is given is not listed
 pub record GivesInTurn (lmc : ℕ) (cells : Cells) (last : Option (ℕ × EndPort)) (claimed taken : List Bool) (next : Next) : Type 0 where
   pub prior : List EndPort
-  pub given : Placed
+  pub given : GivenLids
   pub claims : AreClaimed lmc cells prior claimed
   pub giving : IsGiving (room cells) lmc (handed_out lmc cells) given (with_kept lmc cells prior (left cells last)) taken next
 

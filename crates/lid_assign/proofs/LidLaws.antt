@@ -15,7 +15,7 @@ use Rattle.lid_assign.specs.Ranges.{width_of, Range, range_at, IsIn, Fits}
 use Rattle.lid_assign.specs.Lids.{room, kept, kept_range, handed_out, lids, IsNoRoom, Keeps, KeepsNothing, WasTaken, AreLids, LidsLaw}
 use Rattle.lid_assign.proofs.Ranges.{some_width, meets_at, common_number}
 use Rattle.lid_assign.proofs.KeptClaims.{Ports, kept_apart, kept_fits, kept_from_keeps, keeps_from_kept, ports-with_kept}
-use Rattle.lid_assign.proofs.HandOut.{Placed, numbers_of, IsOther, Hands, hands_from, hands_ports, given_from, kept_given, PairsApart, given_apart, same_from_pairs, lesser_met}
+use Rattle.lid_assign.proofs.HandOut.{GivenLids, numbers_of, IsOther, Hands, hands_from, hands_ports, given_from, kept_given, PairsApart, given_apart, same_from_pairs, lesser_met}
 
 -- ranges of claims that are kept ---------------------------------------------------------
 
@@ -51,7 +51,7 @@ module _ (lmc : ℕ) (cells : Cells) where
   pub handed : ¬ (IsNoRoom lmc cells) → Hands (room cells) lmc (ranges_of lmc (kept lmc cells)) (kept lmc cells) (lids lmc cells).ports
   handed room_for_all = hands_from (room cells) lmc (ranges_of lmc (kept lmc cells)) (kept lmc cells) (lids lmc cells).ports (found_lids room_for_all)
 
-  module _ (given : Placed) (hands : Hands (room cells) lmc (ranges_of lmc (kept lmc cells)) (kept lmc cells) given) where
+  module _ (given : GivenLids) (hands : Hands (room cells) lmc (ranges_of lmc (kept lmc cells)) (kept lmc cells) given) where
     pub ports-given : map (λ x. x.0) given ≡ end_ports cells
     ports-given = hands_ports (room cells) lmc (ranges_of lmc (kept lmc cells)) (kept lmc cells) given hands ∙ ports-with_kept lmc cells [] (end_ports cells)
 
@@ -77,7 +77,7 @@ module _ (lmc : ℕ) (cells : Cells) where
       pub is_other : (e : EndPort) → KeepsNothing lmc cells e → IsOther (kept lmc cells) e
       is_other e nothing c h = nothing c (keeps_from_kept lmc cells distinct e c h)
 
-      was_taken : (earlier later : Placed) (e : EndPort) (n k : ℕ) → given ≡ earlier ++ (e, n) ∷ later → (t : Range) → IsIn t k
+      was_taken : (earlier later : GivenLids) (e : EndPort) (n k : ℕ) → given ≡ earlier ++ (e, n) ∷ later → (t : Range) → IsIn t k
           → Contains (ranges_of lmc (kept lmc cells)) t ⊎ ((x : EndPort × ℕ) × Contains earlier x × (t ≡ numbers_of lmc x)) → WasTaken lmc cells earlier given k
       was_taken earlier later e n k stands t there (inl h) =
           let x = among_ranges lmc (kept lmc cells) t h in
@@ -100,7 +100,7 @@ module _ (lmc : ℕ) (cells : Cells) where
       some_there : (r : Range) → Contains (ranges_of lmc (kept lmc cells)) r → 1 ≤ r.width
       some_there r h = let x = among_ranges lmc (kept lmc cells) r h in subst (λ (s : Range). 1 ≤ s.width) (sym x.3) (some_width lmc x.0)
 
-      pub none_skipped : (earlier later : Placed) (e : EndPort) (n m : ℕ) → given ≡ earlier ++ (e, n) ∷ later → KeepsNothing lmc cells e
+      pub none_skipped : (earlier later : GivenLids) (e : EndPort) (n m : ℕ) → given ≡ earlier ++ (e, n) ∷ later → KeepsNothing lmc cells e
           → Fits (room cells) (range_at lmc e m) → m < n → (k : ℕ) × IsIn (range_at lmc e m) k × WasTaken lmc cells earlier given k
       none_skipped earlier later e n m stands nothing f l =
           let met = lesser_met (room cells) lmc (ranges_of lmc (kept lmc cells)) (kept lmc cells) given hands earlier later e n m stands (is_other e nothing) f l in
@@ -122,7 +122,7 @@ module _ (lmc : ℕ) (cells : Cells) where
           }
 
 -- what was found is below the room
-pub found_in_room : (lmc : ℕ) (cells : Cells) (given : Placed) → Some given ≡ handed_out lmc cells → (e : EndPort) (n : ℕ) → Contains given (e, n) → n + width_of lmc e ≤ room cells
+pub found_in_room : (lmc : ℕ) (cells : Cells) (given : GivenLids) → Some given ≡ handed_out lmc cells → (e : EndPort) (n : ℕ) → Contains given (e, n) → n + width_of lmc e ≤ room cells
 found_in_room lmc cells given found e n h =
     (each_fits lmc cells given (hands_from (room cells) lmc (ranges_of lmc (kept lmc cells)) (kept lmc cells) given (sym found)) e n h).in_room
 

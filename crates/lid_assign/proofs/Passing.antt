@@ -3,7 +3,7 @@ use Rattle.std.proofs.Common.{◌≡◌, ◌<◌, ◌≤◌, ◌+◌, ◌*◌, �
 use Rattle.std.proofs.lemmas.Bool.{both_ways, cases_eq, cases_lt, or_parts}
 use Rattle.std.proofs.lemmas.Nat.{mod-mul-add, pow_pos}
 use Rattle.std.specs.Prelude.{Option, Some}
-use Rattle.lid_assign.specs.declared.give.Next.{Next}
+use Rattle.lid_assign.specs.declared.hand_out.Next.{Next}
 use Rattle.lid_assign.specs.Ranges.{Range, fits, Fits}
 use Rattle.lid_assign.specs.Marks.{is_marked, any_marked, from_on, is_in_some, AreMarkedMore, IsUnmarked, NoneUnmarked, IsLeastUnmarked, IsPassed, ArePassed}
 use Rattle.lid_assign.proofs.Marking.{marked_at, none_marked, not_marked}

@@ -20,7 +20,7 @@ use Rattle.subnet_view.proofs.Members.{contains_in}
 use Rattle.subnet_view.specs.declared.end_port.EndPort.{EndPort}
 use Rattle.lid_assign.specs.Ranges.{width_of, range_at, is_in}
 use Rattle.lid_assign.specs.Lids.{has_number, is_end_port_at, is_lid, top_among, last_of, greatest}
-use Rattle.lid_assign.specs.Indexed.{AreOwners, AreOwnersMore, AreLidMarks, AreBelow, ByPort, place_cmp}
+use Rattle.lid_assign.specs.Indexed.{AreOwners, AreOwnersMore, AreLidMarks, AreBelow, ByPort, node_port_cmp}
 
 -- the last of a list, which a step back takes
 pub stepped : {X : Type 0} (before after : List X) (r : X) (P : Type 0) (x : Option (Bor X)) → MatchOption x P (λ b. before ≡ push after b.now) → Some r ≡ option_copied x
@@ -55,7 +55,7 @@ marks_more given marks p lid k e h are n =
       | false ↦ λ q. get_or-set_other marks k n true false (λ same. true≢false (sym (eq-eqb lid n (sym (same ∙ e))) ∙ q)) ∙ are n
     ] refl
 
--- a place more
+-- an entry more
 same_number : (a b : ℕ) → is_eq (nat_cmp a b) ≡ (b == a)
 same_number a b =
     both_ways (is_eq (nat_cmp a b)) (b == a) (λ h. eq-eqb b a (sym (nat_cmp-IsAntisymmetric a b (equal_from_test (nat_cmp a b) h))))
@@ -70,11 +70,11 @@ either : (b : Bool) (x : EndPort × ℕ) (o : Option (EndPort × ℕ)) → cond 
 either true x o = refl
 either false x o = refl
 
-pub lids_more : (given : List (EndPort × ℕ)) (lids new : BTreeMap (ℕ × ℕ) ℕ) (p : EndPort) (lid : ℕ) → ByPort given lids → Updates place_cmp lids new (p.node, p.port) (Some lid)
+pub lids_more : (given : List (EndPort × ℕ)) (lids new : BTreeMap (ℕ × ℕ) ℕ) (p : EndPort) (lid : ℕ) → ByPort given lids → Updates node_port_cmp lids new (p.node, p.port) (Some lid)
     → ByPort ((p, lid) ∷ given) new
 lids_more given lids new p lid by u e =
-    let place = eq_then (nat_cmp p.node e.node) (nat_cmp p.port e.port) ∙ (λ i. same_number p.node e.node i && same_number p.port e.port i) in
-    u.0 (e.node, e.port) ∙ (λ i. cond (place i) (Some lid) (by e i)) ∙ either (is_end_port_at e (p, lid)) (p, lid) (find (is_end_port_at e) given)
+    let key_is = eq_then (nat_cmp p.node e.node) (nat_cmp p.port e.port) ∙ (λ i. same_number p.node e.node i && same_number p.port e.port i) in
+    u.0 (e.node, e.port) ∙ (λ i. cond (key_is i) (Some lid) (by e i)) ∙ either (is_end_port_at e (p, lid)) (p, lid) (find (is_end_port_at e) given)
 
 -- those to come are below the bound, and so is the next
 module _ (bound lmc : ℕ) (before after : List (EndPort × ℕ)) (p : EndPort) (lid : ℕ) (step : before ≡ after ++ (p, lid) ∷ []) (below : AreBelow bound lmc before) where

@@ -15,7 +15,7 @@ use Rattle.lid_assign.specs.Ranges.{width_of, Range, range_at, meets, IsIn, IsIn
 use Rattle.lid_assign.specs.Lids.{room, kept, least_open, handed_out, lids, is_no_room, Keeps, KeepsNothing, AreLids, LidsAreUnique, NoRoomLaw, OthersRise}
 use Rattle.lid_assign.proofs.Ranges.{some_width, meets_at, common_number}
 use Rattle.lid_assign.proofs.KeptClaims.{Ports, kept_from_keeps, keeps_from_kept, with_kept_has, ports-with_kept}
-use Rattle.lid_assign.proofs.HandOut.{Placed, numbers_of, IsBlocked, Hands, hands_to, is_least_open}
+use Rattle.lid_assign.proofs.HandOut.{GivenLids, numbers_of, IsBlocked, Hands, hands_to, is_least_open}
 use Rattle.lid_assign.proofs.LidLaws.{ranges_of, range_among, among_ranges, lids_law}
 
 -- an element and what comes before it are different, also by what a function makes of them
@@ -23,7 +23,7 @@ once : {X Y : Type 0} (f : X → Y) (before after : List X) (x y : X) → Apart 
 once {X} {Y} f before after x y a h e =
     before_apart (map f before) (map f after) (f x) (subst (λ (ys : List Y). Apart ys) (map-append f before (x ∷ after)) a) (contains_as (map f before) e (contains_map f before y h))
 
-module _ (lmc : ℕ) (cells : Cells) (distinct : Apart (end_ports cells)) (given : Placed) (law : AreLids lmc cells given) where
+module _ (lmc : ℕ) (cells : Cells) (distinct : Apart (end_ports cells)) (given : GivenLids) (law : AreLids lmc cells given) where
   kept_of : (e : EndPort) (n : ℕ) → Contains given (e, n) → (o : Option ℕ) × Contains (kept lmc cells) (e, o)
   kept_of e n h = with_kept_has lmc cells [] (end_ports cells) e (contains_in e law.end_ports_in_order (contains_map (λ (x : EndPort × ℕ). x.0) given (e, n) h))
 
@@ -44,12 +44,12 @@ module _ (lmc : ℕ) (cells : Cells) (distinct : Apart (end_ports cells)) (given
   once_given = subst (λ (es : List EndPort). Apart es) (sym law.end_ports_in_order) distinct
 
   -- the ranges that are taken where these end ports have their LIDs
-  record AreTakenBy (before : Placed) (taken : List Range) : Type 0 where
+  record AreTakenBy (before : GivenLids) (taken : List Range) : Type 0 where
     from : (r : Range) → Contains taken r → (x : EndPort × ℕ) × (r ≡ numbers_of lmc x) × (Contains before x ⊎ Contains (kept lmc cells) (x.0, Some x.1))
     has_before : (x : EndPort × ℕ) → Contains before x → Contains taken (numbers_of lmc x)
     has_kept : (e : EndPort) (c : ℕ) → Contains (kept lmc cells) (e, Some c) → Contains taken (range_at lmc e c)
 
-  module _ (before after : Placed) (e : EndPort) (n : ℕ) (stands : given ≡ before ++ (e, n) ∷ after) where
+  module _ (before after : GivenLids) (e : EndPort) (n : ℕ) (stands : given ≡ before ++ (e, n) ∷ after) where
     stands_there : Contains given (e, n)
     stands_there = contains_in (e, n) (sym stands) (contains_at before after (e, n))
 
@@ -93,7 +93,7 @@ module _ (lmc : ℕ) (cells : Cells) (distinct : Apart (end_ports cells)) (given
               | inl b ↦
                   let there = contains_in x.0 (sym stands) (Contains-append_left before ((e, n) ∷ after) x.0 b) in
                   let same : e ≡ x.0.0 = law.apart e x.0.0 n x.0.1 k.0 stands_there there k.1 in
-                  once (λ (y : EndPort × ℕ). y.0) before after (e, n) x.0 (subst (λ (g : Placed). Apart (map (λ y. y.0) g)) stands once_given) b (sym same)
+                  once (λ (y : EndPort × ℕ). y.0) before after (e, n) x.0 (subst (λ (g : GivenLids). Apart (map (λ y. y.0) g)) stands once_given) b (sym same)
               | inr b ↦ meets_kept x.0 b k.0 k.1
             ])
           where
@@ -117,7 +117,7 @@ module _ (lmc : ℕ) (cells : Cells) (distinct : Apart (end_ports cells)) (given
             ] in
             (range_at lmc w.by w.lid, there, meets_at (range_at lmc e m) (range_at lmc w.by w.lid) k.0 k.1 w.is_its)
 
-  unique_from : (ports : Ports) (before after : Placed) (taken : List Range) → given ≡ before ++ after → map (λ x. x.0) after ≡ map (λ x. x.0) ports
+  unique_from : (ports : Ports) (before after : GivenLids) (taken : List Range) → given ≡ before ++ after → map (λ x. x.0) after ≡ map (λ x. x.0) ports
       → ((x : EndPort × Option ℕ) → Contains ports x → Contains (kept lmc cells) x) → AreTakenBy before taken → Hands (room cells) lmc taken ports after
   unique_from [] before [] taken q s sub by = tt
   unique_from [] before (x ∷ after) taken q s sub by = absurd (cc)
@@ -179,7 +179,7 @@ others_rise lmc facts given earlier middle later e f n m law stands widths nothi
     let there_e : Contains given (e, n) = contains_in (e, n) (sym later_is) (contains_at earlier (middle ++ (f, m) ∷ later) (e, n)) in
     let there_f : Contains given (f, m) = contains_in (f, m) (sym stands) (contains_at (earlier ++ (e, n) ∷ middle) later (f, m)) in
     let before_f : Contains (earlier ++ (e, n) ∷ middle) (e, n) = contains_at earlier middle (e, n) in
-    let apart_f = subst (λ (g : Placed). Apart (map (λ (y : EndPort × ℕ). y.0) g)) stands once_given in
+    let apart_f = subst (λ (g : GivenLids). Apart (map (λ (y : EndPort × ℕ). y.0) g)) stands once_given in
     let differ : (x : EndPort × ℕ) → Contains (earlier ++ (e, n) ∷ middle) x → x.0 ≡ f → ⊥ = λ x h q. once (λ (y : EndPort × ℕ). y.0) (earlier ++ (e, n) ∷ middle) later (f, m) x apart_f h q in
     let same_range : (k : ℕ) → range_at lmc e k ≡ range_at lmc f k = λ k i. record { first = k; width = widths i } in
     elim (cases_order n m) [

@@ -29,16 +29,16 @@ abbrev pub AreBelow : ℕ → ℕ → List (EndPort × ℕ) → Type 0
 AreBelow bound lmc given = (e : EndPort) (n : ℕ) → Contains given (e, n) → n + width_of lmc e ≤ bound
 
 -- the order of nodes and ports
-abbrev pub place_cmp : ℕ × ℕ → ℕ × ℕ → Ordering
-place_cmp a b = ordering_then (nat_cmp a.0 b.0) (nat_cmp a.1 b.1)
+abbrev pub node_port_cmp : ℕ × ℕ → ℕ × ℕ → Ordering
+node_port_cmp a b = ordering_then (nat_cmp a.0 b.0) (nat_cmp a.1 b.1)
 
 -- the table has at each node and port the LID of that end port
 abbrev pub ByPort : List (EndPort × ℕ) → BTreeMap (ℕ × ℕ) ℕ → Type 0
-ByPort given lids = (e : EndPort) → get place_cmp lids (e.node, e.port) ≡ lid_among given e
+ByPort given lids = (e : EndPort) → get node_port_cmp lids (e.node, e.port) ≡ lid_among given e
 
 -- a map's tables
 pub record IsIndexed (given : Given) (owners : List (Option EndPort)) (lids : BTreeMap (ℕ × ℕ) ℕ) (top : Option ℕ) (rising : List ℕ) : Type 0 where
   pub owned : AreOwners given owners
-  pub placed : ByPort given.ports lids
+  pub has_lids : ByPort given.ports lids
   pub greatest : top ≡ top_of given
   pub rise : rising ≡ rising_lids given

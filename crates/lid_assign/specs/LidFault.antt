@@ -20,7 +20,7 @@ is_memory Memory = true
 abbrev pub no_room : ℕ → Cells → Option Room
 no_room lmc cells = if is_no_room lmc cells then Some (record { endports = length (end_ports cells); room = room cells }) else None
 
--- why no LIDs are given, want of memory aside
+-- why no LIDs are given, memory aside
 abbrev pub lid_fault : Option Room → Option LidFault
 lid_fault None = None
 lid_fault (Some why) = Some (NoRoom why)

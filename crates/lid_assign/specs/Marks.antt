@@ -3,7 +3,7 @@ use Rattle.std.specs.Prelude.{◌≡◌, ◌<◌, ◌≤◌, ◌+◌, ◌%◌, �
 use Rattle.std.specs.Option.{option_map_or}
 use Rattle.std.specs.List.{list_any}
 use Rattle.subnet_view.specs.declared.end_port.EndPort.{EndPort}
-use Rattle.lid_assign.specs.declared.give.Next.{Next}
+use Rattle.lid_assign.specs.declared.hand_out.Next.{Next}
 use Rattle.lid_assign.specs.Ranges.{Range, is_in, fits}
 use Rattle.lid_assign.specs.Lids.{count_up}
 

@@ -2,17 +2,17 @@
 //! are left.
 #![tactic(auto)]
 
+mod assignment;
 mod fault;
-mod give;
-mod in_turn;
-mod keep;
+mod hand_out;
+mod keep_claims;
 pub mod laws;
 mod lid_map;
-mod lids;
-mod marks;
+mod lid_marks;
 mod room;
+mod without_memory;
 
+pub use assignment::assign;
 pub use fault::{LidFault, NoRoom};
 pub use lid_map::LidMap;
-pub use lids::assign;
 pub use room::no_room;

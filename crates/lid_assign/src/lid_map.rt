@@ -3,7 +3,7 @@ ghost use Rattle.lid_assign.specs.Ranges.{range_at, width_of};
 ghost use Rattle.lid_assign.specs.Lids.{owner_of, lid_of, lmc_of, top_of, top_among, end_of, last_of, rising_lids};
 ghost use Rattle.lid_assign.specs.Indexed.{AreOwners, AreOwnersMore, AreLidMarks, AreBelow, ByPort, marked_from};
 
-use crate::marks::{lmc_at, width};
+use crate::lid_marks::{lmc_at, width};
 use attr_codec::Lmc;
 use smp_bytes::{Guid, Lid, PortNum};
 use std::alloc::{AllocError, Global};

@@ -6,7 +6,7 @@ ghost use Rattle.lid_assign.specs.Lids.{is_no_room, room};
 ghost use Rattle.lid_assign.specs.Rooms.{usable_cap};
 
 use crate::fault::NoRoom;
-use crate::in_turn::runs_out;
+use crate::without_memory::runs_out;
 use attr_codec::Lmc;
 use fact_store::{Sighting, Store};
 use subnet_view::{cap, count_end_ports, usable_guid};

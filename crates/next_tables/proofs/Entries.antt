@@ -12,12 +12,12 @@ use Rattle.plan_file.specs.Held.{HeldPlan}
 use Rattle.audit.specs.declared.end.Cause.TheVariants.{NoEntry}
 use Rattle.audit.specs.declared.end.End.{End}
 use Rattle.audit.specs.declared.end.End.TheVariants.{Taken, Lost}
-use Rattle.audit.specs.declared.step.Step.{Step}
-use Rattle.audit.specs.declared.step.Step.TheVariants.{To, Ends}
+use Rattle.audit.specs.declared.next_hop.NextHop.{NextHop}
+use Rattle.audit.specs.declared.next_hop.NextHop.TheVariants.{To, Ends}
 use Rattle.audit.specs.Network.{row_of}
 use Rattle.audit.specs.Tables.{owners_of, entry_for}
-use Rattle.audit.specs.Walks.{after, end_of, is_to}
-use Rattle.audit.specs.Steps.{by_entry, cause_of, is_at, steps_of}
+use Rattle.audit.specs.WalkEnds.{after, end_of, is_to}
+use Rattle.audit.specs.NextHops.{by_entry, cause_of, is_at, next_hops_of}
 use Rattle.audit.proofs.InTime.{one_end, ends_in_time}
 use Rattle.audit.proofs.Judged.{at_is, same_itself}
 use Rattle.next_tables.specs.Next.{step_at, comes_to, agreed_at, agreed, leads_on, delivers, patch_entry, patch_at, mending_at, mending, mends, next_entry, IsNext}
@@ -38,16 +38,16 @@ member (g ∷ gs) zero h = contains_here g gs
 member (g ∷ gs) (suc i) h = contains_later g (slice_index_or gs i 0) gs (member gs i (omega arith))
 
 -- whether a walk comes to the port
-found_end : (s : Step) (e : End) → end_of s ≡ Some e → s ≡ Ends e
+found_end : (s : NextHop) (e : End) → end_of s ≡ Some e → s ≡ Ends e
 found_end (To i) e h = absurd (cc)
 found_end (Ends x) e h = ap (λ y. Ends y) (same_Some x e h)
 
-pub comes_true : (port : EndPort) (steps : List Step) (s : Step) → comes_to port steps s ≡ true → Comes port (map plain steps) (plain s)
+pub comes_true : (port : EndPort) (steps : List NextHop) (s : NextHop) → comes_to port steps s ≡ true → Comes port (map plain steps) (plain s)
 comes_true port steps s h =
     let end = found_end (after (length steps) steps s) (Taken port) (at_is port (end_of (after (length steps) steps s)) h) in
     (length steps, plain_after (length steps) steps s ∙ ap plain end)
 
-pub comes_false : (port : EndPort) (steps : List Step) (s : Step) → comes_to port steps s ≡ false → Comes port (map plain steps) (plain s) → ⊥
+pub comes_false : (port : EndPort) (steps : List NextHop) (s : NextHop) → comes_to port steps s ≡ false → Comes port (map plain steps) (plain s) → ⊥
 comes_false port steps s h c =
     let there : after c.0 steps s ≡ Ends (Taken port) = plain_taken (after c.0 steps s) port (sym (plain_after c.0 steps s) ∙ c.1) in
     let end : end_of (after (length steps) steps s) ≡ Some (Taken port) =
@@ -85,19 +85,19 @@ module _ (cells : Cells) (held plan next : HeldPlan) (line : HeldLid) (same : ow
   planned i = entry_for next lid (guid i) ≡ entry_for plan lid (guid i)
 
   -- what the switches do by tables, by the agreed entries, and where it is mended
-  abbrev pub by : HeldPlan → List Step
-  by tables = map plain (steps_of cells tables lid)
+  abbrev pub by : HeldPlan → List NextHop
+  by tables = map plain (next_hops_of cells tables lid)
 
-  abbrev pub by_agreed : List Step
+  abbrev pub by_agreed : List NextHop
   by_agreed = map plain (agreed cells held plan lid)
 
-  abbrev pub by_mending : List Step
+  abbrev pub by_mending : List NextHop
   by_mending = map plain (mending cells held plan line)
 
-  pub plain_mapped : (f : ℕ → Step) (i : ℕ) → i < count → at (map plain (map f gs)) i ≡ plain (f (guid i))
+  pub plain_mapped : (f : ℕ → NextHop) (i : ℕ) → i < count → at (map plain (map f gs)) i ≡ plain (f (guid i))
   plain_mapped f i less = plain_at (map f gs) i (To i) ∙ ap plain (at_mapped f gs i (To i) less)
 
-  plain_long : (f : ℕ → Step) → length (map plain (map f gs)) ≡ count
+  plain_long : (f : ℕ → NextHop) → length (map plain (map f gs)) ≡ count
   plain_long f = length-map (map f gs) plain ∙ length-map gs f
 
   pub steps_at : (tables : HeldPlan) (i : ℕ) → i < count → at (by tables) i ≡ plain (step_at cells tables lid (guid i))
@@ -138,36 +138,36 @@ module _ (cells : Cells) (held plan next : HeldPlan) (line : HeldLid) (same : ow
   -- the four kinds, by what was tested
   leads : (i : ℕ) → i < count → leads_on cells held plan line (guid i) ≡ true → Comes port by_agreed (at (by plan) i)
   leads i less h =
-      subst (λ (s : Step). Comes port by_agreed s) (sym (steps_at plan i less))
+      subst (λ (s : NextHop). Comes port by_agreed s) (sym (steps_at plan i less))
       (comes_true port (agreed cells held plan lid) (step_at cells plan lid (guid i)) h)
 
   leads_not : (i : ℕ) → i < count → leads_on cells held plan line (guid i) ≡ false → Comes port by_agreed (at (by plan) i) → ⊥
   leads_not i less h c =
       comes_false port (agreed cells held plan lid) (step_at cells plan lid (guid i)) h
-      (subst (λ (s : Step). Comes port by_agreed s) (steps_at plan i less) c)
+      (subst (λ (s : NextHop). Comes port by_agreed s) (steps_at plan i less) c)
 
   good : (i : ℕ) → i < count → delivers cells held line (guid i) ≡ true → Comes port (by held) (at (by held) i)
   good i less h =
-      subst (λ (s : Step). Comes port (by held) s) (sym (steps_at held i less))
-      (comes_true port (steps_of cells held lid) (step_at cells held lid (guid i)) h)
+      subst (λ (s : NextHop). Comes port (by held) s) (sym (steps_at held i less))
+      (comes_true port (next_hops_of cells held lid) (step_at cells held lid (guid i)) h)
 
   good_not : (i : ℕ) → i < count → delivers cells held line (guid i) ≡ false → Comes port (by held) (at (by held) i) → ⊥
   good_not i less h c =
-      comes_false port (steps_of cells held lid) (step_at cells held lid (guid i)) h
-      (subst (λ (s : Step). Comes port (by held) s) (steps_at held i less) c)
+      comes_false port (next_hops_of cells held lid) (step_at cells held lid (guid i)) h
+      (subst (λ (s : NextHop). Comes port (by held) s) (steps_at held i less) c)
 
   mending_is : (i : ℕ) → i < count → at by_mending i ≡ plain (mending_at cells held plan line (guid i))
   mending_is i less = plain_mapped (mending_at cells held plan line) i less
 
   mended : (i : ℕ) → i < count → mends cells held plan line (guid i) ≡ true → Comes port by_mending (at by_mending i)
   mended i less h =
-      subst (λ (s : Step). Comes port by_mending s) (sym (mending_is i less))
+      subst (λ (s : NextHop). Comes port by_mending s) (sym (mending_is i less))
       (comes_true port (mending cells held plan line) (mending_at cells held plan line (guid i)) h)
 
   mended_not : (i : ℕ) → i < count → mends cells held plan line (guid i) ≡ false → Comes port by_mending (at by_mending i) → ⊥
   mended_not i less h c =
       comes_false port (mending cells held plan line) (mending_at cells held plan line (guid i)) h
-      (subst (λ (s : Step). Comes port by_mending s) (mending_is i less) c)
+      (subst (λ (s : NextHop). Comes port by_mending s) (mending_is i less) c)
 
   patch_is : (i : ℕ) → i < count → plain (patch_at cells held plan lid (guid i)) ≡ patch (by held) (by plan) i
   patch_is i less =

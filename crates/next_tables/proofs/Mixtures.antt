@@ -6,80 +6,80 @@ use Rattle.subnet_view.specs.declared.end_port.EndPort.{EndPort}
 use Rattle.audit.specs.declared.end.Cause.TheVariants.{NoEntry}
 use Rattle.audit.specs.declared.end.End.{End}
 use Rattle.audit.specs.declared.end.End.TheVariants.{Taken, Lost}
-use Rattle.audit.specs.declared.step.Step.{Step}
-use Rattle.audit.specs.declared.step.Step.TheVariants.{To, Ends}
-use Rattle.audit.specs.Walks.{onward, after, is_to}
+use Rattle.audit.specs.declared.next_hop.NextHop.{NextHop}
+use Rattle.audit.specs.declared.next_hop.NextHop.TheVariants.{To, Ends}
+use Rattle.audit.specs.WalkEnds.{onward, after, is_to}
 use Rattle.audit.proofs.Ended.{after_ended, past}
 use Rattle.next_tables.specs.Mixtures.{after_by}
 use Rattle.next_tables.proofs.Plain.{dropped}
 
 -- what a switch does
-abbrev pub at : List Step → ℕ → Step
+abbrev pub at : List NextHop → ℕ → NextHop
 at steps i = slice_index_or steps i (To i)
 
 -- a packet comes to the port
-abbrev pub Comes : EndPort → List Step → Step → Type 0
+abbrev pub Comes : EndPort → List NextHop → NextHop → Type 0
 Comes port steps s = (n : ℕ) × (after n steps s ≡ Ends (Taken port))
 
-abbrev pub ComesBy : EndPort → (ℕ → List Step) → Step → Type 0
+abbrev pub ComesBy : EndPort → (ℕ → List NextHop) → NextHop → Type 0
 ComesBy port mixed s = (n : ℕ) × (after_by n mixed s ≡ Ends (Taken port))
 
-abbrev pub EndsBy : (ℕ → List Step) → Step → Type 0
+abbrev pub EndsBy : (ℕ → List NextHop) → NextHop → Type 0
 EndsBy mixed s = (e : End) × (n : ℕ) × (after_by n mixed s ≡ Ends e)
 
 -- as the held tables have it where they send it on, and else as the plan
-abbrev pub patch : List Step → List Step → ℕ → Step
+abbrev pub patch : List NextHop → List NextHop → ℕ → NextHop
 patch held plan i = cond (is_to (at held i)) (at held i) (at plan i)
 
 -- what the agreed entries do
-abbrev pub Agreed : List Step → List Step → List Step → ℕ → Type 0
+abbrev pub Agreed : List NextHop → List NextHop → List NextHop → ℕ → Type 0
 Agreed held plan agreed i = ((at agreed i ≡ at plan i) × (at held i ≡ at plan i)) ⊎ ((g : ℕ) × (at agreed i ≡ dropped g))
 
 -- what the next entry is
-pub record Led (port : EndPort) (plan agreed next : List Step) (planned : ℕ → Type 0) (i : ℕ) : Type 0 where
+pub record Led (port : EndPort) (plan agreed next : List NextHop) (planned : ℕ → Type 0) (i : ℕ) : Type 0 where
   pub leads : Comes port agreed (at plan i)
   pub is : at next i ≡ at plan i
   pub entry : planned i
 
-pub record Kept (port : EndPort) (held plan agreed next : List Step) (i : ℕ) : Type 0 where
+pub record Kept (port : EndPort) (held plan agreed next : List NextHop) (i : ℕ) : Type 0 where
   pub not_led : Comes port agreed (at plan i) → ⊥
   pub delivers : Comes port held (at held i)
   pub is : at next i ≡ at held i
 
-pub record Patched (port : EndPort) (held plan agreed mending next : List Step) (i : ℕ) : Type 0 where
+pub record Patched (port : EndPort) (held plan agreed mending next : List NextHop) (i : ℕ) : Type 0 where
   pub not_led : Comes port agreed (at plan i) → ⊥
   pub broken : Comes port held (at held i) → ⊥
   pub mends : Comes port mending (at mending i)
   pub is : at next i ≡ patch held plan i
 
-pub record Emptied (port : EndPort) (held plan agreed mending : List Step) (i : ℕ) : Type 0 where
+pub record Emptied (port : EndPort) (held plan agreed mending : List NextHop) (i : ℕ) : Type 0 where
   pub not_led : Comes port agreed (at plan i) → ⊥
   pub broken : Comes port held (at held i) → ⊥
   pub mends_not : Comes port mending (at mending i) → ⊥
 
 -- the next entry, of the four kinds
-abbrev pub Choice : EndPort → List Step → List Step → List Step → List Step → List Step → (ℕ → Type 0) → ℕ → Type 0
+abbrev pub Choice : EndPort → List NextHop → List NextHop → List NextHop → List NextHop → List NextHop → (ℕ → Type 0) → ℕ → Type 0
 Choice port held plan agreed mending next planned i =
     Led port plan agreed next planned i ⊎ (Kept port held plan agreed next i ⊎ (Patched port held plan agreed mending next i ⊎ Emptied port held plan agreed mending i))
 
 -- how a walk is mended
-abbrev pub Mending : EndPort → List Step → List Step → List Step → ℕ → Type 0
+abbrev pub Mending : EndPort → List NextHop → List NextHop → List NextHop → ℕ → Type 0
 Mending port held plan mending i =
     (Comes port held (at held i) × (at mending i ≡ Ends (Taken port))) ⊎ ((Comes port held (at held i) → ⊥) × (at mending i ≡ patch held plan i))
 
-abbrev pub Mix : ℕ → List Step → List Step → (ℕ → List Step) → Type 0
+abbrev pub Mix : ℕ → List NextHop → List NextHop → (ℕ → List NextHop) → Type 0
 Mix count held next mixed = (k i : ℕ) → i < count → (at (mixed k) i ≡ at held i) ⊎ (at (mixed k) i ≡ at next i)
 
 -- and a switch whose held entry drops the packet may do anything
-abbrev pub Loose : ℕ → List Step → List Step → (ℕ → List Step) → Type 0
+abbrev pub Loose : ℕ → List NextHop → List NextHop → (ℕ → List NextHop) → Type 0
 Loose count held next mixed =
     (k i : ℕ) → i < count → (at (mixed k) i ≡ at held i) ⊎ ((at (mixed k) i ≡ at next i) ⊎ ((g : ℕ) × (at held i ≡ dropped g)))
 
-loosen : (count : ℕ) (held next : List Step) (mixed : ℕ → List Step) → Mix count held next mixed → Loose count held next mixed
+loosen : (count : ℕ) (held next : List NextHop) (mixed : ℕ → List NextHop) → Mix count held next mixed → Loose count held next mixed
 loosen count held next mixed mix k i less = elim (mix k i less) [ inl e ↦ inl e | inr e ↦ inr (inl e) ]
 
 -- a switch from which a walk ends is one of them
-pub in_range : (steps : List Step) (n i : ℕ) (e : End) → after n steps (To i) ≡ Ends e → i < length steps
+pub in_range : (steps : List NextHop) (n i : ℕ) (e : End) → after n steps (To i) ≡ Ends e → i < length steps
 in_range steps zero i e h = absurd (cc)
 in_range steps (suc n) i e h =
     elim (cases_lt i (length steps)) [
@@ -87,31 +87,31 @@ in_range steps (suc n) i e h =
       | inr more ↦ in_range steps n i e (sym (ap (after n steps) (past steps i (To i) more)) ∙ h)
     ]
 
-lost_not : (n g : ℕ) (port : EndPort) (steps : List Step) → after n steps (dropped g) ≡ Ends (Taken port) → ⊥
-lost_not n g port steps h = let e : ◌≡◌ {A = Step} (dropped g) (Ends (Taken port)) = sym (after_ended n steps (Lost g NoEntry)) ∙ h in cc
+lost_not : (n g : ℕ) (port : EndPort) (steps : List NextHop) → after n steps (dropped g) ≡ Ends (Taken port) → ⊥
+lost_not n g port steps h = let e : ◌≡◌ {A = NextHop} (dropped g) (Ends (Taken port)) = sym (after_ended n steps (Lost g NoEntry)) ∙ h in cc
 
 -- the same tables all the time
-pub by_one : (n : ℕ) (steps : List Step) (s : Step) → after_by n (λ k. steps) s ≡ after n steps s
+pub by_one : (n : ℕ) (steps : List NextHop) (s : NextHop) → after_by n (λ k. steps) s ≡ after n steps s
 by_one zero steps s = refl
 by_one (suc n) steps s = by_one n steps (onward steps s)
 
-one_comes : (port : EndPort) (steps : List Step) (s : Step) → ComesBy port (λ k. steps) s → Comes port steps s
+one_comes : (port : EndPort) (steps : List NextHop) (s : NextHop) → ComesBy port (λ k. steps) s → Comes port steps s
 one_comes port steps s h = (h.0, sym (by_one h.0 steps s) ∙ h.1)
 
 -- one step before
-by_more : (port : EndPort) (mixed : ℕ → List Step) (i : ℕ) (s : Step) → at (mixed 0) i ≡ s → ComesBy port (λ k. mixed (suc k)) s → ComesBy port mixed (To i)
+by_more : (port : EndPort) (mixed : ℕ → List NextHop) (i : ℕ) (s : NextHop) → at (mixed 0) i ≡ s → ComesBy port (λ k. mixed (suc k)) s → ComesBy port mixed (To i)
 by_more port mixed i s e h = (suc h.0, ap (after_by h.0 (λ k. mixed (suc k))) e ∙ h.1)
 
-ends_more : (mixed : ℕ → List Step) (i : ℕ) (s : Step) → at (mixed 0) i ≡ s → EndsBy (λ k. mixed (suc k)) s → EndsBy mixed (To i)
+ends_more : (mixed : ℕ → List NextHop) (i : ℕ) (s : NextHop) → at (mixed 0) i ≡ s → EndsBy (λ k. mixed (suc k)) s → EndsBy mixed (To i)
 ends_more mixed i s e h = (h.0, suc h.1, ap (after_by h.1 (λ k. mixed (suc k))) e ∙ h.2)
 
-come_more : (port : EndPort) (steps : List Step) (i : ℕ) (s : Step) → at steps i ≡ s → Comes port steps s → Comes port steps (To i)
+come_more : (port : EndPort) (steps : List NextHop) (i : ℕ) (s : NextHop) → at steps i ≡ s → Comes port steps s → Comes port steps (To i)
 come_more port steps i s e h = (suc h.0, ap (after h.0 steps) e ∙ h.1)
 
-comes_ends : (port : EndPort) (mixed : ℕ → List Step) (s : Step) → ComesBy port mixed s → EndsBy mixed s
+comes_ends : (port : EndPort) (mixed : ℕ → List NextHop) (s : NextHop) → ComesBy port mixed s → EndsBy mixed s
 comes_ends port mixed s h = (Taken port, h.0, h.1)
 
-module _ (port : EndPort) (count : ℕ) (held plan agreed mending next : List Step) (planned : ℕ → Type 0)
+module _ (port : EndPort) (count : ℕ) (held plan agreed mending next : List NextHop) (planned : ℕ → Type 0)
     (held_long : length held ≡ count) (agreed_long : length agreed ≡ count) (mending_long : length mending ≡ count)
     (agree : (i : ℕ) → i < count → Agreed held plan agreed i) (choose : (i : ℕ) → i < count → Choice port held plan agreed mending next planned i)
     (mend : (i : ℕ) → i < count → Mending port held plan mending i) where
@@ -126,7 +126,7 @@ module _ (port : EndPort) (count : ℕ) (held plan agreed mending next : List St
       ]
 
   -- over entries that are the plan's already
-  pub agreed_comes : (n : ℕ) (s : Step) (mixed : ℕ → List Step) → Loose count held next mixed → after n agreed s ≡ Ends (Taken port) → ComesBy port mixed s
+  pub agreed_comes : (n : ℕ) (s : NextHop) (mixed : ℕ → List NextHop) → Loose count held next mixed → after n agreed s ≡ Ends (Taken port) → ComesBy port mixed s
   agreed_comes n (Ends e) mixed mix h = (0, sym (after_ended n agreed e) ∙ h)
   agreed_comes zero (To i) mixed mix h = absurd (cc)
   agreed_comes (suc n) (To i) mixed mix h =
@@ -145,7 +145,7 @@ module _ (port : EndPort) (count : ℕ) (held plan agreed mending next : List St
       ]
 
   -- what arrived before does so in each mixture
-  pub held_comes : (n : ℕ) (s : Step) (mixed : ℕ → List Step) → Loose count held next mixed → after n held s ≡ Ends (Taken port) → ComesBy port mixed s
+  pub held_comes : (n : ℕ) (s : NextHop) (mixed : ℕ → List NextHop) → Loose count held next mixed → after n held s ≡ Ends (Taken port) → ComesBy port mixed s
   held_comes n (Ends e) mixed mix h = (0, sym (after_ended n held e) ∙ h)
   held_comes zero (To i) mixed mix h = absurd (cc)
   held_comes (suc n) (To i) mixed mix h =
@@ -167,14 +167,14 @@ module _ (port : EndPort) (count : ℕ) (held plan agreed mending next : List St
   next_mix k i less = inr refl
 
   -- so they do by the next tables alone
-  pub agreed_next : (n : ℕ) (s : Step) → after n agreed s ≡ Ends (Taken port) → Comes port next s
+  pub agreed_next : (n : ℕ) (s : NextHop) → after n agreed s ≡ Ends (Taken port) → Comes port next s
   agreed_next n s h = one_comes port next s (agreed_comes n s (λ k. next) (loosen count held next (λ k. next) next_mix) h)
 
-  pub held_next : (n : ℕ) (s : Step) → after n held s ≡ Ends (Taken port) → Comes port next s
+  pub held_next : (n : ℕ) (s : NextHop) → after n held s ≡ Ends (Taken port) → Comes port next s
   held_next n s h = one_comes port next s (held_comes n s (λ k. next) (loosen count held next (λ k. next) next_mix) h)
 
   -- what is mended arrives by them
-  pub mending_next : (n : ℕ) (s : Step) → after n mending s ≡ Ends (Taken port) → Comes port next s
+  pub mending_next : (n : ℕ) (s : NextHop) → after n mending s ≡ Ends (Taken port) → Comes port next s
   mending_next n (Ends e) h = (0, sym (after_ended n mending e) ∙ h)
   mending_next zero (To i) h = absurd (cc)
   mending_next (suc n) (To i) h =
@@ -205,7 +205,7 @@ module _ (port : EndPort) (count : ℕ) (held plan agreed mending next : List St
       ]
 
   -- the plan's entries stay where they lead on
-  pub agreed_stays : (later : List Step) → ((i : ℕ) → i < count → planned i → at later i ≡ at plan i) → (n : ℕ) (s : Step)
+  pub agreed_stays : (later : List NextHop) → ((i : ℕ) → i < count → planned i → at later i ≡ at plan i) → (n : ℕ) (s : NextHop)
       → after n agreed s ≡ Ends (Taken port) → after n later s ≡ Ends (Taken port)
   agreed_stays later stays n (Ends e) h = after_ended n later e ∙ sym (after_ended n agreed e) ∙ h
   agreed_stays later stays zero (To i) h = absurd (cc)
@@ -238,7 +238,7 @@ module _ (port : EndPort) (count : ℕ) (held plan agreed mending next : List St
         ]
 
     -- what is mended ends in each mixture
-    pub mended_ends : (n : ℕ) (s : Step) (mixed : ℕ → List Step) → Mix count held next mixed → after n mending s ≡ Ends (Taken port) → EndsBy mixed s
+    pub mended_ends : (n : ℕ) (s : NextHop) (mixed : ℕ → List NextHop) → Mix count held next mixed → after n mending s ≡ Ends (Taken port) → EndsBy mixed s
     mended_ends n (Ends e) mixed mix h = (e, 0, refl)
     mended_ends zero (To i) mixed mix h = absurd (cc)
     mended_ends (suc n) (To i) mixed mix h =
@@ -261,13 +261,13 @@ module _ (port : EndPort) (count : ℕ) (held plan agreed mending next : List St
               ]
         ]
       where
-        held_step : (i : ℕ) (x : Step) → at held i ≡ x → (mixed : ℕ → List Step) → at (mixed 0) i ≡ at held i
+        held_step : (i : ℕ) (x : NextHop) → at held i ≡ x → (mixed : ℕ → List NextHop) → at (mixed 0) i ≡ at held i
             → (at (mixed 0) i ≡ patch held plan i → EndsBy mixed (To i)) → EndsBy mixed (To i)
         held_step i (To j) x mixed e on = on (e ∙ sym (ap (λ r. cond (is_to r) (at held i) (at plan i)) x))
         held_step i (Ends d) x mixed e on = ends_more mixed i (Ends d) (e ∙ x) (d, 0, refl)
 
     -- what ended before does so in each mixture
-    pub held_ends : (n : ℕ) (s : Step) (e : End) (mixed : ℕ → List Step) → Mix count held next mixed → after n held s ≡ Ends e → EndsBy mixed s
+    pub held_ends : (n : ℕ) (s : NextHop) (e : End) (mixed : ℕ → List NextHop) → Mix count held next mixed → after n held s ≡ Ends e → EndsBy mixed s
     held_ends n (Ends d) e mixed mix h = (d, 0, refl)
     held_ends zero (To i) e mixed mix h = absurd (cc)
     held_ends (suc n) (To i) e mixed mix h =
@@ -289,7 +289,7 @@ module _ (port : EndPort) (count : ℕ) (held plan agreed mending next : List St
 
   -- where each switch delivers or drops, all that the plan delivers is mended
   pub plan_mended : ((i : ℕ) → i < count → is_to (at held i) ≡ true → Comes port held (at held i)) → length plan ≡ count
-      → (n : ℕ) (s : Step) → after n plan s ≡ Ends (Taken port) → Comes port mending s
+      → (n : ℕ) (s : NextHop) → after n plan s ≡ Ends (Taken port) → Comes port mending s
   plan_mended ready long n (Ends e) h = (0, sym (after_ended n plan e) ∙ h)
   plan_mended ready long zero (To i) h = absurd (cc)
   plan_mended ready long (suc n) (To i) h =

@@ -9,67 +9,67 @@ use Rattle.audit.specs.declared.end.Cause.{Cause}
 use Rattle.audit.specs.declared.end.Cause.TheVariants.{NoEntry}
 use Rattle.audit.specs.declared.end.End.{End}
 use Rattle.audit.specs.declared.end.End.TheVariants.{Taken, Lost}
-use Rattle.audit.specs.declared.far.Far.{Far}
-use Rattle.audit.specs.declared.far.Far.TheVariants.{Nothing, Switch, Port}
-use Rattle.audit.specs.declared.step.Step.{Step}
-use Rattle.audit.specs.declared.step.Step.TheVariants.{To, Ends}
+use Rattle.audit.specs.declared.far_end.Far.{Far}
+use Rattle.audit.specs.declared.far_end.Far.TheVariants.{Nothing, Switch, Port}
+use Rattle.audit.specs.declared.next_hop.NextHop.{NextHop}
+use Rattle.audit.specs.declared.next_hop.NextHop.TheVariants.{To, Ends}
 use Rattle.audit.specs.Network.{far_of, row_of}
-use Rattle.audit.specs.Walks.{after, onward, is_to}
-use Rattle.audit.specs.Steps.{by_entry, over}
+use Rattle.audit.specs.WalkEnds.{after, onward, is_to}
+use Rattle.audit.specs.NextHops.{by_entry, over}
 use Rattle.next_tables.specs.Mixtures.{after_by}
 
-abbrev pub dropped : ℕ → Step
+abbrev pub dropped : ℕ → NextHop
 dropped g = Ends (Lost g NoEntry)
 
-abbrev pub plain : Step → Step
+abbrev pub plain : NextHop → NextHop
 plain (To i) = To i
 plain (Ends (Taken e)) = Ends (Taken e)
 plain (Ends (Lost g cause)) = dropped g
 
 -- of lists, and along walks
-pub plain_at : (steps : List Step) (i : ℕ) (s : Step) → slice_index_or (map plain steps) i (plain s) ≡ plain (slice_index_or steps i s)
+pub plain_at : (steps : List NextHop) (i : ℕ) (s : NextHop) → slice_index_or (map plain steps) i (plain s) ≡ plain (slice_index_or steps i s)
 plain_at [] i s = refl
 plain_at (x ∷ steps) zero s = refl
 plain_at (x ∷ steps) (suc i) s = plain_at steps i s
 
-plain_onward : (steps : List Step) (s : Step) → onward (map plain steps) (plain s) ≡ plain (onward steps s)
+plain_onward : (steps : List NextHop) (s : NextHop) → onward (map plain steps) (plain s) ≡ plain (onward steps s)
 plain_onward steps (To i) = plain_at steps i (To i)
 plain_onward steps (Ends (Taken e)) = refl
 plain_onward steps (Ends (Lost g cause)) = refl
 
-pub plain_after : (n : ℕ) (steps : List Step) (s : Step) → after n (map plain steps) (plain s) ≡ plain (after n steps s)
+pub plain_after : (n : ℕ) (steps : List NextHop) (s : NextHop) → after n (map plain steps) (plain s) ≡ plain (after n steps s)
 plain_after zero steps s = refl
 plain_after (suc n) steps s = ap (after n (map plain steps)) (plain_onward steps s) ∙ plain_after n steps (onward steps s)
 
-pub plain_after_by : (n : ℕ) (steps : ℕ → List Step) (s : Step) → after_by n (λ k. map plain (steps k)) (plain s) ≡ plain (after_by n steps s)
+pub plain_after_by : (n : ℕ) (steps : ℕ → List NextHop) (s : NextHop) → after_by n (λ k. map plain (steps k)) (plain s) ≡ plain (after_by n steps s)
 plain_after_by zero steps s = refl
 plain_after_by (suc n) steps s =
     ap (after_by n (λ k. map plain (steps (suc k)))) (plain_onward (steps 0) s) ∙ plain_after_by n (λ k. steps (suc k)) (onward (steps 0) s)
 
 -- what they come to
-pub plain_taken : (s : Step) (port : EndPort) → plain s ≡ Ends (Taken port) → s ≡ Ends (Taken port)
+pub plain_taken : (s : NextHop) (port : EndPort) → plain s ≡ Ends (Taken port) → s ≡ Ends (Taken port)
 plain_taken (To i) port h = absurd (cc)
 plain_taken (Ends (Taken e)) port h = h
 plain_taken (Ends (Lost g cause)) port h = absurd (cc)
 
-pub plain_ended : (s : Step) (e : End) → plain s ≡ Ends e → (x : End) × (s ≡ Ends x)
+pub plain_ended : (s : NextHop) (e : End) → plain s ≡ Ends e → (x : End) × (s ≡ Ends x)
 plain_ended (To i) e h = absurd (cc)
 plain_ended (Ends x) e h = (x, refl)
 
-pub plain_end : (s : Step) (e : End) → s ≡ Ends e → (x : End) × (plain s ≡ Ends x)
+pub plain_end : (s : NextHop) (e : End) → s ≡ Ends e → (x : End) × (plain s ≡ Ends x)
 plain_end (To i) e h = absurd (cc)
 plain_end (Ends (Taken x)) e h = (Taken x, refl)
 plain_end (Ends (Lost g cause)) e h = (Lost g NoEntry, refl)
 
-pub plain_lost : (s : Step) (g : ℕ) (cause : Cause) → s ≡ Ends (Lost g cause) → plain s ≡ dropped g
+pub plain_lost : (s : NextHop) (g : ℕ) (cause : Cause) → s ≡ Ends (Lost g cause) → plain s ≡ dropped g
 plain_lost s g cause h = ap plain h
 
-pub plain_is_to : (s : Step) → is_to (plain s) ≡ is_to s
+pub plain_is_to : (s : NextHop) → is_to (plain s) ≡ is_to s
 plain_is_to (To i) = refl
 plain_is_to (Ends (Taken e)) = refl
 plain_is_to (Ends (Lost g cause)) = refl
 
-pub plain_cond : (b : Bool) (x y : Step) → plain (cond b x y) ≡ cond b (plain x) (plain y)
+pub plain_cond : (b : Bool) (x y : NextHop) → plain (cond b x y) ≡ cond b (plain x) (plain y)
 plain_cond true x y = refl
 plain_cond false x y = refl
 

@@ -10,12 +10,12 @@ use Rattle.plan_file.specs.Held.{HeldPlan}
 use Rattle.audit.specs.declared.end.Cause.TheVariants.{NoEntry}
 use Rattle.audit.specs.declared.end.End.{End}
 use Rattle.audit.specs.declared.end.End.TheVariants.{Taken, Lost}
-use Rattle.audit.specs.declared.step.Step.{Step}
-use Rattle.audit.specs.declared.step.Step.TheVariants.{To, Ends}
-use Rattle.audit.specs.Network.{source_of}
+use Rattle.audit.specs.declared.next_hop.NextHop.{NextHop}
+use Rattle.audit.specs.declared.next_hop.NextHop.TheVariants.{To, Ends}
+use Rattle.audit.specs.Network.{sender_of}
 use Rattle.audit.specs.Tables.{owners_of, entry_for}
-use Rattle.audit.specs.Walks.{after, is_to}
-use Rattle.audit.specs.Steps.{first_step, steps_of}
+use Rattle.audit.specs.WalkEnds.{after, is_to}
+use Rattle.audit.specs.NextHops.{first_hop, next_hops_of}
 use Rattle.audit.proofs.Ended.{after_ended}
 use Rattle.audit.proofs.HeldTables.{within_length}
 use Rattle.next_tables.specs.Next.{step_at, agreed_at, agreed, mending, IsNext}
@@ -24,31 +24,31 @@ use Rattle.next_tables.proofs.Mixtures.{at, Comes, ComesBy, EndsBy, held_comes, 
 use Rattle.next_tables.proofs.Plain.{dropped, plain, plain_after, plain_after_by, plain_end, plain_ended, plain_taken}
 use Rattle.next_tables.proofs.Entries.{plain_mapped, planned, agree, choose, mend, drops, emptied_entry, mix, loose, steps_long, agreed_long, mending_long, steps_at}
 
--- what stands at a place
-at_place : (xs : List ℕ) (i x d : ℕ) → slice_get xs i ≡ Some x → slice_index_or xs i d ≡ x
-at_place [] i x d e = cc
-at_place (y ∷ xs) zero x d e = same_Some y x e
-at_place (y ∷ xs) (suc i) x d e = at_place xs i x d e
+-- what stands at an index
+at_index : (xs : List ℕ) (i x d : ℕ) → slice_get xs i ≡ Some x → slice_index_or xs i d ≡ x
+at_index [] i x d e = cc
+at_index (y ∷ xs) zero x d e = same_Some y x e
+at_index (y ∷ xs) (suc i) x d e = at_index xs i x d e
 
 module _ (cells : Cells) (held plan next : HeldPlan) (line : HeldLid) (same : owners_of plan line.lid ≡ owners_of held line.lid)
     (is : IsNext cells held plan line next) where
   abbrev lid : ℕ
   lid = line.lid
 
-  abbrev H : List Step
-  H = map plain (steps_of cells held lid)
+  abbrev H : List NextHop
+  H = map plain (next_hops_of cells held lid)
 
-  abbrev P : List Step
-  P = map plain (steps_of cells plan lid)
+  abbrev P : List NextHop
+  P = map plain (next_hops_of cells plan lid)
 
-  abbrev A : List Step
+  abbrev A : List NextHop
   A = map plain (agreed cells held plan lid)
 
-  abbrev M : List Step
+  abbrev M : List NextHop
   M = map plain (mending cells held plan line)
 
-  abbrev N : List Step
-  N = map plain (steps_of cells next lid)
+  abbrev N : List NextHop
+  N = map plain (next_hops_of cells next lid)
 
   abbrev count : ℕ
   count = length (switches cells)
@@ -56,22 +56,22 @@ module _ (cells : Cells) (held plan next : HeldPlan) (line : HeldLid) (same : ow
   abbrev held_count : length H ≡ count
   held_count = steps_long cells held plan next line same is held
 
-  lost : (mixed : ℕ → HeldPlan) → ((k : ℕ) → IsLoose cells held next lid (mixed k)) → (n : ℕ) (s : Step) → after n H s ≡ Ends (Taken line.port)
-      → ComesBy line.port (λ k. map plain (steps_of cells (mixed k) lid)) s
+  lost : (mixed : ℕ → HeldPlan) → ((k : ℕ) → IsLoose cells held next lid (mixed k)) → (n : ℕ) (s : NextHop) → after n H s ≡ Ends (Taken line.port)
+      → ComesBy line.port (λ k. map plain (next_hops_of cells (mixed k) lid)) s
   lost mixed are n s h =
       held_comes line.port count H P A M N (planned cells held plan next line same is)
       held_count (agreed_long cells held plan next line same is) (mending_long cells held plan next line same is)
       (agree cells held plan next line same is) (choose cells held plan next line same is) (mend cells held plan next line same is)
-      n s (λ k. map plain (steps_of cells (mixed k) lid)) (loose cells held plan next line same is mixed are) h
+      n s (λ k. map plain (next_hops_of cells (mixed k) lid)) (loose cells held plan next line same is mixed are) h
 
-  round : (mixed : ℕ → HeldPlan) → ((k : ℕ) → IsMixed cells held next lid (mixed k)) → (n : ℕ) (s : Step) (e : End) → after n H s ≡ Ends e
-      → EndsBy (λ k. map plain (steps_of cells (mixed k) lid)) s
+  round : (mixed : ℕ → HeldPlan) → ((k : ℕ) → IsMixed cells held next lid (mixed k)) → (n : ℕ) (s : NextHop) (e : End) → after n H s ≡ Ends e
+      → EndsBy (λ k. map plain (next_hops_of cells (mixed k) lid)) s
   round mixed are n s e h =
       held_ends line.port count H P A M N (planned cells held plan next line same is)
       held_count (agreed_long cells held plan next line same is) (mending_long cells held plan next line same is)
       (agree cells held plan next line same is) (choose cells held plan next line same is) (mend cells held plan next line same is)
       (drops cells held plan next line same is)
-      n s e (λ k. map plain (steps_of cells (mixed k) lid)) (mix cells held plan next line same is mixed are) h
+      n s e (λ k. map plain (next_hops_of cells (mixed k) lid)) (mix cells held plan next line same is mixed are) h
 
   -- where the plan's entry leads on, it is the next one
   pub planned_there : (i : ℕ) → i < count → Comes line.port A (at P i) → planned cells held plan next line same is i
@@ -89,7 +89,7 @@ module _ (cells : Cells) (held plan next : HeldPlan) (line : HeldLid) (same : ow
       ∙ ap (λ t. plain (cond t (step_at cells plan lid g) (dropped g))) equal
       ∙ sym (steps_at cells held plan next line same is plan i less)
 
-  pub stays : (n : ℕ) (s : Step) → after n A s ≡ Ends (Taken line.port) → after n (map plain (agreed cells next plan lid)) s ≡ Ends (Taken line.port)
+  pub stays : (n : ℕ) (s : NextHop) → after n A s ≡ Ends (Taken line.port) → after n (map plain (agreed cells next plan lid)) s ≡ Ends (Taken line.port)
   stays n s h =
       agreed_stays line.port count H P A M N (planned cells held plan next line same is)
       held_count (agreed_long cells held plan next line same is) (mending_long cells held plan next line same is)
@@ -103,7 +103,7 @@ module _ (cells : Cells) (held plan next : HeldPlan) (line : HeldLid) (same : ow
       (agree cells held plan next line same is) (choose cells held plan next line same is) (mend cells held plan next line same is)
       (drops cells held plan next line same is)
 
-  pub healed : ((i : ℕ) → i < count → is_to (at H i) ≡ true → Comes line.port H (at H i)) → (n : ℕ) (s : Step) → after n P s ≡ Ends (Taken line.port)
+  pub healed : ((i : ℕ) → i < count → is_to (at H i) ≡ true → Comes line.port H (at H i)) → (n : ℕ) (s : NextHop) → after n P s ≡ Ends (Taken line.port)
       → Comes line.port N s
   healed before n s h =
       let m : Comes line.port M s =
@@ -126,37 +126,37 @@ module _ (cells : Cells) (held plan next : HeldPlan) (line : HeldLid) (same : ow
       ]
 
 -- where a packet comes, and does so but for causes
-as_plain : (steps : List Step) (port : EndPort) (n : ℕ) (s : Step) → after n steps s ≡ Ends (Taken port) → after n (map plain steps) (plain s) ≡ Ends (Taken port)
+as_plain : (steps : List NextHop) (port : EndPort) (n : ℕ) (s : NextHop) → after n steps s ≡ Ends (Taken port) → after n (map plain steps) (plain s) ≡ Ends (Taken port)
 as_plain steps port n s h = plain_after n steps s ∙ ap plain h
 
-from_plain : (steps : List Step) (port : EndPort) (n : ℕ) (s : Step) → after n (map plain steps) (plain s) ≡ Ends (Taken port) → after n steps s ≡ Ends (Taken port)
+from_plain : (steps : List NextHop) (port : EndPort) (n : ℕ) (s : NextHop) → after n (map plain steps) (plain s) ≡ Ends (Taken port) → after n steps s ≡ Ends (Taken port)
 from_plain steps port n s h = plain_taken (after n steps s) port (sym (plain_after n steps s) ∙ h)
 
 pub next_deliver_or_drop : NextDeliverOrDrop
 next_deliver_or_drop cells held plan next line same is i g at_g =
     elim (cleaned cells held plan next line same is i (within_length (switches cells) i g at_g)) [
-      | inl e ↦ inl (subst (λ (x : ℕ). entry_for next line.lid x ≡ 255) (at_place (switches cells) i g 0 at_g) e)
-      | inr c ↦ inr (c.0, from_plain (steps_of cells next line.lid) line.port c.0 (To i) c.1)
+      | inl e ↦ inl (subst (λ (x : ℕ). entry_for next line.lid x ≡ 255) (at_index (switches cells) i g 0 at_g) e)
+      | inr c ↦ inr (c.0, from_plain (next_hops_of cells next line.lid) line.port c.0 (To i) c.1)
     ]
 
 pub none_is_lost : NoneIsLost
 none_is_lost cells held plan next line same is mixed are source h =
-    let first = first_step (owners_of held line.lid) (source_of cells source) in
-    let steps : ℕ → List Step = λ k. steps_of cells (mixed k) line.lid in
-    let it = lost cells held plan next line same is mixed are h.0 (plain first) (as_plain (steps_of cells held line.lid) line.port h.0 first h.1) in
+    let first = first_hop (owners_of held line.lid) (sender_of cells source) in
+    let steps : ℕ → List NextHop = λ k. next_hops_of cells (mixed k) line.lid in
+    let it = lost cells held plan next line same is mixed are h.0 (plain first) (as_plain (next_hops_of cells held line.lid) line.port h.0 first h.1) in
     let there : after_by it.0 steps first ≡ Ends (Taken line.port) = plain_taken (after_by it.0 steps first) line.port (sym (plain_after_by it.0 steps first) ∙ it.1) in
     let now = are 0 in
-    (it.0, ap (λ os. after_by it.0 steps (first_step os (source_of cells source))) now.owners ∙ there)
+    (it.0, ap (λ os. after_by it.0 steps (first_hop os (sender_of cells source))) now.owners ∙ there)
 
 pub none_goes_round : NoneGoesRound
 none_goes_round cells held plan next line same is mixed are source end h =
-    let first = first_step (owners_of held line.lid) (source_of cells source) in
-    let steps : ℕ → List Step = λ k. steps_of cells (mixed k) line.lid in
-    let over = plain_end (after h.0 (steps_of cells held line.lid) first) end h.1 in
-    let it = round cells held plan next line same is mixed are h.0 (plain first) over.0 (plain_after h.0 (steps_of cells held line.lid) first ∙ over.1) in
+    let first = first_hop (owners_of held line.lid) (sender_of cells source) in
+    let steps : ℕ → List NextHop = λ k. next_hops_of cells (mixed k) line.lid in
+    let over = plain_end (after h.0 (next_hops_of cells held line.lid) first) end h.1 in
+    let it = round cells held plan next line same is mixed are h.0 (plain first) over.0 (plain_after h.0 (next_hops_of cells held line.lid) first ∙ over.1) in
     let last = plain_ended (after_by it.1 steps first) it.0 (sym (plain_after_by it.1 steps first) ∙ it.2) in
     let now = are 0 in
-    (last.0, (it.1, ap (λ os. after_by it.1 steps (first_step os (source_of cells source))) now.owners ∙ last.1))
+    (last.0, (it.1, ap (λ os. after_by it.1 steps (first_hop os (sender_of cells source))) now.owners ∙ last.1))
 
 -- steps in turn ------------------------------------------------------------------------
 
@@ -165,14 +165,14 @@ module _ (cells : Cells) (plan : HeldPlan) (line : HeldLid) (tables : ℕ → He
   owned zero = are.owners
   owned (suc n) = let step = are.steps n in owned n ∙ sym step.owners
 
-  abbrev by : ℕ → List Step
+  abbrev by : ℕ → List NextHop
   by n = map plain (agreed cells (tables n) plan line.lid)
 
-  abbrev P_all : List Step
-  P_all = map plain (steps_of cells plan line.lid)
+  abbrev P_all : List NextHop
+  P_all = map plain (next_hops_of cells plan line.lid)
 
   -- after n steps those from which the plan's way meets n switches have its entries all the way
-  comes_in : (n : ℕ) (s : Step) → after n P_all s ≡ Ends (Taken line.port) → after n (by n) s ≡ Ends (Taken line.port)
+  comes_in : (n : ℕ) (s : NextHop) → after n P_all s ≡ Ends (Taken line.port) → after n (by n) s ≡ Ends (Taken line.port)
   comes_in n (Ends e) h = after_ended n (by n) e ∙ sym (after_ended n P_all e) ∙ h
   comes_in zero (To i) h = absurd (cc)
   comes_in (suc n) (To i) h =
@@ -184,7 +184,7 @@ module _ (cells : Cells) (plan : HeldPlan) (line : HeldLid) (tables : ℕ → He
       ∙ stays cells (tables n) plan (tables (suc n)) line (owned n) (are.steps n) n (at P_all i) there
 
   -- and they keep them
-  more : (k n m : ℕ) (s : Step) → after n (by m) s ≡ Ends (Taken line.port) → after n (by (m + k)) s ≡ Ends (Taken line.port)
+  more : (k n m : ℕ) (s : NextHop) → after n (by m) s ≡ Ends (Taken line.port) → after n (by (m + k)) s ≡ Ends (Taken line.port)
   more zero n m s h = let e : m + 0 ≡ m = omega arith in ap (λ j. after n (by j) s) e ∙ h
   more (suc k) n m s h =
       let e : m + suc k ≡ suc m + k = omega arith in
@@ -206,7 +206,7 @@ module _ (cells : Cells) (plan : HeldPlan) (line : HeldLid) (tables : ℕ → He
         | true ↦ λ q. eqb-true (entry_for (tables m) line.lid g) (entry_for plan line.lid g) q
         | false ↦ λ q.
             let drops : at (by m) i ≡ dropped g = here ∙ ap (λ t. plain (cond t (step_at cells plan line.lid g) (dropped g))) q in
-            let over : ◌≡◌ {A = Step} (dropped g) (Ends (Taken line.port)) = sym (after_ended n (by m) (Lost g NoEntry)) ∙ sym (ap (after n (by m)) drops) ∙ h in
+            let over : ◌≡◌ {A = NextHop} (dropped g) (Ends (Taken line.port)) = sym (after_ended n (by m) (Lost g NoEntry)) ∙ sym (ap (after n (by m)) drops) ∙ h in
             absurd (cc)
       ] refl
 
@@ -215,16 +215,16 @@ module _ (cells : Cells) (plan : HeldPlan) (line : HeldLid) (tables : ℕ → He
   ends i g n m at_g h most =
       let e : n + (m - n) ≡ m = omega arith in
       let there : after n (by m) (To i) ≡ Ends (Taken line.port) = sym (ap (λ j. after n (by j) (To i)) e) ∙ more (m - n) n n (To i) (comes_in n (To i) h) in
-      subst (λ (x : ℕ). entry_for (tables m) line.lid x ≡ entry_for plan line.lid x) (at_place (switches cells) i g 0 at_g) (entry_there m n i there)
+      subst (λ (x : ℕ). entry_for (tables m) line.lid x ≡ entry_for plan line.lid x) (at_index (switches cells) i g 0 at_g) (entry_there m n i there)
 
-  pub heal : (n : ℕ) (s : Step) → after n P_all s ≡ Ends (Taken line.port) → Comes line.port (map plain (steps_of cells (tables 2) line.lid)) s
+  pub heal : (n : ℕ) (s : NextHop) → after n P_all s ≡ Ends (Taken line.port) → Comes line.port (map plain (next_hops_of cells (tables 2) line.lid)) s
   heal n s h =
       healed cells (tables 1) plan (tables 2) line (owned 1) (are.steps 1)
       (ready cells (tables 0) plan (tables 1) line (owned 0) (are.steps 0)) n s h
 
 pub end_in_the_plan : EndInThePlan
 end_in_the_plan cells plan line tables are i g n m at_g h most =
-    ends cells plan line tables are i g n m at_g (as_plain (steps_of cells plan line.lid) line.port n (To i) h) most
+    ends cells plan line tables are i g n m at_g (as_plain (next_hops_of cells plan line.lid) line.port n (To i) h) most
 
 pub still_is_the_plan : StillIsThePlan
 still_is_the_plan cells held plan line same is i g n at_g h =
@@ -232,8 +232,8 @@ still_is_the_plan cells held plan line same is i g n at_g h =
 
 pub heal_in_two : HealInTwo
 heal_in_two cells plan line tables are source h =
-    let first = first_step (owners_of plan line.lid) (source_of cells source) in
-    let it = heal cells plan line tables are h.0 (plain first) (as_plain (steps_of cells plan line.lid) line.port h.0 first h.1) in
-    let there = from_plain (steps_of cells (tables 2) line.lid) line.port it.0 first it.1 in
+    let first = first_hop (owners_of plan line.lid) (sender_of cells source) in
+    let it = heal cells plan line tables are h.0 (plain first) (as_plain (next_hops_of cells plan line.lid) line.port h.0 first h.1) in
+    let there = from_plain (next_hops_of cells (tables 2) line.lid) line.port it.0 first it.1 in
     let owners : owners_of (tables 2) line.lid ≡ owners_of plan line.lid = (are.steps 1).owners ∙ (are.steps 0).owners ∙ sym are.owners in
-    (it.0, ap (λ os. after it.0 (steps_of cells (tables 2) line.lid) (first_step os (source_of cells source))) owners ∙ there)
+    (it.0, ap (λ os. after it.0 (next_hops_of cells (tables 2) line.lid) (first_hop os (sender_of cells source))) owners ∙ there)

@@ -2,37 +2,37 @@
 use Rattle.std.proofs.Common.{◌≡◌, ℕ, ◌<◌, List, [], ◌∷◌, length, Option, None, Some, sym, ap, ◌∙◌, arith, inl, inr, ◌⊎◌}
 use Rattle.std.specs.Prelude.{slice_index_or}
 use Rattle.std.proofs.lemmas.Bool.{cases_lt}
-use Rattle.port_graph.specs.declared.exit.Exit.{Exit}
+use Rattle.port_graph.specs.declared.edge.Edge.{Edge}
 use Rattle.subnet_view.specs.Reading.{Cells, switches}
 use Rattle.plan_file.specs.Held.{HeldPlan}
-use Rattle.audit.specs.Exits.{exit_by, exits_of}
+use Rattle.audit.specs.Edges.{edge_by, edges_of}
 use Rattle.audit.specs.Network.{row_of}
 use Rattle.audit.specs.Tables.{entry_for}
-use Rattle.next_tables.specs.Mixtures.{IsMixed, WaitsAcross, MixturesWaitSo, RiseInStep, WaitsMixed, WaitOnMixed, NoCircleInStep}
+use Rattle.next_tables.specs.Mixtures.{IsMixed, WaitsAcross, MixturesWaitSo, RiseInStep, WaitsMixed, WaitOnMixed, NoCycleInStep}
 use Rattle.next_tables.proofs.Entries.{at_mapped, past_mapped, member}
 
--- an exit by a mixture is one by either
-leaves_by : (cells : Cells) (held next mixed : HeldPlan) (lid : ℕ) → IsMixed cells held next lid mixed → (i : ℕ) (exit : Exit)
-    → slice_index_or (exits_of cells mixed lid) i None ≡ Some exit
-    → (slice_index_or (exits_of cells held lid) i None ≡ Some exit) ⊎ (slice_index_or (exits_of cells next lid) i None ≡ Some exit)
-leaves_by cells held next mixed lid is i exit h =
+-- an edge by a mixture is one by either
+leaves_by : (cells : Cells) (held next mixed : HeldPlan) (lid : ℕ) → IsMixed cells held next lid mixed → (i : ℕ) (edge : Edge)
+    → slice_index_or (edges_of cells mixed lid) i None ≡ Some edge
+    → (slice_index_or (edges_of cells held lid) i None ≡ Some edge) ⊎ (slice_index_or (edges_of cells next lid) i None ≡ Some edge)
+leaves_by cells held next mixed lid is i edge h =
     let gs = switches cells in
-    let by : HeldPlan → ℕ → Option Exit = λ tables g. exit_by (row_of cells g) (entry_for tables lid g) in
+    let by : HeldPlan → ℕ → Option Edge = λ tables g. edge_by (row_of cells g) (entry_for tables lid g) in
     elim (cases_lt i (length gs)) [
       | inl less ↦
           let g : ℕ = slice_index_or gs i 0 in
-          let here : (tables : HeldPlan) → slice_index_or (exits_of cells tables lid) i None ≡ by tables g = λ tables. at_mapped (by tables) gs i None less in
+          let here : (tables : HeldPlan) → slice_index_or (edges_of cells tables lid) i None ≡ by tables g = λ tables. at_mapped (by tables) gs i None less in
           elim (is.entries g (member gs i less)) [
-            | inl e ↦ inl (here held ∙ sym (ap (exit_by (row_of cells g)) e) ∙ sym (here mixed) ∙ h)
-            | inr e ↦ inr (here next ∙ sym (ap (exit_by (row_of cells g)) e) ∙ sym (here mixed) ∙ h)
+            | inl e ↦ inl (here held ∙ sym (ap (edge_by (row_of cells g)) e) ∙ sym (here mixed) ∙ h)
+            | inr e ↦ inr (here next ∙ sym (ap (edge_by (row_of cells g)) e) ∙ sym (here mixed) ∙ h)
           ]
-      | inr more ↦ let none : slice_index_or (exits_of cells mixed lid) i None ≡ None = past_mapped (by mixed) gs i None more in absurd (cc)
+      | inr more ↦ let none : slice_index_or (edges_of cells mixed lid) i None ≡ None = past_mapped (by mixed) gs i None more in absurd (cc)
     ]
 
 pub mixtures_wait_so : MixturesWaitSo
 mixtures_wait_so cells held next before now lid b_is n_is a b w =
     let t = w.1 in
-    let across : (x y : HeldPlan) → slice_index_or (exits_of cells x lid) w.0 None ≡ Some t.first → slice_index_or (exits_of cells y lid) t.first.to None ≡ Some t.second
+    let across : (x y : HeldPlan) → slice_index_or (edges_of cells x lid) w.0 None ≡ Some t.first → slice_index_or (edges_of cells y lid) t.first.to None ≡ Some t.second
     → WaitsAcross cells x y lid a b =
     λ x y e k. (w.0, record { first = t.first; second = t.second; leaves = e; leaves_there = k; channel_is = t.channel_is; next_is = t.next_is }) in
     elim (leaves_by cells held next before lid b_is w.0 t.first t.leaves) [
@@ -55,5 +55,5 @@ module _ (cells : Cells) (held next : HeldPlan) (numbers : List ℕ) (rise : Ris
   rise_along channel last (c ∷ later) h =
       let one = one_more channel c h.0 in let more = rise_along c last later h.1 in omega arith
 
-pub no_circle_in_step : NoCircleInStep
-no_circle_in_step cells held next numbers rise channel later h = let more = rise_along cells held next numbers rise channel channel later h in omega arith
+pub no_cycle_in_step : NoCycleInStep
+no_cycle_in_step cells held next numbers rise channel later h = let more = rise_along cells held next numbers rise channel channel later h in omega arith

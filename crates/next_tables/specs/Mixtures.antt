@@ -1,7 +1,7 @@
 -- What becomes of packets while switches go over from the tables that they hold to the next ones, each block at its own time.
 use Rattle.std.specs.Prelude.{◌≡◌, ◌≤◌, ◌<◌, ◌⊎◌, ℕ, zero, suc, List, [], ◌∷◌, Contains, Option, None, Some, slice_get, slice_index_or}
-use Rattle.port_graph.specs.declared.exit.Exit.{Exit}
-use Rattle.channel_order.specs.Columns.{number_of}
+use Rattle.port_graph.specs.declared.edge.Edge.{Edge}
+use Rattle.audit_channels.specs.Columns.{number_of}
 use Rattle.subnet_view.specs.declared.end_port.EndPort.{EndPort}
 use Rattle.subnet_view.specs.Reading.{Cells, switches}
 use Rattle.plan_file.specs.declared.held.HeldLid.{HeldLid}
@@ -9,13 +9,13 @@ use Rattle.plan_file.specs.Held.{HeldPlan}
 use Rattle.audit.specs.declared.end.Cause.{Cause}
 use Rattle.audit.specs.declared.end.End.{End}
 use Rattle.audit.specs.declared.end.End.TheVariants.{Taken, Lost}
-use Rattle.audit.specs.declared.step.Step.{Step}
-use Rattle.audit.specs.declared.step.Step.TheVariants.{To, Ends}
-use Rattle.audit.specs.Exits.{exits_of}
-use Rattle.audit.specs.Network.{source_of}
+use Rattle.audit.specs.declared.next_hop.NextHop.{NextHop}
+use Rattle.audit.specs.declared.next_hop.NextHop.TheVariants.{To, Ends}
+use Rattle.audit.specs.Edges.{edges_of}
+use Rattle.audit.specs.Network.{sender_of}
 use Rattle.audit.specs.Tables.{owners_of, entry_for}
-use Rattle.audit.specs.Walks.{IsEndOf, after, onward}
-use Rattle.audit.specs.Steps.{IsBrought, first_step, steps_of}
+use Rattle.audit.specs.WalkEnds.{IsEndOf, after, onward}
+use Rattle.audit.specs.NextHops.{IsBrought, first_hop, next_hops_of}
 use Rattle.next_tables.specs.Next.{step_at, IsNext}
 
 -- tables of which each entry for the LID is of the one or of the other
@@ -24,14 +24,14 @@ pub record IsMixed (cells : Cells) (held next : HeldPlan) (lid : ℕ) (mixed : H
   pub entries : (g : ℕ) → Contains (switches cells) g → (entry_for mixed lid g ≡ entry_for held lid g) ⊎ (entry_for mixed lid g ≡ entry_for next lid g)
 
 -- so many steps further, where other steps count each time
-abbrev pub after_by : ℕ → (ℕ → List Step) → Step → Step
+abbrev pub after_by : ℕ → (ℕ → List NextHop) → NextHop → NextHop
 after_by zero steps s = s
 after_by (suc n) steps s = after_by n (λ k. steps (suc k)) (onward (steps 0) s)
 
 -- where forwarding brings a packet by tables that change: these are held when it has met so many switches
 abbrev pub IsBroughtBy : Cells → (ℕ → HeldPlan) → ℕ → EndPort → End → Type 0
 IsBroughtBy cells tables lid e end =
-    (n : ℕ) × (after_by n (λ k. steps_of cells (tables k) lid) (first_step (owners_of (tables 0) lid) (source_of cells e)) ≡ Ends end)
+    (n : ℕ) × (after_by n (λ k. next_hops_of cells (tables k) lid) (first_hop (owners_of (tables 0) lid) (sender_of cells e)) ≡ Ends end)
 
 -- and a switch that drops the packet by the held tables may do anything: its top is raised before its blocks are written
 pub record IsLoose (cells : Cells) (held next : HeldPlan) (lid : ℕ) (mixed : HeldPlan) : Type 0 where
@@ -51,7 +51,7 @@ abbrev pub NextDeliverOrDrop : Type 0
 NextDeliverOrDrop =
     (cells : Cells) (held plan next : HeldPlan) (line : HeldLid) → owners_of plan line.lid ≡ owners_of held line.lid → IsNext cells held plan line next
     → (i g : ℕ) → slice_get (switches cells) i ≡ Some g
-    → (entry_for next line.lid g ≡ 255) ⊎ IsEndOf (steps_of cells next line.lid) (To i) (Some (Taken line.port))
+    → (entry_for next line.lid g ≡ 255) ⊎ IsEndOf (next_hops_of cells next line.lid) (To i) (Some (Taken line.port))
 
 -- a packet that the held tables do not send round for ever is sent round by none of these mixtures
 abbrev pub NoneGoesRound : Type 0
@@ -69,14 +69,14 @@ pub record AreSteps (cells : Cells) (plan : HeldPlan) (line : HeldLid) (tables :
 abbrev pub EndInThePlan : Type 0
 EndInThePlan =
     (cells : Cells) (plan : HeldPlan) (line : HeldLid) (tables : ℕ → HeldPlan) → AreSteps cells plan line tables
-    → (i g n m : ℕ) → slice_get (switches cells) i ≡ Some g → after n (steps_of cells plan line.lid) (To i) ≡ Ends (Taken line.port) → n ≤ m
+    → (i g n m : ℕ) → slice_get (switches cells) i ≡ Some g → after n (next_hops_of cells plan line.lid) (To i) ≡ Ends (Taken line.port) → n ≤ m
     → entry_for (tables m) line.lid g ≡ entry_for plan line.lid g
 
 -- where a step changes nothing, each switch from which the plan has a way has its entry
 abbrev pub StillIsThePlan : Type 0
 StillIsThePlan =
     (cells : Cells) (held plan : HeldPlan) (line : HeldLid) → owners_of plan line.lid ≡ owners_of held line.lid → IsNext cells held plan line held
-    → (i g n : ℕ) → slice_get (switches cells) i ≡ Some g → after n (steps_of cells plan line.lid) (To i) ≡ Ends (Taken line.port)
+    → (i g n : ℕ) → slice_get (switches cells) i ≡ Some g → after n (next_hops_of cells plan line.lid) (To i) ≡ Ends (Taken line.port)
     → entry_for held line.lid g ≡ entry_for plan line.lid g
 
 -- after two steps each packet arrives that does so by the plan
@@ -85,29 +85,29 @@ HealInTwo =
     (cells : Cells) (plan : HeldPlan) (line : HeldLid) (tables : ℕ → HeldPlan) → AreSteps cells plan line tables
     → (source : EndPort) → IsBrought cells plan line.lid source (Some (Taken line.port)) → IsBrought cells (tables 2) line.lid source (Some (Taken line.port))
 
--- a packet leaves a switch by a channel, by the exits that switches have then, and the next by another, by those that they have when it comes there
-pub record TakesAcross (before now : List (Option Exit)) (switch channel next : ℕ) : Type 0 where
-  pub first : Exit
-  pub second : Exit
+-- a packet leaves a switch by a channel, by the edges that switches have then, and the next by another, by those that they have when it comes there
+pub record TakesAcross (before now : List (Option Edge)) (switch channel next : ℕ) : Type 0 where
+  pub first : Edge
+  pub second : Edge
   pub leaves : slice_index_or before switch None ≡ Some first
   pub leaves_there : slice_index_or now first.to None ≡ Some second
   pub channel_is : channel ≡ number_of switch first
   pub next_is : next ≡ number_of first.to second
 
 -- some switch
-abbrev pub TakesBy : List (Option Exit) → List (Option Exit) → ℕ → ℕ → Type 0
+abbrev pub TakesBy : List (Option Edge) → List (Option Edge) → ℕ → ℕ → Type 0
 TakesBy before now channel next = (switch : ℕ) × TakesAcross before now switch channel next
 
--- each by the exits of the held tables or of the next ones
-abbrev pub TakesInStep : List (Option Exit) → List (Option Exit) → ℕ → ℕ → Type 0
+-- each by the edges of the held tables or of the next ones
+abbrev pub TakesInStep : List (Option Edge) → List (Option Edge) → ℕ → ℕ → Type 0
 TakesInStep held next a b = TakesBy held held a b ⊎ (TakesBy held next a b ⊎ (TakesBy next held a b ⊎ TakesBy next next a b))
 
 -- so packets for a LID do: the channel that one holds waits for the other
 abbrev pub WaitsAcross : Cells → HeldPlan → HeldPlan → ℕ → ℕ → ℕ → Type 0
-WaitsAcross cells before now lid a b = TakesBy (exits_of cells before lid) (exits_of cells now lid) a b
+WaitsAcross cells before now lid a b = TakesBy (edges_of cells before lid) (edges_of cells now lid) a b
 
 abbrev pub WaitsInStep : Cells → HeldPlan → HeldPlan → ℕ → ℕ → ℕ → Type 0
-WaitsInStep cells held next lid a b = TakesInStep (exits_of cells held lid) (exits_of cells next lid) a b
+WaitsInStep cells held next lid a b = TakesInStep (edges_of cells held lid) (edges_of cells next lid) a b
 
 -- so it is with all that waits in any mixtures, whenever it came there
 abbrev pub MixturesWaitSo : Type 0
@@ -134,8 +134,8 @@ abbrev pub WaitOnMixed : Cells → HeldPlan → HeldPlan → ℕ → List ℕ �
 WaitOnMixed cells held next channel [] last = WaitsMixed cells held next channel last
 WaitOnMixed cells held next channel (c ∷ later) last = WaitsMixed cells held next channel c × WaitOnMixed cells held next c later last
 
--- then channels never wait in a circle, whatever the mixtures
-abbrev pub NoCircleInStep : Type 0
-NoCircleInStep =
+-- then channels never wait in a cycle, whatever the mixtures
+abbrev pub NoCycleInStep : Type 0
+NoCycleInStep =
     (cells : Cells) (held next : HeldPlan) (numbers : List ℕ) → RiseInStep cells held next numbers
     → (channel : ℕ) (later : List ℕ) → ¬ (WaitOnMixed cells held next channel later channel)

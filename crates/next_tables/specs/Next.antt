@@ -6,26 +6,26 @@ use Rattle.plan_file.specs.declared.held.HeldLid.{HeldLid}
 use Rattle.plan_file.specs.Held.{HeldPlan}
 use Rattle.audit.specs.declared.end.Cause.TheVariants.{NoEntry}
 use Rattle.audit.specs.declared.end.End.TheVariants.{Taken, Lost}
-use Rattle.audit.specs.declared.step.Step.{Step}
-use Rattle.audit.specs.declared.step.Step.TheVariants.{Ends}
+use Rattle.audit.specs.declared.next_hop.NextHop.{NextHop}
+use Rattle.audit.specs.declared.next_hop.NextHop.TheVariants.{Ends}
 use Rattle.audit.specs.Network.{row_of}
 use Rattle.audit.specs.Tables.{owners_of, entry_for}
-use Rattle.audit.specs.Walks.{after, end_of, is_to}
-use Rattle.audit.specs.Steps.{by_entry, cause_of, is_at, steps_of}
+use Rattle.audit.specs.WalkEnds.{after, end_of, is_to}
+use Rattle.audit.specs.NextHops.{by_entry, cause_of, is_at, next_hops_of}
 
 -- what a usable switch does with a packet for the LID, by tables
-abbrev pub step_at : Cells → HeldPlan → ℕ → ℕ → Step
+abbrev pub step_at : Cells → HeldPlan → ℕ → ℕ → NextHop
 step_at cells tables lid g = by_entry (owners_of tables lid) g (cause_of cells tables lid g) (row_of cells g) (entry_for tables lid g)
 
 -- whether a walk comes to the port
-abbrev pub comes_to : EndPort → List Step → Step → Bool
+abbrev pub comes_to : EndPort → List NextHop → NextHop → Bool
 comes_to port steps s = is_at port (end_of (after (length steps) steps s))
 
 -- by the entries that are the plan's already: any other drops the packet
-abbrev pub agreed_at : Cells → HeldPlan → HeldPlan → ℕ → ℕ → Step
+abbrev pub agreed_at : Cells → HeldPlan → HeldPlan → ℕ → ℕ → NextHop
 agreed_at cells held plan lid g = if entry_for held lid g == entry_for plan lid g then step_at cells plan lid g else Ends (Lost g NoEntry)
 
-abbrev pub agreed : Cells → HeldPlan → HeldPlan → ℕ → List Step
+abbrev pub agreed : Cells → HeldPlan → HeldPlan → ℕ → List NextHop
 agreed cells held plan lid = map (agreed_at cells held plan lid) (switches cells)
 
 -- the plan's entry leads to the end port, or to a switch from which each entry on the way there is the plan's already
@@ -34,19 +34,19 @@ leads_on cells held plan line g = comes_to line.port (agreed cells held plan lin
 
 -- the tables that are held deliver it from here
 abbrev pub delivers : Cells → HeldPlan → HeldLid → ℕ → Bool
-delivers cells held line g = comes_to line.port (steps_of cells held line.lid) (step_at cells held line.lid g)
+delivers cells held line g = comes_to line.port (next_hops_of cells held line.lid) (step_at cells held line.lid g)
 
 -- a switch that sends it on goes on so, and one that does not takes the plan's entry
 abbrev pub patch_entry : Cells → HeldPlan → HeldPlan → ℕ → ℕ → ℕ
 patch_entry cells held plan lid g = if is_to (step_at cells held lid g) then entry_for held lid g else entry_for plan lid g
 
-abbrev pub patch_at : Cells → HeldPlan → HeldPlan → ℕ → ℕ → Step
+abbrev pub patch_at : Cells → HeldPlan → HeldPlan → ℕ → ℕ → NextHop
 patch_at cells held plan lid g = if is_to (step_at cells held lid g) then step_at cells held lid g else step_at cells plan lid g
 
-abbrev pub mending_at : Cells → HeldPlan → HeldPlan → HeldLid → ℕ → Step
+abbrev pub mending_at : Cells → HeldPlan → HeldPlan → HeldLid → ℕ → NextHop
 mending_at cells held plan line g = if delivers cells held line g then Ends (Taken line.port) else patch_at cells held plan line.lid g
 
-abbrev pub mending : Cells → HeldPlan → HeldPlan → HeldLid → List Step
+abbrev pub mending : Cells → HeldPlan → HeldPlan → HeldLid → List NextHop
 mending cells held plan line = map (mending_at cells held plan line) (switches cells)
 
 -- in that way it comes to a switch that delivers it

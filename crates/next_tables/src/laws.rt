@@ -1,6 +1,6 @@
 //! The laws of a step from the tables that switches hold towards those of a plan.
 ghost use Rattle.next_tables.specs.Mixtures.{NoneIsLost, NoneGoesRound, EndInThePlan, StillIsThePlan, HealInTwo, NextDeliverOrDrop};
-ghost use Rattle.next_tables.specs.Mixtures.{MixturesWaitSo, NoCircleInStep};
+ghost use Rattle.next_tables.specs.Mixtures.{MixturesWaitSo, NoCycleInStep};
 
 /// A packet that the held tables deliver is delivered by whatever mixtures of these and the next ones, also where they change
 /// while it travels.
@@ -38,7 +38,7 @@ pub fn mixtures_wait_so()
     ensures law { MixturesWaitSo }
 {}
 
-/// Where numbers of channels rise over these, channels never wait in a circle, whatever the mixtures.
-pub fn no_circle_in_step()
-    ensures law { NoCircleInStep }
+/// Where numbers of channels rise over these, channels never wait in a cycle, whatever the mixtures.
+pub fn no_cycle_in_step()
+    ensures law { NoCycleInStep }
 {}

@@ -20,7 +20,7 @@ use Rattle.node_agents.specs.NodeDescription.{get_node_description}
 use Rattle.node_agents.specs.NodeInfo.{node_info_of, get_node_info}
 use Rattle.node_agents.specs.SwitchInfo.{get_switch_info}
 use Rattle.node_agents.specs.PortInfo.{port_info_of, port_meant}
-use Rattle.node_agents.specs.ForwardingBlock.{has_block}
+use Rattle.node_agents.specs.LftBlock.{has_block}
 use Rattle.node_agents.specs.Answers.{get_of}
 use Rattle.node_agents.proofs.Shapes.{block_within}
 

@@ -13,8 +13,8 @@ use Rattle.node_agents.specs.declared.refusal.Refusal.TheVariants.{Method, Metho
 use Rattle.node_agents.specs.Agent.{Agent, IsAgent, is_switch}
 use Rattle.node_agents.specs.SwitchInfo.{get_switch_info, set_switch_info}
 use Rattle.node_agents.specs.PortInfo.{get_port_info, set_port_info}
-use Rattle.node_agents.specs.ForwardingBlock.{get_block, set_block}
-use Rattle.node_agents.specs.Answers.{get_attribute, get_of, set_of, Met, met_set, met, status_told, payload_told, answered}
+use Rattle.node_agents.specs.LftBlock.{get_block, set_block}
+use Rattle.node_agents.specs.Answers.{get_attribute, get_of, set_of, Met, met_set, after_request, status_told, payload_told, after_answer}
 use Rattle.node_agents.specs.AnswerLaws.{AnswersHold}
 use Rattle.node_agents.proofs.Shapes.{from_ok, keeps-set_of}
 use Rattle.node_agents.proofs.Lengths.{Whole, whole-get_of}
@@ -44,7 +44,7 @@ whole-met_set : (a : Agent) (after : Result Agent Refusal) (packet : List ℕ) (
 whole-met_set a (Ok b) packet arrival is = whole-get_of b packet arrival (is b refl)
 whole-met_set a (Err refusal) packet arrival is = whole-refused refusal
 
-whole-met : (a : Agent) (packet : List ℕ) (arrival : ℕ) → IsAgent a → Whole (met a packet arrival).told
+whole-met : (a : Agent) (packet : List ℕ) (arrival : ℕ) → IsAgent a → Whole (after_request a packet arrival).told
 whole-met a packet arrival is =
     whole-both (number_in method packet == get) _ _ (whole-get_of a packet arrival is)
     (whole-both (number_in method packet == set) _ _
@@ -52,9 +52,9 @@ whole-met a packet arrival is =
     (whole-refused Method))
 
 pub answers_hold : AnswersHold
-unfolding answered
+unfolding after_answer
 answers_hold a packet arrival is whole =
-    let told = (met a packet arrival).told in
+    let told = (after_request a packet arrival).told in
     let small : status_told told < 2 ^ 15 = status_fits told in
     answer_reads_back packet (status_told told) (payload_told told packet) whole.count whole.parses
     (length-payload_told told packet (whole-met a packet arrival is) whole.count) (omega arith) (λ _. small)

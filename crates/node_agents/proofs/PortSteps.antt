@@ -110,11 +110,11 @@ module _ (a : Agent) (payload : List ℕ) (changed : ℕ × Port) where
   unfolding changed_port
   steps_changed modifier arrival h = meant_is (port_meant a modifier arrival) h
 
--- a port written in the place of one
-pub steps-slice_set : (ports : List Port) (at place : ℕ) (new absent : Port) → Steps (slice_index_or ports at absent) new
-    → Steps (slice_index_or ports place absent) (slice_index_or (slice_set ports at new) place absent)
-steps-slice_set [] at place new absent h = steps_none absent
+-- a port written where one is
+pub steps-slice_set : (ports : List Port) (at index : ℕ) (new absent : Port) → Steps (slice_index_or ports at absent) new
+    → Steps (slice_index_or ports index absent) (slice_index_or (slice_set ports at new) index absent)
+steps-slice_set [] at index new absent h = steps_none absent
 steps-slice_set (x ∷ xs) zero zero new absent h = h
-steps-slice_set (x ∷ xs) zero (suc place) new absent h = steps_none (slice_index_or xs place absent)
+steps-slice_set (x ∷ xs) zero (suc index) new absent h = steps_none (slice_index_or xs index absent)
 steps-slice_set (x ∷ xs) (suc at) zero new absent h = steps_none x
-steps-slice_set (x ∷ xs) (suc at) (suc place) new absent h = steps-slice_set xs at place new absent h
+steps-slice_set (x ∷ xs) (suc at) (suc index) new absent h = steps-slice_set xs at index new absent h

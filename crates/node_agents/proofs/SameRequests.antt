@@ -7,7 +7,7 @@ use Rattle.smp_bytes.specs.Packet.{method, attribute_id, attribute_modifier, att
 use Rattle.node_agents.specs.declared.refusal.Refusal.{Refusal}
 use Rattle.node_agents.specs.declared.refusal.Refusal.TheVariants.{Method}
 use Rattle.node_agents.specs.Agent.{Agent, IsAgent}
-use Rattle.node_agents.specs.Answers.{get_attribute, set_attribute, get_of, set_of, met, met_set, Met, answered, status_told, payload_told}
+use Rattle.node_agents.specs.Answers.{get_attribute, set_attribute, get_of, set_of, after_request, met_set, Met, after_answer, status_told, payload_told}
 use Rattle.node_agents.specs.AnswerLaws.{IsPacket}
 use Rattle.node_agents.proofs.Outcomes.{answers_hold}
 
@@ -34,7 +34,7 @@ set_told-is a (Ok b) packet arrival = refl
 set_told-is a (Err refusal) packet arrival = refl
 
 met_of-is : (a : Agent) (packet : List ℕ) (arrival : ℕ)
-    → met a packet arrival
+    → after_request a packet arrival
     ≡ met_of a arrival (number_in method packet) (number_in attribute_id packet) (number_in attribute_modifier packet) (bytes_in attribute_data packet)
 unfolding get_of set_of
 met_of-is a packet arrival =
@@ -42,15 +42,15 @@ met_of-is a packet arrival =
     (cond (number_in method packet == set) m (record { told = Err Method; agent = a })))
     (set_told-is a (set_of a packet arrival) packet arrival)
 
-met_same : (a : Agent) (p q : List ℕ) (arrival : ℕ) → AskSame p q → met a p arrival ≡ met a q arrival
+met_same : (a : Agent) (p q : List ℕ) (arrival : ℕ) → AskSame p q → after_request a p arrival ≡ after_request a q arrival
 met_same a p q arrival same =
     met_of-is a p arrival
     ∙ (λ j. met_of a arrival (same.method_is j) (same.attribute_is j) (same.modifier_is j) (same.data_is j))
     ∙ sym (met_of-is a q arrival)
 
 -- it is left the same
-pub agents_same : (a : Agent) (p q : List ℕ) (arrival : ℕ) → AskSame p q → (answered a p arrival).agent ≡ (answered a q arrival).agent
-unfolding answered
+pub agents_same : (a : Agent) (p q : List ℕ) (arrival : ℕ) → AskSame p q → (after_answer a p arrival).agent ≡ (after_answer a q arrival).agent
+unfolding after_answer
 agents_same a p q arrival same = ap (λ (m : Met). m.agent) (met_same a p q arrival same)
 
 -- what is told is the same
@@ -64,12 +64,12 @@ payload_same (Ok payload) p q e = refl
 payload_same (Err refusal) p q e = e
 
 pub told_same : (a : Agent) (p q : List ℕ) (arrival : ℕ) → IsAgent a → IsPacket p → IsPacket q → AskSame p q
-    → ToldSame (answered a p arrival).packet (answered a q arrival).packet
+    → ToldSame (after_answer a p arrival).packet (after_answer a q arrival).packet
 told_same a p q arrival is whole its same =
     let x = answers_hold a p arrival is whole in
     let y = answers_hold a q arrival is its in
     let told = ap (λ (m : Met). m.told) (met_same a p q arrival same) in
     record {
       status_is = x.status ∙ ap status_told told ∙ sym y.status;
-      data_is = x.attribute_data ∙ ap (λ t. payload_told t p) told ∙ payload_same (met a q arrival).told p q same.data_is ∙ sym y.attribute_data;
+      data_is = x.attribute_data ∙ ap (λ t. payload_told t p) told ∙ payload_same (after_request a q arrival).told p q same.data_is ∙ sym y.attribute_data;
     }

@@ -22,7 +22,7 @@ use Rattle.node_agents.specs.Agent.{Agent, IsAgent, is_switch, state_at, port_at
 use Rattle.node_agents.specs.NodeInfo.{node_info_of, get_node_info}
 use Rattle.node_agents.specs.PortInfo.{port_meant, port_info_of}
 use Rattle.node_agents.specs.SwitchInfo.{get_switch_info}
-use Rattle.node_agents.specs.Answers.{get_attribute, get_of, set_of, met_set, met, status_told, payload_told, answered}
+use Rattle.node_agents.specs.Answers.{get_attribute, get_of, set_of, met_set, after_request, status_told, payload_told, after_answer}
 use Rattle.node_agents.specs.AnswerLaws.{SaysPort, SaysSwitch, AnswersSay}
 use Rattle.node_agents.proofs.Lengths.{switch_entries}
 use Rattle.node_agents.proofs.Shapes.{Keeps, keeps_same, keeps-set_of, is_port_at}
@@ -49,7 +49,7 @@ module _ (a : Agent) (packet : List ℕ) (arrival : ℕ) (payload : List ℕ) wh
   now_met false true h = now_set (set_of a packet arrival) refl h
   now_met false false h = cc
 
-  pub told_now : (met a packet arrival).told ≡ Ok payload → ToldNow a packet arrival payload
+  pub told_now : (after_request a packet arrival).told ≡ Ok payload → ToldNow a packet arrival payload
   told_now h = now_met (number_in method packet == get) (number_in method packet == set) h
 
 -- a status of 0 tells something
@@ -191,16 +191,16 @@ module _ (a : Agent) (packet : List ℕ) (arrival : ℕ) (is : IsAgent a) (withi
 
 pub answers_say : AnswersSay
 answers_say a packet arrival is whole within status_is =
-    let told = (met a packet arrival).told in
+    let told = (after_request a packet arrival).told in
     let holds = answers_hold a packet arrival is whole in
     let (payload, told_is) = is_told told (sym holds.status ∙ status_is) in
     let now = told_now a packet arrival payload told_is in
     let payload_is = holds.attribute_data ∙ ap (λ t. payload_told t packet) told_is in
-    let attribute = number_in-alike attribute_id (answered a packet arrival).packet packet (λ place from less. holds.kept place (inr (inl (omega (arith, from), omega (arith, less))))) in
-    let modifier = number_in-alike attribute_modifier (answered a packet arrival).packet packet (λ place from less. holds.kept place (inr (inl (omega (arith, from), omega (arith, less))))) in
+    let attribute = number_in-alike attribute_id (after_answer a packet arrival).packet packet (λ offset from less. holds.kept offset (inr (inl (omega (arith, from), omega (arith, less))))) in
+    let modifier = number_in-alike attribute_modifier (after_answer a packet arrival).packet packet (λ offset from less. holds.kept offset (inr (inl (omega (arith, from), omega (arith, less))))) in
     record {
       node = λ e. ap node_info_in payload_is ∙ of_node a packet arrival is within payload now (sym attribute ∙ e);
-      port = λ e. subst (λ m. SaysPort a m arrival (bits_in port_state (bytes_in attribute_data (answered a packet arrival).packet))) (sym modifier)
+      port = λ e. subst (λ m. SaysPort a m arrival (bits_in port_state (bytes_in attribute_data (after_answer a packet arrival).packet))) (sym modifier)
           (subst (λ d. SaysPort a (number_in attribute_modifier packet) arrival (bits_in port_state d)) (sym payload_is)
           (of_port a packet arrival is within payload now (sym attribute ∙ e)));
       switch = λ e. subst (λ d. SaysSwitch a (number_in linear_fdb_cap d)) (sym payload_is)

@@ -10,7 +10,7 @@ use Rattle.smp_bytes.specs.Field.{number_in, bytes_in, bits_in, with_bytes}
 use Rattle.smp_bytes.specs.LidRange.{lid_end}
 use Rattle.smp_bytes.specs.Packet.{attribute_id, attribute_modifier, attribute_data}
 use Rattle.smp_bytes.proofs.FieldLaws.{get_or-with_bytes, length-with_bytes, number_in-with_number_apart, number_in-with_numbers}
-use Rattle.smp_bytes.proofs.PlaceLaws.{get_or-with_bytes_inside, get_or-with_number, get_or-with_numbers_behind, bytes_in-with_bytes}
+use Rattle.smp_bytes.proofs.OffsetLaws.{get_or-with_bytes_inside, get_or-with_number, get_or-with_numbers_behind, bytes_in-with_bytes}
 use Rattle.smp_bytes.proofs.BitLaws.{bits_in-with_bits, bits_in-with_bits_apart}
 use Rattle.attr_codec.specs.Image.{image}
 use Rattle.attr_codec.specs.SwitchInfo.{linear_fdb_top}
@@ -21,9 +21,9 @@ use Rattle.node_agents.specs.declared.port.Port.{Port}
 use Rattle.node_agents.specs.Agent.{Agent, IsAgent, is_switch, port_in, port_at, range_at, with_port}
 use Rattle.node_agents.specs.SwitchInfo.{get_switch_info}
 use Rattle.node_agents.specs.PortInfo.{has_lid, max_lmc, is_next_state, state_after, port_with, are_lids_taken, port_after, port_meant, port_info_of}
-use Rattle.node_agents.specs.ForwardingBlock.{has_block}
+use Rattle.node_agents.specs.LftBlock.{has_block}
 use Rattle.node_agents.specs.declared.refusal.Refusal.{Refusal}
-use Rattle.node_agents.specs.Answers.{get_of, answered}
+use Rattle.node_agents.specs.Answers.{get_of, after_answer}
 use Rattle.node_agents.specs.AnswerLaws.{SetsBlock, BlocksAreSet, SetsTop, TopsAreSet, SetsPort, PortsAreSet}
 use Rattle.node_agents.proofs.PortSteps.{lid_taken}
 use Rattle.node_agents.proofs.Shapes.{block_within}
@@ -82,13 +82,13 @@ length-payload packet long = let rest = length-drop 64 packet in length-take-le 
 -- what is known of what became and what is told is known of the answer
 transported : (P : Agent → List ℕ → Type 0) (a : Agent) (packet : List ℕ) (arrival : ℕ) (b : Agent) (told payload : List ℕ)
     → TakenTo a packet arrival b told → get_of b packet arrival ≡ Ok payload → P b payload
-    → P (answered a packet arrival).agent (bytes_in attribute_data (answered a packet arrival).packet)
+    → P (after_answer a packet arrival).agent (bytes_in attribute_data (after_answer a packet arrival).packet)
 transported P a packet arrival b told payload t got known =
     let both : ◌≡◌ {A = Result (List ℕ) Refusal} (Ok told) (Ok payload) = sym t.told ∙ got in
     let same : told ≡ payload = cc in
     let of_told : P b told = subst (P b) (sym same) known in
-    let of_agent : P (answered a packet arrival).agent told = subst (λ (x : Agent). P x told) (sym t.agent) of_told in
-    subst (P (answered a packet arrival).agent) (sym t.payload_is) of_agent
+    let of_agent : P (after_answer a packet arrival).agent told = subst (λ (x : Agent). P x told) (sym t.agent) of_told in
+    subst (P (after_answer a packet arrival).agent) (sym t.payload_is) of_agent
 
 module _ (a b : Agent) (packet : List ℕ) (arrival : ℕ) where
   only_block : SetsPortInfo a b packet arrival ⊎ (SetsSwitchInfo a b packet arrival ⊎ SetsABlock a b packet arrival)
@@ -282,7 +282,7 @@ sets_port a port arrival payload new there is =
       lids = lids;
       lids_told = λ h. told_range (port_at (with_port a port new) port) arrival payload (lids h) is.lid_fits ∙ lids h;
       state_told = λ some. told_state (port_at (with_port a port new) port) arrival ∙ ap (λ (p : Port). number_of_state p.state) here ∙ is.state some;
-      others = λ place other. get_or-set_other a.ports port place new (port_in Down) other;
+      others = λ index other. get_or-set_other a.ports port index new (port_in Down) other;
       all_else = refl;
     }
 

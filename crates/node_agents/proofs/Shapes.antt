@@ -17,9 +17,9 @@ use Rattle.node_agents.specs.declared.refusal.Refusal.{Refusal}
 use Rattle.node_agents.specs.declared.refusal.Refusal.TheVariants.{MethodAndAttribute, InvalidField}
 use Rattle.node_agents.specs.Agent.{Agent, IsAgent, IsPort, is_switch, port_in, port_at, with_port, block_count}
 use Rattle.node_agents.specs.SwitchInfo.{set_switch_info}
-use Rattle.node_agents.specs.ForwardingBlock.{has_block, set_block}
+use Rattle.node_agents.specs.LftBlock.{has_block, set_block}
 use Rattle.node_agents.specs.PortInfo.{changed_port, set_port_info}
-use Rattle.node_agents.specs.Answers.{set_of, met, Met, met_set, answered}
+use Rattle.node_agents.specs.Answers.{set_of, after_request, Met, met_set, after_answer}
 use Rattle.node_agents.specs.AnswerLaws.{KeepsShape, AnsweredKeepsShape, AnsweredIsAgent}
 use Rattle.node_agents.proofs.PortSteps.{Steps, steps_changed, steps-slice_set}
 
@@ -50,10 +50,10 @@ is_port_at a is port =
 
 pub keeps-with_port : (a : Agent) (port : ℕ) (new : Port) → Steps (port_at a port) new → Keeps a (with_port a port new)
 keeps-with_port a port new steps =
-    let each : (place : ℕ) → Steps (port_at a place) (port_at (with_port a port new) place) = λ place.
-    steps-slice_set a.ports port place new (port_in Down) steps in
+    let each : (index : ℕ) → Steps (port_at a index) (port_at (with_port a port new) index) = λ index.
+    steps-slice_set a.ports port index new (port_in Down) steps in
     record {
-      shape = record { node = refl; down = λ place. ((each place).state.not_down, (each place).state.down); seats = λ place. (each place).is_sm };
+      shape = record { node = refl; down = λ index. ((each index).state.not_down, (each index).state.down); seats = λ index. (each index).is_sm };
       is_agent = λ is. let old = is_port_at a is port in
           let after : IsPort a.node.kind new = record {
             state = steps.state.known old.state;
@@ -71,9 +71,9 @@ keeps-with_port a port new steps =
           };
     }
 
-pub is_agent-changed : (a old : Agent) (modifier arrival place : ℕ) (payload : List ℕ) (changed : ℕ × Port) → IsAgent a → a ≡ old
-    → Some changed ≡ changed_port old modifier arrival payload → place ≡ changed.0 → IsAgent (with_port a place changed.1)
-is_agent-changed a old modifier arrival place payload changed is same h there =
+pub is_agent-changed : (a old : Agent) (modifier arrival index : ℕ) (payload : List ℕ) (changed : ℕ × Port) → IsAgent a → a ≡ old
+    → Some changed ≡ changed_port old modifier arrival payload → index ≡ changed.0 → IsAgent (with_port a index changed.1)
+is_agent-changed a old modifier arrival index payload changed is same h there =
     let e : changed_port a modifier arrival payload ≡ Some changed = ap (λ (x : Agent). changed_port x modifier arrival payload) same ∙ sym h in
     let kept = (keeps-with_port a changed.0 changed.1 (steps_changed a payload changed modifier arrival e)).is_agent is in
     subst (λ (n : ℕ). IsAgent (with_port a n changed.1)) (sym there) kept
@@ -186,18 +186,18 @@ keeps-met_set : (a : Agent) (after : Result Agent Refusal) (packet : List ℕ) (
 keeps-met_set a (Ok b) packet arrival f = f b refl
 keeps-met_set a (Err refusal) packet arrival f = keeps_same a
 
-pub keeps-met : (a : Agent) (packet : List ℕ) (arrival : ℕ) → Keeps a (met a packet arrival).agent
+pub keeps-met : (a : Agent) (packet : List ℕ) (arrival : ℕ) → Keeps a (after_request a packet arrival).agent
 keeps-met a packet arrival =
     met_both a (number_in method packet == get) _ _ (keeps_same a)
     (met_both a (number_in method packet == set) _ _ (keeps-met_set a (set_of a packet arrival) packet arrival (λ b. keeps-set_of a b packet arrival))
     (keeps_same a))
 
-pub keeps-answered : (a : Agent) (packet : List ℕ) (arrival : ℕ) → Keeps a (answered a packet arrival).agent
-unfolding answered
+pub keeps-answered : (a : Agent) (packet : List ℕ) (arrival : ℕ) → Keeps a (after_answer a packet arrival).agent
+unfolding after_answer
 keeps-answered a packet arrival = keeps-met a packet arrival
 
 -- the node is as it was, whatever is answered
-pub met_keeps_node : (a b : Agent) (packet : List ℕ) (arrival : ℕ) → b ≡ (met a packet arrival).agent → b.node ≡ a.node
+pub met_keeps_node : (a b : Agent) (packet : List ℕ) (arrival : ℕ) → b ≡ (after_request a packet arrival).agent → b.node ≡ a.node
 met_keeps_node a b packet arrival e = ap (λ (x : Agent). x.node) e ∙ (keeps-met a packet arrival).shape.node
 
 pub answered_keeps_shape : AnsweredKeepsShape

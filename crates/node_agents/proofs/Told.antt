@@ -12,8 +12,8 @@ use Rattle.node_agents.specs.declared.refusal.Refusal.TheVariants.{Method, Metho
 use Rattle.node_agents.specs.Agent.{Agent, IsAgent, is_switch, port_at, with_port}
 use Rattle.node_agents.specs.SwitchInfo.{get_switch_info, set_switch_info}
 use Rattle.node_agents.specs.PortInfo.{has_lid, max_lmc, port_meant, port_info_of, port_after, changed_port, set_port_info}
-use Rattle.node_agents.specs.ForwardingBlock.{has_block, set_block}
-use Rattle.node_agents.specs.Answers.{get_attribute, get_of, set_of, Met, met_set, met, status_told, payload_told, answered}
+use Rattle.node_agents.specs.LftBlock.{has_block, set_block}
+use Rattle.node_agents.specs.Answers.{get_attribute, get_of, set_of, Met, met_set, after_request, status_told, payload_told, after_answer}
 use Rattle.node_agents.specs.AnswerLaws.{GetsChangeNothing, RefusalsChangeNothing, IsTaken, IsAboutTheSame, GetsTellAsSets}
 use Rattle.node_agents.proofs.Shapes.{answered_is_agent}
 use Rattle.node_agents.proofs.Outcomes.{answers_hold, SetsPortInfo, SetsSwitchInfo, SetsABlock, what_is_set, get_of-port_info, get_of-switch_info, get_of-block}
@@ -103,27 +103,27 @@ something_told a b packet arrival h = by_kind (what_is_set a b packet arrival h)
       get_after_block a b packet arrival (bytes_in attribute_data packet) s.0 s.1.attribute s.1.taken,
     )
 
-pub answered-agent : (a : Agent) (packet : List ℕ) (arrival : ℕ) → (answered a packet arrival).agent ≡ (met a packet arrival).agent
-unfolding answered
+pub answered-agent : (a : Agent) (packet : List ℕ) (arrival : ℕ) → (after_answer a packet arrival).agent ≡ (after_request a packet arrival).agent
+unfolding after_answer
 answered-agent a packet arrival = refl
 
 -- answers -------------------------------------------------------------------------------------
 
 module _ (a : Agent) (packet : List ℕ) (arrival : ℕ) where
-  pub met-get : number_in method packet ≡ get → met a packet arrival ≡ record { told = get_of a packet arrival; agent = a }
+  pub met-get : number_in method packet ≡ get → after_request a packet arrival ≡ record { told = get_of a packet arrival; agent = a }
   met-get e =
       ap (λ n. if n == get then record { told = get_of a packet arrival; agent = a }
       else if n == set then met_set a (set_of a packet arrival) packet arrival
       else record { told = Err Method; agent = a }) e
 
-  pub met-set : number_in method packet ≡ set → met a packet arrival ≡ met_set a (set_of a packet arrival) packet arrival
+  pub met-set : number_in method packet ≡ set → after_request a packet arrival ≡ met_set a (set_of a packet arrival) packet arrival
   met-set e =
       ap (λ n. if n == get then record { told = get_of a packet arrival; agent = a }
       else if n == set then met_set a (set_of a packet arrival) packet arrival
       else record { told = Err Method; agent = a }) e
 
 pub gets_change_nothing : GetsChangeNothing
-unfolding answered
+unfolding after_answer
 gets_change_nothing a packet arrival e = ap (λ (m : Met). m.agent) (met-get a packet arrival e)
 
 -- what is refused leaves the agent
@@ -144,7 +144,7 @@ kept-set a (Ok b) packet arrival e =
     record { agent = λ refusal h. let clash : ◌≡◌ {A = Result (List ℕ) Refusal} (Ok told.0) (Err refusal) = sym told.1 ∙ h in cc }
 kept-set a (Err refusal) packet arrival e = kept-same a (Err refusal)
 
-kept-met : (a : Agent) (packet : List ℕ) (arrival : ℕ) → KeepsIfRefused a (met a packet arrival)
+kept-met : (a : Agent) (packet : List ℕ) (arrival : ℕ) → KeepsIfRefused a (after_request a packet arrival)
 kept-met a packet arrival =
     kept-both a _ _ _ (kept-same a (get_of a packet arrival))
     (kept-both a _ _ _ (kept-set a (set_of a packet arrival) packet arrival refl) (kept-same a (Err Method)))
@@ -156,7 +156,7 @@ by_told a m (Err refusal) e kept other = kept.agent refusal e
 pub refusals_change_nothing : RefusalsChangeNothing
 refusals_change_nothing a packet arrival is whole other =
     let holds = answers_hold a packet arrival is whole in
-    let m : Met = met a packet arrival in
+    let m : Met = after_request a packet arrival in
     let kept : m.agent ≡ a = by_told a m m.told refl (kept-met a packet arrival) (λ e. other (holds.status ∙ e)) in
     answered-agent a packet arrival ∙ kept
 
@@ -166,8 +166,8 @@ refusals_change_nothing a packet arrival is whole other =
 pub record TakenTo (a : Agent) (packet : List ℕ) (arrival : ℕ) (b : Agent) (payload : List ℕ) : Type 0 where
   pub taken : set_of a packet arrival ≡ Ok b
   pub told : get_of b packet arrival ≡ Ok payload
-  pub agent : (answered a packet arrival).agent ≡ b
-  pub payload_is : bytes_in attribute_data (answered a packet arrival).packet ≡ payload
+  pub agent : (after_answer a packet arrival).agent ≡ b
+  pub payload_is : bytes_in attribute_data (after_answer a packet arrival).packet ≡ payload
 
 refused_status : (refusal : Refusal) → status_told (Err refusal) ≢ done
 refused_status Method e = absurd (omega arith)
@@ -181,10 +181,10 @@ module _ (a : Agent) (packet : List ℕ) (arrival number : ℕ) (is : IsTaken a 
   by_outcome : (after : Result Agent Refusal) → after ≡ set_of a packet arrival → ATakenSet a packet arrival
   by_outcome (Ok b) e =
       let holds = answers_hold a packet arrival is.agent is.whole in
-      let m : met a packet arrival ≡ met_set a (Ok b) packet arrival =
+      let m : after_request a packet arrival ≡ met_set a (Ok b) packet arrival =
       met-set a packet arrival is.method ∙ ap (λ r. met_set a r packet arrival) (sym e) in
       let something = something_told a b packet arrival (sym e) in
-      let told : (met a packet arrival).told ≡ Ok something.0 = ap (λ (x : Met). x.told) m ∙ something.1 in (
+      let told : (after_request a packet arrival).told ≡ Ok something.0 = ap (λ (x : Met). x.told) m ∙ something.1 in (
         b,
         something.0,
         record {
@@ -196,9 +196,9 @@ module _ (a : Agent) (packet : List ℕ) (arrival number : ℕ) (is : IsTaken a 
       )
   by_outcome (Err refusal) e =
       let holds = answers_hold a packet arrival is.agent is.whole in
-      let m : met a packet arrival ≡ met_set a (Err refusal) packet arrival =
+      let m : after_request a packet arrival ≡ met_set a (Err refusal) packet arrival =
       met-set a packet arrival is.method ∙ ap (λ r. met_set a r packet arrival) (sym e) in
-      let told : (met a packet arrival).told ≡ Err refusal = ap (λ (x : Met). x.told) m in
+      let told : (after_request a packet arrival).told ≡ Err refusal = ap (λ (x : Met). x.told) m in
       absurd (refused_status refusal (ap status_told (sym told) ∙ sym holds.status ∙ is.done))
 
   pub taken_to : ATakenSet a packet arrival
@@ -212,7 +212,7 @@ gets_tell_as_sets a p q arrival number is whole asks same =
     let is_b : IsAgent b = subst IsAgent taken.agent (answered_is_agent a p arrival is.agent) in
     let m = met-get b q arrival asks in
     let alike : get_of b q arrival ≡ get_of b p arrival = get_of-alike b p q arrival same in
-    let told : (met b q arrival).told ≡ Ok t.1 = ap (λ (x : Met). x.told) m ∙ alike ∙ taken.told in
+    let told : (after_request b q arrival).told ≡ Ok t.1 = ap (λ (x : Met). x.told) m ∙ alike ∙ taken.told in
     let holds = answers_hold b q arrival is_b whole in
-    ap (λ (x : Agent). bytes_in attribute_data (answered x q arrival).packet) taken.agent
+    ap (λ (x : Agent). bytes_in attribute_data (after_answer x q arrival).packet) taken.agent
     ∙ holds.attribute_data ∙ ap (λ x. payload_told x q) told ∙ sym taken.payload_is

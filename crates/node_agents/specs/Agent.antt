@@ -2,7 +2,7 @@
 use Rattle.std.specs.Prelude.{◌≡◌, ◌≢◌, ℕ, ◌+◌, ◌*◌, ◌/◌, ◌^◌, ◌<◌, ◌≤◌, ◌⊎◌, Bool, true, false, List, All, length, replicate, slice_index_or, slice_set, ◌∷◌, ◌==◌, if◌then◌else◌}
 use Rattle.smp_bytes.specs.declared.node_type.NodeType.{NodeType}
 use Rattle.smp_bytes.specs.NodeType as types
-use Rattle.smp_bytes.specs.Fabric.{Node}
+use Rattle.fabric_model.specs.Fabric.{Node}
 use Rattle.smp_bytes.specs.LidRange.{has_lid as is_lid_of, lid_end}
 use Rattle.attr_codec.specs.declared.port_state.PortState.{PortState}
 use Rattle.attr_codec.specs.declared.port_state.PortState.TheVariants.{NoChange, Down, Initialize, Active}
@@ -68,17 +68,17 @@ node_of a = record { guid = a.node.guid; kind = a.node.kind; ports = a.node.port
 
 -- what changes it from outside ----------------------------------------------------------
 
--- with another port in the place of one
+-- with another port where one is
 abbrev pub with_port : Agent → ℕ → Port → Agent
 with_port a port to = record a { ports = slice_set a.ports port to }
 
 -- a cable goes into a port, or comes out
-abbrev pub wired : Agent → ℕ → Bool → Agent
-wired a port is_wired = with_port a port (record (port_at a port) { state = if is_wired then Initialize else Down })
+abbrev pub after_set_wired : Agent → ℕ → Bool → Agent
+after_set_wired a port is_wired = with_port a port (record (port_at a port) { state = if is_wired then Initialize else Down })
 
 -- a subnet manager comes to sit at a port
-abbrev pub seated : Agent → ℕ → Agent
-seated a port = with_port a port (record (port_at a port) { is_sm = true })
+abbrev pub after_set_seat : Agent → ℕ → Agent
+after_set_seat a port = with_port a port (record (port_at a port) { is_sm = true })
 
 -- how it is made ----------------------------------------------------------------------
 

@@ -10,10 +10,10 @@ use Rattle.attr_codec.specs.SwitchInfo.{linear_fdb_cap, linear_fdb_top}
 use Rattle.attr_codec.specs.declared.port_state.PortState.{PortState}
 use Rattle.attr_codec.specs.declared.port_state.PortState.TheVariants.{NoChange, Down}
 use Rattle.node_agents.specs.declared.agent_node.AgentNode.{AgentNode}
-use Rattle.node_agents.specs.Agent.{Agent, IsAgent, IsAgentNode, is_switch, state_at, has_seat, port_at, range_at, entry_at, fresh_agent, wired, seated}
+use Rattle.node_agents.specs.Agent.{Agent, IsAgent, IsAgentNode, is_switch, state_at, has_seat, port_at, range_at, entry_at, fresh_agent, after_set_wired, after_set_seat}
 use Rattle.node_agents.specs.NodeInfo.{node_info_of}
 use Rattle.node_agents.specs.PortInfo.{has_lid, port_meant}
-use Rattle.node_agents.specs.Answers.{met, status_told, payload_told, answered}
+use Rattle.node_agents.specs.Answers.{after_request, status_told, payload_told, after_answer}
 
 -- agents stay agents --------------------------------------------------------------------
 
@@ -25,11 +25,11 @@ pub record KeepsShape (old new : Agent) : Type 0 where
 
 -- no request changes the shape
 abbrev pub AnsweredKeepsShape : Type 0
-AnsweredKeepsShape = (a : Agent) (packet : List ℕ) (arrival : ℕ) → KeepsShape a (answered a packet arrival).agent
+AnsweredKeepsShape = (a : Agent) (packet : List ℕ) (arrival : ℕ) → KeepsShape a (after_answer a packet arrival).agent
 
 -- an agent stays one, whatever it answers
 abbrev pub AnsweredIsAgent : Type 0
-AnsweredIsAgent = (a : Agent) (packet : List ℕ) (arrival : ℕ) → IsAgent a → IsAgent (answered a packet arrival).agent
+AnsweredIsAgent = (a : Agent) (packet : List ℕ) (arrival : ℕ) → IsAgent a → IsAgent (after_answer a packet arrival).agent
 
 -- answers ---------------------------------------------------------------------------------
 
@@ -42,17 +42,17 @@ pub record IsPacket (packet : List ℕ) : Type 0 where
 abbrev pub AnswersHold : Type 0
 AnswersHold =
     (a : Agent) (packet : List ℕ) (arrival : ℕ) → IsAgent a → IsPacket packet
-    → (let told = (met a packet arrival).told in HoldsAnswer packet (answered a packet arrival).packet (status_told told) (payload_told told packet))
+    → (let told = (after_request a packet arrival).told in HoldsAnswer packet (after_answer a packet arrival).packet (status_told told) (payload_told told packet))
 
 -- a Get leaves the agent as it was
 abbrev pub GetsChangeNothing : Type 0
-GetsChangeNothing = (a : Agent) (packet : List ℕ) (arrival : ℕ) → number_in method packet ≡ get → (answered a packet arrival).agent ≡ a
+GetsChangeNothing = (a : Agent) (packet : List ℕ) (arrival : ℕ) → number_in method packet ≡ get → (after_answer a packet arrival).agent ≡ a
 
 -- so does a request whose answer has another status than 0
 abbrev pub RefusalsChangeNothing : Type 0
 RefusalsChangeNothing =
-    (a : Agent) (packet : List ℕ) (arrival : ℕ) → IsAgent a → IsPacket packet → status (answered a packet arrival).packet ≢ done
-    → (answered a packet arrival).agent ≡ a
+    (a : Agent) (packet : List ℕ) (arrival : ℕ) → IsAgent a → IsPacket packet → status (after_answer a packet arrival).packet ≢ done
+    → (after_answer a packet arrival).agent ≡ a
 
 -- what is said ------------------------------------------------------------------------------
 
@@ -81,7 +81,7 @@ pub record Says (a : Agent) (arrival : ℕ) (answer : List ℕ) : Type 0 where
 abbrev pub AnswersSay : Type 0
 AnswersSay =
     (a : Agent) (packet : List ℕ) (arrival : ℕ) → IsAgent a → IsPacket packet → arrival ≤ a.node.ports
-    → status (answered a packet arrival).packet ≡ done → Says a arrival (answered a packet arrival).packet
+    → status (after_answer a packet arrival).packet ≡ done → Says a arrival (after_answer a packet arrival).packet
 
 -- Sets ------------------------------------------------------------------------------------
 
@@ -91,7 +91,7 @@ pub record IsTaken (a : Agent) (packet : List ℕ) (arrival number : ℕ) : Type
   pub whole : IsPacket packet
   pub method : number_in method packet ≡ set
   pub attribute : number_in attribute_id packet ≡ number
-  pub done : status (answered a packet arrival).packet ≡ done
+  pub done : status (after_answer a packet arrival).packet ≡ done
 
 -- two packets are about the same attribute, with the same modifier
 pub record IsAboutTheSame (p q : List ℕ) : Type 0 where
@@ -102,9 +102,9 @@ pub record IsAboutTheSame (p q : List ℕ) : Type 0 where
 abbrev pub GetsTellAsSets : Type 0
 GetsTellAsSets =
     (a : Agent) (p q : List ℕ) (arrival number : ℕ) → IsTaken a p arrival number → IsPacket q → number_in method q ≡ get → IsAboutTheSame q p
-    → bytes_in attribute_data (answered (answered a p arrival).agent q arrival).packet ≡ bytes_in attribute_data (answered a p arrival).packet
+    → bytes_in attribute_data (after_answer (after_answer a p arrival).agent q arrival).packet ≡ bytes_in attribute_data (after_answer a p arrival).packet
 
--- a block that is set is told, stands in the table at its place, and nothing else is changed
+-- a block that is set is told, stands in the table at its offset, and nothing else is changed
 pub record SetsBlock (a after : Agent) (block : ℕ) (payload told : List ℕ) : Type 0 where
   pub is_told : told ≡ payload
   pub inside : (i : ℕ) → i < 64 → entry_at after (64 * block + i) ≡ slice_index payload i
@@ -115,8 +115,8 @@ pub record SetsBlock (a after : Agent) (block : ℕ) (payload told : List ℕ) :
 abbrev pub BlocksAreSet : Type 0
 BlocksAreSet =
     (a : Agent) (packet : List ℕ) (arrival : ℕ) → IsTaken a packet arrival linear_forwarding_table
-    → SetsBlock a (answered a packet arrival).agent (number_in attribute_modifier packet) (bytes_in attribute_data packet)
-    (bytes_in attribute_data (answered a packet arrival).packet)
+    → SetsBlock a (after_answer a packet arrival).agent (number_in attribute_modifier packet) (bytes_in attribute_data packet)
+    (bytes_in attribute_data (after_answer a packet arrival).packet)
 
 -- the top that is set is told, and nothing else is changed
 pub record SetsTop (a after : Agent) (payload told : List ℕ) : Type 0 where
@@ -127,14 +127,14 @@ pub record SetsTop (a after : Agent) (payload told : List ℕ) : Type 0 where
 abbrev pub TopsAreSet : Type 0
 TopsAreSet =
     (a : Agent) (packet : List ℕ) (arrival : ℕ) → IsTaken a packet arrival switch_info
-    → SetsTop a (answered a packet arrival).agent (bytes_in attribute_data packet) (bytes_in attribute_data (answered a packet arrival).packet)
+    → SetsTop a (after_answer a packet arrival).agent (bytes_in attribute_data packet) (bytes_in attribute_data (after_answer a packet arrival).packet)
 
 -- the LID and the LMC that are set at a port with a LID are told, and so is the state; no other port and nothing else is changed
 pub record SetsPort (a after : Agent) (port : ℕ) (payload told : List ℕ) : Type 0 where
   pub lids : has_lid a port ≡ true → range_at after port ≡ range_in payload
   pub lids_told : has_lid a port ≡ true → range_in told ≡ range_in payload
   pub state_told : bits_in port_state payload ≢ 0 → bits_in port_state told ≡ bits_in port_state payload
-  pub others : (place : ℕ) → place ≢ port → port_at after place ≡ port_at a place
+  pub others : (index : ℕ) → index ≢ port → port_at after index ≡ port_at a index
   pub all_else : after ≡ record a { ports = after.ports }
 
 -- what a Set of port information does
@@ -142,12 +142,12 @@ abbrev pub PortsAreSet : Type 0
 PortsAreSet =
     (a : Agent) (packet : List ℕ) (arrival port : ℕ) → arrival ≤ a.node.ports → IsTaken a packet arrival port_info
     → port_meant a (number_in attribute_modifier packet) arrival ≡ Some port
-    → SetsPort a (answered a packet arrival).agent port (bytes_in attribute_data packet) (bytes_in attribute_data (answered a packet arrival).packet)
+    → SetsPort a (after_answer a packet arrival).agent port (bytes_in attribute_data packet) (bytes_in attribute_data (after_answer a packet arrival).packet)
 
 -- from outside ------------------------------------------------------------------------------
 
 -- an agent that is made, wired at a port from 1 on, or given a subnet manager at a port of an adapter is one
 pub record AgentsAreMade : Type 0 where
   pub fresh : (node : AgentNode) → IsAgentNode node → length node.description ≡ 64 → IsAgent (fresh_agent node)
-  pub wired : (a : Agent) (port : ℕ) (is_wired : Bool) → IsAgent a → 1 ≤ port → IsAgent (wired a port is_wired)
-  pub seated : (a : Agent) (port : ℕ) → IsAgent a → is_switch a ≡ false → IsAgent (seated a port)
+  pub wired : (a : Agent) (port : ℕ) (is_wired : Bool) → IsAgent a → 1 ≤ port → IsAgent (after_set_wired a port is_wired)
+  pub seated : (a : Agent) (port : ℕ) → IsAgent a → is_switch a ≡ false → IsAgent (after_set_seat a port)

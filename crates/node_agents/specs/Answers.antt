@@ -14,7 +14,7 @@ use Rattle.node_agents.specs.NodeDescription.{get_node_description}
 use Rattle.node_agents.specs.NodeInfo.{get_node_info}
 use Rattle.node_agents.specs.SwitchInfo.{get_switch_info, set_switch_info}
 use Rattle.node_agents.specs.PortInfo.{get_port_info, set_port_info}
-use Rattle.node_agents.specs.ForwardingBlock.{get_block, set_block}
+use Rattle.node_agents.specs.LftBlock.{get_block, set_block}
 
 -- what a Get of an attribute tells
 abbrev pub get_attribute : Agent → ℕ → ℕ → ℕ → Result (List ℕ) Refusal
@@ -57,8 +57,8 @@ abbrev pub met_set : Agent → Result Agent Refusal → List ℕ → ℕ → Met
 met_set a (Ok after) packet arrival = record { told = get_of after packet arrival; agent = after }
 met_set a (Err refusal) packet arrival = record { told = Err refusal; agent = a }
 
-abbrev pub met : Agent → List ℕ → ℕ → Met
-met a packet arrival =
+abbrev pub after_request : Agent → List ℕ → ℕ → Met
+after_request a packet arrival =
     if number_in method packet == get then record { told = get_of a packet arrival; agent = a }
     else if number_in method packet == set then met_set a (set_of a packet arrival) packet arrival
     else record { told = Err Method; agent = a }
@@ -82,5 +82,5 @@ pub record Answered : Type 0 where
   pub agent : Agent
 
 -- what an agent answers to a packet that came to a port of it
-unfoldable pub answered : Agent → List ℕ → ℕ → Answered
-answered a packet arrival = record { packet = answer_with packet (met a packet arrival).told; agent = (met a packet arrival).agent }
+unfoldable pub after_answer : Agent → List ℕ → ℕ → Answered
+after_answer a packet arrival = record { packet = answer_with packet (after_request a packet arrival).told; agent = (after_request a packet arrival).agent }

@@ -1,7 +1,7 @@
 pub mod Agent
 pub mod AnswerLaws
 pub mod Answers
-pub mod ForwardingBlock
+pub mod LftBlock
 pub mod NodeDescription
 pub mod NodeInfo
 pub mod PortInfo

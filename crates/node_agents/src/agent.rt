@@ -1,11 +1,11 @@
 ghost use Rattle.std.specs.Prelude.{◌≡◌, ◌≤◌, false, IfOk};
-ghost use Rattle.node_agents.specs.Agent.{IsAgentNode, fresh_agent, is_switch, port_at, state_at, base_lid_at, lmc_at, has_seat, entry_at, owns, wired, seated};
-ghost use Rattle.node_agents.specs.Answers.{answered};
+ghost use Rattle.node_agents.specs.Agent.{IsAgentNode, fresh_agent, is_switch, port_at, state_at, base_lid_at, lmc_at, has_seat, entry_at, owns, after_set_wired, after_set_seat};
+ghost use Rattle.node_agents.specs.Answers.{after_answer};
 
 use crate::agent_node::AgentNode;
-use crate::forwarding_block::BLOCK;
+use crate::lft_block::BLOCK;
 use crate::port::Port;
-use crate::request::meet;
+use crate::request::handle;
 use attr_codec::{Lmc, PortState};
 use smp_bytes::{Guid, Lid, NodeType, PortNum, Smp, Status};
 use std::alloc::{AllocError, Global};
@@ -27,9 +27,9 @@ pub struct Agent {
 }
 
 impl Model for Agent {
-    ghost use Rattle.node_agents.specs.Agent.{Agent as Held, IsAgent};
+    ghost use Rattle.node_agents.specs.Agent.{Agent as AgentState, IsAgent};
 
-    ghost Value = { Held };
+    ghost Value = { AgentState };
 
     ghost view = { λ a. record { node = a.node; ports = a.ports.items; table = a.table.items; top = a.top } };
 
@@ -169,7 +169,7 @@ impl Agent {
     pub fn set_wired(&mut self, port: PortNum, is_wired: bool)
         requires least { 1 ≤ port }
         requires most { port ≤ self.old.node.ports }
-        ensures { self.new ≡ wired self.old port is_wired }
+        ensures { self.new ≡ after_set_wired self.old port is_wired }
     {
         self.ports[usize::from(port.number())].state = if is_wired {
             PortState::Initialize
@@ -183,22 +183,22 @@ impl Agent {
         requires adapter { is_switch self.old ≡ false }
         requires least { 1 ≤ port }
         requires most { port ≤ self.old.node.ports }
-        ensures { self.new ≡ seated self.old port }
+        ensures { self.new ≡ after_set_seat self.old port }
     {
         self.ports[usize::from(port.number())].is_sm = true;
     }
 
     /// The answer to a request that came to a port, and what a Set makes of the agent. A request that is refused changes
     /// nothing. Takes time in proportion to the 64 bytes of an attribute.
-    #[tactic(auto, unfolding(crate::specs::Answers::answered))]
+    #[tactic(auto, unfolding(crate::specs::Answers::after_answer))]
     pub fn answer(&mut self, smp: &Smp, arrival: PortNum) -> Smp
         requires least { 1 ≤ arrival }
         requires most { arrival ≤ self.old.node.ports }
-        ensures answer { result ≡ (answered self.old smp.now arrival).packet }
-        ensures state { self.new ≡ (answered self.old smp.now arrival).agent }
+        ensures answer { result ≡ (after_answer self.old smp.now arrival).packet }
+        ensures state { self.new ≡ (after_answer self.old smp.now arrival).agent }
         ensures node { self.new.node ≡ self.old.node }
     {
-        match meet(self, smp, arrival) {
+        match handle(self, smp, arrival) {
             Ok(payload) => smp.answer(Status::DONE, &payload),
             Err(refusal) => smp.answer(refusal.status(), &smp.attribute_data()),
         }

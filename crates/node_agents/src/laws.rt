@@ -48,7 +48,7 @@ pub fn gets_tell_as_sets()
     ensures { GetsTellAsSets }
 {}
 
-/// A block that is set is told and stands in the table at its place, and nothing else is changed.
+/// A block that is set is told and stands in the table at its offset, and nothing else is changed.
 #[tactic(auto, using(crate::proofs::Sets::blocks_are_set))]
 pub fn blocks_are_set()
     ensures { BlocksAreSet }

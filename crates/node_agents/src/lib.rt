@@ -3,8 +3,8 @@
 
 mod agent;
 mod agent_node;
-mod forwarding_block;
 pub mod laws;
+mod lft_block;
 mod node_description;
 mod node_info;
 mod port;

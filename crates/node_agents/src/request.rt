@@ -2,18 +2,18 @@
 ghost use Rattle.std.specs.Prelude.{◌≡◌, ◌≤◌, None, Some, if◌then◌else◌};
 ghost use Rattle.smp_bytes.specs.Judges.{Judges};
 ghost use Rattle.node_agents.specs.declared.refusal.Refusal.TheVariants.{InvalidField};
-ghost use Rattle.node_agents.specs.Answers.{Takes, set_of, met, get_of};
+ghost use Rattle.node_agents.specs.Answers.{Takes, set_of, after_request, get_of};
 
 use crate::agent::Agent;
 use crate::refusal::Refusal;
-use crate::{forwarding_block, node_description, node_info, port_info, switch_info};
+use crate::{lft_block, node_description, node_info, port_info, switch_info};
 use smp_bytes::{AttributeId, Method, PortNum, Smp};
 
 /// What is told to a request, or why it is refused, and what it makes of the agent.
-pub(crate) fn meet(agent: &mut Agent, smp: &Smp, arrival: PortNum) -> Result<[u8; 64], Refusal>
+pub(crate) fn handle(agent: &mut Agent, smp: &Smp, arrival: PortNum) -> Result<[u8; 64], Refusal>
     requires { arrival ≤ agent.old.node.ports }
-    ensures told { result ≡ (met agent.old smp.now arrival).told }
-    ensures agent { agent.new ≡ (met agent.old smp.now arrival).agent }
+    ensures told { result ≡ (after_request agent.old smp.now arrival).told }
+    ensures agent { agent.new ≡ (after_request agent.old smp.now arrival).agent }
 {
     if smp.method() == Method::GET {
         get(agent, smp, arrival)
@@ -42,7 +42,7 @@ fn get(agent: &Agent, smp: &Smp, arrival: PortNum) -> Result<[u8; 64], Refusal>
     } else if agent.is_switch() && attribute == AttributeId::SWITCH_INFO {
         Ok(switch_info::get(agent))
     } else if agent.is_switch() && attribute == AttributeId::LINEAR_FORWARDING_TABLE {
-        forwarding_block::get(agent, modifier).ok_or(Refusal::InvalidField)
+        lft_block::get(agent, modifier).ok_or(Refusal::InvalidField)
     } else {
         Err(Refusal::MethodAndAttribute)
     }
@@ -62,7 +62,7 @@ fn set(agent: &mut Agent, smp: &Smp, arrival: PortNum) -> Result<(), Refusal>
     } else if agent.is_switch() && attribute == AttributeId::SWITCH_INFO {
         valid_if(switch_info::set(agent, &payload))
     } else if agent.is_switch() && attribute == AttributeId::LINEAR_FORWARDING_TABLE {
-        valid_if(forwarding_block::set(agent, modifier, &payload))
+        valid_if(lft_block::set(agent, modifier, &payload))
     } else {
         Err(Refusal::MethodAndAttribute)
     }

@@ -212,9 +212,9 @@ fn lids_that_a_set_takes(rt: HostRuntime) -> Result<(), Fail> {
     Ok(())
 }
 
-/// Whether bytes stand at a place of an answer's attribute.
-fn holds(smp: &Smp, place: usize, bytes: [u8; 8]) -> bool {
-    match smp.attribute_data().get(place..) {
+/// Whether bytes stand at an offset of an answer's attribute.
+fn holds(smp: &Smp, offset: usize, bytes: [u8; 8]) -> bool {
+    match smp.attribute_data().get(offset..) {
         Some(rest) => rest.starts_with(&bytes),
         None => false,
     }
@@ -241,7 +241,7 @@ fn each_attribute(rt: HostRuntime) -> Result<(), Fail> {
         0,
         &port_info(0x0506, 0x0708, 3),
     );
-    for (attribute, modifier, place, at_switch, at_adapter) in [
+    for (attribute, modifier, offset, at_switch, at_adapter) in [
         (NODE_DESCRIPTION, 0, 0, [b'S'; 8], [b'H'; 8]),
         (
             NODE_INFO,
@@ -311,14 +311,14 @@ fn each_attribute(rt: HostRuntime) -> Result<(), Fail> {
     ] {
         let is_right = holds(
             &ask(&mut switch, GET, attribute, modifier, &[0; 64]),
-            place,
+            offset,
             at_switch,
         ) && holds(
             &ask(&mut adapter, GET, attribute, modifier, &[0; 64]),
-            place,
+            offset,
             at_adapter,
         );
-        assert!(rt; is_right, "{attribute} {modifier} {place}");
+        assert!(rt; is_right, "{attribute} {modifier} {offset}");
     }
     Ok(())
 }
@@ -359,16 +359,16 @@ fn each_byte_turned(rt: HostRuntime) -> Result<(), Fail> {
     let mut adapter = h1(rt.alloc())?;
     let (path, payload) = (Path::<63>::new(), port_info(9, 1, 3));
     let request = Smp::directed(Method::SET, AttributeId::PORT_INFO, 1, 7, &path, &payload);
-    for place in 0..256 {
+    for offset in 0..256 {
         for byte in [0x00, 0x7F, 0xFF] {
             let mut bytes = *request.bytes();
-            bytes[place] = byte;
+            bytes[offset] = byte;
             let status = match Smp::parse(&bytes) {
                 Ok(smp) => answer_to(&mut adapter, &smp).status().0,
                 Err(_) => 0,
             };
             let is_named = [0, 0x08, 0x0C, 0x1C].contains(&status);
-            assert!(rt; is_named, "{place} {byte}");
+            assert!(rt; is_named, "{offset} {byte}");
         }
     }
     Ok(())

@@ -6,10 +6,10 @@ use Rattle.std.proofs.lemmas.List.Elements.{All-append, All-take, All-drop, All-
 use Rattle.std.specs.Prelude.{Vec, Some, All, insert}
 use Rattle.std.specs.Vec.{vec_capacity}
 use Rattle.std.specs.declared.alloc.Global.{Global}
-use Rattle.page_list.specs.Pages.{items_of, starts_from, IsPage, IsEmptyPage, IsPlace, ArePages}
+use Rattle.page_list.specs.Pages.{items_of, starts_from, IsPage, IsEmptyPage, IsSlot, ArePages}
 use Rattle.page_list.proofs.Paged.{items_of-split, items_of-set}
 
--- the places from the page after this one on, one more each
+-- the indices from the page after this one on, one more each
 abbrev pub shifted : ℕ → List ℕ → List ℕ
 shifted k starts = take (suc k) starts ++ map (λ n. n + 1) (drop (suc k) starts)
 
@@ -34,7 +34,7 @@ module _ {T : Type 0} where
       ap (λ (n : ℕ). at ∷ starts_from n ps) (omega (arith, l, ap (λ (q : Vec T Global). length q.items) e)) ∙ ap (λ (s : List ℕ). at ∷ s) (starts_from-later (at + length x.items) ps)
   starts_from-set at (x ∷ ps) (suc k) p p' h e l = ap (λ (s : List ℕ). at ∷ s) (starts_from-set (at + length x.items) ps k p p' (omega arith) e l)
 
-  -- and when two are in its place
+  -- and when two are where it was
   starts_from-halved : (at : ℕ) (ps : List (Vec T Global)) (k : ℕ) (p head tail : Vec T Global) → k < length ps → p ≡ get_or ps k p → length head.items + length tail.items ≡ length p.items + 1 → starts_from at (insert (set ps k head) (suc k) tail) ≡ insert (shifted k (starts_from at ps)) (suc k) (get_or (starts_from at ps) k 0 + length head.items)
   starts_from-halved at [] k p head tail h e l = absurd (omega arith)
   starts_from-halved at (x ∷ ps) zero p head tail h e l =
@@ -43,7 +43,7 @@ module _ {T : Type 0} where
   starts_from-halved at (x ∷ ps) (suc k) p head tail h e l =
       ap (λ (s : List ℕ). at ∷ s) (starts_from-halved (at + length x.items) ps k p head tail (omega arith) e l)
 
-  -- the items of the pages, when two are in the place of one
+  -- the items of the pages, when two are where one was
   items_of-halved : (ps : List (Vec T Global)) (k : ℕ) (head tail : Vec T Global) → k < length ps → items_of (insert (set ps k head) (suc k) tail) ≡ items_of (take k ps) ++ (head.items ++ tail.items) ++ items_of (drop (suc k) ps)
   items_of-halved [] k head tail h = absurd (omega arith)
   items_of-halved (x ∷ ps) zero head tail h = sym (append_assoc head.items tail.items (items_of ps))
@@ -57,7 +57,7 @@ module _ {T : Type 0} where
       insert-append_left (a ++ b) c i x (omega (arith, length-append a b))
       ∙ ap (λ (s : List T). s ++ c) (insert-append_right a b (length a) i x refl (omega arith) ∙ ap (λ (m : ℕ). a ++ insert b m x) n)
 
-  module _ (ps : List (Vec T Global)) (i k j : ℕ) (at : IsPlace ps i k j) (p : Vec T Global) (is : p ≡ get_or ps k p) (x : T) where
+  module _ (ps : List (Vec T Global)) (i k j : ℕ) (at : IsSlot ps i k j) (p : Vec T Global) (is : p ≡ get_or ps k p) (x : T) where
     -- an item put among all is put into the page
     insert_in_page : insert (items_of ps) i x ≡ items_of (take k ps) ++ insert p.items j x ++ items_of (drop (suc k) ps)
     insert_in_page =
@@ -87,7 +87,7 @@ module _ {T : Type 0} where
   pub record IsGrown (pages pages' : Vec (Vec T Global) Global) (starts starts' : Vec ℕ Global) (spare : Vec (Vec T Global) Global) (len room i k j : ℕ) (p p' : Vec T Global) (x : T) : Type 0 where
     pub were : ArePages pages starts spare len room
     pub some : 0 < room
-    pub at : IsPlace pages.items i k j
+    pub at : IsSlot pages.items i k j
     pub is : p ≡ get_or pages.items k p
     pub grown : p'.items ≡ insert p.items j x
     pub short : length p.items < 256
@@ -102,7 +102,7 @@ module _ {T : Type 0} where
     one_more : length p'.items ≡ length p.items + 1
     one_more = omega (arith, ap length g.grown, length-insert p.items j x (g.at.upto p g.is))
 
-    -- the item is at its place
+    -- the item is at its index
     pub grown_items : items_of pages'.items ≡ insert (items_of pages.items) i x
     grown_items =
         ap items_of g.put ∙ items_of-set pages.items k p' g.at.there
@@ -133,7 +133,7 @@ module _ {T : Type 0} where
   pub record IsHalved (pages pages' : Vec (Vec T Global) Global) (starts starts' : Vec ℕ Global) (spare spare' : Vec (Vec T Global) Global) (len room i k j : ℕ) (p head tail empty : Vec T Global) (x : T) : Type 0 where
     pub were : ArePages pages starts spare len room
     pub some : 0 < room
-    pub at : IsPlace pages.items i k j
+    pub at : IsSlot pages.items i k j
     pub is : p ≡ get_or pages.items k p
     pub taken : spare.items ≡ spare'.items ++ empty ∷ []
     pub halves : head.items ++ tail.items ≡ insert p.items j x
@@ -149,11 +149,11 @@ module _ {T : Type 0} where
     both_more : length head.items + length tail.items ≡ length p.items + 1
     both_more = omega (arith, ap length g.halves, length-append head.items tail.items, length-insert p.items j x (g.at.upto p g.is))
 
-    -- two pages in the place of one
+    -- two pages where one was
     pages_put : pages'.items ≡ insert (set pages.items k head) (suc k) tail
     pages_put = g.put ∙ ap (λ (n : ℕ). insert (set pages.items k head) n tail) (add-one k)
 
-    -- the item is at its place
+    -- the item is at its index
     pub halved_items : items_of pages'.items ≡ insert (items_of pages.items) i x
     halved_items =
         ap items_of pages_put ∙ items_of-halved pages.items k head tail g.at.there

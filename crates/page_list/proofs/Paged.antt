@@ -5,7 +5,7 @@ use Rattle.std.proofs.lemmas.Option.{slice_get-get_or}
 use Rattle.std.proofs.lemmas.List.{append_assoc, append-nil, length-append, drop_all, get_or_default, drop-drop, drop_at, drop-append-le, take_rest}
 use Rattle.std.specs.Prelude.{Vec, Some, slice_get}
 use Rattle.std.specs.declared.alloc.Global.{Global}
-use Rattle.page_list.specs.Pages.{items_of, starts_from, IsPlace}
+use Rattle.page_list.specs.Pages.{items_of, starts_from, IsSlot}
 
 module _ {T : Type 0} where
   -- the items before, in and after a page
@@ -15,14 +15,14 @@ module _ {T : Type 0} where
   items_of-split (x ∷ ps) (suc k) p h e =
       ap (λ (s : List T). x.items ++ s) (items_of-split ps k p (omega arith) e) ∙ simp append_assoc
 
-  -- with another page in its place
+  -- with another page where it was
   pub items_of-set : (ps : List (Vec T Global)) (k : ℕ) (p : Vec T Global) → k < length ps → items_of (set ps k p) ≡ items_of (take k ps) ++ p.items ++ items_of (drop (suc k) ps)
   items_of-set [] k p h = absurd (omega arith)
   items_of-set (x ∷ ps) zero p h = refl
   items_of-set (x ∷ ps) (suc k) p h =
       ap (λ (s : List T). x.items ++ s) (items_of-set ps k p (omega arith)) ∙ simp append_assoc
 
-  -- as many places as pages
+  -- as many indices as pages
   pub length-starts_from : (at : ℕ) (ps : List (Vec T Global)) → length (starts_from at ps) ≡ length ps
   length-starts_from at [] = refl
   length-starts_from at (x ∷ ps) = ap suc (length-starts_from (at + length x.items) ps)
@@ -51,7 +51,7 @@ module _ {T : Type 0} where
       ap (λ (s : List ℕ). at ∷ s) (starts_from-push (at + length x.items) ps p)
       ∙ ap (λ (n : ℕ). (at ∷ starts_from (at + length x.items) ps) ++ n ∷ []) (omega (arith, length-append x.items (items_of ps)))
 
-  -- the item at a place of a list in the middle
+  -- the item at an index of a list in the middle
   pub slice_get_middle : (a b c : List T) (j : ℕ) → j < length b → slice_get (a ++ b ++ c) (length a + j) ≡ slice_get b j
   slice_get_middle [] [] c j h = absurd (omega arith)
   slice_get_middle [] (x ∷ b) c zero h = refl
@@ -78,7 +78,7 @@ module _ {T : Type 0} where
             )
       ]
 
--- the page that was found for a place
+-- the page that was found for an index
 module _ {T : Type 0} (pages : List (Vec T Global)) (starts : List ℕ) (are : starts ≡ starts_from 0 pages) where
   -- the first page begins at 0
   pub first_start : 0 < length pages → slice_get starts 0 ≡ Some 0
@@ -89,7 +89,7 @@ module _ {T : Type 0} (pages : List (Vec T Global)) (starts : List ℕ) (are : s
       first (x ∷ ps) h = refl
 
   module _ (k : ℕ) (in_starts : k < length starts) where
-    -- a page that has a place is one of the pages
+    -- a page that has an index is one of the pages
     page_there : k < length pages
     page_there = omega (arith, ap length are, length-starts_from 0 pages)
 
@@ -98,7 +98,7 @@ module _ {T : Type 0} (pages : List (Vec T Global)) (starts : List ℕ) (are : s
     start_is = ap (λ (n : List ℕ). get_or n k 0) are ∙ omega (arith, get_or-starts_from 0 pages k page_there)
 
     module _ (p : Vec T Global) (is : p ≡ get_or pages k p) (i : ℕ) (last : k + 1 < length starts → i < get_or starts (k + 1) 0) where
-      -- a place comes before the page's end, or that is the list's
+      -- an index comes before the page's end, or that is the list's
       before_end : (i < get_or starts k 0 + length p.items) ⊎ (length (items_of pages) ≡ get_or starts k 0 + length p.items)
       before_end =
           let same : get_or (starts_from 0 pages) k 0 ≡ get_or starts k 0 = sym (ap (λ (n : List ℕ). get_or n k 0) are) in
@@ -109,9 +109,9 @@ module _ {T : Type 0} (pages : List (Vec T Global)) (starts : List ℕ) (are : s
             | inr all ↦ inr (omega (arith, all, same))
           ]
 
-    -- a place that a page has lies in it
+    -- an index that a page has lies in it
     pub lies_in : (p : Vec T Global) → p ≡ get_or pages k p → (i : ℕ) → get_or starts k 0 ≤ i → i - get_or starts k 0 < length p.items
-        → IsPlace pages i k (i - get_or starts k 0)
+        → IsSlot pages i k (i - get_or starts k 0)
     lies_in p is i from in_page =
         record {
           there = page_there;
@@ -124,9 +124,9 @@ module _ {T : Type 0} (pages : List (Vec T Global)) (starts : List ℕ) (are : s
         same : (q : Vec T Global) → q ≡ get_or pages k q → p ≡ q
         same q e = is ∙ get_or_default pages k p q page_there ∙ sym e
 
-    -- the place that was found
-    pub is_place : (i : ℕ) → (k + 1 < length starts → i < get_or starts (k + 1) 0) → get_or starts k 0 ≤ i → i ≤ length (items_of pages) → IsPlace pages i k (i - get_or starts k 0)
-    is_place i last begins upto =
+    -- the index that was found
+    pub is_slot : (i : ℕ) → (k + 1 < length starts → i < get_or starts (k + 1) 0) → get_or starts k 0 ≤ i → i ≤ length (items_of pages) → IsSlot pages i k (i - get_or starts k 0)
+    is_slot i last begins upto =
         record {
           there = page_there;
           counted = omega (arith, start_is);
@@ -135,8 +135,8 @@ module _ {T : Type 0} (pages : List (Vec T Global)) (starts : List ℕ) (are : s
           within = λ p is h. elim (before_end p is i last) [ inl b ↦ omega arith | inr e ↦ omega arith ];
         }
 
--- what lies at a place, and what is put there
-module _ {T : Type 0} (pages : List (Vec T Global)) (i k j : ℕ) (at : IsPlace pages i k j) (p : Vec T Global) (is : p ≡ get_or pages k p) where
+-- what lies at an index, and what is put there
+module _ {T : Type 0} (pages : List (Vec T Global)) (i k j : ℕ) (at : IsSlot pages i k j) (p : Vec T Global) (is : p ≡ get_or pages k p) where
   -- the item there
   pub item_there : (x : T) → j < length p.items → x ≡ get_or p.items j x → Some x ≡ slice_get (items_of pages) i
   item_there x h e =
@@ -148,14 +148,14 @@ module _ {T : Type 0} (pages : List (Vec T Global)) (i k j : ℕ) (at : IsPlace 
 
 module _ {T : Type 0} where
   -- the item that is read, where the pages are those of a list that is seen so
-  pub item_read : (read pages : List (Vec T Global)) (items : List T) (i k j : ℕ) (p : Vec T Global) (x : T) → read ≡ pages → items_of pages ≡ items → IsPlace read i k j → p ≡ get_or pages k p → x ≡ get_or p.items j x → i < length (items_of pages) → Some x ≡ slice_get items i
+  pub item_read : (read pages : List (Vec T Global)) (items : List T) (i k j : ℕ) (p : Vec T Global) (x : T) → read ≡ pages → items_of pages ≡ items → IsSlot read i k j → p ≡ get_or pages k p → x ≡ get_or p.items j x → i < length (items_of pages) → Some x ≡ slice_get items i
   item_read read pages items i k j p x same view at is e h =
-      let there : IsPlace pages i k j = subst (λ (ps : List (Vec T Global)). IsPlace ps i k j) same at in
+      let there : IsSlot pages i k j = subst (λ (ps : List (Vec T Global)). IsSlot ps i k j) same at in
       item_there pages i k j there p is x (there.within p is h) e ∙ ap (λ (s : List T). slice_get s i) view
 
-  -- what is left of all from a place on
-  pub drop_place : (ps : List (Vec T Global)) (i k j : ℕ) (p : Vec T Global) → IsPlace ps i k j → p ≡ get_or ps k p → drop j p.items ++ items_of (drop (suc k) ps) ≡ drop i (items_of ps)
-  drop_place ps i k j p at is =
+  -- what is left of all from an index on
+  pub drop_slot : (ps : List (Vec T Global)) (i k j : ℕ) (p : Vec T Global) → IsSlot ps i k j → p ≡ get_or ps k p → drop j p.items ++ items_of (drop (suc k) ps) ≡ drop i (items_of ps)
+  drop_slot ps i k j p at is =
       sym (ap (λ (s : List T). drop i s) (items_of-split ps k p at.there is)
       ∙ ap (λ (n : ℕ). drop n (items_of (take k ps) ++ p.items ++ items_of (drop (suc k) ps))) (sym at.counted)
       ∙ sym (drop-drop j (length (items_of (take k ps))) (items_of (take k ps) ++ p.items ++ items_of (drop (suc k) ps)))
@@ -163,10 +163,10 @@ module _ {T : Type 0} where
       ∙ drop-append-le j p.items (items_of (drop (suc k) ps)) (at.upto p is))
 
   -- that the pages that are read are these
-  pub drop_read : (read pages : List (Vec T Global)) (items : List T) (i k j : ℕ) (p : Vec T Global) → read ≡ pages → items_of pages ≡ items → IsPlace read i k j → p ≡ get_or pages k p → drop j p.items ++ items_of (drop (k + 1) pages) ≡ drop i items
+  pub drop_read : (read pages : List (Vec T Global)) (items : List T) (i k j : ℕ) (p : Vec T Global) → read ≡ pages → items_of pages ≡ items → IsSlot read i k j → p ≡ get_or pages k p → drop j p.items ++ items_of (drop (k + 1) pages) ≡ drop i items
   drop_read read pages items i k j p same view at is =
       ap (λ (n : ℕ). drop j p.items ++ items_of (drop n pages)) (add-one k)
-      ∙ drop_place pages i k j p (subst (λ (ps : List (Vec T Global)). IsPlace ps i k j) same at) is ∙ ap (drop i) view
+      ∙ drop_slot pages i k j p (subst (λ (ps : List (Vec T Global)). IsSlot ps i k j) same at) is ∙ ap (drop i) view
 
   -- slices that end where the lists do
   pub parts_left : (part page : List T) (read pages : List (Vec T Global)) (j k : ℕ) → part ≡ page → read ≡ pages → take (length part - j) (drop j part) ++ items_of (take (length read - k) (drop k read)) ≡ drop j page ++ items_of (drop k pages)

@@ -1,15 +1,15 @@
--- An item that takes the place of another.
+-- An item put where another was.
 use Rattle.std.proofs.Common.{◌≡◌, ℕ, zero, suc, ◌+◌, ◌-◌, ◌<◌, ◌≤◌, List, [], ◌∷◌, ◌++◌, length, get_or, set, take, drop, refl, sym, ap, ◌∙◌, subst, arith}
 use Rattle.std.proofs.lemmas.List.{length-append, length-set, set-append_left, set-append_right}
 use Rattle.std.proofs.lemmas.List.Elements.{All-set}
 use Rattle.std.specs.Prelude.{Vec, All}
 use Rattle.std.specs.Vec.{vec_capacity}
 use Rattle.std.specs.declared.alloc.Global.{Global}
-use Rattle.page_list.specs.Pages.{items_of, starts_from, IsPage, IsPlace, ArePages}
+use Rattle.page_list.specs.Pages.{items_of, starts_from, IsPage, IsSlot, ArePages}
 use Rattle.page_list.proofs.Paged.{items_of-split, items_of-set}
 
 module _ {T : Type 0} where
-  -- pages of the same lengths begin at the same places
+  -- pages of the same lengths begin at the same indices
   starts_from-same : (at : ℕ) (ps : List (Vec T Global)) (k : ℕ) (p p' : Vec T Global) → k < length ps → p ≡ get_or ps k p → length p'.items ≡ length p.items → starts_from at (set ps k p') ≡ starts_from at ps
   starts_from-same at [] k p p' h e l = absurd (omega arith)
   starts_from-same at (x ∷ ps) zero p p' h e l = ap (λ (n : ℕ). at ∷ starts_from (at + n) ps) (l ∙ ap (λ (q : Vec T Global). length q.items) e)
@@ -25,7 +25,7 @@ module _ {T : Type 0} where
   -- a page has another item
   pub record IsReplaced (pages pages' : Vec (Vec T Global) Global) (starts : Vec ℕ Global) (spare : Vec (Vec T Global) Global) (len room i k j : ℕ) (p p' : Vec T Global) (x : T) : Type 0 where
     pub were : ArePages pages starts spare len room
-    pub at : IsPlace pages.items i k j
+    pub at : IsSlot pages.items i k j
     pub within : i < length (items_of pages.items)
     pub is : p ≡ get_or pages.items k p
     pub replaced : p'.items ≡ set p.items j x
@@ -38,7 +38,7 @@ module _ {T : Type 0} where
     as_many : length p'.items ≡ length p.items
     as_many = ap length g.replaced ∙ length-set p.items j x
 
-    -- the item is at its place
+    -- the item is at its index
     pub replaced_items : items_of pages'.items ≡ set (items_of pages.items) i x
     replaced_items =
         ap items_of g.put ∙ items_of-set pages.items k p' g.at.there

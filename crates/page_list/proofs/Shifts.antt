@@ -1,4 +1,4 @@
--- The places from one on, one more each, and the next of them.
+-- The indices from one on, one more each, and the next of them.
 use Rattle.std.proofs.Common.{◌≡◌, ℕ, ◌+◌, ◌-◌, ◌<◌, ◌≤◌, List, ◌++◌, length, get_or, set, take, drop, map, refl, sym, ap, ◌∙◌, arith}
 use Rattle.std.proofs.lemmas.List.{set-append_right, get_or-append_right, length-take-le, length-take, length-drop, length-append, length-map, get_or_default}
 use Rattle.std.proofs.lemmas.List.Edits.{map_over_more}
@@ -11,7 +11,7 @@ so_far s from n = take from s ++ (map (λ m. m + 1) (take n (drop from s)) ++ dr
 long : (d : List ℕ) (n : ℕ) → length (map (λ m. m + 1) (take n d) ++ drop n d) ≡ length d
 long d n = omega (arith, length-append (map (λ m. m + 1) (take n d)) (drop n d), length-map (take n d) (λ m. m + 1), length-take n d, length-drop n d)
 
--- one more at the next place
+-- one more at the next index
 pub shift_step : (s xs : List ℕ) (from i : ℕ) → from ≤ i → i < length s → xs ≡ so_far s from (i - from) → set xs i (get_or xs i 0 + 1) ≡ so_far s from (i + 1 - from)
 shift_step s xs from i h l e =
     let n : length (take from s) ≡ from = length-take-le from s (omega arith) in

@@ -1,4 +1,4 @@
--- A list that is cut off at a place.
+-- A list that is cut off at an index.
 use Rattle.std.proofs.Common.{◌≡◌, ℕ, zero, suc, ◌+◌, ◌<◌, ◌≤◌, List, [], ◌∷◌, ◌++◌, length, get_or, set, take, drop, refl, sym, ap, ◌∙◌, subst, arith}
 use Rattle.std.proofs.lemmas.List.{append-nil, append_assoc, length-append, length-set, length-take-le, take-append-le}
 use Rattle.std.proofs.Math.Seq.{take-append-add}
@@ -6,7 +6,7 @@ use Rattle.std.proofs.lemmas.List.Elements.{All-set, All-take}
 use Rattle.std.specs.Prelude.{Vec, All}
 use Rattle.std.specs.Vec.{vec_capacity}
 use Rattle.std.specs.declared.alloc.Global.{Global}
-use Rattle.page_list.specs.Pages.{items_of, starts_from, IsPage, IsPlace, ArePages}
+use Rattle.page_list.specs.Pages.{items_of, starts_from, IsPage, IsSlot, ArePages}
 use Rattle.page_list.proofs.Paged.{items_of-split}
 
 module _ {T : Type 0} where
@@ -27,10 +27,10 @@ module _ {T : Type 0} where
   take_middle : (a b c : List T) (j : ℕ) → j ≤ length b → take (length a + j) (a ++ b ++ c) ≡ a ++ take j b
   take_middle a b c j h = take-append-le (length a + j) (a ++ b) c (omega (arith, length-append a b)) ∙ take-append-add a b j
 
-  -- the pages up to that of a place stay, and that one up to its offset
+  -- the pages up to that of an index stay, and that one up to its offset
   pub record IsCut (pages pages' : Vec (Vec T Global) Global) (starts starts' : Vec ℕ Global) (spare : Vec (Vec T Global) Global) (len room i k j : ℕ) (p p' : Vec T Global) : Type 0 where
     pub were : ArePages pages starts spare len room
-    pub at : IsPlace pages.items i k j
+    pub at : IsSlot pages.items i k j
     pub within : i < len
     pub is : p ≡ get_or pages.items k p
     pub cut : p'.items ≡ take j p.items
@@ -41,7 +41,7 @@ module _ {T : Type 0} where
     pub starts_capacity : vec_capacity starts ≤ vec_capacity starts'
 
   module _ {pages pages' : Vec (Vec T Global) Global} {starts starts' : Vec ℕ Global} {spare : Vec (Vec T Global) Global} {len room i k j : ℕ} {p p' : Vec T Global} (g : IsCut pages pages' starts starts' spare len room i k j p p') where
-    -- the items before the place
+    -- the items before the index
     pub cut_items : items_of pages'.items ≡ take i (items_of pages.items)
     cut_items =
         ap items_of g.put ∙ items_of-first pages.items k p' g.at.there

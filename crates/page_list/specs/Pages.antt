@@ -1,4 +1,4 @@
--- How a list lies in pages, each with the place of its first item, and empty pages to spare.
+-- How a list lies in pages, each with the index of its first item, and empty pages to spare.
 use Rattle.std.specs.Prelude.{◌≡◌, ℕ, ◌+◌, ◌<◌, ◌≤◌, ◌^◌, List, [], ◌∷◌, length, take, slice_index, slice_index_or, All}
 use Rattle.std.specs.List.{flat_map}
 use Rattle.std.specs.Prelude.{Vec}
@@ -9,7 +9,7 @@ use Rattle.std.specs.declared.alloc.Global.{Global}
 abbrev pub items_of : {T : Type 0} → List (Vec T Global) → List T
 items_of pages = flat_map (λ p. p.items) pages
 
--- the place of each page's first item, where the first page begins at this place
+-- the index of each page's first item, where the first page begins at this index
 abbrev pub starts_from : {T : Type 0} → ℕ → List (Vec T Global) → List ℕ
 starts_from at [] = []
 starts_from at (p ∷ pages) = at ∷ starts_from (at + length p.items) pages
@@ -24,7 +24,7 @@ pub record IsEmptyPage {T : Type 0} (page : Vec T Global) : Type 0 where
   pub empty : page.items ≡ []
   pub roomy : 256 ≤ vec_capacity page
 
--- the places are right, and each empty page can be put among the others with no further memory
+-- the indices are right, and each empty page can be put among the others with no further memory
 pub record ArePages {T : Type 0} (pages : Vec (Vec T Global) Global) (starts : Vec ℕ Global) (spare : Vec (Vec T Global) Global) (len room : ℕ) : Type 0 where
   pub starts_are : starts.items ≡ starts_from 0 pages.items
   pub len_is : len ≡ length (items_of pages.items)
@@ -35,8 +35,8 @@ pub record ArePages {T : Type 0} (pages : Vec (Vec T Global) Global) (starts : V
   pub pages_roomy : length pages.items + length spare.items ≤ vec_capacity pages
   pub starts_roomy : length pages.items + length spare.items ≤ vec_capacity starts
 
--- the item at place i is the one at this offset in this page, or would stand there
-pub record IsPlace {T : Type 0} (pages : List (Vec T Global)) (i page offset : ℕ) : Type 0 where
+-- the item at index i is the one at this offset in this page, or would stand there
+pub record IsSlot {T : Type 0} (pages : List (Vec T Global)) (i page offset : ℕ) : Type 0 where
   pub there : page < length pages
   pub counted : length (items_of (take page pages)) + offset ≡ i
   pub begins : slice_index (starts_from 0 pages) page + offset ≡ i

@@ -1,9 +1,9 @@
--- A place that splits a part of a list in two.
+-- An index that splits a part of a list in two.
 use Rattle.std.specs.Prelude.{ℕ, ◌+◌, ◌<◌, ◌≤◌}
 
--- from `low` on and before `high`, with no more than `most` places on either side
-pub record IsSplit (low high most place : ℕ) : Type 0 where
-  pub from : low ≤ place
-  pub until : place < high
-  pub before : place ≤ low + most
-  pub after : high ≤ place + most + 1
+-- from `low` on and before `high`, with no more than `most` items on either side
+pub record IsSplit (low high most index : ℕ) : Type 0 where
+  pub from : low ≤ index
+  pub until : index < high
+  pub before : index ≤ low + most
+  pub after : high ≤ index + most + 1

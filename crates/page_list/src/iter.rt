@@ -2,7 +2,7 @@ ghost use Rattle.std.specs.Iterator.{YieldsFirst, item_count};
 ghost use Rattle.page_list.specs.Pages.{items_of};
 ghost use Rattle.page_list.specs.Rest.{rest_of};
 
-/// The items of a list from a place on, in order.
+/// The items of a list from an index on, in order.
 #[derive(Drop)]
 pub struct Iter<'a, T> {
     /// What is left of a page.

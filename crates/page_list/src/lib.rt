@@ -4,7 +4,7 @@
 mod iter;
 mod page;
 mod page_list;
-mod place;
+mod slot;
 mod split;
 
 pub use iter::Iter;

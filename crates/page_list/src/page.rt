@@ -8,13 +8,13 @@ use std::alloc::{AllocError, Global};
 pub(crate) const PAGE: usize = 256;
 
 /// Puts an item into a list that has room for it.
-pub(crate) fn insert_within<T>(page: &mut Vec<T>, place: usize, item: T)
-    requires place { place ≤ vec_len page.old }
+pub(crate) fn insert_within<T>(page: &mut Vec<T>, index: usize, item: T)
+    requires index { index ≤ vec_len page.old }
     requires room { vec_len page.old < vec_capacity page.old }
-    ensures items { page.new.items ≡ insert page.old.items place item }
+    ensures items { page.new.items ≡ insert page.old.items index item }
     ensures capacity { vec_capacity page.old ≤ vec_capacity page.new }
 {
-    match page.insert(place, item) {
+    match page.insert(index, item) {
         Ok(()) => {}
         Err(_) => unreachable!(),
     }
@@ -24,15 +24,15 @@ pub(crate) fn insert_within<T>(page: &mut Vec<T>, place: usize, item: T)
 pub(crate) fn insert_halved<T: Copy>(
     page: &mut Vec<T>,
     tail: &mut Vec<T>,
-    place: usize,
+    index: usize,
     item: T,
 ) -> usize
     requires full { length page.old.items ≡ PAGE }
-    requires place { place ≤ PAGE }
+    requires index { index ≤ PAGE }
     requires empty { tail.old.items ≡ [] }
     requires roomy { PAGE ≤ vec_capacity page.old }
     requires tail_roomy { PAGE ≤ vec_capacity tail.old }
-    ensures items { page.new.items ++ tail.new.items ≡ insert page.old.items place item }
+    ensures items { page.new.items ++ tail.new.items ≡ insert page.old.items index item }
     ensures length { result ≡ length page.new.items }
     ensures bounded { length page.new.items ≤ PAGE }
     ensures tail_bounded { length tail.new.items ≤ PAGE }
@@ -44,10 +44,10 @@ pub(crate) fn insert_halved<T: Copy>(
         Err(_) => unreachable!(),
     }
     page.truncate(PAGE / 2);
-    if place <= PAGE / 2 {
-        insert_within(page, place, item);
+    if index <= PAGE / 2 {
+        insert_within(page, index, item);
     } else {
-        insert_within(tail, place - PAGE / 2, item);
+        insert_within(tail, index - PAGE / 2, item);
     }
     page.len()
 }

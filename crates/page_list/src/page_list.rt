@@ -4,7 +4,7 @@ ghost use Rattle.page_list.specs.Listing.{Listing};
 
 use crate::iter::Iter;
 use crate::page::{PAGE, fill, insert_halved, insert_within};
-use crate::place::{place_of, shift};
+use crate::slot::{shift, slot_of};
 use std::alloc::{AllocError, Global};
 use std::marker::Model;
 
@@ -13,7 +13,7 @@ use std::marker::Model;
 pub struct PageList<T> {
     /// The items, in pages of at most `PAGE`.
     pub(crate) pages: Vec<Vec<T>>,
-    /// The place of each page's first item.
+    /// The index of each page's first item.
     pub(crate) starts: Vec<usize>,
     /// Pages with no items.
     spare: Vec<Vec<T>>,
@@ -61,14 +61,14 @@ impl<T: Copy> PageList<T> {
         self.len
     }
 
-    /// The item at a place. Takes as many steps as the number of pages has binary digits.
+    /// The item at an index. Takes as many steps as the number of pages has binary digits.
     pub fn get(&self, i: usize) -> Option<T>
         ensures { result ≡ slice_get self.now.items i }
     {
         if i >= self.len {
             return None;
         }
-        let at = place_of(&self.pages, &self.starts, i);
+        let at = slot_of(&self.pages, &self.starts, i);
         Some(self.pages[at.page][at.offset])
     }
 
@@ -83,7 +83,7 @@ impl<T: Copy> PageList<T> {
         }
     }
 
-    /// The items from a place on.
+    /// The items from an index on.
     pub fn iter_from(&self, i: usize) -> Iter<'_, T>
         requires { i ≤ length self.now.items }
         ensures { rest_of result ≡ drop i self.now.items }
@@ -91,26 +91,26 @@ impl<T: Copy> PageList<T> {
         if self.pages.is_empty() {
             return self.iter();
         }
-        let at = place_of(&self.pages, &self.starts, i);
+        let at = slot_of(&self.pages, &self.starts, i);
         Iter {
             page: &self.pages[at.page][at.offset..],
             later: &self.pages[at.page + 1..],
         }
     }
 
-    /// Puts another item in the place of one.
+    /// Puts another item where one is.
     pub fn set(&mut self, i: usize, item: T)
         requires { i < length self.old.items }
         ensures items { self.new.items ≡ slice_set self.old.items i item }
         ensures room { self.new.room ≡ self.old.room }
     {
-        let at = place_of(&self.pages, &self.starts, i);
+        let at = slot_of(&self.pages, &self.starts, i);
         self.pages[at.page][at.offset] = item;
     }
 
-    /// Puts an item at a place, before the one that is there.
+    /// Puts an item at an index, before the one that is there.
     pub fn insert(&mut self, i: usize, item: T)
-        requires place { i ≤ length self.old.items }
+        requires index { i ≤ length self.old.items }
         requires room { 0 < self.old.room }
         ensures items { self.new.items ≡ insert self.old.items i item }
         ensures room { self.old.room ≡ self.new.room + 1 }
@@ -119,7 +119,7 @@ impl<T: Copy> PageList<T> {
             self.open(item);
             return;
         }
-        let at = place_of(&self.pages, &self.starts, i);
+        let at = slot_of(&self.pages, &self.starts, i);
         shift(&mut self.starts, at.page + 1);
         self.len += 1;
         self.room -= 1;
@@ -153,7 +153,7 @@ impl<T: Copy> PageList<T> {
         Ok(())
     }
 
-    /// Keeps the items before a place, if that is not past the end. Pages after the one that has the place are given
+    /// Keeps the items before an index, if that is not past the end. Pages after the one that has the index are given
     /// back.
     pub fn truncate(&mut self, n: usize)
         ensures items { self.new.items ≡ take n self.old.items }
@@ -162,7 +162,7 @@ impl<T: Copy> PageList<T> {
         if n >= self.len {
             return;
         }
-        let at = place_of(&self.pages, &self.starts, n);
+        let at = slot_of(&self.pages, &self.starts, n);
         self.pages[at.page].truncate(at.offset);
         self.pages.truncate(at.page + 1);
         self.starts.truncate(at.page + 1);

@@ -2,7 +2,7 @@ ghost use Rattle.std.specs.Prelude.{◌≡◌, ◌+◌, ◌*◌, ◌<◌, ◌≤
 ghost use Rattle.page_list.specs.Split.{IsSplit};
 
 use crate::page_list::PageList;
-use crate::place::place_near;
+use crate::slot::slot_near;
 
 /// The pages in which a part of a list lies, where a search looks first. A split is fair whatever they
 /// say.
@@ -23,7 +23,7 @@ impl Pages {
 /// An item that splits a part of a list in two, and the pages of each half.
 #[derive(Clone, Copy)]
 pub struct Split<T> {
-    pub place: usize,
+    pub index: usize,
     pub item: T,
     pub before: Pages,
     pub after: Pages,
@@ -38,7 +38,7 @@ impl<T: Copy> PageList<T> {
         }
     }
 
-    /// An item from place `low` on and before `high` with no more than `most` on either side: the first
+    /// An item from index `low` on and before `high` with no more than `most` on either side: the first
     /// of the page in the middle of `pages`, where that is such a one, so that searches read the same
     /// few items, and else the one in the middle. Takes one step where the part lies in one page, and
     /// mostly otherwise; else as many as the number of pages has binary digits.
@@ -46,15 +46,15 @@ impl<T: Copy> PageList<T> {
         requires part { low < high }
         requires within { high ≤ length self.now.items }
         requires halves { high ≤ low + 2 * most + 1 }
-        ensures item { slice_get self.now.items result.place ≡ Some result.item }
-        ensures place { IsSplit low high most result.place }
+        ensures item { slice_get self.now.items result.index ≡ Some result.item }
+        ensures index { IsSplit low high most result.index }
     {
         let page = pages.middle();
         let first = self.starts.get(page).copied();
-        let place = fair_place(low, high, most, first.unwrap_or(high));
-        let at = place_near(&self.pages, &self.starts, page, place);
+        let index = fair_index(low, high, most, first.unwrap_or(high));
+        let at = slot_near(&self.pages, &self.starts, page, index);
         Split {
-            place,
+            index,
             item: self.pages[at.page][at.offset],
             before: Pages {
                 first: pages.first,
@@ -68,8 +68,8 @@ impl<T: Copy> PageList<T> {
     }
 }
 
-/// This place, where no more than `most` are on either side, and else the one in the middle.
-fn fair_place(low: usize, high: usize, most: usize, wished: usize) -> usize
+/// This index, where no more than `most` are on either side, and else the one in the middle.
+fn fair_index(low: usize, high: usize, most: usize, wished: usize) -> usize
     requires part { low < high }
     requires halves { high ≤ low + 2 * most + 1 }
     ensures { IsSplit low high most result }

@@ -5,20 +5,20 @@ use Rattle.std.specs.List.{AllByRecursion}
 use Rattle.hex.specs.Hex.{encode_lower}
 use Rattle.smp_bytes.specs.Text.{guid_text, port_text}
 use Rattle.subnet_view.specs.declared.end_port.EndPort.{EndPort}
-use Rattle.lft_blocks.specs.PlanText.{lid_line, lmc_text, switch_line, block_line}
+use Rattle.lft_blocks.specs.PlanText.{lid_line, switch_line, block_line}
 use Rattle.text_words.specs.Printed.{line_text}
 use Rattle.text_words.proofs.Digits.{is_below}
 use Rattle.text_words.proofs.NumbersPrinted.{count_is_read, guid_is_read}
 use Rattle.text_words.proofs.Printed.{IsWord, decimal_word}
 use Rattle.std.proofs.lemmas.Bool.{ltb-true, ne_eqb}
 use Rattle.plan_file.specs.declared.item.Item.TheVariants.{Lid, Switch, Block}
-use Rattle.plan_file.specs.declared.judge.Place.{Place}
+use Rattle.plan_file.specs.declared.last_lines.LastLines.{LastLines}
 use Rattle.plan_file.specs.declared.held.HeldLid.{HeldLid}
 use Rattle.plan_file.specs.declared.held.HeldSwitch.{HeldSwitch}
 use Rattle.plan_file.specs.Held.{LidRange}
-use Rattle.plan_file.specs.Line.{line_in, lmc_line}
+use Rattle.plan_file.specs.TextLine.{line_in, lmc_line}
 use Rattle.plan_file.specs.Printed.{IsBlock}
-use Rattle.plan_file.specs.Reading.{place_after, item_of, lid_after, lid_in_room, switch_after, block_with}
+use Rattle.plan_file.specs.Reading.{last_lines_after, item_of, lid_after, switch_after, block_with}
 use Rattle.plan_file.proofs.Passes.{Passes, passes_line}
 use Rattle.plan_file.proofs.WordsPrinted.{guid_is_word, port_is_word, small_is_read, port_is_read, entries_are_word, entries_are_read}
 
@@ -90,9 +90,9 @@ pub record IsRangeRight (r : LidRange) : Type 0 where
   pub lmc : r.lmc ≤ 7
   pub last : r.first.lid + 2 ^ r.lmc ≤ 0xC000
 
-lid_is_said : (number : ℕ) (place : Place) (r : LidRange) → IsRangeRight r → IsBelow place.lid r.first.lid
-    → item_of number place (line_in (lid_words r)) ≡ Ok (Lid r)
-lid_is_said number place r is below =
+lid_is_said : (number : ℕ) (index : LastLines) (r : LidRange) → IsRangeRight r → IsBelow index.lid r.first.lid
+    → item_of number index (line_in (lid_words r)) ≡ Ok (Lid r)
+lid_is_said number index r is below =
     let e = r.first.port in
     rw (
       count_is_read 0xBFFF r.first.lid (omega (arith, is.most)) is.some is.most,
@@ -100,14 +100,14 @@ lid_is_said number place r is below =
       lmc_is_read r.lmc is.lmc,
       not_below 0xC000 (r.first.lid + 2 ^ r.lmc) is.last,
     )
-    (lid_follows number place.lid r below)
+    (lid_follows number index.lid r below)
 
-pub lid_passes : (place : Place) (r : LidRange) → IsRangeRight r → IsBelow place.lid r.first.lid
-    → Passes place (lid_line (r.first.lid, r.lmc, r.first.port)) (Lid r ∷ []) (place_after place (Lid r))
-lid_passes place r is below =
-    let P : List ℕ → Type 0 = λ t. Passes place t (Lid r ∷ []) (place_after place (Lid r)) in
+pub lid_passes : (index : LastLines) (r : LidRange) → IsRangeRight r → IsBelow index.lid r.first.lid
+    → Passes index (lid_line (r.first.lid, r.lmc, r.first.port)) (Lid r ∷ []) (last_lines_after index (Lid r))
+lid_passes index r is below =
+    let P : List ℕ → Type 0 = λ t. Passes index t (Lid r ∷ []) (last_lines_after index (Lid r)) in
     subst P (sym (lid_text r.first.lid r.lmc r.first.port))
-    (passes_line place (lid_words r) (Lid r) (lid_words_are r is.most is.port is.lmc) (λ number. lid_is_said number place r is below))
+    (passes_line index (lid_words r) (Lid r) (lid_words_are r is.most is.port is.lmc) (λ number. lid_is_said number index r is below))
 
 -- the line of a switch
 abbrev switch_words : ℕ → ℕ → List (List ℕ)
@@ -126,18 +126,18 @@ switch_follows : (number : ℕ) (last : Option ℕ) (switch : HeldSwitch) → Is
 switch_follows number None switch before = refl
 switch_follows number (Some last) switch before = rw (is_below last switch.guid before) refl
 
-switch_is_said : (number : ℕ) (place : Place) (top guid : ℕ) → top ≤ 0xBFFF → guid < 2 ^ 64 → IsBeforeSwitch place.switch guid
-    → item_of number place (line_in (switch_words top guid)) ≡ Ok (Switch (record { guid = guid; top = top }))
-switch_is_said number place top guid most small before =
-    rw (guid_is_read guid small, small_is_read 0xBFFF top (omega arith) most) (switch_follows number place.switch (record { guid = guid; top = top }) before)
+switch_is_said : (number : ℕ) (index : LastLines) (top guid : ℕ) → top ≤ 0xBFFF → guid < 2 ^ 64 → IsBeforeSwitch index.switch guid
+    → item_of number index (line_in (switch_words top guid)) ≡ Ok (Switch (record { guid = guid; top = top }))
+switch_is_said number index top guid most small before =
+    rw (guid_is_read guid small, small_is_read 0xBFFF top (omega arith) most) (switch_follows number index.switch (record { guid = guid; top = top }) before)
 
-pub switch_passes : (place : Place) (top guid : ℕ) → top ≤ 0xBFFF → guid < 2 ^ 64 → IsBeforeSwitch place.switch guid
-    → Passes place (switch_line top guid) (Switch (record { guid = guid; top = top }) ∷ []) (place_after place (Switch (record { guid = guid; top = top })))
-switch_passes place top guid most small before =
+pub switch_passes : (index : LastLines) (top guid : ℕ) → top ≤ 0xBFFF → guid < 2 ^ 64 → IsBeforeSwitch index.switch guid
+    → Passes index (switch_line top guid) (Switch (record { guid = guid; top = top }) ∷ []) (last_lines_after index (Switch (record { guid = guid; top = top })))
+switch_passes index top guid most small before =
     let held : HeldSwitch = record { guid = guid; top = top } in
-    let P : List ℕ → Type 0 = λ t. Passes place t (Switch held ∷ []) (place_after place (Switch held)) in
+    let P : List ℕ → Type 0 = λ t. Passes index t (Switch held ∷ []) (last_lines_after index (Switch held)) in
     subst P (sym (switch_text top guid))
-    (passes_line place (switch_words top guid) (Switch held) (switch_words_are top guid most) (λ number. switch_is_said number place top guid most small before))
+    (passes_line index (switch_words top guid) (Switch held) (switch_words_are top guid most) (λ number. switch_is_said number index top guid most small before))
 
 -- the line of a block
 abbrev block_words : ℕ → List ℕ → List (List ℕ)
@@ -163,8 +163,8 @@ pub block_passes : (next number guid : ℕ) (lid : Option HeldLid) (entries : Li
     → Passes (record { lid = lid; switch = Some guid; block = next }) (block_line (number, entries)) (Block number entries ∷ [])
     (record { lid = lid; switch = Some guid; block = number + 1 })
 block_passes next number guid lid entries h most is =
-    let place : Place = record { lid = lid; switch = Some guid; block = next } in
-    let P : List ℕ → Type 0 = λ t. Passes place t (Block number entries ∷ []) (place_after place (Block number entries)) in
+    let index : LastLines = record { lid = lid; switch = Some guid; block = next } in
+    let P : List ℕ → Type 0 = λ t. Passes index t (Block number entries ∷ []) (last_lines_after index (Block number entries)) in
     subst P (sym (block_text number entries))
-    (passes_line place (block_words number entries) (Block number entries) (block_words_are number entries most is)
+    (passes_line index (block_words number entries) (Block number entries) (block_words_are number entries most is)
     (λ line. block_is_said line next number guid lid entries h most is))

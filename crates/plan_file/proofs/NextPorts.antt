@@ -1,44 +1,43 @@
 -- A rule of routing has a port only where it has a cost, and the port is one of a wire between switches.
-use Rattle.std.proofs.Common.{◌≡◌, ℕ, true, false, List, [], ◌∷◌, Option, None, Some, refl, sym, ap, ◌∙◌, ◌==◌}
+use Rattle.std.proofs.Common.{◌≡◌, ℕ, true, false, List, [], ◌∷◌, Option, None, Some, refl, sym, ◌∙◌, ◌==◌}
 use Rattle.std.specs.Prelude.{Contains, option_map}
 use Rattle.std.proofs.lemmas.Bool.{eqb-false}
 use Rattle.std.proofs.lemmas.Option.{same_Some, none-some}
 use Rattle.fact_store.specs.View.{Facts, cells_of}
-use Rattle.port_graph.specs.declared.exit.Exit.{Exit}
-use Rattle.updown_routes.specs.Crossing.{Crossing}
-use Rattle.updown_routes.specs.Graph.{exits_at, graph_of}
+use Rattle.port_graph.specs.declared.edge.Edge.{Edge}
+use Rattle.updown_routes.specs.SwitchEdges.{SwitchEdges}
+use Rattle.updown_routes.specs.Graph.{edges_at, graph_of}
 use Rattle.updown_routes.specs.GraphLaws.{IsSwitch}
 use Rattle.updown_routes.specs.Ranks.{in_one_component}
 use Rattle.updown_routes.specs.Routing.{Routing, FollowsRule, Passes}
 use Rattle.updown_routes.proofs.Components.{cost_in_component}
 use Rattle.updown_routes.proofs.Graphs.{graph_law}
 use Rattle.updown_routes.proofs.LeastCosts.{no_cost_between}
-use Rattle.spread_routes.specs.declared.mark.Mark.{Mark}
-use Rattle.spread_routes.specs.EveryPair.{grown}
-use Rattle.spread_routes.specs.Labels.{candidates_by, marks}
-use Rattle.spread_rule.specs.Bearing.{bearing_of}
-use Rattle.spread_rule.specs.Rule.{Spreading, by_places, place, taken}
-use Rattle.spread_rule.specs.Rules.{RuleValue, routing_by}
-use Rattle.spread_rule.specs.Spread.{grading_of, keys_by, number_there, spread_by}
-use Rattle.spread_rule.proofs.Whole.{rules_are_routings}
+use Rattle.spread_labels.specs.declared.label.Mark.{Mark}
+use Rattle.spread_labels.specs.Labels.{candidates_by, marks}
+use Rattle.spread_routes.specs.LeafSwitches.{leaf_switches_of}
+use Rattle.spread_routes.specs.Rule.{Spreading, by_positions, position, taken}
+use Rattle.lft_blocks.specs.Rules.{RuleValue, routing_by}
+use Rattle.spread_routes.specs.Spread.{grading_of, keys_by, number_there, spread_by}
+use Rattle.lft_blocks.proofs.RulesRoute.{rules_are_routings}
 
 abbrev HasCost : Routing → ℕ → ℕ → Type 0
 HasCost rule s t = (n : ℕ) × (rule.cost s t ≡ Some n)
 
 -- candidates are of a vertex with a mark
-marked : (exits : List (List Exit)) (by : Spreading) (lid p q port : ℕ) (mark : Option Mark)
-    → option_map (λ (e : Exit). e.port) (taken by lid p (candidates_by exits q p mark)) ≡ Some port → (n : ℕ) × (option_map (λ (m : Mark). m.cost) mark ≡ Some n)
-marked exits by lid p q port None h = absurd (cc)
-marked exits by lid p q port (Some m) h = (m.cost, refl)
+marked : (edges : List (List Edge)) (by : Spreading) (lid p q port : ℕ) (mark : Option Mark)
+    → option_map (λ (e : Edge). e.port) (taken by lid p (candidates_by edges q p mark)) ≡ Some port → (n : ℕ) × (option_map (λ (m : Mark). m.cost) mark ≡ Some n)
+marked edges by lid p q port None h = absurd (cc)
+marked edges by lid p q port (Some m) h = (m.cost, refl)
 
-spread_has_cost : (graph : List Crossing) (bearing roots : List ℕ) (lid s t port : ℕ) → (spread_by graph bearing roots).next lid s t ≡ Some port
-    → HasCost (spread_by graph bearing roots) s t
+spread_has_cost : (graph : List SwitchEdges) (leaf_switches roots : List ℕ) (lid s t port : ℕ) → (spread_by graph leaf_switches roots).next lid s t ≡ Some port
+    → HasCost (spread_by graph leaf_switches roots) s t
 unfolding spread_by
-spread_has_cost graph bearing roots lid s t port h =
-    let keys = keys_by graph bearing roots in
-    let exits = by_places graph keys in
-    let by : Spreading = record { keys = keys; number = number_there (grading_of graph bearing roots) } in
-    marked exits by lid (place graph keys s) (place graph keys t) port (marks exits (place graph keys t) (place graph keys s)) h
+spread_has_cost graph leaf_switches roots lid s t port h =
+    let keys = keys_by graph leaf_switches roots in
+    let edges = by_positions graph keys in
+    let by : Spreading = record { keys = keys; number = number_there (grading_of graph leaf_switches roots) } in
+    marked edges by lid (position graph keys s) (position graph keys t) port (marks edges (position graph keys t) (position graph keys s)) h
 
 pub next_has_cost : (rule : RuleValue) (facts : Facts) (lid s t port : ℕ) → IsSwitch (graph_of (cells_of facts)) s → IsSwitch (graph_of (cells_of facts)) t
     → (routing_by rule (cells_of facts)).next lid s t ≡ Some port → HasCost (routing_by rule (cells_of facts)) s t
@@ -49,17 +48,17 @@ next_has_cost None facts lid s t port is_s is_t h =
       | true ↦ λ j. cost_in_component graph good s t is_s is_t j
       | false ↦ λ j. absurd (none-some port (sym (no_cost_between graph good s t is_s j).1 ∙ h))
     ] refl
-next_has_cost (Some roots) facts lid s t port is_s is_t h = spread_has_cost (graph_of (cells_of facts)) (bearing_of (cells_of facts)) roots lid s t port h
+next_has_cost (Some roots) facts lid s t port is_s is_t h = spread_has_cost (graph_of (cells_of facts)) (leaf_switches_of (cells_of facts)) roots lid s t port h
 
-first_exit : (graph : List Crossing) (rule : Routing) (lid s t port : ℕ) (es : List Exit) → (s == t) ≡ false → rule.next lid s t ≡ Some port
-    → FollowsRule rule lid t s es → Passes graph s es → (e : Exit) × Contains (exits_at graph s) e × (e.port ≡ port)
-first_exit graph rule lid s t port [] apart h follows passes = absurd (eqb-false s t apart follows)
-first_exit graph rule lid s t port (e ∷ es) apart h (_, its, _) (there, _) = (e, there, same_Some e.port port (sym its ∙ h))
+first_edge : (graph : List SwitchEdges) (rule : Routing) (lid s t port : ℕ) (es : List Edge) → (s == t) ≡ false → rule.next lid s t ≡ Some port
+    → FollowsRule rule lid t s es → Passes graph s es → (e : Edge) × Contains (edges_at graph s) e × (e.port ≡ port)
+first_edge graph rule lid s t port [] apart h follows passes = absurd (eqb-false s t apart follows)
+first_edge graph rule lid s t port (e ∷ es) apart h (_, its, _) (there, _) = (e, there, same_Some e.port port (sym its ∙ h))
 
-pub next_is_exit : (rule : RuleValue) (facts : Facts) (lid s t port : ℕ) → IsSwitch (graph_of (cells_of facts)) s → IsSwitch (graph_of (cells_of facts)) t
+pub next_is_edge : (rule : RuleValue) (facts : Facts) (lid s t port : ℕ) → IsSwitch (graph_of (cells_of facts)) s → IsSwitch (graph_of (cells_of facts)) t
     → (s == t) ≡ false → (routing_by rule (cells_of facts)).next lid s t ≡ Some port
-    → (e : Exit) × Contains (exits_at (graph_of (cells_of facts)) s) e × (e.port ≡ port)
-next_is_exit rule facts lid s t port is_s is_t apart h =
+    → (e : Edge) × Contains (edges_at (graph_of (cells_of facts)) s) e × (e.port ≡ port)
+next_is_edge rule facts lid s t port is_s is_t apart h =
     let (n, cost) = next_has_cost rule facts lid s t port is_s is_t h in
     let way = (rules_are_routings rule facts).leads lid s t n is_s cost in
-    first_exit (graph_of (cells_of facts)) (routing_by rule (cells_of facts)) lid s t port way.exits apart h way.by_rule way.passes
+    first_edge (graph_of (cells_of facts)) (routing_by rule (cells_of facts)) lid s t port way.edges apart h way.by_rule way.passes

@@ -1,13 +1,12 @@
 -- The lines of a plan's LIDs, one for each LID: who owns a LID has a line for it, and a line tells who owns its LID.
-use Rattle.std.proofs.Common.{◌≡◌, ℕ, ◌+◌, ◌-◌, ◌<◌, ◌≤◌, ◌^◌, Option, None, Some, refl, sym, ap, ◌∙◌, subst, arith, map}
+use Rattle.std.proofs.Common.{◌≡◌, ℕ, ◌+◌, ◌-◌, ◌<◌, ◌≤◌, ◌^◌, Some, sym, ap, ◌∙◌, subst, arith}
 use Rattle.std.specs.Prelude.{Contains, option_map}
-use Rattle.std.specs.List.{filter_map, flat_map, range_with_len}
+use Rattle.std.specs.List.{filter_map}
 use Rattle.std.proofs.lemmas.Nat.{pow_pos}
 use Rattle.std.proofs.lemmas.Option.{same_Some}
 use Rattle.fact_store.specs.View.{Facts, cells_of}
 use Rattle.subnet_view.specs.declared.end_port.EndPort.{EndPort}
 use Rattle.subnet_view.proofs.Taken.{is_taken, taken_from}
-use Rattle.lid_assign.specs.Ranges.{lmc_at, range_at, IsIn}
 use Rattle.lid_assign.specs.Lids.{Given, IsNoRoom, lids, lmc_of, owner_of, rising_lids}
 use Rattle.lid_assign.proofs.HandOut.{PairsApart}
 use Rattle.lid_assign.proofs.LidLaws.{handed, pairs}

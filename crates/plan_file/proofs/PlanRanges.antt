@@ -42,15 +42,15 @@ use Rattle.subnet_view.proofs.Apart.{contains_map}
 use Rattle.subnet_view.proofs.EndPortList.{end_ports_law}
 use Rattle.subnet_view.proofs.UsableSwitches.{switches_law}
 use Rattle.lft_blocks.specs.Plan.{tables_of, plan_of}
-use Rattle.port_graph.specs.declared.exit.Exit.{Exit}
-use Rattle.updown_routes.specs.Graph.{graph_of, exits_at}
+use Rattle.port_graph.specs.declared.edge.Edge.{Edge}
+use Rattle.updown_routes.specs.Graph.{graph_of, edges_at}
 use Rattle.updown_routes.specs.GraphLaws.{IsSwitch}
-use Rattle.spread_rule.specs.Rules.{RuleValue, routing_by}
-use Rattle.updown_routes.proofs.Graphs.{exit_is_wire}
+use Rattle.lft_blocks.specs.Rules.{RuleValue, routing_by}
+use Rattle.updown_routes.proofs.Graphs.{edge_is_wire}
 use Rattle.updown_routes.proofs.Switches.{graph_guids, switches_rise}
-use Rattle.lft_blocks.specs.Entries.{home_of, home_of_lid, port_to, entry, block, block_count}
-use Rattle.lft_blocks.proofs.HomeSwitches.{home_is_switch}
-use Rattle.plan_file.proofs.NextPorts.{next_is_exit}
+use Rattle.lft_blocks.specs.Entries.{attachment_of, attachment_of_lid, port_to, entry, block, block_count}
+use Rattle.lft_blocks.proofs.AttachmentSwitches.{attachment_is_switch}
+use Rattle.plan_file.proofs.NextPorts.{next_is_edge}
 use Rattle.plan_file.specs.Printed.{IsLidInRange, IsBlock, IsTableInRange, IsPlanInRange}
 
 -- of all elements
@@ -101,31 +101,31 @@ module _ (facts : Facts) (range : AreInRange facts) where
       let far : port_count_of cells h ≡ others = ap (λ o. option_map_or (λ n. n.1) o 0) its in
       (omega (arith, count_small g, near, high), omega (arith, count_small h, far, to))
 
-  -- homes and next ports
-  attached_small : (g p : ℕ) (home : ℕ × ℕ) → attached cells g p ≡ Some home → home.1 ≤ 254
-  attached_small g p home e =
-      elim (is_switch_node cells g) as (λ t. cond t None (option_and_then (λ q. cond (is_switch_node cells q.0) (Some q) None) (across cells g p)) ≡ Some home → home.1 ≤ 254) [
+  -- attachments and next ports
+  attached_small : (g p : ℕ) (attachment : ℕ × ℕ) → attached cells g p ≡ Some attachment → attachment.1 ≤ 254
+  attached_small g p attachment e =
+      elim (is_switch_node cells g) as (λ t. cond t None (option_and_then (λ q. cond (is_switch_node cells q.0) (Some q) None) (across cells g p)) ≡ Some attachment → attachment.1 ≤ 254) [
         | true ↦ λ k. absurd (cc)
         | false ↦ λ k. (elim (across cells g p) as
-            (λ o. across cells g p ≡ o → option_and_then (λ q. cond (is_switch_node cells q.0) (Some q) None) o ≡ Some home → home.1 ≤ 254) [
+            (λ o. across cells g p ≡ o → option_and_then (λ q. cond (is_switch_node cells q.0) (Some q) None) o ≡ Some attachment → attachment.1 ≤ 254) [
               | None ↦ λ w m. absurd (cc)
               | Some q ↦ λ w m. by_kind q (is_switch_node cells q.0) w m
             ] refl k)
       ] e
     where
-      by_kind : (q : ℕ × ℕ) (t : Bool) → across cells g p ≡ Some q → cond t (Some q) None ≡ Some home → home.1 ≤ 254
-      by_kind q true w m = let same : q ≡ home = same_Some q home m in let small = (wire_small g p q.0 q.1 w).1 in let port = ap (λ (x : ℕ × ℕ). x.1) same in omega arith
+      by_kind : (q : ℕ × ℕ) (t : Bool) → across cells g p ≡ Some q → cond t (Some q) None ≡ Some attachment → attachment.1 ≤ 254
+      by_kind q true w m = let same : q ≡ attachment = same_Some q attachment m in let small = (wire_small g p q.0 q.1 w).1 in let port = ap (λ (x : ℕ × ℕ). x.1) same in omega arith
       by_kind q false w m = cc
 
-  home_small : (e : EndPort) (home : ℕ × ℕ) → home_of cells e ≡ Some home → home.1 ≤ 254
-  home_small e home h =
-      elim (is_usable cells e.node) as (λ t. cond t (Some (e.node, 0)) (attached cells e.node e.port) ≡ Some home → home.1 ≤ 254) [
-        | true ↦ λ k. let own : ℕ × ℕ = (e.node, 0) in let same : own ≡ home = same_Some own home k in let port = ap (λ (x : ℕ × ℕ). x.1) same in omega arith
-        | false ↦ λ k. attached_small e.node e.port home k
+  attachment_small : (e : EndPort) (attachment : ℕ × ℕ) → attachment_of cells e ≡ Some attachment → attachment.1 ≤ 254
+  attachment_small e attachment h =
+      elim (is_usable cells e.node) as (λ t. cond t (Some (e.node, 0)) (attached cells e.node e.port) ≡ Some attachment → attachment.1 ≤ 254) [
+        | true ↦ λ k. let own : ℕ × ℕ = (e.node, 0) in let same : own ≡ attachment = same_Some own attachment k in let port = ap (λ (x : ℕ × ℕ). x.1) same in omega arith
+        | false ↦ λ k. attached_small e.node e.port attachment k
       ] h
 
-  exit_small : (s : ℕ) (x : Exit) → Contains (exits_at (graph_of cells) s) x → x.port ≤ 254
-  exit_small s x there = let is = exit_is_wire cells s x there in (wire_small s x.port x.to is.end_port is.wire).0
+  edge_small : (s : ℕ) (x : Edge) → Contains (edges_at (graph_of cells) s) x → x.port ≤ 254
+  edge_small s x there = let is = edge_is_wire cells s x there in (wire_small s x.port x.to is.end_port is.wire).0
 
   -- under a rule and an LMC
   module _ (rule : RuleValue) (lmc : ℕ) where
@@ -140,31 +140,31 @@ module _ (facts : Facts) (range : AreInRange facts) where
         elim (next lid s t) as (λ o. next lid s t ≡ o → unwrap_or o 255 < 256) [
           | None ↦ λ e. omega arith
           | Some p ↦ λ e.
-              let (x, is_exit, port) = next_is_exit rule facts lid s t p (is_switch_of s there) (is_switch_of t others) apart e in
-              let small = exit_small s x is_exit in
+              let (x, is_edge, port) = next_is_edge rule facts lid s t p (is_switch_of s there) (is_switch_of t others) apart e in
+              let small = edge_small s x is_edge in
               omega arith
         ] refl
 
-    entry_small : (s lid : ℕ) → Contains (switches cells) s → entry (home_of_lid cells (lids lmc cells)) next s lid < 256
+    entry_small : (s lid : ℕ) → Contains (switches cells) s → entry (attachment_of_lid cells (lids lmc cells)) next s lid < 256
     entry_small s lid there =
-        elim (owner_of (lids lmc cells) lid) as (λ o. option_map_or (port_to next lid s) (option_and_then (home_of cells) o) 255 < 256) [
+        elim (owner_of (lids lmc cells) lid) as (λ o. option_map_or (port_to next lid s) (option_and_then (attachment_of cells) o) 255 < 256) [
           | None ↦ omega arith
-          | Some e ↦ (elim (home_of cells e) as (λ o. home_of cells e ≡ o → option_map_or (port_to next lid s) o 255 < 256) [
+          | Some e ↦ (elim (attachment_of cells e) as (λ o. attachment_of cells e ≡ o → option_map_or (port_to next lid s) o 255 < 256) [
             | None ↦ λ k. omega arith
-            | Some home ↦ λ k. by_switch home (home.0 == s) refl (home_small e home k) (home_is_switch facts e home k)
+            | Some attachment ↦ λ k. by_switch attachment (attachment.0 == s) refl (attachment_small e attachment k) (attachment_is_switch facts e attachment k)
           ] refl)
         ]
       where
-        by_switch : (home : ℕ × ℕ) (t : Bool) → (home.0 == s) ≡ t → home.1 ≤ 254 → Contains (switches cells) home.0
-            → cond t home.1 (unwrap_or (next lid s home.0) 255) < 256
-        by_switch home true e small known = omega arith
-        by_switch home false e small known =
-            next_or lid s home.0 there known (false_from_ne_true (s == home.0) (λ k. eqb-false home.0 s e (sym (eqb-true s home.0 k))))
+        by_switch : (attachment : ℕ × ℕ) (t : Bool) → (attachment.0 == s) ≡ t → attachment.1 ≤ 254 → Contains (switches cells) attachment.0
+            → cond t attachment.1 (unwrap_or (next lid s attachment.0) 255) < 256
+        by_switch attachment true e small known = omega arith
+        by_switch attachment false e small known =
+            next_or lid s attachment.0 there known (false_from_ne_true (s == attachment.0) (λ k. eqb-false attachment.0 s e (sym (eqb-true s attachment.0 k))))
 
     -- blocks
-    block_at_most : (s b i : ℕ) → Contains (switches cells) s → slice_index (block (home_of_lid cells (lids lmc cells)) next s b) i < 256
+    block_at_most : (s b i : ℕ) → Contains (switches cells) s → slice_index (block (attachment_of_lid cells (lids lmc cells)) next s b) i < 256
     block_at_most s b i there =
-        let f : ℕ → ℕ = λ j. entry (home_of_lid cells (lids lmc cells)) next s (64 * b + j) in
+        let f : ℕ → ℕ = λ j. entry (attachment_of_lid cells (lids lmc cells)) next s (64 * b + j) in
         elim (cases_lt i 64) [
           | inl less ↦ let at : get_or (map f (range_with_len 0 64)) i 0 ≡ f i = get_or-map-range_with_len f 0 64 i i 0 less (omega arith) in
               let small = entry_small s (64 * b + i) there in omega arith
@@ -177,11 +177,11 @@ module _ (facts : Facts) (range : AreInRange facts) where
         past (x ∷ xs) zero h = absurd (omega arith)
         past (x ∷ xs) (suc n) h = past xs n (omega arith)
 
-    is_block : (s b : ℕ) → Contains (switches cells) s → IsBlock (block (home_of_lid cells (lids lmc cells)) next s b)
+    is_block : (s b : ℕ) → Contains (switches cells) s → IsBlock (block (attachment_of_lid cells (lids lmc cells)) next s b)
     is_block s b there =
-        record { whole = length-map-range_with_len (λ j. entry (home_of_lid cells (lids lmc cells)) next s (64 * b + j)) 0 64; bytes = λ i. block_at_most s b i there }
+        record { whole = length-map-range_with_len (λ j. entry (attachment_of_lid cells (lids lmc cells)) next s (64 * b + j)) 0 64; bytes = λ i. block_at_most s b i there }
 
-    all_blocks : (s : ℕ) (bs : List ℕ) → Contains (switches cells) s → AllByRecursion IsBlock (map (block (home_of_lid cells (lids lmc cells)) next s) bs)
+    all_blocks : (s : ℕ) (bs : List ℕ) → Contains (switches cells) s → AllByRecursion IsBlock (map (block (attachment_of_lid cells (lids lmc cells)) next s) bs)
     all_blocks s [] there = tt
     all_blocks s (b ∷ bs) there = (is_block s b there, all_blocks s bs there)
 
@@ -189,19 +189,19 @@ module _ (facts : Facts) (range : AreInRange facts) where
     switch_small s there = let usable = ((switches_law facts).0 s).0 there in node_small s (ap is_some usable.1)
 
     all_tables : (count : ℕ) (guids : List ℕ) → count ≤ 768 → ((s : ℕ) → Contains guids s → Contains (switches cells) s)
-        → AllByRecursion IsTableInRange (tables_of (home_of_lid cells (lids lmc cells)) next count guids)
+        → AllByRecursion IsTableInRange (tables_of (attachment_of_lid cells (lids lmc cells)) next count guids)
     all_tables count [] few in_all = tt
     all_tables count (s ∷ guids) few in_all =
         let there = in_all s (contains_here s guids) in (
           record {
             guid = switch_small s there;
             blocks = all_blocks s (range_with_len 0 count) there;
-            few = omega (arith, length-map-range_with_len (block (home_of_lid cells (lids lmc cells)) next s) 0 count);
+            few = omega (arith, length-map-range_with_len (block (attachment_of_lid cells (lids lmc cells)) next s) 0 count);
           },
           all_tables count guids few (λ x c. in_all x (contains_later s x guids c)),
         )
 
-    guids_are : (count : ℕ) (guids : List ℕ) → map (λ t. t.guid) (tables_of (home_of_lid cells (lids lmc cells)) next count guids) ≡ guids
+    guids_are : (count : ℕ) (guids : List ℕ) → map (λ t. t.guid) (tables_of (attachment_of_lid cells (lids lmc cells)) next count guids) ≡ guids
     guids_are count [] = refl
     guids_are count (s ∷ guids) = ap (λ gs. s ∷ gs) (guids_are count guids)
 

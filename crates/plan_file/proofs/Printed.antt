@@ -1,5 +1,5 @@
 -- A printed plan is read as it is: its LIDs, then its switches with their blocks.
-use Rattle.std.proofs.Common.{◌≡◌, ℕ, zero, suc, ◌+◌, ◌-◌, ◌<◌, ◌≤◌, List, [], ◌∷◌, ◌++◌, length, Option, None, Some, refl, sym, ap, ◌∙◌, subst, arith, append_assoc, append-nil, length-append, get_or, add-one}
+use Rattle.std.proofs.Common.{◌≡◌, ℕ, zero, suc, ◌+◌, ◌-◌, ◌<◌, ◌≤◌, List, [], ◌∷◌, ◌++◌, length, Option, None, Some, refl, sym, ap, ◌∙◌, arith, append_assoc, append-nil, length-append, get_or, add-one}
 use Rattle.std.specs.Prelude.{map, option_map}
 use Rattle.std.specs.Option.{option_map_or}
 use Rattle.std.specs.List.{AllByRecursion, AllPairs, enumerate_from, filter_map, cons_option, flat_map}
@@ -17,10 +17,10 @@ use Rattle.plan_file.specs.declared.held.HeldSwitch.{HeldSwitch}
 use Rattle.plan_file.specs.declared.held.HeldBlock.{HeldBlock}
 use Rattle.plan_file.specs.declared.item.Item.{Item}
 use Rattle.plan_file.specs.declared.item.Item.TheVariants.{Lid, Switch, Block}
-use Rattle.plan_file.specs.declared.judge.Place.{Place}
+use Rattle.plan_file.specs.declared.last_lines.LastLines.{LastLines}
 use Rattle.plan_file.specs.Held.{HeldPlan, LidRange, lids_of, nothing_held}
 use Rattle.plan_file.specs.Printed.{range_from, owned_range, owned_lids, blocks_from, blocks_of, with_top, held_plan, IsLidInRange, IsBlock, IsTableInRange, IsPlanInRange, PrintedPlansAreRead}
-use Rattle.plan_file.specs.Reading.{start, place_after, first_fault_from, items_from, held_with, held_by, first_fault, held_of}
+use Rattle.plan_file.specs.Reading.{start, last_lines_after, first_fault_from, items_from, held_with, held_by, first_fault, held_of}
 use Rattle.plan_file.proofs.LinesPrinted.{IsBelow, IsBeforeSwitch, IsRangeRight, lid_passes, switch_passes, block_passes}
 use Rattle.plan_file.proofs.Passes.{Passes, passes_none, passes_then}
 
@@ -53,23 +53,23 @@ is_below None low n h is = tt
 is_below (Some last) low n h is = omega arith
 
 -- behind the lines of LIDs there is a last LID, and nothing else has changed
-record LidsPass (place : Place) (text : List ℕ) (items : List Item) : Type 0 where
+record LidsPass (index : LastLines) (text : List ℕ) (items : List Item) : Type 0 where
   last : Option HeldLid
-  passes : Passes place text items (record place { lid = last })
+  passes : Passes index text items (record index { lid = last })
 
 -- an end port's LMC is at most the subnet's
 small_lmc : (given : Given) (e : EndPort) → given.lmc ≤ 7 → lmc_of given e ≤ 7
 small_lmc given e small = cond_both (e.port == 0) 0 given.lmc (λ n. n ≤ 7) (λ _. omega arith) (λ _. small)
 
-owner_passes : (given : Given) (place : Place) (low n : ℕ) (owner : Option EndPort) (text : List ℕ) (held : List LidRange)
-    → given.lmc ≤ 7 → owner_of given n ≡ owner → IsLidInRange given n → IsUpTo place.lid low → low < n
-    → ((p : Place) → IsUpTo p.lid n → LidsPass p text (map Lid held))
-    → LidsPass place (option_map_or (λ port. lid_line (n, lmc_of given port, port)) owner [] ++ text)
+owner_passes : (given : Given) (index : LastLines) (low n : ℕ) (owner : Option EndPort) (text : List ℕ) (held : List LidRange)
+    → given.lmc ≤ 7 → owner_of given n ≡ owner → IsLidInRange given n → IsUpTo index.lid low → low < n
+    → ((p : LastLines) → IsUpTo p.lid n → LidsPass p text (map Lid held))
+    → LidsPass index (option_map_or (λ port. lid_line (n, lmc_of given port, port)) owner [] ++ text)
     (map Lid (cons_option (option_map (range_from given n) owner) held))
-owner_passes given place low n None text held small e range is above later = later place (up_to_more place.lid low n above is)
-owner_passes given place low n (Some port) text held small e range is above later =
+owner_passes given index low n None text held small e range is above later = later index (up_to_more index.lid low n above is)
+owner_passes given index low n (Some port) text held small e range is above later =
     let here = range_from given n port in
-    let next : Place = place_after place (Lid here) in
+    let next : LastLines = last_lines_after index (Lid here) in
     let rest = later next (omega arith) in
     let right : IsRangeRight here = record {
       some = range.some;
@@ -79,25 +79,25 @@ owner_passes given place low n (Some port) text held small e range is above late
       lmc = small_lmc given port small;
       last = range.last port e;
     } in
-    let first = lid_passes place here right (is_below place.lid low n above is) in
-    let behind : Place = record place { lid = rest.last } in
+    let first = lid_passes index here right (is_below index.lid low n above is) in
+    let behind : LastLines = record index { lid = rest.last } in
     record {
       last = rest.last;
-      passes = passes_then place next behind (lid_line (n, lmc_of given port, port)) text (Lid here ∷ []) (map Lid held) first rest.passes;
+      passes = passes_then index next behind (lid_line (n, lmc_of given port, port)) text (Lid here ∷ []) (map Lid held) first rest.passes;
     }
 
-lids_pass : (given : Given) (place : Place) (low : ℕ) (ns : List ℕ) → given.lmc ≤ 7 → AllByRecursion (IsLidInRange given) ns → IsUpTo place.lid low → Rises low ns
-    → LidsPass place (flat_map (owner_line given) ns) (map Lid (filter_map (owned_range given) ns))
-lids_pass given place low [] small range is rises = record { last = place.lid; passes = passes_none place }
-lids_pass given place low (n ∷ ns) small range is rises =
-    owner_passes given place low n (owner_of given n) (flat_map (owner_line given) ns) (filter_map (owned_range given) ns) small refl range.0 is rises.0
+lids_pass : (given : Given) (index : LastLines) (low : ℕ) (ns : List ℕ) → given.lmc ≤ 7 → AllByRecursion (IsLidInRange given) ns → IsUpTo index.lid low → Rises low ns
+    → LidsPass index (flat_map (owner_line given) ns) (map Lid (filter_map (owned_range given) ns))
+lids_pass given index low [] small range is rises = record { last = index.lid; passes = passes_none index }
+lids_pass given index low (n ∷ ns) small range is rises =
+    owner_passes given index low n (owner_of given n) (flat_map (owner_line given) ns) (filter_map (owned_range given) ns) small refl range.0 is rises.0
     (λ p h. lids_pass given p n ns small range.1 h rises.1)
 
 -- the blocks of a switch
 abbrev block_item : ℕ × List ℕ → Item
 block_item x = Block x.0 x.1
 
-abbrev below_switch : Option HeldLid → ℕ → ℕ → Place
+abbrev below_switch : Option HeldLid → ℕ → ℕ → LastLines
 below_switch lid guid next = record { lid = lid; switch = Some guid; block = next }
 
 record BlocksPass (lid : Option HeldLid) (guid next number : ℕ) (blocks : List (List ℕ)) : Type 0 where
@@ -133,25 +133,25 @@ follow : (tables : List SwitchTable) → IsStrictlyIncreasing (map (λ t. t.guid
 follow [] h = tt
 follow (table ∷ tables) h = (tt, follow_from table.guid tables h)
 
-record TablesPass (place : Place) (top : ℕ) (tables : List SwitchTable) : Type 0 where
-  after : Place
-  passes : Passes place (flat_map (table_text top) tables) (flat_map (table_items top) tables) after
+record TablesPass (index : LastLines) (top : ℕ) (tables : List SwitchTable) : Type 0 where
+  after : LastLines
+  passes : Passes index (flat_map (table_text top) tables) (flat_map (table_items top) tables) after
 
-tables_pass : (place : Place) (top : ℕ) (tables : List SwitchTable) → top ≤ 0xBFFF → AllByRecursion IsTableInRange tables → Follow place.switch tables
-    → TablesPass place top tables
-tables_pass place top [] most all rise = record { after = place; passes = passes_none place }
-tables_pass place top (table ∷ tables) most all rise =
+tables_pass : (index : LastLines) (top : ℕ) (tables : List SwitchTable) → top ≤ 0xBFFF → AllByRecursion IsTableInRange tables → Follow index.switch tables
+    → TablesPass index top tables
+tables_pass index top [] most all rise = record { after = index; passes = passes_none index }
+tables_pass index top (table ∷ tables) most all rise =
     let guid = table.guid in
     let few = all.0.few in
-    let blocks = blocks_pass place.lid guid 0 0 table.blocks (omega arith) all.0.blocks (omega arith) in
-    let behind : Place = below_switch place.lid guid blocks.end in
-    let one : Passes place (table_text top table) (table_items top table) behind =
-    passes_then place (below_switch place.lid guid 0) behind (switch_line top guid) (blocks_text table.blocks) (Switch (with_top top table) ∷ [])
-    (map block_item (enumerate_from 0 table.blocks)) (switch_passes place top guid most all.0.guid rise.0) blocks.passes in
+    let blocks = blocks_pass index.lid guid 0 0 table.blocks (omega arith) all.0.blocks (omega arith) in
+    let behind : LastLines = below_switch index.lid guid blocks.end in
+    let one : Passes index (table_text top table) (table_items top table) behind =
+    passes_then index (below_switch index.lid guid 0) behind (switch_line top guid) (blocks_text table.blocks) (Switch (with_top top table) ∷ [])
+    (map block_item (enumerate_from 0 table.blocks)) (switch_passes index top guid most all.0.guid rise.0) blocks.passes in
     let rest = tables_pass behind top tables most all.1 rise.1 in
     record {
       after = rest.after;
-      passes = passes_then place behind rest.after (table_text top table) (flat_map (table_text top) tables) (table_items top table)
+      passes = passes_then index behind rest.after (table_text top table) (flat_map (table_text top) tables) (table_items top table)
           (flat_map (table_items top) tables) one rest.passes;
     }
 
@@ -166,7 +166,7 @@ held_lids h (r ∷ rs) =
     held_lids (record h { lids = h.lids ++ lids_of r }) rs ∙ ap (λ xs. record h { lids = xs }) (append_assoc h.lids (lids_of r) (flat_map lids_of rs))
 
 abbrev at_switch : ℕ → ℕ × List ℕ → HeldBlock
-at_switch place x = record { switch = place; number = x.0; entries = x.1 }
+at_switch index x = record { switch = index; number = x.0; entries = x.1 }
 
 held_blocks : (h : HeldPlan) (xs : List (ℕ × List ℕ)) → held_by h (map block_item xs) ≡ record h { blocks = h.blocks ++ map (at_switch (length h.switches - 1)) xs }
 held_blocks h [] = ap (λ bs. record h { blocks = bs }) (sym (append-nil h.blocks))
@@ -185,9 +185,9 @@ held_table : (h : HeldPlan) (top : ℕ) (table : SwitchTable)
     ≡ with_tables h (h.switches ++ with_top top table ∷ []) (h.blocks ++ blocks_from (length h.switches) 0 table.blocks)
 held_table h top table =
     let s = with_top top table in
-    let place : length (h.switches ++ s ∷ []) - 1 ≡ length h.switches = omega (arith, one_more h.switches s) in
+    let index : length (h.switches ++ s ∷ []) - 1 ≡ length h.switches = omega (arith, one_more h.switches s) in
     held_blocks (held_with h (Switch s)) (enumerate_from 0 table.blocks)
-    ∙ ap (λ n. with_tables h (h.switches ++ s ∷ []) (h.blocks ++ map (at_switch n) (enumerate_from 0 table.blocks))) place
+    ∙ ap (λ n. with_tables h (h.switches ++ s ∷ []) (h.blocks ++ map (at_switch n) (enumerate_from 0 table.blocks))) index
 
 held_tables : (h : HeldPlan) (top : ℕ) (tables : List SwitchTable)
     → held_by h (flat_map (table_items top) tables)
@@ -215,12 +215,12 @@ above_zero given (n ∷ ns) zero all h = let some = all.0.some in omega arith
 above_zero given (n ∷ ns) (suc k) all h = above_zero given ns k all.1 (omega arith)
 
 whole_passes : (plan : PlanValue) (top : ℕ) → IsPlanInRange plan → top ≤ 0xBFFF
-    → (after : Place) × Passes start (lids_text plan.given ++ flat_map (table_text top) plan.tables) (plan_items top plan) after
+    → (after : LastLines) × Passes start (lids_text plan.given ++ flat_map (table_text top) plan.tables) (plan_items top plan) after
 whole_passes plan top range most =
     let given = plan.given in
     let lids = lids_pass given start 0 (rising_lids given) range.lmc range.lids tt
     (rises_from 0 (rising_lids given) (λ k h. above_zero given (rising_lids given) k range.lids h) (rising_lids_law given).1) in
-    let middle : Place = record start { lid = lids.last } in
+    let middle : LastLines = record start { lid = lids.last } in
     let tables = tables_pass middle top plan.tables most range.tables (follow plan.tables range.rising) in (
       tables.after,
       passes_then start middle tables.after (lids_text given) (flat_map (table_text top) plan.tables)
@@ -228,7 +228,7 @@ whole_passes plan top range most =
     )
 
 -- a text that passes is read to its end
-all_passes : (text : List ℕ) (items : List Item) (after : Place) → Passes start text items after
+all_passes : (text : List ℕ) (items : List Item) (after : LastLines) → Passes start text items after
     → (first_fault text ≡ None) × (held_of text ≡ held_by nothing_held items)
 unfolding first_fault held_of
 all_passes text items after h =

@@ -5,7 +5,7 @@ use Rattle.plan_file.specs.declared.held.HeldLid.{HeldLid}
 use Rattle.plan_file.specs.declared.held.HeldSwitch.{HeldSwitch}
 use Rattle.plan_file.specs.declared.held.HeldBlock.{HeldBlock}
 
--- LIDs with their end ports, switches with their tops, and blocks with the places of their switches
+-- LIDs with their end ports, switches with their tops, and blocks with the indices of their switches
 pub record HeldPlan : Type 0 where
   pub lids : List HeldLid
   pub switches : List HeldSwitch

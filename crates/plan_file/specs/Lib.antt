@@ -1,7 +1,7 @@
 pub mod Held
-pub mod Line
+pub mod TextLine
 pub mod Printed
 pub mod Reading
 pub mod Reads
-pub mod TextFault
+pub mod PlanTextFault
 pub mod Words

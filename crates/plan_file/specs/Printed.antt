@@ -9,7 +9,7 @@ use Rattle.subnet_view.specs.declared.end_port.EndPort.{EndPort}
 use Rattle.fact_store.specs.Sighting.{AreInRange}
 use Rattle.fact_store.specs.View.{Facts, cells_of}
 use Rattle.lid_assign.specs.Lids.{Given, IsNoRoom, lmc_of, owner_of, top_of, rising_lids}
-use Rattle.spread_rule.specs.Rules.{RuleValue}
+use Rattle.lft_blocks.specs.Rules.{RuleValue}
 use Rattle.lft_blocks.specs.Plan.{SwitchTable, PlanValue, plan_of}
 use Rattle.lft_blocks.specs.PlanText.{plan_text}
 use Rattle.plan_file.specs.declared.held.HeldLid.{HeldLid}
@@ -29,14 +29,14 @@ owned_range given lid = option_map (range_from given lid) (owner_of given lid)
 abbrev pub owned_lids : Given → List HeldLid
 owned_lids given = flat_map lids_of (filter_map (owned_range given) (rising_lids given))
 
--- the blocks of the switch at a place, that count from a number on
+-- the blocks of the switch at an index, that count from a number on
 abbrev pub blocks_from : ℕ → ℕ → List (List ℕ) → List HeldBlock
-blocks_from place number blocks = map (λ x. record { switch = place; number = x.0; entries = x.1 }) (enumerate_from number blocks)
+blocks_from index number blocks = map (λ x. record { switch = index; number = x.0; entries = x.1 }) (enumerate_from number blocks)
 
--- the blocks of switches, that count from a place on
+-- the blocks of switches, that count from an index on
 abbrev pub blocks_of : ℕ → List SwitchTable → List HeldBlock
-blocks_of place [] = []
-blocks_of place (table ∷ tables) = blocks_from place 0 table.blocks ++ blocks_of (suc place) tables
+blocks_of index [] = []
+blocks_of index (table ∷ tables) = blocks_from index 0 table.blocks ++ blocks_of (suc index) tables
 
 -- a switch with the greatest LID
 abbrev pub with_top : ℕ → SwitchTable → HeldSwitch

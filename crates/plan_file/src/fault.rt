@@ -6,7 +6,7 @@ use std::fmt;
 
 /// What is wrong with a line.
 #[derive(Clone, Copy, Debug, PartialEq, Eq)]
-pub enum Wrong {
+pub enum PlanTextError {
     /// It is none of the grammar's, or a block above all switches.
     Syntax,
     /// A LID outside 1 to 49,151, a range of LIDs that ends over that, a top over that, or a LID below that of the line
@@ -22,71 +22,71 @@ pub enum Wrong {
     Block,
 }
 
-impl Wrong {
-    ghost use Rattle.plan_file.specs.TextFault.{wrong_word};
+impl PlanTextError {
+    ghost use Rattle.plan_file.specs.PlanTextFault.{wrong_word};
 
     /// The word for it.
     pub fn word(self) -> &'static str
         ensures { result.now ≡ wrong_word self }
     {
         match self {
-            Wrong::Syntax => "syntax",
-            Wrong::Lid => "lid",
-            Wrong::Port => "port",
-            Wrong::Lmc => "lmc",
-            Wrong::Switch => "switch",
-            Wrong::Block => "block",
+            PlanTextError::Syntax => "syntax",
+            PlanTextError::Lid => "lid",
+            PlanTextError::Port => "port",
+            PlanTextError::Lmc => "lmc",
+            PlanTextError::Switch => "switch",
+            PlanTextError::Block => "block",
         }
     }
 }
 
 /// The first faulty line of a text, from 1, and what is wrong with it.
 #[derive(Clone, Copy, Debug, PartialEq, Eq)]
-pub struct LineFault {
+pub struct PlanLineFault {
     pub line: usize,
-    pub wrong: Wrong,
+    pub wrong: PlanTextError,
 }
 
 /// Why a text is not read.
 #[derive(Clone, Copy, Debug, PartialEq, Eq)]
-pub enum TextFault {
+pub enum PlanTextFault {
     /// A line has a fault, and none above it.
-    Line(LineFault),
+    TextLine(PlanLineFault),
     /// Memory was refused, and no line has a fault.
     Memory,
 }
 
 /// The line and the word, as in `line 3: port`; or that memory is out.
-impl fmt::Display for TextFault {
+impl fmt::Display for PlanTextFault {
     ghost use Rattle.std.specs.Prelude.{Some};
-    ghost use Rattle.plan_file.specs.TextFault.{fault_text};
+    ghost use Rattle.plan_file.specs.PlanTextFault.{fault_text};
 
     ghost output = { λ fault. Some (fault_text fault) };
 
     fn fmt<W: fmt::Write>(&self, f: &mut fmt::Formatter<W>) -> fmt::Result {
         match self {
-            TextFault::Line(fault) => {
+            PlanTextFault::TextLine(fault) => {
                 let line = fault.line;
                 let word = fault.wrong.word();
                 write!(f, "line {line}: {word}")
             }
-            TextFault::Memory => f.write_str("out of memory"),
+            PlanTextFault::Memory => f.write_str("out of memory"),
         }
     }
 }
 
-impl Error for TextFault {}
+impl Error for PlanTextFault {}
 
-impl TextFault {
-    ghost use Rattle.plan_file.specs.TextFault.{fault_line, fault_word};
+impl PlanTextFault {
+    ghost use Rattle.plan_file.specs.PlanTextFault.{fault_line, fault_word};
 
     /// The line that has the fault, from 1.
     pub fn line(self) -> Option<usize>
         ensures { result ≡ fault_line self }
     {
         match self {
-            TextFault::Line(fault) => Some(fault.line),
-            TextFault::Memory => None,
+            PlanTextFault::TextLine(fault) => Some(fault.line),
+            PlanTextFault::Memory => None,
         }
     }
 
@@ -95,41 +95,41 @@ impl TextFault {
         ensures { result.now ≡ fault_word self }
     {
         match self {
-            TextFault::Line(fault) => fault.wrong.word(),
-            TextFault::Memory => "out of memory",
+            PlanTextFault::TextLine(fault) => fault.wrong.word(),
+            PlanTextFault::Memory => "out of memory",
         }
     }
 }
 
-impl From<LineFault> for TextFault {
+impl From<PlanLineFault> for PlanTextFault {
     ghost use Rattle.std.specs.Prelude.{◌≡◌};
-    ghost use Rattle.plan_file.specs.declared.fault.TextFault.TheVariants.{Line};
+    ghost use Rattle.plan_file.specs.declared.fault.PlanTextFault.TheVariants.{TextLine};
 
-    ghost from_gives = { λ e fault. fault ≡ Line e };
+    ghost from_gives = { λ e fault. fault ≡ TextLine e };
 
-    fn from(fault: LineFault) -> Self {
-        TextFault::Line(fault)
+    fn from(fault: PlanLineFault) -> Self {
+        PlanTextFault::TextLine(fault)
     }
 }
 
-impl From<AllocError> for TextFault {
+impl From<AllocError> for PlanTextFault {
     ghost use Rattle.std.specs.Prelude.{◌≡◌};
-    ghost use Rattle.plan_file.specs.declared.fault.TextFault.TheVariants.{Memory};
+    ghost use Rattle.plan_file.specs.declared.fault.PlanTextFault.TheVariants.{Memory};
 
     ghost from_gives = { λ e fault. fault ≡ Memory };
 
     fn from(_: AllocError) -> Self {
-        TextFault::Memory
+        PlanTextFault::Memory
     }
 }
 
-impl<T: Drop> From<AllocFailed<T>> for TextFault {
+impl<T: Drop> From<AllocFailed<T>> for PlanTextFault {
     ghost use Rattle.std.specs.Prelude.{◌≡◌};
-    ghost use Rattle.plan_file.specs.declared.fault.TextFault.TheVariants.{Memory};
+    ghost use Rattle.plan_file.specs.declared.fault.PlanTextFault.TheVariants.{Memory};
 
     ghost from_gives = { λ e fault. fault ≡ Memory };
 
     fn from(_: AllocFailed<T>) -> Self {
-        TextFault::Memory
+        PlanTextFault::Memory
     }
 }

@@ -29,7 +29,7 @@ pub struct HeldSwitch {
 /// A block of a switch's forwarding table.
 #[derive(Clone, Copy, Debug, PartialEq, Eq)]
 pub struct HeldBlock {
-    /// The place of its switch, from 0, among those that are held.
+    /// The index of its switch, from 0, among those that are held.
     pub switch: usize,
     /// Up to 767: the block has the entries from LID 64 times this number on.
     pub number: u16,
@@ -83,7 +83,7 @@ impl Held {
         &self.switches
     }
 
-    /// The blocks, by the places of their switches and then by their numbers.
+    /// The blocks, by the indices of their switches and then by their numbers.
     pub fn blocks(&self) -> &[HeldBlock]
         ensures { result.now ≡ self.now.blocks }
     {

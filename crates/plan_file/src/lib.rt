@@ -4,12 +4,12 @@
 mod fault;
 mod held;
 mod item;
-mod judge;
+mod last_lines;
 pub mod laws;
 mod line;
 mod text;
 mod words;
 
-pub use fault::{LineFault, TextFault, Wrong};
+pub use fault::{PlanLineFault, PlanTextError, PlanTextFault};
 pub use held::{Held, HeldBlock, HeldLid, HeldSwitch};
 pub use text::parse;

@@ -1,6 +1,6 @@
 ghost use Rattle.std.specs.Prelude.{◌≡◌, ◌∷◌, option_map};
 ghost use Rattle.text_words.specs.Text.{words};
-ghost use Rattle.plan_file.specs.Line.{line_of, both, lid_line, lmc_line, switch_line, block_line};
+ghost use Rattle.plan_file.specs.TextLine.{line_of, both, lid_line, lmc_line, switch_line, block_line};
 
 use crate::words::{bare_guid, entries, lmc_of, node_port, small};
 use attr_codec::Lmc;
@@ -15,7 +15,7 @@ const MAX_BLOCK: u16 = 767;
 
 /// What a line says.
 #[derive(Clone, Copy)]
-pub(crate) enum Line {
+pub(crate) enum TextLine {
     Empty,
     Lid(LidLine),
     Switch(SwitchLine),
@@ -50,20 +50,20 @@ pub(crate) struct BlockLine {
     pub(crate) entries: [u8; 64],
 }
 
-#[tactic(auto, unfolding(crate::specs::Line::line_of))]
+#[tactic(auto, unfolding(crate::specs::TextLine::line_of))]
 /// What a line says; `None` is a line that is none of the grammar's.
-pub(crate) fn read_line(line: &[u8]) -> Option<Line>
+pub(crate) fn read_line(line: &[u8]) -> Option<TextLine>
     ensures { result ≡ line_of line.now }
 {
     let Some((word, rest)) = split_word(line) else {
-        return Some(Line::Empty);
+        return Some(TextLine::Empty);
     };
     if is_word(word, "lid") {
-        Some(Line::Lid(lid_line(rest)?))
+        Some(TextLine::Lid(lid_line(rest)?))
     } else if is_word(word, "switch") {
-        Some(Line::Switch(switch_line(rest)?))
+        Some(TextLine::Switch(switch_line(rest)?))
     } else if is_word(word, "block") {
-        Some(Line::Block(block_line(rest)?))
+        Some(TextLine::Block(block_line(rest)?))
     } else {
         None
     }

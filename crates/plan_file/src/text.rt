@@ -2,11 +2,11 @@ ghost use Rattle.std.specs.Prelude.{◌≡◌, IfOk, option_map};
 ghost use Rattle.smp_bytes.specs.Judges.{JudgesButFor};
 ghost use Rattle.plan_file.specs.Reading.{first_fault, held_of};
 ghost use Rattle.plan_file.specs.Reads.{IsReadAs};
-ghost use Rattle.plan_file.specs.TextFault.{is_memory};
+ghost use Rattle.plan_file.specs.PlanTextFault.{is_memory};
 
-use crate::fault::{LineFault, TextFault};
+use crate::fault::{PlanLineFault, PlanTextFault};
 use crate::held::Held;
-use crate::judge::Place;
+use crate::last_lines::LastLines;
 use std::alloc::Global;
 use text_words::split_line;
 
@@ -26,33 +26,33 @@ use text_words::split_line;
 /// # Errors
 ///
 /// The first fault of its lines, and `Memory` where they have none.
-pub fn parse(alloc: Global, text: &[u8]) -> Result<Held, TextFault>
-    ensures judged { JudgesButFor is_memory result (option_map TextFault.Line (first_fault text.now)) }
+pub fn parse(alloc: Global, text: &[u8]) -> Result<Held, PlanTextFault>
+    ensures judged { JudgesButFor is_memory result (option_map PlanTextFault.TextLine (first_fault text.now)) }
     ensures held { IfOk result (λ held. held ≡ held_of text.now) }
 {
     match read_lines(alloc, text) {
         Ok(held) => Ok(held),
-        Err(TextFault::Line(fault)) => Err(TextFault::Line(fault)),
-        Err(TextFault::Memory) => match first_fault(text) {
-            Some(fault) => Err(TextFault::Line(fault)),
-            None => Err(TextFault::Memory),
+        Err(PlanTextFault::TextLine(fault)) => Err(PlanTextFault::TextLine(fault)),
+        Err(PlanTextFault::Memory) => match first_fault(text) {
+            Some(fault) => Err(PlanTextFault::TextLine(fault)),
+            None => Err(PlanTextFault::Memory),
         },
     }
 }
 
 #[tactic(auto, using(crate::proofs::Folds::reading))]
 /// What the lines of a text say.
-fn read_lines(alloc: Global, text: &[u8]) -> Result<Held, TextFault>
+fn read_lines(alloc: Global, text: &[u8]) -> Result<Held, PlanTextFault>
     ensures { IsReadAs text.now result }
 {
     let mut held = Held::new(alloc);
-    let mut place = Place::start();
+    let mut last_lines = LastLines::start();
     let mut number = 0;
     let mut rest = text;
     while let Some((line, later)) = split_line(rest) {
         number += 1;
-        let item = place.item(number, line)?;
-        place = place.after(&item);
+        let item = last_lines.item(number, line)?;
+        last_lines = last_lines.after(&item);
         held = held.with(item)?;
         rest = later;
     }
@@ -61,16 +61,16 @@ fn read_lines(alloc: Global, text: &[u8]) -> Result<Held, TextFault>
 
 #[tactic(auto, using(crate::proofs::Folds::judging))]
 /// The first fault of a text. Takes no memory.
-fn first_fault(text: &[u8]) -> Option<LineFault>
+fn first_fault(text: &[u8]) -> Option<PlanLineFault>
     ensures { result ≡ first_fault text.now }
 {
-    let mut place = Place::start();
+    let mut last_lines = LastLines::start();
     let mut number = 0;
     let mut rest = text;
     while let Some((line, later)) = split_line(rest) {
         number += 1;
-        match place.item(number, line) {
-            Ok(item) => place = place.after(&item),
+        match last_lines.item(number, line) {
+            Ok(item) => last_lines = last_lines.after(&item),
             Err(fault) => return Some(fault),
         }
         rest = later;

@@ -72,7 +72,7 @@ fn before_slash(word: &[u8]) -> Option<(&[u8], &[u8])>
     Some((&word[..len], &word[len + 1..]))
 }
 
-/// The place of the first slash.
+/// The index of the first slash.
 fn slash(word: &[u8]) -> Option<usize>
     ensures { result ≡ position (λ b. b == 47) word.now }
 {

@@ -14,7 +14,7 @@ use Rattle.lid_assign.specs.Lids.{IsNoRoom, count_up, end_of, is_lid, lids, risi
 use Rattle.lid_assign.proofs.FreeLids.{room_at_most}
 use Rattle.lid_assign.proofs.LidLaws.{lids_law}
 use Rattle.lid_assign.proofs.Tops.{top_below}
-use Rattle.spread_rule.specs.Rules.{RuleValue}
+use Rattle.lft_blocks.specs.Rules.{RuleValue}
 use Rattle.lft_blocks.specs.Entries.{block_count}
 use Rattle.lft_blocks.specs.Plan.{SwitchTable, plan_of, switches_of}
 use Rattle.sweep.specs.Sweep.{Sweep}

@@ -1,13 +1,13 @@
 //! The steps by which a plan is written to the agents of a subnet, in phases.
 #![tactic(auto)]
 
+mod block_steps;
 mod bound;
 pub mod laws;
-mod lids;
+mod lid_steps;
 mod phase;
-mod states;
+mod state_steps;
 mod step;
-mod tables;
 
 pub use bound::most_steps;
 pub use phase::{Phase, phases};

@@ -2,10 +2,10 @@ ghost use Rattle.std.specs.Prelude.{◌≡◌, IfOk};
 ghost use Rattle.fact_store.specs.View.{cells_of};
 ghost use Rattle.plan_steps.specs.Phases.{phases_by, phases_of};
 
-use crate::lids::{lid_steps, own_lid};
-use crate::states::{state_steps, wired_ports};
+use crate::block_steps::{block_steps, top_steps};
+use crate::lid_steps::{lid_steps, own_lid};
+use crate::state_steps::{state_steps, wired_ports};
 use crate::step::Step;
-use crate::tables::{block_steps, top_steps};
 use attr_codec::PortState;
 use fact_store::Store;
 use lft_blocks::Plan;
@@ -39,7 +39,7 @@ impl Model for Phase {
 ///
 /// # Errors
 ///
-/// Want of memory alone.
+/// Out of memory alone.
 pub fn phases(
     alloc: Global,
     plan: &Plan,

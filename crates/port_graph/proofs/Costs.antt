@@ -4,7 +4,7 @@ use Rattle.std.proofs.lemmas.Option.{none-some, same_Some}
 use Rattle.std.proofs.lemmas.Bool.{eqb-true, eq-eqb}
 use Rattle.std.specs.Prelude.{Option, None, Some, is_some, option_map, Contains}
 use Rattle.std.specs.List.{filter_map}
-use Rattle.port_graph.specs.declared.exit.Exit.{Exit}
+use Rattle.port_graph.specs.declared.edge.Edge.{Edge}
 use Rattle.port_graph.specs.Walks.{has_walk}
 use Rattle.port_graph.specs.Slopes.{Slope, ups_at, downs_at, below, down_distance, least_of, cost_within, cost, same_number, port_down, port_up}
 use Rattle.port_graph.specs.Slopes.{next_port}
@@ -13,7 +13,7 @@ use Rattle.port_graph.proofs.WalkLemmas.{least_is, shortest_is, shortest_step, s
 use Rattle.port_graph.proofs.Lists.{found, nothing_there, contains_map, filter_map_same, contains-from_filter_map, least_is_one}
 
 -- down where that leads there, else one more than the least cost over the up wires
-abbrev pub cost_by : List Slope → ℕ → ℕ → (Exit → Option ℕ) → Option ℕ
+abbrev pub cost_by : List Slope → ℕ → ℕ → (Edge → Option ℕ) → Option ℕ
 cost_by slopes s t costs = let down = down_distance slopes s t in cond (is_some down) down (option_map suc (least_of (filter_map costs (ups_at slopes s))))
 
 itself_or_none : (o : Option ℕ) → cond (is_some o) o None ≡ o
@@ -22,20 +22,20 @@ itself_or_none (Some d) = refl
 
 -- one next port: down and nearer, or up where no way leads down, with a cost less by one
 pub data NextHop (slopes : List Slope) (s t n : ℕ) : Type 0 where
-  down : (e : Exit) → next_port slopes s t ≡ Some e.port → Contains (downs_at slopes s) e → down_distance slopes e.to t ≡ Some n → NextHop slopes s t n
-  up : (e : Exit) → next_port slopes s t ≡ Some e.port → down_distance slopes s t ≡ None → Contains (ups_at slopes s) e → cost slopes e.to t ≡ Some n
+  down : (e : Edge) → next_port slopes s t ≡ Some e.port → Contains (downs_at slopes s) e → down_distance slopes e.to t ≡ Some n → NextHop slopes s t n
+  up : (e : Edge) → next_port slopes s t ≡ Some e.port → down_distance slopes s t ≡ None → Contains (ups_at slopes s) e → cost slopes e.to t ≡ Some n
       → NextHop slopes s t n
 
 -- a next port up
 pub record UpHop (slopes : List Slope) (s t n : ℕ) : Type 0 where
-  pub exit : Exit
-  pub port : next_port slopes s t ≡ Some exit.port
-  pub there : Contains (ups_at slopes s) exit
-  pub its_cost : cost slopes exit.to t ≡ Some n
+  pub edge : Edge
+  pub port : next_port slopes s t ≡ Some edge.port
+  pub there : Contains (ups_at slopes s) edge
+  pub its_cost : cost slopes edge.to t ≡ Some n
 
 -- a way down by next ports
 pub record DownWay (slopes : List Slope) (s t n : ℕ) : Type 0 where
-  pub downs : List Exit
+  pub downs : List Edge
   pub descends : Descends slopes s downs t
   pub goes : GoesBy slopes t s downs
   pub falls_by_one : CostsFall slopes t n downs
@@ -73,7 +73,7 @@ module _ (slopes : List Slope) (s t : ℕ) where
   pub port_where_up : (s == t) ≡ false → down_distance slopes s t ≡ None → next_port slopes s t ≡ port_up slopes s t
   port_where_up apart e = ap₂ port_by apart e
 
-module _ (slopes : List Slope) (height : ℕ → ℕ) (falls : (s : ℕ) (e : Exit) → Contains (ups_at slopes s) e → height e.to < height s) where
+module _ (slopes : List Slope) (height : ℕ → ℕ) (falls : (s : ℕ) (e : Edge) → Contains (ups_at slopes s) e → height e.to < height s) where
   -- more climbs than the height change nothing
   stable : (k s t : ℕ) → height s ≤ k → cost_within slopes (suc k) s t ≡ cost_within slopes k s t
   stable zero s t h =
@@ -86,7 +86,7 @@ module _ (slopes : List Slope) (height : ℕ → ℕ) (falls : (s : ℕ) (e : Ex
       (filter_map_same (λ e. cost_within slopes (suc k) e.to t) (λ e. cost_within slopes k e.to t) (ups_at slopes s)
       (λ e c. let f = falls s e c in stable k e.to t (omega arith)))
 
-module _ (slopes : List Slope) (height : ℕ → ℕ) (falls : (s : ℕ) (e : Exit) → Contains (ups_at slopes s) e → height e.to < height s)
+module _ (slopes : List Slope) (height : ℕ → ℕ) (falls : (s : ℕ) (e : Edge) → Contains (ups_at slopes s) e → height e.to < height s)
     (bounded : (s : ℕ) → height s ≤ length slopes) where
   -- the recursion of costs
   pub cost_recurs : (s t : ℕ) → cost slopes s t ≡ cost_by slopes s t (λ e. cost slopes e.to t)
@@ -102,24 +102,24 @@ module _ (slopes : List Slope) (height : ℕ → ℕ) (falls : (s : ℕ) (e : Ex
   hop_down : (s t n : ℕ) → (s == t) ≡ false → down_distance slopes s t ≡ Some (suc n) → NextHop slopes s t n
   hop_down s t n apart e =
       let c = shortest_step (below slopes) (length slopes) s t n e in
-      let x = contains_map (λ (y : Exit). y.to) (downs_at slopes s) c.0 c.1 in
-      let test : Exit → Bool = λ y. same_number (option_map suc (down_distance slopes y.to t)) (down_distance slopes s t) in
+      let x = contains_map (λ (y : Edge). y.to) (downs_at slopes s) c.0 c.1 in
+      let test : Edge → Bool = λ y. same_number (option_map suc (down_distance slopes y.to t)) (down_distance slopes s t) in
       let passes : test x.0 ≡ true = same_at (down_distance slopes x.0.to t) (down_distance slopes s t) n (ap (λ y. down_distance slopes y t) x.2 ∙ c.2) e in
       let f = found test (downs_at slopes s) x.0 x.1 passes in
       down f.0
-      (port_where_down slopes s t (suc n) apart e ∙ ap (option_map (λ (y : Exit). y.port)) f.1)
+      (port_where_down slopes s t (suc n) apart e ∙ ap (option_map (λ (y : Edge). y.port)) f.1)
       f.2 (same_from (down_distance slopes f.0.to t) (down_distance slopes s t) n f.3 e)
 
   hop_up : (s t n : ℕ) → (s == t) ≡ false → down_distance slopes s t ≡ None → cost slopes s t ≡ Some (suc n) → UpHop slopes s t n
   hop_up s t n apart e k =
       let l = none_less (least_of (filter_map (λ x. cost slopes x.to t) (ups_at slopes s))) n (sym (cost_up s t e) ∙ k) in
       let i = least_is_one (filter_map (λ x. cost slopes x.to t) (ups_at slopes s)) n l in
-      let x = contains-from_filter_map (λ (y : Exit). cost slopes y.to t) (ups_at slopes s) n i.0 in
-      let test : Exit → Bool = λ y. same_number (option_map suc (cost slopes y.to t)) (cost slopes s t) in
+      let x = contains-from_filter_map (λ (y : Edge). cost slopes y.to t) (ups_at slopes s) n i.0 in
+      let test : Edge → Bool = λ y. same_number (option_map suc (cost slopes y.to t)) (cost slopes s t) in
       let f = found test (ups_at slopes s) x.0 x.1 (same_at (cost slopes x.0.to t) (cost slopes s t) n x.2 k) in
       record {
-        exit = f.0;
-        port = port_where_up slopes s t apart e ∙ ap (option_map (λ (y : Exit). y.port)) f.1;
+        edge = f.0;
+        port = port_where_up slopes s t apart e ∙ ap (option_map (λ (y : Edge). y.port)) f.1;
         there = f.2;
         its_cost = same_from (cost slopes f.0.to t) (cost slopes s t) n f.3 k;
       }
@@ -128,7 +128,7 @@ module _ (slopes : List Slope) (height : ℕ → ℕ) (falls : (s : ℕ) (e : Ex
   pub next_hop : (s t n : ℕ) → (s == t) ≡ false → cost slopes s t ≡ Some (suc n) → NextHop slopes s t n
   next_hop s t n apart k =
       elim (down_distance slopes s t) as (λ o. down_distance slopes s t ≡ o → NextHop slopes s t n) [
-        | None ↦ λ e. let u = hop_up s t n apart e k in up u.exit u.port e u.there u.its_cost
+        | None ↦ λ e. let u = hop_up s t n apart e k in up u.edge u.port e u.there u.its_cost
         | Some d ↦ λ e. hop_down s t n apart (e ∙ ap (λ (w : ℕ). Some w) (same_Some d (suc n) (sym (cost_down s t d e) ∙ k)))
       ] refl
 
@@ -199,9 +199,9 @@ module _ (slopes : List Slope) (height : ℕ → ℕ) (falls : (s : ℕ) (e : Ex
             }
         | None ↦ λ e.
             let u = hop_up s t n (apart_up s t some e) e k in
-            let w = way n u.exit.to t some u.its_cost in
+            let w = way n u.edge.to t some u.its_cost in
             record {
-              ups = u.exit ∷ w.ups;
+              ups = u.edge ∷ w.ups;
               downs = w.downs;
               summit = w.summit;
               climbs = (u.there, w.climbs);

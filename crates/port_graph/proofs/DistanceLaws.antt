@@ -4,9 +4,9 @@ use Rattle.std.proofs.lemmas.Bool.{cases_eq}
 use Rattle.std.proofs.lemmas.Option.{none-some}
 use Rattle.std.specs.Prelude.{None, Some, MatchOption, Contains, slice_index_or}
 use Rattle.smp_bytes.proofs.Members.{contains_here, contains_later}
-use Rattle.port_graph.specs.declared.exit.Exit.{Exit}
+use Rattle.port_graph.specs.declared.edge.Edge.{Edge}
 use Rattle.port_graph.specs.Walks.{has_walk, shortest, Walk, IsShortest, HasNoWalk}
-use Rattle.port_graph.specs.Heads.{exits_at, heads, DistancesLaw}
+use Rattle.port_graph.specs.Heads.{edges_at, heads, DistancesLaw}
 use Rattle.port_graph.proofs.Lists.{contains_map}
 use Rattle.port_graph.proofs.WalkLemmas.{shortest_is, test_from_walk}
 use Rattle.port_graph.proofs.Paths.{bounded_walk, keeps_to, has_least_from}
@@ -37,15 +37,15 @@ shortest_found next n within m a b h w =
 
 -- the law of distances
 pub distances_in_words : DistancesLaw
-distances_in_words exits from distances lead start are a h =
-    elim (slice_index_or distances a None) as (λ o. slice_index_or distances a None ≡ o → MatchOption o (HasNoWalk (heads exits) from a) (IsShortest (heads exits) from a)) [
+distances_in_words edges from distances lead start are a h =
+    elim (slice_index_or distances a None) as (λ o. slice_index_or distances a None ≡ o → MatchOption o (HasNoWalk (heads edges) from a) (IsShortest (heads edges) from a)) [
       | None ↦ λ e. λ m w.
-          let d = shortest_found (heads exits) (length exits) within m from a start w in
+          let d = shortest_found (heads edges) (length edges) within m from a start w in
           none-some d.0 (sym e ∙ are.shortest a h ∙ d.1)
-      | Some d ↦ λ e. shortest_is (heads exits) (length exits) from a d (sym (are.shortest a h) ∙ e)
+      | Some d ↦ λ e. shortest_is (heads edges) (length edges) from a d (sym (are.shortest a h) ∙ e)
     ] refl
   where
-    within : (x y : ℕ) → Contains (heads exits x) y → y < length exits
+    within : (x y : ℕ) → Contains (heads edges x) y → y < length edges
     within x y k =
-        let e = contains_map (λ (e : Exit). e.to) (exits_at exits x) y k in
+        let e = contains_map (λ (e : Edge). e.to) (edges_at edges x) y k in
         omega (arith, lead x e.0 e.1, e.2)

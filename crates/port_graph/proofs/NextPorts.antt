@@ -5,20 +5,20 @@ use Rattle.std.proofs.lemmas.List.{length_push, get_or_push, get_or_append_left}
 use Rattle.std.specs.Prelude.{Option, None, Some, is_some, option_map, Contains, slice_index_or}
 use Rattle.std.specs.List.{find}
 use Rattle.smp_bytes.proofs.Members.{contains_here, contains_later}
-use Rattle.port_graph.specs.declared.exit.Exit.{Exit}
+use Rattle.port_graph.specs.declared.edge.Edge.{Edge}
 use Rattle.port_graph.specs.Walks.{has_walk}
 use Rattle.port_graph.specs.Slopes.{Slope, down_distance, cost, same_number, port_down, port_up, next_port}
-use Rattle.port_graph.specs.Heads.{exits_at, heads, AreDistances}
+use Rattle.port_graph.specs.Heads.{edges_at, heads, AreDistances}
 use Rattle.port_graph.specs.Indexed.{indexed, AreSlopes, AreCosts, port_nearer, port_by}
 use Rattle.port_graph.proofs.Lists.{find_none}
 use Rattle.port_graph.proofs.WalkLemmas.{least_is}
 use Rattle.port_graph.proofs.Costs.{port_at_target, port_where_down, port_where_up}
 use Rattle.port_graph.proofs.Indexing.{ups_indexed, downs_indexed, ups_lead, downs_lead, distance_is, cost_is}
 
--- where there is no number no exit leads nearer
-pub none_nearer : (exits : List Exit) (numbers : List (Option ℕ)) (number : Option ℕ) → number ≡ None → port_nearer exits numbers number ≡ None
-none_nearer exits numbers number e =
-    ap (option_map (λ e. e.port)) (find_none (λ e. same_number (option_map suc (slice_index_or numbers e.to None)) number) exits
+-- where there is no number no edge leads nearer
+pub none_nearer : (edges : List Edge) (numbers : List (Option ℕ)) (number : Option ℕ) → number ≡ None → port_nearer edges numbers number ≡ None
+none_nearer edges numbers number e =
+    ap (option_map (λ e. e.port)) (find_none (λ e. same_number (option_map suc (slice_index_or numbers e.to None)) number) edges
     (λ x. ap (same_number (option_map suc (slice_index_or numbers x.to None))) e ∙ with_none (option_map suc (slice_index_or numbers x.to None))))
   where
     with_none : (o : Option ℕ) → same_number o None ≡ false
@@ -26,9 +26,9 @@ none_nearer exits numbers number e =
     with_none (Some n) = refl
 
 -- none leads nearer than 0
-pub none_below : (exits : List Exit) (numbers : List (Option ℕ)) (number : Option ℕ) (n : ℕ) → number ≡ Some n → n < 1 → port_nearer exits numbers number ≡ None
-none_below exits numbers number n e h =
-    ap (option_map (λ e. e.port)) (find_none (λ e. same_number (option_map suc (slice_index_or numbers e.to None)) number) exits
+pub none_below : (edges : List Edge) (numbers : List (Option ℕ)) (number : Option ℕ) (n : ℕ) → number ≡ Some n → n < 1 → port_nearer edges numbers number ≡ None
+none_below edges numbers number n e h =
+    ap (option_map (λ e. e.port)) (find_none (λ e. same_number (option_map suc (slice_index_or numbers e.to None)) number) edges
     (λ x. ap (same_number (option_map suc (slice_index_or numbers x.to None))) (e ∙ ap (λ (m : ℕ). Some m) (is_zero n h)) ∙ not_zero (slice_index_or numbers x.to None)))
   where
     is_zero : (n : ℕ) → n < 1 → n ≡ 0
@@ -43,7 +43,7 @@ find_same p q [] h = refl
 find_same p q (x ∷ xs) h =
     ap₂ (λ (t : Bool) (o : Option _). cond t (Some x) o) (h x (contains_here x xs)) (find_same p q xs (λ y k. h y (contains_later x y xs k)))
 
-module _ (ups downs : List (List Exit)) (are : AreSlopes ups downs) (t : ℕ) (target : t < length ups) (distances costs : List (Option ℕ))
+module _ (ups downs : List (List Edge)) (are : AreSlopes ups downs) (t : ℕ) (target : t < length ups) (distances costs : List (Option ℕ))
     (lengths : AreDistances ups t distances) (all : AreCosts ups distances (length ups) costs) where
   abbrev slopes : List Slope
   slopes = indexed ups downs
@@ -54,17 +54,17 @@ module _ (ups downs : List (List Exit)) (are : AreSlopes ups downs) (t : ℕ) (t
   is_cost : (s : ℕ) → s < length ups → slice_index_or costs s None ≡ cost slopes s t
   is_cost = cost_is ups downs are t distances costs lengths all
 
-  is_port_down : (s : ℕ) → s < length ups → port_nearer (exits_at downs s) distances (slice_index_or distances s None) ≡ port_down slopes s t
+  is_port_down : (s : ℕ) → s < length ups → port_nearer (edges_at downs s) distances (slice_index_or distances s None) ≡ port_down slopes s t
   is_port_down s h =
       (λ i. option_map (λ e. e.port) (find_same (λ e. same_number (option_map suc (slice_index_or distances e.to None)) (slice_index_or distances s None))
-      (λ e. same_number (option_map suc (down_distance slopes e.to t)) (down_distance slopes s t)) (exits_at downs s)
+      (λ e. same_number (option_map suc (down_distance slopes e.to t)) (down_distance slopes s t)) (edges_at downs s)
       (λ e k. (λ j. same_number (option_map suc (is_distance e.to (omega (arith, downs_lead ups downs are s e k, are.all)) j)) (is_distance s h j))) i))
       ∙ ap (λ es. option_map (λ e. e.port) (find (λ e. same_number (option_map suc (down_distance slopes e.to t)) (down_distance slopes s t)) es)) (sym (downs_indexed ups downs are s))
 
-  is_port_up : (s : ℕ) → s < length ups → port_nearer (exits_at ups s) costs (slice_index_or costs s None) ≡ port_up slopes s t
+  is_port_up : (s : ℕ) → s < length ups → port_nearer (edges_at ups s) costs (slice_index_or costs s None) ≡ port_up slopes s t
   is_port_up s h =
       (λ i. option_map (λ e. e.port) (find_same (λ e. same_number (option_map suc (slice_index_or costs e.to None)) (slice_index_or costs s None))
-      (λ e. same_number (option_map suc (cost slopes e.to t)) (cost slopes s t)) (exits_at ups s)
+      (λ e. same_number (option_map suc (cost slopes e.to t)) (cost slopes s t)) (edges_at ups s)
       (λ e k. (λ j. same_number (option_map suc (is_cost e.to (ups_lead ups downs are s e k) j)) (is_cost s h j))) i))
       ∙ ap (λ es. option_map (λ e. e.port) (find (λ e. same_number (option_map suc (cost slopes e.to t)) (cost slopes s t)) es)) (sym (ups_indexed ups downs are s))
 
@@ -79,8 +79,8 @@ module _ (ups downs : List (List Exit)) (are : AreSlopes ups downs) (t : ℕ) (t
       elim (s == t) as (λ b. (s == t) ≡ b → port_by ups downs distances costs s ≡ next_port slopes s t) [
         | true ↦ λ same.
             let here = ap (λ x. slice_index_or distances x None) (eqb-true s t same) ∙ at_target in
-            ap (λ (d : Option ℕ). cond (is_some d) (port_nearer (exits_at downs s) distances d) (port_nearer (exits_at ups s) costs (slice_index_or costs s None))) here
-            ∙ none_below (exits_at downs s) distances (Some 0) 0 refl (omega arith) ∙ sym (port_at_target slopes s t same)
+            ap (λ (d : Option ℕ). cond (is_some d) (port_nearer (edges_at downs s) distances d) (port_nearer (edges_at ups s) costs (slice_index_or costs s None))) here
+            ∙ none_below (edges_at downs s) distances (Some 0) 0 refl (omega arith) ∙ sym (port_at_target slopes s t same)
         | false ↦ λ other.
             (λ i. cond (is_some (is_distance s h i)) (is_port_down s h i) (is_port_up s h i))
             ∙ (elim (down_distance slopes s t) as (λ o. down_distance slopes s t ≡ o → cond (is_some o) (port_down slopes s t) (port_up slopes s t) ≡ next_port slopes s t) [
@@ -90,16 +90,16 @@ module _ (ups downs : List (List Exit)) (are : AreSlopes ups downs) (t : ℕ) (t
       ] refl
 
 -- the next ports of the first vertices
-pub record AreFirstPorts (ups downs : List (List Exit)) (t n : ℕ) (ports : List (Option ℕ)) : Type 0 where
+pub record AreFirstPorts (ups downs : List (List Edge)) (t n : ℕ) (ports : List (Option ℕ)) : Type 0 where
   pub all : length ports ≡ n
   pub next : (a : ℕ) → a < n → slice_index_or ports a None ≡ next_port (indexed ups downs) a t
 
 -- no vertex has one yet
-pub ports_none : (ups downs : List (List Exit)) (t : ℕ) (ports : List (Option ℕ)) → ports ≡ [] → AreFirstPorts ups downs t 0 ports
+pub ports_none : (ups downs : List (List Edge)) (t : ℕ) (ports : List (Option ℕ)) → ports ≡ [] → AreFirstPorts ups downs t 0 ports
 ports_none ups downs t ports e = record { all = ap length e; next = λ a h. absurd (omega arith) }
 
 -- that of one more
-pub ports_more : (ups downs : List (List Exit)) (t n : ℕ) (ports : List (Option ℕ)) (p : Option ℕ) → AreFirstPorts ups downs t n ports → p ≡ next_port (indexed ups downs) n t
+pub ports_more : (ups downs : List (List Edge)) (t n : ℕ) (ports : List (Option ℕ)) (p : Option ℕ) → AreFirstPorts ups downs t n ports → p ≡ next_port (indexed ups downs) n t
     → AreFirstPorts ups downs t (n + 1) (ports ++ p ∷ [])
 ports_more ups downs t n ports p are is =
     record {

@@ -5,7 +5,7 @@ use Rattle.std.specs.Prelude.{Option, None, Some, is_some, option_map, Contains}
 use Rattle.std.specs.Cmp.{both_ways}
 use Rattle.std.specs.List.{list_any, filter_map, find, cons_option}
 use Rattle.smp_bytes.proofs.Members.{contains_here, contains_later}
-use Rattle.port_graph.specs.declared.exit.Exit.{Exit}
+use Rattle.port_graph.specs.declared.edge.Edge.{Edge}
 use Rattle.port_graph.specs.Walks.{has_walk, least_from, shortest}
 use Rattle.port_graph.specs.Slopes.{Slope, ups_at, downs_at, below, down_distance, least_of, cost_within, cost, same_number, port_down, port_up, next_port}
 use Rattle.port_graph.proofs.Lists.{contains_map}
@@ -57,8 +57,8 @@ module _ (name : ℕ → ℕ) (n : ℕ) (next renamed : ℕ → List ℕ) (is : 
 
 -- slopes --------------------------------------------------------------------------------
 
--- an exit to the same vertex by its other name
-abbrev pub rename : (ℕ → ℕ) → Exit → Exit
+-- an edge to the same vertex by its other name
+abbrev pub rename : (ℕ → ℕ) → Edge → Edge
 rename name e = record { port = e.port; to = name e.to }
 
 -- the slopes are those of the others, whose vertices are the numbers from 0 on, by other names
@@ -66,15 +66,15 @@ pub record AreRenamed (name : ℕ → ℕ) (slopes renamed : List Slope) : Type 
   pub all : length slopes ≡ length renamed
   pub ups : (s : ℕ) → s < length renamed → ups_at slopes (name s) ≡ map (rename name) (ups_at renamed s)
   pub downs : (s : ℕ) → s < length renamed → downs_at slopes (name s) ≡ map (rename name) (downs_at renamed s)
-  pub ups_within : (s : ℕ) (e : Exit) → Contains (ups_at renamed s) e → e.to < length renamed
-  pub downs_within : (s : ℕ) (e : Exit) → Contains (downs_at renamed s) e → e.to < length renamed
+  pub ups_within : (s : ℕ) (e : Edge) → Contains (ups_at renamed s) e → e.to < length renamed
+  pub downs_within : (s : ℕ) (e : Edge) → Contains (downs_at renamed s) e → e.to < length renamed
   pub apart : (s t : ℕ) → s < length renamed → t < length renamed → name s ≡ name t → s ≡ t
 
 module _ (name : ℕ → ℕ) (slopes renamed : List Slope) (are : AreRenamed name slopes renamed) where
   abbrev Is : ℕ → Type 0
   Is s = s < length renamed
 
-  heads_renamed : (es : List Exit) → map (λ e. e.to) (map (rename name) es) ≡ map name (map (λ e. e.to) es)
+  heads_renamed : (es : List Edge) → map (λ e. e.to) (map (rename name) es) ≡ map name (map (λ e. e.to) es)
   heads_renamed [] = refl
   heads_renamed (e ∷ es) = ap (λ ns. name e.to ∷ ns) (heads_renamed es)
 
@@ -82,12 +82,12 @@ module _ (name : ℕ → ℕ) (slopes renamed : List Slope) (are : AreRenamed na
   pub below_renamed : IsRenamed name (length renamed) (below slopes) (below renamed)
   below_renamed =
       record {
-        named = λ a h. ap (map (λ (e : Exit). e.to)) (are.downs a h) ∙ heads_renamed (downs_at renamed a);
-        within = λ a b h k. let x = contains_map (λ (e : Exit). e.to) (downs_at renamed a) b k in same_within x.0 b x.2 (are.downs_within a x.0 x.1);
+        named = λ a h. ap (map (λ (e : Edge). e.to)) (are.downs a h) ∙ heads_renamed (downs_at renamed a);
+        within = λ a b h k. let x = contains_map (λ (e : Edge). e.to) (downs_at renamed a) b k in same_within x.0 b x.2 (are.downs_within a x.0 x.1);
         apart = are.apart;
       }
     where
-      same_within : (e : Exit) (b : ℕ) → e.to ≡ b → e.to < length renamed → b < length renamed
+      same_within : (e : Edge) (b : ℕ) → e.to ≡ b → e.to < length renamed → b < length renamed
       same_within e b same h = rw (sym same) h
 
   -- down distances are the same
@@ -107,13 +107,13 @@ module _ (name : ℕ → ℕ) (slopes renamed : List Slope) (are : AreRenamed na
   pub cost_renamed : (s t : ℕ) → Is s → Is t → cost slopes (name s) (name t) ≡ cost renamed s t
   cost_renamed s t h k = ap (λ n. cost_within slopes n (name s) (name t)) are.all ∙ cost_within_renamed (length renamed) s t h k
 
-  -- the port of the first exit that passes
-  port_renamed : (p q : Exit → Bool) (exits es : List Exit) → exits ≡ map (rename name) es → ((e : Exit) → Contains es e → p (rename name e) ≡ q e)
-      → option_map (λ e. e.port) (find p exits) ≡ option_map (λ e. e.port) (find q es)
-  port_renamed p q exits es is same =
+  -- the port of the first edge that passes
+  port_renamed : (p q : Edge → Bool) (edges es : List Edge) → edges ≡ map (rename name) es → ((e : Edge) → Contains es e → p (rename name e) ≡ q e)
+      → option_map (λ e. e.port) (find p edges) ≡ option_map (λ e. e.port) (find q es)
+  port_renamed p q edges es is same =
       ap (λ xs. option_map (λ e. e.port) (find p xs)) is ∙ ap (option_map (λ e. e.port)) (find_renamed (rename name) p q es same) ∙ port_same (find q es)
     where
-      port_same : (o : Option Exit) → option_map (λ e. e.port) (option_map (rename name) o) ≡ option_map (λ e. e.port) o
+      port_same : (o : Option Edge) → option_map (λ e. e.port) (option_map (rename name) o) ≡ option_map (λ e. e.port) o
       port_same None = refl
       port_same (Some e) = refl
 

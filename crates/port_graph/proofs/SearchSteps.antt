@@ -6,8 +6,8 @@ use Rattle.std.specs.declared.vec.Vec.{Vec}
 use Rattle.std.specs.Vec.{with_items}
 use Rattle.std.specs.Prelude.{Option, None, Some, is_some, Contains, All, slice_index_or, slice_set}
 use Rattle.smp_bytes.proofs.Members.{contains_here, contains_later}
-use Rattle.port_graph.specs.declared.exit.Exit.{Exit}
-use Rattle.port_graph.specs.Heads.{exits_at, heads, LeadToVertices}
+use Rattle.port_graph.specs.declared.edge.Edge.{Edge}
+use Rattle.port_graph.specs.Heads.{edges_at, heads, LeadToVertices}
 use Rattle.port_graph.specs.Searches.{Search, reach, reach_all}
 use Rattle.port_graph.proofs.Searching.{unknown, unknown_less, IsBetween, taken, all_reached, given_back, begun}
 
@@ -49,7 +49,7 @@ reach_keeps_length d s a =
       | Some f ↦ refl
     ]
 
-all_counts : (d : ℕ) (s : Search) (left : List Exit) → ((e : Exit) → Contains left e → e.to < length s.0)
+all_counts : (d : ℕ) (s : Search) (left : List Edge) → ((e : Edge) → Contains left e → e.to < length s.0)
     → unknown (reach_all d s left).0 + length (reach_all d s left).1 ≡ unknown s.0 + length s.1
 all_counts d s [] below = refl
 all_counts d s (x ∷ left) below =
@@ -57,33 +57,33 @@ all_counts d s (x ∷ left) below =
     ∙ reach_counts d s x.to (below x (contains_here x left))
 
 -- a step that is written over the distances
-pub written : {Z : Type 0} (distances : Vec (Option ℕ) Z) (seen new : List (Option ℕ)) (q rest : List (ℕ × ℕ)) (d : ℕ) (left : List Exit) → length new ≡ distances.len
+pub written : {Z : Type 0} (distances : Vec (Option ℕ) Z) (seen new : List (Option ℕ)) (q rest : List (ℕ × ℕ)) (d : ℕ) (left : List Edge) → length new ≡ distances.len
     → seen ≡ distances.items → reach_all d (seen, q) left ≡ (new, rest) → reach_all d (distances.items, q) left ≡ ((with_items distances new).items, rest)
 written distances seen new q rest d left all are step =
     (λ i. reach_all d (sym are i, q) left) ∙ step ∙ (λ i. (sym (with_items_is distances new all) i, rest))
 
-module _ (exits : List (List Exit)) (from : ℕ) (lead : LeadToVertices exits) (ds : List (Option ℕ)) (before q : List (ℕ × ℕ)) (a d : ℕ)
-    (first : before ≡ (a, d) ∷ q) (i : IsBetween (heads exits) from (length exits) (ds, before)) where
-  opened : IsBetween (heads exits) from (length exits) (ds, (a, d) ∷ q)
-  opened = subst (λ (w : List (ℕ × ℕ)). IsBetween (heads exits) from (length exits) (ds, w)) first i
+module _ (edges : List (List Edge)) (from : ℕ) (lead : LeadToVertices edges) (ds : List (Option ℕ)) (before q : List (ℕ × ℕ)) (a d : ℕ)
+    (first : before ≡ (a, d) ∷ q) (i : IsBetween (heads edges) from (length edges) (ds, before)) where
+  opened : IsBetween (heads edges) from (length edges) (ds, (a, d) ∷ q)
+  opened = subst (λ (w : List (ℕ × ℕ)). IsBetween (heads edges) from (length edges) (ds, w)) first i
 
   -- the distance is below the number of vertices
-  pub distance_below : d < length exits
+  pub distance_below : d < length edges
   distance_below = let w = opened in omega (arith, w.search.short a d (w.search.waits a d (contains_here (a, d) q)))
 
-  -- the exits lead to vertices that have a place
-  pub places : (left : List Exit) → left ≡ exits_at exits a → (e : Exit) → Contains left e → e.to < length ds
-  places left is e h = let b = lead a e (subst (λ (xs : List Exit). Contains xs e) is h) in omega (arith, i.search.all)
+  -- the edges lead to vertices of the graph
+  pub lead_within : (left : List Edge) → left ≡ edges_at edges a → (e : Edge) → Contains left e → e.to < length ds
+  lead_within left is e h = let b = lead a e (subst (λ (xs : List Edge). Contains xs e) is h) in omega (arith, i.search.all)
 
-  module _ (left : List Exit) (is : left ≡ exits_at exits a) (k : ℕ) (next : k ≡ suc d) (after : Search) (step : reach_all k (ds, q) left ≡ after) where
-    -- a vertex more whose exits were followed
-    pub between : IsBetween (heads exits) from (length exits) after
+  module _ (left : List Edge) (is : left ≡ edges_at edges a) (k : ℕ) (next : k ≡ suc d) (after : Search) (step : reach_all k (ds, q) left ≡ after) where
+    -- a vertex more whose edges were followed
+    pub between : IsBetween (heads edges) from (length edges) after
     between =
-        let n = length exits in
-        let start = taken (heads exits) from n a d left ds q (ap (map (λ e. e.to)) (sym is)) (λ e h. omega (arith, places left is e h, i.search.all)) opened in
-        let Is : Search → Type 0 = λ s. IsBetween (heads exits) from n s in
-        subst Is (ap (λ m. reach_all m (ds, q) left) (sym next) ∙ step) (given_back (heads exits) from n a d _ (all_reached (heads exits) from n a d left (ds, q) start))
+        let n = length edges in
+        let start = taken (heads edges) from n a d left ds q (ap (map (λ e. e.to)) (sym is)) (λ e h. omega (arith, lead_within left is e h, i.search.all)) opened in
+        let Is : Search → Type 0 = λ s. IsBetween (heads edges) from n s in
+        subst Is (ap (λ m. reach_all m (ds, q) left) (sym next) ∙ step) (given_back (heads edges) from n a d _ (all_reached (heads edges) from n a d left (ds, q) start))
 
     -- fewer wait or have no distance
     pub fewer : unknown after.0 + length after.1 < unknown ds + length before
-    fewer = omega (arith, all_counts k (ds, q) left (places left is), ap (λ (s : Search). unknown s.0 + length s.1) step, ap length first)
+    fewer = omega (arith, all_counts k (ds, q) left (lead_within left is), ap (λ (s : Search). unknown s.0 + length s.1) step, ap length first)

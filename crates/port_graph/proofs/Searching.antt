@@ -6,7 +6,7 @@ use Rattle.std.proofs.lemmas.List.{length-set, get_or_past, get_or-set_same, get
 use Rattle.std.proofs.lemmas.List.Elements.{Contains-push, Contains-push_cases, Contains-append_left}
 use Rattle.std.specs.Prelude.{Option, None, Some, is_some, Contains, slice_index_or, slice_set}
 use Rattle.smp_bytes.proofs.Members.{contains_here, contains_later, contains_cases, contains_none}
-use Rattle.port_graph.specs.declared.exit.Exit.{Exit}
+use Rattle.port_graph.specs.declared.edge.Edge.{Edge}
 use Rattle.port_graph.specs.Walks.{has_walk, shortest, Walk}
 use Rattle.port_graph.specs.Searches.{Search, reach, reach_all}
 use Rattle.port_graph.proofs.Lists.{contains_mapped}
@@ -28,7 +28,7 @@ abbrev pub Rises : List (ℕ × ℕ) → Type 0
 Rises [] = Unit {0}
 Rises (x ∷ xs) = ((a d : ℕ) → Contains xs (a, d) → x.1 ≤ d) × Rises xs
 
--- the exits of a vertex were followed
+-- the edges of a vertex were followed
 abbrev pub IsFollowed : (ℕ → List ℕ) → List (Option ℕ) → ℕ → ℕ → Type 0
 IsFollowed next ds a d = (b : ℕ) → Contains (next a) b → (e : ℕ) × Has ds b e × (e ≤ suc d)
 
@@ -41,21 +41,21 @@ pub record IsSearch (next : ℕ → List ℕ) (from n : ℕ) (s : Search) : Type
   pub waits : (a d : ℕ) → Contains s.1 (a, d) → Has s.0 a d
   pub rises : Rises s.1
 
--- between two vertices: each one that has a distance waits, or its exits were followed
+-- between two vertices: each one that has a distance waits, or its edges were followed
 pub record IsBetween (next : ℕ → List ℕ) (from n : ℕ) (s : Search) : Type 0 where
   pub search : IsSearch next from n s
   pub near : (a d b e : ℕ) → Contains s.1 (a, d) → Has s.0 b e → e ≤ suc d
   pub followed : (a d : ℕ) → Has s.0 a d → Contains s.1 (a, d) ⊎ IsFollowed next s.0 a d
 
--- while the exits of a vertex are followed: those that are left
-pub record IsFollowing (next : ℕ → List ℕ) (from n a d : ℕ) (left : List Exit) (s : Search) : Type 0 where
+-- while the edges of a vertex are followed: those that are left
+pub record IsFollowing (next : ℕ → List ℕ) (from n a d : ℕ) (left : List Edge) (s : Search) : Type 0 where
   pub search : IsSearch next from n s
   pub here : Has s.0 a d
   pub above : (b e : ℕ) → Contains s.1 (b, e) → d ≤ e
   pub near : (b e : ℕ) → Has s.0 b e → e ≤ suc d
   pub followed : (b e : ℕ) → Has s.0 b e → (b ≡ a) ⊎ Contains s.1 (b, e) ⊎ IsFollowed next s.0 b e
   pub led : (b : ℕ) → Contains (next a) b → Contains (map (λ e. e.to) left) b ⊎ ((e : ℕ) × Has s.0 b e × (e ≤ suc d))
-  pub lead : (e : Exit) → Contains left e → Contains (next a) e.to × (e.to < n)
+  pub lead : (e : Edge) → Contains left e → Contains (next a) e.to × (e.to < n)
 
 -- lists --------------------------------------------------------------------------------
 
@@ -99,8 +99,8 @@ module _ (ds : List (Option ℕ)) (a d : ℕ) (below : a < length ds) (none : sl
   followed_kept next b e f x h = let g = f x h in (g.0, known_kept x g.0 g.1, g.2)
 
 module _ (next : ℕ → List ℕ) (from n a d : ℕ) where
-  -- the vertex to which an exit leads has a distance already
-  reached_before : (x : Exit) (left : List Exit) (s : Search) (f : ℕ) → Has s.0 x.to f → IsFollowing next from n a d (x ∷ left) s → IsFollowing next from n a d left s
+  -- the vertex to which an edge leads has a distance already
+  reached_before : (x : Edge) (left : List Edge) (s : Search) (f : ℕ) → Has s.0 x.to f → IsFollowing next from n a d (x ∷ left) s → IsFollowing next from n a d left s
   reached_before x left s f h i =
       record {
         search = i.search;
@@ -109,7 +109,7 @@ module _ (next : ℕ → List ℕ) (from n a d : ℕ) where
         near = i.near;
         followed = i.followed;
         led = λ b k. (elim (i.led b k) [
-          | inl c ↦ (elim (contains_cases x.to b (map (λ (e : Exit). e.to) left) c) [
+          | inl c ↦ (elim (contains_cases x.to b (map (λ (e : Edge). e.to) left) c) [
             | inl same ↦ inr (f, ap (λ y. slice_index_or s.0 y None) (sym same) ∙ h, i.near x.to f h)
             | inr later ↦ inl later
           ])
@@ -119,7 +119,7 @@ module _ (next : ℕ → List ℕ) (from n a d : ℕ) where
       }
 
   -- it has none
-  reached_now : (x : Exit) (left : List Exit) (s : Search) → slice_index_or s.0 x.to None ≡ None → IsFollowing next from n a d (x ∷ left) s
+  reached_now : (x : Edge) (left : List Edge) (s : Search) → slice_index_or s.0 x.to None ≡ None → IsFollowing next from n a d (x ∷ left) s
       → IsFollowing next from n a d left (slice_set s.0 x.to (Some (suc d)), s.1 ++ (x.to, suc d) ∷ [])
   reached_now x left s none i =
       let lead = i.lead x (contains_here x left) in
@@ -169,7 +169,7 @@ module _ (next : ℕ → List ℕ) (from n a d : ℕ) where
           ])
         ]);
         led = λ b k. (elim (i.led b k) [
-          | inl c ↦ (elim (contains_cases x.to b (map (λ (e : Exit). e.to) left) c) [
+          | inl c ↦ (elim (contains_cases x.to b (map (λ (e : Edge). e.to) left) c) [
             | inl same ↦ inr (suc d, ap (λ y. slice_index_or (slice_set s.0 x.to (Some (suc d))) y None) (sym same) ∙ get_or-set_same s.0 x.to (Some (suc d)) None below, omega arith)
             | inr later ↦ inl later
           ])
@@ -178,7 +178,7 @@ module _ (next : ℕ → List ℕ) (from n a d : ℕ) where
         lead = λ e k. i.lead e (contains_later x e left k);
       }
 
-  reached : (x : Exit) (left : List Exit) (s : Search) → IsFollowing next from n a d (x ∷ left) s → IsFollowing next from n a d left (reach (suc d) s x.to)
+  reached : (x : Edge) (left : List Edge) (s : Search) → IsFollowing next from n a d (x ∷ left) s → IsFollowing next from n a d left (reach (suc d) s x.to)
   reached x left s i =
       elim (slice_index_or s.0 x.to None) as (λ o. slice_index_or s.0 x.to None ≡ o
       → IsFollowing next from n a d left (cond (is_some o) s (slice_set s.0 x.to (Some (suc d)), s.1 ++ (x.to, suc d) ∷ []))) [
@@ -186,8 +186,8 @@ module _ (next : ℕ → List ℕ) (from n a d : ℕ) where
         | Some f ↦ λ e. reached_before x left s f e i
       ] refl
 
-  -- all the exits of a vertex
-  pub all_reached : (left : List Exit) (s : Search) → IsFollowing next from n a d left s → IsFollowing next from n a d [] (reach_all (suc d) s left)
+  -- all the edges of a vertex
+  pub all_reached : (left : List Edge) (s : Search) → IsFollowing next from n a d left s → IsFollowing next from n a d [] (reach_all (suc d) s left)
   all_reached [] s i = i
   all_reached (x ∷ left) s i = all_reached left (reach (suc d) s x.to) (reached x left s i)
 
@@ -195,7 +195,7 @@ module _ (next : ℕ → List ℕ) (from n a d : ℕ) where
 
 module _ (next : ℕ → List ℕ) (from n : ℕ) where
   -- the first that waits is taken
-  pub taken : (a d : ℕ) (left : List Exit) (ds : List (Option ℕ)) (q : List (ℕ × ℕ)) → next a ≡ map (λ e. e.to) left → ((e : Exit) → Contains left e → e.to < n)
+  pub taken : (a d : ℕ) (left : List Edge) (ds : List (Option ℕ)) (q : List (ℕ × ℕ)) → next a ≡ map (λ e. e.to) left → ((e : Edge) → Contains left e → e.to < n)
       → IsBetween next from n (ds, (a, d) ∷ q) → IsFollowing next from n a d left (ds, q)
   taken a d left ds q is lead i =
       let later : (b e : ℕ) → Contains q (b, e) → Contains ((a, d) ∷ q) (b, e) = λ b e h. contains_later (a, d) (b, e) q h in
@@ -221,10 +221,10 @@ module _ (next : ℕ → List ℕ) (from n : ℕ) where
           | inr done ↦ inr (inr done)
         ]);
         led = λ b h. inl (subst (λ (bs : List ℕ). Contains bs b) is h);
-        lead = λ e h. (subst (λ (bs : List ℕ). Contains bs e.to) (sym is) (contains_mapped (λ (x : Exit). x.to) left e h), lead e h);
+        lead = λ e h. (subst (λ (bs : List ℕ). Contains bs e.to) (sym is) (contains_mapped (λ (x : Edge). x.to) left e h), lead e h);
       }
 
-  -- all its exits were followed
+  -- all its edges were followed
   pub given_back : (a d : ℕ) (s : Search) → IsFollowing next from n a d [] s → IsBetween next from n s
   given_back a d s i =
       record {

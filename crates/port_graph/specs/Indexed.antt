@@ -1,27 +1,27 @@
 -- Slopes whose vertices are the numbers from 0 on.
 use Rattle.std.specs.Prelude.{◌≡◌, ◌<◌, ℕ, suc, List, [], ◌∷◌, length, Contains, Option, None, Some, is_some, option_map, slice_index_or, if◌then◌else◌}
 use Rattle.std.specs.List.{filter_map, find}
-use Rattle.port_graph.specs.declared.exit.Exit.{Exit}
-use Rattle.port_graph.specs.Heads.{exits_at, heads}
+use Rattle.port_graph.specs.declared.edge.Edge.{Edge}
+use Rattle.port_graph.specs.Heads.{edges_at, heads}
 use Rattle.port_graph.specs.Slopes.{Slope, lesser, least_of, same_number, cost, next_port}
 use Rattle.port_graph.specs.Routes.{Way}
 
 -- from the first number on, one for each vertex
-abbrev pub indexed_from : ℕ → List (List Exit) → List (List Exit) → List Slope
+abbrev pub indexed_from : ℕ → List (List Edge) → List (List Edge) → List Slope
 indexed_from first [] downs = []
 indexed_from first (u ∷ ups) [] = []
 indexed_from first (u ∷ ups) (d ∷ downs) = record { guid = first; ups = u; downs = d } ∷ indexed_from (suc first) ups downs
 
--- the slopes of vertices that have these exits up and down
-abbrev pub indexed : List (List Exit) → List (List Exit) → List Slope
+-- the slopes of vertices that have these edges up and down
+abbrev pub indexed : List (List Edge) → List (List Edge) → List Slope
 indexed ups downs = indexed_from 0 ups downs
 
--- each exit leads to a lesser vertex
-abbrev pub LeadToLesser : List (List Exit) → Type 0
-LeadToLesser exits = (a : ℕ) (e : Exit) → Contains (exits_at exits a) e → e.to < a
+-- each edge leads to a lesser vertex
+abbrev pub LeadToLesser : List (List Edge) → Type 0
+LeadToLesser edges = (a : ℕ) (e : Edge) → Contains (edges_at edges a) e → e.to < a
 
 -- up is to a lesser vertex, and what is up from one vertex has that vertex down from it
-pub record AreSlopes (ups downs : List (List Exit)) : Type 0 where
+pub record AreSlopes (ups downs : List (List Edge)) : Type 0 where
   pub all : length downs ≡ length ups
   pub rise : LeadToLesser ups
   pub back_up : (a b : ℕ) → Contains (heads downs a) b → Contains (heads ups b) a
@@ -36,30 +36,30 @@ lesser_of (Some n) other = Some (lesser n other)
 abbrev pub AreLess : ℕ → List (Option ℕ) → Type 0
 AreLess bound numbers = (a n : ℕ) → slice_index_or numbers a None ≡ Some n → n < bound
 
--- the distance where there is one, else one more than the least cost over the exits
-abbrev pub cost_of : Option ℕ → List Exit → List (Option ℕ) → Option ℕ
-cost_of distance exits costs = if is_some distance then distance else option_map suc (least_of (filter_map (λ e. slice_index_or costs e.to None) exits))
+-- the distance where there is one, else one more than the least cost over the edges
+abbrev pub cost_of : Option ℕ → List Edge → List (Option ℕ) → Option ℕ
+cost_of distance edges costs = if is_some distance then distance else option_map suc (least_of (filter_map (λ e. slice_index_or costs e.to None) edges))
 
 -- at each of the first vertices such a cost
-pub record AreCosts (ups : List (List Exit)) (distances : List (Option ℕ)) (n : ℕ) (costs : List (Option ℕ)) : Type 0 where
+pub record AreCosts (ups : List (List Edge)) (distances : List (Option ℕ)) (n : ℕ) (costs : List (Option ℕ)) : Type 0 where
   pub all : length costs ≡ n
-  pub cost : (a : ℕ) → a < n → slice_index_or costs a None ≡ cost_of (slice_index_or distances a None) (exits_at ups a) costs
+  pub cost : (a : ℕ) → a < n → slice_index_or costs a None ≡ cost_of (slice_index_or distances a None) (edges_at ups a) costs
 
--- the port of the first exit to a vertex whose number is one less
-abbrev pub port_nearer : List Exit → List (Option ℕ) → Option ℕ → Option ℕ
-port_nearer exits numbers number = option_map (λ e. e.port) (find (λ e. same_number (option_map suc (slice_index_or numbers e.to None)) number) exits)
+-- the port of the first edge to a vertex whose number is one less
+abbrev pub port_nearer : List Edge → List (Option ℕ) → Option ℕ → Option ℕ
+port_nearer edges numbers number = option_map (λ e. e.port) (find (λ e. same_number (option_map suc (slice_index_or numbers e.to None)) number) edges)
 
 -- the port down where a distance is known, else the port up
-abbrev pub port_by : List (List Exit) → List (List Exit) → List (Option ℕ) → List (Option ℕ) → ℕ → Option ℕ
+abbrev pub port_by : List (List Edge) → List (List Edge) → List (Option ℕ) → List (Option ℕ) → ℕ → Option ℕ
 port_by ups downs distances costs a =
     let distance = slice_index_or distances a None in
-    if is_some distance then port_nearer (exits_at downs a) distances distance else port_nearer (exits_at ups a) costs (slice_index_or costs a None)
+    if is_some distance then port_nearer (edges_at downs a) distances distance else port_nearer (edges_at ups a) costs (slice_index_or costs a None)
 
 -- at each vertex the next port to the target
-pub record AreNextPorts (ups downs : List (List Exit)) (target : ℕ) (ports : List (Option ℕ)) : Type 0 where
+pub record AreNextPorts (ups downs : List (List Edge)) (target : ℕ) (ports : List (Option ℕ)) : Type 0 where
   pub all : length ports ≡ length ups
   pub next : (a : ℕ) → a < length ups → slice_index_or ports a None ≡ next_port (indexed ups downs) a target
 
--- from a vertex with a cost a way by next ports leads to the target, first up and then down, over as many exits as the cost
+-- from a vertex with a cost a way by next ports leads to the target, first up and then down, over as many edges as the cost
 abbrev pub WaysLaw : Type 0
-WaysLaw = (ups downs : List (List Exit)) → AreSlopes ups downs → (s t n : ℕ) → t < length ups → cost (indexed ups downs) s t ≡ Some n → Way (indexed ups downs) s t n
+WaysLaw = (ups downs : List (List Edge)) → AreSlopes ups downs → (s t n : ℕ) → t < length ups → cost (indexed ups downs) s t ≡ Some n → Way (indexed ups downs) s t n

@@ -1,6 +1,6 @@
 -- Down distances, costs and next ports in words.
 use Rattle.std.specs.Prelude.{◌≡◌, ◌≢◌, ◌≤◌, ℕ, zero, suc, ◌+◌, ◌⊎◌, ◌==◌, false, List, [], ◌∷◌, ◌++◌, length, Contains, Some}
-use Rattle.port_graph.specs.declared.exit.Exit.{Exit}
+use Rattle.port_graph.specs.declared.edge.Edge.{Edge}
 use Rattle.port_graph.specs.Walks.{IsShortest, HasNoWalk}
 use Rattle.port_graph.specs.Slopes.{Slope, ups_at, downs_at, below, cost, next_port}
 
@@ -11,7 +11,7 @@ IsDownDistance slopes s t n = IsShortest (below slopes) s t n
 -- k wires up from s to u, past switches from which no walk down leads to t
 abbrev pub Climb : List Slope → ℕ → ℕ → ℕ → ℕ → Type 0
 Climb slopes t s u zero = s ≡ u
-Climb slopes t s u (suc k) = HasNoWalk (below slopes) s t × ((e : Exit) × Contains (ups_at slopes s) e × Climb slopes t e.to u k)
+Climb slopes t s u (suc k) = HasNoWalk (below slopes) s t × ((e : Edge) × Contains (ups_at slopes s) e × Climb slopes t e.to u k)
 
 -- a climb as far as needed and a shortest walk down, n wires in all
 abbrev pub IsRoute : List Slope → ℕ → ℕ → ℕ → Type 0
@@ -29,7 +29,7 @@ pub record IsPortDown (slopes : List Slope) (s t p : ℕ) : Type 0 where
   pub to : ℕ
   pub wire : Contains (downs_at slopes s) (record { port = p; to = to })
   pub nearer : IsDownDistance slopes to t distance
-  pub least : (e : Exit) → Contains (downs_at slopes s) e → IsDownDistance slopes e.to t distance → p ≤ e.port
+  pub least : (e : Edge) → Contains (downs_at slopes s) e → IsDownDistance slopes e.to t distance → p ≤ e.port
 
 -- where no walk leads down, the port of a wire up to a switch of least cost, and the least such
 pub record IsPortUp (slopes : List Slope) (s t p : ℕ) : Type 0 where
@@ -38,36 +38,36 @@ pub record IsPortUp (slopes : List Slope) (s t p : ℕ) : Type 0 where
   pub wire : Contains (ups_at slopes s) (record { port = p; to = to })
   pub its_cost : ℕ
   pub is_cost : IsCost slopes to t its_cost
-  pub least_cost : (e : Exit) (n : ℕ) → Contains (ups_at slopes s) e → IsCost slopes e.to t n → its_cost ≤ n
-  pub least : (e : Exit) → Contains (ups_at slopes s) e → IsCost slopes e.to t its_cost → p ≤ e.port
+  pub least_cost : (e : Edge) (n : ℕ) → Contains (ups_at slopes s) e → IsCost slopes e.to t n → its_cost ≤ n
+  pub least : (e : Edge) → Contains (ups_at slopes s) e → IsCost slopes e.to t its_cost → p ≤ e.port
 
 abbrev pub IsNextPort : List Slope → ℕ → ℕ → ℕ → Type 0
 IsNextPort slopes s t p = (s ≢ t) × (IsPortDown slopes s t p ⊎ IsPortUp slopes s t p)
 
 -- wires up from s to u, and wires down
-abbrev pub Climbs : List Slope → ℕ → List Exit → ℕ → Type 0
+abbrev pub Climbs : List Slope → ℕ → List Edge → ℕ → Type 0
 Climbs slopes s [] u = s ≡ u
 Climbs slopes s (e ∷ es) u = Contains (ups_at slopes s) e × Climbs slopes e.to es u
 
-abbrev pub Descends : List Slope → ℕ → List Exit → ℕ → Type 0
+abbrev pub Descends : List Slope → ℕ → List Edge → ℕ → Type 0
 Descends slopes s [] u = s ≡ u
 Descends slopes s (e ∷ es) u = Contains (downs_at slopes s) e × Descends slopes e.to es u
 
 -- wires by the next port of each switch, as far as the target
-abbrev pub GoesBy : List Slope → ℕ → ℕ → List Exit → Type 0
+abbrev pub GoesBy : List Slope → ℕ → ℕ → List Edge → Type 0
 GoesBy slopes t s [] = s ≡ t
 GoesBy slopes t s (e ∷ es) = ((s == t) ≡ false) × (next_port slopes s t ≡ Some e.port) × GoesBy slopes t e.to es
 
 -- from cost n on, the costs of the switches that the wires lead to fall by one
-abbrev pub CostsFall : List Slope → ℕ → ℕ → List Exit → Type 0
+abbrev pub CostsFall : List Slope → ℕ → ℕ → List Edge → Type 0
 CostsFall slopes t n [] = Unit {0}
 CostsFall slopes t zero (e ∷ es) = ⊥
 CostsFall slopes t (suc n) (e ∷ es) = (cost slopes e.to t ≡ Some n) × CostsFall slopes t n es
 
 -- a way by next ports: up, and then down, over as many wires as the cost
 pub record Way (slopes : List Slope) (s t n : ℕ) : Type 0 where
-  pub ups : List Exit
-  pub downs : List Exit
+  pub ups : List Edge
+  pub downs : List Edge
   pub summit : ℕ
   pub climbs : Climbs slopes s ups summit
   pub descends : Descends slopes summit downs t

@@ -1,20 +1,20 @@
 -- Vertices whose edges lead up or down: down distances, costs and next ports.
 use Rattle.std.specs.Prelude.{ℕ, zero, suc, Bool, false, List, [], ◌∷◌, min, map, length, Option, None, Some, is_some, ◌==◌, option_map, if◌then◌else◌}
 use Rattle.std.specs.List.{filter_map, find}
-use Rattle.port_graph.specs.declared.exit.Exit.{Exit}
+use Rattle.port_graph.specs.declared.edge.Edge.{Edge}
 use Rattle.port_graph.specs.Walks.{shortest}
 
 -- the wires of a switch that lead up, to one before it, and down, to one after it
 pub record Slope : Type 0 where
   pub guid : ℕ
-  pub ups : List Exit
-  pub downs : List Exit
+  pub ups : List Edge
+  pub downs : List Edge
 
-abbrev pub ups_at : List Slope → ℕ → List Exit
+abbrev pub ups_at : List Slope → ℕ → List Edge
 ups_at [] a = []
 ups_at (s ∷ slopes) a = if s.guid == a then s.ups else ups_at slopes a
 
-abbrev pub downs_at : List Slope → ℕ → List Exit
+abbrev pub downs_at : List Slope → ℕ → List Edge
 downs_at [] a = []
 downs_at (s ∷ slopes) a = if s.guid == a then s.downs else downs_at slopes a
 

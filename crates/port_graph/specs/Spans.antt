@@ -1,16 +1,16 @@
 -- Lists that are kept end to end in one list.
 use Rattle.std.specs.Prelude.{◌≤◌, List, map, length, All, slice_range}
-use Rattle.port_graph.specs.declared.exit.Exit.{Exit}
-use Rattle.port_graph.specs.declared.exits.Span.{Span}
+use Rattle.port_graph.specs.declared.edge.Edge.{Edge}
+use Rattle.port_graph.specs.declared.adjacency.Span.{Span}
 
 -- the part of the list that a span says
-abbrev pub part : List Exit → Span → List Exit
-part exits span = slice_range exits span.start span.end
+abbrev pub part : List Edge → Span → List Edge
+part edges span = slice_range edges span.start span.end
 
 -- the parts of the list that the spans say
-abbrev pub cut : List Exit → List Span → List (List Exit)
-cut exits spans = map (part exits) spans
+abbrev pub cut : List Edge → List Span → List (List Edge)
+cut edges spans = map (part edges) spans
 
 -- each span lies within the list
-abbrev pub AreWithin : List Exit → List Span → Type 0
-AreWithin exits spans = All (λ span. (span.start ≤ span.end) × (span.end ≤ length exits)) spans
+abbrev pub AreWithin : List Edge → List Span → Type 0
+AreWithin edges spans = All (λ span. (span.start ≤ span.end) × (span.end ≤ length edges)) spans

@@ -3,15 +3,15 @@ ghost use Rattle.std.specs.List.{filter_map};
 ghost use Rattle.port_graph.specs.Slopes.{least_of};
 ghost use Rattle.port_graph.specs.Indexed.{LeadToLesser, AreLess, AreCosts, cost_of, lesser_of};
 
-use crate::exit::Exit;
-use crate::exits::Exits;
+use crate::adjacency::Adjacency;
+use crate::edge::Edge;
 use std::alloc::{AllocError, Global};
 
 /// The cost of each vertex: its distance where it has one, else one more than the least cost of those that
-/// are up from it. Takes a step for each vertex and each exit.
+/// are up from it. Takes a step for each vertex and each edge.
 pub(crate) fn costs(
     alloc: Global,
-    ups: &Exits,
+    ups: &Adjacency,
     distances: &[Option<usize>],
 ) -> Result<Vec<Option<usize>>, AllocError>
     requires rise { LeadToLesser ups.now }
@@ -28,8 +28,8 @@ pub(crate) fn costs(
 }
 
 /// The cost of a vertex by the costs of those that are up from it.
-fn cost(distance: Option<usize>, ups: &[Exit], costs: &[Option<usize>]) -> Option<usize>
-    requires known { All (λ exit. exit.to < length costs.now) ups.now }
+fn cost(distance: Option<usize>, ups: &[Edge], costs: &[Option<usize>]) -> Option<usize>
+    requires known { All (λ edge. edge.to < length costs.now) ups.now }
     requires room { AreLess usize.MAX costs.now }
     ensures { result ≡ cost_of distance ups.now costs.now }
 {
@@ -40,14 +40,14 @@ fn cost(distance: Option<usize>, ups: &[Exit], costs: &[Option<usize>]) -> Optio
     Some(least + 1)
 }
 
-/// The least cost of the vertices to which the exits lead.
-fn least_cost(exits: &[Exit], costs: &[Option<usize>]) -> Option<usize>
-    requires { All (λ exit. exit.to < length costs.now) exits.now }
-    ensures { result ≡ least_of (filter_map (λ exit. slice_index_or costs.now exit.to None) exits.now) }
+/// The least cost of the vertices to which the edges lead.
+fn least_cost(edges: &[Edge], costs: &[Option<usize>]) -> Option<usize>
+    requires { All (λ edge. edge.to < length costs.now) edges.now }
+    ensures { result ≡ least_of (filter_map (λ edge. slice_index_or costs.now edge.to None) edges.now) }
 {
     let mut least = None;
-    for exit in exits {
-        least = lesser(least, costs[exit.to]);
+    for edge in edges {
+        least = lesser(least, costs[edge.to]);
     }
     least
 }

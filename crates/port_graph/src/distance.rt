@@ -2,48 +2,48 @@ ghost use Rattle.std.specs.Prelude.{◌≡◌, ◌<◌, length, All, IfOk, OnOk}
 ghost use Rattle.port_graph.specs.Heads.{LeadToVertices, AreDistances};
 ghost use Rattle.port_graph.specs.Searches.{Search, reach_all};
 
-use crate::exit::Exit;
-use crate::exits::Exits;
+use crate::adjacency::Adjacency;
+use crate::edge::Edge;
 use std::alloc::{AllocError, Global};
 use std::collections::VecDeque;
 
 /// The length of a shortest walk from a vertex to each vertex, where one leads there: a search in breadth.
-/// Takes a step for each vertex and each exit.
+/// Takes a step for each vertex and each edge.
 pub fn distances(
     alloc: Global,
-    exits: &Exits,
+    edges: &Adjacency,
     from: usize,
 ) -> Result<Vec<Option<usize>>, AllocError>
-    requires vertex { from < length exits.now }
-    requires lead { LeadToVertices exits.now }
-    ensures { IfOk result (λ distances. AreDistances exits.now from distances.items) }
+    requires vertex { from < length edges.now }
+    requires lead { LeadToVertices edges.now }
+    ensures { IfOk result (λ distances. AreDistances edges.now from distances.items) }
 {
-    let mut distances = vec![in alloc; None; exits.len()]?;
+    let mut distances = vec![in alloc; None; edges.len()]?;
     distances[from] = Some(0);
-    let mut queue = VecDeque::with_capacity(alloc, exits.len())?;
+    let mut queue = VecDeque::with_capacity(alloc, edges.len())?;
     queue.push_back((from, 0))?;
     while let Some((vertex, distance)) = queue.pop_front() {
-        reach_all(exits.at(vertex), distance + 1, &mut distances, &mut queue)?;
+        reach_all(edges.at(vertex), distance + 1, &mut distances, &mut queue)?;
     }
     Ok(distances)
 }
 
-/// Notes the distance of each vertex to which the exits lead and whose distance is not known yet, and lets
+/// Notes the distance of each vertex to which the edges lead and whose distance is not known yet, and lets
 /// it wait.
 fn reach_all(
-    exits: &[Exit],
+    edges: &[Edge],
     distance: usize,
     distances: &mut [Option<usize>],
     queue: &mut VecDeque<(usize, usize)>,
 ) -> Result<(), AllocError>
-    requires { All (λ exit. exit.to < length distances.old) exits.now }
+    requires { All (λ edge. edge.to < length distances.old) edges.now }
     ensures { let before : Search = (distances.old, queue.old.items) in
-        OnOk result (reach_all distance before exits.now ≡ (distances.new, queue.new.items)) }
+        OnOk result (reach_all distance before edges.now ≡ (distances.new, queue.new.items)) }
 {
-    for exit in exits {
-        if distances[exit.to].is_none() {
-            distances[exit.to] = Some(distance);
-            queue.push_back((exit.to, distance))?;
+    for edge in edges {
+        if distances[edge.to].is_none() {
+            distances[edge.to] = Some(distance);
+            queue.push_back((edge.to, distance))?;
         }
     }
     Ok(())

@@ -8,7 +8,7 @@ pub fn distances_law()
 {}
 
 /// From a vertex that has a cost a way by next ports leads to the target, first up and then down, over as
-/// many exits as the cost.
+/// many edges as the cost.
 pub fn ways_law()
     ensures { WaysLaw }
 {}

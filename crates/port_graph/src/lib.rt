@@ -2,14 +2,14 @@
 //! up and then down.
 #![tactic(auto)]
 
+mod adjacency;
 mod cost;
 mod distance;
-mod exit;
-mod exits;
+mod edge;
 pub mod laws;
 mod next_port;
 
+pub use adjacency::Adjacency;
 pub use distance::distances;
-pub use exit::Exit;
-pub use exits::Exits;
+pub use edge::Edge;
 pub use next_port::next_ports;

@@ -1,20 +1,20 @@
 ghost use Rattle.std.specs.Prelude.{◌≡◌, ◌<◌, length, All, IfOk};
 ghost use Rattle.port_graph.specs.Indexed.{AreSlopes, AreNextPorts, port_by, port_nearer};
 
+use crate::adjacency::Adjacency;
 use crate::cost::costs;
 use crate::distance::distances;
-use crate::exit::Exit;
-use crate::exits::Exits;
+use crate::edge::Edge;
 use smp_bytes::PortNum;
 use std::alloc::{AllocError, Global};
 
 /// The next port of each vertex to the target: where a walk down leads there, the first port down to a
 /// vertex one nearer; else the first port up to a vertex of least cost. None at the target, and where no
-/// route leads to it. Takes a step for each vertex and each exit.
+/// route leads to it. Takes a step for each vertex and each edge.
 pub fn next_ports(
     alloc: Global,
-    ups: &Exits,
-    downs: &Exits,
+    ups: &Adjacency,
+    downs: &Adjacency,
     target: usize,
 ) -> Result<Vec<Option<PortNum>>, AllocError>
     requires slopes { AreSlopes ups.now downs.now }
@@ -32,8 +32,8 @@ pub fn next_ports(
 
 /// The next port of a vertex by the down distances and the costs of all.
 fn next_port(
-    ups: &Exits,
-    downs: &Exits,
+    ups: &Adjacency,
+    downs: &Adjacency,
     distances: &[Option<usize>],
     costs: &[Option<usize>],
     vertex: usize,
@@ -52,12 +52,12 @@ fn next_port(
     }
 }
 
-/// The port of the first exit to a vertex whose number is one less.
-fn port_nearer(exits: &[Exit], numbers: &[Option<usize>], number: Option<usize>) -> Option<PortNum>
-    requires { All (λ exit. exit.to < length numbers.now) exits.now }
-    ensures { result ≡ port_nearer exits.now numbers.now number }
+/// The port of the first edge to a vertex whose number is one less.
+fn port_nearer(edges: &[Edge], numbers: &[Option<usize>], number: Option<usize>) -> Option<PortNum>
+    requires { All (λ edge. edge.to < length numbers.now) edges.now }
+    ensures { result ≡ port_nearer edges.now numbers.now number }
 {
     let nearer = number?.checked_sub(1)?;
-    let exit = exits.iter().find(|exit| numbers[exit.to] == Some(nearer))?;
-    Some(exit.port)
+    let edge = edges.iter().find(|edge| numbers[edge.to] == Some(nearer))?;
+    Some(edge.port)
 }

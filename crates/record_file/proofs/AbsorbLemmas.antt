@@ -12,20 +12,20 @@ use Rattle.record_file.specs.declared.awaited.Awaited.TheVariants as awaited
 use Rattle.record_file.specs.declared.file_fault.FileFault.{FileFault}
 use Rattle.record_file.specs.declared.file_fault.FileFault.TheVariants.{Magic, Truncated, BadReport, BadCell, CellOrder, Memory, Read, TooLong, BadFloor}
 use Rattle.record_file.specs.declared.format.Format.{Format}
-use Rattle.record_file.specs.declared.stream.reading.PieceFault.{PieceFault}
-use Rattle.record_file.specs.declared.stream.reading.PieceFault.TheVariants as piece
+use Rattle.byte_io.specs.declared.reading.PieceFault.{PieceFault}
+use Rattle.byte_io.specs.declared.reading.PieceFault.TheVariants as piece
 use Rattle.record_file.specs.Absorbs.{AbsorbsFrom, AnswersOutcome, HasNoFaultYet, HoldsKept, IsBounded, IsDecided, WasInterruptedTooOften}
 use Rattle.record_file.specs.Feeding.{Absorbing, Awaits, FeedsPiece, Finishes, StopsWith, WasFed}
 use Rattle.record_file.specs.Laws.{IsBadPart}
 use Rattle.record_file.specs.PieceFault.{file_fault_of}
-use Rattle.record_file.specs.Reading.{GivesAt, GivesPiece, ReadingState}
+use Rattle.byte_io.specs.Reading.{GivesAt, GivesPiece, ReadingState}
 use Rattle.record_file.specs.RecordFile.{facts_in, outcome, record_size}
 use Rattle.record_file.specs.Head.{floored_magic, head_bytes}
 use Rattle.record_file.proofs.Pieces.{fault_in-behind, held-then, held-wanted, length-awaits, nothing-said, outcome-cut, outcome-header, outcome-magic}
 use Rattle.record_file.proofs.Pieces.{outcome-whole, so_far-late, stays}
 use Rattle.record_file.proofs.PieceSteps.{takes-part}
-use Rattle.record_file.proofs.Readings.{HasTaken, IsAnswered-trans, IsFresh, IsWithin, Takes-on, Takes-trans, EachCallTakes-trans, below, counted, most}
-use Rattle.record_file.proofs.Readings.{piece-taken}
+use Rattle.byte_io.proofs.Readings.{HasTaken, IsAnswered-trans, IsFresh, IsWithin, Takes-on, Takes-trans, EachCallTakes-trans, below, counted, most}
+use Rattle.byte_io.proofs.Readings.{piece-taken}
 use Rattle.record_file.proofs.Records.{length-wanted, not_at_end}
 
 abbrev pub AbsorbsAt : Result (Unit {0}) FileFault → Facts → Facts → ReadingState → ReadingState → Type 0
@@ -170,7 +170,7 @@ decided-bad Read bytes end bad = absurd bad
 decided-bad Memory bytes end bad = absurd bad
 decided-bad TooLong bytes end bad = absurd bad
 
--- nor does it keep what it would for want of memory
+-- nor does it keep what it would when out of memory
 held-bad : (f : FileFault) (old new : Facts) (bytes : List ℕ) → IsBadPart f → new ≡ merge old (facts_in bytes) → HoldsKept (Err f) old new bytes
 held-bad BadFloor old new bytes bad h = h
 held-bad (BadReport i g) old new bytes bad h = h

@@ -92,7 +92,7 @@ file_is_accepted format bytes rs is =
 -- reports ---------------------------------------------------------------------------
 
 no_fault : (v : Result Sightings ReportFault) (i : ℕ) (later : Option FileFault) → fault_or i (of_report v) later ≡ None → IsOk v × (later ≡ None)
-no_fault (Ok told) i later h = (refl, h)
+no_fault (Ok sightings) i later h = (refl, h)
 no_fault (Err f) i later h = absurd (cc)
 
 good_reports : (last : Option Key) (i : ℕ) (rs : List (List ℕ)) → AreRecords 272 rs → first_fault Reports last i rs ≡ None → AllByRecursion IsGoodReport rs
@@ -101,7 +101,7 @@ good_reports last i (r ∷ rs) h none =
     let first = no_fault (report_judged r) i (first_fault Reports None (i + 1) rs) none in ((h.0, first.0), good_reports None (i + 1) rs h.1 first.1)
 
 ok_then : (v : Result Sightings ReportFault) (i : ℕ) (later : Option FileFault) → IsOk v → later ≡ None → fault_or i (of_report v) later ≡ None
-ok_then (Ok told) i later h none = none
+ok_then (Ok sightings) i later h none = none
 ok_then (Err f) i later h none = absurd (cc)
 
 pub faultless : (last : Option Key) (i : ℕ) (rs : List (List ℕ)) → AllByRecursion IsGoodReport rs → AreRecords 272 rs × (first_fault Reports last i rs ≡ None)

@@ -16,11 +16,11 @@ use Rattle.record_file.specs.Absorbs.{AbsorbsFrom, AnswersOutcome, IsDecided, Wa
 use Rattle.record_file.specs.Head.{floor_of, format_in, head_size}
 use Rattle.record_file.specs.Laws.{BadPartStays, IsBadPart}
 use Rattle.record_file.specs.RecordFile.{Judgement, ending, fault_first, fault_in, fault_or, first_fault, first_records, floor_as, floor_in, judged, kept}
-use Rattle.record_file.specs.RecordFile.{kept_as, key_in, outcome, outcome_as, record_size, records, records_in_reach, told_by}
+use Rattle.record_file.specs.RecordFile.{kept_as, key_in, outcome, outcome_as, record_size, records, records_in_reach, sightings_by}
 use Rattle.record_file.proofs.Formats.{judged-bad}
 use Rattle.record_file.proofs.Heads.{Begins, begins, format-long, format-more, format-stays, floor_positive, head-short, whole_of}
 use Rattle.record_file.proofs.Heads as head
-use Rattle.record_file.proofs.Records.{AreRecords, ending-long, first_fault-bad, records-concat, size-positive, told_by-bad}
+use Rattle.record_file.proofs.Records.{AreRecords, ending-long, first_fault-bad, records-concat, size-positive, sightings_by-bad}
 
 -- the first records, and what stands behind them
 pub first_records-whole : (size n : ℕ) (x : List ℕ) → size * n ≤ length x
@@ -73,7 +73,7 @@ records_in_reach-more format a rest long =
 -- the first fault of records is one of a bad record
 fault_or-bad : (v : Judgement) (i : ℕ) (later : Option FileFault) (e : FileFault) → fault_or i v later ≡ Some e
     → ((f : ℕ → FileFault) → v ≡ Err f → IsBadPart (f i)) → (later ≡ Some e → IsBadPart e) → IsBadPart e
-fault_or-bad (Ok told) i later e h bad k = k h
+fault_or-bad (Ok sightings) i later e h bad k = k h
 fault_or-bad (Err f) i later e h bad k = let same : f i ≡ e = cc in let P : FileFault → Type 0 = IsBadPart in subst P same (bad f refl)
 
 first_fault-is_bad : (format : Format) (last : Option Key) (i : ℕ) (rs : List (List ℕ)) (e : FileFault) → first_fault format last i rs ≡ Some e → IsBadPart e
@@ -127,7 +127,7 @@ pub outcome-some : (format : Format) (a : List ℕ) → format_in a ≡ Ok forma
 unfolding outcome
 outcome-some format a h = ap (λ o. outcome_as o a) h
 
-pub kept-some : (format : Format) (a : List ℕ) → format_in a ≡ Ok format → kept a ≡ told_by format None (records_in_reach format a)
+pub kept-some : (format : Format) (a : List ℕ) → format_in a ≡ Ok format → kept a ≡ sightings_by format None (records_in_reach format a)
 unfolding kept
 kept-some format a h = ap (λ o. kept_as o a) h
 
@@ -299,8 +299,8 @@ kept_stays_by a rest f (of_header is h long) = kept-fault (a ++ rest) BadFloor (
 kept_stays_by a rest f (of_record format h some) =
     let more = records_in_reach-more format a rest (format-long a format h) in
     kept-some format (a ++ rest) (format-stays a rest format h)
-    ∙ ap (told_by format None) more.1
-    ∙ told_by-bad format None 0 (records_in_reach format a) more.0 f some
+    ∙ ap (sightings_by format None) more.1
+    ∙ sightings_by-bad format None 0 (records_in_reach format a) more.0 f some
     ∙ sym (kept-some format a h)
 
 floor_stays_by : (a rest : List ℕ) (f : FileFault) → Bad a f → floor_in (a ++ rest) ≡ floor_in a
@@ -317,7 +317,7 @@ kept-long a rest h =
     let was = late_found a (outcome a) (found a) h in
     let format = was.0 in
     kept-some format (a ++ rest) (format-stays a rest format was.1)
-    ∙ ap (λ l. told_by format None (records (record_size format) (drop (head_size format) l))) (take-append-le (2 ^ 40) a rest was.3)
+    ∙ ap (λ l. sightings_by format None (records (record_size format) (drop (head_size format) l))) (take-append-le (2 ^ 40) a rest was.3)
     ∙ sym (kept-some format a was.1)
 
 pub floor-long : (a rest : List ℕ) → outcome a ≡ Err TooLong → floor_in (a ++ rest) ≡ floor_in a

@@ -16,11 +16,11 @@ use Rattle.record_file.specs.ReportRecord.{report_judged}
 
 -- the fault of a judgement is one of a bad record
 abbrev pub IsBadJudgement : Judgement → ℕ → Type 0
-IsBadJudgement (Ok told) i = ⊥
+IsBadJudgement (Ok sightings) i = ⊥
 IsBadJudgement (Err f) i = IsBadPart (f i)
 
 bad_report : (v : Result (List (Key × Cell Value)) ReportFault) (f : ℕ → FileFault) (i : ℕ) → of_report v ≡ Err f → IsBadPart (f i)
-bad_report (Ok told) f i h = absurd (cc)
+bad_report (Ok sightings) f i h = absurd (cc)
 bad_report (Err g) f i h = let P : Judgement → Type 0 = λ v. IsBadJudgement v i in subst P h tt
 
 bad_order : (a b : Bool) (e : Key × Cell Value) (f : ℕ → FileFault) (i : ℕ) → cond a (cond b (Ok (e ∷ [])) (Err CellOrder)) (Err BadCell) ≡ Err f
@@ -29,10 +29,10 @@ bad_order true true e f i h = absurd (cc)
 bad_order true false e f i h = let P : Judgement → Type 0 = λ v. IsBadJudgement v i in subst P h tt
 bad_order false b e f i h = let P : Judgement → Type 0 = λ v. IsBadJudgement v i in subst P h tt
 
-bad_cell : (told : Option ℕ) (last : Option Key) (o : Option (Key × Cell Value)) (f : ℕ → FileFault) (i : ℕ) → of_cell told last o ≡ Err f → IsBadPart (f i)
-bad_cell told last None f i h = let P : Judgement → Type 0 = λ v. IsBadJudgement v i in subst P h tt
-bad_cell told last (Some e) f i h = bad_order (is_at_told told e.1) (is_above last e.0) e f i h
+bad_cell : (head_floor : Option ℕ) (last : Option Key) (o : Option (Key × Cell Value)) (f : ℕ → FileFault) (i : ℕ) → of_cell head_floor last o ≡ Err f → IsBadPart (f i)
+bad_cell head_floor last None f i h = let P : Judgement → Type 0 = λ v. IsBadJudgement v i in subst P h tt
+bad_cell head_floor last (Some e) f i h = bad_order (is_at_told head_floor e.1) (is_above last e.0) e f i h
 
 pub judged-bad : (format : Format) (last : Option Key) (r : List ℕ) (f : ℕ → FileFault) (i : ℕ) → judged format last r ≡ Err f → IsBadPart (f i)
 judged-bad Reports last r f i h = bad_report (report_judged r) f i h
-judged-bad (Cells told) last r f i h = bad_cell told last (cell_of r) f i h
+judged-bad (Cells head_floor) last r f i h = bad_cell head_floor last (cell_of r) f i h

@@ -2,7 +2,6 @@ pub mod AbsorbLemmas
 pub mod Absorbers
 pub mod Accepted
 pub mod Beginnings
-pub mod Bytes
 pub mod Cells
 pub mod Faults
 pub mod Formats
@@ -11,7 +10,6 @@ pub mod ReadWhole
 pub mod PieceLaws
 pub mod PieceSteps
 pub mod Pieces
-pub mod Readings
 pub mod Records
 pub mod ReportRecords
 pub mod Spellings

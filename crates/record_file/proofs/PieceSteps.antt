@@ -15,11 +15,11 @@ use Rattle.record_file.specs.declared.file_fault.FileFault.TheVariants.{Magic, T
 use Rattle.record_file.specs.declared.format.Format.{Format}
 use Rattle.record_file.specs.declared.format.Format.TheVariants.{Cells}
 use Rattle.record_file.specs.Absorbs.{AbsorbsJudged}
-use Rattle.record_file.specs.Feeding.{AddsTold, Awaits, IsBehindRecords, StopsWith, TakesAwaited, TakesPiece, TakesSome, TakesTo, WantsMemory}
-use Rattle.record_file.specs.Feeding.{awaited_size, behind_header, behind_magic, floor_behind, place_of, raised_to, staying}
+use Rattle.record_file.specs.Feeding.{AddsSightings, Awaits, IsBehindRecords, StopsWith, TakesAwaited, TakesPiece, TakesSome, TakesTo, WantsMemory}
+use Rattle.record_file.specs.Feeding.{awaited_size, behind_header, behind_magic, floor_behind, offset_of, raised_to, staying}
 use Rattle.record_file.specs.Head.{IsFormat, floor_told, floored, floored_magic, format_in, head_bytes}
 use Rattle.record_file.specs.RecordFile.{Judgement, fault_or, first_fault, floor_in, judged, kept, key_in, last_key, outcome}
-use Rattle.record_file.specs.RecordFile.{record_size, told_by, told_then}
+use Rattle.record_file.specs.RecordFile.{record_size, sightings_by, sightings_then}
 use Rattle.record_file.proofs.Beginnings.{floor-fault, floor-known, floor-some}
 use Rattle.record_file.proofs.Beginnings.{kept-fault, outcome-fault, within}
 use Rattle.record_file.proofs.Beginnings as first
@@ -28,14 +28,14 @@ use Rattle.record_file.proofs.Heads.{Begins, begins, floor-none, head-behind, he
 use Rattle.record_file.proofs.Heads as head
 use Rattle.record_file.proofs.Records.{AreRecords-more, Sightings, bytes-more, bytes_of, file, file-record}
 use Rattle.record_file.proofs.Records.{first_fault-good, good-more, good_records, kept-bad, kept-part, last_key-more, length-file, length-more}
-use Rattle.record_file.proofs.Records.{outcome-bad, size-positive, told_by-good}
+use Rattle.record_file.proofs.Records.{outcome-bad, size-positive, sightings_by-good}
 use Rattle.record_file.proofs.Stores.{merge-nothing}
 use Rattle.record_file.proofs.Pieces.{floor-same, floor-short, format-behind, kept-behind, kept-short, length-awaits, length-behind, so_far-late, so_far-other}
 use Rattle.record_file.proofs.Pieces.{staying-bad, stops-more, takes-then}
 
-nothing-told : (fed q : List ℕ) (s : Facts) → kept (fed ++ q) ≡ kept fed → floor_in (fed ++ q) ≡ floor_in fed → AddsTold fed q s s
+nothing-told : (fed q : List ℕ) (s : Facts) → kept (fed ++ q) ≡ kept fed → floor_in (fed ++ q) ≡ floor_in fed → AddsSightings fed q s s
 nothing-told fed q s h same = record {
-  told = [];
+  sightings = [];
   more = h ∙ sym (append-nil (kept fed));
   held = sym (ap (λ n. merge s (view_at n [])) (floor-same fed q same) ∙ merge-nothing s);
 }
@@ -47,7 +47,7 @@ takes-none w part fed s h =
     (subst P (sym (append-nil fed)) h, nothing-told fed [] s (ap kept (append-nil fed)) (ap floor_in (append-nil fed)))
 
 -- bytes with a fault in their head tell nothing
-nothing-in_head : (fed q : List ℕ) (s : Facts) (f g : FileFault) → format_in fed ≡ Err f → format_in (fed ++ q) ≡ Err g → AddsTold fed q s s
+nothing-in_head : (fed q : List ℕ) (s : Facts) (f g : FileFault) → format_in fed ≡ Err f → format_in (fed ++ q) ≡ Err g → AddsSightings fed q s s
 nothing-in_head fed q s f g before after =
     nothing-told fed q s (kept-fault (fed ++ q) g after ∙ sym (kept-fault fed f before)) (floor-fault (fed ++ q) g after ∙ sym (floor-fault fed f before))
 
@@ -137,12 +137,12 @@ takes-header part q fed s same short long (Some floor) h =
     let whole : fed ++ q ≡ head_bytes format = joined ∙ ap (λ l. floored_magic ++ l) is.1 in
     let cut = head-cut fed part same short in
     let before : floor_in fed ≡ 1 = floor-fault fed (Truncated 8) cut in
-    let told : floor_behind fed q ≡ floor = ap (λ n. cond (n == 1) (floor_in (fed ++ q)) 1) before ∙ floor-some format (fed ++ q) known in (
+    let risen : floor_behind fed q ≡ floor = ap (λ n. cond (n == 1) (floor_in (fed ++ q)) 1) before ∙ floor-some format (fed ++ q) known in (
       behind_head format (fed ++ q) is.0 whole,
       record {
-        told = [];
+        sightings = [];
         more = kept-head format (fed ++ q) is.0 whole ∙ sym (append-nil (kept fed) ∙ kept-fault fed (Truncated 8) cut);
-        held = raised_is_merge s floor ∙ ap (λ n. merge s (view_at n [])) (sym told);
+        held = raised_is_merge s floor ∙ ap (λ n. merge s (view_at n [])) (sym risen);
       },
     )
 
@@ -165,13 +165,13 @@ module _ (format : Format) (index : ℕ) (last : Option Key) (part q fed : List 
       let size = ap length whole-record in
       omega (arith, bytes-more format b.records (part ++ q), length-file format b.records (part ++ q) (good_records format None 0 b.records b.good).0)
 
-  kept-before : kept fed ≡ told_by format None b.records
+  kept-before : kept fed ≡ sightings_by format None b.records
   kept-before = kept-behind format index last part fed b (omega (arith, length-append fed q))
 
-  takes-good : (told : Sightings) → judged format last (part ++ q) ≡ Ok told
+  takes-good : (sightings : Sightings) → judged format last (part ++ q) ≡ Ok sightings
       → (next : Awaited) → next ≡ awaited.Record format (index + 1) (key_in format (part ++ q))
-      → (t : Facts) → t ≡ merge s (view told) → TakesTo fed q (Ok next) [] s t
-  takes-good told good next is t merged =
+      → (t : Facts) → t ≡ merge s (view sightings) → TakesTo fed q (Ok next) [] s t
+  takes-good sightings good next is t merged =
       let rs = b.records in
       let r = part ++ q in
       let known = good_records format None 0 rs b.good in
@@ -179,22 +179,22 @@ module _ (format : Format) (index : ℕ) (last : Option Key) (part q fed : List 
         records = rs ++ r ∷ [];
         sound = b.sound;
         whole = whole-record ∙ sym (file-record format rs r);
-        good = good-more format None rs r told b.good long (last-record ∙ good);
+        good = good-more format None rs r sightings b.good long (last-record ∙ good);
         count = let count = b.count in omega (arith, length-more rs r);
         key = sym (last_key-more format None rs r);
         short = size-positive format;
       } in
-      let one : told_by format (last_key format None rs) (r ∷ []) ≡ told = ap (λ v. told_then v []) (last-record ∙ good) ∙ append-nil told in
-      let more : kept (fed ++ q) ≡ kept fed ++ told =
-      kept-behind format (index + 1) (key_in format r) [] (fed ++ q) behind fits ∙ told_by-good format None 0 rs (r ∷ []) known.1
-      ∙ ap (λ l. told_by format None rs ++ l) one ∙ ap (λ l. l ++ told) (sym kept-before) in
+      let one : sightings_by format (last_key format None rs) (r ∷ []) ≡ sightings = ap (λ v. sightings_then v []) (last-record ∙ good) ∙ append-nil sightings in
+      let more : kept (fed ++ q) ≡ kept fed ++ sightings =
+      kept-behind format (index + 1) (key_in format r) [] (fed ++ q) behind fits ∙ sightings_by-good format None 0 rs (r ∷ []) known.1
+      ∙ ap (λ l. sightings_by format None rs ++ l) one ∙ ap (λ l. l ++ sightings) (sym kept-before) in
       let P : Awaited → Type 0 = λ w. Awaits w [] (fed ++ q) in (
         subst P (sym is) behind,
-        record { told = told; more = more; held = merged ∙ ap (λ n. merge s (view_at n told)) (sym (floor-same fed q floor-before)) },
+        record { sightings = sightings; more = more; held = merged ∙ ap (λ n. merge s (view_at n sightings)) (sym (floor-same fed q floor-before)) },
       )
 
-  takes-memory : (told : Sightings) → judged format last (part ++ q) ≡ Ok told → WantsMemory fed q s s
-  takes-memory told good =
+  takes-memory : (sightings : Sightings) → judged format last (part ++ q) ≡ Ok sightings → WantsMemory fed q s s
+  takes-memory sightings good =
       let rs = b.records in
       let r = part ++ q in
       let known = good_records format None 0 rs b.good in
@@ -209,10 +209,10 @@ module _ (format : Format) (index : ℕ) (last : Option Key) (part q fed : List 
         behind = [];
         sound = b.sound;
         whole = whole-record ∙ ap (λ l. head_bytes format ++ (concat rs ++ l)) (sym (append-nil r));
-        good = good-more format None rs r told b.good long (last-record ∙ good);
+        good = good-more format None rs r sightings b.good long (last-record ∙ good);
         completed = omega arith;
         in_reach = omega arith;
-        told = [];
+        sightings = [];
         more = ap (λ l. kept (head_bytes format ++ l)) (sym (append-nil (concat rs)))
             ∙ kept-part format b.sound rs [] [] known.0 (omega arith) (take_all (2 ^ 40 - bytes_of format (length rs)) [] (omega arith)) (size-positive format)
             ∙ sym kept-before ∙ sym (append-nil (kept fed));
@@ -230,21 +230,21 @@ module _ (format : Format) (index : ℕ) (last : Option Key) (part q fed : List 
       first_fault-good format None 0 rs (r ∷ []) known.1 ∙ ap (λ v. fault_or (0 + length rs) v None) (last-record ∙ bad)
       ∙ ap (λ n. Some (f n)) at in
       let is : fed ++ q ≡ file format (rs ++ r ∷ []) [] = whole-record ∙ sym (file-record format rs r) in
-      let one : told_by format (last_key format None rs) (r ∷ []) ≡ [] = ap (λ v. told_then v []) (last-record ∙ bad) in
+      let one : sightings_by format (last_key format None rs) (r ∷ []) ≡ [] = ap (λ v. sightings_then v []) (last-record ∙ bad) in
       inr (
         ap (staying (length (fed ++ q))) (ap outcome is ∙ outcome-bad format b.sound (rs ++ r ∷ []) [] (f index) all within-reach found_)
             ∙ staying-bad (length (fed ++ q)) (f index) (judged-bad format last r f index bad),
         nothing-told fed q s
-            (ap kept is ∙ kept-bad format b.sound (rs ++ r ∷ []) [] (f index) all within-reach found_ ∙ told_by-good format None 0 rs (r ∷ []) known.1
-            ∙ ap (λ l. told_by format None rs ++ l) one ∙ append-nil (told_by format None rs) ∙ sym kept-before)
+            (ap kept is ∙ kept-bad format b.sound (rs ++ r ∷ []) [] (f index) all within-reach found_ ∙ sightings_by-good format None 0 rs (r ∷ []) known.1
+            ∙ ap (λ l. sightings_by format None rs ++ l) one ∙ append-nil (sightings_by format None rs) ∙ sym kept-before)
             floor-before,
       )
 
   takes-judged : (r : Result Awaited FileFault) (t : Facts) (v : Judgement) → judged format last (part ++ q) ≡ v → AbsorbsJudged v index r s t
       → IfOk r (λ next. next ≡ awaited.Record format (index + 1) (key_in format (part ++ q))) → TakesTo fed q r [] s t
-  takes-judged (Ok next) t (Ok told) is h key = takes-good told is next key t h
-  takes-judged (Err f) t (Ok told) is h key =
-      let P : Facts → Type 0 = StopsWith f fed q s in subst P (sym h.1) (inl (h.0, takes-memory told is))
+  takes-judged (Ok next) t (Ok sightings) is h key = takes-good sightings is next key t h
+  takes-judged (Err f) t (Ok sightings) is h key =
+      let P : Facts → Type 0 = StopsWith f fed q s in subst P (sym h.1) (inl (h.0, takes-memory sightings is))
   takes-judged (Ok next) t (Err fault) is h key = let e : ◌≡◌ {A = Result Awaited FileFault} (Ok next) (Err (fault index)) = h.0 in absurd (cc)
   takes-judged (Err f) t (Err fault) is h key =
       let same : f ≡ fault index = let e : ◌≡◌ {A = Result Awaited FileFault} (Err f) (Err (fault index)) = h.0 in cc in
@@ -280,29 +280,29 @@ size-some (awaited.Record format index last) = size-positive format
 next_is : (next w : Awaited) → ◌≡◌ {A = Result Awaited FileFault} (Ok next) (Ok w) → next ≡ w
 next_is next w e = cc
 
-place-magic : (bytes : List ℕ) (o : Result Format FileFault) (next : Awaited) → length bytes ≡ 8 → Begins bytes o → Ok next ≡ behind_magic o → place_of next ≡ 8
-place-magic bytes _ next eight (head.whole format sound rest is) h =
+offset-magic : (bytes : List ℕ) (o : Result Format FileFault) (next : Awaited) → length bytes ≡ 8 → Begins bytes o → Ok next ≡ behind_magic o → offset_of next ≡ 8
+offset-magic bytes _ next eight (head.whole format sound rest is) h =
     let small = head-short format in
-    ap place_of (next_is next (awaited.Record format 0 None) h)
+    ap offset_of (next_is next (awaited.Record format 0 None) h)
     ∙ omega (arith, small.0, ap length is, length-append (head_bytes format) rest, length-head format)
-place-magic bytes _ next eight (head.other more) h = let e : ◌≡◌ {A = Result Awaited FileFault} (Ok next) (Err Magic) = h in absurd (cc)
-place-magic bytes _ next eight (head.cut part is short) h = ap place_of (next_is next awaited.Header h)
-place-magic bytes _ next eight (head.unfloored long) h = absurd (omega arith)
+offset-magic bytes _ next eight (head.other more) h = let e : ◌≡◌ {A = Result Awaited FileFault} (Ok next) (Err Magic) = h in absurd (cc)
+offset-magic bytes _ next eight (head.cut part is short) h = ap offset_of (next_is next awaited.Header h)
+offset-magic bytes _ next eight (head.unfloored long) h = absurd (omega arith)
 
-place-header : (o : Option ℕ) (next : Awaited) → Ok next ≡ behind_header o → place_of next ≡ 16
-place-header None next h = let e : ◌≡◌ {A = Result Awaited FileFault} (Ok next) (Err BadFloor) = h in absurd (cc)
-place-header (Some floor) next h = ap place_of (next_is next (awaited.Record (Cells (Some floor)) 0 None) h) ∙ omega arith
+offset-header : (o : Option ℕ) (next : Awaited) → Ok next ≡ behind_header o → offset_of next ≡ 16
+offset-header None next h = let e : ◌≡◌ {A = Result Awaited FileFault} (Ok next) (Err BadFloor) = h in absurd (cc)
+offset-header (Some floor) next h = ap offset_of (next_is next (awaited.Record (Cells (Some floor)) 0 None) h) ∙ omega arith
 
 -- what comes behind the awaited begins at its end
-place-next : (w : Awaited) (bytes : List ℕ) (next : Awaited) (s t : Facts) → length bytes ≡ awaited_size w → TakesAwaited w bytes (Ok next) s t
-    → place_of next ≡ place_of w + awaited_size w
-place-next awaited.Magic bytes next s t long h = place-magic bytes (format_in bytes) next long (begins bytes) h.0 ∙ omega arith
-place-next awaited.Header bytes next s t long h = place-header (floor_told bytes) next h.0 ∙ omega arith
-place-next (awaited.Record format index last) bytes next s t long h = ap place_of h.1 ∙ omega arith
+offset-next : (w : Awaited) (bytes : List ℕ) (next : Awaited) (s t : Facts) → length bytes ≡ awaited_size w → TakesAwaited w bytes (Ok next) s t
+    → offset_of next ≡ offset_of w + awaited_size w
+offset-next awaited.Magic bytes next s t long h = offset-magic bytes (format_in bytes) next long (begins bytes) h.0 ∙ omega arith
+offset-next awaited.Header bytes next s t long h = offset-header (floor_told bytes) next h.0 ∙ omega arith
+offset-next (awaited.Record format index last) bytes next s t long h = ap offset_of h.1 ∙ omega arith
 
 -- all of what is awaited stands in the front
 pub front-whole : (w : Awaited) (part bytes : List ℕ) (n : ℕ) (next : Awaited) (part' : List ℕ) (s t : Facts) → length part + n ≡ awaited_size w
-    → 0 < n → n ≤ length bytes → (place_of w + length part) + length bytes ≤ 2 ^ 40 → part' ≡ []
+    → 0 < n → n ≤ length bytes → (offset_of w + length part) + length bytes ≤ 2 ^ 40 → part' ≡ []
     → TakesAwaited w (part ++ take n bytes) (Ok next) s t → TakesSome w part bytes next n part' s t
 front-whole w part bytes n next part' s t whole some inside fits empty takes =
     let long = length-take-le n bytes inside in
@@ -310,7 +310,7 @@ front-whole w part bytes n next part' s t whole some inside fits empty takes =
       some = some;
       within = inside;
       short = omega (arith, none, size-some next);
-      place = omega (arith, place-next w (part ++ take n bytes) next s t (omega (arith, length-append part (take n bytes), long)) takes, none);
+      offset = omega (arith, offset-next w (part ++ take n bytes) next s t (omega (arith, length-append part (take n bytes), long)) takes, none);
       takes = λ fed h.
           let P : List ℕ → Type 0 = λ l. TakesTo fed (take n bytes) (Ok next) l s t in
           subst P (sym empty)
@@ -320,7 +320,7 @@ front-whole w part bytes n next part' s t whole some inside fits empty takes =
 
 -- and stops there
 pub front-stops : (w : Awaited) (part bytes : List ℕ) (n : ℕ) (f : FileFault) (part' : List ℕ) (s t : Facts) → length part + n ≡ awaited_size w
-    → n ≤ length bytes → (place_of w + length part) + length bytes ≤ 2 ^ 40
+    → n ≤ length bytes → (offset_of w + length part) + length bytes ≤ 2 ^ 40
     → TakesAwaited w (part ++ take n bytes) (Err f) s t → TakesPiece w part bytes (Err f) part' s t
 front-stops w part bytes n f part' s t whole inside fits takes fed h =
     let long = length-take-le n bytes inside in
@@ -332,14 +332,14 @@ front-stops w part bytes n f part' s t whole inside fits takes fed h =
 
 -- only a part of what is awaited stands there
 pub front-part : (w : Awaited) (part bytes : List ℕ) (n : ℕ) (part' : List ℕ) (s : Facts) → 0 < n → n ≤ length bytes
-    → (place_of w + length part) + length bytes ≤ 2 ^ 40 → part' ≡ part ++ take n bytes → length part' < awaited_size w → TakesSome w part bytes w n part' s s
+    → (offset_of w + length part) + length bytes ≤ 2 ^ 40 → part' ≡ part ++ take n bytes → length part' < awaited_size w → TakesSome w part bytes w n part' s s
 front-part w part bytes n part' s some inside fits joined short =
     let long = length-take-le n bytes inside in
     let size = ap length joined in record {
       some = some;
       within = inside;
       short = short;
-      place = omega (arith, length-append part (take n bytes));
+      offset = omega (arith, length-append part (take n bytes));
       takes = λ fed h.
           let P : List ℕ → Type 0 = λ l. TakesTo fed (take n bytes) (Ok w) l s s in
           subst P (sym joined)
@@ -365,7 +365,7 @@ piece-stops w part piece k front rest mid part' f last s m t a b split fed h =
 -- the 2^40th byte is there
 pub piece-late : (w : Awaited) (part piece : List ℕ) (k : ℕ) (front rest : List ℕ) (next : Awaited) (part' last : List ℕ) (s t : Facts)
     → TakesPiece w part front (Ok next) part' s t → take k piece ≡ front ++ rest → length rest ≡ 0 → k ≤ length piece
-    → (place_of w + length part) + k ≡ 2 ^ 40 → TakesPiece w part piece (Err TooLong) last s t
+    → (offset_of w + length part) + k ≡ 2 ^ 40 → TakesPiece w part piece (Err TooLong) last s t
 piece-late w part piece k front rest next part' last s t a split none inside full fed h =
     let P : List ℕ → Type 0 = λ l. StopsWith TooLong fed l s t in
     let is : front ≡ take k piece = sym (append-nil front) ∙ ap (λ l. front ++ l) (sym (no_items rest none)) ∙ sym split in
@@ -389,8 +389,8 @@ piece-next w part piece k rest mid part' next n part'' s m t (front, split, a) b
       piece-step w part front mid part' (take n rest) (Ok next) part'' s m t a b.takes,
     )
 
-pub piece-place : (mid : Awaited) (part' rest : List ℕ) (next : Awaited) (n : ℕ) (part'' : List ℕ) (m t : Facts) (all : ℕ)
-    → TakesSome mid part' rest next n part'' m t → (place_of mid + length part') + length rest ≡ all
-    → (place_of next + length part'') + length (take (length rest - n) (drop n rest)) ≡ all
-piece-place mid part' rest next n part'' m t all b whole =
-    let fits = b.within in let place = b.place in let behind = ap length (take_rest rest n) ∙ length-drop n rest in omega arith
+pub piece-offset : (mid : Awaited) (part' rest : List ℕ) (next : Awaited) (n : ℕ) (part'' : List ℕ) (m t : Facts) (all : ℕ)
+    → TakesSome mid part' rest next n part'' m t → (offset_of mid + length part') + length rest ≡ all
+    → (offset_of next + length part'') + length (take (length rest - n) (drop n rest)) ≡ all
+piece-offset mid part' rest next n part'' m t all b whole =
+    let fits = b.within in let offset = b.offset in let behind = ap length (take_rest rest n) ∙ length-drop n rest in omega arith

@@ -13,12 +13,12 @@ use Rattle.record_file.specs.declared.file_fault.FileFault.{FileFault}
 use Rattle.record_file.specs.declared.file_fault.FileFault.TheVariants.{Magic, Truncated, BadReport, BadCell, CellOrder, Read, Memory, TooLong, BadFloor}
 use Rattle.record_file.specs.declared.format.Format.{Format}
 use Rattle.record_file.specs.Absorbs.{HasNoFaultYet}
-use Rattle.record_file.specs.Feeding.{AddsTold, Awaits, IsBehindRecords, StopsWith, TakesTo, WantsMemory}
-use Rattle.record_file.specs.Feeding.{fault_so_far, floor_behind, place_of, staying}
+use Rattle.record_file.specs.Feeding.{AddsSightings, Awaits, IsBehindRecords, StopsWith, TakesTo, WantsMemory}
+use Rattle.record_file.specs.Feeding.{fault_so_far, floor_behind, offset_of, staying}
 use Rattle.record_file.specs.Head.{floor_of, floored_magic, format_in, head_bytes}
 use Rattle.record_file.specs.Laws.{IsBadPart}
 use Rattle.record_file.specs.RecordFile.{ending, facts_in, fault_in, floor_in, kept, outcome}
-use Rattle.record_file.specs.RecordFile.{told_by}
+use Rattle.record_file.specs.RecordFile.{sightings_by}
 use Rattle.record_file.proofs.Beginnings.{Found, bad_part_stays, floor-at_least_one, floor-fault, floor-known, floor-long, floor-some, floor-stays, found}
 use Rattle.record_file.proofs.Beginnings.{kept-fault, kept-long, late, long-stays, outcome-fault, well, within}
 use Rattle.record_file.proofs.Beginnings as first
@@ -46,7 +46,7 @@ module _ (format : Format) (index : ℕ) (last : Option Key) (part fed : List �
   pub length-behind : length fed ≡ bytes_of format (length b.records) + length part
   length-behind = ap length b.whole ∙ length-file format b.records part (good_records format None 0 b.records b.good).0
 
-  pub kept-behind : length fed ≤ 2 ^ 40 → kept fed ≡ told_by format None b.records
+  pub kept-behind : length fed ≤ 2 ^ 40 → kept fed ≡ sightings_by format None b.records
   kept-behind fits =
       let size = length-behind in
       ap kept b.whole ∙ kept-part format b.sound b.records part part (good_records format None 0 b.records b.good).0 (omega arith)
@@ -75,7 +75,7 @@ module _ (format : Format) (index : ℕ) (last : Option Key) (part fed : List �
       )
 
 -- what is awaited begins behind the bytes, but for the part of it that came
-pub length-awaits : (w : Awaited) (part fed : List ℕ) → Awaits w part fed → length fed ≡ place_of w + length part
+pub length-awaits : (w : Awaited) (part fed : List ℕ) → Awaits w part fed → length fed ≡ offset_of w + length part
 length-awaits awaited.Magic part fed h = let same = ap length h.0 in omega arith
 length-awaits awaited.Header part fed h = omega (arith, ap length h.0, length-append floored_magic part)
 length-awaits (awaited.Record format index last) part fed b =
@@ -238,22 +238,22 @@ floor_same_by f g false is same = refl
 pub floor-same : (fed q : List ℕ) → floor_in (fed ++ q) ≡ floor_in fed → floor_behind fed q ≡ 1
 floor-same fed q same = floor_same_by (floor_in fed) (floor_in (fed ++ q)) (floor_in fed == 1) refl same
 
-told-then : (fed p q : List ℕ) (s m t : Facts) → AddsTold fed p s m → AddsTold (fed ++ p) q m t → AddsTold fed (p ++ q) s t
+told-then : (fed p q : List ℕ) (s m t : Facts) → AddsSightings fed p s m → AddsSightings (fed ++ p) q m t → AddsSightings fed (p ++ q) s t
 told-then fed p q s m t a b = record {
-  told = a.told ++ b.told;
-  more = ap kept (sym (append_assoc fed p q)) ∙ b.more ∙ ap (λ l. l ++ b.told) a.more ∙ append_assoc (kept fed) a.told b.told;
-  held = b.held ∙ ap (λ x. merge x (view_at (floor_behind (fed ++ p) q) b.told)) a.held
-      ∙ merge-floors s (floor_behind fed p) (floor_behind (fed ++ p) q) a.told b.told
-      ∙ ap (λ n. merge s (view_at n (a.told ++ b.told))) (floors-then fed p q);
+  sightings = a.sightings ++ b.sightings;
+  more = ap kept (sym (append_assoc fed p q)) ∙ b.more ∙ ap (λ l. l ++ b.sightings) a.more ∙ append_assoc (kept fed) a.sightings b.sightings;
+  held = b.held ∙ ap (λ x. merge x (view_at (floor_behind (fed ++ p) q) b.sightings)) a.held
+      ∙ merge-floors s (floor_behind fed p) (floor_behind (fed ++ p) q) a.sightings b.sightings
+      ∙ ap (λ n. merge s (view_at n (a.sightings ++ b.sightings))) (floors-then fed p q);
 }
 
 -- the store holds what all bytes say
-pub held-then : (old mid new : Facts) (taken bytes : List ℕ) → mid ≡ merge old (facts_in taken) → AddsTold taken bytes mid new
+pub held-then : (old mid new : Facts) (taken bytes : List ℕ) → mid ≡ merge old (facts_in taken) → AddsSightings taken bytes mid new
     → new ≡ merge old (facts_in (taken ++ bytes))
 held-then old mid new taken bytes held h =
-    h.held ∙ ap (λ x. merge x (view_at (floor_behind taken bytes) h.told)) held
-    ∙ merge-floors old (floor_in taken) (floor_behind taken bytes) (kept taken) h.told
-    ∙ ap (λ n. merge old (view_at n (kept taken ++ h.told))) (floors-all taken bytes)
+    h.held ∙ ap (λ x. merge x (view_at (floor_behind taken bytes) h.sightings)) held
+    ∙ merge-floors old (floor_in taken) (floor_behind taken bytes) (kept taken) h.sightings
+    ∙ ap (λ n. merge old (view_at n (kept taken ++ h.sightings))) (floors-all taken bytes)
     ∙ ap (λ l. merge old (view_at (floor_in (taken ++ bytes)) l)) (sym h.more)
 
 -- and where a record wanted memory, what stands before it says
@@ -265,12 +265,12 @@ held-wanted old mid new taken bytes held w =
     let floor : floor_in (taken ++ bytes) ≡ floor_in (head_bytes w.format ++ concat w.records) =
     floor-some w.format (taken ++ bytes) all
     ∙ sym (floor-some w.format (head_bytes w.format ++ concat w.records) (format_in-head w.format (concat w.records) w.sound)) in
-    w.held ∙ ap (λ x. merge x (view_at (floor_behind taken bytes) w.told)) held
-    ∙ merge-floors old (floor_in taken) (floor_behind taken bytes) (kept taken) w.told
-    ∙ ap (λ n. merge old (view_at n (kept taken ++ w.told))) (floors-all taken bytes ∙ floor)
+    w.held ∙ ap (λ x. merge x (view_at (floor_behind taken bytes) w.sightings)) held
+    ∙ merge-floors old (floor_in taken) (floor_behind taken bytes) (kept taken) w.sightings
+    ∙ ap (λ n. merge old (view_at n (kept taken ++ w.sightings))) (floors-all taken bytes ∙ floor)
     ∙ ap (λ l. merge old (view_at (floor_in (head_bytes w.format ++ concat w.records)) l)) (sym w.more)
 
-wants-then : (fed p q : List ℕ) (s m t : Facts) → AddsTold fed p s m → WantsMemory (fed ++ p) q m t → WantsMemory fed (p ++ q) s t
+wants-then : (fed p q : List ℕ) (s m t : Facts) → AddsSightings fed p s m → WantsMemory (fed ++ p) q m t → WantsMemory fed (p ++ q) s t
 wants-then fed p q s m t a b = record {
   format = b.format;
   records = b.records;
@@ -281,14 +281,14 @@ wants-then fed p q s m t a b = record {
   good = b.good;
   completed = let far = b.completed in omega (arith, length-append fed p);
   in_reach = b.in_reach;
-  told = a.told ++ b.told;
-  more = b.more ∙ ap (λ l. l ++ b.told) a.more ∙ append_assoc (kept fed) a.told b.told;
-  held = b.held ∙ ap (λ x. merge x (view_at (floor_behind (fed ++ p) q) b.told)) a.held
-      ∙ merge-floors s (floor_behind fed p) (floor_behind (fed ++ p) q) a.told b.told
-      ∙ ap (λ n. merge s (view_at n (a.told ++ b.told))) (floors-then fed p q);
+  sightings = a.sightings ++ b.sightings;
+  more = b.more ∙ ap (λ l. l ++ b.sightings) a.more ∙ append_assoc (kept fed) a.sightings b.sightings;
+  held = b.held ∙ ap (λ x. merge x (view_at (floor_behind (fed ++ p) q) b.sightings)) a.held
+      ∙ merge-floors s (floor_behind fed p) (floor_behind (fed ++ p) q) a.sightings b.sightings
+      ∙ ap (λ n. merge s (view_at n (a.sightings ++ b.sightings))) (floors-then fed p q);
 }
 
-stops-then : (f : FileFault) (fed p q : List ℕ) (s m t : Facts) → AddsTold fed p s m → StopsWith f (fed ++ p) q m t → StopsWith f fed (p ++ q) s t
+stops-then : (f : FileFault) (fed p q : List ℕ) (s m t : Facts) → AddsSightings fed p s m → StopsWith f (fed ++ p) q m t → StopsWith f fed (p ++ q) s t
 stops-then f fed p q s m t a (inl h) = inl (h.0, wants-then fed p q s m t a h.1)
 stops-then f fed p q s m t a (inr h) = inr (ap fault_so_far (sym (append_assoc fed p q)) ∙ h.0, told-then fed p q s m t a h.1)
 
@@ -322,9 +322,9 @@ stops-more f fed p more s t (inl h) =
         good = w.good;
         completed = w.completed;
         in_reach = w.in_reach;
-        told = w.told;
+        sightings = w.sightings;
         more = w.more;
-        held = w.held ∙ ap (λ n. merge s (view_at n w.told)) (floor-more fed p more (floor-known w.format (fed ++ p) more all));
+        held = w.held ∙ ap (λ n. merge s (view_at n w.sightings)) (floor-more fed p more (floor-known w.format (fed ++ p) more all));
       },
     )
 stops-more f fed p more s t (inr h) =
@@ -332,8 +332,8 @@ stops-more f fed p more s t (inr h) =
     inr (
       ap fault_so_far (sym (append_assoc fed p more)) ∙ is.later,
       record {
-        told = h.1.told;
+        sightings = h.1.sightings;
         more = ap kept (sym (append_assoc fed p more)) ∙ is.keeps ∙ h.1.more;
-        held = h.1.held ∙ ap (λ n. merge s (view_at n h.1.told)) (floor-more fed p more is.floors);
+        held = h.1.held ∙ ap (λ n. merge s (view_at n h.1.sightings)) (floor-more fed p more is.floors);
       },
     )

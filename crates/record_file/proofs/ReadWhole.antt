@@ -2,12 +2,12 @@
 use Rattle.std.proofs.Common.{◌≡◌, ◌⊎◌, inl, inr, ℕ, ◌<◌, ◌+◌, ◌^◌, List, ◌++◌, Err, length, take, arith}
 use Rattle.std.specs.Io.KnownBytes.{Consumes}
 use Rattle.record_file.specs.declared.file_fault.FileFault.{FileFault}
-use Rattle.record_file.specs.declared.stream.reading.PieceFault.{PieceFault}
-use Rattle.record_file.specs.declared.stream.reading.PieceFault.TheVariants as piece
+use Rattle.byte_io.specs.declared.reading.PieceFault.{PieceFault}
+use Rattle.byte_io.specs.declared.reading.PieceFault.TheVariants as piece
 use Rattle.record_file.specs.PieceFault.{file_fault_of}
-use Rattle.record_file.specs.Reading.{EachCallTakes, GivesAt, GivesPiece, ReadingState, Takes}
+use Rattle.byte_io.specs.Reading.{EachCallTakes, GivesAt, GivesPiece, ReadingState, Takes}
 use Rattle.record_file.specs.Whole.{IsReadFault, IsTooLong}
-use Rattle.record_file.proofs.Readings.{EachCallTakes-trans, HasTaken, IsAnswered-trans, IsFresh, IsWithin, Takes-on, Takes-trans, below, counted, works-on}
+use Rattle.byte_io.proofs.Readings.{EachCallTakes-trans, HasTaken, IsAnswered-trans, IsFresh, IsWithin, Takes-on, Takes-trans, below, counted, works-on}
 
 pub too-long : (p r : ReadingState) (bytes : List ℕ) → IsFresh p → Takes p r bytes → EachCallTakes p r → (r.bytes ≡ 2 ^ 40) ⊎ (r.calls ≡ 2 ^ 40)
     → IsTooLong bytes p.interruptions r.interruptions

@@ -17,7 +17,7 @@ use Rattle.record_file.specs.declared.format.Format.TheVariants.{Reports, Cells}
 use Rattle.record_file.specs.Head.{IsFormat, head_bytes, head_size}
 use Rattle.record_file.proofs.Heads.{format_in-head, length-head}
 use Rattle.record_file.specs.RecordFile.{AreGoodRecords, Judgement, ending, fault_first, fault_in, fault_or, first_fault, first_records, judged, kept}
-use Rattle.record_file.specs.RecordFile.{kept_as, key_in, last_key, outcome, outcome_as, record_size, records, records_in_reach, told_by, told_then}
+use Rattle.record_file.specs.RecordFile.{kept_as, key_in, last_key, outcome, outcome_as, record_size, records, records_in_reach, sightings_by, sightings_then}
 
 abbrev pub Sightings : Type 0
 Sightings = List (Key × Cell Value)
@@ -28,7 +28,7 @@ AreRecords size = AllByRecursion (λ r. length r ≡ size)
 
 pub size-positive : (format : Format) → 0 < record_size format
 size-positive Reports = omega arith
-size-positive (Cells told) = omega arith
+size-positive (Cells floor) = omega arith
 
 pub length-concat : (size : ℕ) (rs : List (List ℕ)) → AreRecords size rs → length (concat rs) ≡ size * length rs
 length-concat size [] h = omega arith
@@ -61,32 +61,32 @@ last_key-more format last [] r = refl
 last_key-more format last (s ∷ rs) r = last_key-more format (key_in format s) rs r
 
 fault_or-none : (v : Judgement) (i : ℕ) (a b c : Option FileFault) → fault_or i v a ≡ None → (a ≡ None → b ≡ c) → fault_or i v b ≡ c
-fault_or-none (Ok told) i a b c h k = k h
+fault_or-none (Ok sightings) i a b c h k = k h
 fault_or-none (Err f) i a b c h k = cc
 
 fault_or-some : (v : Judgement) (i : ℕ) (a b : Option FileFault) (f : FileFault) → fault_or i v a ≡ Some f → (a ≡ Some f → b ≡ Some f) → fault_or i v b ≡ Some f
-fault_or-some (Ok told) i a b f h k = k h
+fault_or-some (Ok sightings) i a b f h k = k h
 fault_or-some (Err g) i a b f h k = h
 
-told_then-none : (v : Judgement) (i : ℕ) (a : Option FileFault) (x y z : Sightings) → fault_or i v a ≡ None → (a ≡ None → x ≡ y ++ z)
-    → told_then v x ≡ told_then v y ++ z
-told_then-none (Ok told) i a x y z h k = ap (λ l. told ++ l) (k h) ∙ sym (append_assoc told y z)
-told_then-none (Err f) i a x y z h k = absurd (cc)
+sightings_then-none : (v : Judgement) (i : ℕ) (a : Option FileFault) (x y z : Sightings) → fault_or i v a ≡ None → (a ≡ None → x ≡ y ++ z)
+    → sightings_then v x ≡ sightings_then v y ++ z
+sightings_then-none (Ok sightings) i a x y z h k = ap (λ l. sightings ++ l) (k h) ∙ sym (append_assoc sightings y z)
+sightings_then-none (Err f) i a x y z h k = absurd (cc)
 
-told_then-some : (v : Judgement) (i : ℕ) (a : Option FileFault) (f : FileFault) (x y : Sightings) → fault_or i v a ≡ Some f → (a ≡ Some f → x ≡ y)
-    → told_then v x ≡ told_then v y
-told_then-some (Ok told) i a f x y h k = ap (λ l. told ++ l) (k h)
-told_then-some (Err g) i a f x y h k = refl
+sightings_then-some : (v : Judgement) (i : ℕ) (a : Option FileFault) (f : FileFault) (x y : Sightings) → fault_or i v a ≡ Some f → (a ≡ Some f → x ≡ y)
+    → sightings_then v x ≡ sightings_then v y
+sightings_then-some (Ok sightings) i a f x y h k = ap (λ l. sightings ++ l) (k h)
+sightings_then-some (Err g) i a f x y h k = refl
 
 pub first_fault-good : (format : Format) (last : Option Key) (i : ℕ) (rs more : List (List ℕ)) → first_fault format last i rs ≡ None
     → first_fault format last i (rs ++ more) ≡ first_fault format (last_key format last rs) (i + length rs) more
 first_fault-good format last i [] more h = let same : i ≡ i + 0 = omega arith in ap (λ k. first_fault format last k more) same
 first_fault-good format last i (r ∷ rs) more h =
-    let place : (i + 1) + length rs ≡ i + suc (length rs) = omega arith in
+    let count : (i + 1) + length rs ≡ i + suc (length rs) = omega arith in
     let next = key_in format r in
     fault_or-none (judged format last r) i (first_fault format next (i + 1) rs) (first_fault format next (i + 1) (rs ++ more))
     (first_fault format (last_key format next rs) (i + suc (length rs)) more) h
-    (λ none. first_fault-good format next (i + 1) rs more none ∙ ap (λ k. first_fault format (last_key format next rs) k more) place)
+    (λ none. first_fault-good format next (i + 1) rs more none ∙ ap (λ k. first_fault format (last_key format next rs) k more) count)
 
 pub first_fault-bad : (format : Format) (last : Option Key) (i : ℕ) (rs more : List (List ℕ)) (f : FileFault) → first_fault format last i rs ≡ Some f
     → first_fault format last i (rs ++ more) ≡ Some f
@@ -96,21 +96,21 @@ first_fault-bad format last i (r ∷ rs) more f h =
     fault_or-some (judged format last r) i (first_fault format next (i + 1) rs) (first_fault format next (i + 1) (rs ++ more)) f h
     (λ some. first_fault-bad format next (i + 1) rs more f some)
 
-pub told_by-good : (format : Format) (last : Option Key) (i : ℕ) (rs more : List (List ℕ)) → first_fault format last i rs ≡ None
-    → told_by format last (rs ++ more) ≡ told_by format last rs ++ told_by format (last_key format last rs) more
-told_by-good format last i [] more h = refl
-told_by-good format last i (r ∷ rs) more h =
+pub sightings_by-good : (format : Format) (last : Option Key) (i : ℕ) (rs more : List (List ℕ)) → first_fault format last i rs ≡ None
+    → sightings_by format last (rs ++ more) ≡ sightings_by format last rs ++ sightings_by format (last_key format last rs) more
+sightings_by-good format last i [] more h = refl
+sightings_by-good format last i (r ∷ rs) more h =
     let next = key_in format r in
-    told_then-none (judged format last r) i (first_fault format next (i + 1) rs) (told_by format next (rs ++ more)) (told_by format next rs)
-    (told_by format (last_key format next rs) more) h (λ none. told_by-good format next (i + 1) rs more none)
+    sightings_then-none (judged format last r) i (first_fault format next (i + 1) rs) (sightings_by format next (rs ++ more)) (sightings_by format next rs)
+    (sightings_by format (last_key format next rs) more) h (λ none. sightings_by-good format next (i + 1) rs more none)
 
-pub told_by-bad : (format : Format) (last : Option Key) (i : ℕ) (rs more : List (List ℕ)) (f : FileFault) → first_fault format last i rs ≡ Some f
-    → told_by format last (rs ++ more) ≡ told_by format last rs
-told_by-bad format last i [] more f h = absurd (cc)
-told_by-bad format last i (r ∷ rs) more f h =
+pub sightings_by-bad : (format : Format) (last : Option Key) (i : ℕ) (rs more : List (List ℕ)) (f : FileFault) → first_fault format last i rs ≡ Some f
+    → sightings_by format last (rs ++ more) ≡ sightings_by format last rs
+sightings_by-bad format last i [] more f h = absurd (cc)
+sightings_by-bad format last i (r ∷ rs) more f h =
     let next = key_in format r in
-    told_then-some (judged format last r) i (first_fault format next (i + 1) rs) f (told_by format next (rs ++ more)) (told_by format next rs) h
-    (λ some. told_by-bad format next (i + 1) rs more f some)
+    sightings_then-some (judged format last r) i (first_fault format next (i + 1) rs) f (sightings_by format next (rs ++ more)) (sightings_by format next rs) h
+    (λ some. sightings_by-bad format next (i + 1) rs more f some)
 
 -- whole files ---------------------------------------------------------------------
 
@@ -149,7 +149,7 @@ unfolding outcome
 outcome-head format sound x = ap (λ o. outcome_as o (head_bytes format ++ x)) (format_in-head format x sound)
 
 pub kept-head : (format : Format) → IsFormat format → (x : List ℕ)
-    → kept (head_bytes format ++ x) ≡ told_by format None (records_in_reach format (head_bytes format ++ x))
+    → kept (head_bytes format ++ x) ≡ sightings_by format None (records_in_reach format (head_bytes format ++ x))
 unfolding kept
 kept-head format sound x = ap (λ o. kept_as o (head_bytes format ++ x)) (format_in-head format x sound)
 
@@ -162,8 +162,8 @@ outcome-file format sound rs x h fits =
     (records_in_reach-file format rs x h fits)
 
 pub kept-file : (format : Format) → IsFormat format → (rs : List (List ℕ)) (x : List ℕ) → AreRecords (record_size format) rs → bytes_of format (length rs) ≤ 2 ^ 40
-    → kept (file format rs x) ≡ told_by format None (rs ++ records (record_size format) (take (2 ^ 40 - bytes_of format (length rs)) x))
-kept-file format sound rs x h fits = kept-head format sound (concat rs ++ x) ∙ ap (told_by format None) (records_in_reach-file format rs x h fits)
+    → kept (file format rs x) ≡ sightings_by format None (rs ++ records (record_size format) (take (2 ^ 40 - bytes_of format (length rs)) x))
+kept-file format sound rs x h fits = kept-head format sound (concat rs ++ x) ∙ ap (sightings_by format None) (records_in_reach-file format rs x h fits)
 
 -- good records, and less than a whole one behind them, have no fault
 pub fault_in-part : (format : Format) (rs : List (List ℕ)) (x part : List ℕ) → AreRecords (record_size format) rs → bytes_of format (length rs) ≤ 2 ^ 40
@@ -192,11 +192,11 @@ outcome-part format sound rs x part h fits good cut short =
     ∙ ap (λ f. fault_first f (ending format (length (file format rs x)))) (ap (first_fault format None 0) (append-nil rs) ∙ good)
 
 pub kept-part : (format : Format) → IsFormat format → (rs : List (List ℕ)) (x part : List ℕ) → AreRecords (record_size format) rs → bytes_of format (length rs) ≤ 2 ^ 40
-    → take (2 ^ 40 - bytes_of format (length rs)) x ≡ part → length part < record_size format → kept (file format rs x) ≡ told_by format None rs
+    → take (2 ^ 40 - bytes_of format (length rs)) x ≡ part → length part < record_size format → kept (file format rs x) ≡ sightings_by format None rs
 kept-part format sound rs x part h fits cut short =
     let w = record_size format in
     let none : records w (take (2 ^ 40 - bytes_of format (length rs)) x) ≡ [] = ap (records w) cut ∙ records-short w part short in
-    kept-file format sound rs x h fits ∙ ap (λ l. told_by format None (rs ++ l)) none ∙ ap (told_by format None) (append-nil rs)
+    kept-file format sound rs x h fits ∙ ap (λ l. sightings_by format None (rs ++ l)) none ∙ ap (sightings_by format None) (append-nil rs)
 
 -- a bad record decides, whatever follows it
 pub outcome-bad : (format : Format) → IsFormat format → (rs : List (List ℕ)) (x : List ℕ) (f : FileFault) → AreRecords (record_size format) rs
@@ -207,14 +207,14 @@ outcome-bad format sound rs x f h fits bad =
     ∙ ap (λ o. fault_first o (ending format (length (file format rs x)))) (first_fault-bad format None 0 rs more f bad)
 
 pub kept-bad : (format : Format) → IsFormat format → (rs : List (List ℕ)) (x : List ℕ) (f : FileFault) → AreRecords (record_size format) rs → bytes_of format (length rs) ≤ 2 ^ 40
-    → first_fault format None 0 rs ≡ Some f → kept (file format rs x) ≡ told_by format None rs
+    → first_fault format None 0 rs ≡ Some f → kept (file format rs x) ≡ sightings_by format None rs
 kept-bad format sound rs x f h fits bad =
-    kept-file format sound rs x h fits ∙ told_by-bad format None 0 rs (records (record_size format) (take (2 ^ 40 - bytes_of format (length rs)) x)) f bad
+    kept-file format sound rs x h fits ∙ sightings_by-bad format None 0 rs (records (record_size format) (take (2 ^ 40 - bytes_of format (length rs)) x)) f bad
 
 -- good records ------------------------------------------------------------------------
 
 no_fault_or : (v : Judgement) (i : ℕ) (later : Option FileFault) → IsOk v → later ≡ None → fault_or i v later ≡ None
-no_fault_or (Ok told) i later h none = none
+no_fault_or (Ok sightings) i later h none = none
 no_fault_or (Err f) i later h none = absurd (cc)
 
 pub good_records : (format : Format) (last : Option Key) (i : ℕ) (rs : List (List ℕ)) → AreGoodRecords format last rs
@@ -224,15 +224,15 @@ good_records format last i (r ∷ rs) h =
     let later = good_records format (key_in format r) (i + 1) rs h.2 in
     ((h.0, later.0), no_fault_or (judged format last r) i (first_fault format (key_in format r) (i + 1) rs) h.1 later.1)
 
-judged_ok : (v : Judgement) (told : Sightings) → v ≡ Ok told → IsOk v
-judged_ok (Ok t) told h = refl
-judged_ok (Err f) told h = absurd (cc)
+judged_ok : (v : Judgement) (sightings : Sightings) → v ≡ Ok sightings → IsOk v
+judged_ok (Ok t) sightings h = refl
+judged_ok (Err f) sightings h = absurd (cc)
 
 -- a good record more
-pub good-more : (format : Format) (last : Option Key) (rs : List (List ℕ)) (r : List ℕ) (told : Sightings) → AreGoodRecords format last rs
-    → length r ≡ record_size format → judged format (last_key format last rs) r ≡ Ok told → AreGoodRecords format last (rs ++ r ∷ [])
-good-more format last [] r told h long good = (long, judged_ok (judged format last r) told good, tt)
-good-more format last (s ∷ rs) r told h long good = (h.0, h.1, good-more format (key_in format s) rs r told h.2 long good)
+pub good-more : (format : Format) (last : Option Key) (rs : List (List ℕ)) (r : List ℕ) (sightings : Sightings) → AreGoodRecords format last rs
+    → length r ≡ record_size format → judged format (last_key format last rs) r ≡ Ok sightings → AreGoodRecords format last (rs ++ r ∷ [])
+good-more format last [] r sightings h long good = (long, judged_ok (judged format last r) sightings good, tt)
+good-more format last (s ∷ rs) r sightings h long good = (h.0, h.1, good-more format (key_in format s) rs r sightings h.2 long good)
 
 -- a record more
 pub file-record : (format : Format) (rs : List (List ℕ)) (r : List ℕ) → file format (rs ++ r ∷ []) [] ≡ file format rs r

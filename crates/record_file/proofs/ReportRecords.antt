@@ -17,7 +17,7 @@ use Rattle.fact_store.specs.declared.ingest.IngestFault.{IngestFault}
 use Rattle.fact_store.specs.declared.ingest.IngestFault.TheVariants as refuses
 use Rattle.fact_store.specs.Ingest.{ingest_fault}
 use Rattle.fact_store.specs.Report.{report_fault, sightings_of}
-use Rattle.record_file.specs.ReportRecord.{context_of, report_judged, report_of, report_told, unless_fault}
+use Rattle.record_file.specs.ReportRecord.{context_of, report_judged, report_of, report_sightings, unless_fault}
 
 pub report_of-spelled : (bytes : List ℕ) (generation : ℕ) (context : Context) (reply : List ℕ)
     → slice_index bytes 6 ≡ 0 → slice_index bytes 7 ≡ 0
@@ -30,15 +30,15 @@ report_of-spelled bytes generation context reply sixth seventh first told rest =
 
 judged-none : (bytes : List ℕ) → None ≡ report_of bytes → report_judged bytes ≡ Err NoContext
 unfolding report_judged
-judged-none bytes h = ap report_told (sym h)
+judged-none bytes h = ap report_sightings (sym h)
 
 judged-told : (bytes : List ℕ) (r : Report) → Some r ≡ report_of bytes → report_fault r ≡ None → report_judged bytes ≡ Ok (sightings_of r)
 unfolding report_judged
-judged-told bytes r h none = ap report_told (sym h) ∙ ap (λ o. unless_fault o (sightings_of r)) none
+judged-told bytes r h none = ap report_sightings (sym h) ∙ ap (λ o. unless_fault o (sightings_of r)) none
 
 judged-fault : (bytes : List ℕ) (r : Report) (f : ReportFault) → Some r ≡ report_of bytes → report_fault r ≡ Some f → report_judged bytes ≡ Err f
 unfolding report_judged
-judged-fault bytes r f h some = ap report_told (sym h) ∙ ap (λ o. unless_fault o (sightings_of r)) some
+judged-fault bytes r f h some = ap report_sightings (sym h) ∙ ap (λ o. unless_fault o (sightings_of r)) some
 
 -- of a store's refusal the report's fault
 abbrev reported : Option IngestFault → Option ReportFault

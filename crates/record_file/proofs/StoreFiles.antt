@@ -33,8 +33,8 @@ use Rattle.std.specs.Io.KnownBytes.{Consumes, IsAtEnd}
 use Rattle.record_file.specs.Absorbs.{AbsorbsFrom}
 use Rattle.record_file.specs.CellRecord.{cell_of, record_bytes}
 use Rattle.record_file.specs.Head.{IsFormat, floor_of, floored_magic, head_bytes, head_size}
-use Rattle.record_file.specs.RecordFile.{Judgement, facts_in, fault_or, first_fault, floor_in, is_at_told, key_in, kept, of_cell, records, records_in_reach, told_by}
-use Rattle.record_file.specs.RecordFile.{outcome, told_then}
+use Rattle.record_file.specs.RecordFile.{Judgement, facts_in, fault_or, first_fault, floor_in, is_at_told, key_in, kept, of_cell, records, records_in_reach, sightings_by}
+use Rattle.record_file.specs.RecordFile.{outcome, sightings_then}
 use Rattle.record_file.specs.StoreFile.{cells_file}
 use Rattle.record_file.specs.StoreLaws.{AbsorbingReadsBack, FactsAreReadBack, FactsHaveOneSpelling, IsFlooredFile, IsStoreFile, StoreFilesAreAccepted}
 use Rattle.record_file.proofs.Accepted.{IsFile, accepted_is_file, file_is_accepted}
@@ -125,67 +125,67 @@ sighting_there (x ∷ es) h e there =
 
 -- each is at the floor that is told, or above it
 abbrev pub AllAtTold : Option ℕ → Sightings → Type 0
-AllAtTold told [] = Unit {0}
-AllAtTold told (e ∷ es) = (is_at_told told e.1 ≡ true) × AllAtTold told es
+AllAtTold head_floor [] = Unit {0}
+AllAtTold head_floor (e ∷ es) = (is_at_told head_floor e.1 ≡ true) × AllAtTold head_floor es
 
 -- good records are the spellings of sightings whose keys rise, none below the floor, and tell them
-pub record Spelled (told : Option ℕ) (last : Option Key) (i : ℕ) (es : Sightings) : Type 0 where
+pub record Spelled (head_floor : Option ℕ) (last : Option Key) (i : ℕ) (es : Sightings) : Type 0 where
   pub records : AreRecords 32 (map record_bytes es)
-  pub good : first_fault (Cells told) last i (map record_bytes es) ≡ None
-  pub tells : told_by (Cells told) last (map record_bytes es) ≡ es
+  pub good : first_fault (Cells head_floor) last i (map record_bytes es) ≡ None
+  pub tells : sightings_by (Cells head_floor) last (map record_bytes es) ≡ es
 
-pub spelled : (told : Option ℕ) (last : Option Key) (i : ℕ) (es : Sightings) → Rise last es → AllSightings es → AllAtTold told es → Spelled told last i es
-spelled told last i [] rise all above = record { records = tt; good = refl; tells = refl }
-spelled told last i (e ∷ es) rise all above =
-    let later = spelled told (Some e.0) (i + 1) es rise.1 all.1 above.1 in
+pub spelled : (head_floor : Option ℕ) (last : Option Key) (i : ℕ) (es : Sightings) → Rise last es → AllSightings es → AllAtTold head_floor es → Spelled head_floor last i es
+spelled head_floor last i [] rise all above = record { records = tt; good = refl; tells = refl }
+spelled head_floor last i (e ∷ es) rise all above =
+    let later = spelled head_floor (Some e.0) (i + 1) es rise.1 all.1 above.1 in
     let is = cell_of-record e all.0 in
-    let judgement : of_cell told last (cell_of (record_bytes e)) ≡ Ok (e ∷ []) = ap (of_cell told last) is
+    let judgement : of_cell head_floor last (cell_of (record_bytes e)) ≡ Ok (e ∷ []) = ap (of_cell head_floor last) is
     ∙ ap (λ (b : Bool). let j : Judgement = cond b (cond (is_above last e.0) (Ok (e ∷ [])) (Err CellOrder)) (Err BadCell) in j) above.0
     ∙ ap (λ (b : Bool). let j : Judgement = cond b (Ok (e ∷ [])) (Err CellOrder) in j) rise.0 in
-    let key : key_in (Cells told) (record_bytes e) ≡ Some e.0 = ap (option_map (λ e. e.0)) is in
+    let key : key_in (Cells head_floor) (record_bytes e) ≡ Some e.0 = ap (option_map (λ e. e.0)) is in
     record {
       records = (length-record e, later.records);
-      good = ap (λ v. fault_or i v (first_fault (Cells told) (key_in (Cells told) (record_bytes e)) (i + 1) (map record_bytes es))) judgement
-          ∙ ap (λ k. first_fault (Cells told) k (i + 1) (map record_bytes es)) key ∙ later.good;
-      tells = ap (λ v. told_then v (told_by (Cells told) (key_in (Cells told) (record_bytes e)) (map record_bytes es))) judgement
-          ∙ ap (λ k. e ∷ told_by (Cells told) k (map record_bytes es)) key ∙ ap (λ l. e ∷ l) later.tells;
+      good = ap (λ v. fault_or i v (first_fault (Cells head_floor) (key_in (Cells head_floor) (record_bytes e)) (i + 1) (map record_bytes es))) judgement
+          ∙ ap (λ k. first_fault (Cells head_floor) k (i + 1) (map record_bytes es)) key ∙ later.good;
+      tells = ap (λ v. sightings_then v (sightings_by (Cells head_floor) (key_in (Cells head_floor) (record_bytes e)) (map record_bytes es))) judgement
+          ∙ ap (λ k. e ∷ sightings_by (Cells head_floor) k (map record_bytes es)) key ∙ ap (λ l. e ∷ l) later.tells;
     }
 
 -- sightings of which records are the spellings
-pub record Spells (told : Option ℕ) (last : Option Key) (rs : List (List ℕ)) (es : Sightings) : Type 0 where
+pub record Spells (head_floor : Option ℕ) (last : Option Key) (rs : List (List ℕ)) (es : Sightings) : Type 0 where
   pub records : rs ≡ map record_bytes es
   pub rise : Rise last es
   pub sightings : AllSightings es
-  pub above : AllAtTold told es
+  pub above : AllAtTold head_floor es
 
 -- a good cell
-pub record GoodCell (told : Option ℕ) (last : Option Key) (o : Option (Key × Cell Value)) (later : Option FileFault) : Type 0 where
+pub record GoodCell (head_floor : Option ℕ) (last : Option Key) (o : Option (Key × Cell Value)) (later : Option FileFault) : Type 0 where
   pub e : Key × Cell Value
   pub is : o ≡ Some e
-  pub at : is_at_told told e.1 ≡ true
+  pub at : is_at_told head_floor e.1 ≡ true
   pub after : is_above last e.0 ≡ true
   pub none : later ≡ None
 
-good_cell_by : (told : Option ℕ) (last : Option Key) (i : ℕ) (e : Key × Cell Value) (later : Option FileFault) (a b : Bool) → is_at_told told e.1 ≡ a
-    → is_above last e.0 ≡ b → fault_or i (cond a (cond b (Ok (e ∷ [])) (Err CellOrder)) (Err BadCell)) later ≡ None → GoodCell told last (Some e) later
-good_cell_by told last i e later true true at after h = record { e = e; is = refl; at = at; after = after; none = h }
-good_cell_by told last i e later true false at after h = absurd (cc)
-good_cell_by told last i e later false b at after h = absurd (cc)
+good_cell_by : (head_floor : Option ℕ) (last : Option Key) (i : ℕ) (e : Key × Cell Value) (later : Option FileFault) (a b : Bool) → is_at_told head_floor e.1 ≡ a
+    → is_above last e.0 ≡ b → fault_or i (cond a (cond b (Ok (e ∷ [])) (Err CellOrder)) (Err BadCell)) later ≡ None → GoodCell head_floor last (Some e) later
+good_cell_by head_floor last i e later true true at after h = record { e = e; is = refl; at = at; after = after; none = h }
+good_cell_by head_floor last i e later true false at after h = absurd (cc)
+good_cell_by head_floor last i e later false b at after h = absurd (cc)
 
-good_cell_is : (told : Option ℕ) (last : Option Key) (i : ℕ) (o : Option (Key × Cell Value)) (later : Option FileFault)
-    → fault_or i (of_cell told last o) later ≡ None → GoodCell told last o later
-good_cell_is told last i None later h = absurd (cc)
-good_cell_is told last i (Some e) later h = good_cell_by told last i e later (is_at_told told e.1) (is_above last e.0) refl refl h
+good_cell_is : (head_floor : Option ℕ) (last : Option Key) (i : ℕ) (o : Option (Key × Cell Value)) (later : Option FileFault)
+    → fault_or i (of_cell head_floor last o) later ≡ None → GoodCell head_floor last o later
+good_cell_is head_floor last i None later h = absurd (cc)
+good_cell_is head_floor last i (Some e) later h = good_cell_by head_floor last i e later (is_at_told head_floor e.1) (is_above last e.0) refl refl h
 
-pub good_spells : (told : Option ℕ) (last : Option Key) (i : ℕ) (rs : List (List ℕ)) → first_fault (Cells told) last i rs ≡ None
-    → (es : Sightings) × Spells told last rs es
-good_spells told last i [] h = ([], record { records = refl; rise = tt; sightings = tt; above = tt })
-good_spells told last i (r ∷ rs) h =
-    let first = good_cell_is told last i (cell_of r) (first_fault (Cells told) (key_in (Cells told) r) (i + 1) rs) h in
+pub good_spells : (head_floor : Option ℕ) (last : Option Key) (i : ℕ) (rs : List (List ℕ)) → first_fault (Cells head_floor) last i rs ≡ None
+    → (es : Sightings) × Spells head_floor last rs es
+good_spells head_floor last i [] h = ([], record { records = refl; rise = tt; sightings = tt; above = tt })
+good_spells head_floor last i (r ∷ rs) h =
+    let first = good_cell_is head_floor last i (cell_of r) (first_fault (Cells head_floor) (key_in (Cells head_floor) r) (i + 1) rs) h in
     let e = first.e in
     let is = cell_of-is r e first.is in
-    let key : key_in (Cells told) r ≡ Some e.0 = ap (option_map (λ e. e.0)) first.is in
-    let later = good_spells told (Some e.0) (i + 1) rs (ap (λ k. first_fault (Cells told) k (i + 1) rs) (sym key) ∙ first.none) in (
+    let key : key_in (Cells head_floor) r ≡ Some e.0 = ap (option_map (λ e. e.0)) first.is in
+    let later = good_spells head_floor (Some e.0) (i + 1) rs (ap (λ k. first_fault (Cells head_floor) k (i + 1) rs) (sym key) ∙ first.none) in (
       e ∷ later.0,
       record {
         records = ap (λ x. x ∷ rs) is.1 ∙ ap (λ l. record_bytes e ∷ l) later.1.records;
@@ -209,7 +209,7 @@ all_untold [] = tt
 all_untold (e ∷ es) = (refl, all_untold es)
 
 -- the cells of facts are at their floor
-pub cells_at : (told : Option ℕ) (facts : Facts) → facts.floor ≡ floor_of (Cells told) → AllAtTold told (cells_of facts)
+pub cells_at : (head_floor : Option ℕ) (facts : Facts) → facts.floor ≡ floor_of (Cells head_floor) → AllAtTold head_floor (cells_of facts)
 cells_at None facts same = all_untold (cells_of facts)
 cells_at (Some floor) facts same =
     let P : ℕ → Type 0 = λ f. T (has_floor f facts.found) in
@@ -220,15 +220,15 @@ at_one : (c : Cell Value) → is_kept 1 c ≡ true
 at_one c = le-leb 1 (max 1 (generation_of c)) (omega arith)
 
 -- what is at the floor that is told is kept there
-told_kept : (told : Option ℕ) (c : Cell Value) → is_at_told told c ≡ true → is_kept (floor_of (Cells told)) c ≡ true
+told_kept : (head_floor : Option ℕ) (c : Cell Value) → is_at_told head_floor c ≡ true → is_kept (floor_of (Cells head_floor)) c ≡ true
 told_kept None c h = at_one c
 told_kept (Some floor) c h = h
 
-all_kept : (told : Option ℕ) (es : Sightings) → AllAtTold told es → kept_cells (floor_of (Cells told)) es ≡ es
-all_kept told [] h = refl
-all_kept told (e ∷ es) h =
-    ap (λ b. cond b (e ∷ kept_cells (floor_of (Cells told)) es) (kept_cells (floor_of (Cells told)) es)) (told_kept told e.1 h.0)
-    ∙ ap (λ l. e ∷ l) (all_kept told es h.1)
+all_kept : (head_floor : Option ℕ) (es : Sightings) → AllAtTold head_floor es → kept_cells (floor_of (Cells head_floor)) es ≡ es
+all_kept head_floor [] h = refl
+all_kept head_floor (e ∷ es) h =
+    ap (λ b. cond b (e ∷ kept_cells (floor_of (Cells head_floor)) es) (kept_cells (floor_of (Cells head_floor)) es)) (told_kept head_floor e.1 h.0)
+    ∙ ap (λ l. e ∷ l) (all_kept head_floor es h.1)
 
 -- whole files ---------------------------------------------------------------------------
 
@@ -239,59 +239,59 @@ flat (e ∷ es) = ap (λ l. record_bytes e ++ l) (flat es)
 pub in_range_sightings : (facts : Facts) → AreInRange facts → AllSightings (cells_of facts)
 in_range_sightings facts h = all_sightings (cells_of facts) (λ e there. h e.0 e.1 (contained_get facts.found e.0 e.1 there))
 
-facts_spelled : (told : Option ℕ) (facts : Facts) → AreInRange facts → facts.floor ≡ floor_of (Cells told) → Spelled told None 0 (cells_of facts)
-facts_spelled told facts h floor =
-    spelled told None 0 (cells_of facts) (sorted_rise (cells_of facts) (cells_in_order facts)) (in_range_sightings facts h) (cells_at told facts floor)
+facts_spelled : (head_floor : Option ℕ) (facts : Facts) → AreInRange facts → facts.floor ≡ floor_of (Cells head_floor) → Spelled head_floor None 0 (cells_of facts)
+facts_spelled head_floor facts h floor =
+    spelled head_floor None 0 (cells_of facts) (sorted_rise (cells_of facts) (cells_in_order facts)) (in_range_sightings facts h) (cells_at head_floor facts floor)
 
-whole_file : (told : Option ℕ) (facts : Facts) → cells_file told (cells_of facts) ≡ head_bytes (Cells told) ++ concat (map record_bytes (cells_of facts))
-whole_file told facts = ap (λ l. head_bytes (Cells told) ++ l) (flat (cells_of facts))
+whole_file : (head_floor : Option ℕ) (facts : Facts) → cells_file head_floor (cells_of facts) ≡ head_bytes (Cells head_floor) ++ concat (map record_bytes (cells_of facts))
+whole_file head_floor facts = ap (λ l. head_bytes (Cells head_floor) ++ l) (flat (cells_of facts))
 
-store_is_file : (told : Option ℕ) (bytes : List ℕ) (facts : Facts) → IsStoreFile told bytes facts → IsFile (Cells told) bytes (map record_bytes (cells_of facts))
-store_is_file told bytes facts is =
-    let spells = facts_spelled told facts is.in_range is.floor in
-    record { sound = is.sound; whole = is.whole ∙ whole_file told facts; records = spells.records; good = spells.good; short = is.short }
+store_is_file : (head_floor : Option ℕ) (bytes : List ℕ) (facts : Facts) → IsStoreFile head_floor bytes facts → IsFile (Cells head_floor) bytes (map record_bytes (cells_of facts))
+store_is_file head_floor bytes facts is =
+    let spells = facts_spelled head_floor facts is.in_range is.floor in
+    record { sound = is.sound; whole = is.whole ∙ whole_file head_floor facts; records = spells.records; good = spells.good; short = is.short }
 
 -- the records of a store file
-records-file : (told : Option ℕ) (bytes : List ℕ) (facts : Facts) → IsStoreFile told bytes facts
-    → records 32 (drop (head_size (Cells told)) bytes) ≡ map record_bytes (cells_of facts)
-records-file told bytes facts is =
+records-file : (head_floor : Option ℕ) (bytes : List ℕ) (facts : Facts) → IsStoreFile head_floor bytes facts
+    → records 32 (drop (head_size (Cells head_floor)) bytes) ≡ map record_bytes (cells_of facts)
+records-file head_floor bytes facts is =
     let rs = map record_bytes (cells_of facts) in
-    ap (λ l. records 32 (drop (head_size (Cells told)) l)) (is.whole ∙ whole_file told facts)
-    ∙ ap (records 32) (drop_at (head_bytes (Cells told)) (concat rs) (head_size (Cells told)) (length-head (Cells told)) ∙ sym (append-nil (concat rs)))
-    ∙ records-concat 32 rs [] (omega arith) (facts_spelled told facts is.in_range is.floor).records
+    ap (λ l. records 32 (drop (head_size (Cells head_floor)) l)) (is.whole ∙ whole_file head_floor facts)
+    ∙ ap (records 32) (drop_at (head_bytes (Cells head_floor)) (concat rs) (head_size (Cells head_floor)) (length-head (Cells head_floor)) ∙ sym (append-nil (concat rs)))
+    ∙ records-concat 32 rs [] (omega arith) (facts_spelled head_floor facts is.in_range is.floor).records
     ∙ ap (λ l. rs ++ l) (records-short 32 [] (omega arith)) ∙ append-nil rs
 
 pub read_back : FactsAreReadBack
-read_back told bytes facts is =
-    let ok = file_is_accepted (Cells told) bytes (map record_bytes (cells_of facts)) (store_is_file told bytes facts is) in
-    let reach = (accepted_is_file (Cells told) bytes ok.0 ok.1).0 in
-    let rs = reach ∙ records-file told bytes facts is in
-    let whole = is.whole ∙ whole_file told facts in
+read_back head_floor bytes facts is =
+    let ok = file_is_accepted (Cells head_floor) bytes (map record_bytes (cells_of facts)) (store_is_file head_floor bytes facts is) in
+    let reach = (accepted_is_file (Cells head_floor) bytes ok.0 ok.1).0 in
+    let rs = reach ∙ records-file head_floor bytes facts is in
+    let whole = is.whole ∙ whole_file head_floor facts in
     let keeps : kept bytes ≡ cells_of facts =
-    ap kept whole ∙ kept-head (Cells told) is.sound (concat (map record_bytes (cells_of facts)))
-    ∙ ap (λ b. told_by (Cells told) None (records_in_reach (Cells told) b)) (sym whole)
-    ∙ ap (told_by (Cells told) None) rs ∙ (facts_spelled told facts is.in_range is.floor).tells in
+    ap kept whole ∙ kept-head (Cells head_floor) is.sound (concat (map record_bytes (cells_of facts)))
+    ∙ ap (λ b. sightings_by (Cells head_floor) None (records_in_reach (Cells head_floor) b)) (sym whole)
+    ∙ ap (sightings_by (Cells head_floor) None) rs ∙ (facts_spelled head_floor facts is.in_range is.floor).tells in
     record {
       accepted = ok.1;
       cells = keeps;
       says = ap (λ l. view_at (floor_in bytes) l) keeps
-          ∙ ap (λ f. view_at f (cells_of facts)) (floor-some (Cells told) bytes ok.0 ∙ sym is.floor) ∙ view_of_its_cells facts;
+          ∙ ap (λ f. view_at f (cells_of facts)) (floor-some (Cells head_floor) bytes ok.0 ∙ sym is.floor) ∙ view_of_its_cells facts;
     }
 
 -- the facts whose entries these are
-pub record FactsWith (told : Option ℕ) (es : Sightings) : Type 0 where
+pub record FactsWith (head_floor : Option ℕ) (es : Sightings) : Type 0 where
   pub facts : Facts
   pub cells : cells_of facts ≡ es
   pub in_range : AreInRange facts
-  pub floor : facts.floor ≡ floor_of (Cells told)
+  pub floor : facts.floor ≡ floor_of (Cells head_floor)
 
-pub facts_with : (told : Option ℕ) (es : Sightings) → IsFormat (Cells told) → Rise None es → AllSightings es → AllAtTold told es → FactsWith told es
-facts_with told es sound rise sightings above =
-    let floor = floor_of (Cells told) in
+pub facts_with : (head_floor : Option ℕ) (es : Sightings) → IsFormat (Cells head_floor) → Rise None es → AllSightings es → AllAtTold head_floor es → FactsWith head_floor es
+facts_with head_floor es sound rise sightings above =
+    let floor = floor_of (Cells head_floor) in
     let facts : Facts = view_at floor es in
-    let least : max 1 floor ≡ floor = omega (arith, floor_positive (Cells told) sound) in
+    let least : max 1 floor ≡ floor = omega (arith, floor_positive (Cells head_floor) sound) in
     let same : cells_of facts ≡ es = ap (λ f. entries (dropped f (seen es))) least ∙ entries-dropped floor (seen es)
-    ∙ ap (kept_cells floor) (entries-rising es (rising_sorted es rise)) ∙ all_kept told es above in
+    ∙ ap (kept_cells floor) (entries-rising es (rising_sorted es rise)) ∙ all_kept head_floor es above in
     let P : Sightings → Type 0 = AllSightings in
     let all = subst P (sym same) sightings in
     record {
@@ -302,21 +302,21 @@ facts_with told es sound rise sightings above =
     }
 
 pub store_files_are_accepted : StoreFilesAreAccepted
-store_files_are_accepted told bytes = (
+store_files_are_accepted head_floor bytes = (
   (λ ok.
-      let is = (accepted_is_file (Cells told) bytes ok.0 ok.1).1 in
-      let spells = good_spells told None 0 (records 32 (drop (head_size (Cells told)) bytes)) is.good in
-      let f = facts_with told spells.0 is.sound spells.1.rise spells.1.sightings spells.1.above in (
+      let is = (accepted_is_file (Cells head_floor) bytes ok.0 ok.1).1 in
+      let spells = good_spells head_floor None 0 (records 32 (drop (head_size (Cells head_floor)) bytes)) is.good in
+      let f = facts_with head_floor spells.0 is.sound spells.1.rise spells.1.sightings spells.1.above in (
         f.facts,
         record {
-          whole = is.whole ∙ ap (λ rs. head_bytes (Cells told) ++ concat rs) (spells.1.records ∙ ap (map record_bytes) (sym f.cells)) ∙ sym (whole_file told f.facts);
+          whole = is.whole ∙ ap (λ rs. head_bytes (Cells head_floor) ++ concat rs) (spells.1.records ∙ ap (map record_bytes) (sym f.cells)) ∙ sym (whole_file head_floor f.facts);
           sound = is.sound;
           floor = f.floor;
           in_range = f.in_range;
           short = is.short;
         },
       )),
-  (λ file. file_is_accepted (Cells told) bytes (map record_bytes (cells_of file.0)) (store_is_file told bytes file.0 file.1)),
+  (λ file. file_is_accepted (Cells head_floor) bytes (map record_bytes (cells_of file.0)) (store_is_file head_floor bytes file.0 file.1)),
 )
 
 -- a file that tells its floor is the store file of what it says
@@ -346,6 +346,6 @@ taken_whole left left' n m bytes rest old new before after h =
     sym (ends.0 ∙ ap (λ r. h.taken ++ r) ends.1 ∙ append-nil h.taken)
 
 pub absorbing_reads_back : {S : Type 0} (left : S → Option (List ℕ)) (interruptions : S → ℕ) → AbsorbingReadsBack left interruptions
-absorbing_reads_back left interruptions source source' told bytes rest facts new before after is absorbed =
+absorbing_reads_back left interruptions source source' head_floor bytes rest facts new before after is absorbed =
     let whole = taken_whole (left source) (left source') (interruptions source) (interruptions source') bytes rest no_facts new before after absorbed in
-    absorbed.held ∙ merge_empty (facts_in absorbed.taken) ∙ ap facts_in whole ∙ (read_back told bytes facts is).says
+    absorbed.held ∙ merge_empty (facts_in absorbed.taken) ∙ ap facts_in whole ∙ (read_back head_floor bytes facts is).says

@@ -12,8 +12,8 @@ use Rattle.record_file.specs.RecordFile.{AreGoodRecords, Judgement, facts_in, fa
 
 -- what a record is judged to tell is in the store, unless there was no memory for it; or it is bad, and that is the answer
 abbrev pub AbsorbsJudged : {K : Type 0} → Judgement → ℕ → Result K FileFault → Facts → Facts → Type 0
-AbsorbsJudged (Ok told) index (Ok key) old new = new ≡ merge old (view told)
-AbsorbsJudged (Ok told) index (Err f) old new = (f ≡ Memory) × (new ≡ old)
+AbsorbsJudged (Ok sightings) index (Ok key) old new = new ≡ merge old (view sightings)
+AbsorbsJudged (Ok sightings) index (Err f) old new = (f ≡ Memory) × (new ≡ old)
 AbsorbsJudged (Err fault) index result old new = (result ≡ Err (fault index)) × (new ≡ old)
 
 -- behind good records there is one more, which ends within the last 4096 bytes
@@ -27,7 +27,7 @@ pub record EndsBehindRecord (taken : List ℕ) : Type 0 where
   pub good : AreGoodRecords format None (records ++ last ∷ [])
   pub near : length behind < 4096
 
--- what the taken bytes say was merged into the store; for want of memory what those before the record say that wanted it
+-- what the taken bytes say was merged into the store; when out of memory, what those before the record say that wanted it
 abbrev pub HoldsKept : Result (Unit {0}) FileFault → Facts → Facts → List ℕ → Type 0
 HoldsKept (Err Memory) old new taken =
     (wanted : EndsBehindRecord taken) × (new ≡ merge old (facts_in (head_bytes wanted.format ++ concat wanted.records)))

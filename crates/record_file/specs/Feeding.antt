@@ -29,10 +29,10 @@ awaited_size awaited.Header = 8
 awaited_size (awaited.Record format index last) = record_size format
 
 -- the bytes before it
-abbrev pub place_of : Awaited → ℕ
-place_of awaited.Magic = 0
-place_of awaited.Header = 8
-place_of (awaited.Record format index last) = head_size format + record_size format * index
+abbrev pub offset_of : Awaited → ℕ
+offset_of awaited.Magic = 0
+offset_of awaited.Header = 8
+offset_of (awaited.Record format index last) = head_size format + record_size format * index
 
 -- not all of its bytes came
 abbrev pub IsShortOf : Awaited → List ℕ → Type 0
@@ -40,7 +40,7 @@ IsShortOf awaited part = length part < awaited_size awaited
 
 -- and fewer than 2^40 came altogether
 abbrev pub IsInReach : Result Awaited FileFault → List ℕ → Type 0
-IsInReach (Ok awaited) part = IsShortOf awaited part × (place_of awaited + length part < 2 ^ 40)
+IsInReach (Ok awaited) part = IsShortOf awaited part × (offset_of awaited + length part < 2 ^ 40)
 IsInReach (Err fault) part = Unit {0}
 
 -- these bytes are the head, good records, and a part of the next one, which is this one
@@ -86,10 +86,10 @@ abbrev pub floor_behind : List ℕ → List ℕ → ℕ
 floor_behind fed piece = if floor_in fed == 1 then floor_in (fed ++ piece) else 1
 
 -- what the head and the records tell that this piece completes was merged into the store
-pub record AddsTold (fed piece : List ℕ) (old new : Facts) : Type 0 where
-  pub told : List (Key × Cell Value)
-  pub more : kept (fed ++ piece) ≡ kept fed ++ told
-  pub held : new ≡ merge old (view_at (floor_behind fed piece) told)
+pub record AddsSightings (fed piece : List ℕ) (old new : Facts) : Type 0 where
+  pub sightings : List (Key × Cell Value)
+  pub more : kept (fed ++ piece) ≡ kept fed ++ sightings
+  pub held : new ≡ merge old (view_at (floor_behind fed piece) sightings)
 
 -- a good record that this piece completes wanted memory; what the head and the records before it tell was merged into the store
 pub record WantsMemory (fed piece : List ℕ) (old new : Facts) : Type 0 where
@@ -102,18 +102,18 @@ pub record WantsMemory (fed piece : List ℕ) (old new : Facts) : Type 0 where
   pub good : AreGoodRecords format None (records ++ r ∷ [])
   pub completed : length fed < length (head_bytes format ++ (concat records ++ r))
   pub in_reach : length (head_bytes format ++ (concat records ++ r)) ≤ 2 ^ 40
-  pub told : List (Key × Cell Value)
-  pub more : kept (head_bytes format ++ concat records) ≡ kept fed ++ told
-  pub held : new ≡ merge old (view_at (floor_behind fed piece) told)
+  pub sightings : List (Key × Cell Value)
+  pub more : kept (head_bytes format ++ concat records) ≡ kept fed ++ sightings
+  pub held : new ≡ merge old (view_at (floor_behind fed piece) sightings)
 
 -- a record of the piece wanted memory, or the bytes have this fault now, and the store what came before it
 abbrev pub StopsWith : FileFault → List ℕ → List ℕ → Facts → Facts → Type 0
 StopsWith fault fed piece old new =
-    ((fault ≡ Memory) × WantsMemory fed piece old new) ⊎ ((fault_so_far (fed ++ piece) ≡ Some fault) × AddsTold fed piece old new)
+    ((fault ≡ Memory) × WantsMemory fed piece old new) ⊎ ((fault_so_far (fed ++ piece) ≡ Some fault) × AddsSightings fed piece old new)
 
 -- what a piece behind these bytes leaves
 abbrev pub FeedsBehind : List ℕ → List ℕ → Result (Unit {0}) FileFault → Absorbing → Facts → Facts → Type 0
-FeedsBehind fed piece (Ok u) a old new = WasFed a (fed ++ piece) × (fault_so_far (fed ++ piece) ≡ None) × AddsTold fed piece old new
+FeedsBehind fed piece (Ok u) a old new = WasFed a (fed ++ piece) × (fault_so_far (fed ++ piece) ≡ None) × AddsSightings fed piece old new
 FeedsBehind fed piece (Err fault) a old new = HasStopped a fault × StopsWith fault fed piece old new
 
 -- what feeding a piece answers, and what it leaves of the absorber and of the store
@@ -147,8 +147,8 @@ raised_to (Some floor) facts = raised facts floor
 -- how a file ends where so many bytes of the awaited came
 abbrev pub ending_at : Awaited → ℕ → Result (Unit {0}) FileFault
 ending_at awaited.Magic n = Err Magic
-ending_at awaited.Header n = Err (Truncated (place_of awaited.Header))
-ending_at (awaited.Record format index last) n = if n == 0 then Ok tt else Err (Truncated (place_of (awaited.Record format index last)))
+ending_at awaited.Header n = Err (Truncated (offset_of awaited.Header))
+ending_at (awaited.Record format index last) n = if n == 0 then Ok tt else Err (Truncated (offset_of (awaited.Record format index last)))
 
 -- what taking the awaited whole answers, and does to the store
 abbrev pub TakesAwaited : Awaited → List ℕ → Result Awaited FileFault → Facts → Facts → Type 0
@@ -160,7 +160,7 @@ TakesAwaited (awaited.Record format index last) bytes answer old new =
 
 -- where bytes lead from others
 abbrev pub TakesTo : List ℕ → List ℕ → Result Awaited FileFault → List ℕ → Facts → Facts → Type 0
-TakesTo fed piece (Ok next) part old new = Awaits next part (fed ++ piece) × AddsTold fed piece old new
+TakesTo fed piece (Ok next) part old new = Awaits next part (fed ++ piece) × AddsSightings fed piece old new
 TakesTo fed piece (Err fault) part old new = StopsWith fault fed piece old new
 
 -- where they lead from wherever that is awaited
@@ -172,7 +172,7 @@ pub record TakesSome (awaited : Awaited) (part bytes : List ℕ) (next : Awaited
   pub some : 0 < n
   pub within : n ≤ length bytes
   pub short : IsShortOf next part'
-  pub place : place_of next + length part' ≡ (place_of awaited + length part) + n
+  pub offset : offset_of next + length part' ≡ (offset_of awaited + length part) + n
   pub takes : TakesPiece awaited part (take n bytes) (Ok next) part' old new
 
 abbrev pub TakesFront : Awaited → List ℕ → List ℕ → Result (Awaited × ℕ) FileFault → List ℕ → Facts → Facts → Type 0

@@ -27,7 +27,7 @@ abbrev pub fault_of_report : FileFault → Option ReportFault
 fault_of_report (BadReport index fault) = Some fault
 fault_of_report _ = None
 
--- want of memory is not the file's
+-- being out of memory is not the file's
 abbrev pub is_of_file : FileFault → Bool
 is_of_file Memory = false
 is_of_file _ = true

@@ -41,7 +41,7 @@ IsFormat format = IsTrue (is_format format)
 -- the floor under the records; a file that tells none has floor 1
 abbrev pub floor_of : Format → ℕ
 floor_of Reports = 1
-floor_of (Cells told) = unwrap_or told 1
+floor_of (Cells head_floor) = unwrap_or head_floor 1
 
 abbrev pub if_header : List ℕ → ℕ → Option ℕ
 if_header bytes floor = if is_generation floor && bytes_eq (header floor) bytes then Some floor else None

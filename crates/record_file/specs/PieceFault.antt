@@ -1,6 +1,6 @@
 -- What a fault of reading a piece is for the file.
-use Rattle.record_file.specs.declared.stream.reading.PieceFault.{PieceFault}
-use Rattle.record_file.specs.declared.stream.reading.PieceFault.TheVariants as piece
+use Rattle.byte_io.specs.declared.reading.PieceFault.{PieceFault}
+use Rattle.byte_io.specs.declared.reading.PieceFault.TheVariants as piece
 use Rattle.record_file.specs.declared.file_fault.FileFault.{FileFault}
 use Rattle.record_file.specs.declared.file_fault.FileFault.TheVariants.{Read, TooLong}
 

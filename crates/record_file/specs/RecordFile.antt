@@ -18,7 +18,7 @@ use Rattle.record_file.specs.ReportRecord.{report_judged}
 
 abbrev pub record_size : Format → ℕ
 record_size Reports = 272
-record_size (Cells told) = 32
+record_size (Cells head_floor) = 32
 
 -- why a record is bad, but for its index; or what it tells
 abbrev pub Judgement : Type 0
@@ -26,7 +26,7 @@ Judgement = Result (List (Key × Cell Value)) (ℕ → FileFault)
 
 -- a report tells what its sightings are
 abbrev pub of_report : Result (List (Key × Cell Value)) ReportFault → Judgement
-of_report (Ok told) = Ok told
+of_report (Ok sightings) = Ok sightings
 of_report (Err f) = Err (λ index. BadReport index f)
 
 -- whether a cell is at the floor that is told, or above it
@@ -36,18 +36,18 @@ is_at_told (Some floor) cell = is_kept floor cell
 
 -- a cell tells itself, if it is not below the file's floor and its key comes after the last one's
 abbrev pub of_cell : Option ℕ → Option Key → Option (Key × Cell Value) → Judgement
-of_cell told last None = Err BadCell
-of_cell told last (Some e) = if is_at_told told e.1 then (if is_above last e.0 then Ok (e ∷ []) else Err CellOrder) else Err BadCell
+of_cell head_floor last None = Err BadCell
+of_cell head_floor last (Some e) = if is_at_told head_floor e.1 then (if is_above last e.0 then Ok (e ∷ []) else Err CellOrder) else Err BadCell
 
 -- what a record tells where that key was the last one's, or why it is bad
 abbrev pub judged : Format → Option Key → List ℕ → Judgement
 judged Reports last bytes = of_report (report_judged bytes)
-judged (Cells told) last bytes = of_cell told last (cell_of bytes)
+judged (Cells head_floor) last bytes = of_cell head_floor last (cell_of bytes)
 
 -- the key of a record, where records stand in the order of their keys
 abbrev pub key_in : Format → List ℕ → Option Key
 key_in Reports bytes = None
-key_in (Cells told) bytes = option_map (λ e. e.0) (cell_of bytes)
+key_in (Cells head_floor) bytes = option_map (λ e. e.0) (cell_of bytes)
 
 -- the key of the last of the records, or the one before them
 abbrev pub last_key : Format → Option Key → List (List ℕ) → Option Key
@@ -65,7 +65,7 @@ records size bytes = first_records size (length bytes / size) bytes
 
 -- a bad record's fault, or what comes later
 abbrev pub fault_or : ℕ → Judgement → Option FileFault → Option FileFault
-fault_or index (Ok told) later = later
+fault_or index (Ok sightings) later = later
 fault_or index (Err f) later = Some (f index)
 
 -- the fault of the first bad record, where that key was the last one's and records count from this index
@@ -74,14 +74,14 @@ first_fault format last index [] = None
 first_fault format last index (r ∷ rs) = fault_or index (judged format last r) (first_fault format (key_in format r) (index + 1) rs)
 
 -- what a good record tells, and what comes later
-abbrev pub told_then : Judgement → List (Key × Cell Value) → List (Key × Cell Value)
-told_then (Ok told) later = told ++ later
-told_then (Err f) later = []
+abbrev pub sightings_then : Judgement → List (Key × Cell Value) → List (Key × Cell Value)
+sightings_then (Ok sightings) later = sightings ++ later
+sightings_then (Err f) later = []
 
 -- what the good records before the first bad one tell
-abbrev pub told_by : Format → Option Key → List (List ℕ) → List (Key × Cell Value)
-told_by format last [] = []
-told_by format last (r ∷ rs) = told_then (judged format last r) (told_by format (key_in format r) rs)
+abbrev pub sightings_by : Format → Option Key → List (List ℕ) → List (Key × Cell Value)
+sightings_by format last [] = []
+sightings_by format last (r ∷ rs) = sightings_then (judged format last r) (sightings_by format (key_in format r) rs)
 
 -- whole records, each of them good behind the ones before it
 abbrev pub AreGoodRecords : Format → Option Key → List (List ℕ) → Type 0
@@ -117,7 +117,7 @@ outcome bytes = outcome_as (format_in bytes) bytes
 
 abbrev pub kept_as : Result Format FileFault → List ℕ → List (Key × Cell Value)
 kept_as (Err fault) bytes = []
-kept_as (Ok format) bytes = told_by format None (records_in_reach format bytes)
+kept_as (Ok format) bytes = sightings_by format None (records_in_reach format bytes)
 
 -- what reading the bytes keeps: what the good records before the first fault tell
 unfoldable pub kept : List ℕ → List (Key × Cell Value)

@@ -51,14 +51,14 @@ report_of bytes =
 
 -- what is told, unless there is a fault
 abbrev pub unless_fault : Option ReportFault → List (Key × Cell Value) → Result (List (Key × Cell Value)) ReportFault
-unless_fault None told = Ok told
-unless_fault (Some f) told = Err f
+unless_fault None sightings = Ok sightings
+unless_fault (Some f) sightings = Err f
 
 -- what a report tells, or why it tells nothing; bytes that spell no report have no context
-abbrev pub report_told : Option Report → Result (List (Key × Cell Value)) ReportFault
-report_told None = Err fault.Context
-report_told (Some r) = unless_fault (report_fault r) (sightings_of r)
+abbrev pub report_sightings : Option Report → Result (List (Key × Cell Value)) ReportFault
+report_sightings None = Err fault.Context
+report_sightings (Some r) = unless_fault (report_fault r) (sightings_of r)
 
 -- what a record tells, or why it is bad
 unfoldable pub report_judged : List ℕ → Result (List (Key × Cell Value)) ReportFault
-report_judged bytes = report_told (report_of bytes)
+report_judged bytes = report_sightings (report_of bytes)

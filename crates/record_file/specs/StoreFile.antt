@@ -10,7 +10,7 @@ use Rattle.record_file.specs.Head.{head_bytes}
 
 -- with the floor in its head, where one is told
 abbrev pub cells_file : Option ℕ → List (Key × Cell Value) → List ℕ
-cells_file told cells = head_bytes (Cells told) ++ flat_map record_bytes cells
+cells_file head_floor cells = head_bytes (Cells head_floor) ++ flat_map record_bytes cells
 
 -- the one that is written
 abbrev pub store_bytes : ℕ → List (Key × Cell Value) → List ℕ

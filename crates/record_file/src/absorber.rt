@@ -1,12 +1,12 @@
 //! A file that comes in pieces.
 ghost use Rattle.std.specs.Prelude.{◌≡◌, ◌+◌, ◌<◌, ◌≤◌, ◌^◌, [], length};
-ghost use Rattle.record_file.specs.Feeding.{Absorbing, FeedsPiece, Finishes, WasFed, IsInReach, IsShortOf, TakesFront, TakesPiece, place_of};
+ghost use Rattle.record_file.specs.Feeding.{Absorbing, FeedsPiece, Finishes, WasFed, IsInReach, IsShortOf, TakesFront, TakesPiece, offset_of};
 
 use crate::awaited::Awaited;
 use crate::file_fault::FileFault;
 use crate::report_record::RECORD_LEN;
-use crate::stream::MOST;
 use arrayvec::ArrayVec;
+use byte_io::READ_LIMIT;
 use fact_store::Store;
 use std::marker::Model;
 
@@ -91,7 +91,7 @@ fn take_piece(
     ensures takes { TakesPiece awaited part.old.items piece.now result part.new.items
         store.old store.new }
 {
-    let reach = (MOST - awaited.place()) as usize - part.len();
+    let reach = (READ_LIMIT - awaited.offset()) as usize - part.len();
     let count = piece.len().min(reach);
     let mut rest = &piece[..count];
     let mut next = awaited;
@@ -115,7 +115,7 @@ fn take_front(
 ) -> Result<(Awaited, usize), FileFault>
     requires some { 0 < length bytes.now }
     requires short { IsShortOf awaited part.old.items }
-    requires in_reach { place_of awaited + length part.old.items + length bytes.now ≤ 2 ^ 40 }
+    requires in_reach { offset_of awaited + length part.old.items + length bytes.now ≤ 2 ^ 40 }
     ensures takes { TakesFront awaited part.old.items bytes.now result part.new.items
         store.old store.new }
 {

@@ -25,7 +25,7 @@ pub(crate) enum Awaited {
 
 impl Awaited {
     ghost use Rattle.std.specs.Prelude.{◌≡◌, ◌<◌, ◌^◌, length};
-    ghost use Rattle.record_file.specs.Feeding.{TakesAwaited, awaited_size, ending_at, place_of};
+    ghost use Rattle.record_file.specs.Feeding.{TakesAwaited, awaited_size, ending_at, offset_of};
 
     /// How many bytes it has.
     pub(crate) fn len(&self) -> usize
@@ -39,9 +39,9 @@ impl Awaited {
     }
 
     /// How many bytes of the file stand before it.
-    pub(crate) fn place(&self) -> u64
-        requires { place_of self.now < 2 ^ 40 }
-        ensures { result ≡ place_of self.now }
+    pub(crate) fn offset(&self) -> u64
+        requires { offset_of self.now < 2 ^ 40 }
+        ensures { result ≡ offset_of self.now }
     {
         match self {
             Awaited::Magic => 0,
@@ -53,14 +53,14 @@ impl Awaited {
 
     /// The end of the file where so many of its bytes came.
     pub(crate) fn end(&self, count: usize) -> Result<(), FileFault>
-        requires { place_of self.now < 2 ^ 40 }
+        requires { offset_of self.now < 2 ^ 40 }
         ensures { result ≡ ending_at self.now count }
     {
         match self {
             Awaited::Magic => Err(FileFault::Magic),
             Awaited::Record { .. } if count == 0 => Ok(()),
             Awaited::Header | Awaited::Record { .. } => Err(FileFault::Truncated {
-                offset: self.place(),
+                offset: self.offset(),
             }),
         }
     }
@@ -68,7 +68,7 @@ impl Awaited {
     /// Judges it, puts what it tells into the store, and says what comes behind it.
     pub(crate) fn absorb(self, bytes: &[u8], store: &mut Store) -> Result<Awaited, FileFault>
         requires whole { length bytes.now ≡ awaited_size self }
-        requires in_reach { place_of self < 2 ^ 40 }
+        requires in_reach { offset_of self < 2 ^ 40 }
         ensures takes { TakesAwaited self bytes.now result store.old store.new }
     {
         match self {

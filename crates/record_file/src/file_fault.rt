@@ -1,6 +1,6 @@
 ghost use Rattle.std.specs.Prelude.{◌≡◌, Some, None};
 
-use crate::stream::PieceFault;
+use byte_io::PieceFault;
 use fact_store::ReportFault;
 use thiserror::Error;
 
@@ -88,7 +88,7 @@ impl FileFault {
         }
     }
 
-    /// Whether the file has the fault; want of memory is not the file's.
+    /// Whether the file has the fault; being out of memory is not the file's.
     pub fn is_of_file(&self) -> bool
         ensures { result ≡ is_of_file self.now }
     {

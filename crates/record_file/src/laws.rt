@@ -4,7 +4,7 @@ ghost use Rattle.record_file.specs.StoreLaws.{AbsorbingReadsBack, FactsAreReadBa
 ghost use Rattle.record_file.specs.Laws.{BadPartStays, FirstBadRecordIsTold, ReportFilesAreAccepted, ReportsHaveOneSpelling, TruncationIsTold};
 ghost use Rattle.record_file.specs.PieceLaws.{CutsChangeNothing, FaultsStay, PiecesAreRead};
 
-use crate::stream::Source;
+use byte_io::Source;
 
 /// Neither the fault of a bad header or record nor the floor nor what is kept depends on what follows it.
 pub fn bad_part_stays()

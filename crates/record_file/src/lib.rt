@@ -1,9 +1,10 @@
 //! Files of reports and of a store's cells, and what bytes are read from and written to.
 #![tactic(auto)]
 
+mod absorb_all;
 mod absorber;
 mod awaited;
-mod file;
+mod facts_text;
 mod file_fault;
 mod format;
 mod head;
@@ -12,14 +13,15 @@ mod numbers;
 mod record;
 mod report_record;
 mod store_file;
-mod stream;
-mod text;
 mod whole;
 
+pub use absorb_all::{absorb, absorb_by};
 pub use absorber::Absorber;
-pub use file::{absorb, absorb_by};
+pub use byte_io::{
+    FromBytes, FromRead, ReadError, Sink, Source, ToRoom, ToWrite, WriteFault, write_guid,
+    write_number, write_port,
+};
+pub use facts_text::{write_cell, write_facts};
 pub use file_fault::FileFault;
 pub use store_file::write_store;
-pub use stream::{FromBytes, FromRead, ReadError, Sink, Source, ToRoom, ToWrite, WriteFault};
-pub use text::{write_guid, write_number, write_port};
 pub use whole::read_whole;

@@ -4,12 +4,12 @@ ghost use Rattle.fact_store.specs.View.{cells_of};
 ghost use Rattle.fact_store.specs.Sighting.{AreInRange};
 ghost use Rattle.record_file.specs.CellRecord.{candidate, cell_of as cell_in, cell_value_bytes, filled_up, if_sighting, key_guid, key_of as key_with, key_port, kind_byte, record_bytes, state_byte, value_bytes, value_of as value_in};
 ghost use Rattle.record_file.specs.StoreFile.{store_bytes};
-ghost use Rattle.record_file.specs.Writes.{Writes};
+ghost use Rattle.byte_io.specs.Writes.{Writes};
 
 use crate::head::head_of;
 use crate::numbers::{u16_of, u32_of, u64_of};
-use crate::stream::{Sink, WriteFault};
 use attr_codec::NodeTypeNumber;
+use byte_io::{Sink, WriteFault};
 use fact_store::{Cell, Key, Sighting, Store, Value};
 use smp_bytes::{Generation, Guid, Lid, PortNum};
 

@@ -3,11 +3,11 @@ ghost use Rattle.std.specs.Prelude.{IfOk, IfErr};
 ghost use Rattle.record_file.specs.Whole.{IsReadWhole, FailsToRead};
 
 use crate::file_fault::FileFault;
-use crate::stream::{Reading, Source};
+use byte_io::{Reading, Source};
 use std::alloc::Global;
 
 /// How many bytes are read at a time.
-const PIECE: usize = 4096;
+const READ_LEN: usize = 4096;
 
 /// All bytes of a source that ends.
 ///
@@ -24,7 +24,7 @@ pub fn read_whole<S: Source>(alloc: Global, source: &mut S) -> Result<Vec<u8>, F
     let mut reading = Reading::new(source);
     let mut bytes = Vec::new(alloc);
     loop {
-        let mut room = [0; PIECE];
+        let mut room = [0; READ_LEN];
         let count = reading.piece(&mut room)?;
         if count == 0 {
             return Ok(bytes);

@@ -1,4 +1,4 @@
--- Requests by rising numbers: the place of one by its number, and what is left without it.
+-- Requests by rising numbers: the index of one by its number, and what is left without it.
 use Rattle.std.proofs.Common.{◌≡◌, ◌≢◌, ℕ, zero, suc, ◌+◌, ◌<◌, ◌≤◌, Bool, true, false, List, [], ◌∷◌, ◌++◌, append-nil}
 use Rattle.std.proofs.Common.{inl, inr, length, get_or, refl, arith, ap, sym, ◌∙◌, subst}
 use Rattle.std.specs.Prelude.{Some, None, ◌^◌, find, remove, slice_get, nat_lt, ◌==◌}
@@ -7,9 +7,9 @@ use Rattle.std.specs.List.Sorted.{IsPartitionedBy}
 use Rattle.std.proofs.lemmas.Bool.{cond-true, cond-false, not_from_true, not_from_false, eq-eqb, ne_eqb, cases_lt}
 use Rattle.std.proofs.lemmas.Bool.{lt-ltb, ltb-true, ltb-false}
 use Rattle.std.proofs.lemmas.Option.{slice_get-get_or}
-use Rattle.request_table.specs.Order.{AreOrdered, IsPlace}
-use Rattle.request_table.specs.Numbers.{AreNumbered, AreRising, IsPlaceFor, without_number}
-use Rattle.request_table.proofs.Places.{all_at, all_map, found_in_first, if_passes, ordered_at, some_is}
+use Rattle.request_table.specs.Order.{AreOrdered, IsIndex}
+use Rattle.request_table.specs.Numbers.{AreNumbered, AreRising, IsIndexFor, without_number}
+use Rattle.request_table.proofs.Indices.{all_at, all_map, found_in_first, if_passes, ordered_at, some_is}
 
 -- each number is below that of a later one
 abbrev pub AreBelow : {T : Type 0} → (T → ℕ) → List T → Type 0
@@ -83,21 +83,21 @@ module _ {T : Type 0} (number : T → ℕ) where
         | inr ge ↦ let same : i ≡ j = omega arith in subst (λ (k : ℕ). nat_lt (number (get_or rs k d)) n ≡ true) (sym same) before
       ]
 
-  -- What only a request of this number can be is found at the place of the number, if it is there. The list may go on
+  -- What only a request of this number can be is found at the index of the number, if it is there. The list may go on
   -- behind what is looked through.
   pub located_first : (n : ℕ) (test : T → Bool) (xs ys : List T) (i : ℕ) → ((r : T) → number r ≢ n → test r ≡ false)
-      → AreBelow number xs → IsPlace (λ r. nat_lt (number r) n) (xs ++ ys) i → find test xs ≡ if_passes test (slice_get xs i)
-  located_first n test xs ys i only ordered place =
+      → AreBelow number xs → IsIndex (λ r. nat_lt (number r) n) (xs ++ ys) i → find test xs ≡ if_passes test (slice_get xs i)
+  located_first n test xs ys i only ordered index =
       found_in_first (λ a b. number a < number b) (λ r. nat_lt (number r) n) test
       (λ r e. let low : number r < n = ltb-true _ _ e in only r (λ same. omega (arith, low, same)))
       (λ r q e f up. let ge : n ≤ number r = ltb-false _ _ e in only q (λ same. omega (arith, ge, up, same)))
-      xs ys i ordered place
+      xs ys i ordered index
 
   pub located : (n : ℕ) (test : T → Bool) (rs : List T) (next i : ℕ) → ((r : T) → number r ≢ n → test r ≡ false)
-      → AreRising number 0 rs next → IsPlace (λ r. nat_lt (number r) n) rs i → find test rs ≡ if_passes test (slice_get rs i)
-  located n test rs next i only rising place =
+      → AreRising number 0 rs next → IsIndex (λ r. nat_lt (number r) n) rs i → find test rs ≡ if_passes test (slice_get rs i)
+  located n test rs next i only rising index =
       located_first n test rs [] i only (rising_ordered 0 rs next rising)
-      (subst (λ (l : List T). IsPlace (λ r. nat_lt (number r) n) l i) (sym (append-nil rs)) place)
+      (subst (λ (l : List T). IsIndex (λ r. nat_lt (number r) n) l i) (sym (append-nil rs)) index)
 
   pub only_number : (n : ℕ) (r : T) → number r ≢ n → (number r == n) ≡ false
   only_number n r ne = ne_eqb _ _ ne
@@ -132,14 +132,14 @@ module _ {T : Type 0} (number : T → ℕ) where
       → AreNumbered number (rs ++ r ∷ []) (next + 1)
   numbered_pushed rs next r h e spare = record { rising = rising_pushed 0 rs next r h.rising e; bound = omega (arith, spare) }
 
--- what is found at the place --------------------------------------------------------------------------
+-- what is found at the index --------------------------------------------------------------------------
 
 module _ {T : Type 0} (test : T → Bool) (rs : List T) (i : ℕ) (e : find test rs ≡ if_passes test (slice_get rs i)) where
-  pub place_none : slice_get rs i ≡ None → IsPlaceFor (find test rs) rs None
-  place_none at = e ∙ ap (if_passes test) at
+  pub index_none : slice_get rs i ≡ None → IsIndexFor (find test rs) rs None
+  index_none at = e ∙ ap (if_passes test) at
 
-  pub place_other : (r : T) → slice_get rs i ≡ Some r → test r ≡ false → IsPlaceFor (find test rs) rs None
-  place_other r at fails = e ∙ ap (if_passes test) at ∙ cond-false _ _ _ fails
+  pub index_other : (r : T) → slice_get rs i ≡ Some r → test r ≡ false → IsIndexFor (find test rs) rs None
+  index_other r at fails = e ∙ ap (if_passes test) at ∙ cond-false _ _ _ fails
 
-  pub place_found : (r : T) → slice_get rs i ≡ Some r → test r ≡ true → IsPlaceFor (find test rs) rs (Some i)
-  place_found r at passes = (r, at, e ∙ ap (if_passes test) at ∙ cond-true _ _ _ passes)
+  pub index_found : (r : T) → slice_get rs i ≡ Some r → test r ≡ true → IsIndexFor (find test rs) rs (Some i)
+  index_found r at passes = (r, at, e ∙ ap (if_passes test) at ∙ cond-true _ _ _ passes)

@@ -25,7 +25,7 @@ with_number number n requests = find (λ r. number r == n) requests
 abbrev pub without_number : {T : Type 0} → (T → ℕ) → ℕ → List T → List T
 without_number number n requests = filter (λ r. not (number r == n)) requests
 
--- the place of a request that was looked for, if it was found
-abbrev pub IsPlaceFor : {T : Type 0} → Option T → List T → Option ℕ → Type 0
-IsPlaceFor found requests None = found ≡ None
-IsPlaceFor {T} found requests (Some place) = (r : T) × (slice_get requests place ≡ Some r) × (found ≡ Some r)
+-- the index of a request that was looked for, if it was found
+abbrev pub IsIndexFor : {T : Type 0} → Option T → List T → Option ℕ → Type 0
+IsIndexFor found requests None = found ≡ None
+IsIndexFor {T} found requests (Some index) = (r : T) × (slice_get requests index ≡ Some r) × (found ≡ Some r)

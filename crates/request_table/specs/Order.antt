@@ -1,4 +1,4 @@
--- Lists in an order, and the place of an item in it.
+-- Lists in an order, and the index of an item in it.
 use Rattle.std.specs.Prelude.{◌≡◌, ℕ, ◌≤◌, Bool, true, false, List, [], ◌∷◌, length}
 use Rattle.std.specs.List.{AllByRecursion}
 use Rattle.std.specs.List.Sorted.{IsPartitionPoint}
@@ -8,7 +8,7 @@ abbrev pub AreOrdered : {T : Type 0} → (T → T → Type 0) → List T → Typ
 AreOrdered R [] = Unit {0}
 AreOrdered R (x ∷ xs) = AllByRecursion (R x) xs × AreOrdered R xs
 
--- the test holds of all before the place, and of none from it on
-pub record IsPlace {T : Type 0} (test : T → Bool) (items : List T) (place : ℕ) : Type 0 where
-  pub within : place ≤ length items
-  pub parts : IsPartitionPoint (λ x. test x ≡ true) (λ x. test x ≡ false) items place
+-- the test holds of all before the index, and of none from it on
+pub record IsIndex {T : Type 0} (test : T → Bool) (items : List T) (index : ℕ) : Type 0 where
+  pub within : index ≤ length items
+  pub parts : IsPartitionPoint (λ x. test x ≡ true) (λ x. test x ≡ false) items index

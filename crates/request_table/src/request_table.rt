@@ -1,6 +1,6 @@
 ghost use Rattle.std.specs.Prelude.{◌≡◌, ◌+◌, ◌<◌, ◌≤◌, ◌^◌, [], ◌∷◌, ◌++◌, OnOk, Some, length, nat_le, nat_lt, option_copied, remove, slice_get, IsTrue, ◌↔◌};
-ghost use Rattle.request_table.specs.Order.{IsPlace};
-ghost use Rattle.request_table.specs.Numbers.{AreNumbered, IsPlaceFor, with_number, without_number};
+ghost use Rattle.request_table.specs.Order.{IsIndex};
+ghost use Rattle.request_table.specs.Numbers.{AreNumbered, IsIndexFor, with_number, without_number};
 
 use crate::numbered::Numbered;
 use std::alloc::{AllocError, Global};
@@ -91,48 +91,48 @@ impl<T: Numbered + Drop> RequestTable<T> {
         self.next += 1;
     }
 
-    /// One, by its place in the order of their numbers.
-    pub fn get(&self, place: usize) -> Option<&T>
-        ensures { option_copied result ≡ slice_get self.now.requests place }
+    /// One, by its index in the order of their numbers.
+    pub fn get(&self, index: usize) -> Option<&T>
+        ensures { option_copied result ≡ slice_get self.now.requests index }
     {
-        self.requests.get(place)
+        self.requests.get(index)
     }
 
-    /// How many have a lower number: the place of the one with this number, if there is one. Halves
-    /// the places at each step.
+    /// How many have a lower number: the index of the one with this number, if there is one. Halves
+    /// the indices at each step.
     pub fn count_below(&self, number: u64) -> usize
-        ensures place { IsPlace (λ r. nat_lt (T.number r) number) self.now.requests result }
+        ensures index { IsIndex (λ r. nat_lt (T.number r) number) self.now.requests result }
         ensures numbered { AreNumbered T.number self.now.requests self.now.next }
     {
         self.requests
             .partition_point(|request| u64::from(request.number()) < number)
     }
 
-    /// The place of the one with this number. Takes a search.
-    pub fn place_of(&self, number: u64) -> Option<usize>
-        ensures { IsPlaceFor (with_number T.number number self.now.requests)
+    /// The index of the one with this number. Takes a search.
+    pub fn index_of(&self, number: u64) -> Option<usize>
+        ensures { IsIndexFor (with_number T.number number self.now.requests)
             self.now.requests result }
     {
-        let place = self.count_below(number);
-        let request = self.get(place)?;
+        let index = self.count_below(number);
+        let request = self.get(index)?;
         if u64::from(request.number()) == number {
-            Some(place)
+            Some(index)
         } else {
             None
         }
     }
 
     /// One has ended. Moves those on one side of it.
-    pub fn end(&mut self, place: usize) -> T
-        requires { place < length self.old.requests }
-        ensures request { Some result ≡ slice_get self.old.requests place }
+    pub fn end(&mut self, index: usize) -> T
+        requires { index < length self.old.requests }
+        ensures request { Some result ≡ slice_get self.old.requests index }
         ensures next { self.new.next ≡ self.old.next }
         ensures requests { self.new.requests
             ≡ without_number T.number (T.number result) self.old.requests }
-        ensures moved { self.new.requests ≡ remove self.old.requests place }
+        ensures moved { self.new.requests ≡ remove self.old.requests index }
         ensures numbered { AreNumbered T.number self.old.requests self.old.next }
         ensures room { self.old.room ≤ self.new.room }
     {
-        self.requests.remove(place).unwrap()
+        self.requests.remove(index).unwrap()
     }
 }

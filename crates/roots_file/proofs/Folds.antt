@@ -7,12 +7,12 @@ use Rattle.std.proofs.lemmas.List.Folds.{list_any-append}
 use Rattle.text_words.specs.Text.{lines}
 use Rattle.roots_file.specs.Line.{root_on}
 use Rattle.roots_file.specs.Reading.{is_among, is_root, more_by, names, roots_of, then_from, with_line, with_lines, wrong_below}
-use Rattle.roots_file.specs.TextFault.{Reads}
-use Rattle.roots_file.specs.declared.fault.TextFault.{TextFault}
-use Rattle.roots_file.specs.declared.fault.TextFault.TheVariants.{Line, Memory}
-use Rattle.roots_file.specs.declared.fault.LineFault.{LineFault}
-use Rattle.roots_file.specs.declared.fault.Wrong.{Wrong}
-use Rattle.roots_file.specs.declared.fault.Wrong.TheVariants.{Repeated}
+use Rattle.roots_file.specs.RootsTextFault.{Reads}
+use Rattle.roots_file.specs.declared.fault.RootsTextFault.{RootsTextFault}
+use Rattle.roots_file.specs.declared.fault.RootsTextFault.TheVariants.{Line, Memory}
+use Rattle.roots_file.specs.declared.fault.RootsLineFault.{RootsLineFault}
+use Rattle.roots_file.specs.declared.fault.RootsTextError.{RootsTextError}
+use Rattle.roots_file.specs.declared.fault.RootsTextError.TheVariants.{Repeated}
 
 -- the roots so far, with the lines to come, are what the text says
 pub record HasRead (text rest roots : List ℕ) (number : ℕ) : Type 0 where
@@ -35,7 +35,7 @@ module _ (text rest roots : List ℕ) (number : ℕ) (line later : List ℕ) (h 
         counted = omega arith;
       }
 
-  pub read_refused : (fault : TextFault) → Reads (Err fault) (with_line (number + 1) roots line) → Reads (Err fault) (roots_of text)
+  pub read_refused : (fault : RootsTextFault) → Reads (Err fault) (with_line (number + 1) roots line) → Reads (Err fault) (roots_of text)
   read_refused (Line fault) is = sym told_by_line ∙ ap (λ r. then_from r (λ more. with_lines (number + 1 + 1) more (lines later))) is
   read_refused Memory is = tt
 
@@ -67,24 +67,24 @@ no_more : (o : Bool) → o ≡ (o || false)
 no_more true = refl
 no_more false = refl
 
-if_found : (t : Bool) (roots : List ℕ) (root : ℕ) (fault : LineFault) → t ≡ true → (if t then Err fault else Ok (roots ++ root ∷ [])) ≡ Err fault
+if_found : (t : Bool) (roots : List ℕ) (root : ℕ) (fault : RootsLineFault) → t ≡ true → (if t then Err fault else Ok (roots ++ root ∷ [])) ≡ Err fault
 if_found true roots root fault e = refl
 if_found false roots root fault e = cc
 
-if_new : (t : Bool) (roots : List ℕ) (root : ℕ) (fault : LineFault) → t ≡ false → (if t then Err fault else Ok (roots ++ root ∷ [])) ≡ Ok (roots ++ root ∷ [])
+if_new : (t : Bool) (roots : List ℕ) (root : ℕ) (fault : RootsLineFault) → t ≡ false → (if t then Err fault else Ok (roots ++ root ∷ [])) ≡ Ok (roots ++ root ∷ [])
 if_new true roots root fault e = cc
 if_new false roots root fault e = refl
 
-found_by : (t : Bool) (what : Wrong) → (if t then Some Repeated else None) ≡ Some what → (t ≡ true) × (what ≡ Repeated)
+found_by : (t : Bool) (what : RootsTextError) → (if t then Some Repeated else None) ≡ Some what → (t ≡ true) × (what ≡ Repeated)
 found_by true what e = (refl, cc)
 found_by false what e = absurd (cc)
 
-new_by : (t : Bool) → ◌≡◌ {A = Option Wrong} (if t then Some Repeated else None) None → t ≡ false
+new_by : (t : Bool) → ◌≡◌ {A = Option RootsTextError} (if t then Some Repeated else None) None → t ≡ false
 new_by true e = absurd (cc)
 new_by false e = refl
 
 -- a line that has a fault
-wrong_is : (number : ℕ) (roots : List ℕ) (front : List (List ℕ)) (said : Result (Option ℕ) Wrong) (what : Wrong)
+wrong_is : (number : ℕ) (roots : List ℕ) (front : List (List ℕ)) (said : Result (Option ℕ) RootsTextError) (what : RootsTextError)
     → ((root : ℕ) → is_among roots root ≡ list_any (names root) front) → wrong_below front said ≡ Some what
     → more_by number roots said ≡ Err (record { line = number; wrong = what })
 wrong_is number roots front (Ok None) what same e = absurd (cc)
@@ -96,12 +96,12 @@ wrong_is number roots front (Err other) what same e =
     let is : other ≡ what = cc in ap (λ w. Err (record { line = number; wrong = w })) is
 
 -- and one that has none
-pub record Goes (number : ℕ) (roots : List ℕ) (front : List (List ℕ)) (said : Result (Option ℕ) Wrong) : Type 0 where
+pub record Goes (number : ℕ) (roots : List ℕ) (front : List (List ℕ)) (said : Result (Option ℕ) RootsTextError) : Type 0 where
   pub next : List ℕ
   pub is : more_by number roots said ≡ Ok next
   pub same : (root : ℕ) → is_among next root ≡ (list_any (names root) front || (is_root root said || false))
 
-goes : (number : ℕ) (roots : List ℕ) (front : List (List ℕ)) (said : Result (Option ℕ) Wrong)
+goes : (number : ℕ) (roots : List ℕ) (front : List (List ℕ)) (said : Result (Option ℕ) RootsTextError)
     → ((root : ℕ) → is_among roots root ≡ list_any (names root) front) → wrong_below front said ≡ None → Goes number roots front said
 goes number roots front (Ok None) same e = record { next = roots; is = refl; same = λ root. same root ∙ no_more (list_any (names root) front) }
 goes number roots front (Ok (Some named)) same e = record {
@@ -128,7 +128,7 @@ judged_more text rest above line later h e shorter sound =
       same = λ root. step.same root ∙ sym (list_any-append (names root) h.front (line ∷ []));
     }
 
-pub fault_here : (text rest : List ℕ) (above : ℕ) (line later : List ℕ) (what : Wrong) → HasJudged text rest above → lines rest ≡ line ∷ lines later
+pub fault_here : (text rest : List ℕ) (above : ℕ) (line later : List ℕ) (what : RootsTextError) → HasJudged text rest above → lines rest ≡ line ∷ lines later
     → wrong_below (take above (lines text)) (root_on line) ≡ Some what → Some (record { line = above + 1; wrong = what }) ≡ result_err (roots_of text)
 fault_here text rest above line later what h e wrong =
     let is = wrong_is (above + 1) h.roots h.front (root_on line) what h.same (ap (λ ls. wrong_below ls (root_on line)) (sym (above_is text rest above h)) ∙ wrong) in

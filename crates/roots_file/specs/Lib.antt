@@ -1,4 +1,4 @@
 pub mod Line
 pub mod Reading
 pub mod Seen
-pub mod TextFault
+pub mod RootsTextFault

@@ -3,33 +3,33 @@ use Rattle.std.specs.Prelude.{ℕ, List, [], ◌∷◌, Option, None, Some, Resu
 use Rattle.std.specs.Str.{bytes_eq}
 use Rattle.text_words.specs.Text.{words}
 use Rattle.text_words.specs.Number.{number_of}
-use Rattle.roots_file.specs.declared.fault.Wrong.{Wrong}
-use Rattle.roots_file.specs.declared.fault.Wrong.TheVariants as wrong
+use Rattle.roots_file.specs.declared.fault.RootsTextError.{RootsTextError}
+use Rattle.roots_file.specs.declared.fault.RootsTextError.TheVariants as wrong
 
 -- the digits of a word: what stands behind '0x', where it begins so
 abbrev pub digits_of : List ℕ → List ℕ
 digits_of word = if bytes_eq (take 2 word) (codes "0x") then drop 2 word else word
 
 -- a GUID has at most sixteen digits, and is not 0
-abbrev pub guid_by : List ℕ → Option ℕ → Result ℕ Wrong
+abbrev pub guid_by : List ℕ → Option ℕ → Result ℕ RootsTextError
 guid_by digits None = Err wrong.Syntax
 guid_by digits (Some n) = if nat_le (length digits) 16 && not (n == 0) then Ok n else Err wrong.Guid
 
 -- the root that a word names: hex digits, with or without '0x'
-abbrev pub root_of : List ℕ → Result ℕ Wrong
+abbrev pub root_of : List ℕ → Result ℕ RootsTextError
 root_of word = guid_by (digits_of word) (number_of 16 (digits_of word))
 
 -- a root on a line of its own
-abbrev pub on_line : Result ℕ Wrong → Result (Option ℕ) Wrong
+abbrev pub on_line : Result ℕ RootsTextError → Result (Option ℕ) RootsTextError
 on_line (Ok root) = Ok (Some root)
 on_line (Err what) = Err what
 
 -- the root that the words name, if there is one
-abbrev pub root_in : List (List ℕ) → Result (Option ℕ) Wrong
+abbrev pub root_in : List (List ℕ) → Result (Option ℕ) RootsTextError
 root_in [] = Ok None
 root_in (word ∷ []) = on_line (root_of word)
 root_in _ = Err wrong.Syntax
 
 -- what a line says
-unfoldable pub root_on : List ℕ → Result (Option ℕ) Wrong
+unfoldable pub root_on : List ℕ → Result (Option ℕ) RootsTextError
 root_on line = root_in (words line)

@@ -2,9 +2,9 @@
 use Rattle.std.specs.Prelude.{ℕ, ◌+◌, ◌==◌, Bool, false, List, [], ◌∷◌, ◌++◌, Option, None, Some, Result, Ok, Err, if◌then◌else◌}
 use Rattle.std.specs.List.{list_any}
 use Rattle.text_words.specs.Text.{lines}
-use Rattle.roots_file.specs.declared.fault.Wrong.{Wrong}
-use Rattle.roots_file.specs.declared.fault.Wrong.TheVariants.{Repeated}
-use Rattle.roots_file.specs.declared.fault.LineFault.{LineFault}
+use Rattle.roots_file.specs.declared.fault.RootsTextError.{RootsTextError}
+use Rattle.roots_file.specs.declared.fault.RootsTextError.TheVariants.{Repeated}
+use Rattle.roots_file.specs.declared.fault.RootsLineFault.{RootsLineFault}
 use Rattle.roots_file.specs.Line.{root_on}
 
 -- whether a root is among these
@@ -12,38 +12,38 @@ abbrev pub is_among : List ℕ → ℕ → Bool
 is_among roots root = list_any (λ r. r == root) roots
 
 -- the roots with one more, which none of them may be
-abbrev pub root_more : ℕ → List ℕ → ℕ → Result (List ℕ) LineFault
+abbrev pub root_more : ℕ → List ℕ → ℕ → Result (List ℕ) RootsLineFault
 root_more number roots root =
     if is_among roots root then Err (record { line = number; wrong = Repeated })
     else Ok (roots ++ root ∷ [])
 
 -- the roots with what the line of a number says
-abbrev pub more_by : ℕ → List ℕ → Result (Option ℕ) Wrong → Result (List ℕ) LineFault
+abbrev pub more_by : ℕ → List ℕ → Result (Option ℕ) RootsTextError → Result (List ℕ) RootsLineFault
 more_by number roots (Ok None) = Ok roots
 more_by number roots (Ok (Some root)) = root_more number roots root
 more_by number roots (Err what) = Err (record { line = number; wrong = what })
 
-abbrev pub with_line : ℕ → List ℕ → List ℕ → Result (List ℕ) LineFault
+abbrev pub with_line : ℕ → List ℕ → List ℕ → Result (List ℕ) RootsLineFault
 with_line number roots line = more_by number roots (root_on line)
 
 -- what follows these roots, or their fault
-abbrev pub then_from : Result (List ℕ) LineFault → (List ℕ → Result (List ℕ) LineFault) → Result (List ℕ) LineFault
+abbrev pub then_from : Result (List ℕ) RootsLineFault → (List ℕ → Result (List ℕ) RootsLineFault) → Result (List ℕ) RootsLineFault
 then_from (Ok roots) next = next roots
 then_from (Err fault) next = Err fault
 
 -- the roots with what lines say that count from a number
-abbrev pub with_lines : ℕ → List ℕ → List (List ℕ) → Result (List ℕ) LineFault
+abbrev pub with_lines : ℕ → List ℕ → List (List ℕ) → Result (List ℕ) RootsLineFault
 with_lines number roots [] = Ok roots
 with_lines number roots (line ∷ later) = then_from (with_line number roots line) (λ more. with_lines (number + 1) more later)
 
 -- what a text says
-unfoldable pub roots_of : List ℕ → Result (List ℕ) LineFault
+unfoldable pub roots_of : List ℕ → Result (List ℕ) RootsLineFault
 roots_of text = with_lines 1 [] (lines text)
 
 -- the same by lines alone -------------------------------------------------------------------------
 
 -- a line names the root
-abbrev pub is_root : ℕ → Result (Option ℕ) Wrong → Bool
+abbrev pub is_root : ℕ → Result (Option ℕ) RootsTextError → Bool
 is_root root (Ok (Some named)) = named == root
 is_root root _ = false
 
@@ -51,7 +51,7 @@ abbrev pub names : ℕ → List ℕ → Bool
 names root line = is_root root (root_on line)
 
 -- what is wrong with a line that says this, below these
-abbrev pub wrong_below : List (List ℕ) → Result (Option ℕ) Wrong → Option Wrong
+abbrev pub wrong_below : List (List ℕ) → Result (Option ℕ) RootsTextError → Option RootsTextError
 wrong_below above (Ok None) = None
 wrong_below above (Ok (Some root)) = if list_any (names root) above then Some Repeated else None
 wrong_below above (Err what) = Some what

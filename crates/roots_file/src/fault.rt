@@ -6,7 +6,7 @@ use std::fmt;
 
 /// What is wrong with a line.
 #[derive(Clone, Copy, Debug, PartialEq, Eq)]
-pub enum Wrong {
+pub enum RootsTextError {
     /// It has more than one word, or one that is none of hex digits.
     Syntax,
     /// A GUID that is 0, or has more than 16 digits.
@@ -15,68 +15,68 @@ pub enum Wrong {
     Repeated,
 }
 
-impl Wrong {
-    ghost use Rattle.roots_file.specs.TextFault.{wrong_word};
+impl RootsTextError {
+    ghost use Rattle.roots_file.specs.RootsTextFault.{wrong_word};
 
     /// The word for it.
     pub fn word(self) -> &'static str
         ensures { result.now ≡ wrong_word self }
     {
         match self {
-            Wrong::Syntax => "syntax",
-            Wrong::Guid => "guid",
-            Wrong::Repeated => "repeated",
+            RootsTextError::Syntax => "syntax",
+            RootsTextError::Guid => "guid",
+            RootsTextError::Repeated => "repeated",
         }
     }
 }
 
 /// The first faulty line of a text, from 1, and what is wrong with it.
 #[derive(Clone, Copy, Debug, PartialEq, Eq)]
-pub struct LineFault {
+pub struct RootsLineFault {
     pub line: usize,
-    pub wrong: Wrong,
+    pub wrong: RootsTextError,
 }
 
 /// Why a text is not read.
 #[derive(Clone, Copy, Debug, PartialEq, Eq)]
-pub enum TextFault {
+pub enum RootsTextFault {
     /// A line has a fault, and none above it.
-    Line(LineFault),
+    Line(RootsLineFault),
     /// Memory was refused, and no line has a fault.
     Memory,
 }
 
 /// The line and the word, as in `line 3: guid`; or that memory is out.
-impl fmt::Display for TextFault {
+impl fmt::Display for RootsTextFault {
     ghost use Rattle.std.specs.Prelude.{Some};
-    ghost use Rattle.roots_file.specs.TextFault.{fault_text};
+    ghost use Rattle.roots_file.specs.RootsTextFault.{fault_text};
 
     ghost output = { λ fault. Some (fault_text fault) };
 
     fn fmt<W: fmt::Write>(&self, f: &mut fmt::Formatter<W>) -> fmt::Result {
         match self {
-            TextFault::Line(fault) => {
+            RootsTextFault::Line(fault) => {
                 let line = fault.line;
                 let word = fault.wrong.word();
                 write!(f, "line {line}: {word}")
             }
-            TextFault::Memory => f.write_str("out of memory"),
+            RootsTextFault::Memory => f.write_str("out of memory"),
         }
     }
 }
 
-impl Error for TextFault {}
+impl Error for RootsTextFault {}
 
-impl TextFault {
-    ghost use Rattle.roots_file.specs.TextFault.{fault_line, fault_word};
+impl RootsTextFault {
+    ghost use Rattle.roots_file.specs.RootsTextFault.{fault_line, fault_word};
 
     /// The line that has the fault, from 1.
     pub fn line(self) -> Option<usize>
         ensures { result ≡ fault_line self }
     {
         match self {
-            TextFault::Line(fault) => Some(fault.line),
-            TextFault::Memory => None,
+            RootsTextFault::Line(fault) => Some(fault.line),
+            RootsTextFault::Memory => None,
         }
     }
 
@@ -85,41 +85,41 @@ impl TextFault {
         ensures { result.now ≡ fault_word self }
     {
         match self {
-            TextFault::Line(fault) => fault.wrong.word(),
-            TextFault::Memory => "out of memory",
+            RootsTextFault::Line(fault) => fault.wrong.word(),
+            RootsTextFault::Memory => "out of memory",
         }
     }
 }
 
-impl From<LineFault> for TextFault {
+impl From<RootsLineFault> for RootsTextFault {
     ghost use Rattle.std.specs.Prelude.{◌≡◌};
-    ghost use Rattle.roots_file.specs.declared.fault.TextFault.TheVariants.{Line};
+    ghost use Rattle.roots_file.specs.declared.fault.RootsTextFault.TheVariants.{Line};
 
     ghost from_gives = { λ e fault. fault ≡ Line e };
 
-    fn from(fault: LineFault) -> Self {
-        TextFault::Line(fault)
+    fn from(fault: RootsLineFault) -> Self {
+        RootsTextFault::Line(fault)
     }
 }
 
-impl From<AllocError> for TextFault {
+impl From<AllocError> for RootsTextFault {
     ghost use Rattle.std.specs.Prelude.{◌≡◌};
-    ghost use Rattle.roots_file.specs.declared.fault.TextFault.TheVariants.{Memory};
+    ghost use Rattle.roots_file.specs.declared.fault.RootsTextFault.TheVariants.{Memory};
 
     ghost from_gives = { λ e fault. fault ≡ Memory };
 
     fn from(_: AllocError) -> Self {
-        TextFault::Memory
+        RootsTextFault::Memory
     }
 }
 
-impl<T: Drop> From<AllocFailed<T>> for TextFault {
+impl<T: Drop> From<AllocFailed<T>> for RootsTextFault {
     ghost use Rattle.std.specs.Prelude.{◌≡◌};
-    ghost use Rattle.roots_file.specs.declared.fault.TextFault.TheVariants.{Memory};
+    ghost use Rattle.roots_file.specs.declared.fault.RootsTextFault.TheVariants.{Memory};
 
     ghost from_gives = { λ e fault. fault ≡ Memory };
 
     fn from(_: AllocFailed<T>) -> Self {
-        TextFault::Memory
+        RootsTextFault::Memory
     }
 }

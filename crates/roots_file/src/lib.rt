@@ -6,5 +6,5 @@ mod line;
 mod roots;
 mod text;
 
-pub use fault::{LineFault, TextFault, Wrong};
+pub use fault::{RootsLineFault, RootsTextError, RootsTextFault};
 pub use text::parse;

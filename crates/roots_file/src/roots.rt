@@ -1,8 +1,8 @@
 ghost use Rattle.std.specs.Prelude.{◌≡◌, []};
 ghost use Rattle.roots_file.specs.Reading.{root_more};
-ghost use Rattle.roots_file.specs.TextFault.{Reads};
+ghost use Rattle.roots_file.specs.RootsTextFault.{Reads};
 
-use crate::fault::{LineFault, TextFault, Wrong};
+use crate::fault::{RootsLineFault, RootsTextError, RootsTextFault};
 use smp_bytes::Guid;
 use std::alloc::Global;
 use std::collections::BTreeSet;
@@ -39,7 +39,7 @@ impl Roots {
     }
 
     /// These roots and that of the line of a number. Takes a search.
-    pub(crate) fn with(self, line: usize, root: Guid) -> Result<Self, TextFault>
+    pub(crate) fn with(self, line: usize, root: Guid) -> Result<Self, RootsTextFault>
         ensures { Reads result (root_more line self root) }
     {
         let Roots {
@@ -47,9 +47,9 @@ impl Roots {
             mut seen,
         } = self;
         if !seen.insert(root)? {
-            return Err(TextFault::Line(LineFault {
+            return Err(RootsTextFault::Line(RootsLineFault {
                 line,
-                wrong: Wrong::Repeated,
+                wrong: RootsTextError::Repeated,
             }));
         }
         guids.push(root)?;

@@ -5,9 +5,9 @@ ghost use Rattle.smp_bytes.specs.Judges.{JudgesButFor};
 ghost use Rattle.text_words.specs.Text.{lines};
 ghost use Rattle.roots_file.specs.Line.{root_on};
 ghost use Rattle.roots_file.specs.Reading.{names, roots_of, with_line, wrong_below};
-ghost use Rattle.roots_file.specs.TextFault.{Reads, is_memory};
+ghost use Rattle.roots_file.specs.RootsTextFault.{Reads, is_memory};
 
-use crate::fault::{LineFault, TextFault, Wrong};
+use crate::fault::{RootsLineFault, RootsTextError, RootsTextFault};
 use crate::line::root_on;
 use crate::roots::Roots;
 use smp_bytes::Guid;
@@ -29,24 +29,24 @@ use text_words::split_line;
 /// # Errors
 ///
 /// The first fault of its lines, and `Memory` where they have none.
-pub fn parse(alloc: Global, text: &[u8]) -> Result<Vec<Guid>, TextFault>
+pub fn parse(alloc: Global, text: &[u8]) -> Result<Vec<Guid>, RootsTextFault>
     ensures judged { JudgesButFor is_memory result
-        (option_map TextFault.Line (result_err (roots_of text.now))) }
+        (option_map RootsTextFault.Line (result_err (roots_of text.now))) }
     ensures roots { IfOk result (λ roots. roots_of text.now ≡ Ok roots.items) }
 {
     match read_lines(alloc, text) {
         Ok(roots) => Ok(roots.into_guids()),
-        Err(TextFault::Line(fault)) => Err(TextFault::Line(fault)),
-        Err(TextFault::Memory) => match first_fault(text) {
-            Some(fault) => Err(TextFault::Line(fault)),
-            None => Err(TextFault::Memory),
+        Err(RootsTextFault::Line(fault)) => Err(RootsTextFault::Line(fault)),
+        Err(RootsTextFault::Memory) => match first_fault(text) {
+            Some(fault) => Err(RootsTextFault::Line(fault)),
+            None => Err(RootsTextFault::Memory),
         },
     }
 }
 
 #[tactic(auto, using(crate::proofs::Folds::reading))]
 /// What the lines of a text say.
-fn read_lines(alloc: Global, text: &[u8]) -> Result<Roots, TextFault>
+fn read_lines(alloc: Global, text: &[u8]) -> Result<Roots, RootsTextFault>
     ensures { Reads result (roots_of text.now) }
 {
     let mut roots = Roots::new(alloc);
@@ -61,13 +61,13 @@ fn read_lines(alloc: Global, text: &[u8]) -> Result<Roots, TextFault>
 }
 
 /// Roots, and that of the line of a number.
-fn with_line(roots: Roots, number: usize, line: &[u8]) -> Result<Roots, TextFault>
+fn with_line(roots: Roots, number: usize, line: &[u8]) -> Result<Roots, RootsTextFault>
     ensures { Reads result (with_line number roots line.now) }
 {
     match root_on(line) {
         Ok(None) => Ok(roots),
         Ok(Some(root)) => roots.with(number, root),
-        Err(wrong) => Err(TextFault::Line(LineFault {
+        Err(wrong) => Err(RootsTextFault::Line(RootsLineFault {
             line: number,
             wrong,
         })),
@@ -76,7 +76,7 @@ fn with_line(roots: Roots, number: usize, line: &[u8]) -> Result<Roots, TextFaul
 
 #[tactic(auto, using(crate::proofs::Folds::judging))]
 /// The first fault of a text. Takes no memory.
-fn first_fault(text: &[u8]) -> Option<LineFault>
+fn first_fault(text: &[u8]) -> Option<RootsLineFault>
     ensures { result ≡ result_err (roots_of text.now) }
 {
     let mut above = 0;
@@ -84,7 +84,7 @@ fn first_fault(text: &[u8]) -> Option<LineFault>
     while let Some((line, later)) = split_line(rest) {
         if let Some(wrong) = wrong_below(text, above, line) {
             let line = above + 1;
-            return Some(LineFault { line, wrong });
+            return Some(RootsLineFault { line, wrong });
         }
         above += 1;
         rest = later;
@@ -93,14 +93,14 @@ fn first_fault(text: &[u8]) -> Option<LineFault>
 }
 
 /// What is wrong with a line below the first lines of a text.
-fn wrong_below(text: &[u8], above: usize, line: &[u8]) -> Option<Wrong>
+fn wrong_below(text: &[u8], above: usize, line: &[u8]) -> Option<RootsTextError>
     ensures { result ≡ wrong_below (take above (lines text.now)) (root_on line.now) }
 {
     match root_on(line) {
         Ok(None) => None,
         Ok(Some(root)) => {
             if is_named(text, above, root) {
-                Some(Wrong::Repeated)
+                Some(RootsTextError::Repeated)
             } else {
                 None
             }

@@ -10,15 +10,15 @@ use Rattle.topo_file.specs.declared.node.Node.{Node}
 use Rattle.schedule_file.specs.Schedule.{Script}
 use Rattle.schedule_file.specs.declared.command.Command.{Command}
 use Rattle.schedule_file.specs.declared.command.Command.TheVariants.{Merge, Plan}
-use Rattle.fact_store.specs.Report.{Told}
+use Rattle.fact_store.specs.Report.{Sightings}
 use Rattle.fact_store.specs.Seen.{HaveSameMembers}
 use Rattle.fact_store.specs.View.{Facts, cells_of, view_at}
 use Rattle.fact_store.proofs.Views.{members_decide_view}
-use Rattle.sm_cli.specs.FactsText.{facts_text}
-use Rattle.sm_manager.specs.Planning.{Planning}
+use Rattle.record_file.specs.FactsText.{facts_text}
+use Rattle.lft_blocks.specs.Planning.{Planning}
 use Rattle.sm_manager.specs.Plans.{plan_fault}
-use Rattle.sm_run.specs.Commands.{command_run, commands_run, facts_shown, plan_or_refusal, plan_shown, script_text, world_of}
-use Rattle.sm_run.specs.World.{SeatedValue, WorldValue}
+use Rattle.schedule_run.specs.Commands.{after_command, after_commands, facts_shown, plan_or_refusal, plan_shown, script_text, world_of}
+use Rattle.schedule_run.specs.World.{SeatedValue, WorldValue}
 use Rattle.run_laws.specs.Accounts.{Account, Accounts, account_after, joined, opened, told_by_command, told_by_commands, with_more, world_after}
 use Rattle.run_laws.specs.Lines.{LaterLinesComeBehind, MergedManagersPlanAlike, PrintsPlansAlike, SameTakenInPlansAlike, SameTakenInSameLines}
 use Rattle.run_laws.specs.Lines.{TellTheSame, and_lines}
@@ -28,25 +28,25 @@ use Rattle.run_laws.proofs.Seats.{AreKnown, more_here, more_there}
 -- lines behind others ------------------------------------------------------------------------------------
 
 now_behind : (nodes : List Node) (w : WorldValue) (commands lines : List Command)
-    → (commands_run nodes w (commands ++ lines)).now ≡ (commands_run nodes (commands_run nodes w commands).now lines).now
+    → (after_commands nodes w (commands ++ lines)).now ≡ (after_commands nodes (after_commands nodes w commands).now lines).now
 now_behind nodes w [] lines = refl
-now_behind nodes w (command ∷ later) lines = now_behind nodes (command_run nodes w command).now later lines
+now_behind nodes w (command ∷ later) lines = now_behind nodes (after_command nodes w command).now later lines
 
 text_behind : (nodes : List Node) (w : WorldValue) (commands lines : List Command)
-    → (commands_run nodes w (commands ++ lines)).text
-    ≡ (commands_run nodes w commands).text ++ (commands_run nodes (commands_run nodes w commands).now lines).text
+    → (after_commands nodes w (commands ++ lines)).text
+    ≡ (after_commands nodes w commands).text ++ (after_commands nodes (after_commands nodes w commands).now lines).text
 text_behind nodes w [] lines = refl
 text_behind nodes w (command ∷ later) lines =
-    let next = (command_run nodes w command).now in
-    ap (λ text. (command_run nodes w command).text ++ text) (text_behind nodes next later lines)
-    ∙ sym (append_assoc (command_run nodes w command).text (commands_run nodes next later).text (commands_run nodes
-    (commands_run nodes next later).now lines).text)
+    let next = (after_command nodes w command).now in
+    ap (λ text. (after_command nodes w command).text ++ text) (text_behind nodes next later lines)
+    ∙ sym (append_assoc (after_command nodes w command).text (after_commands nodes next later).text (after_commands nodes
+    (after_commands nodes next later).now lines).text)
 
 told_behind : (nodes : List Node) (w : WorldValue) (accounts : Accounts) (commands lines : List Command)
     → told_by_commands nodes w accounts (commands ++ lines)
-    ≡ told_by_commands nodes (commands_run nodes w commands).now (told_by_commands nodes w accounts commands) lines
+    ≡ told_by_commands nodes (after_commands nodes w commands).now (told_by_commands nodes w accounts commands) lines
 told_behind nodes w accounts [] lines = refl
-told_behind nodes w accounts (command ∷ later) lines = told_behind nodes (command_run nodes w command).now (told_by_command w accounts command) later lines
+told_behind nodes w accounts (command ∷ later) lines = told_behind nodes (after_command nodes w command).now (told_by_command w accounts command) later lines
 
 pub later_lines_come_behind : LaterLinesComeBehind
 unfolding script_text
@@ -141,7 +141,7 @@ module _ (planning : Planning) (topology : Layout) (script : Script) (seat other
   first = with_more after seat (after other)
 
   abbrev merged_once : WorldValue
-  merged_once = (command_run topology.nodes w (Merge seat other)).now
+  merged_once = (after_command topology.nodes w (Merge seat other)).now
 
   -- and then the other
   abbrev second : Accounts
@@ -168,7 +168,7 @@ module _ (planning : Planning) (topology : Layout) (script : Script) (seat other
       ∙ ap (λ accounts. told_by_command merged_once accounts (Merge other seat)) by_first ∙ by_second
 
   -- each has what both took in
-  same_members : (xs ys : Told) → HaveSameMembers (xs ++ ys) (ys ++ (xs ++ ys))
+  same_members : (xs ys : Sightings) → HaveSameMembers (xs ++ ys) (ys ++ (xs ++ ys))
   same_members xs ys = (
     λ x there. Contains-append_right ys (xs ++ ys) x there,
     λ x there. elim (Contains-append_cases ys (xs ++ ys) x there) [ inl h ↦ Contains-append_right xs ys x h | inr h ↦ h ],

@@ -8,19 +8,19 @@ use Rattle.schedule_file.specs.declared.command.Command.TheVariants as command
 use Rattle.fabric_sim.specs.Simulation.{fabric_of}
 use Rattle.fact_store.specs.View.{cells_of}
 use Rattle.lft_blocks.specs.Plan.{PlanValue, plan_of}
-use Rattle.sm_manager.specs.Manager.{Manager, begin_fault, new_manager, sweep_begun}
+use Rattle.sm_manager.specs.Manager.{Manager, begin_fault, new_manager, after_begin_sweep}
 use Rattle.sm_manager.specs.Plans.{writing_fault}
-use Rattle.sm_manager.specs.Writing.{is_written, phases_by, writing_begun}
+use Rattle.sm_manager.specs.Writing.{is_written, phases_by, after_write_steps}
 use Rattle.sm_manager.specs.declared.fault.ManagerFault.{ManagerFault}
 use Rattle.sm_manager.specs.declared.fault.ManagerFault.TheVariants.{GenerationsSpent}
-use Rattle.written_laws.specs.Managing.{Begin, CanBe, Managing, Write, after_manager_event, after_manager_events}
-use Rattle.written_laws.specs.Pings.{BringsUp}
-use Rattle.written_laws.specs.Sets.{IsOwnSet, OwnSets}
-use Rattle.written_laws.specs.Written.{AllKeep, plan_at}
-use Rattle.written_laws.proofs.Generations.{nothing_found, nothing_newest}
-use Rattle.written_laws.proofs.Rests.{new_managers_rest}
-use Rattle.sm_run.specs.Commands.{command_run, commands_run, sweep_run, write_run}
-use Rattle.sm_run.specs.World.{SeatedValue, WorldValue, called_run, sent}
+use Rattle.manager_laws.specs.Managing.{Begin, CanBe, Managing, Write, after_manager_event, after_manager_events}
+use Rattle.manager_laws.specs.WritingPings.{BringsUp}
+use Rattle.manager_laws.specs.Sets.{IsOwnSet, OwnSets}
+use Rattle.manager_laws.specs.Written.{AllKeep, plan_at}
+use Rattle.manager_laws.proofs.Generations.{nothing_found, nothing_newest}
+use Rattle.manager_laws.proofs.Rests.{new_managers_rest}
+use Rattle.schedule_run.specs.Commands.{after_command, after_commands, after_sweep_line, after_write_line}
+use Rattle.schedule_run.specs.World.{SeatedValue, WorldValue, after_manager_call, after_send}
 use Rattle.run_laws.specs.Alone.{BringsUpAlone, IsOnly, KeepsLines, RunsOfOneAreReached, at_end, at_first_steps, at_writing}
 use Rattle.run_laws.specs.Reached.{EachPingSaysReached}
 use Rattle.run_laws.proofs.Lived.{Lives, as_world, commands_live, goes_on, managing_of, seated_as, sends_live}
@@ -40,21 +40,21 @@ manager_is name m w s manager same only =
 module _ (nodes : List Node) (name : List ℕ) (m : Managing) where
   -- the line `sweep`
   sweep_line : begin_fault m.manager ≡ None
-      → (command_run nodes (as_world name m) (command.Sweep 0)).now ≡ (sent (as_world name (after_manager_event m Begin)) 0).now
-  unfolding sweep_run
+      → (after_command nodes (as_world name m) (command.Sweep 0)).now ≡ (after_send (as_world name (after_manager_event m Begin)) 0).now
+  unfolding after_sweep_line
   sweep_line none =
-      ap (λ (o : Option ManagerFault). (called_run (λ now. sent now 0) (as_world name m) 0 (seated_as name m) o (sweep_begun m.manager)).now) none
-      ∙ ap (λ (o : Option ManagerFault). (sent (as_world name (managing_of m.scene m.seat (cond (is_none o)
-      (sweep_begun m.manager) m.manager) m.out)) 0).now) (sym none)
+      ap (λ (o : Option ManagerFault). (after_manager_call (λ now. after_send now 0) (as_world name m) 0 (seated_as name m) o (after_begin_sweep m.manager)).now) none
+      ∙ ap (λ (o : Option ManagerFault). (after_send (as_world name (managing_of m.scene m.seat (cond (is_none o)
+      (after_begin_sweep m.manager) m.manager) m.out)) 0).now) (sym none)
 
   -- the line `write`
   write_line : writing_fault m.manager ≡ None
-      → (command_run nodes (as_world name m) (command.Write 0)).now ≡ (sent (as_world name (after_manager_event m Write)) 0).now
-  unfolding write_run
+      → (after_command nodes (as_world name m) (command.Write 0)).now ≡ (after_send (as_world name (after_manager_event m Write)) 0).now
+  unfolding after_write_line
   write_line none =
-      ap (λ (o : Option ManagerFault). (called_run (λ now. sent now 0) (as_world name m) 0 (seated_as name m) o (writing_begun m.manager)).now) none
-      ∙ ap (λ (o : Option ManagerFault). (sent (as_world name (managing_of m.scene m.seat (cond (is_none o)
-      (writing_begun m.manager) m.manager) m.out)) 0).now) (sym none)
+      ap (λ (o : Option ManagerFault). (after_manager_call (λ now. after_send now 0) (as_world name m) 0 (seated_as name m) o (after_write_steps m.manager)).now) none
+      ∙ ap (λ (o : Option ManagerFault). (after_send (as_world name (managing_of m.scene m.seat (cond (is_none o)
+      (after_write_steps m.manager) m.manager) m.out)) 0).now) (sym none)
 
 module _ (nodes : List Node) (w : WorldValue) (s : SeatedValue) (between after : List Command) (b : BringsUpAlone nodes w s between after) where
   abbrev plan : PlanValue
@@ -77,27 +77,27 @@ module _ (nodes : List Node) (w : WorldValue) (s : SeatedValue) (between after :
   abbrev m1 : Managing
   m1 = after_manager_event start Begin
 
-  abbrev sent1 : Lives plan own s.name m1 (Unit {0}) (sent (as_world s.name m1) 0).now
+  abbrev sent1 : Lives plan own s.name m1 (Unit {0}) (after_send (as_world s.name m1) 0).now
   sent1 = sends_live plan own s.name m1 (Unit {0})
 
   abbrev then1 : Managing
   then1 = after_manager_events sent1.events m1
 
-  abbrev swept : Lives plan own s.name m1 (KeepsLines plan own nodes (as_world s.name then1) between) (commands_run nodes (as_world s.name then1) between).now
+  abbrev swept : Lives plan own s.name m1 (KeepsLines plan own nodes (as_world s.name then1) between) (after_commands nodes (as_world s.name then1) between).now
   swept =
       goes_on plan own s.name m1 (Unit {0}) (KeepsLines plan own nodes (as_world s.name then1) between) (KeepsLines plan own nodes
       (as_world s.name then1) between)
-      (sent (as_world s.name m1) 0).now (commands_run nodes (as_world s.name then1) between).now sent1
+      (after_send (as_world s.name m1) 0).now (after_commands nodes (as_world s.name then1) between).now sent1
       (commands_live plan own s.name nodes then1 between b.between_lines) (λ h. tt) (λ h. h)
 
   abbrev m2 : Managing
   m2 = after_manager_events swept.events m1
 
-  sweep_so : as_world s.name then1 ≡ (command_run nodes w (command.Sweep 0)).now
-  sweep_so = sent1.ends ∙ sym (sweep_line nodes s.name start begun) ∙ ap (λ x. (command_run nodes x (command.Sweep 0)).now) starts_so
+  sweep_so : as_world s.name then1 ≡ (after_command nodes w (command.Sweep 0)).now
+  sweep_so = sent1.ends ∙ sym (sweep_line nodes s.name start begun) ∙ ap (λ x. (after_command nodes x (command.Sweep 0)).now) starts_so
 
   writing_so : as_world s.name m2 ≡ at_writing nodes w between
-  writing_so = swept.ends ∙ ap (λ x. (commands_run nodes x between).now) sweep_so
+  writing_so = swept.ends ∙ ap (λ x. (after_commands nodes x between).now) sweep_so
 
   swept_is : m2.manager ≡ b.swept
   swept_is = manager_is s.name m2 (at_writing nodes w between) s b.swept writing_so b.only_then
@@ -110,26 +110,26 @@ module _ (nodes : List Node) (w : WorldValue) (s : SeatedValue) (between after :
   abbrev m3 : Managing
   m3 = after_manager_event m2 Write
 
-  abbrev sent3 : Lives plan own s.name m3 (Unit {0}) (sent (as_world s.name m3) 0).now
+  abbrev sent3 : Lives plan own s.name m3 (Unit {0}) (after_send (as_world s.name m3) 0).now
   sent3 = sends_live plan own s.name m3 (Unit {0})
 
   abbrev then3 : Managing
   then3 = after_manager_events sent3.events m3
 
-  abbrev wrote : Lives plan own s.name m3 (KeepsLines plan own nodes (as_world s.name then3) after) (commands_run nodes (as_world s.name then3) after).now
+  abbrev wrote : Lives plan own s.name m3 (KeepsLines plan own nodes (as_world s.name then3) after) (after_commands nodes (as_world s.name then3) after).now
   wrote =
       goes_on plan own s.name m3 (Unit {0}) (KeepsLines plan own nodes (as_world s.name then3) after) (KeepsLines plan own nodes (as_world s.name then3) after)
-      (sent (as_world s.name m3) 0).now (commands_run nodes (as_world s.name then3) after).now sent3
+      (after_send (as_world s.name m3) 0).now (after_commands nodes (as_world s.name then3) after).now sent3
       (commands_live plan own s.name nodes then3 after b.after_lines) (λ h. tt) (λ h. h)
 
   abbrev m4 : Managing
   m4 = after_manager_events wrote.events m3
 
   steps_so : as_world s.name then3 ≡ at_first_steps nodes w between
-  steps_so = sent3.ends ∙ sym (write_line nodes s.name m2 begins) ∙ ap (λ x. (command_run nodes x (command.Write 0)).now) writing_so
+  steps_so = sent3.ends ∙ sym (write_line nodes s.name m2 begins) ∙ ap (λ x. (after_command nodes x (command.Write 0)).now) writing_so
 
   end_so : as_world s.name m4 ≡ at_end nodes w between after
-  end_so = wrote.ends ∙ ap (λ x. (commands_run nodes x after).now) steps_so
+  end_so = wrote.ends ∙ ap (λ x. (after_commands nodes x after).now) steps_so
 
   writer_is : m4.manager ≡ b.writer
   writer_is = manager_is s.name m4 (at_end nodes w between after) s b.writer end_so b.only_at_end

@@ -4,40 +4,40 @@ use Rattle.std.proofs.Common.{◌≡◌, ℕ, zero, suc, ◌+◌, ◌-◌, ◌^�
 use Rattle.std.proofs.lemmas.Bool.{and_parts}
 use Rattle.std.proofs.lemmas.Option.{same_Some}
 use Rattle.std.specs.Prelude.{Option, Some, None, is_some, map, max, slice_get, if◌then◌else◌, ◌==◌}
-use Rattle.smp_bytes.specs.declared.cable.NodePort.{NodePort}
+use Rattle.fabric_model.specs.declared.cable.NodePort.{NodePort}
 use Rattle.smp_bytes.specs.Field.{with_bytes}
 use Rattle.node_agents.specs.Agent.{fresh_agent}
-use Rattle.node_agents.specs.Answers.{answered, get_of, set_of}
+use Rattle.node_agents.specs.Answers.{after_answer, get_of, set_of}
 use Rattle.node_agents.specs.PortInfo.{changed_port}
 use Rattle.schedule_file.specs.declared.command.Command.{Command}
 use Rattle.schedule_file.specs.declared.command.Command.TheVariants as command
 use Rattle.schedule_file.specs.declared.command.Which.TheVariants.{Last, Serial}
-use Rattle.fact_store.specs.Report.{Told}
+use Rattle.fact_store.specs.Report.{Sightings}
 use Rattle.fact_store.specs.View.{cells_of, no_facts}
 use Rattle.fact_store.proofs.Entries.{cells_of_view, entries-view}
 use Rattle.subnet_view.specs.Reading.{Cells}
-use Rattle.spread_rule.specs.Rules.{up_and_down}
+use Rattle.lft_blocks.specs.Rules.{up_and_down}
 use Rattle.lft_blocks.specs.Plan.{PlanValue, plan_of}
 use Rattle.plan_steps.specs.Phases.{Phase}
 use Rattle.fabric_sim.specs.Simulation.{Simulation, fabric_of}
-use Rattle.fabric_sim.specs.Changes.{injected, joined, lost, repeated}
-use Rattle.fabric_sim.specs.Delivery.{outcome_of, delivered}
+use Rattle.fabric_sim.specs.Changes.{after_inject, cabled_at, after_lose, after_repeat}
+use Rattle.fabric_sim.specs.Delivery.{outcome_of, after_deliver}
 use Rattle.sweep.specs.Sweep.{Sweep, started}
-use Rattle.sweep_complete.specs.Complete.{IsWhole}
-use Rattle.sm_manager.specs.Manager.{Manager, begin_fault, new_manager, sweep_begun, with_sweep}
-use Rattle.sm_manager.specs.Planning.{Planning}
+use Rattle.manager_laws.specs.Complete.{IsWhole}
+use Rattle.sm_manager.specs.Manager.{Manager, begin_fault, new_manager, after_begin_sweep, with_sweep}
+use Rattle.lft_blocks.specs.Planning.{Planning}
 use Rattle.sm_manager.specs.declared.fault.ManagerFault.{ManagerFault}
 use Rattle.sm_manager.specs.declared.fault.ManagerFault.TheVariants.{GenerationsSpent}
 use Rattle.sm_manager.specs.Plans.{writing_fault}
-use Rattle.sm_manager.specs.Standing.{active_once_more}
-use Rattle.sm_manager.specs.Writing.{begun_with, is_written, phases_by, writing_begun}
-use Rattle.written_laws.specs.Sets.{IsOwnSet, OwnSets}
-use Rattle.written_laws.proofs.Computed.{delivery_keeps, fault_is, fault_with, in_pairs, is_kept, joined_told, merged_with, one_view, phases_are}
-use Rattle.written_laws.proofs.Computed.{phases_with, sweep_in, sweep_there, told_by_agents}
-use Rattle.written_laws.proofs.ExampleFabric.{distinct_by, is_alone, nodes, port, with_own_seat}
-use Rattle.written_laws.proofs.Generations.{nothing_newest}
-use Rattle.sm_run.specs.Commands.{commands_run, deliver_run, handed_up, lose_run, repeat_run, step_run, sweep_run, took_run, write_run}
-use Rattle.sm_run.specs.World.{SeatedValue, WorldValue, called_run, sent}
+use Rattle.sm_state.specs.Standing.{active_once_more}
+use Rattle.sm_manager.specs.Writing.{begun_with, is_written, phases_by, after_write_steps}
+use Rattle.manager_laws.specs.Sets.{IsOwnSet, OwnSets}
+use Rattle.manager_laws.proofs.Computed.{delivery_keeps, fault_is, fault_with, in_pairs, is_kept, joined_told, merged_with, one_view, phases_are}
+use Rattle.manager_laws.proofs.Computed.{phases_with, sweep_in, sweep_there, told_by_agents}
+use Rattle.manager_laws.proofs.ExampleFabric.{distinct_by, is_alone, nodes, port, with_own_seat}
+use Rattle.manager_laws.proofs.Generations.{nothing_newest}
+use Rattle.schedule_run.specs.Commands.{after_commands, after_deliver_line, after_hand_up, after_lose_line, after_repeat_line, after_step, after_sweep_line, after_take_and_send, after_write_line}
+use Rattle.schedule_run.specs.World.{SeatedValue, WorldValue, after_manager_call, after_send}
 use Rattle.run_laws.specs.Alone.{BringsUpAlone, KeepsLines, KeepsStep, KeepsSteps, SomeRunOfOne, after_first, at_first_steps, at_writing, first_serial}
 
 -- the world ------------------------------------------------------------------------------------------------------
@@ -84,41 +84,41 @@ may_begin : begin_fault new ≡ None
 may_begin = ap (λ n. if n == 2 ^ 32 - 1 then Some GenerationsSpent else None) nothing_newest
 
 abbrev begun : WorldValue
-begun = (sent (world_with with_own_seat (sweeping 1)) 0).now
+begun = (after_send (world_with with_own_seat (sweeping 1)) 0).now
 
-begins : (sweep_run world 0).now ≡ begun
-unfolding sweep_run
+begins : (after_sweep_line world 0).now ≡ begun
+unfolding after_sweep_line
 begins =
-    ap (λ (o : Option ManagerFault). (called_run (λ now. sent now 0) world 0 (seated_with new) o (sweep_begun new)).now) may_begin
-    ∙ ap (λ n. (sent (world_with with_own_seat (sweeping (max (n + 1) 1))) 0).now) nothing_newest
+    ap (λ (o : Option ManagerFault). (after_manager_call (λ now. after_send now 0) world 0 (seated_with new) o (after_begin_sweep new)).now) may_begin
+    ∙ ap (λ n. (after_send (world_with with_own_seat (sweeping (max (n + 1) 1))) 0).now) nothing_newest
 
 abbrev swept_world : WorldValue
-swept_world = (commands_run nodes begun between).now
+swept_world = (after_commands nodes begun between).now
 
 abbrev swept : Manager
 swept = manager_in swept_world.managers
 
 at_is : at_writing nodes world between ≡ swept_world
-at_is = ap (λ (w : WorldValue). (commands_run nodes w between).now) begins
+at_is = ap (λ (w : WorldValue). (after_commands nodes w between).now) begins
 
 alone_then : swept_world.managers ≡ seated_with swept ∷ []
-unfolding sent deliver_run lose_run repeat_run took_run handed_up step_run manager_in
-    joined fresh_agent injected lost repeated delivered outcome_of answered get_of set_of changed_port with_bytes
+unfolding after_send after_deliver_line after_lose_line after_repeat_line after_take_and_send after_hand_up after_step manager_in
+    cabled_at fresh_agent after_inject after_lose after_repeat after_deliver outcome_of after_answer get_of set_of changed_port with_bytes
 alone_then = alone swept_world.managers refl
 
 whole : IsWhole (sweep_in swept.sweep)
-unfolding sent deliver_run lose_run repeat_run took_run handed_up step_run manager_in
-    joined fresh_agent injected lost repeated delivered outcome_of answered get_of set_of changed_port with_bytes
+unfolding after_send after_deliver_line after_lose_line after_repeat_line after_take_and_send after_hand_up after_step manager_in
+    cabled_at fresh_agent after_inject after_lose after_repeat after_deliver outcome_of after_answer get_of set_of changed_port with_bytes
 whole = record { done = refl; answered = refl; near = refl }
 
 -- what it was told ----------------------------------------------------------------------------------------------
 
 merged_all : swept.store ≡ merged_with no_facts told_by_agents
-unfolding sent deliver_run lose_run repeat_run took_run handed_up step_run manager_in
-    joined fresh_agent injected lost repeated delivered outcome_of answered get_of set_of changed_port with_bytes
+unfolding after_send after_deliver_line after_lose_line after_repeat_line after_take_and_send after_hand_up after_step manager_in
+    cabled_at fresh_agent after_inject after_lose after_repeat after_deliver outcome_of after_answer get_of set_of changed_port with_bytes
 merged_all = refl
 
-abbrev all_told : Told
+abbrev all_told : Sightings
 all_told = joined_told [] told_by_agents
 
 abbrev cells : Cells
@@ -136,21 +136,21 @@ abbrev the_sweep : Sweep
 the_sweep = sweep_in swept.sweep
 
 has_swept : is_some swept.sweep ≡ true
-unfolding sent deliver_run lose_run repeat_run took_run handed_up step_run manager_in
-    joined fresh_agent injected lost repeated delivered outcome_of answered get_of set_of changed_port with_bytes
+unfolding after_send after_deliver_line after_lose_line after_repeat_line after_take_and_send after_hand_up after_step manager_in
+    cabled_at fresh_agent after_inject after_lose after_repeat after_deliver outcome_of after_answer get_of set_of changed_port with_bytes
 has_swept = refl
 
 planning_is : swept.planning ≡ in_pairs
-unfolding sent deliver_run lose_run repeat_run took_run handed_up step_run manager_in
-    joined fresh_agent injected lost repeated delivered outcome_of answered get_of set_of changed_port with_bytes
+unfolding after_send after_deliver_line after_lose_line after_repeat_line after_take_and_send after_hand_up after_step manager_in
+    cabled_at fresh_agent after_inject after_lose after_repeat after_deliver outcome_of after_answer get_of set_of changed_port with_bytes
 planning_is = refl
 
 abbrev phases : List Phase
 phases = phases_with in_pairs swept (Some the_sweep) cells
 
 no_fault : fault_with in_pairs swept (Some the_sweep) cells ≡ None
-unfolding sent deliver_run lose_run repeat_run took_run handed_up step_run manager_in
-    joined fresh_agent injected lost repeated delivered outcome_of answered get_of set_of changed_port with_bytes
+unfolding after_send after_deliver_line after_lose_line after_repeat_line after_take_and_send after_hand_up after_step manager_in
+    cabled_at fresh_agent after_inject after_lose after_repeat after_deliver outcome_of after_answer get_of set_of changed_port with_bytes
 no_fault = refl
 
 may_write : writing_fault swept ≡ None
@@ -158,41 +158,41 @@ may_write = fault_is swept in_pairs (Some the_sweep) cells planning_is (sweep_th
 
 -- the line `write` of a world with one manager, which is not refused
 write_line : (fabric : Simulation) (m : Manager) (ps : List Phase) → writing_fault m ≡ None → phases_by m m.sweep ≡ ps
-    → (write_run (world_with fabric m) 0).now ≡ (sent (world_with fabric (begun_with m ps)) 0).now
-unfolding write_run
+    → (after_write_line (world_with fabric m) 0).now ≡ (after_send (world_with fabric (begun_with m ps)) 0).now
+unfolding after_write_line
 write_line fabric m ps none are =
-    ap (λ (o : Option ManagerFault). (called_run (λ now. sent now 0) (world_with fabric m) 0 (seated_with m) o (writing_begun m)).now) none
-    ∙ ap (λ (x : List Phase). (sent (world_with fabric (begun_with m x)) 0).now) are
+    ap (λ (o : Option ManagerFault). (after_manager_call (λ now. after_send now 0) (world_with fabric m) 0 (seated_with m) o (after_write_steps m)).now) none
+    ∙ ap (λ (x : List Phase). (after_send (world_with fabric (begun_with m x)) 0).now) are
 
 as_world : (w : WorldValue) (m : Manager) → w.managers ≡ seated_with m ∷ [] → w ≡ world_with w.fabric m
 as_world w m e = ap (λ (ms : List SeatedValue). record w { managers = ms }) e
 
 -- the world when the first steps are sent
 abbrev writing : WorldValue
-writing = (sent (world_with swept_world.fabric (begun_with swept phases)) 0).now
+writing = (after_send (world_with swept_world.fabric (begun_with swept phases)) 0).now
 
 its_phases : phases_by swept swept.sweep ≡ phases
 its_phases = phases_are swept in_pairs (Some the_sweep) cells planning_is (sweep_there swept.sweep has_swept) known
 
-writes : (write_run swept_world 0).now ≡ writing
+writes : (after_write_line swept_world 0).now ≡ writing
 writes =
-    ap (λ (w : WorldValue). (write_run w 0).now) (as_world swept_world swept alone_then)
+    ap (λ (w : WorldValue). (after_write_line w 0).now) (as_world swept_world swept alone_then)
     ∙ write_line swept_world.fabric swept phases may_write its_phases
 
 abbrev written_world : WorldValue
-written_world = (commands_run nodes writing after).now
+written_world = (after_commands nodes writing after).now
 
 abbrev writer : Manager
 writer = manager_in written_world.managers
 
 alone_at_end : written_world.managers ≡ seated_with writer ∷ []
-unfolding sent deliver_run lose_run repeat_run took_run handed_up step_run manager_in
-    joined fresh_agent injected lost repeated delivered outcome_of answered get_of set_of changed_port with_bytes
+unfolding after_send after_deliver_line after_lose_line after_repeat_line after_take_and_send after_hand_up after_step manager_in
+    cabled_at fresh_agent after_inject after_lose after_repeat after_deliver outcome_of after_answer get_of set_of changed_port with_bytes
 alone_at_end = alone written_world.managers refl
 
 is_written_then : is_written writer ≡ true
-unfolding sent deliver_run lose_run repeat_run took_run handed_up step_run manager_in
-    joined fresh_agent injected lost repeated delivered outcome_of answered get_of set_of changed_port with_bytes
+unfolding after_send after_deliver_line after_lose_line after_repeat_line after_take_and_send after_hand_up after_step manager_in
+    cabled_at fresh_agent after_inject after_lose after_repeat after_deliver outcome_of after_answer get_of set_of changed_port with_bytes
 is_written_then = refl
 
 -- each Set that an agent takes is one of its own: by a test -------------------------------------------------------------
@@ -220,8 +220,8 @@ module _ (plan : PlanValue) (phases : List Phase) where
       (step_keeps w.fabric (first_serial w) parts.0, steps_keep (after_first w) most parts.1)
 
 kept : are_steps_kept (plan_of up_and_down 1 cells) phases writing 80 ≡ true
-unfolding sent deliver_run lose_run repeat_run took_run handed_up step_run manager_in
-    joined fresh_agent injected lost repeated delivered outcome_of answered get_of set_of changed_port with_bytes
+unfolding after_send after_deliver_line after_lose_line after_repeat_line after_take_and_send after_hand_up after_step manager_in
+    cabled_at fresh_agent after_inject after_lose after_repeat after_deliver outcome_of after_answer get_of set_of changed_port with_bytes
 kept = refl
 
 -- the run ---------------------------------------------------------------------------------------------------------
@@ -242,7 +242,7 @@ keep_by w began m planning o c by_planning by_cells are same keep =
     (IsOwnSet (fabric_of with_own_seat) (port 0 1) (phases_with planning m o c)) nodes began after) (sym by_cells) keep)))
 
 first_steps : at_first_steps nodes world between ≡ writing
-first_steps = ap (λ (w : WorldValue). (write_run w 0).now) at_is ∙ writes
+first_steps = ap (λ (w : WorldValue). (after_write_line w 0).now) at_is ∙ writes
 
 keeps : KeepsLines (plan_of swept.planning.rule swept.planning.lmc (cells_of swept.store)) (IsOwnSet (fabric_of with_own_seat) (port 0 1) (phases_by swept swept.sweep))
     nodes (at_first_steps nodes world between) after
@@ -251,7 +251,7 @@ keeps =
     (steps_keep (plan_of up_and_down 1 cells) phases writing 80 kept, tt)
 
 brings_up : BringsUpAlone nodes world (seated_with new) between after
-unfolding joined fresh_agent
+unfolding cabled_at fresh_agent
 brings_up =
     record {
       port_guid = 17;
@@ -273,7 +273,7 @@ brings_up =
       begins = may_write;
       keeps = keeps;
       writer = writer;
-      only_at_end = ap (λ (w : WorldValue). (commands_run nodes w after).now.managers) first_steps ∙ alone_at_end;
+      only_at_end = ap (λ (w : WorldValue). (after_commands nodes w after).now.managers) first_steps ∙ alone_at_end;
       written = is_written_then;
     }
 

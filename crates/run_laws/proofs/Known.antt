@@ -4,7 +4,7 @@ use Rattle.std.proofs.lemmas.Bool.{cond_both}
 use Rattle.std.specs.Prelude.{Option, Some, None, Result, Ok, Err, slice_get}
 use Rattle.std.specs.Option.{option_map_or}
 use Rattle.smp_bytes.specs.Packet.{fault_of, status}
-use Rattle.smp_bytes.specs.declared.cable.NodePort.{NodePort}
+use Rattle.fabric_model.specs.declared.cable.NodePort.{NodePort}
 use Rattle.smp_bytes.specs.declared.smp_fault.SmpFault.{SmpFault}
 use Rattle.topo_file.specs.Topology.{Layout}
 use Rattle.topo_file.specs.declared.node.Node.{Node}
@@ -13,7 +13,7 @@ use Rattle.schedule_file.specs.declared.command.Command.{Command}
 use Rattle.schedule_file.specs.declared.command.Command.TheVariants as command
 use Rattle.schedule_file.specs.declared.command.Which.{Which}
 use Rattle.fabric_sim.specs.FabricFault.{fabric_fault_name}
-use Rattle.fabric_sim.specs.Delivery.{delivered}
+use Rattle.fabric_sim.specs.Delivery.{after_deliver}
 use Rattle.fabric_sim.specs.declared.delivered.Delivered.{Delivered}
 use Rattle.fabric_sim.specs.declared.delivered.Delivered.TheVariants as delivered_is
 use Rattle.fabric_sim.specs.declared.fault.FabricFault.{FabricFault}
@@ -27,30 +27,30 @@ use Rattle.sweep.specs.declared.answer.Answer.{Answer}
 use Rattle.sweep.specs.declared.fault.SweepFault.{SweepFault}
 use Rattle.sweep.specs.Replies.{judged}
 use Rattle.sweep.specs.Sweep.{Sweep}
-use Rattle.sm_manager.specs.Planning.{Planning}
+use Rattle.lft_blocks.specs.Planning.{Planning}
 use Rattle.sm_manager.specs.declared.fault.ManagerFault.{ManagerFault}
 use Rattle.sm_manager.specs.declared.fault.ManagerFault.TheVariants.{SequenceSpent}
 use Rattle.sm_manager.specs.declared.pending.Pending.{Pending}
 use Rattle.sm_manager.specs.declared.pending.Purpose.{Purpose}
 use Rattle.sm_manager.specs.declared.pending.Purpose.TheVariants as purpose
 use Rattle.sm_manager.specs.Calls as calls
-use Rattle.sm_manager.specs.Calls.{told_in}
-use Rattle.sm_manager.specs.Election.{handed_over, handover_fault, heir_lid, poll_fault, poll_sent}
-use Rattle.sm_manager.specs.Manager.{Manager, begin_fault, floor_raised, merged, outstanding, sweep_begun}
+use Rattle.sm_manager.specs.Calls.{sightings_of_call}
+use Rattle.sm_manager.specs.Election.{after_handover, handover_fault, successor_lid, poll_fault, after_poll}
+use Rattle.sm_manager.specs.Manager.{Manager, begin_fault, after_raise_floor, after_merge, outstanding, after_begin_sweep}
 use Rattle.sm_manager.specs.Packets as manager
-use Rattle.sm_manager.specs.Packets.{Called, took, answered_by, done, is_for_sweep, is_info_request, packet_taken, pending_for, refused}
-use Rattle.sm_manager.specs.Packets.{request_answered, request_over, sweep_answered, unless_spent}
+use Rattle.sm_manager.specs.Packets.{Called, after_packet, answered_by, done, is_for_sweep, is_info_request, packet_taken, pending_for, refused}
+use Rattle.sm_manager.specs.Packets.{request_answered, after_request, sweep_answered, unless_spent}
 use Rattle.sm_manager.specs.Plans.{writing_fault}
 use Rattle.sm_manager.specs.Served.{served}
-use Rattle.sm_manager.specs.Writing.{is_spent, writing_begun}
+use Rattle.sm_manager.specs.Writing.{is_spent, after_write_steps}
 use Rattle.sm_manager.proofs.Lives.{Keeps, handing_keeps, planning_stays, takes_call, timeout_keeps}
-use Rattle.sm_run.specs.Commands.{came_up, command_run, commands_run, cut_run, deliver_run, drain_run, floor_run, gave_up_run, given_up, handed_up}
-use Rattle.sm_run.specs.Commands.{handover_run}
-use Rattle.sm_run.specs.Commands.{lose_run, merge_run, plug_run, poll_run, repeat_run, seat_at, seat_run, step_run, sweep_run, taken_by, timeout_run}
-use Rattle.sm_run.specs.Commands.{took_run, with_packet, world_of, write_run}
-use Rattle.sm_run.specs.Flights.{serial_of}
-use Rattle.sm_run.specs.Refusals.{refusal_line}
-use Rattle.sm_run.specs.World.{Ran, SeatedValue, WorldValue, and_then, asked_run, at_seat, called_run, fabric_run, quiet, sent, sent_by, shows, with_manager}
+use Rattle.schedule_run.specs.Commands.{after_arrival, after_command, after_commands, after_cut_line, after_deliver_line, after_drain_line, after_floor_line, after_give_up, after_giving_up, after_hand_up}
+use Rattle.schedule_run.specs.Commands.{after_handover_line}
+use Rattle.schedule_run.specs.Commands.{after_lose_line, after_merge_line, after_plug_line, after_poll_line, after_repeat_line, seat_at, after_manager_line, after_step, after_sweep_line, after_take, after_timeout_line}
+use Rattle.schedule_run.specs.Commands.{after_take_and_send, with_packet, world_of, after_write_line}
+use Rattle.schedule_run.specs.Flights.{serial_of}
+use Rattle.schedule_run.specs.Refusals.{refusal_line}
+use Rattle.schedule_run.specs.World.{Outcome, SeatedValue, WorldValue, and_then, after_ask, at_seat, after_manager_call, after_fabric_call, quiet, after_send, after_send_by, shows, with_manager}
 use Rattle.run_laws.specs.Accounts.{Account, Accounts, RunsAreAccountedFor, account_after, world_after, opened, told_at, told_by_command}
 use Rattle.run_laws.specs.Accounts.{told_by_commands, told_by_deliver, told_by_delivery, told_by_drain, told_by_merge, told_by_packet, told_by_step}
 use Rattle.run_laws.specs.Accounts.{with_more}
@@ -77,7 +77,7 @@ module _ (m : Manager) (bytes : List ℕ) where
   reply_leaves None = λ why e. refl
   reply_leaves (Some s) = answer_leaves s (judged s bytes)
 
-  over_leaves : (p : Pending) (answer : Option ℕ) (of : Purpose) → RefusalLeaves m (request_over m p answer of)
+  over_leaves : (p : Pending) (answer : Option ℕ) (of : Purpose) → RefusalLeaves m (after_request m p answer of)
   over_leaves p answer purpose.Poll = done_leaves m _
   over_leaves p answer purpose.Control = done_leaves m _
   over_leaves p answer (purpose.Step counts) = unless_leaves m _
@@ -95,16 +95,16 @@ module _ (m : Manager) (bytes : List ℕ) where
 -- what managers are asked for ----------------------------------------------------------------------------
 
 module _ (count : ℕ) (planning : Planning) where
-  sent_known : (w : WorldValue) (accounts : Accounts) (seat : ℕ) → AreKnown count planning w.managers accounts → AreKnown count planning (sent w seat).now.managers accounts
-  unfolding sent
+  sent_known : (w : WorldValue) (accounts : Accounts) (seat : ℕ) → AreKnown count planning w.managers accounts → AreKnown count planning (after_send w seat).now.managers accounts
+  unfolding after_send
   sent_known w accounts seat known =
-      at_seat_is w seat (sent_by w seat) (λ x. AreKnown count planning x.managers accounts) (λ _. known)
+      at_seat_is w seat (after_send_by w seat) (λ x. AreKnown count planning x.managers accounts) (λ _. known)
       (λ s there. kept count planning w accounts known seat s _ there (record { store = refl; planning = refl }))
 
-  asked_known : (next : WorldValue → Ran WorldValue) (w : WorldValue) (accounts : Accounts) (seat : ℕ) (fault : Manager → Option ManagerFault)
+  asked_known : (next : WorldValue → Outcome WorldValue) (w : WorldValue) (accounts : Accounts) (seat : ℕ) (fault : Manager → Option ManagerFault)
       (after : Manager → Manager) → ((x : WorldValue) → AreKnown count planning x.managers accounts → AreKnown count planning (next x).now.managers accounts)
       → ((m : Manager) → Keeps m (after m)) → AreKnown count planning w.managers accounts
-      → AreKnown count planning (asked_run next w seat fault after).now.managers accounts
+      → AreKnown count planning (after_ask next w seat fault after).now.managers accounts
   asked_known next w accounts seat fault after goes keeps known =
       at_seat_is w seat _ (λ x. AreKnown count planning x.managers accounts) (λ _. known)
       (λ s there. called_is next w seat s (fault s.manager) (after s.manager) (λ x. AreKnown count planning x.managers accounts) (λ why e. known)
@@ -112,67 +112,67 @@ module _ (count : ℕ) (planning : Planning) where
 
   sending_known : (w : WorldValue) (accounts : Accounts) (seat : ℕ) (fault : Manager → Option ManagerFault) (after : Manager → Manager)
       → ((m : Manager) → Keeps m (after m)) → AreKnown count planning w.managers accounts
-      → AreKnown count planning (asked_run (λ now. sent now seat) w seat fault after).now.managers accounts
+      → AreKnown count planning (after_ask (λ now. after_send now seat) w seat fault after).now.managers accounts
   sending_known w accounts seat fault after keeps known =
-      asked_known (λ now. sent now seat) w accounts seat fault after (λ x h. sent_known x accounts seat h) keeps known
+      asked_known (λ now. after_send now seat) w accounts seat fault after (λ x h. sent_known x accounts seat h) keeps known
 
   gave_up_known : (w : WorldValue) (accounts : Accounts) (seat transaction : ℕ) → AreKnown count planning w.managers accounts
-      → AreKnown count planning (gave_up_run w seat transaction).now.managers accounts
-  unfolding gave_up_run
+      → AreKnown count planning (after_give_up w seat transaction).now.managers accounts
+  unfolding after_give_up
   gave_up_known w accounts seat transaction known =
-      asked_known quiet w accounts seat (λ m. (manager.gave_up m transaction).fault) (λ m. (manager.gave_up m transaction).manager) (λ x h. h)
+      asked_known quiet w accounts seat (λ m. (manager.after_timeout m transaction).fault) (λ m. (manager.after_timeout m transaction).manager) (λ x h. h)
       (λ m. timeout_keeps m transaction) known
 
   all_given_known : (w : WorldValue) (accounts : Accounts) (seat : ℕ) (transactions : List ℕ) → AreKnown count planning w.managers accounts
-      → AreKnown count planning (given_up w seat transactions).now.managers accounts
+      → AreKnown count planning (after_giving_up w seat transactions).now.managers accounts
   all_given_known w accounts seat [] known = known
   all_given_known w accounts seat (transaction ∷ later) known =
-      all_given_known (gave_up_run w seat transaction).now accounts seat later (gave_up_known w accounts seat transaction known)
+      all_given_known (after_give_up w seat transaction).now accounts seat later (gave_up_known w accounts seat transaction known)
 
   timeout_known : (w : WorldValue) (accounts : Accounts) (seat : ℕ) → AreKnown count planning w.managers accounts
-      → AreKnown count planning (timeout_run w seat).now.managers accounts
-  unfolding timeout_run
+      → AreKnown count planning (after_timeout_line w seat).now.managers accounts
+  unfolding after_timeout_line
   timeout_known w accounts seat known =
       at_seat_is w seat _ (λ x. AreKnown count planning x.managers accounts) (λ _. known)
-      (λ s there. sent_known (given_up w seat (outstanding s.manager)).now accounts seat (all_given_known w accounts seat (outstanding s.manager) known))
+      (λ s there. sent_known (after_giving_up w seat (outstanding s.manager)).now accounts seat (all_given_known w accounts seat (outstanding s.manager) known))
 
   merge_known : (w : WorldValue) (accounts : Accounts) (seat other : ℕ) → AreKnown count planning w.managers accounts
-      → AreKnown count planning (merge_run w seat other).now.managers (told_by_merge w accounts seat other)
-  unfolding merge_run
+      → AreKnown count planning (after_merge_line w seat other).now.managers (told_by_merge w accounts seat other)
+  unfolding after_merge_line
   merge_known w accounts seat other known = by_other (slice_get w.managers other) (λ o e. known.knows other o e)
     where
       by_other : (o : Option SeatedValue) → ((x : SeatedValue) → o ≡ Some x → x.manager.store ≡ view_at (accounts other).floor (accounts other).told)
           → AreKnown count planning
-          (at_seat w seat (λ s. option_map_or (λ o. quiet (with_manager w seat s (merged s.manager o.manager.store))) o (quiet w))).now.managers
+          (at_seat w seat (λ s. option_map_or (λ o. quiet (with_manager w seat s (after_merge s.manager o.manager.store))) o (quiet w))).now.managers
           (option_map_or (λ o. with_more accounts seat (accounts other)) o accounts)
       by_other None h = at_seat_is w seat _ (λ x. AreKnown count planning x.managers accounts) (λ _. known) (λ s there. known)
       by_other (Some o) h =
           at_seat_is w seat _ (λ x. AreKnown count planning x.managers (with_more accounts seat (accounts other)))
           (nobody count planning w.managers accounts seat (accounts other) known)
-          (λ s there. grown count planning w accounts known seat s (merged s.manager o.manager.store) (accounts other) there refl (ap (merge s.manager.store) (h o refl)))
+          (λ s there. grown count planning w accounts known seat s (after_merge s.manager o.manager.store) (accounts other) there refl (ap (merge s.manager.store) (h o refl)))
 
   floor_known : (w : WorldValue) (accounts : Accounts) (seat floor : ℕ) → AreKnown count planning w.managers accounts
-      → AreKnown count planning (floor_run w seat floor).now.managers (with_more accounts seat (record { told = []; floor = floor }))
-  unfolding floor_run
+      → AreKnown count planning (after_floor_line w seat floor).now.managers (with_more accounts seat (record { told = []; floor = floor }))
+  unfolding after_floor_line
   floor_known w accounts seat floor known =
       let more : Account = record { told = []; floor = floor } in
       at_seat_is w seat _ (λ x. AreKnown count planning x.managers (with_more accounts seat more)) (nobody count planning w.managers accounts seat more known)
-      (λ s there. grown count planning w accounts known seat s (floor_raised s.manager floor) more there refl (raised_is_merge s.manager.store floor))
+      (λ s there. grown count planning w accounts known seat s (after_raise_floor s.manager floor) more there refl (raised_is_merge s.manager.store floor))
 
   -- packets ------------------------------------------------------------------------------------------------
 
   taken_known : (w : WorldValue) (accounts : Accounts) (seat : ℕ) (packet : Packet) → AreKnown count planning w.managers accounts
-      → AreKnown count planning (taken_by w seat packet).now.managers (told_by_packet w accounts packet seat)
+      → AreKnown count planning (after_take w seat packet).now.managers (told_by_packet w accounts packet seat)
   taken_known w accounts seat packet known = by_seat (slice_get w.managers seat) (λ s e. e)
     where
       by_call : (s : SeatedValue) → slice_get w.managers seat ≡ Some s
           → AreKnown count planning
-          (called_run quiet w seat s (took s.manager packet.bytes (Some packet.slid)).fault (took s.manager packet.bytes
+          (after_manager_call quiet w seat s (after_packet s.manager packet.bytes (Some packet.slid)).fault (after_packet s.manager packet.bytes
           (Some packet.slid)).manager).now.managers
-          (with_more accounts seat (record { told = told_in s.manager (calls.Packet packet.bytes (Some packet.slid)); floor = 1 }))
+          (with_more accounts seat (record { told = sightings_of_call s.manager (calls.Packet packet.bytes (Some packet.slid)); floor = 1 }))
       by_call s there =
-          let after = took s.manager packet.bytes (Some packet.slid) in
-          let told : Account = record { told = told_in s.manager (calls.Packet packet.bytes (Some packet.slid)); floor = 1 } in
+          let after = after_packet s.manager packet.bytes (Some packet.slid) in
+          let told : Account = record { told = sightings_of_call s.manager (calls.Packet packet.bytes (Some packet.slid)); floor = 1 } in
           let takes = takes_call s.manager (calls.Packet packet.bytes (Some packet.slid)) in
           called_is quiet w seat s after.fault after.manager (λ x. AreKnown count planning x.managers (with_more accounts seat told))
           (λ why e. repeated count planning w accounts known seat s told there
@@ -182,10 +182,10 @@ module _ (count : ℕ) (planning : Planning) where
       by_seat : (o : Option SeatedValue) → ((s : SeatedValue) → o ≡ Some s → slice_get w.managers seat ≡ Some s)
           → AreKnown count planning
           (option_map_or
-          (λ s. called_run quiet w seat s (took s.manager packet.bytes (Some packet.slid)).fault (took s.manager packet.bytes (Some packet.slid)).manager)
+          (λ s. after_manager_call quiet w seat s (after_packet s.manager packet.bytes (Some packet.slid)).fault (after_packet s.manager packet.bytes (Some packet.slid)).manager)
           o (quiet w)).now.managers
           (option_map_or (λ s. with_more accounts seat (record {
-            told = told_in s.manager (calls.Packet packet.bytes
+            told = sightings_of_call s.manager (calls.Packet packet.bytes
                 (Some packet.slid));
             floor = 1;
           })) o accounts)
@@ -193,23 +193,23 @@ module _ (count : ℕ) (planning : Planning) where
       by_seat (Some s) there = by_call s (there s refl)
 
   took_known : (w : WorldValue) (accounts : Accounts) (seat : ℕ) (packet : Packet) → AreKnown count planning w.managers accounts
-      → AreKnown count planning (took_run w seat packet).now.managers (told_by_packet w accounts packet seat)
-  unfolding took_run
+      → AreKnown count planning (after_take_and_send w seat packet).now.managers (told_by_packet w accounts packet seat)
+  unfolding after_take_and_send
   took_known w accounts seat packet known =
-      sent_known (taken_by w seat packet).now (told_by_packet w accounts packet seat) seat (taken_known w accounts seat packet known)
+      sent_known (after_take w seat packet).now (told_by_packet w accounts packet seat) seat (taken_known w accounts seat packet known)
 
   handed_known : (w : WorldValue) (accounts : Accounts) (p : NodePort) (packet : Packet) → AreKnown count planning w.managers accounts
-      → AreKnown count planning (handed_up w p packet).now.managers (told_at w accounts p packet)
-  unfolding handed_up
+      → AreKnown count planning (after_hand_up w p packet).now.managers (told_at w accounts p packet)
+  unfolding after_hand_up
   handed_known w accounts p packet known = by_seat (seat_at w p)
     where
-      by_seat : (o : Option ℕ) → AreKnown count planning (option_map_or (λ seat. took_run w seat packet) o (quiet w)).now.managers
+      by_seat : (o : Option ℕ) → AreKnown count planning (option_map_or (λ seat. after_take_and_send w seat packet) o (quiet w)).now.managers
           (option_map_or (told_by_packet w accounts packet) o accounts)
       by_seat None = known
       by_seat (Some seat) = took_known w accounts seat packet known
 
   came_known : (w : WorldValue) (accounts : Accounts) (result : Result Delivered FabricFault) → AreKnown count planning w.managers accounts
-      → AreKnown count planning (came_up w result).now.managers (told_by_delivery w accounts result)
+      → AreKnown count planning (after_arrival w result).now.managers (told_by_delivery w accounts result)
   came_known w accounts (Ok (delivered_is.ToManager p packet)) known = handed_known w accounts p packet known
   came_known w accounts (Ok (delivered_is.Moved serial)) known = known
   came_known w accounts (Ok (delivered_is.Answered serial)) known = known
@@ -217,38 +217,38 @@ module _ (count : ℕ) (planning : Planning) where
   came_known w accounts (Err fault) known = known
 
   step_known : (w : WorldValue) (accounts : Accounts) (serial : ℕ) → AreKnown count planning w.managers accounts
-      → AreKnown count planning (step_run w serial).now.managers (told_by_step w accounts serial)
-  unfolding step_run
+      → AreKnown count planning (after_step w serial).now.managers (told_by_step w accounts serial)
+  unfolding after_step
   step_known w accounts serial known =
-      let called = delivered w.fabric serial in
-      came_known (fabric_run w called).now accounts called.result (record { many = known.many; plannings = known.plannings; knows = known.knows })
+      let called = after_deliver w.fabric serial in
+      came_known (after_fabric_call w called).now accounts called.result (record { many = known.many; plannings = known.plannings; knows = known.knows })
 
   deliver_known : (w : WorldValue) (accounts : Accounts) (which : Which) → AreKnown count planning w.managers accounts
-      → AreKnown count planning (deliver_run w which).now.managers (told_by_deliver w accounts which)
-  unfolding deliver_run
+      → AreKnown count planning (after_deliver_line w which).now.managers (told_by_deliver w accounts which)
+  unfolding after_deliver_line
   deliver_known w accounts which known = by_serial (serial_of w.fabric.flights which)
     where
-      by_serial : (o : Option ℕ) → AreKnown count planning (option_map_or (step_run w) o (shows (refusal_line (fabric_fault_name NoSuchPacket)) w)).now.managers
+      by_serial : (o : Option ℕ) → AreKnown count planning (option_map_or (after_step w) o (shows (refusal_line (fabric_fault_name NoSuchPacket)) w)).now.managers
           (option_map_or (told_by_step w accounts) o accounts)
       by_serial None = known
       by_serial (Some serial) = step_known w accounts serial known
 
   drain_known : (most : ℕ) (w : WorldValue) (accounts : Accounts) → AreKnown count planning w.managers accounts
-      → AreKnown count planning (drain_run w most).now.managers (told_by_drain w accounts most)
+      → AreKnown count planning (after_drain_line w most).now.managers (told_by_drain w accounts most)
   drain_known zero w accounts known = known
   drain_known (suc most) w accounts known = by_flight (slice_get w.fabric.flights 0) (drain_known most)
     where
       by_flight : (o : Option Flight)
           → ((x : WorldValue) (accounts' : Accounts) → AreKnown count planning x.managers accounts'
-          → AreKnown count planning (drain_run x most).now.managers (told_by_drain x accounts' most))
-          → AreKnown count planning (option_map_or (λ flight. and_then (step_run w flight.serial) (λ now. drain_run now most)) o (quiet w)).now.managers
-          (option_map_or (λ flight. told_by_drain (step_run w flight.serial).now (told_by_step w accounts flight.serial) most) o accounts)
+          → AreKnown count planning (after_drain_line x most).now.managers (told_by_drain x accounts' most))
+          → AreKnown count planning (option_map_or (λ flight. and_then (after_step w flight.serial) (λ now. after_drain_line now most)) o (quiet w)).now.managers
+          (option_map_or (λ flight. told_by_drain (after_step w flight.serial).now (told_by_step w accounts flight.serial) most) o accounts)
       by_flight None later = known
       by_flight (Some flight) later =
-          later (step_run w flight.serial).now (told_by_step w accounts flight.serial) (step_known w accounts flight.serial known)
+          later (after_step w flight.serial).now (told_by_step w accounts flight.serial) (step_known w accounts flight.serial known)
 
   -- a packet that is meant, of which managers learn nothing
-  which_known : (w : WorldValue) (accounts : Accounts) (which : Which) (run : ℕ → Ran WorldValue) → AreKnown count planning w.managers accounts
+  which_known : (w : WorldValue) (accounts : Accounts) (which : Which) (run : ℕ → Outcome WorldValue) → AreKnown count planning w.managers accounts
       → ((serial : ℕ) → (run serial).now.managers ≡ w.managers) → AreKnown count planning (with_packet w which run).now.managers accounts
   which_known w accounts which run known same = by_serial (serial_of w.fabric.flights which)
     where
@@ -259,15 +259,15 @@ module _ (count : ℕ) (planning : Planning) where
   -- all lines ----------------------------------------------------------------------------------------------
 
   pub command_known : (nodes : List Node) (w : WorldValue) (accounts : Accounts) (command : Command) → AreKnown count planning w.managers accounts
-      → AreKnown count planning (command_run nodes w command).now.managers (told_by_command w accounts command)
-  unfolding seat_run sweep_run write_run handover_run poll_run lose_run repeat_run cut_run plug_run
+      → AreKnown count planning (after_command nodes w command).now.managers (told_by_command w accounts command)
+  unfolding after_manager_line after_sweep_line after_write_line after_handover_line after_poll_line after_lose_line after_repeat_line after_cut_line after_plug_line
   command_known nodes w accounts (command.Manager seat) known =
       at_seat_is w seat _ (λ x. AreKnown count planning x.managers accounts) (λ _. known) (λ s there. known)
-  command_known nodes w accounts (command.Sweep seat) known = sending_known w accounts seat begin_fault sweep_begun (λ m. record { store = refl; planning = refl }) known
-  command_known nodes w accounts (command.Write seat) known = sending_known w accounts seat writing_fault writing_begun (λ m. record { store = refl; planning = refl }) known
+  command_known nodes w accounts (command.Sweep seat) known = sending_known w accounts seat begin_fault after_begin_sweep (λ m. record { store = refl; planning = refl }) known
+  command_known nodes w accounts (command.Write seat) known = sending_known w accounts seat writing_fault after_write_steps (λ m. record { store = refl; planning = refl }) known
   command_known nodes w accounts (command.Handover seat) known =
-      sending_known w accounts seat handover_fault handed_over (λ m. handing_keeps m (heir_lid m)) known
-  command_known nodes w accounts (command.Poll seat lid) known = sending_known w accounts seat poll_fault (λ m. poll_sent m lid) (λ m. record { store = refl; planning = refl }) known
+      sending_known w accounts seat handover_fault after_handover (λ m. handing_keeps m (successor_lid m)) known
+  command_known nodes w accounts (command.Poll seat lid) known = sending_known w accounts seat poll_fault (λ m. after_poll m lid) (λ m. record { store = refl; planning = refl }) known
   command_known nodes w accounts (command.Merge seat other) known = merge_known w accounts seat other known
   command_known nodes w accounts (command.Floor seat floor) known = floor_known w accounts seat floor known
   command_known nodes w accounts (command.Deliver which) known = deliver_known w accounts which known
@@ -286,10 +286,10 @@ module _ (count : ℕ) (planning : Planning) where
   command_known nodes w accounts command.Flight known = known
 
   commands_known : (nodes : List Node) (w : WorldValue) (accounts : Accounts) (commands : List Command) → AreKnown count planning w.managers accounts
-      → AreKnown count planning (commands_run nodes w commands).now.managers (told_by_commands nodes w accounts commands)
+      → AreKnown count planning (after_commands nodes w commands).now.managers (told_by_commands nodes w accounts commands)
   commands_known nodes w accounts [] known = known
   commands_known nodes w accounts (command ∷ later) known =
-      commands_known nodes (command_run nodes w command).now (told_by_command w accounts command) later (command_known nodes w accounts command known)
+      commands_known nodes (after_command nodes w command).now (told_by_command w accounts command) later (command_known nodes w accounts command known)
 
 pub all_known : (planning : Planning) (topology : Layout) (script : Script) → AreKnown (length script.seats) planning (world_after planning topology script).managers (account_after planning topology script)
 all_known planning topology script =

@@ -4,15 +4,15 @@ use Rattle.std.proofs.lemmas.List.{append_assoc, append-nil}
 use Rattle.std.proofs.lemmas.List.Elements.{All-append, All-cons, All-nil}
 use Rattle.std.specs.Prelude.{All, Option, Some, None, Result, Ok, Err, is_none, not, nat_lt, position, slice_get}
 use Rattle.std.specs.Option.{option_map_or}
-use Rattle.smp_bytes.specs.Cables.{is_same_port}
-use Rattle.smp_bytes.specs.declared.cable.NodePort.{NodePort}
-use Rattle.smp_bytes.proofs.Cabled.{same_port-is, same_port-refl}
+use Rattle.fabric_model.specs.Cables.{is_same_port}
+use Rattle.fabric_model.specs.declared.cable.NodePort.{NodePort}
+use Rattle.fabric_model.proofs.Cabled.{same_port-is, same_port-refl}
 use Rattle.topo_file.specs.declared.node.Node.{Node}
 use Rattle.schedule_file.specs.declared.command.Command.{Command}
 use Rattle.schedule_file.specs.declared.command.Command.TheVariants as command
 use Rattle.schedule_file.specs.declared.command.Which.{Which}
-use Rattle.fabric_sim.specs.Changes.{lost, repeated}
-use Rattle.fabric_sim.specs.Delivery.{delivered}
+use Rattle.fabric_sim.specs.Changes.{after_lose, after_repeat}
+use Rattle.fabric_sim.specs.Delivery.{after_deliver}
 use Rattle.fabric_sim.specs.FabricFault.{fabric_fault_name}
 use Rattle.fabric_sim.specs.Simulation.{Simulation, is_seat_at}
 use Rattle.fabric_sim.specs.declared.delivered.Delivered.{Delivered}
@@ -21,24 +21,24 @@ use Rattle.fabric_sim.specs.declared.fault.FabricFault.{FabricFault}
 use Rattle.fabric_sim.specs.declared.fault.FabricFault.TheVariants.{NoSuchPacket}
 use Rattle.fabric_sim.specs.declared.flight.Flight.{Flight}
 use Rattle.lft_blocks.specs.Plan.{PlanValue}
-use Rattle.sm_manager.specs.Election.{handed_over, handover_fault, poll_fault, poll_sent}
+use Rattle.sm_manager.specs.Election.{after_handover, handover_fault, poll_fault, after_poll}
 use Rattle.sm_manager.specs.Manager.{Manager, outstanding}
-use Rattle.sm_manager.specs.Packets.{gave_up, took}
+use Rattle.sm_manager.specs.Packets.{after_timeout, after_packet}
 use Rattle.sm_manager.specs.declared.fault.ManagerFault.{ManagerFault}
 use Rattle.sm_manager.specs.declared.outgoing.Outgoing.{Outgoing}
-use Rattle.sm_laws.specs.Scene as around
-use Rattle.sm_laws.specs.Scene.{Handed, Scene, handed_by}
+use Rattle.manager_laws.specs.Scene as around
+use Rattle.manager_laws.specs.Scene.{Handed, Scene, handed_by}
 use Rattle.sm_manager.specs.Calls as calls
-use Rattle.written_laws.specs.Managing.{Around, calling, hearing, sending, CanBe, HandOver, Hear, Managing, ManagerEvent, Poll, Send, Take, TimeOut}
-use Rattle.written_laws.specs.Managing.{after_manager_event, after_manager_events, packet_of}
-use Rattle.written_laws.specs.Pings.{AreNoSweeps, BeginsNoSweep}
-use Rattle.written_laws.specs.Sets.{OwnSets}
-use Rattle.written_laws.specs.Written.{AllKeep, Keeps}
-use Rattle.sm_run.specs.Commands.{came_up, command_run, commands_run, deliver_run, drain_run, gave_up_run, given_up, handed_up, handover_run}
-use Rattle.sm_run.specs.Commands.{lose_run, poll_run, repeat_run, seat_at, step_run, timeout_run, took_run}
-use Rattle.sm_run.specs.Flights.{packet_out, serial_of}
-use Rattle.sm_run.specs.Refusals.{refusal_line}
-use Rattle.sm_run.specs.World.{SeatedValue, WorldValue, and_then, asked_run, called_run, fabric_run, quiet, sent, sent_from, shows}
+use Rattle.manager_laws.specs.Managing.{Around, calling, hearing, sending, CanBe, HandOver, Hear, Managing, ManagerEvent, Poll, Send, Take, TimeOut}
+use Rattle.manager_laws.specs.Managing.{after_manager_event, after_manager_events, packet_of}
+use Rattle.manager_laws.specs.WritingPings.{AreNoSweeps, BeginsNoSweep}
+use Rattle.manager_laws.specs.Sets.{OwnSets}
+use Rattle.manager_laws.specs.Written.{AllKeep, Keeps}
+use Rattle.schedule_run.specs.Commands.{after_arrival, after_command, after_commands, after_deliver_line, after_drain_line, after_give_up, after_giving_up, after_hand_up, after_handover_line}
+use Rattle.schedule_run.specs.Commands.{after_lose_line, after_poll_line, after_repeat_line, seat_at, after_step, after_timeout_line, after_take_and_send}
+use Rattle.schedule_run.specs.Flights.{packet_out, serial_of}
+use Rattle.schedule_run.specs.Refusals.{refusal_line}
+use Rattle.schedule_run.specs.World.{SeatedValue, WorldValue, and_then, after_ask, after_manager_call, after_fabric_call, quiet, after_send, after_inject_all, shows}
 use Rattle.run_laws.specs.Alone.{AreLines, IsLine, KeepsLine, KeepsLines, KeepsStep, KeepsSteps}
 
 abbrev pub managing_of : Scene → NodePort → Manager → List Outgoing → Managing
@@ -54,10 +54,10 @@ one_more : {X : Type 0} (xs : List X) (x : X) → length (xs ++ x ∷ []) ≡ su
 one_more [] x = refl
 one_more (y ∷ xs) x = ap suc (one_more xs x)
 
--- the place in a list of one
-place_in_one : {X : Type 0} (p : X → Bool) (x : X) (b : Bool) → p x ≡ b → position p (x ∷ []) ≡ cond b (Some 0) None
-place_in_one p x true e = ap (λ t. cond (nat_lt (cond (not t) 1 0) 1) (Some (cond (not t) 1 0)) None) e
-place_in_one p x false e = ap (λ t. cond (nat_lt (cond (not t) 1 0) 1) (Some (cond (not t) 1 0)) None) e
+-- the index in a list of one
+index_in_one : {X : Type 0} (p : X → Bool) (x : X) (b : Bool) → p x ≡ b → position p (x ∷ []) ≡ cond b (Some 0) None
+index_in_one p x true e = ap (λ t. cond (nat_lt (cond (not t) 1 0) 1) (Some (cond (not t) 1 0)) None) e
+index_in_one p x false e = ap (λ t. cond (nat_lt (cond (not t) 1 0) 1) (Some (cond (not t) 1 0)) None) e
 
 -- worlds of one manager --------------------------------------------------------------------------------------
 
@@ -136,7 +136,7 @@ module _ (plan : PlanValue) (own : OwnSets) (name : List ℕ) where
       (record {
         scene = record scene {
           fabric =
-              (sent_from scene.fabric seat outs).now;
+              (after_inject_all scene.fabric seat outs).now;
         };
         seat = seat;
         manager = record manager { outgoing = [] };
@@ -149,7 +149,7 @@ module _ (plan : PlanValue) (own : OwnSets) (name : List ℕ) where
       ap (λ x. after_manager_events (sends (suc n) later) (sending taken x)) (ap (slice_get (out ++ o ∷ [])) e ∙ last_is out o)
       ∙ ap (λ p. after_manager_events (sends (suc n) later) (record taken { scene = around.sent_from scene seat p })) (packets_alike o o.to refl)
       ∙ sent_then (around.sent_from scene seat (packet_out o)) seat manager (out ++ o ∷ []) (suc n) later (ap suc e ∙ sym (one_more out o))
-      ∙ ap (λ xs. managing_of (record scene { fabric = (sent_from scene.fabric seat (o ∷ later)).now }) seat (record manager { outgoing = [] }) xs)
+      ∙ ap (λ xs. managing_of (record scene { fabric = (after_inject_all scene.fabric seat (o ∷ later)).now }) seat (record manager { outgoing = [] }) xs)
       (append_assoc out (o ∷ []) later)
 
   sends_can : (seat : NodePort) (n : ℕ) (outs : List Outgoing) → All (CanBe seat) (sends n outs)
@@ -165,8 +165,8 @@ module _ (plan : PlanValue) (own : OwnSets) (name : List ℕ) where
   sends_keep n [] m = tt
   sends_keep n (o ∷ later) m = (tt, (tt, sends_keep (suc n) later (after_manager_event (after_manager_event m Take) (Send n))))
 
-  pub sends_live : (m : Managing) (premise : Type 0) → Lives m premise (sent (as_world name m) 0).now
-  unfolding sent
+  pub sends_live : (m : Managing) (premise : Type 0) → Lives m premise (after_send (as_world name m) 0).now
+  unfolding after_send
   sends_live m premise =
       let outs = m.manager.outgoing in
       let same = sent_then m.scene m.seat m.manager m.out (length m.out) outs refl in
@@ -184,80 +184,80 @@ module _ (plan : PlanValue) (own : OwnSets) (name : List ℕ) where
   asked_lives : (m : Managing) (premise : Type 0) (event : ManagerEvent) (fault : Manager → Option ManagerFault) (after : Manager → Manager)
       → after_manager_event m event ≡ record m { manager = cond (is_none (fault m.manager)) (after m.manager) m.manager }
       → CanBe m.seat event → BeginsNoSweep m event → Keeps plan own m event
-      → Lives m premise (asked_run (λ now. sent now 0) (as_world name m) 0 fault after).now
+      → Lives m premise (after_ask (λ now. after_send now 0) (as_world name m) 0 fault after).now
   asked_lives m premise event fault after calls can no_sweep keep = by_fault (fault m.manager) refl
     where
       by_fault : (o : Option ManagerFault) → fault m.manager ≡ o
-          → Lives m premise (called_run (λ now. sent now 0) (as_world name m) 0 (seated_as name m) o (after m.manager)).now
+          → Lives m premise (after_manager_call (λ now. after_send now 0) (as_world name m) 0 (seated_as name m) o (after m.manager)).now
       by_fault (Some why) e = rests m premise
       by_fault None e =
           let then : Managing = record m { manager = after m.manager } in
           let now : after_manager_event m event ≡ then =
           calls ∙ ap (λ (f : Option ManagerFault). managing_of m.scene m.seat (cond (is_none f) (after m.manager) m.manager) m.out) e in
-          goes_on m premise premise premise (as_world name then) (sent (as_world name then) 0).now
+          goes_on m premise premise premise (as_world name then) (after_send (as_world name then) 0).now
           (happens m premise event then now refl can no_sweep (λ _. keep))
-          (subst (λ (x : Managing). Lives (after_manager_event m event) premise (sent (as_world name x) 0).now) now
+          (subst (λ (x : Managing). Lives (after_manager_event m event) premise (after_send (as_world name x) 0).now) now
           (sends_live (after_manager_event m event) premise))
           (λ h. h) (λ h. h)
 
-  gave_up_lives : (m : Managing) (premise : Type 0) (transaction : ℕ) → Lives m premise (gave_up_run (as_world name m) 0 transaction).now
-  unfolding gave_up_run
-  gave_up_lives m premise transaction = by_fault (gave_up m.manager transaction).fault
+  gave_up_lives : (m : Managing) (premise : Type 0) (transaction : ℕ) → Lives m premise (after_give_up (as_world name m) 0 transaction).now
+  unfolding after_give_up
+  gave_up_lives m premise transaction = by_fault (after_timeout m.manager transaction).fault
     where
       by_fault : (o : Option ManagerFault)
-          → Lives m premise (called_run quiet (as_world name m) 0 (seated_as name m) o (gave_up m.manager transaction).manager).now
+          → Lives m premise (after_manager_call quiet (as_world name m) 0 (seated_as name m) o (after_timeout m.manager transaction).manager).now
       by_fault (Some why) = rests m premise
-      by_fault None = happens m premise (TimeOut transaction) (record m { manager = (gave_up m.manager transaction).manager }) refl refl tt tt (λ _. tt)
+      by_fault None = happens m premise (TimeOut transaction) (record m { manager = (after_timeout m.manager transaction).manager }) refl refl tt tt (λ _. tt)
 
-  all_given_live : (m : Managing) (premise : Type 0) (transactions : List ℕ) → Lives m premise (given_up (as_world name m) 0 transactions).now
+  all_given_live : (m : Managing) (premise : Type 0) (transactions : List ℕ) → Lives m premise (after_giving_up (as_world name m) 0 transactions).now
   all_given_live m premise [] = rests m premise
   all_given_live m premise (transaction ∷ later) =
       let l = gave_up_lives m premise transaction in
       let then = after_manager_events l.events m in
-      goes_on m premise premise premise (gave_up_run (as_world name m) 0 transaction).now _ l
-      (subst (λ (x : WorldValue). Lives then premise (given_up x 0 later).now) l.ends (all_given_live then premise later)) (λ h. h) (λ h. h)
+      goes_on m premise premise premise (after_give_up (as_world name m) 0 transaction).now _ l
+      (subst (λ (x : WorldValue). Lives then premise (after_giving_up x 0 later).now) l.ends (all_given_live then premise later)) (λ h. h) (λ h. h)
 
-  timeout_lives : (m : Managing) (premise : Type 0) (seat : ℕ) → Lives m premise (timeout_run (as_world name m) seat).now
-  unfolding timeout_run
+  timeout_lives : (m : Managing) (premise : Type 0) (seat : ℕ) → Lives m premise (after_timeout_line (as_world name m) seat).now
+  unfolding after_timeout_line
   timeout_lives m premise zero =
       let l = all_given_live m premise (outstanding m.manager) in
       let then = after_manager_events l.events m in
-      goes_on m premise premise premise (given_up (as_world name m) 0 (outstanding m.manager)).now _ l
-      (subst (λ (x : WorldValue). Lives then premise (sent x 0).now) l.ends (sends_live then premise)) (λ h. h) (λ h. h)
+      goes_on m premise premise premise (after_giving_up (as_world name m) 0 (outstanding m.manager)).now _ l
+      (subst (λ (x : WorldValue). Lives then premise (after_send x 0).now) l.ends (sends_live then premise)) (λ h. h) (λ h. h)
   timeout_lives m premise (suc seat) = rests m premise
 
   -- packets ----------------------------------------------------------------------------------------------------
 
   took_lives : (m : Managing) (premise : Type 0) (which : ℕ) (h : Handed) → slice_get m.scene.handed which ≡ Some h → is_same_port h.at m.seat ≡ true
-      → Lives m premise (took_run (as_world name m) 0 h.packet).now
-  unfolding took_run
+      → Lives m premise (after_take_and_send (as_world name m) 0 h.packet).now
+  unfolding after_take_and_send
   took_lives m premise which h there same =
-      let l = by_fault (took m.manager h.packet.bytes (Some h.packet.slid)).fault in
+      let l = by_fault (after_packet m.manager h.packet.bytes (Some h.packet.slid)).fault in
       let then = after_manager_events l.events m in
-      goes_on m premise premise premise _ _ l (subst (λ (x : WorldValue). Lives then premise (sent x 0).now) l.ends (sends_live then premise)) (λ h. h) (λ h. h)
+      goes_on m premise premise premise _ _ l (subst (λ (x : WorldValue). Lives then premise (after_send x 0).now) l.ends (sends_live then premise)) (λ h. h) (λ h. h)
     where
-      heard : after_manager_event m (Hear which) ≡ record m { manager = (took m.manager h.packet.bytes (Some h.packet.slid)).manager }
+      heard : after_manager_event m (Hear which) ≡ record m { manager = (after_packet m.manager h.packet.bytes (Some h.packet.slid)).manager }
       heard =
           ap (hearing m) there
           ∙ ap (λ b. cond b (calling m (calls.Packet h.packet.bytes (Some h.packet.slid))) m) same
 
       by_fault : (o : Option ManagerFault)
           → Lives m premise
-          (called_run quiet (as_world name m) 0 (seated_as name m) o (took m.manager h.packet.bytes (Some h.packet.slid)).manager).now
+          (after_manager_call quiet (as_world name m) 0 (seated_as name m) o (after_packet m.manager h.packet.bytes (Some h.packet.slid)).manager).now
       by_fault (Some why) = rests m premise
       by_fault None = happens m premise (Hear which) (record m {
-        manager = (took m.manager h.packet.bytes
+        manager = (after_packet m.manager h.packet.bytes
             (Some h.packet.slid)).manager;
       }) heard refl tt tt (λ _. tt)
 
   -- a packet was handed up at a port
   handed_lives : (m : Managing) (premise : Type 0) (before : List Handed) (h : Handed) → m.scene.handed ≡ before ++ h ∷ []
-      → Lives m premise (handed_up (as_world name m) h.at h.packet).now
-  unfolding handed_up
+      → Lives m premise (after_hand_up (as_world name m) h.at h.packet).now
+  unfolding after_hand_up
   handed_lives m premise before h handed = by_tests (is_seat_at m.scene.fabric h.at) (is_same_port m.seat h.at) refl refl
     where
       by_seat : (b c : Bool) → is_same_port m.seat h.at ≡ c
-          → Lives m premise (option_map_or (λ seat. took_run (as_world name m) seat h.packet) (cond b (cond c (Some 0) None) None) (quiet
+          → Lives m premise (option_map_or (λ seat. after_take_and_send (as_world name m) seat h.packet) (cond b (cond c (Some 0) None) None) (quiet
           (as_world name m))).now
       by_seat true true same =
           took_lives m premise (length before) h (ap (λ xs. slice_get xs (length before)) handed ∙ last_is before h)
@@ -266,27 +266,27 @@ module _ (plan : PlanValue) (own : OwnSets) (name : List ℕ) where
       by_seat false c same = rests m premise
 
       by_tests : (b c : Bool) → is_seat_at m.scene.fabric h.at ≡ b → is_same_port m.seat h.at ≡ c
-          → Lives m premise (option_map_or (λ seat. took_run (as_world name m) seat h.packet) (seat_at (as_world name m) h.at) (quiet (as_world name m))).now
+          → Lives m premise (option_map_or (λ seat. after_take_and_send (as_world name m) seat h.packet) (seat_at (as_world name m) h.at) (quiet (as_world name m))).now
       by_tests b c sits same =
           let at : seat_at (as_world name m) h.at ≡ cond b (cond c (Some 0) None) None =
           ap (λ t. cond t (position (λ (s : SeatedValue). is_same_port s.at h.at) (seated_as name m ∷ [])) None) sits
-          ∙ ap (λ o. cond b o None) (place_in_one (λ (s : SeatedValue). is_same_port s.at h.at) (seated_as name m) c same) in
-          subst (λ (o : Option ℕ). Lives m premise (option_map_or (λ seat. took_run (as_world name m) seat h.packet) o (quiet (as_world name m))).now)
+          ∙ ap (λ o. cond b o None) (index_in_one (λ (s : SeatedValue). is_same_port s.at h.at) (seated_as name m) c same) in
+          subst (λ (o : Option ℕ). Lives m premise (option_map_or (λ seat. after_take_and_send (as_world name m) seat h.packet) o (quiet (as_world name m))).now)
           (sym at) (by_seat b c same)
 
   step_lives : (m : Managing) (premise : Type 0) (serial : ℕ) → (premise → KeepsStep plan own m.scene.fabric (Some serial))
-      → Lives m premise (step_run (as_world name m) serial).now
-  unfolding step_run
+      → Lives m premise (after_step (as_world name m) serial).now
+  unfolding after_step
   step_lives m premise serial keeps =
-      let called = delivered m.scene.fabric serial in
+      let called = after_deliver m.scene.fabric serial in
       let then = after_manager_event m (Around (around.Deliver serial)) in
-      goes_on m premise premise premise (as_world name then) (came_up (as_world name then) called.result).now
+      goes_on m premise premise premise (as_world name then) (after_arrival (as_world name then) called.result).now
       (happens m premise (Around (around.Deliver serial)) then refl refl (tt, tt) tt keeps)
       (came called.result called.fabric) (λ h. h) (λ h. h)
     where
       came : (r : Result Delivered FabricFault) (fabric : Simulation)
           → Lives (record m { scene = record { fabric = fabric; handed = m.scene.handed ++ handed_by r } }) premise
-          (came_up (as_world name (record m { scene = record { fabric = fabric; handed = m.scene.handed ++ handed_by r } })) r).now
+          (after_arrival (as_world name (record m { scene = record { fabric = fabric; handed = m.scene.handed ++ handed_by r } })) r).now
       came (Ok (delivered_is.ToManager p packet)) fabric =
           handed_lives
           (record m { scene = record { fabric = fabric; handed = m.scene.handed ++ record { at = p; packet = packet } ∷ [] } }) premise m.scene.handed
@@ -297,54 +297,54 @@ module _ (plan : PlanValue) (own : OwnSets) (name : List ℕ) where
       came (Err fault) fabric = rests _ premise
 
   deliver_lives : (m : Managing) (which : Which)
-      → Lives m (KeepsStep plan own m.scene.fabric (serial_of m.scene.fabric.flights which)) (deliver_run (as_world name m) which).now
-  unfolding deliver_run
+      → Lives m (KeepsStep plan own m.scene.fabric (serial_of m.scene.fabric.flights which)) (after_deliver_line (as_world name m) which).now
+  unfolding after_deliver_line
   deliver_lives m which = by_serial (serial_of m.scene.fabric.flights which)
     where
       by_serial : (o : Option ℕ) → Lives m (KeepsStep plan own m.scene.fabric o)
-          (option_map_or (step_run (as_world name m)) o (shows (refusal_line (fabric_fault_name NoSuchPacket)) (as_world name m))).now
+          (option_map_or (after_step (as_world name m)) o (shows (refusal_line (fabric_fault_name NoSuchPacket)) (as_world name m))).now
       by_serial None = rests m _
       by_serial (Some serial) = step_lives m _ serial (λ h. h)
 
-  drain_lives : (most : ℕ) (m : Managing) → Lives m (KeepsSteps plan own (as_world name m) most) (drain_run (as_world name m) most).now
+  drain_lives : (most : ℕ) (m : Managing) → Lives m (KeepsSteps plan own (as_world name m) most) (after_drain_line (as_world name m) most).now
   drain_lives zero m = rests m _
   drain_lives (suc most) m = by_flight (slice_get m.scene.fabric.flights 0) (drain_lives most)
     where
       by_flight : (o : Option Flight)
-          → ((x : Managing) → Lives x (KeepsSteps plan own (as_world name x) most) (drain_run (as_world name x) most).now)
+          → ((x : Managing) → Lives x (KeepsSteps plan own (as_world name x) most) (after_drain_line (as_world name x) most).now)
           → Lives m
           (KeepsStep plan own m.scene.fabric (option_map_or (λ flight. Some flight.serial) o None)
-          × KeepsSteps plan own (option_map_or (λ flight. (step_run (as_world name m) flight.serial).now) o (as_world name m)) most)
-          (option_map_or (λ flight. and_then (step_run (as_world name m) flight.serial) (λ now. drain_run now most)) o (quiet (as_world name m))).now
+          × KeepsSteps plan own (option_map_or (λ flight. (after_step (as_world name m) flight.serial).now) o (as_world name m)) most)
+          (option_map_or (λ flight. and_then (after_step (as_world name m) flight.serial) (λ now. after_drain_line now most)) o (quiet (as_world name m))).now
       by_flight None later = rests m _
       by_flight (Some flight) later =
           let l = step_lives m (KeepsStep plan own m.scene.fabric (Some flight.serial)) flight.serial (λ h. h) in
           let then = after_manager_events l.events m in
-          goes_on m (KeepsStep plan own m.scene.fabric (Some flight.serial)) (KeepsSteps plan own (step_run (as_world name m) flight.serial).now most) _
-          (step_run (as_world name m) flight.serial).now _ l
-          (subst (λ (x : WorldValue). Lives then (KeepsSteps plan own x most) (drain_run x most).now) l.ends (later then)) (λ h. h.0) (λ h. h.1)
+          goes_on m (KeepsStep plan own m.scene.fabric (Some flight.serial)) (KeepsSteps plan own (after_step (as_world name m) flight.serial).now most) _
+          (after_step (as_world name m) flight.serial).now _ l
+          (subst (λ (x : WorldValue). Lives then (KeepsSteps plan own x most) (after_drain_line x most).now) l.ends (later then)) (λ h. h.0) (λ h. h.1)
 
   -- all lines --------------------------------------------------------------------------------------------------
 
   pub command_lives : (nodes : List Node) (m : Managing) (command : Command) → IsLine command
-      → Lives m (KeepsLine plan own (as_world name m) command) (command_run nodes (as_world name m) command).now
-  unfolding handover_run poll_run lose_run repeat_run
-  command_lives nodes m (command.Handover zero) is = asked_lives m _ HandOver handover_fault handed_over refl tt tt tt
+      → Lives m (KeepsLine plan own (as_world name m) command) (after_command nodes (as_world name m) command).now
+  unfolding after_handover_line after_poll_line after_lose_line after_repeat_line
+  command_lives nodes m (command.Handover zero) is = asked_lives m _ HandOver handover_fault after_handover refl tt tt tt
   command_lives nodes m (command.Handover (suc seat)) is = rests m _
-  command_lives nodes m (command.Poll zero lid) is = asked_lives m _ (Poll lid) poll_fault (λ x. poll_sent x lid) refl tt tt tt
+  command_lives nodes m (command.Poll zero lid) is = asked_lives m _ (Poll lid) poll_fault (λ x. after_poll x lid) refl tt tt tt
   command_lives nodes m (command.Poll (suc seat) lid) is = rests m _
   command_lives nodes m (command.Deliver which) is = deliver_lives m which
   command_lives nodes m (command.Lose which) is = by_serial (serial_of m.scene.fabric.flights which)
     where
       by_serial : (o : Option ℕ) → Lives m (Unit {0})
-          (option_map_or (λ serial. fabric_run (as_world name m) (lost m.scene.fabric serial)) o
+          (option_map_or (λ serial. after_fabric_call (as_world name m) (after_lose m.scene.fabric serial)) o
           (shows (refusal_line (fabric_fault_name NoSuchPacket)) (as_world name m))).now
       by_serial None = rests m _
       by_serial (Some serial) = happens m _ (Around (around.Lose serial)) _ refl refl (tt, tt) tt (λ _. tt)
   command_lives nodes m (command.Repeat which) is = by_serial (serial_of m.scene.fabric.flights which)
     where
       by_serial : (o : Option ℕ) → Lives m (Unit {0})
-          (option_map_or (λ serial. fabric_run (as_world name m) (repeated m.scene.fabric serial)) o
+          (option_map_or (λ serial. after_fabric_call (as_world name m) (after_repeat m.scene.fabric serial)) o
           (shows (refusal_line (fabric_fault_name NoSuchPacket)) (as_world name m))).now
       by_serial None = rests m _
       by_serial (Some serial) = happens m _ (Around (around.Repeat serial)) _ refl refl (tt, tt) tt (λ _. tt)
@@ -366,13 +366,13 @@ module _ (plan : PlanValue) (own : OwnSets) (name : List ℕ) where
   command_lives nodes m (command.Plug p q) is = absurd is
 
   pub commands_live : (nodes : List Node) (m : Managing) (commands : List Command) → AreLines commands
-      → Lives m (KeepsLines plan own nodes (as_world name m) commands) (commands_run nodes (as_world name m) commands).now
+      → Lives m (KeepsLines plan own nodes (as_world name m) commands) (after_commands nodes (as_world name m) commands).now
   commands_live nodes m [] are = rests m _
   commands_live nodes m (command ∷ later) are =
       let l = command_lives nodes m command are.0 in
       let then = after_manager_events l.events m in
-      goes_on m (KeepsLine plan own (as_world name m) command) (KeepsLines plan own nodes (command_run nodes (as_world name m) command).now later) _
-      (command_run nodes (as_world name m) command).now _ l
-      (subst (λ (x : WorldValue). Lives then (KeepsLines plan own nodes x later) (commands_run nodes x later).now) l.ends
+      goes_on m (KeepsLine plan own (as_world name m) command) (KeepsLines plan own nodes (after_command nodes (as_world name m) command).now later) _
+      (after_command nodes (as_world name m) command).now _ l
+      (subst (λ (x : WorldValue). Lives then (KeepsLines plan own nodes x later) (after_commands nodes x later).now) l.ends
       (commands_live nodes then later are.1))
       (λ h. h.0) (λ h. h.1)

@@ -1,18 +1,18 @@
 -- What `ping` prints of a ping that arrives.
 use Rattle.std.proofs.Common.{length, sym, ap, ◌∙◌, subst}
-use Rattle.smp_bytes.specs.declared.cable.NodePort.{NodePort}
+use Rattle.fabric_model.specs.declared.cable.NodePort.{NodePort}
 use Rattle.fabric_sim.specs.Simulation.{Simulation}
 use Rattle.fact_store.specs.View.{cells_of}
 use Rattle.subnet_view.specs.Reading.{Cells}
-use Rattle.spread_rule.specs.Rules.{RuleValue}
+use Rattle.lft_blocks.specs.Rules.{RuleValue}
 use Rattle.lft_blocks.specs.Plan.{PlanValue, plan_of}
-use Rattle.sm_laws.specs.Pings.{EachPingArrives}
-use Rattle.sm_laws.proofs.PlannedPings.{pings_arrive}
-use Rattle.written_laws.specs.Written.{at_writing, plan_at}
-use Rattle.written_laws.proofs.Arrive as arrive
-use Rattle.sm_run.specs.Commands.{ping_shown, ping_text}
-use Rattle.sm_run.specs.Lines.{ping_line}
-use Rattle.sm_run.specs.World.{WorldValue}
+use Rattle.manager_laws.specs.Pings.{EachPingArrives}
+use Rattle.manager_laws.proofs.PlannedPings.{pings_arrive}
+use Rattle.manager_laws.specs.Written.{at_writing, plan_at}
+use Rattle.manager_laws.proofs.Arrive as arrive
+use Rattle.schedule_run.specs.Commands.{ping_shown, ping_text}
+use Rattle.schedule_run.specs.Lines.{ping_line}
+use Rattle.schedule_run.specs.World.{WorldValue}
 use Rattle.run_laws.specs.Reached.{EachPingSaysReached, HeldPlansAreReached, WrittenPlansAreReached}
 
 -- a ping that arrives is shown as reached

@@ -9,12 +9,12 @@ use Rattle.schedule_file.specs.declared.schedule.Seat.{Seat}
 use Rattle.fact_store.specs.Merge.{merge}
 use Rattle.fact_store.specs.View.{Facts, view_at, no_facts}
 use Rattle.fact_store.proofs.Views.{view_of_both}
-use Rattle.sm_manager.specs.Planning.{Planning}
+use Rattle.lft_blocks.specs.Planning.{Planning}
 use Rattle.sm_manager.specs.Manager.{Manager}
 use Rattle.sm_manager.specs.declared.fault.ManagerFault.{ManagerFault}
 use Rattle.sm_manager.proofs.Lives.{Keeps}
-use Rattle.sm_run.specs.Commands.{new_seated}
-use Rattle.sm_run.specs.World.{Ran, SeatedValue, WorldValue, at_seat, called_run, quiet, with_manager}
+use Rattle.schedule_run.specs.Commands.{new_seated}
+use Rattle.schedule_run.specs.World.{Outcome, SeatedValue, WorldValue, at_seat, after_manager_call, quiet, with_manager}
 use Rattle.run_laws.specs.Accounts.{Account, Accounts, joined, opened, with_more}
 
 -- lists --------------------------------------------------------------------------------------------
@@ -150,7 +150,7 @@ nobody count planning managers accounts seat more known none = record { many = k
         nothing e = cc
 
 -- what is done in a seat, whether a manager is there or not
-pub at_seat_is : (w : WorldValue) (seat : ℕ) (run : SeatedValue → Ran WorldValue) (P : WorldValue → Type 0) → (slice_get w.managers seat ≡ None → P w)
+pub at_seat_is : (w : WorldValue) (seat : ℕ) (run : SeatedValue → Outcome WorldValue) (P : WorldValue → Type 0) → (slice_get w.managers seat ≡ None → P w)
     → ((s : SeatedValue) → slice_get w.managers seat ≡ Some s → P (run s).now) → P (at_seat w seat run).now
 at_seat_is w seat run P none some = by_seat (slice_get w.managers seat) none some
   where
@@ -159,9 +159,9 @@ at_seat_is w seat run P none some = by_seat (slice_get w.managers seat) none som
     by_seat (Some s) none some = some s refl
 
 -- what a call leaves, whether it is refused or not
-pub called_is : (next : WorldValue → Ran WorldValue) (w : WorldValue) (seat : ℕ) (s : SeatedValue) (fault : Option ManagerFault) (m : Manager)
+pub called_is : (next : WorldValue → Outcome WorldValue) (w : WorldValue) (seat : ℕ) (s : SeatedValue) (fault : Option ManagerFault) (m : Manager)
     (P : WorldValue → Type 0) → ((why : ManagerFault) → fault ≡ Some why → P w) → P (next (with_manager w seat s m)).now
-    → P (called_run next w seat s fault m).now
+    → P (after_manager_call next w seat s fault m).now
 called_is next w seat s None m P refused done = done
 called_is next w seat s (Some why) m P refused done = refused why refl
 

@@ -1,30 +1,30 @@
 -- What the managers of a world take in as a schedule is run: each what it is told, and what those whose facts it merges were.
 use Rattle.std.specs.Prelude.{◌≡◌, ℕ, zero, suc, max, List, [], ◌∷◌, ◌++◌, slice_get, ◌==◌, if◌then◌else◌, Some, Result, Ok, Err}
 use Rattle.std.specs.Option.{option_map_or}
-use Rattle.smp_bytes.specs.declared.cable.NodePort.{NodePort}
+use Rattle.fabric_model.specs.declared.cable.NodePort.{NodePort}
 use Rattle.topo_file.specs.Topology.{Layout}
 use Rattle.topo_file.specs.declared.node.Node.{Node}
 use Rattle.schedule_file.specs.Schedule.{Script}
 use Rattle.schedule_file.specs.declared.command.Command.{Command}
 use Rattle.schedule_file.specs.declared.command.Command.TheVariants as command
 use Rattle.schedule_file.specs.declared.command.Which.{Which}
-use Rattle.fabric_sim.specs.Delivery.{delivered}
+use Rattle.fabric_sim.specs.Delivery.{after_deliver}
 use Rattle.fabric_sim.specs.declared.delivered.Delivered.{Delivered}
 use Rattle.fabric_sim.specs.declared.delivered.Delivered.TheVariants as delivered_is
 use Rattle.fabric_sim.specs.declared.fault.FabricFault.{FabricFault}
 use Rattle.fabric_sim.specs.declared.packet.Packet.{Packet}
-use Rattle.fact_store.specs.Report.{Told}
+use Rattle.fact_store.specs.Report.{Sightings}
 use Rattle.fact_store.specs.View.{view_at}
-use Rattle.sm_manager.specs.Planning.{Planning}
+use Rattle.lft_blocks.specs.Planning.{Planning}
 use Rattle.sm_manager.specs.Calls as calls
-use Rattle.sm_manager.specs.Calls.{told_in}
-use Rattle.sm_run.specs.Commands.{command_run, commands_run, seat_at, step_run, world_of}
-use Rattle.sm_run.specs.Flights.{serial_of}
-use Rattle.sm_run.specs.World.{SeatedValue, WorldValue, fabric_run}
+use Rattle.sm_manager.specs.Calls.{sightings_of_call}
+use Rattle.schedule_run.specs.Commands.{after_command, after_commands, seat_at, after_step, world_of}
+use Rattle.schedule_run.specs.Flights.{serial_of}
+use Rattle.schedule_run.specs.World.{SeatedValue, WorldValue, after_fabric_call}
 
 -- of a manager: the sightings that it took in, and the greatest floor that it was given, or 1
 pub record Account : Type 0 where
-  pub told : Told
+  pub told : Sightings
   pub floor : ℕ
 
 -- by the seats of the managers
@@ -48,7 +48,7 @@ with_more accounts seat more other = if other == seat then joined (accounts othe
 -- what a packet tells the manager of a seat: the sightings of a report that it accepts, and nothing else
 abbrev pub told_by_packet : WorldValue → Accounts → Packet → ℕ → Accounts
 told_by_packet w accounts packet seat =
-    option_map_or (λ s. with_more accounts seat (record { told = told_in s.manager (calls.Packet packet.bytes (Some packet.slid)); floor = 1 }))
+    option_map_or (λ s. with_more accounts seat (record { told = sightings_of_call s.manager (calls.Packet packet.bytes (Some packet.slid)); floor = 1 }))
     (slice_get w.managers seat) accounts
 
 -- a packet that comes to a port is taken in by the manager there
@@ -64,7 +64,7 @@ told_by_delivery w accounts (Err fault) = accounts
 
 -- the packet of a serial number takes one step
 abbrev pub told_by_step : WorldValue → Accounts → ℕ → Accounts
-told_by_step w accounts serial = let called = delivered w.fabric serial in told_by_delivery (fabric_run w called).now accounts called.result
+told_by_step w accounts serial = let called = after_deliver w.fabric serial in told_by_delivery (after_fabric_call w called).now accounts called.result
 
 -- the packet that is meant does
 abbrev pub told_by_deliver : WorldValue → Accounts → Which → Accounts
@@ -74,7 +74,7 @@ told_by_deliver w accounts which = option_map_or (told_by_step w accounts) (seri
 abbrev pub told_by_drain : WorldValue → Accounts → ℕ → Accounts
 told_by_drain w accounts zero = accounts
 told_by_drain w accounts (suc most) =
-    option_map_or (λ flight. told_by_drain (step_run w flight.serial).now (told_by_step w accounts flight.serial) most) (slice_get w.fabric.flights 0) accounts
+    option_map_or (λ flight. told_by_drain (after_step w flight.serial).now (told_by_step w accounts flight.serial) most) (slice_get w.fabric.flights 0) accounts
 
 -- managers ---------------------------------------------------------------------------------------
 
@@ -112,13 +112,13 @@ told_by_command w accounts command.Flight = accounts
 abbrev pub told_by_commands : List Node → WorldValue → Accounts → List Command → Accounts
 told_by_commands nodes w accounts [] = accounts
 told_by_commands nodes w accounts (command ∷ later) =
-    told_by_commands nodes (command_run nodes w command).now (told_by_command w accounts command) later
+    told_by_commands nodes (after_command nodes w command).now (told_by_command w accounts command) later
 
 -- runs -------------------------------------------------------------------------------------------
 
 -- the world once a schedule was run
 abbrev pub world_after : Planning → Layout → Script → WorldValue
-world_after planning topology script = (commands_run topology.nodes (world_of planning topology script.seats) script.commands).now
+world_after planning topology script = (after_commands topology.nodes (world_of planning topology script.seats) script.commands).now
 
 -- and what the manager of a seat has taken in by then
 abbrev pub account_after : Planning → Layout → Script → ℕ → Account

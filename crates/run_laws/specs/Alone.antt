@@ -8,17 +8,17 @@ use Rattle.fabric_sim.specs.Simulation.{IsSimulation, Simulation, fabric_of, is_
 use Rattle.fact_store.specs.View.{cells_of}
 use Rattle.lft_blocks.specs.Plan.{PlanValue, plan_of}
 use Rattle.sweep.specs.Sweep.{Sweep}
-use Rattle.sm_manager.specs.Planning.{Planning}
+use Rattle.lft_blocks.specs.Planning.{Planning}
 use Rattle.sm_manager.specs.Manager.{Manager, new_manager}
 use Rattle.sm_manager.specs.Plans.{writing_fault}
 use Rattle.sm_manager.specs.Writing.{is_written, phases_by}
-use Rattle.sm_laws.specs.Scene as around
-use Rattle.sm_laws.specs.Truth.{AreGuidsDistinct}
-use Rattle.sweep_complete.specs.Complete.{IsWhole}
-use Rattle.written_laws.specs.Sets.{IsOwnSet, KeepsPlan, OwnSets}
-use Rattle.sm_run.specs.Commands.{command_run, commands_run, step_run}
-use Rattle.sm_run.specs.Flights.{serial_of}
-use Rattle.sm_run.specs.World.{SeatedValue, WorldValue}
+use Rattle.manager_laws.specs.Scene as around
+use Rattle.manager_laws.specs.Truth.{AreGuidsDistinct}
+use Rattle.manager_laws.specs.Complete.{IsWhole}
+use Rattle.manager_laws.specs.Sets.{IsOwnSet, KeepsPlan, OwnSets}
+use Rattle.schedule_run.specs.Commands.{after_command, after_commands, after_step}
+use Rattle.schedule_run.specs.Flights.{serial_of}
+use Rattle.schedule_run.specs.World.{SeatedValue, WorldValue}
 use Rattle.run_laws.specs.Reached.{EachPingSaysReached}
 
 -- lines by which no sweep and no writing begins, no cable moves, no manager comes to sit, and none is given facts or a floor
@@ -43,7 +43,7 @@ abbrev pub first_serial : WorldValue → Option ℕ
 first_serial w = option_map_or (λ flight. Some flight.serial) (slice_get w.fabric.flights 0) None
 
 abbrev pub after_first : WorldValue → WorldValue
-after_first w = option_map_or (λ flight. (step_run w flight.serial).now) (slice_get w.fabric.flights 0) w
+after_first w = option_map_or (λ flight. (after_step w flight.serial).now) (slice_get w.fabric.flights 0) w
 
 module _ (plan : PlanValue) (own : OwnSets) where
   -- a Set that an agent takes by this delivery is one of the own, or carries the plan's values
@@ -62,19 +62,19 @@ module _ (plan : PlanValue) (own : OwnSets) where
 
   abbrev pub KeepsLines : List Node → WorldValue → List Command → Type 0
   KeepsLines nodes w [] = Unit {0}
-  KeepsLines nodes w (command ∷ later) = KeepsLine w command × KeepsLines nodes (command_run nodes w command).now later
+  KeepsLines nodes w (command ∷ later) = KeepsLine w command × KeepsLines nodes (after_command nodes w command).now later
 
 -- runs -------------------------------------------------------------------------------------------------
 
 -- the world after a sweep was begun and these lines, after a writing was begun, and after more lines
 abbrev pub at_writing : List Node → WorldValue → List Command → WorldValue
-at_writing nodes w between = (commands_run nodes (command_run nodes w (command.Sweep 0)).now between).now
+at_writing nodes w between = (after_commands nodes (after_command nodes w (command.Sweep 0)).now between).now
 
 abbrev pub at_first_steps : List Node → WorldValue → List Command → WorldValue
-at_first_steps nodes w between = (command_run nodes (at_writing nodes w between) (command.Write 0)).now
+at_first_steps nodes w between = (after_command nodes (at_writing nodes w between) (command.Write 0)).now
 
 abbrev pub at_end : List Node → WorldValue → List Command → List Command → WorldValue
-at_end nodes w between after = (commands_run nodes (at_first_steps nodes w between) after).now
+at_end nodes w between after = (after_commands nodes (at_first_steps nodes w between) after).now
 
 -- this manager is the only one, in its seat
 abbrev pub IsOnly : WorldValue → SeatedValue → Manager → Type 0

@@ -1,13 +1,13 @@
 -- What managers that took in the same print.
-use Rattle.sm_manager.specs.Planning.{Planning}
+use Rattle.lft_blocks.specs.Planning.{Planning}
 use Rattle.std.specs.Prelude.{◌≡◌, ◌<◌, ℕ, List, [], ◌∷◌, ◌++◌, length}
 use Rattle.topo_file.specs.Topology.{Layout}
 use Rattle.schedule_file.specs.Schedule.{Script}
 use Rattle.schedule_file.specs.declared.command.Command.{Command}
 use Rattle.schedule_file.specs.declared.command.Command.TheVariants.{Merge, Plan}
 use Rattle.fact_store.specs.Seen.{HaveSameMembers}
-use Rattle.sm_run.specs.Commands.{commands_run, facts_shown, plan_shown, script_text}
-use Rattle.sm_run.specs.World.{WorldValue}
+use Rattle.schedule_run.specs.Commands.{after_commands, facts_shown, plan_shown, script_text}
+use Rattle.schedule_run.specs.World.{WorldValue}
 use Rattle.run_laws.specs.Accounts.{account_after, world_after}
 
 -- these lines stand behind a schedule
@@ -19,7 +19,7 @@ abbrev pub LaterLinesComeBehind : Type 0
 LaterLinesComeBehind =
     (planning : Planning) (topology : Layout) (script : Script) (lines : List Command)
     → script_text planning topology (and_lines script lines)
-    ≡ script_text planning topology script ++ (commands_run topology.nodes (world_after planning topology script) lines).text
+    ≡ script_text planning topology script ++ (after_commands topology.nodes (world_after planning topology script) lines).text
 
 -- a manager of one world and a manager of another print the same of what they know, and the same plan
 pub record TellTheSame (one other : WorldValue) (seat seat' : ℕ) : Type 0 where

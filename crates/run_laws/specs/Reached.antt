@@ -1,8 +1,8 @@
 -- What `ping` prints where a plan is held, and once it is written.
 use Rattle.std.specs.Prelude.{◌≡◌, ℕ, List, Some}
-use Rattle.smp_bytes.specs.declared.cable.NodePort.{NodePort}
-use Rattle.smp_bytes.specs.Fabric.{IsEndPort}
-use Rattle.smp_bytes.specs.FabricWalks.{IsJoinedTo}
+use Rattle.fabric_model.specs.declared.cable.NodePort.{NodePort}
+use Rattle.fabric_model.specs.Fabric.{IsEndPort}
+use Rattle.fabric_model.specs.FabricWalks.{IsJoinedTo}
 use Rattle.topo_file.specs.declared.node.Node.{Node}
 use Rattle.fabric_sim.specs.Simulation.{fabric_of, IsSimulation}
 use Rattle.fabric_sim.specs.declared.ping.Ping.TheVariants.{Reached}
@@ -10,15 +10,15 @@ use Rattle.fact_store.specs.View.{Facts, cells_of}
 use Rattle.subnet_view.specs.declared.end_port.EndPort.{EndPort}
 use Rattle.subnet_view.specs.Agreement.{AgreesOn, IsPortNamed}
 use Rattle.lid_assign.specs.Lids.{IsNoRoom, owner_of}
-use Rattle.spread_rule.specs.Rules.{RuleValue}
+use Rattle.lft_blocks.specs.Rules.{RuleValue}
 use Rattle.lft_blocks.specs.Plan.{PlanValue, plan_of}
 use Rattle.lft_blocks.specs.Arrival.{HoldsPlan}
-use Rattle.written_laws.specs.Managing.{Managing, ManagerEvent}
-use Rattle.written_laws.specs.Pings.{BringsUp}
-use Rattle.written_laws.specs.Written.{at_end, at_writing, plan_at}
-use Rattle.sm_run.specs.Commands.{ping_shown}
-use Rattle.sm_run.specs.Lines.{ping_line}
-use Rattle.sm_run.specs.World.{WorldValue}
+use Rattle.manager_laws.specs.Managing.{Managing, ManagerEvent}
+use Rattle.manager_laws.specs.WritingPings.{BringsUp}
+use Rattle.manager_laws.specs.Written.{at_end, at_writing, plan_at}
+use Rattle.schedule_run.specs.Commands.{ping_shown}
+use Rattle.schedule_run.specs.Lines.{ping_line}
+use Rattle.schedule_run.specs.World.{WorldValue}
 
 -- the line says that the packet reaches the port of that end port, over so many wires
 pub record SaysReached (nodes : List Node) (w : WorldValue) (source : NodePort) (lid : ℕ) (owner : EndPort) : Type 0 where

@@ -1,10 +1,10 @@
 -- What a run writes is a function of its two texts and the LMC.
-use Rattle.sm_manager.specs.Planning.{Planning}
+use Rattle.lft_blocks.specs.Planning.{Planning}
 use Rattle.std.specs.Prelude.{◌≡◌, ℕ, Bool, List, Option, Some}
 use Rattle.std.specs.Io.KnownBytes.{Appends}
-use Rattle.sm_run.specs.Commands.{run_text}
-use Rattle.sm_run.specs.Prints.{Prints}
-use Rattle.sm_run.specs.Run.{HasRun}
+use Rattle.schedule_run.specs.Commands.{run_text}
+use Rattle.schedule_run.specs.Prints.{Prints}
+use Rattle.schedule_run.specs.Run.{HasRun}
 
 -- where a run has ended well whose sources held these bytes as it began, exactly `run_text` of them was written
 abbrev pub TextsDecideOutput : {T S W : Type 0} → (T → Option (List ℕ)) → (T → Bool) → (S → Option (List ℕ)) → (S → Bool) → (W → Option (List ℕ))

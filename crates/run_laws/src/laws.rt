@@ -5,7 +5,7 @@ ghost use Rattle.run_laws.specs.Lines.{LaterLinesComeBehind, MergedManagersPlanA
 ghost use Rattle.run_laws.specs.Reached.{HeldPlansAreReached, WrittenPlansAreReached};
 ghost use Rattle.run_laws.specs.Repeats.{TextsDecideOutput};
 
-use record_file::{Sink, Source};
+use byte_io::{Sink, Source};
 
 /// A run is repeatable: where it ends well, and its sources held these bytes as it began, exactly
 /// `run_text` of the two texts was written. So equal texts give equal bytes, whatever they are read

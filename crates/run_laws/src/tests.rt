@@ -1,9 +1,9 @@
 //! What a manager does about another one, as the table of states has it.
 use attr_codec::{Attribute, Lmc, Priority, SmInfo};
-use sm_manager::{Manager, Planning};
+use lft_blocks::{Planning, Rule};
+use sm_manager::Manager;
 use sm_state::SmState;
 use smp_bytes::{AttributeId, Guid, Lid, Method, Path, PortNum, Smp, Status};
-use spread_rule::Rule;
 use std::alloc::Global;
 
 mod controls;

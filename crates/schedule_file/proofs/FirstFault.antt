@@ -5,15 +5,15 @@ use Rattle.topo_file.specs.declared.node.Node.{Node}
 use Rattle.schedule_file.specs.declared.command.Command.{Command}
 use Rattle.schedule_file.specs.declared.fault.ScheduleFault.{ScheduleFault}
 use Rattle.schedule_file.specs.declared.fault.ScheduleFault.TheVariants as fault
-use Rattle.schedule_file.specs.declared.line.Line.{Line}
+use Rattle.schedule_file.specs.declared.line.ScheduleLine.{ScheduleLine}
 use Rattle.schedule_file.specs.declared.line.NewManager.{NewManager}
-use Rattle.smp_bytes.specs.declared.cable.NodePort.{NodePort}
+use Rattle.fabric_model.specs.declared.cable.NodePort.{NodePort}
 use Rattle.std.specs.Prelude.{is_some, if◌then◌else◌}
 use Rattle.schedule_file.specs.ScheduleFault.{IsRefused}
-use Rattle.schedule_file.specs.declared.line.Line.TheVariants as line
+use Rattle.schedule_file.specs.declared.line.ScheduleLine.TheVariants as line
 use Rattle.schedule_file.specs.declared.schedule.Seat.{Seat}
 use Rattle.schedule_file.specs.Command.{line_of}
-use Rattle.schedule_file.specs.Schedule.{◌>>=◌, Script, command_of, is_free, new_seat, port_of, schedule_of, seat_at, seat_of, told_by, with_command, with_line, with_lines, with_seat}
+use Rattle.schedule_file.specs.Schedule.{◌>>=◌, Script, command_of, is_free, new_seat, port_of, schedule_of, seat_at, seat_of, schedule_of_lines, with_command, with_line, with_lines, with_seat}
 use Rattle.schedule_file.specs.FirstFault.{IsSoundOrCrowded, Leaves, fault_of, seats_with, where_known}
 
 -- the managers of lines that count from this number, behind those before them
@@ -35,7 +35,7 @@ manager_same : (before : Script) (seat : Result Seat ScheduleFault)
 manager_same before (Ok seat) = refl
 manager_same before (Err fault) = refl
 
-line_same : (nodes : List Node) (number : ℕ) (before : Script) (told : Option Line) → seen (with_line nodes number before told) ≡ seats_with nodes number before.seats told
+line_same : (nodes : List Node) (number : ℕ) (before : Script) (told : Option ScheduleLine) → seen (with_line nodes number before told) ≡ seats_with nodes number before.seats told
 line_same nodes number before None = refl
 line_same nodes number before (Some line.Empty) = refl
 line_same nodes number before (Some (line.Manager new)) = manager_same before (new_seat nodes before.seats number new)
@@ -53,7 +53,7 @@ lines_same nodes number before (l ∷ ls) =
     then_same (with_line nodes number before (line_of l)) (seats_with nodes number before.seats (line_of l)) (λ now. with_lines nodes (number + 1) now ls) (λ now. seats_in nodes (number + 1) now ls)
     (line_same nodes number before (line_of l)) (λ now. lines_same nodes (number + 1) now ls)
 
-told_same : (nodes : List Node) (ls : List (List ℕ)) → seen (told_by nodes ls) ≡ seats_in nodes 1 [] ls
+told_same : (nodes : List Node) (ls : List (List ℕ)) → seen (schedule_of_lines nodes ls) ≡ seats_in nodes 1 [] ls
 told_same nodes ls = lines_same nodes 1 (record { seats = []; commands = [] }) ls
 
 -- lines, and then another: where the first tell these managers
@@ -81,8 +81,8 @@ fault_seen (Ok script) = refl
 fault_seen (Err fault) = refl
 
 -- the first fault is that of the managers
-fault_same : (nodes : List Node) (ls : List (List ℕ)) → fault_of (told_by nodes ls) ≡ fault_of (seats_in nodes 1 [] ls)
-fault_same nodes ls = sym (fault_seen (told_by nodes ls)) ∙ ap fault_of (told_same nodes ls)
+fault_same : (nodes : List Node) (ls : List (List ℕ)) → fault_of (schedule_of_lines nodes ls) ≡ fault_of (seats_in nodes 1 [] ls)
+fault_same nodes ls = sym (fault_seen (schedule_of_lines nodes ls)) ∙ ap fault_of (told_same nodes ls)
 
 -- the lines so far tell these managers, and have no fault
 pub record HasJudged (nodes : List Node) (text rest : List ℕ) (seats : List Seat) (number : ℕ) : Type 0 where
@@ -133,7 +133,7 @@ left_err (Err f) fault seats e = ap Err (sym e)
 -- it has a fault
 pub first_found : (nodes : List Node) (text rest later : List ℕ) (seats seats' : List Seat) (number : ℕ) (l : List ℕ) (fault : ScheduleFault) → HasJudged nodes text rest seats number
     → lines rest ≡ l ∷ lines later → Leaves (seats_with nodes (number + 1) seats (line_of l)) (Err fault) seats'
-    → fault_of (told_by nodes (lines text)) ≡ Some fault
+    → fault_of (schedule_of_lines nodes (lines text)) ≡ Some fault
 first_found nodes text rest later seats seats' number l fault h e left =
     fault_same nodes (lines text) ∙ ap fault_of (next_line nodes text rest later seats number l h e)
     ∙ ap (λ r. fault_of (r >>= λ now. seats_in nodes (number + 1 + 1) now (lines later))) (left_err _ fault seats' left)
@@ -152,7 +152,7 @@ pub is_crowded : (nodes : List Node) (text rest later : List ℕ) (seats seats' 
     → IsSoundOrCrowded nodes (lines text)
 is_crowded nodes text rest later seats seats' number l h e left =
     let full = left_full _ seats' left in
-    let s = script_of (told_by nodes (h.front ++ l ∷ [])) full.0 (told_same nodes (h.front ++ l ∷ []) ∙ kept_more nodes text rest seats full.0 number l h full.1) in
+    let s = script_of (schedule_of_lines nodes (h.front ++ l ∷ [])) full.0 (told_same nodes (h.front ++ l ∷ []) ∙ kept_more nodes text rest seats full.0 number l h full.1) in
     let Many : List Seat → Type 0 = λ xs. 64 < length xs in
     inr (record {
       front = h.front ++ l ∷ [];
@@ -177,7 +177,7 @@ is_sound nodes text rest seats number h e =
 
 -- no text says that memory is wanting -----------------------------------------------------------
 
--- it is a value, or a fault that is not want of memory
+-- it is a value, or a fault that is not out of memory
 abbrev IsPlain : {T : Type 0} → Result T ScheduleFault → Type 0
 IsPlain (Err fault.Memory) = ⊥
 IsPlain _ = Unit {0}
@@ -204,7 +204,7 @@ command_plain : (number : ℕ) (before : Script) (given : Option Command) → Is
 command_plain number before None = tt
 command_plain number before (Some given) = tt
 
-line_plain : (nodes : List Node) (number : ℕ) (before : Script) (told : Option Line) → IsPlain (with_line nodes number before told)
+line_plain : (nodes : List Node) (number : ℕ) (before : Script) (told : Option ScheduleLine) → IsPlain (with_line nodes number before told)
 line_plain nodes number before None = tt
 line_plain nodes number before (Some line.Empty) = tt
 line_plain nodes number before (Some (line.Manager new)) = plain_then (new_seat nodes before.seats number new) _ (seat_plain nodes before.seats number new) (λ seat. tt)
@@ -225,11 +225,11 @@ refuses (fault.Name line) told e = e
 refuses (fault.Seat line) told e = e
 
 -- the text is refused for its first fault
-pub first_refuses : (nodes : List Node) (text : List ℕ) (why : ScheduleFault) → fault_of (told_by nodes (lines text)) ≡ Some why → IsRefused why (schedule_of nodes text)
+pub first_refuses : (nodes : List Node) (text : List ℕ) (why : ScheduleFault) → fault_of (schedule_of_lines nodes (lines text)) ≡ Some why → IsRefused why (schedule_of nodes text)
 unfolding schedule_of
-first_refuses nodes text why e = refuses why (told_by nodes (lines text)) (told_fault (told_by nodes (lines text)) why e)
+first_refuses nodes text why e = refuses why (schedule_of_lines nodes (lines text)) (told_fault (schedule_of_lines nodes (lines text)) why e)
 
--- and that is never want of memory
-pub first_plain : (nodes : List Node) (text : List ℕ) → fault_of (told_by nodes (lines text)) ≡ Some fault.Memory → ⊥
+-- and that is never out of memory
+pub first_plain : (nodes : List Node) (text : List ℕ) → fault_of (schedule_of_lines nodes (lines text)) ≡ Some fault.Memory → ⊥
 first_plain nodes text e =
-    subst (λ (r : Result Script ScheduleFault). IsPlain r) (told_fault (told_by nodes (lines text)) fault.Memory e) (lines_plain nodes 1 (record { seats = []; commands = [] }) (lines text))
+    subst (λ (r : Result Script ScheduleFault). IsPlain r) (told_fault (schedule_of_lines nodes (lines text)) fault.Memory e) (lines_plain nodes 1 (record { seats = []; commands = [] }) (lines text))

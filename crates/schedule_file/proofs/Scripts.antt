@@ -6,7 +6,7 @@ use Rattle.std.proofs.lemmas.Result.{IfOk-at_ok}
 use Rattle.std.proofs.lemmas.List.Elements.{All-push, All-nil}
 use Rattle.std.proofs.lemmas.List.Quantifiers.{position-Some}
 use Rattle.std.specs.Str.{bytes_eq}
-use Rattle.smp_bytes.specs.declared.cable.NodePort.{NodePort}
+use Rattle.fabric_model.specs.declared.cable.NodePort.{NodePort}
 use Rattle.text_words.specs.Text.{words}
 use Rattle.text_words.proofs.Names.{both}
 use Rattle.text_words.proofs.Ranges.{then_some, mapped, always}
@@ -15,8 +15,8 @@ use Rattle.schedule_file.specs.declared.command.Command.{Command}
 use Rattle.schedule_file.specs.declared.command.Command.TheVariants as command
 use Rattle.schedule_file.specs.declared.fault.ScheduleFault.{ScheduleFault}
 use Rattle.schedule_file.specs.declared.fault.ScheduleFault.TheVariants as fault
-use Rattle.schedule_file.specs.declared.line.Line.{Line}
-use Rattle.schedule_file.specs.declared.line.Line.TheVariants as line
+use Rattle.schedule_file.specs.declared.line.ScheduleLine.{ScheduleLine}
+use Rattle.schedule_file.specs.declared.line.ScheduleLine.TheVariants as line
 use Rattle.schedule_file.specs.declared.line.NewManager.{NewManager}
 use Rattle.schedule_file.specs.declared.schedule.Seat.{Seat}
 use Rattle.schedule_file.specs.declared.spoken.Spoken.{Spoken}
@@ -28,7 +28,7 @@ use Rattle.schedule_file.specs.Command.{other_of, spoken_with, spoken_of, new_ma
 use Rattle.schedule_file.specs.ManagerName.{manager_name_in}
 use Rattle.schedule_file.specs.Schedule.{◌>>=◌, Script, IsScript, NamesManagers, seat_of, is_seat, is_taken}
 use Rattle.schedule_file.specs.Schedule.{is_free, port_of, of_verb, command_of, with_command, seat_at, new_seat}
-use Rattle.schedule_file.specs.Schedule.{with_seat, with_line, with_lines, told_by}
+use Rattle.schedule_file.specs.Schedule.{with_seat, with_line, with_lines, schedule_of_lines}
 
 -- what a line says --------------------------------------------------------------------------
 
@@ -40,7 +40,7 @@ abbrev pub IsSpoken : Spoken → Type 0
 IsSpoken (Plain given) = NamesNone given
 IsSpoken _ = Unit {0}
 
-abbrev pub IsLine : Line → Type 0
+abbrev pub IsLine : ScheduleLine → Type 0
 IsLine (line.Command spoken) = IsSpoken spoken
 IsLine _ = Unit {0}
 
@@ -124,13 +124,13 @@ line_range text = words_range (words text)
 
 -- names -------------------------------------------------------------------------------------
 
-place_range : (o : Option ℕ) (seats : List Seat) (name : List ℕ) → seat_of seats name ≡ o → IfSome o (λ i. i < length seats)
-place_range None seats name e = tt
-place_range (Some i) [] name e = let h : ◌≡◌ {A = Option ℕ} None (Some i) = e in absurd (cc)
-place_range (Some i) (seat ∷ seats) name e = (position-Some (λ s. bytes_eq s.name name) (seat ∷ seats) i seat e).0
+index_range : (o : Option ℕ) (seats : List Seat) (name : List ℕ) → seat_of seats name ≡ o → IfSome o (λ i. i < length seats)
+index_range None seats name e = tt
+index_range (Some i) [] name e = let h : ◌≡◌ {A = Option ℕ} None (Some i) = e in absurd (cc)
+index_range (Some i) (seat ∷ seats) name e = (position-Some (λ s. bytes_eq s.name name) (seat ∷ seats) i seat e).0
 
 seat_range : (seats : List Seat) (name : List ℕ) → IfSome (seat_of seats name) (λ i. i < length seats)
-seat_range seats name = place_range (seat_of seats name) seats name refl
+seat_range seats name = index_range (seat_of seats name) seats name refl
 
 verb_names : (verb : Verb) (count i : ℕ) → i < count → NamesManagers count (of_verb verb i)
 verb_names Sweep count i h = h
@@ -227,7 +227,7 @@ with_command_range nodes number before (Some given) is h = record {
   commands = All-push (NamesManagers (length before.seats)) before.commands given is.commands h;
 }
 
-line_kept : (nodes : List Node) (number : ℕ) (before : Script) (told : Option Line) → IsScript nodes before → IfSome told IsLine
+line_kept : (nodes : List Node) (number : ℕ) (before : Script) (told : Option ScheduleLine) → IsScript nodes before → IfSome told IsLine
     → IfOk (with_line nodes number before told) (IsScript nodes)
 line_kept nodes number before None is fits = tt
 line_kept nodes number before (Some line.Empty) is fits = is
@@ -244,6 +244,6 @@ lines_kept nodes number before (l ∷ ls) is =
     read_then (IsScript nodes) (IsScript nodes) (with_line nodes number before (line_of l)) (λ now. with_lines nodes (number + 1) now ls)
     (line_kept nodes number before (line_of l) is (line_range l)) (λ now h. lines_kept nodes (number + 1) now ls h)
 
-pub told_is_script : (nodes : List Node) (ls : List (List ℕ)) (script : Script) → told_by nodes ls ≡ Ok script → IsScript nodes script
+pub told_is_script : (nodes : List Node) (ls : List (List ℕ)) (script : Script) → schedule_of_lines nodes ls ≡ Ok script → IsScript nodes script
 told_is_script nodes ls script e =
     IfOk-at_ok (IsScript nodes) e (lines_kept nodes 1 (record { seats = []; commands = [] }) ls (record { seats = All-nil _; commands = All-nil _ }))

@@ -9,8 +9,8 @@ use Rattle.schedule_file.specs.declared.command.Command.{Command}
 use Rattle.schedule_file.specs.declared.command.Command.TheVariants.{Deliver, Lose, Repeat, Drain, Tables, Flight}
 use Rattle.schedule_file.specs.declared.command.Which.{Which}
 use Rattle.schedule_file.specs.declared.command.Which.TheVariants.{Last, Serial}
-use Rattle.schedule_file.specs.declared.line.Line.{Line}
-use Rattle.schedule_file.specs.declared.line.Line.TheVariants as line
+use Rattle.schedule_file.specs.declared.line.ScheduleLine.{ScheduleLine}
+use Rattle.schedule_file.specs.declared.line.ScheduleLine.TheVariants as line
 use Rattle.schedule_file.specs.declared.line.NewManager.{NewManager}
 use Rattle.schedule_file.specs.declared.spoken.PortName.{PortName}
 use Rattle.schedule_file.specs.declared.spoken.Spoken.{Spoken}
@@ -134,12 +134,12 @@ abbrev pub spoken_of : List ℕ → List (List ℕ) → Option Spoken
 spoken_of word args = spoken_with (verb_of word) word args
 
 -- the line that the words are
-abbrev pub line_in : List (List ℕ) → Option Line
+abbrev pub line_in : List (List ℕ) → Option ScheduleLine
 line_in [] = Some line.Empty
 line_in (word ∷ args) =
     if bytes_eq word (codes "manager") then option_map line.Manager (new_manager args)
     else option_map line.Command (spoken_of word args)
 
 -- what a line says
-unfoldable pub line_of : List ℕ → Option Line
+unfoldable pub line_of : List ℕ → Option ScheduleLine
 line_of line = line_in (words line)

@@ -4,10 +4,10 @@ use Rattle.topo_file.specs.declared.node.Node.{Node}
 use Rattle.schedule_file.specs.declared.command.Command.{Command}
 use Rattle.schedule_file.specs.declared.fault.ScheduleFault.{ScheduleFault}
 use Rattle.schedule_file.specs.declared.fault.ScheduleFault.TheVariants.{Syntax, Name}
-use Rattle.schedule_file.specs.declared.line.Line.{Line}
-use Rattle.schedule_file.specs.declared.line.Line.TheVariants as line
+use Rattle.schedule_file.specs.declared.line.ScheduleLine.{ScheduleLine}
+use Rattle.schedule_file.specs.declared.line.ScheduleLine.TheVariants as line
 use Rattle.schedule_file.specs.declared.schedule.Seat.{Seat}
-use Rattle.schedule_file.specs.Schedule.{◌>>=◌, Script, command_of, new_seat, told_by}
+use Rattle.schedule_file.specs.Schedule.{◌>>=◌, Script, command_of, new_seat, schedule_of_lines}
 
 -- the fault of what is told, where it has one
 abbrev pub fault_of : {T : Type 0} → Result T ScheduleFault → Option ScheduleFault
@@ -20,12 +20,12 @@ pub record IsCrowded (nodes : List Node) (lines : List (List ℕ)) : Type 0 wher
   pub back : List (List ℕ)
   pub parts : lines ≡ front ++ back
   pub script : Script
-  pub told : told_by nodes front ≡ Ok script
+  pub told : schedule_of_lines nodes front ≡ Ok script
   pub many : 64 < length script.seats
 
 -- the lines have no fault, or more than 64 managers stand above it
 abbrev pub IsSoundOrCrowded : List Node → List (List ℕ) → Type 0
-IsSoundOrCrowded nodes lines = (fault_of (told_by nodes lines) ≡ None) ⊎ IsCrowded nodes lines
+IsSoundOrCrowded nodes lines = (fault_of (schedule_of_lines nodes lines) ≡ None) ⊎ IsCrowded nodes lines
 
 -- a command keeps the managers, where its names are known
 abbrev pub where_known : ℕ → List Seat → Option Command → Result (List Seat) ScheduleFault
@@ -33,7 +33,7 @@ where_known number seats (Some command) = Ok seats
 where_known number seats None = Err (Name number)
 
 -- the managers with that of a line
-abbrev pub seats_with : List Node → ℕ → List Seat → Option Line → Result (List Seat) ScheduleFault
+abbrev pub seats_with : List Node → ℕ → List Seat → Option ScheduleLine → Result (List Seat) ScheduleFault
 seats_with nodes number seats None = Err (Syntax number)
 seats_with nodes number seats (Some line.Empty) = Ok seats
 seats_with nodes number seats (Some (line.Manager new)) = new_seat nodes seats number new >>= λ seat. Ok (seats ++ seat ∷ [])

@@ -4,18 +4,18 @@ use Rattle.std.specs.Prelude.{option_map, option_and_then, position, slice_get, 
 use Rattle.std.specs.List.{list_any}
 use Rattle.std.specs.Option.{option_map_or}
 use Rattle.std.specs.Str.{bytes_eq}
-use Rattle.smp_bytes.specs.Cables.{is_same_port}
+use Rattle.fabric_model.specs.Cables.{is_same_port}
 use Rattle.smp_bytes.specs.NodeType.{is_switch}
-use Rattle.smp_bytes.specs.declared.cable.NodePort.{NodePort}
+use Rattle.fabric_model.specs.declared.cable.NodePort.{NodePort}
 use Rattle.text_words.specs.Text.{lines}
 use Rattle.topo_file.specs.declared.node.Node.{Node}
-use Rattle.topo_file.specs.Topology.{place_of}
+use Rattle.topo_file.specs.Topology.{id_of}
 use Rattle.schedule_file.specs.declared.command.Command.{Command}
 use Rattle.schedule_file.specs.declared.command.Command.TheVariants as command
 use Rattle.schedule_file.specs.declared.fault.ScheduleFault.{ScheduleFault}
 use Rattle.schedule_file.specs.declared.fault.ScheduleFault.TheVariants as fault
-use Rattle.schedule_file.specs.declared.line.Line.{Line}
-use Rattle.schedule_file.specs.declared.line.Line.TheVariants as line
+use Rattle.schedule_file.specs.declared.line.ScheduleLine.{ScheduleLine}
+use Rattle.schedule_file.specs.declared.line.ScheduleLine.TheVariants as line
 use Rattle.schedule_file.specs.declared.line.NewManager.{NewManager}
 use Rattle.schedule_file.specs.declared.schedule.Seat.{Seat}
 use Rattle.schedule_file.specs.declared.spoken.PortName.{PortName}
@@ -36,7 +36,7 @@ abbrev pub ◌>>=◌ : {A B : Type 0} → Result A ScheduleFault → (A → Resu
 (Ok value) >>= next = next value
 (Err fault) >>= next = Err fault
 
--- the place of the manager that has the name
+-- the index of the manager that has the name
 abbrev pub seat_of : List Seat → List ℕ → Option ℕ
 seat_of seats name = position (λ seat. bytes_eq seat.name name) seats
 
@@ -58,7 +58,7 @@ is_free nodes seats p = is_seat nodes p && not (is_taken seats p)
 
 -- the port that has the name
 abbrev pub port_of : List Node → PortName → Option NodePort
-port_of nodes name = option_map (λ place. record { node = place; port = name.port }) (place_of nodes name.node)
+port_of nodes name = option_map (λ id. record { node = id; port = name.port }) (id_of nodes name.node)
 
 -- the command to the manager of a seat
 abbrev pub of_verb : Verb → ℕ → Command
@@ -105,7 +105,7 @@ abbrev pub with_seat : Script → Seat → Script
 with_seat before seat = record { seats = before.seats ++ seat ∷ []; commands = before.commands ++ command.Manager (length before.seats) ∷ [] }
 
 -- what a line of this number adds to the lines before it
-abbrev pub with_line : List Node → ℕ → Script → Option Line → Result Script ScheduleFault
+abbrev pub with_line : List Node → ℕ → Script → Option ScheduleLine → Result Script ScheduleFault
 with_line nodes number before None = Err (fault.Syntax number)
 with_line nodes number before (Some line.Empty) = Ok before
 with_line nodes number before (Some (line.Manager new)) = new_seat nodes before.seats number new >>= λ seat. Ok (with_seat before seat)
@@ -117,12 +117,12 @@ with_lines nodes number before [] = Ok before
 with_lines nodes number before (line ∷ later) = with_line nodes number before (line_of line) >>= λ now. with_lines nodes (number + 1) now later
 
 -- what all lines tell
-abbrev pub told_by : List Node → List (List ℕ) → Result Script ScheduleFault
-told_by nodes lines = with_lines nodes 1 (record { seats = []; commands = [] }) lines
+abbrev pub schedule_of_lines : List Node → List (List ℕ) → Result Script ScheduleFault
+schedule_of_lines nodes lines = with_lines nodes 1 (record { seats = []; commands = [] }) lines
 
 -- what a text says of a fabric that has these nodes
 unfoldable pub schedule_of : List Node → List ℕ → Result Script ScheduleFault
-schedule_of nodes text = told_by nodes (lines text)
+schedule_of nodes text = schedule_of_lines nodes (lines text)
 
 -- what holds of each schedule ---------------------------------------------------------------
 

@@ -20,7 +20,7 @@ fault_word (Name line) = codes "name"
 fault_word (Seat line) = codes "seat"
 fault_word Memory = codes "out of memory"
 
--- the line that has the fault, from 1; want of memory is no line's
+-- the line that has the fault, from 1; out of memory is no line's
 abbrev pub fault_line : ScheduleFault → Option ℕ
 fault_line (Syntax line) = Some line
 fault_line (Name line) = Some line

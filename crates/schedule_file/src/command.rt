@@ -1,7 +1,8 @@
 //! The commands of a schedule.
-use smp_bytes::{Generation, Lid, NodePort};
+use fabric_model::NodePort;
+use smp_bytes::{Generation, Lid};
 
-/// A command. A manager is told by its place among the schedule's seats, from 0.
+/// A command. A manager is named by its index among the schedule's seats, from 0.
 #[derive(Clone, Copy, PartialEq, Eq)]
 pub enum Command {
     /// The manager of the seat is there from now on.

@@ -32,7 +32,7 @@ impl ScheduleFault {
         }
     }
 
-    /// The line that has the fault, from 1. Want of memory is no line's.
+    /// The line that has the fault, from 1. Out of memory is no line's.
     pub fn line(self) -> Option<usize>
         ensures { result ≡ fault_line self }
     {

@@ -3,11 +3,11 @@ ghost use Rattle.std.specs.Prelude.{◌≡◌, None, Some, IfSome};
 ghost use Rattle.text_words.specs.Text.{lines};
 ghost use Rattle.schedule_file.specs.Command.{line_of};
 ghost use Rattle.schedule_file.specs.FirstFault.{IsSoundOrCrowded, Leaves, fault_of, seats_with};
-ghost use Rattle.schedule_file.specs.Schedule.{told_by};
+ghost use Rattle.schedule_file.specs.Schedule.{schedule_of_lines};
 
 use crate::fault::ScheduleFault;
-use crate::line::{Line, read_line};
-use crate::names::command;
+use crate::line::{ScheduleLine, read_line};
+use crate::resolve::command;
 use crate::schedule::{Seat, new_seat};
 use arrayvec::ArrayVec;
 use text_words::split_line;
@@ -20,7 +20,7 @@ type Seats = ArrayVec<Seat, 64>;
 /// and a walk over the managers for each line.
 pub(crate) fn first_fault(topology: &Topology, text: &[u8]) -> Option<ScheduleFault>
     ensures found { IfSome result (λ fault.
-        fault_of (told_by topology.now.nodes (lines text.now)) ≡ Some fault) }
+        fault_of (schedule_of_lines topology.now.nodes (lines text.now)) ≡ Some fault) }
     ensures none { result ≡ None → IsSoundOrCrowded topology.now.nodes (lines text.now) }
 {
     let mut seats = Seats::new();
@@ -49,12 +49,12 @@ fn judge_line(
 {
     match read_line(line) {
         None => Err(ScheduleFault::Syntax { line: number }),
-        Some(Line::Empty) => Ok(true),
-        Some(Line::Manager(new)) => {
+        Some(ScheduleLine::Empty) => Ok(true),
+        Some(ScheduleLine::Manager(new)) => {
             let seat = new_seat(topology, seats.as_slice(), number, new)?;
             Ok(seats.try_push(seat).is_ok())
         }
-        Some(Line::Command(spoken)) => match command(topology, seats.as_slice(), spoken) {
+        Some(ScheduleLine::Command(spoken)) => match command(topology, seats.as_slice(), spoken) {
             Some(_) => Ok(true),
             None => Err(ScheduleFault::Name { line: number }),
         },

@@ -6,9 +6,9 @@ mod fault;
 mod first_fault;
 mod line;
 mod manager_name;
-mod names;
 mod numbers;
 mod plain;
+mod resolve;
 mod schedule;
 mod spoken;
 

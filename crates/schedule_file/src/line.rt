@@ -10,7 +10,7 @@ use text_words::{is_word, split_word};
 
 /// What a line says.
 #[derive(Drop)]
-pub(crate) enum Line {
+pub(crate) enum ScheduleLine {
     Empty,
     Manager(NewManager),
     Command(Spoken),
@@ -26,16 +26,16 @@ pub(crate) struct NewManager {
 
 #[tactic(auto, unfolding(crate::specs::Command::line_of))]
 /// What a line says; `None` is a line that is none of the grammar's.
-pub(crate) fn read_line(line: &[u8]) -> Option<Line>
+pub(crate) fn read_line(line: &[u8]) -> Option<ScheduleLine>
     ensures { result ≡ line_of line.now }
 {
     let Some((word, rest)) = split_word(line) else {
-        return Some(Line::Empty);
+        return Some(ScheduleLine::Empty);
     };
     if is_word(word, "manager") {
-        Some(Line::Manager(new_manager(rest)?))
+        Some(ScheduleLine::Manager(new_manager(rest)?))
     } else {
-        Some(Line::Command(read_command(word, rest)?))
+        Some(ScheduleLine::Command(read_command(word, rest)?))
     }
 }
 

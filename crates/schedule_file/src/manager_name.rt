@@ -52,7 +52,7 @@ impl ManagerName {
     }
 }
 
-/// What fills the unused places of a vector of fixed capacity.
+/// What fills the unused slots of a vector of fixed capacity.
 impl Default for ManagerName {
     fn default() -> Self {
         ManagerName { text: text(b"0") }

@@ -1,18 +1,19 @@
 ghost use Rattle.std.specs.Prelude.{◌≡◌, [], Ok, Err, IfOk};
 ghost use Rattle.text_words.specs.Text.{lines};
 ghost use Rattle.schedule_file.specs.Command.{line_of};
-ghost use Rattle.schedule_file.specs.Schedule.{IsScript, schedule_of, told_by, with_line, with_command, new_seat, with_seat};
+ghost use Rattle.schedule_file.specs.Schedule.{IsScript, schedule_of, schedule_of_lines, with_line, with_command, new_seat, with_seat};
 ghost use Rattle.schedule_file.specs.FirstFault.{IsSoundOrCrowded};
 ghost use Rattle.schedule_file.specs.ScheduleFault.{Reads};
 
 use crate::command::Command;
 use crate::fault::ScheduleFault;
 use crate::first_fault::first_fault;
-use crate::line::{Line, NewManager, read_line};
+use crate::line::{NewManager, ScheduleLine, read_line};
 use crate::manager_name::ManagerName;
-use crate::names::{command, is_free, port, seat};
+use crate::resolve::{command, is_free, port, seat};
 use attr_codec::Priority;
-use smp_bytes::{NodeId, NodePort, PortNum};
+use fabric_model::{NodeId, NodePort};
+use smp_bytes::PortNum;
 use std::alloc::Global;
 use std::marker::Model;
 use text_words::split_line;
@@ -27,7 +28,7 @@ pub struct Seat {
     pub priority: Priority,
 }
 
-/// What fills the unused places of a vector of fixed capacity.
+/// What fills the unused slots of a vector of fixed capacity.
 impl Default for Seat {
     fn default() -> Self {
         Seat {
@@ -87,12 +88,12 @@ impl Schedule {
     {
         match read_line(line) {
             None => Err(ScheduleFault::Syntax { line: number }),
-            Some(Line::Empty) => Ok(self),
-            Some(Line::Manager(new)) => {
+            Some(ScheduleLine::Empty) => Ok(self),
+            Some(ScheduleLine::Manager(new)) => {
                 let seat = new_seat(topology, &self.seats, number, new)?;
                 self.with_seat(seat)
             }
-            Some(Line::Command(spoken)) => {
+            Some(ScheduleLine::Command(spoken)) => {
                 let command = command(topology, &self.seats, spoken);
                 self.with_command(number, command)
             }
@@ -177,7 +178,7 @@ pub(crate) fn new_seat(
 /// A manager sits at an adapter's port, and has a name of 1 to 16 ASCII letters and digits, known from its line on.
 /// Takes a search and a walk over the managers for each line.
 ///
-/// Want of memory is answered only where no line has a fault, or more than 64 managers stand above it: once memory is
+/// Out of memory is answered only where no line has a fault, or more than 64 managers stand above it: once memory is
 /// refused, the lines are judged with none, and so many managers are known then.
 pub fn parse(alloc: Global, text: &str, topology: &Topology) -> Result<Schedule, ScheduleFault>
     ensures reads { Reads result (schedule_of topology.now.nodes text.now) }
@@ -197,7 +198,7 @@ pub fn parse(alloc: Global, text: &str, topology: &Topology) -> Result<Schedule,
 
 /// What a text's lines tell.
 fn read_lines(alloc: Global, text: &[u8], topology: &Topology) -> Result<Schedule, ScheduleFault>
-    ensures { Reads result (told_by topology.now.nodes (lines text.now)) }
+    ensures { Reads result (schedule_of_lines topology.now.nodes (lines text.now)) }
 {
     let mut schedule = Schedule::new(alloc);
     let mut number = 0;

@@ -1,5 +1,5 @@
 -- A joined file stands for the files that it was made of, and the parts of a split one for the whole.
-use Rattle.std.proofs.Common.{◌≡◌, ℕ, max, List, [], ◌∷◌, ◌++◌, Option, refl, ap, sym, ◌∙◌, append_assoc, arith}
+use Rattle.std.proofs.Common.{◌≡◌, ℕ, max, List, [], ◌∷◌, ◌++◌, refl, ap, sym, ◌∙◌, append_assoc, arith}
 use Rattle.std.proofs.lemmas.List.Concat.{flat_map-append}
 use Rattle.std.specs.List.{flat_map}
 use Rattle.fact_store.specs.View.{view_at}
@@ -7,7 +7,7 @@ use Rattle.fact_store.specs.Merge.{merge}
 use Rattle.fact_store.proofs.Views.{view_of_both}
 use Rattle.record_file.specs.Laws.{AreParts}
 use Rattle.record_file.specs.RecordFile.{floor_in, kept}
-use Rattle.sm_cli.specs.declared.run.Command.{Command}
+use Rattle.sm_cli.specs.declared.run.Invocation.{Invocation}
 use Rattle.record_file.proofs.SplitFiles.{split_reports, split_store}
 use Rattle.record_file.proofs.StoreFiles.{read_back}
 use Rattle.sm_cli.specs.Run.{answer_to, facts_of, floor_among}
@@ -44,7 +44,7 @@ joined_file_stands command floor told files others joined is =
     ∙ ap (λ n. view_at n (flat_map kept (files ++ others))) (sym after) in
     (read.accepted, ap (answer_to command.output) same)
 
-stand_for : (command : Command) (whole front back : List ℕ) (others : List (List ℕ)) → AreParts whole front back → StandFor command whole front back others
+stand_for : (command : Invocation) (whole front back : List ℕ) (others : List (List ℕ)) → AreParts whole front back → StandFor command whole front back others
 stand_for command whole front back others parts =
     let both : max command.floor (floor_in whole) ≡ max (max command.floor (floor_in front)) (floor_in back) =
     omega (arith, parts.front_floor, parts.back_floor) in record {

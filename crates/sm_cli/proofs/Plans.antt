@@ -35,9 +35,9 @@ plan_fault lmc facts sink_failed lids.Memory fault e f = rw f (none_lacks (no_ro
 -- so it is with the plan that is asked for
 pub asked_plan : (lmc : ℕ) (kind : RuleKind) (facts : Facts) (sink_failed : Bool) (fault : Fault) → IsWritingFault lmc facts sink_failed fault
     → IsAnswerFault (output.Plan lmc kind) facts sink_failed fault
-asked_plan lmc kind facts sink_failed (Open place) h = h
-asked_plan lmc kind facts sink_failed (File place fault) h = h
-asked_plan lmc kind facts sink_failed (Text place fault) h = h
+asked_plan lmc kind facts sink_failed (Open input) h = h
+asked_plan lmc kind facts sink_failed (File input fault) h = h
+asked_plan lmc kind facts sink_failed (Text input fault) h = h
 asked_plan lmc kind facts sink_failed (NoRoom why) h = h
 asked_plan lmc kind facts sink_failed Write h = h
 asked_plan lmc kind facts sink_failed Memory h = h

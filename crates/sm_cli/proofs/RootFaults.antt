@@ -4,10 +4,10 @@ use Rattle.std.specs.Io.KnownBytes.{Appends}
 use Rattle.std.specs.Prelude.{option_map, if◌then◌else◌}
 use Rattle.std.specs.Result.{result_err}
 use Rattle.roots_file.specs.Reading.{roots_of}
-use Rattle.roots_file.specs.TextFault.{is_memory}
-use Rattle.roots_file.specs.declared.fault.LineFault.{LineFault}
-use Rattle.roots_file.specs.declared.fault.TextFault.{TextFault as RootsFault}
-use Rattle.roots_file.specs.declared.fault.TextFault.TheVariants as wrong
+use Rattle.roots_file.specs.RootsTextFault.{is_memory}
+use Rattle.roots_file.specs.declared.fault.RootsLineFault.{RootsLineFault}
+use Rattle.roots_file.specs.declared.fault.RootsTextFault.{RootsTextFault as RootsFault}
+use Rattle.roots_file.specs.declared.fault.RootsTextFault.TheVariants as wrong
 use Rattle.lid_assign.specs.LidFault.{no_room}
 use Rattle.sm_cli.specs.declared.text_fault.TextFault.{TextFault}
 use Rattle.fact_store.specs.View.{Facts, cells_of}
@@ -23,9 +23,9 @@ use Rattle.sm_cli.specs.Run.{IsWritingFault}
 pub first_refused : {S : Type 0} (left : S → Option (List ℕ)) (has_failed : S → Bool) (interruptions : S → ℕ) (old new : S) (untouched : Type 0)
     (refuses : TextFault → Type 0) (fault : Fault) → untouched → IsRootsFault left has_failed interruptions old new fault
     → IsFaultOfRoots left has_failed interruptions old new untouched refuses fault
-first_refused left has_failed interruptions old new untouched refuses (Open place) u h = absurd h
-first_refused left has_failed interruptions old new untouched refuses (File place fault) u h = (u, h)
-first_refused left has_failed interruptions old new untouched refuses (Text place fault) u h = inl (u, h)
+first_refused left has_failed interruptions old new untouched refuses (Open input) u h = absurd h
+first_refused left has_failed interruptions old new untouched refuses (File input fault) u h = (u, h)
+first_refused left has_failed interruptions old new untouched refuses (Text input fault) u h = inl (u, h)
 first_refused left has_failed interruptions old new untouched refuses (NoRoom why) u h = absurd h
 first_refused left has_failed interruptions old new untouched refuses Write u h = absurd h
 first_refused left has_failed interruptions old new untouched refuses Memory u h = absurd h
@@ -37,12 +37,12 @@ pub not_read : {S : Type 0} (left : S → Option (List ℕ)) (has_failed : S →
 not_read left has_failed interruptions floor old new olds fault h =
     first_refused left has_failed interruptions old new (olds ≡ olds) (RefusesToPlan left has_failed floor old new olds olds) fault refl h
 
--- a text's first fault, or want of memory where it has none
-faulty : (told : Result (List ℕ) LineFault) (fault : LineFault) → option_map wrong.Line (result_err told) ≡ Some (wrong.Line fault) → told ≡ Err fault
+-- a text's first fault, or out of memory where it has none
+faulty : (told : Result (List ℕ) RootsLineFault) (fault : RootsLineFault) → option_map wrong.Line (result_err told) ≡ Some (wrong.Line fault) → told ≡ Err fault
 faulty (Ok roots) fault e = absurd (cc)
 faulty (Err other) fault e = let same : other ≡ fault = cc in ap (λ f. Err f) same
 
-sound : (told : Result (List ℕ) LineFault) → option_map wrong.Line (result_err told) ≡ None → (roots : List ℕ) × (told ≡ Ok roots)
+sound : (told : Result (List ℕ) RootsLineFault) → option_map wrong.Line (result_err told) ≡ None → (roots : List ℕ) × (told ≡ Ok roots)
 sound (Ok roots) e = (roots, refl)
 sound (Err fault) e = absurd (cc)
 
@@ -70,9 +70,9 @@ pub not_planned : {S : Type 0} (left : S → Option (List ℕ)) (has_failed : S 
     (olds news : List S) (sink_failed : Bool) (roots : List ℕ) (facts : Facts) (fault : Fault)
     → AreRead left has_failed asked.floor old new olds news roots facts → roots_fault (is_usable (cells_of facts)) roots ≡ None
     → IsWritingFault asked.lmc facts sink_failed fault → IsFaultOfFiles left has_failed interruptions asked old new olds news sink_failed fault
-not_planned left has_failed interruptions asked old new olds news sink_failed roots facts (Open place) r s h = absurd h
-not_planned left has_failed interruptions asked old new olds news sink_failed roots facts (File place fault) r s h = absurd h
-not_planned left has_failed interruptions asked old new olds news sink_failed roots facts (Text place fault) r s h = absurd h
+not_planned left has_failed interruptions asked old new olds news sink_failed roots facts (Open input) r s h = absurd h
+not_planned left has_failed interruptions asked old new olds news sink_failed roots facts (File input fault) r s h = absurd h
+not_planned left has_failed interruptions asked old new olds news sink_failed roots facts (Text input fault) r s h = absurd h
 not_planned left has_failed interruptions asked old new olds news sink_failed roots facts (NoRoom why) r s h =
     record { roots = roots; facts = facts; read = r; sound = s; fails = h }
 not_planned left has_failed interruptions asked old new olds news sink_failed roots facts Write r s h =

@@ -19,23 +19,23 @@ use Rattle.record_file.specs.declared.file_fault.FileFault.TheVariants.{Memory, 
 use Rattle.sm_cli.specs.Run.{AreReadAs, IsReadAs, IsReadAt, ReadsInto, Refuses, facts_of, floor_among}
 
 -- a source is replaced by what is left of it
-pub there_after : {S : Type 0} (sources : List S) (place : ℕ) (after : S) → place < length sources → slice_get (set sources place after) place ≡ Some after
-there_after sources place after within =
-    let still : place < length (set sources place after) = omega (arith, length-set sources place after) in
-    slice_get-get_or (set sources place after) place after still ∙ ap Some (get_or-set_same sources place after after within)
+pub there_after : {S : Type 0} (sources : List S) (input : ℕ) (after : S) → input < length sources → slice_get (set sources input after) input ≡ Some after
+there_after sources input after within =
+    let still : input < length (set sources input after) = omega (arith, length-set sources input after) in
+    slice_get-get_or (set sources input after) input after still ∙ ap Some (get_or-set_same sources input after after within)
 
 -- the others stay
-pub elsewhere : {S : Type 0} (sources : List S) (place : ℕ) (after : S) (k : ℕ) → place + 1 ≤ k → slice_get (set sources place after) k ≡ slice_get sources k
-elsewhere [] place after k h = refl
+pub elsewhere : {S : Type 0} (sources : List S) (input : ℕ) (after : S) (k : ℕ) → input + 1 ≤ k → slice_get (set sources input after) k ≡ slice_get sources k
+elsewhere [] input after k h = refl
 elsewhere (x ∷ sources) zero after (suc k) h = refl
-elsewhere (x ∷ sources) (suc place) after (suc k) h = elsewhere sources place after k (omega arith)
-elsewhere (x ∷ sources) place after zero h = absurd (omega arith)
+elsewhere (x ∷ sources) (suc input) after (suc k) h = elsewhere sources input after k (omega arith)
+elsewhere (x ∷ sources) input after zero h = absurd (omega arith)
 
-earlier : {S : Type 0} (sources : List S) (place : ℕ) (after : S) (k : ℕ) → k < place → slice_get (set sources place after) k ≡ slice_get sources k
-earlier [] place after k h = refl
+earlier : {S : Type 0} (sources : List S) (input : ℕ) (after : S) (k : ℕ) → k < input → slice_get (set sources input after) k ≡ slice_get sources k
+earlier [] input after k h = refl
 earlier (x ∷ sources) zero after k h = absurd (omega arith)
-earlier (x ∷ sources) (suc place) after zero h = refl
-earlier (x ∷ sources) (suc place) after (suc k) h = earlier sources place after k (omega arith)
+earlier (x ∷ sources) (suc input) after zero h = refl
+earlier (x ∷ sources) (suc input) after (suc k) h = earlier sources input after k (omega arith)
 
 -- an element of a list with one more at its end
 pub front_of_more : {X : Type 0} (xs : List X) (last : X) (k : ℕ) → k < length xs → slice_get (xs ++ last ∷ []) k ≡ slice_get xs k
@@ -74,35 +74,35 @@ inside (y ∷ xs) zero x e = omega arith
 inside (y ∷ xs) (suc k) x e = let i = inside xs k x e in omega arith
 
 module _ {S : Type 0} (left : S → Option (List ℕ)) (has_failed : S → Bool) where
-  -- what was read of the sources before a place stays when the one there is read
-  pub reads_stay : (olds news : List S) (files : List (List ℕ)) (place : ℕ) (after : S) → length files ≡ place → AreReadAs left has_failed olds news files → AreReadAs left has_failed olds (set news place after) files
-  reads_stay olds news files place after as_many before k file at =
+  -- what was read of the sources before an input stays when the one there is read
+  pub reads_stay : (olds news : List S) (files : List (List ℕ)) (input : ℕ) (after : S) → length files ≡ input → AreReadAs left has_failed olds news files → AreReadAs left has_failed olds (set news input after) files
+  reads_stay olds news files input after as_many before k file at =
       let r = before k file at in
-      let low : k < place = let i = inside files k file at in omega arith in
+      let low : k < input = let i = inside files k file at in omega arith in
       record {
         old = r.old;
         new = r.new;
         there = r.there;
-        there_after = earlier news place after k low ∙ r.there_after;
+        there_after = earlier news input after k low ∙ r.there_after;
         read = r.read;
       }
 
   -- one more source was read
   pub read_more :
-      (olds news : List S) (files : List (List ℕ)) (place : ℕ) (old after : S) (file : List ℕ)
-      → length files ≡ place → AreReadAs left has_failed olds news files → slice_get olds place ≡ Some old → place < length news → IsReadAs left has_failed old after file
-      → AreReadAs left has_failed olds (set news place after) (files ++ file ∷ [])
-  read_more olds news files place old after file as_many before there within read k f at =
-      elim (nat_lt k (length files)) as (λ t. nat_lt k (length files) ≡ t → IsReadAt left has_failed olds (set news place after) k f) [
-        | true ↦ λ p. reads_stay olds news files place after as_many before k f (sym (front_of_more files file k (ltb-true _ _ p)) ∙ at)
+      (olds news : List S) (files : List (List ℕ)) (input : ℕ) (old after : S) (file : List ℕ)
+      → length files ≡ input → AreReadAs left has_failed olds news files → slice_get olds input ≡ Some old → input < length news → IsReadAs left has_failed old after file
+      → AreReadAs left has_failed olds (set news input after) (files ++ file ∷ [])
+  read_more olds news files input old after file as_many before there within read k f at =
+      elim (nat_lt k (length files)) as (λ t. nat_lt k (length files) ≡ t → IsReadAt left has_failed olds (set news input after) k f) [
+        | true ↦ λ p. reads_stay olds news files input after as_many before k f (sym (front_of_more files file k (ltb-true _ _ p)) ∙ at)
         | false ↦ λ p.
             let same = last_of_more files file k (ltb-false _ _ p) f at in
-            let here : k ≡ place = same.0 ∙ as_many in
+            let here : k ≡ input = same.0 ∙ as_many in
             record {
               old = old;
               new = after;
               there = ap (slice_get olds) here ∙ there;
-              there_after = ap (slice_get (set news place after)) here ∙ there_after news place after within;
+              there_after = ap (slice_get (set news input after)) here ∙ there_after news input after within;
               read = subst (IsReadAs left has_failed old after) same.1 read;
             }
       ] refl
@@ -169,11 +169,11 @@ facts-none floor facts facts' e up =
     up ∙ ap (λ x. raised x floor) e ∙ raising_forgets 1 floor [] ∙ at_same_floor (max 1 floor) floor (seen []) (omega arith)
 
 -- the first sources were read, the others are as they were, and the facts are what the files say
-pub record HasReadSome {S : Type 0} (left : S → Option (List ℕ)) (has_failed : S → Bool) (floor : ℕ) (olds news : List S) (place : ℕ) (facts : Facts) : Type 0 where
+pub record HasReadSome {S : Type 0} (left : S → Option (List ℕ)) (has_failed : S → Bool) (floor : ℕ) (olds news : List S) (input : ℕ) (facts : Facts) : Type 0 where
   pub as_many : length news ≡ length olds
-  pub untouched : (k : ℕ) → place ≤ k → slice_get news k ≡ slice_get olds k
+  pub untouched : (k : ℕ) → input ≤ k → slice_get news k ≡ slice_get olds k
   pub files : List (List ℕ)
-  pub one_each : length files ≡ place
+  pub one_each : length files ≡ input
   pub read : AreReadAs left has_failed olds news files
   pub told : facts ≡ facts_of floor files
 

@@ -31,9 +31,9 @@ file_status BadFloor = Refused
 
 -- what a fault ends the program with
 abbrev pub status_of : Fault → ExitStatus
-status_of (Open place) = InputOutput
-status_of (File place fault) = file_status fault
-status_of (Text place fault) = if is_of_text fault then Refused else Memory
+status_of (Open input) = InputOutput
+status_of (File input fault) = file_status fault
+status_of (Text input fault) = if is_of_text fault then Refused else Memory
 status_of (NoRoom why) = Refused
 status_of Write = InputOutput
 status_of NoMemory = Memory

@@ -32,7 +32,7 @@ cause_text (Some fault) = codes ": " ++ report_fault_name fault
 abbrev pub words_of : FileFault → List ℕ
 words_of fault = fault_words fault ++ number_text (fault_number fault) ++ cause_text (fault_of_report fault)
 
--- what is said of the file with this name; want of memory is not the file's
+-- what is said of the file with this name; out of memory is not the file's
 abbrev pub file_fault_text : List ℕ → FileFault → List ℕ
 file_fault_text name fault = if is_of_file fault then named_text name (words_of fault) else words_of fault
 
@@ -50,9 +50,9 @@ no_room_text why = codes "no room: " ++ count_text why.endports ++ codes ", room
 
 -- what is said of a run that ends with the fault, where that is the name of the file that it speaks of
 abbrev pub fault_text : List ℕ → Fault → List ℕ
-fault_text name (Open place) = named_text name (codes "cannot open")
-fault_text name (File place fault) = file_fault_text name fault
-fault_text name (Text place fault) = text_fault_text name fault
+fault_text name (Open input) = named_text name (codes "cannot open")
+fault_text name (File input fault) = file_fault_text name fault
+fault_text name (Text input fault) = text_fault_text name fault
 fault_text name (NoRoom why) = no_room_text why
 fault_text name Write = codes "write failed"
 fault_text name Memory = codes "out of memory"

@@ -1,4 +1,3 @@
-pub mod FactsText
 pub mod Faults
 pub mod FaultText
 pub mod ExitStatus

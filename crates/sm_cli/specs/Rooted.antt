@@ -6,8 +6,8 @@ use Rattle.subnet_view.specs.Reading.{is_usable}
 use Rattle.record_file.specs.Whole.{IsReadWhole, FailsToRead}
 use Rattle.record_file.specs.declared.file_fault.FileFault.{FileFault}
 use Rattle.roots_file.specs.Reading.{roots_of}
-use Rattle.roots_file.specs.declared.fault.TextFault.{TextFault as RootsFault}
-use Rattle.roots_file.specs.declared.fault.TextFault.TheVariants as wrong
+use Rattle.roots_file.specs.declared.fault.RootsTextFault.{RootsTextFault as RootsFault}
+use Rattle.roots_file.specs.declared.fault.RootsTextFault.TheVariants as wrong
 use Rattle.lid_assign.specs.LidFault.{no_room}
 use Rattle.lft_blocks.specs.Plan.{plan_by}
 use Rattle.lft_blocks.specs.PlanText.{plan_text}
@@ -59,8 +59,8 @@ IsTextRefused left has_failed old new fault = ⊥
 
 -- why the roots are not read: of the first of the files that are named
 abbrev pub IsRootsFault : {S : Type 0} → (S → Option (List ℕ)) → (S → Bool) → (S → ℕ) → S → S → Fault → Type 0
-IsRootsFault left has_failed interruptions old new (File place fault) = (place ≡ 0) × FailsToRead left has_failed interruptions old new fault
-IsRootsFault left has_failed interruptions old new (Text place fault) = (place ≡ 0) × IsTextRefused left has_failed old new fault
+IsRootsFault left has_failed interruptions old new (File input fault) = (input ≡ 0) × FailsToRead left has_failed interruptions old new fault
+IsRootsFault left has_failed interruptions old new (Text input fault) = (input ≡ 0) × IsTextRefused left has_failed old new fault
 IsRootsFault left has_failed interruptions old new fault = ⊥
 
 -- plans -----------------------------------------------------------------------------------------
@@ -106,20 +106,20 @@ pub record FailsToPlan {S : Type 0} (left : S → Option (List ℕ)) (has_failed
 
 -- the roots were read, and a file is refused
 pub record RefusesOneFile {S : Type 0} (left : S → Option (List ℕ)) (has_failed : S → Bool) (interruptions : S → ℕ) (old new : S) (olds news : List S)
-    (place : ℕ) (fault : FileFault) : Type 0 where
+    (input : ℕ) (fault : FileFault) : Type 0 where
   pub roots : List ℕ
   pub roots_read : IsRoots left has_failed old new roots
-  pub refused : RefusesFile left has_failed interruptions olds news place fault
+  pub refused : RefusesFile left has_failed interruptions olds news input fault
 
 -- a fault of the text of roots: of the text alone, while nothing else was touched, or of the roots that it names, for such a reason
 abbrev pub IsFaultOfRoots : {S : Type 0} → (S → Option (List ℕ)) → (S → Bool) → (S → ℕ) → S → S → Type 0 → (TextFault → Type 0) → Fault → Type 0
-IsFaultOfRoots left has_failed interruptions old new untouched refuses (Text place fault) =
-    (untouched × IsRootsFault left has_failed interruptions old new (Text place fault)) ⊎ ((place ≡ 0) × refuses fault)
+IsFaultOfRoots left has_failed interruptions old new untouched refuses (Text input fault) =
+    (untouched × IsRootsFault left has_failed interruptions old new (Text input fault)) ⊎ ((input ≡ 0) × refuses fault)
 IsFaultOfRoots left has_failed interruptions old new untouched refuses fault = untouched × IsRootsFault left has_failed interruptions old new fault
 
 abbrev pub IsFaultOfFiles : {S : Type 0} → (S → Option (List ℕ)) → (S → Bool) → (S → ℕ) → RootedPlan → S → S → List S → List S → Bool → Fault → Type 0
-IsFaultOfFiles left has_failed interruptions asked old new olds news sink_failed (File place fault) =
-    RefusesOneFile left has_failed interruptions old new olds news place fault
+IsFaultOfFiles left has_failed interruptions asked old new olds news sink_failed (File input fault) =
+    RefusesOneFile left has_failed interruptions old new olds news input fault
 IsFaultOfFiles left has_failed interruptions asked old new olds news sink_failed fault =
     FailsToPlan left has_failed asked old new olds news sink_failed fault
 

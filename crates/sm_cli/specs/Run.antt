@@ -16,10 +16,10 @@ use Rattle.lft_blocks.specs.Plan.{plan_by}
 use Rattle.lft_blocks.specs.PlanText.{plan_text}
 use Rattle.sm_cli.specs.declared.fault.Fault.{Fault}
 use Rattle.sm_cli.specs.declared.fault.Fault.TheVariants.{Open, File, Text, NoRoom, Write, Memory}
-use Rattle.sm_cli.specs.declared.run.Command.{Command}
+use Rattle.sm_cli.specs.declared.run.Invocation.{Invocation}
 use Rattle.sm_cli.specs.declared.run.Output.{Output}
 use Rattle.sm_cli.specs.declared.run.Output.TheVariants as output
-use Rattle.sm_cli.specs.FactsText.{facts_text}
+use Rattle.record_file.specs.FactsText.{facts_text}
 use Rattle.sm_cli.specs.Kinds.{rule_of_kind}
 
 -- the greatest of a floor and those that the files tell
@@ -57,9 +57,9 @@ IsWritingFault lmc facts sink_failed fault = ⊥
 
 -- why the facts are not answered
 abbrev pub IsAnswerFault : Output → Facts → Bool → Fault → Type 0
-IsAnswerFault what facts sink_failed (Open place) = ⊥
-IsAnswerFault what facts sink_failed (File place fault) = ⊥
-IsAnswerFault what facts sink_failed (Text place fault) = ⊥
+IsAnswerFault what facts sink_failed (Open input) = ⊥
+IsAnswerFault what facts sink_failed (File input fault) = ⊥
+IsAnswerFault what facts sink_failed (Text input fault) = ⊥
 IsAnswerFault what facts sink_failed (NoRoom why) = IsPlanned what facts (Some why)
 IsAnswerFault what facts sink_failed Write = IsTrue sink_failed
 IsAnswerFault what facts sink_failed Memory = IsPlanned what facts None
@@ -77,17 +77,17 @@ pub record ReadsInto {S : Type 0} (left : S → Option (List ℕ)) (has_failed :
   pub read : IsReadAs left has_failed old new file
   pub merged : facts' ≡ merge facts (facts_in file)
 
--- the one of the sources at a place was read
-pub record IsReadAt {S : Type 0} (left : S → Option (List ℕ)) (has_failed : S → Bool) (olds news : List S) (place : ℕ) (file : List ℕ) : Type 0 where
+-- the one of the sources at an input was read
+pub record IsReadAt {S : Type 0} (left : S → Option (List ℕ)) (has_failed : S → Bool) (olds news : List S) (input : ℕ) (file : List ℕ) : Type 0 where
   pub old : S
   pub new : S
-  pub there : slice_get olds place ≡ Some old
-  pub there_after : slice_get news place ≡ Some new
+  pub there : slice_get olds input ≡ Some old
+  pub there_after : slice_get news input ≡ Some new
   pub read : IsReadAs left has_failed old new file
 
 -- so were the first of the sources, one for each of the files
 abbrev pub AreReadAs : {S : Type 0} → (S → Option (List ℕ)) → (S → Bool) → List S → List S → List (List ℕ) → Type 0
-AreReadAs left has_failed olds news files = (place : ℕ) (file : List ℕ) → slice_get files place ≡ Some file → IsReadAt left has_failed olds news place file
+AreReadAs left has_failed olds news files = (input : ℕ) (file : List ℕ) → slice_get files input ≡ Some file → IsReadAt left has_failed olds news input file
 
 -- all sources were read, and this is what their files say
 pub record HasRead {S : Type 0} (left : S → Option (List ℕ)) (has_failed : S → Bool) (floor : ℕ) (olds news : List S) (facts : Facts) : Type 0 where
@@ -97,7 +97,7 @@ pub record HasRead {S : Type 0} (left : S → Option (List ℕ)) (has_failed : S
   pub told : facts ≡ facts_of floor files
 
 -- all sources were read, and what their files say was written
-pub record HasAnswered {S : Type 0} (left : S → Option (List ℕ)) (has_failed : S → Bool) (command : Command) (olds news : List S) (written written' : Option (List ℕ)) : Type 0 where
+pub record HasAnswered {S : Type 0} (left : S → Option (List ℕ)) (has_failed : S → Bool) (command : Invocation) (olds news : List S) (written written' : Option (List ℕ)) : Type 0 where
   pub files : List (List ℕ)
   pub one_each : length files ≡ length olds
   pub read : AreReadAs left has_failed olds news files
@@ -115,29 +115,29 @@ pub record Refuses {S : Type 0} (left : S → Option (List ℕ)) (has_failed : S
   pub read : (fault ≡ Read) ↔ IsTrue (has_failed new)
   pub known : AnswersKnown left interruptions (Err fault) old new
 
--- the sources before a place were read, and reading the one there ends with this fault
-pub record RefusesFile {S : Type 0} (left : S → Option (List ℕ)) (has_failed : S → Bool) (interruptions : S → ℕ) (olds news : List S) (place : ℕ) (fault : FileFault) : Type 0 where
+-- the sources before an input were read, and reading the one there ends with this fault
+pub record RefusesFile {S : Type 0} (left : S → Option (List ℕ)) (has_failed : S → Bool) (interruptions : S → ℕ) (olds news : List S) (input : ℕ) (fault : FileFault) : Type 0 where
   pub files : List (List ℕ)
-  pub as_many : length files ≡ place
+  pub as_many : length files ≡ input
   pub read : AreReadAs left has_failed olds news files
   pub old : S
   pub new : S
-  pub there : slice_get olds place ≡ Some old
-  pub there_after : slice_get news place ≡ Some new
+  pub there : slice_get olds input ≡ Some old
+  pub there_after : slice_get news input ≡ Some new
   pub refuses : Refuses left has_failed interruptions old new fault
 
 -- all sources were read, but what they say is not answered
-pub record FailsToAnswer {S : Type 0} (left : S → Option (List ℕ)) (has_failed : S → Bool) (command : Command) (olds news : List S) (sink_failed : Bool) (fault : Fault) : Type 0 where
+pub record FailsToAnswer {S : Type 0} (left : S → Option (List ℕ)) (has_failed : S → Bool) (command : Invocation) (olds news : List S) (sink_failed : Bool) (fault : Fault) : Type 0 where
   pub files : List (List ℕ)
   pub one_each : length files ≡ length olds
   pub read : AreReadAs left has_failed olds news files
   pub fails : IsAnswerFault command.output (facts_of command.floor files) sink_failed fault
 
 -- why a run over open files ends early
-abbrev pub IsFaultOf : {S : Type 0} → (S → Option (List ℕ)) → (S → Bool) → (S → ℕ) → Command → List S → List S → Bool → Fault → Type 0
-IsFaultOf left has_failed interruptions command olds news sink_failed (Open place) = ⊥
-IsFaultOf left has_failed interruptions command olds news sink_failed (File place fault) = RefusesFile left has_failed interruptions olds news place fault
-IsFaultOf left has_failed interruptions command olds news sink_failed (Text place fault) = ⊥
+abbrev pub IsFaultOf : {S : Type 0} → (S → Option (List ℕ)) → (S → Bool) → (S → ℕ) → Invocation → List S → List S → Bool → Fault → Type 0
+IsFaultOf left has_failed interruptions command olds news sink_failed (Open input) = ⊥
+IsFaultOf left has_failed interruptions command olds news sink_failed (File input fault) = RefusesFile left has_failed interruptions olds news input fault
+IsFaultOf left has_failed interruptions command olds news sink_failed (Text input fault) = ⊥
 IsFaultOf left has_failed interruptions command olds news sink_failed (NoRoom why) = FailsToAnswer left has_failed command olds news sink_failed (NoRoom why)
 IsFaultOf left has_failed interruptions command olds news sink_failed Write = FailsToAnswer left has_failed command olds news sink_failed Write
 IsFaultOf left has_failed interruptions command olds news sink_failed Memory = FailsToAnswer left has_failed command olds news sink_failed Memory

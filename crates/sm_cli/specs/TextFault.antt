@@ -4,10 +4,10 @@ use Rattle.topo_file.specs.declared.fault.TopoFault.TheVariants as topology
 use Rattle.topo_file.specs.TopoFault as topologies
 use Rattle.schedule_file.specs.declared.fault.ScheduleFault.TheVariants as schedule
 use Rattle.schedule_file.specs.ScheduleFault as schedules
-use Rattle.plan_file.specs.declared.fault.TextFault.TheVariants as tables
-use Rattle.plan_file.specs.TextFault as plans
-use Rattle.roots_file.specs.declared.fault.TextFault.TheVariants as roots
-use Rattle.roots_file.specs.TextFault as root_texts
+use Rattle.plan_file.specs.declared.fault.PlanTextFault.TheVariants as tables
+use Rattle.plan_file.specs.PlanTextFault as plans
+use Rattle.roots_file.specs.declared.fault.RootsTextFault.TheVariants as roots
+use Rattle.roots_file.specs.RootsTextFault as root_texts
 use Rattle.smp_bytes.specs.Text.{guid_text}
 use Rattle.sm_cli.specs.declared.text_fault.TextFault.{TextFault}
 use Rattle.sm_cli.specs.declared.text_fault.TextFault.TheVariants.{NotUtf8, Topology, Schedule, Tables, Roots, NoRoot, NoSwitch}
@@ -35,7 +35,7 @@ abbrev pub text_fault_guid : TextFault → Option ℕ
 text_fault_guid (NoSwitch guid) = Some guid
 text_fault_guid _ = None
 
--- want of memory is not the text's
+-- out of memory is not the text's
 abbrev pub is_of_text : TextFault → Bool
 is_of_text (Topology topology.Memory) = false
 is_of_text (Schedule schedule.Memory) = false

@@ -2,22 +2,23 @@ ghost use Rattle.std.specs.Prelude.{◌≡◌};
 
 use crate::exit_status::ExitStatus;
 use crate::text_fault::TextFault;
+use byte_io::WriteFault;
 use lid_assign::{LidFault, NoRoom};
-use record_file::{FileFault, WriteFault};
+use record_file::FileFault;
 use thiserror::Error;
 
-/// Why a run ended early. A place is that of a file among those that were named, counted from 0.
+/// Why a run ended early. An input is a file by its index among those that were named, from 0.
 #[derive(Clone, Copy, Debug, PartialEq, Eq, Error)]
 pub enum Fault {
     /// The file cannot be opened.
     #[error("cannot open")]
-    Open { place: usize },
+    Open { input: usize },
     /// What is wrong with the file, or that memory was refused as it was taken in.
     #[error("{fault}")]
-    File { place: usize, fault: FileFault },
+    File { input: usize, fault: FileFault },
     /// What is wrong with the text of a topology or a schedule, or that memory was refused as it was judged.
     #[error("{fault}")]
-    Text { place: usize, fault: TextFault },
+    Text { input: usize, fault: TextFault },
     /// There are end ports, and no fewer of them than the smallest forwarding table has room for LIDs, 0 among them.
     #[error("no room: {} end ports, room {}", .0.endports, .0.room)]
     NoRoom(NoRoom),

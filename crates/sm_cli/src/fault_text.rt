@@ -1,13 +1,14 @@
 //! What the program says of a fault, one line that begins with its own name.
-ghost use Rattle.record_file.specs.Writes.{Writes};
+ghost use Rattle.byte_io.specs.Writes.{Writes};
 ghost use Rattle.sm_cli.specs.FaultText.{name_text, number_text, cause_text, words_of, file_fault_text, text_fault_text, count_text, no_room_text, fault_text, program_line};
 ghost use Rattle.sm_cli.specs.TextFault.{guid_behind, line_text, said_of_text};
 
 use crate::fault::Fault;
 use crate::text_fault::TextFault;
+use byte_io::{Sink, WriteFault, write_guid, write_number};
 use fact_store::ReportFault;
 use lid_assign::NoRoom;
-use record_file::{FileFault, Sink, WriteFault, write_guid, write_number};
+use record_file::FileFault;
 use smp_bytes::Guid;
 
 /// Writes the line of a fault; `name` is that of the file that it speaks of.

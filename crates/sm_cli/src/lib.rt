@@ -2,7 +2,6 @@
 #![tactic(auto)]
 
 mod exit_status;
-mod facts_text;
 mod fault;
 mod fault_text;
 pub mod laws;
@@ -12,10 +11,9 @@ mod text_fault;
 mod whose_fault;
 
 pub use exit_status::ExitStatus;
-pub use facts_text::{write_cell, write_facts};
 pub use fault::Fault;
 pub use fault_text::write_fault;
 pub use rooted::{RootedPlan, fault_of_first, read_roots, run_rooted};
-pub use run::{Command, Output, RefusedFile, RuleKind, read_all, rule_of_kind, run_files};
+pub use run::{Invocation, Output, RefusedFile, RuleKind, read_all, rule_of_kind, run_files};
 pub use text_fault::TextFault;
 pub use whose_fault::WhoseFault;

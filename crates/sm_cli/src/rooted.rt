@@ -13,9 +13,10 @@ use crate::run::{read_all, write_plan_by};
 use crate::text_fault::TextFault;
 use crate::whose_fault::WhoseFault;
 use attr_codec::Lmc;
+use byte_io::{Sink, Source};
 use fact_store::Store;
 use lft_blocks::Rule;
-use record_file::{Sink, Source, read_whole};
+use record_file::read_whole;
 use roots_file::parse;
 use smp_bytes::{Generation, Guid};
 use std::alloc::Global;
@@ -58,13 +59,13 @@ pub fn run_rooted<S: Source, W: Sink>(
         Ok(store) => store,
         Err(refused) => {
             return Err(WhoseFault::Files(Fault::File {
-                place: refused.place,
+                input: refused.input,
                 fault: refused.fault,
             }));
         }
     };
     if let Some(fault) = roots_fault(&roots, &store) {
-        return Err(WhoseFault::Text(Fault::Text { place: 0, fault }));
+        return Err(WhoseFault::Text(Fault::Text { input: 0, fault }));
     }
     match write_rooted(alloc, sink, &store, asked.lmc, roots) {
         Ok(()) => Ok(()),
@@ -81,12 +82,12 @@ pub fn read_roots<S: Source>(alloc: Global, roots: &mut S) -> Result<Vec<Guid>, 
 {
     let text = match read_whole(alloc, roots) {
         Ok(text) => text,
-        Err(fault) => return Err(Fault::File { place: 0, fault }),
+        Err(fault) => return Err(Fault::File { input: 0, fault }),
     };
     match parse(alloc, &text) {
         Ok(roots) => Ok(roots),
         Err(fault) => Err(Fault::Text {
-            place: 0,
+            input: 0,
             fault: TextFault::Roots(fault),
         }),
     }

@@ -3,18 +3,18 @@ ghost use Rattle.std.specs.Io.KnownBytes.{Appends};
 ghost use Rattle.fact_store.specs.View.{cells_of};
 ghost use Rattle.subnet_view.specs.Reading.{Cells};
 ghost use Rattle.lid_assign.specs.LidFault.{no_room};
-ghost use Rattle.spread_rule.specs.Rules.{rule_of, value_of};
+ghost use Rattle.lft_blocks.specs.Rules.{rule_of, value_of};
 ghost use Rattle.lft_blocks.specs.Plan.{plan_by};
 ghost use Rattle.lft_blocks.specs.PlanText.{plan_text};
 ghost use Rattle.sm_cli.specs.Kinds.{rule_of_kind, value_of_kind};
 ghost use Rattle.sm_cli.specs.Run.{HasAnswered, HasRead, IsAnswered, IsAnswerFault, IsFaultOf, IsWritingFault, ReadsInto, Refuses, RefusesFile, answer_to};
 
-use crate::facts_text::write_facts;
 use crate::fault::Fault;
 use attr_codec::Lmc;
+use byte_io::{Sink, Source};
 use fact_store::Store;
 use lft_blocks::{Plan, Rule, write_plan};
-use record_file::{FileFault, Sink, Source, absorb, write_store};
+use record_file::{FileFault, absorb, write_facts, write_store};
 use smp_bytes::Generation;
 use std::alloc::Global;
 
@@ -41,7 +41,7 @@ pub enum Output {
 
 /// What a run is to do with the files.
 #[derive(Clone, Copy, Debug, PartialEq, Eq)]
-pub struct Command {
+pub struct Invocation {
     pub output: Output,
     /// What is older than this generation does not count.
     pub floor: Generation,
@@ -52,7 +52,7 @@ pub struct Command {
 pub fn run_files<S: Source, W: Sink>(
     alloc: Global,
     sources: &mut Vec<S>,
-    command: Command,
+    command: Invocation,
     sink: &mut W,
 ) -> Result<(), Fault>
     ensures done { OnOk result (HasAnswered S.left S.has_failed command
@@ -67,7 +67,7 @@ pub fn run_files<S: Source, W: Sink>(
         Ok(store) => store,
         Err(refused) => {
             return Err(Fault::File {
-                place: refused.place,
+                input: refused.input,
                 fault: refused.fault,
             });
         }
@@ -154,10 +154,10 @@ pub fn rule_of_kind(alloc: Global, kind: RuleKind) -> Rule
     }
 }
 
-/// A file that was refused: its place among those that were named, from 0, and why.
+/// A file that was refused: its input among those that were named, from 0, and why.
 #[derive(Clone, Copy, Drop)]
 pub struct RefusedFile {
-    pub place: usize,
+    pub input: usize,
     pub fault: FileFault,
 }
 
@@ -170,13 +170,13 @@ pub fn read_all<S: Source>(
     ensures read { IfOk result (HasRead S.left S.has_failed floor
         sources.old.items sources.new.items) }
     ensures refused { IfErr result (λ refused. RefusesFile S.left S.has_failed S.interruptions
-        sources.old.items sources.new.items refused.place refused.fault) }
+        sources.old.items sources.new.items refused.input refused.fault) }
 {
     let mut all = Store::new(alloc);
     all.raise_floor(floor);
-    for place in 0..sources.len() {
-        if let Err(fault) = read_into(&mut all, alloc, &mut sources[place]) {
-            return Err(RefusedFile { place, fault });
+    for input in 0..sources.len() {
+        if let Err(fault) = read_into(&mut all, alloc, &mut sources[input]) {
+            return Err(RefusedFile { input, fault });
         }
     }
     Ok(all)

@@ -19,10 +19,10 @@ pub enum TextFault {
     Schedule(ScheduleFault),
     /// What is wrong with the text of tables, or that memory was refused as it was judged.
     #[error("{0}")]
-    Tables(plan_file::TextFault),
+    Tables(plan_file::PlanTextFault),
     /// What is wrong with the text of roots, or that memory was refused as it was judged.
     #[error("{0}")]
-    Roots(roots_file::TextFault),
+    Roots(roots_file::RootsTextFault),
     /// It names no root.
     #[error("no root")]
     NoRoot,
@@ -72,7 +72,7 @@ impl TextFault {
         }
     }
 
-    /// Whether the text has the fault; want of memory is not the text's.
+    /// Whether the text has the fault; out of memory is not the text's.
     pub fn is_of_text(&self) -> bool
         ensures { result ≡ is_of_text self.now }
     {
@@ -80,8 +80,8 @@ impl TextFault {
             self,
             TextFault::Topology(TopoFault::Memory)
                 | TextFault::Schedule(ScheduleFault::Memory)
-                | TextFault::Tables(plan_file::TextFault::Memory)
-                | TextFault::Roots(roots_file::TextFault::Memory)
+                | TextFault::Tables(plan_file::PlanTextFault::Memory)
+                | TextFault::Roots(roots_file::RootsTextFault::Memory)
         )
     }
 }

@@ -1,10 +1,10 @@
 -- Of the steps that count, those that were done, those that wait and those that are still to be sent are all, where none failed.
-use Rattle.std.proofs.Common.{◌≡◌, ◌<◌, ◌≤◌, ◌+◌, ℕ, zero, suc, Bool, true, false, cond, List, [], ◌∷◌, ◌++◌, length, refl, sym, ap, ◌∙◌, subst, arith}
+use Rattle.std.proofs.Common.{◌≡◌, ◌<◌, ◌≤◌, ◌+◌, ℕ, suc, Bool, true, false, cond, List, [], ◌∷◌, ◌++◌, length, refl, sym, ap, ◌∙◌, subst, arith}
 use Rattle.std.proofs.lemmas.Bool.{cond_both, cond-true, cond-false, eq-eqb, eqb-true, and_parts, and_from}
 use Rattle.std.proofs.lemmas.List.{length-append}
 use Rattle.std.proofs.lemmas.List.Elements.{filter-append}
 use Rattle.std.proofs.lemmas.Option.{slice_get-get_or}
-use Rattle.std.specs.Prelude.{◌^◌, ◌==◌, ◌&&◌, ◌||◌, Contains, Option, Some, None, drop, filter, find, is_none, nat_le, not, remove, slice_get}
+use Rattle.std.specs.Prelude.{◌^◌, ◌==◌, ◌&&◌, ◌||◌, Contains, Option, Some, None, drop, filter, is_none, nat_le, not, remove, slice_get}
 use Rattle.std.specs.List.{AllByRecursion, list_any}
 use Rattle.smp_bytes.specs.Header.{done}
 use Rattle.smp_bytes.specs.Field.{number_in}
@@ -19,7 +19,7 @@ use Rattle.std.specs.Prelude.{Result, Ok, Err}
 use Rattle.request_table.specs.Numbers.{AreRising}
 use Rattle.request_table.proofs.Numbers.{rising_least, rising_more, rising_ordered, rising_pushed, without_at}
 use Rattle.plan_steps.specs.declared.step.Step.{Step}
-use Rattle.plan_steps.specs.Phases.{Phase, phases_of}
+use Rattle.plan_steps.specs.Phases.{Phase}
 use Rattle.sm_state.specs.declared.event.Event.TheVariants as event
 use Rattle.sm_state.specs.declared.event.Message.{Message}
 use Rattle.sm_state.specs.declared.transition.Transition.{Transition}
@@ -34,19 +34,19 @@ use Rattle.sm_manager.specs.declared.pending.Purpose.{Purpose}
 use Rattle.sm_manager.specs.declared.pending.Purpose.TheVariants as purpose
 use Rattle.sm_manager.specs.Answered.{BeginNone, BeginsNone, WrittenIsEachStepDone, counting_in, does_by_packet, does_request, does_step, one_if, steps_done}
 use Rattle.sm_manager.specs.Calls.{Call, BeginSweep, WriteSteps, Take, Packet, Timeout, Raise, Merge, Poll, Handover, after_call, after_calls}
-use Rattle.sm_manager.specs.Election.{asked, control_out, handed_over, handed_to, handover_fault, handover_move, heir_lid, info_pending, poll_fault, poll_out, poll_sent, told}
-use Rattle.sm_manager.specs.Manager.{Manager, Writing, begin_fault, new_manager, sweep_begun, taken_of}
-use Rattle.sm_manager.specs.Packets.{Called, answered_by, answers, gave_up, is_for_sweep, is_info_request, packet_taken, pending_for, refused, request_answered}
-use Rattle.sm_manager.specs.Packets.{done as done_call, request_gave_up, request_over, sweep_answered, sweep_gave_up, sweep_timed_out, unless_spent}
+use Rattle.sm_manager.specs.Election.{asked, control_out, after_handover, handed_to, handover_fault, handover_move, successor_lid, info_pending, poll_fault, poll_out, after_poll, after_message}
+use Rattle.sm_manager.specs.Manager.{Manager, Writing, begin_fault, new_manager, after_begin_sweep, taken_of}
+use Rattle.sm_manager.specs.Packets.{Called, answered_by, answers, after_timeout, is_for_sweep, is_info_request, packet_taken, pending_for, refused, request_answered}
+use Rattle.sm_manager.specs.Packets.{done as done_call, request_gave_up, after_request, sweep_answered, sweep_gave_up, sweep_timed_out, unless_spent}
 use Rattle.sm_manager.specs.Plans.{writing_fault}
-use Rattle.sm_manager.specs.Requests.{counts, how_many, is_step, no_step_waits, none_counts, with_number, without_number}
-use Rattle.sm_manager.specs.Served.{answering, controlled, is_control, moved_on, replying, served, status_for}
-use Rattle.sm_manager.specs.Standing.{is_in, moved_to}
-use Rattle.sm_manager.specs.Writing.{begun_with, is_done_by, is_spent, is_written, is_written_by, next_pending, next_phase, noted, numbered, passed, pending_step}
-use Rattle.sm_manager.specs.Writing.{phase_sent, phases_by, step_over, went_on_with, write_fault, write_fault_with, writing_begun}
+use Rattle.sm_manager.specs.ManagerRequests.{counts, how_many, is_step, no_step_waits, none_counts, with_number, without_number}
+use Rattle.sm_manager.specs.Served.{answering, controlled, is_control, moved_on, replying, served}
+use Rattle.sm_state.specs.Standing.{is_in, moved_to}
+use Rattle.sm_manager.specs.Writing.{is_done_by, is_spent, is_written, is_written_by, next_pending, next_phase, noted, numbered, without_empty_phases}
+use Rattle.sm_manager.specs.Writing.{phase_sent, phases_by, after_step, went_on_with, write_fault, write_fault_with, after_write_steps}
 use Rattle.sm_manager.proofs.Begun.{may_begin}
 use Rattle.sm_manager.proofs.Numbers as numbers
-use Rattle.sm_manager.proofs.Numbers.{many_at_most, many_pushed, many_without}
+use Rattle.sm_manager.proofs.Numbers.{many_pushed, many_without}
 
 -- requests that wait ----------------------------------------------------------------------------------
 
@@ -134,19 +134,19 @@ drop_keeps : (phases : List Phase) → CountFirst phases → CountFirst (drop 1 
 drop_keeps [] first = tt
 drop_keeps (p ∷ phases) first = first.1
 
-passed_keeps : (phases : List Phase) → CountFirst phases → CountFirst (passed phases)
+passed_keeps : (phases : List Phase) → CountFirst phases → CountFirst (without_empty_phases phases)
 passed_keeps [] first = tt
 passed_keeps (p ∷ phases) first =
-    cond_both (length p.steps == 0) (passed phases) (p ∷ phases) CountFirst (λ _. passed_keeps phases first.1) (λ _. first)
+    cond_both (length p.steps == 0) (without_empty_phases phases) (p ∷ phases) CountFirst (λ _. passed_keeps phases first.1) (λ _. first)
 
-passed_starts : (phases : List Phase) → StartsWithSteps (passed phases)
+passed_starts : (phases : List Phase) → StartsWithSteps (without_empty_phases phases)
 passed_starts [] = tt
-passed_starts (p ∷ phases) = cond_both (length p.steps == 0) (passed phases) (p ∷ phases) StartsWithSteps (λ _. passed_starts phases) (λ e. e)
+passed_starts (p ∷ phases) = cond_both (length p.steps == 0) (without_empty_phases phases) (p ∷ phases) StartsWithSteps (λ _. passed_starts phases) (λ e. e)
 
-passed_counting : (phases : List Phase) → counting_in (passed phases) ≡ counting_in phases
+passed_counting : (phases : List Phase) → counting_in (without_empty_phases phases) ≡ counting_in phases
 passed_counting [] = refl
 passed_counting (p ∷ phases) =
-    cond_both (length p.steps == 0) (passed phases) (p ∷ phases) (λ xs. counting_in xs ≡ counting_in (p ∷ phases))
+    cond_both (length p.steps == 0) (without_empty_phases phases) (p ∷ phases) (λ xs. counting_in xs ≡ counting_in (p ∷ phases))
     (λ e. passed_counting phases ∙ none p.counts (eqb-true _ _ e)) (λ _. refl)
   where
     none : (c : Bool) → length p.steps ≡ 0 → counting_in phases ≡ cond c (length p.steps) 0 + counting_in phases
@@ -210,7 +210,7 @@ asks_beside m p out number other =
       rising = λ r. rising_pushed (λ (q : Pending). q.number) 0 m.pending m.counter p r number;
     }
 
-tells_beside : (m : Manager) (to : Option ℕ) (message : Option Message) → Beside m (told m to message)
+tells_beside : (m : Manager) (to : Option ℕ) (message : Option Message) → Beside m (after_message m to message)
 tells_beside m None message = nothing m
 tells_beside m (Some lid) None = nothing m
 tells_beside m (Some lid) (Some message) =
@@ -269,7 +269,7 @@ over_by m p was_done w = record m { pending = without_number p.number m.pending;
 over_rises : (m : Manager) (p : Pending) → Rising m.counter m.pending → Rising m.counter (without_number p.number m.pending)
 over_rises m p rising = rising_filtered (λ (q : Pending). not (q.number == p.number)) 0 m.pending m.counter rising
 
-step_rises : (m : Manager) (p : Pending) (was_done : Bool) → Rising m.counter m.pending → Rising (step_over m p was_done).counter (step_over m p was_done).pending
+step_rises : (m : Manager) (p : Pending) (was_done : Bool) → Rising m.counter m.pending → Rising (after_step m p was_done).counter (after_step m p was_done).pending
 step_rises m p was_done rising = by_writing m.writing
   where
     by_writing : (o : Option Writing)
@@ -282,11 +282,11 @@ step_rises m p was_done rising = by_writing m.writing
         (λ _. phase_rises m1 w1 (over_rises m p rising)) (λ _. over_rises m p rising)
 
 request_rises : (m : Manager) (p : Pending) (answer : Option ℕ) (u : Purpose) → Rising m.counter m.pending
-    → Rising (request_over m p answer u).manager.counter (request_over m p answer u).manager.pending
+    → Rising (after_request m p answer u).manager.counter (after_request m p answer u).manager.pending
 request_rises m p answer purpose.Poll rising = over_rises m p rising
 request_rises m p answer purpose.Control rising = over_rises m p rising
 request_rises m p answer (purpose.Step c) rising =
-    cond_both (is_spent (step_over m p (is_done_by answer))) (refused m SequenceSpent) (done_call (step_over m p (is_done_by answer)))
+    cond_both (is_spent (after_step m p (is_done_by answer))) (refused m SequenceSpent) (done_call (after_step m p (is_done_by answer)))
     (λ (x : Called). Rising x.manager.counter x.manager.pending) (λ _. rising) (λ _. step_rises m p (is_done_by answer) rising)
 
 packet_rises : (m : Manager) (bytes : List ℕ) (from : Option ℕ) (why : Option SmpFault) → Rising m.counter m.pending
@@ -305,7 +305,7 @@ packet_rises m bytes from None rising = by_tests (is_info_request bytes) (is_for
     by_tests false true = (sweep_beside m bytes m.sweep).rising rising
     by_tests false false = by_pending (pending_for m bytes)
 
-timeout_rises : (m : Manager) (transaction : ℕ) → Rising m.counter m.pending → Rising (gave_up m transaction).manager.counter (gave_up m transaction).manager.pending
+timeout_rises : (m : Manager) (transaction : ℕ) → Rising m.counter m.pending → Rising (after_timeout m transaction).manager.counter (after_timeout m transaction).manager.pending
 timeout_rises m transaction rising =
     cond_both (nat_le (2 ^ 32) transaction) (sweep_gave_up m transaction m.sweep) (request_gave_up m (with_number transaction m.pending))
     (λ (x : Called). Rising x.manager.counter x.manager.pending) (λ _. (sweep_timed_beside m transaction m.sweep).rising rising)
@@ -317,19 +317,19 @@ timeout_rises m transaction rising =
 
 call_rises : (m : Manager) (call : Call) → Rising m.counter m.pending → Rising (after_call m call).counter (after_call m call).pending
 call_rises m BeginSweep rising =
-    cond_both (is_none (begin_fault m)) (sweep_begun m) m (λ (x : Manager). Rising x.counter x.pending) (λ _. rising) (λ _. rising)
+    cond_both (is_none (begin_fault m)) (after_begin_sweep m) m (λ (x : Manager). Rising x.counter x.pending) (λ _. rising) (λ _. rising)
 call_rises m WriteSteps rising =
-    cond_both (is_none (writing_fault m)) (writing_begun m) m (λ (x : Manager). Rising x.counter x.pending)
-    (λ _. phase_rises m (record { later = passed (phases_by m m.sweep); has_failed = false }) rising) (λ _. rising)
+    cond_both (is_none (writing_fault m)) (after_write_steps m) m (λ (x : Manager). Rising x.counter x.pending)
+    (λ _. phase_rises m (record { later = without_empty_phases (phases_by m m.sweep); has_failed = false }) rising) (λ _. rising)
 call_rises m Take rising = (takes_beside m m.outgoing).rising rising
 call_rises m (Packet bytes from) rising = packet_rises m bytes from (fault_of bytes) rising
 call_rises m (Timeout transaction) rising = timeout_rises m transaction rising
 call_rises m (Raise floor) rising = rising
 call_rises m (Merge floor sightings) rising = rising
 call_rises m (Poll lid) rising =
-    cond_both (is_none (poll_fault m)) (poll_sent m lid) m (λ (x : Manager). Rising x.counter x.pending) (λ _. (asks_beside m (info_pending m.counter purpose.Poll 0) (poll_out m.counter lid) refl refl).rising rising) (λ _. rising)
+    cond_both (is_none (poll_fault m)) (after_poll m lid) m (λ (x : Manager). Rising x.counter x.pending) (λ _. (asks_beside m (info_pending m.counter purpose.Poll 0) (poll_out m.counter lid) refl refl).rising rising) (λ _. rising)
 call_rises m Handover rising =
-    cond_both (is_none (handover_fault m)) (handed_over m) m (λ (x : Manager). Rising x.counter x.pending) (λ _. (hands_beside m (heir_lid m)).rising rising) (λ _. rising)
+    cond_both (is_none (handover_fault m)) (after_handover m) m (λ (x : Manager). Rising x.counter x.pending) (λ _. (hands_beside m (successor_lid m)).rising rising) (λ _. rising)
 
 calls_rise : (calls : List Call) (m : Manager) → Rising m.counter m.pending → Rising (after_calls calls m).counter (after_calls calls m).pending
 calls_rise [] m rising = rising
@@ -376,7 +376,7 @@ module _ (m : Manager) (w : Writing) (writing : m.writing ≡ Some w) (first : C
       }
 
   -- a step is over
-  step_ends : (p : Pending) → Contains m.pending p → (was_done : Bool) → StepsOn w m (step_over m p was_done) (one_if (counts p && was_done))
+  step_ends : (p : Pending) → Contains m.pending p → (was_done : Bool) → StepsOn w m (after_step m p was_done) (one_if (counts p && was_done))
   step_ends p there was_done =
       subst (λ (o : Option Writing). StepsOn w m (went_on_with (over_by m p was_done o) (noted (counts p) was_done o)) (one_if (counts p && was_done))) (sym writing)
       (cond_both (no_step_waits (without_number p.number m.pending)) (phase_sent m1 w1) m1 (λ (x : Manager). StepsOn w m x (one_if (counts p && was_done)))
@@ -414,7 +414,7 @@ module _ (m : Manager) (w : Writing) (writing : m.writing ≡ Some w) (first : C
           let later = passed_counting (drop 1 w.later) in
           let all = first_counting w.later in
           record {
-            now = record w1 { later = passed (drop 1 w.later) };
+            now = record w1 { later = without_empty_phases (drop 1 w.later) };
             is = refl;
             first = passed_keeps (drop 1 w.later) (drop_keeps w.later first);
             starts = passed_starts (drop 1 w.later);
@@ -455,24 +455,24 @@ module _ (m : Manager) (w : Writing) (writing : m.writing ≡ Some w) (first : C
   none_timed false b = refl
 
   request_ends : (p : Pending) → Contains m.pending p → (answer : Option ℕ)
-      → StepsOn w m (request_over m p answer p.purpose).manager (one_if (counts p && (is_done_by answer && is_none (request_over m p answer p.purpose).fault)))
+      → StepsOn w m (after_request m p answer p.purpose).manager (one_if (counts p && (is_done_by answer && is_none (after_request m p answer p.purpose).fault)))
   request_ends p there answer = by_purpose p.purpose refl
     where
       by_purpose : (u : Purpose) → p.purpose ≡ u
-          → StepsOn w m (request_over m p answer u).manager (one_if (counts p && (is_done_by answer && is_none (request_over m p answer u).fault)))
+          → StepsOn w m (after_request m p answer u).manager (one_if (counts p && (is_done_by answer && is_none (after_request m p answer u).fault)))
       by_purpose purpose.Poll is =
           let other : counts p ≡ false = ap (λ u. counts (record p { purpose = u })) is in
-          subst (λ b. StepsOn w m (request_over m p answer purpose.Poll).manager (one_if (b && (is_done_by answer && true)))) (sym other)
+          subst (λ b. StepsOn w m (after_request m p answer purpose.Poll).manager (one_if (b && (is_done_by answer && true)))) (sym other)
           (from_beside _ (gone_beside p there other _ refl refl refl))
       by_purpose purpose.Control is =
           let other : counts p ≡ false = ap (λ u. counts (record p { purpose = u })) is in
-          subst (λ b. StepsOn w m (request_over m p answer purpose.Control).manager (one_if (b && (is_done_by answer && true)))) (sym other)
+          subst (λ b. StepsOn w m (after_request m p answer purpose.Control).manager (one_if (b && (is_done_by answer && true)))) (sym other)
           (from_beside _ (gone_beside p there other _ refl refl refl))
       by_purpose (purpose.Step c) is =
-          cond_both (is_spent (step_over m p (is_done_by answer))) (refused m SequenceSpent) (done_call (step_over m p (is_done_by answer)))
+          cond_both (is_spent (after_step m p (is_done_by answer))) (refused m SequenceSpent) (done_call (after_step m p (is_done_by answer)))
           (λ (x : Called). StepsOn w m x.manager (one_if (counts p && (is_done_by answer && is_none x.fault))))
           (λ _. subst (StepsOn w m m) (none_done (counts p) (is_done_by answer)) (from_beside m (nothing m)))
-          (λ _. subst (StepsOn w m (step_over m p (is_done_by answer))) (all_done (counts p) (is_done_by answer)) (step_ends p there (is_done_by answer)))
+          (λ _. subst (StepsOn w m (after_step m p (is_done_by answer))) (all_done (counts p) (is_done_by answer)) (step_ends p there (is_done_by answer)))
 
   packet_ends : (bytes : List ℕ) (from : Option ℕ) (why : Option SmpFault) → StepsOn w m (packet_taken m bytes from why).manager (one_if (does_by_packet m bytes why))
   packet_ends bytes from (Some why) = from_beside m (nothing m)
@@ -489,7 +489,7 @@ module _ (m : Manager) (w : Writing) (writing : m.writing ≡ Some w) (first : C
       by_tests false true = from_beside _ (sweep_beside m bytes m.sweep)
       by_tests false false = by_pending (pending_for m bytes) refl
 
-  timeout_ends : (transaction : ℕ) → StepsOn w m (gave_up m transaction).manager 0
+  timeout_ends : (transaction : ℕ) → StepsOn w m (after_timeout m transaction).manager 0
   timeout_ends transaction =
       cond_both (nat_le (2 ^ 32) transaction) (sweep_gave_up m transaction m.sweep) (request_gave_up m (with_number transaction m.pending))
       (λ (x : Called). StepsOn w m x.manager 0) (λ _. from_beside _ (sweep_timed_beside m transaction m.sweep)) (λ _. by_pending (with_number transaction m.pending) refl)
@@ -497,16 +497,16 @@ module _ (m : Manager) (w : Writing) (writing : m.writing ≡ Some w) (first : C
       by_pending : (o : Option Pending) → with_number transaction m.pending ≡ o → StepsOn w m (request_gave_up m o).manager 0
       by_pending None e = from_beside m (nothing m)
       by_pending (Some p) e =
-          subst (StepsOn w m (request_over m p None p.purpose).manager) (none_timed (counts p) (is_none (request_over m p None p.purpose).fault))
+          subst (StepsOn w m (after_request m p None p.purpose).manager) (none_timed (counts p) (is_none (after_request m p None p.purpose).fault))
           (request_ends p (found_there (λ (x : Pending). x.number == transaction) m.pending p e).0 None)
 
   call_ends : (call : Call) → BeginsNone m call → StepsOn w m (after_call m call) (one_if (does_step m call))
   call_ends BeginSweep begins =
-      cond_both (is_none (begin_fault m)) (sweep_begun m) m (λ (x : Manager). StepsOn w m x 0)
-      (λ _. from_beside (sweep_begun m) (record { writing = refl; many = refl; rising = λ r. r })) (λ _. from_beside m (nothing m))
+      cond_both (is_none (begin_fault m)) (after_begin_sweep m) m (λ (x : Manager). StepsOn w m x 0)
+      (λ _. from_beside (after_begin_sweep m) (record { writing = refl; many = refl; rising = λ r. r })) (λ _. from_beside m (nothing m))
   call_ends WriteSteps begins = by_fault (writing_fault m) refl
     where
-      by_fault : (o : Option ManagerFault) → writing_fault m ≡ o → StepsOn w m (cond (is_none o) (writing_begun m) m) 0
+      by_fault : (o : Option ManagerFault) → writing_fault m ≡ o → StepsOn w m (cond (is_none o) (after_write_steps m) m) 0
       by_fault None e = absurd (begins e)
       by_fault (Some why) e = from_beside m (nothing m)
   call_ends Take begins = from_beside _ (takes_beside m m.outgoing)
@@ -515,9 +515,9 @@ module _ (m : Manager) (w : Writing) (writing : m.writing ≡ Some w) (first : C
   call_ends (Raise floor) begins = from_beside _ (record { writing = refl; many = refl; rising = λ r. r })
   call_ends (Merge floor sightings) begins = from_beside _ (record { writing = refl; many = refl; rising = λ r. r })
   call_ends (Poll lid) begins =
-      cond_both (is_none (poll_fault m)) (poll_sent m lid) m (λ (x : Manager). StepsOn w m x 0) (λ _. from_beside _ (asks_beside m (info_pending m.counter purpose.Poll 0) (poll_out m.counter lid) refl refl)) (λ _. from_beside m (nothing m))
+      cond_both (is_none (poll_fault m)) (after_poll m lid) m (λ (x : Manager). StepsOn w m x 0) (λ _. from_beside _ (asks_beside m (info_pending m.counter purpose.Poll 0) (poll_out m.counter lid) refl refl)) (λ _. from_beside m (nothing m))
   call_ends Handover begins =
-      cond_both (is_none (handover_fault m)) (handed_over m) m (λ (x : Manager). StepsOn w m x 0) (λ _. from_beside _ (hands_beside m (heir_lid m))) (λ _. from_beside m (nothing m))
+      cond_both (is_none (handover_fault m)) (after_handover m) m (λ (x : Manager). StepsOn w m x 0) (λ _. from_beside _ (hands_beside m (successor_lid m))) (λ _. from_beside m (nothing m))
 
 -- all calls ---------------------------------------------------------------------------------------------
 
@@ -620,25 +620,25 @@ none_waits m e = by_sweep m.sweep e
     by_sweep None h = absurd (cc)
     by_sweep (Some s) h = third (not (is_in Master m.standing)) (not (is_done s)) (no_step_waits m.pending) NotMaster SweepRunning WritingRunning h
 
-begins_balanced : (m : Manager) → Rising m.counter m.pending → writing_fault m ≡ None → Balanced (counting_in (phases_by m m.sweep)) 0 (writing_begun m)
+begins_balanced : (m : Manager) → Rising m.counter m.pending → writing_fault m ≡ None → Balanced (counting_in (phases_by m m.sweep)) 0 (after_write_steps m)
 begins_balanced m rising e =
     let phases = phases_by m m.sweep in
-    let next = next_phase (passed phases) in
+    let next = next_phase (without_empty_phases phases) in
     let none = eqb-true (how_many is_step m.pending) 0 (none_waits m (may_begin m e).may) in
     let fewer = fewer_count m.pending in
-    let sent = many_both m.pending (next_pending m.counter (passed phases)) in
+    let sent = many_both m.pending (next_pending m.counter (without_empty_phases phases)) in
     let phase = many_numbered next.counts m.counter next.steps in
-    let later = passed_counting (drop 1 (passed phases)) in
-    let all = first_counting (passed phases) in
+    let later = passed_counting (drop 1 (without_empty_phases phases)) in
+    let all = first_counting (without_empty_phases phases) in
     let whole = passed_counting phases in
     record {
-      now = record { later = passed (drop 1 (passed phases)); has_failed = false };
+      now = record { later = without_empty_phases (drop 1 (without_empty_phases phases)); has_failed = false };
       is = refl;
-      first = passed_keeps (drop 1 (passed phases)) (drop_keeps (passed phases) (passed_keeps phases (phases_count_first m m.sweep)));
-      starts = passed_starts (drop 1 (passed phases));
+      first = passed_keeps (drop 1 (without_empty_phases phases)) (drop_keeps (without_empty_phases phases) (passed_keeps phases (phases_count_first m m.sweep)));
+      starts = passed_starts (drop 1 (without_empty_phases phases));
       good = λ _. omega (arith, none, fewer, sent, phase, later, all, whole);
       bad = λ fails. absurd (cc fails);
-      rising = phase_rises m (record { later = passed phases; has_failed = false }) rising;
+      rising = phase_rises m (record { later = without_empty_phases phases; has_failed = false }) rising;
     }
 
 pub written_is_each_step_done : WrittenIsEachStepDone
@@ -646,7 +646,7 @@ written_is_each_step_done port_guid port priority planning before after begins n
     let m = after_calls before (new_manager port_guid port priority planning) in
     let rising = calls_rise before (new_manager port_guid port priority planning) (omega arith) in
     let total = counting_in (phases_by m m.sweep) in
-    let all = balanced_calls total 0 after (writing_begun m) (begins_balanced m rising begins) none in
-    let same : 0 + steps_done after (writing_begun m) ≡ steps_done after (writing_begun m) = omega arith in
-    written_exactly total (steps_done after (writing_begun m)) (after_calls after (writing_begun m))
-    (subst (λ n. Balanced total n (after_calls after (writing_begun m))) same all)
+    let all = balanced_calls total 0 after (after_write_steps m) (begins_balanced m rising begins) none in
+    let same : 0 + steps_done after (after_write_steps m) ≡ steps_done after (after_write_steps m) = omega arith in
+    written_exactly total (steps_done after (after_write_steps m)) (after_calls after (after_write_steps m))
+    (subst (λ n. Balanced total n (after_calls after (after_write_steps m))) same all)

@@ -1,7 +1,7 @@
 -- Where a writing may begin there are numbers for its first phase.
-use Rattle.std.proofs.Common.{◌≡◌, ◌≤◌, ◌+◌, ◌^◌, ℕ, Bool, true, false, cond, List, [], ◌∷◌, length, refl, sym, ap, ◌∙◌, arith}
+use Rattle.std.proofs.Common.{◌≡◌, ◌≤◌, ◌+◌, ◌^◌, ℕ, Bool, true, false, cond, List, [], ◌∷◌, length, refl, sym, ◌∙◌, arith}
 use Rattle.std.proofs.lemmas.Bool.{ltb-false}
-use Rattle.std.specs.Prelude.{Option, Some, None, ◌==◌, nat_lt}
+use Rattle.std.specs.Prelude.{Option, Some, None, ◌==◌}
 use Rattle.std.specs.List.{AllByRecursion}
 use Rattle.fact_store.specs.View.{cells_of}
 use Rattle.lid_assign.specs.declared.fault.NoRoom.{NoRoom}
@@ -16,7 +16,7 @@ use Rattle.sweep.specs.Sweep.{Sweep}
 use Rattle.sm_manager.specs.declared.fault.ManagerFault.{ManagerFault}
 use Rattle.sm_manager.specs.Manager.{Manager}
 use Rattle.sm_manager.specs.Plans.{number_fault, or_else, plan_fault, room_fault, writing_fault}
-use Rattle.sm_manager.specs.Writing.{next_phase, passed, phases_by, write_fault}
+use Rattle.sm_manager.specs.Writing.{next_phase, without_empty_phases, phases_by, write_fault}
 use Rattle.sm_manager.proofs.Over.{numbers_there}
 
 pub or_none : (a b : Option ManagerFault) → or_else a b ≡ None → (a ≡ None) × (b ≡ None)
@@ -51,16 +51,16 @@ may_begin m e =
     }
 
 first_at_most : (most : ℕ) (phases : List Phase) → AllByRecursion (λ (p : Phase). length p.steps ≤ most) phases
-    → length (next_phase (passed phases)).steps ≤ most
+    → length (next_phase (without_empty_phases phases)).steps ≤ most
 first_at_most most [] all = omega arith
 first_at_most most (p ∷ phases) all = by_test (length p.steps == 0) (first_at_most most phases all.1)
   where
-    by_test : (b : Bool) → length (next_phase (passed phases)).steps ≤ most → length (next_phase (cond b (passed phases) (p ∷ phases))).steps ≤ most
+    by_test : (b : Bool) → length (next_phase (without_empty_phases phases)).steps ≤ most → length (next_phase (cond b (without_empty_phases phases) (p ∷ phases))).steps ≤ most
     by_test true rest = rest
     by_test false rest = all.0
 
 -- so there are as many as the first phase has steps
-pub first_phase_fits : (m : Manager) → writing_fault m ≡ None → m.counter + length (next_phase (passed (phases_by m m.sweep))).steps ≤ 2 ^ 32
+pub first_phase_fits : (m : Manager) → writing_fault m ≡ None → m.counter + length (next_phase (without_empty_phases (phases_by m m.sweep))).steps ≤ 2 ^ 32
 first_phase_fits m e =
     let may = may_begin m e in
     let few = by_sweep m.sweep may.has_room in
@@ -68,7 +68,7 @@ first_phase_fits m e =
     omega (arith, few, numbers)
   where
     by_sweep : (o : Option Sweep) → ¬ (IsNoRoom m.planning.lmc (cells_of m.store))
-        → length (next_phase (passed (phases_by m o))).steps ≤ most_steps (cells_of m.store)
+        → length (next_phase (without_empty_phases (phases_by m o))).steps ≤ most_steps (cells_of m.store)
     by_sweep None has_room = omega arith
     by_sweep (Some s) has_room =
         let cells = cells_of m.store in

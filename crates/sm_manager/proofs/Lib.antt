@@ -5,7 +5,6 @@ pub mod Newest
 pub mod Replies
 pub mod Sending
 pub mod StepsSent
-pub mod Heirs
-pub mod HeirLids
+pub mod SuccessorLids
 pub mod Begun
 pub mod Answered

@@ -7,9 +7,9 @@ use Rattle.smp_bytes.specs.Field.{number_in}
 use Rattle.smp_bytes.specs.Packet.{fault_of, status, attribute_modifier}
 use Rattle.smp_bytes.specs.declared.smp_fault.SmpFault.{SmpFault}
 use Rattle.fact_store.specs.Merge.{merge}
-use Rattle.fact_store.specs.Report.{Told}
+use Rattle.fact_store.specs.Report.{Sightings}
 use Rattle.fact_store.specs.Seen.{seen}
-use Rattle.fact_store.specs.View.{Facts, view, view_at, cells_of, no_facts}
+use Rattle.fact_store.specs.View.{view, view_at, cells_of, no_facts}
 use Rattle.fact_store.proofs.Merges.{at_same_floor, merge_empty, merge_is_commutative}
 use Rattle.fact_store.proofs.Views.{members_decide_view, raised_is_merge, view_of_both}
 use Rattle.sweep.specs.declared.answer.Answer.{Answer}
@@ -17,25 +17,25 @@ use Rattle.sweep.specs.declared.fault.SweepFault.{SweepFault}
 use Rattle.sweep.specs.Replies.{judged}
 use Rattle.sweep.specs.Sweep.{Sweep, timeout_fault}
 use Rattle.lft_blocks.specs.Plan.{plan_of}
-use Rattle.sm_manager.specs.Manager.{Manager, Writing, new_manager, begin_fault, sweep_begun, taken_of}
+use Rattle.sm_manager.specs.Manager.{Manager, Writing, new_manager, begin_fault, after_begin_sweep, taken_of}
 use Rattle.sm_manager.specs.declared.fault.ManagerFault.TheVariants.{SequenceSpent}
 use Rattle.lft_blocks.proofs.Reached.{every_packet_arrives}
 use Rattle.sm_manager.specs.declared.outgoing.Outgoing.{Outgoing}
 use Rattle.sm_manager.specs.declared.pending.Pending.{Pending}
-use Rattle.sm_manager.specs.Packets.{Called, refused, done, answered_by, sweep_answered, request_answered, request_over, pending_for, unless_spent, packet_taken, sweep_timed_out, sweep_gave_up, request_gave_up, gave_up, is_for_sweep, is_info_request}
+use Rattle.sm_manager.specs.Packets.{Called, refused, done, answered_by, sweep_answered, request_answered, after_request, pending_for, unless_spent, packet_taken, sweep_timed_out, sweep_gave_up, request_gave_up, after_timeout, is_for_sweep, is_info_request}
 use Rattle.sm_manager.specs.declared.pending.Purpose.{Purpose}
 use Rattle.sm_manager.specs.declared.pending.Purpose.TheVariants as purpose
-use Rattle.sm_manager.specs.Election.{handed_over, handed_to, handover_fault, handover_move, heir_lid, poll_fault, poll_sent, told}
+use Rattle.sm_manager.specs.Election.{after_handover, handed_to, handover_fault, handover_move, successor_lid, poll_fault, after_poll, after_message}
 use Rattle.sm_manager.specs.Served.{answering, controlled, is_control, moved_on, served, status_for}
-use Rattle.sm_manager.specs.Standing.{moved_to}
+use Rattle.sm_state.specs.Standing.{moved_to}
 use Rattle.sm_manager.specs.Plans.{writing_fault}
-use Rattle.sm_manager.specs.Requests.{counts, no_step_waits, with_number, without_number}
+use Rattle.sm_manager.specs.ManagerRequests.{counts, no_step_waits, with_number, without_number}
 use Rattle.sm_state.specs.declared.event.Event.TheVariants as event
 use Rattle.sm_state.specs.declared.event.Message.{Message}
 use Rattle.sm_state.specs.declared.transition.Transition.{Transition}
 use Rattle.sm_state.specs.Steps.{status_of, stepped}
-use Rattle.sm_manager.specs.Writing.{is_done_by, is_spent, noted, phase_sent, step_over, went_on_with, writing_begun}
-use Rattle.sm_manager.specs.Calls.{Call, BeginSweep, WriteSteps, Take, Packet, Timeout, Raise, Merge, Poll, Handover, after_call, after_calls, told_if, told_of_reply, told_of_packet, told_in, taken_in, floor_in, greatest_floor, KnowsWhatItTookIn, SameTakenInSamePlan}
+use Rattle.sm_manager.specs.Writing.{is_done_by, is_spent, noted, phase_sent, after_step, went_on_with, after_write_steps}
+use Rattle.sm_manager.specs.Calls.{Call, BeginSweep, WriteSteps, Take, Packet, Timeout, Raise, Merge, Poll, Handover, after_call, after_calls, sightings_if, sightings_of_reply, sightings_of_packet, sightings_of_call, taken_in, floor_in, greatest_floor, KnowsWhatItTookIn, SameTakenInSamePlan}
 
 -- what a call takes in is merged with what was known -------------------------------------------
 
@@ -48,19 +48,19 @@ same : (m : Manager) → Keeps m m
 same m = record { store = refl; planning = refl }
 
 -- the facts are merged with what these sightings say, and how it plans stays
-record Takes (m : Manager) (told : Told) (after : Manager) : Type 0 where
-  store : after.store ≡ merge m.store (view told)
+record Takes (m : Manager) (sightings : Sightings) (after : Manager) : Type 0 where
+  store : after.store ≡ merge m.store (view sightings)
   planning : after.planning ≡ m.planning
 
 nothing_taken : (m after : Manager) → Keeps m after → Takes m [] after
 nothing_taken m after k = record { store = k.store ∙ sym (merge_is_commutative m.store no_facts ∙ merge_empty m.store); planning = k.planning }
 
 module _ (m : Manager) where
-  takes_answer : (bytes : List ℕ) (s : Sweep) (r : Result Answer SweepFault) → Takes m (told_if r) (answered_by m s bytes r).manager
+  takes_answer : (bytes : List ℕ) (s : Sweep) (r : Result Answer SweepFault) → Takes m (sightings_if r) (answered_by m s bytes r).manager
   takes_answer bytes s (Ok answer) = record { store = refl; planning = refl }
   takes_answer bytes s (Err why) = nothing_taken m m (same m)
 
-  takes_reply : (bytes : List ℕ) (s : Option Sweep) → Takes m (told_of_reply bytes s) (sweep_answered m bytes s).manager
+  takes_reply : (bytes : List ℕ) (s : Option Sweep) → Takes m (sightings_of_reply bytes s) (sweep_answered m bytes s).manager
   takes_reply bytes None = nothing_taken m m (same m)
   takes_reply bytes (Some s) = takes_answer bytes s (judged s bytes)
 
@@ -68,7 +68,7 @@ module _ (m : Manager) where
   phase_keeps None = record { store = refl; planning = refl }
   phase_keeps (Some w) = cond_both (no_step_waits m.pending) (phase_sent m w) m (λ (x : Manager). Keeps m x) (λ _. record { store = refl; planning = refl }) (λ _. record { store = refl; planning = refl })
 
-over_keeps : (m : Manager) (p : Pending) (was_done : Bool) → Keeps m (step_over m p was_done)
+over_keeps : (m : Manager) (p : Pending) (was_done : Bool) → Keeps m (after_step m p was_done)
 over_keeps m p was_done =
     let w = noted (counts p) was_done m.writing in
     let k = phase_keeps (record m { pending = without_number p.number m.pending; writing = w }) w in
@@ -77,13 +77,13 @@ over_keeps m p was_done =
 unless_keeps : (m : Manager) (after : Manager) → Keeps m after → Keeps m (unless_spent m after).manager
 unless_keeps m after e = cond_both (is_spent after) (refused m SequenceSpent) (done after) (λ (x : Called). Keeps m x.manager) (λ _. record { store = refl; planning = refl }) (λ _. e)
 
-telling_keeps : (m : Manager) (to : Option ℕ) (message : Option Message) → Keeps m (told m to message)
+telling_keeps : (m : Manager) (to : Option ℕ) (message : Option Message) → Keeps m (after_message m to message)
 telling_keeps m None message = record { store = refl; planning = refl }
 telling_keeps m (Some lid) None = record { store = refl; planning = refl }
 telling_keeps m (Some lid) (Some message) = record { store = refl; planning = refl }
 
 module _ (m : Manager) where
-  ending_keeps : (p : Pending) (answer : Option ℕ) (why : Purpose) → Keeps m (request_over m p answer why).manager
+  ending_keeps : (p : Pending) (answer : Option ℕ) (why : Purpose) → Keeps m (after_request m p answer why).manager
   ending_keeps p answer purpose.Poll = record { store = refl; planning = refl }
   ending_keeps p answer purpose.Control = record { store = refl; planning = refl }
   ending_keeps p answer (purpose.Step counts) = unless_keeps m _ (over_keeps m p (is_done_by answer))
@@ -102,11 +102,11 @@ module _ (m : Manager) where
       cond_both (is_control bytes) (controlled m bytes from) (answering m bytes from (status_for bytes)) (λ (x : Manager). Keeps m x)
       (λ _. moving_keeps bytes from (stepped m.standing.state (event.Control (number_in attribute_modifier bytes)))) (λ _. record { store = refl; planning = refl })
 
-  takes_packet : (bytes : List ℕ) (from : Option ℕ) (why : Option SmpFault) → Takes m (told_of_packet m bytes why) (packet_taken m bytes from why).manager
+  takes_packet : (bytes : List ℕ) (from : Option ℕ) (why : Option SmpFault) → Takes m (sightings_of_packet m bytes why) (packet_taken m bytes from why).manager
   takes_packet bytes from (Some why) = nothing_taken m m (same m)
   takes_packet bytes from None = by_tests (is_info_request bytes) (is_for_sweep bytes)
     where
-      by_tests : (a b : Bool) → Takes m (cond a [] (cond b (told_of_reply bytes m.sweep) []))
+      by_tests : (a b : Bool) → Takes m (cond a [] (cond b (sightings_of_reply bytes m.sweep) []))
           (cond a (unless_spent m (served m bytes from)) (cond b (sweep_answered m bytes m.sweep) (request_answered m bytes (pending_for m bytes)))).manager
       by_tests true b = nothing_taken m _ (unless_keeps m _ (serving_keeps bytes from))
       by_tests false true = takes_reply m bytes m.sweep
@@ -124,7 +124,7 @@ module _ (m : Manager) where
   request_timeout_keeps None = record { store = refl; planning = refl }
   request_timeout_keeps (Some p) = ending_keeps p None p.purpose
 
-  pub timeout_keeps : (transaction : ℕ) → Keeps m (gave_up m transaction).manager
+  pub timeout_keeps : (transaction : ℕ) → Keeps m (after_timeout m transaction).manager
   timeout_keeps transaction =
       cond_both (nat_le (2 ^ 32) transaction) (sweep_gave_up m transaction m.sweep) (request_gave_up m (with_number transaction m.pending)) (λ (x : Called). Keeps m x.manager)
       (λ _. sweep_timeout_keeps transaction m.sweep) (λ _. request_timeout_keeps (with_number transaction m.pending))
@@ -140,7 +140,7 @@ module _ (m : Manager) where
 
   -- so it is with each call
   record TakesIn (call : Call) : Type 0 where
-    store : (after_call m call).store ≡ merge m.store (view_at (floor_in call) (told_in m call))
+    store : (after_call m call).store ≡ merge m.store (view_at (floor_in call) (sightings_of_call m call))
     planning : (after_call m call).planning ≡ m.planning
 
   stays : (call : Call) → Keeps m (after_call m call) → Takes m [] (after_call m call)
@@ -148,10 +148,10 @@ module _ (m : Manager) where
 
   takes : (call : Call) → TakesIn call
   takes BeginSweep =
-      let t = stays BeginSweep (cond_both (is_none (begin_fault m)) (sweep_begun m) m (λ (x : Manager). Keeps m x) (λ _. record { store = refl; planning = refl }) (λ _. record { store = refl; planning = refl })) in
+      let t = stays BeginSweep (cond_both (is_none (begin_fault m)) (after_begin_sweep m) m (λ (x : Manager). Keeps m x) (λ _. record { store = refl; planning = refl }) (λ _. record { store = refl; planning = refl })) in
       record { store = t.store; planning = t.planning }
   takes WriteSteps =
-      let t = stays WriteSteps (cond_both (is_none (writing_fault m)) (writing_begun m) m (λ (x : Manager). Keeps m x) (λ _. record { store = refl; planning = refl }) (λ _. record { store = refl; planning = refl })) in
+      let t = stays WriteSteps (cond_both (is_none (writing_fault m)) (after_write_steps m) m (λ (x : Manager). Keeps m x) (λ _. record { store = refl; planning = refl }) (λ _. record { store = refl; planning = refl })) in
       record { store = t.store; planning = t.planning }
   takes Take = let t = stays Take (taking_keeps m.outgoing) in record { store = t.store; planning = t.planning }
   takes (Packet bytes from) = let t = takes_packet bytes from (fault_of bytes) in record { store = t.store; planning = t.planning }
@@ -159,14 +159,14 @@ module _ (m : Manager) where
   takes (Raise floor) = record { store = raised_is_merge m.store floor; planning = refl }
   takes (Merge floor sightings) = record { store = refl; planning = refl }
   takes (Poll lid) =
-      let t = stays (Poll lid) (cond_both (is_none (poll_fault m)) (poll_sent m lid) m (λ (x : Manager). Keeps m x) (λ _. record { store = refl; planning = refl }) (λ _. record { store = refl; planning = refl })) in
+      let t = stays (Poll lid) (cond_both (is_none (poll_fault m)) (after_poll m lid) m (λ (x : Manager). Keeps m x) (λ _. record { store = refl; planning = refl }) (λ _. record { store = refl; planning = refl })) in
       record { store = t.store; planning = t.planning }
   takes Handover =
       let t = stays Handover
-      (cond_both (is_none (handover_fault m)) (handed_over m) m (λ (x : Manager). Keeps m x) (λ _. handing_keeps (heir_lid m)) (λ _. record { store = refl; planning = refl })) in
+      (cond_both (is_none (handover_fault m)) (after_handover m) m (λ (x : Manager). Keeps m x) (λ _. handing_keeps (successor_lid m)) (λ _. record { store = refl; planning = refl })) in
       record { store = t.store; planning = t.planning }
 
-  pub takes_call : (call : Call) → (after_call m call).store ≡ merge m.store (view_at (floor_in call) (told_in m call))
+  pub takes_call : (call : Call) → (after_call m call).store ≡ merge m.store (view_at (floor_in call) (sightings_of_call m call))
   takes_call call = (takes call).store
 
   pub planning_stays : (call : Call) → (after_call m call).planning ≡ m.planning
@@ -175,15 +175,15 @@ module _ (m : Manager) where
 -- the laws ------------------------------------------------------------------------------------------
 
 -- with what it knew before
-knows : (calls : List Call) (m : Manager) (floor : ℕ) (before : Told) → m.store ≡ view_at floor before
+knows : (calls : List Call) (m : Manager) (floor : ℕ) (before : Sightings) → m.store ≡ view_at floor before
     → (after_calls calls m).store ≡ view_at (max floor (greatest_floor calls)) (before ++ taken_in calls m)
 knows [] m floor before e = e ∙ at_same_floor floor (max floor 1) (seen before) (omega arith) ∙ ap (view_at (max floor 1)) (sym (append-nil before))
 knows (call ∷ calls) m floor before e =
-    let told = before ++ (told_in m call ++ taken_in calls (after_call m call)) in
-    knows calls (after_call m call) (max floor (floor_in call)) (before ++ told_in m call)
-    (takes_call m call ∙ ap (λ x. merge x (view_at (floor_in call) (told_in m call))) e ∙ sym (view_of_both floor (floor_in call) before (told_in m call)))
-    ∙ ap (view_at (max (max floor (floor_in call)) (greatest_floor calls))) (append_assoc before (told_in m call) (taken_in calls (after_call m call)))
-    ∙ at_same_floor (max (max floor (floor_in call)) (greatest_floor calls)) (max floor (max (floor_in call) (greatest_floor calls))) (seen told) (omega arith)
+    let sightings = before ++ (sightings_of_call m call ++ taken_in calls (after_call m call)) in
+    knows calls (after_call m call) (max floor (floor_in call)) (before ++ sightings_of_call m call)
+    (takes_call m call ∙ ap (λ x. merge x (view_at (floor_in call) (sightings_of_call m call))) e ∙ sym (view_of_both floor (floor_in call) before (sightings_of_call m call)))
+    ∙ ap (view_at (max (max floor (floor_in call)) (greatest_floor calls))) (append_assoc before (sightings_of_call m call) (taken_in calls (after_call m call)))
+    ∙ at_same_floor (max (max floor (floor_in call)) (greatest_floor calls)) (max floor (max (floor_in call) (greatest_floor calls))) (seen sightings) (omega arith)
 
 pub planning_of_calls : (calls : List Call) (m : Manager) → (after_calls calls m).planning ≡ m.planning
 planning_of_calls [] m = refl

@@ -2,14 +2,14 @@
 use Rattle.std.proofs.Common.{◌≡◌, ◌≢◌, ℕ, zero, suc, ◌+◌, ◌-◌, ◌≤◌, Bool, true, false, ◌&&◌, List, [], ◌∷◌, ◌++◌, length, refl, arith, ap, sym, ◌∙◌}
 use Rattle.std.specs.Prelude.{Some, filter, remove, slice_get, ◌==◌}
 use Rattle.std.proofs.lemmas.Bool.{cond-true, cond-false, ne_eqb}
-use Rattle.request_table.proofs.Places.{some_is}
+use Rattle.request_table.proofs.Indices.{some_is}
 use Rattle.smp_bytes.specs.Answers.{is_of}
 use Rattle.smp_bytes.specs.Field.{number_in}
 use Rattle.smp_bytes.specs.Header.{get_resp}
 use Rattle.smp_bytes.specs.Packet.{method, transaction_id}
 use Rattle.sm_manager.specs.declared.pending.Pending.{Pending}
 use Rattle.sm_manager.specs.Packets.{answers}
-use Rattle.sm_manager.specs.Requests.{AreCounted, counts, how_many, is_step}
+use Rattle.sm_manager.specs.ManagerRequests.{AreCounted, counts, how_many, is_step}
 
 later_false : (a b c : Bool) → b ≡ false → (a && (b && c)) ≡ false
 later_false true b c e = ap (λ x. x && c) e

@@ -4,16 +4,16 @@ use Rattle.std.proofs.Common.{sym, ap, ◌∙◌, subst, arith}
 use Rattle.std.proofs.lemmas.Bool.{cond-true, cond-false, lt-ltb, le-ltb, ltb-false, ne_eqb}
 use Rattle.std.specs.Prelude.{Option, Some, None, ◌&&◌, ◌||◌, ◌==◌, drop, not, nat_lt, remove, slice_get}
 use Rattle.request_table.proofs.Numbers.{rising_ordered, without_at}
-use Rattle.request_table.proofs.Places.{some_is}
+use Rattle.request_table.proofs.Indices.{some_is}
 use Rattle.sm_manager.specs.declared.fault.ManagerFault.TheVariants as fault
 use Rattle.sm_manager.specs.declared.outgoing.Outgoing.{Outgoing}
 use Rattle.sm_manager.specs.declared.pending.Pending.{Pending}
 use Rattle.sm_manager.specs.Manager.{Manager, Writing}
 use Rattle.sm_manager.specs.Packets.{refused, done, unless_spent}
 use Rattle.sm_manager.specs.Plans.{number_fault}
-use Rattle.sm_manager.specs.Requests.{AreNumbered, counts, how_many, is_step, no_step_waits, without_number}
-use Rattle.sm_manager.specs.Writing.{count_after, count_with, is_spent, next_pending, next_phase, noted, passed}
-use Rattle.sm_manager.specs.Writing.{phase_sent, steps_out, step_over, went_on_with}
+use Rattle.sm_manager.specs.ManagerRequests.{AreNumbered, counts, how_many, is_step, no_step_waits, without_number}
+use Rattle.sm_manager.specs.Writing.{count_after, count_with, is_spent, next_pending, next_phase, noted, without_empty_phases}
+use Rattle.sm_manager.specs.Writing.{phase_sent, steps_out, after_step, went_on_with}
 use Rattle.sm_manager.proofs.Numbers.{many_without, one_if}
 
 -- a step waits alone, or it does not
@@ -39,7 +39,7 @@ marked p was_done w = record w { has_failed = w.has_failed || (counts p && not w
 
 -- the next number then
 pub over_counter : (m : Manager) (i : ℕ) (p : Pending) (was_done : Bool) → AreNumbered m.counter m.pending → slice_get m.pending i ≡ Some p
-    → is_step p ≡ true → (step_over m p was_done).counter ≡ m.counter + count_after m
+    → is_step p ≡ true → (after_step m p was_done).counter ≡ m.counter + count_after m
 over_counter m i p was_done numbered at step = by_writing m.writing
   where
     by_writing : (w : Option Writing) → (went_on_with (ended m p was_done w) (noted (counts p) was_done w)).counter
@@ -58,11 +58,11 @@ over_counter m i p was_done numbered at step = by_writing m.writing
 
 -- whether there are numbers for them
 pub over_fault : (m : Manager) (i : ℕ) (p : Pending) (was_done : Bool) → AreNumbered m.counter m.pending → slice_get m.pending i ≡ Some p
-    → is_step p ≡ true → (unless_spent m (step_over m p was_done)).fault ≡ number_fault (m.counter + count_after m)
+    → is_step p ≡ true → (unless_spent m (after_step m p was_done)).fault ≡ number_fault (m.counter + count_after m)
 over_fault m i p was_done numbered at step =
-    by_test (is_spent (step_over m p was_done)) ∙ ap number_fault (over_counter m i p was_done numbered at step)
+    by_test (is_spent (after_step m p was_done)) ∙ ap number_fault (over_counter m i p was_done numbered at step)
   where
-    by_test : (b : Bool) → (cond b (refused m fault.SequenceSpent) (done (step_over m p was_done))).fault ≡ cond b (Some fault.SequenceSpent) None
+    by_test : (b : Bool) → (cond b (refused m fault.SequenceSpent) (done (after_step m p was_done))).fault ≡ cond b (Some fault.SequenceSpent) None
     by_test true = refl
     by_test false = refl
 
@@ -96,13 +96,13 @@ whole_phase m i p w numbered at step is alone =
 -- what is there after the last that waits ended
 pub over_sent : (m : Manager) (p : Pending) (was_done : Bool) (w : Writing) → m.writing ≡ Some w
     → no_step_waits (without_number p.number m.pending) ≡ true
-    → step_over m p was_done ≡ phase_sent (ended m p was_done m.writing) (marked p was_done w)
+    → after_step m p was_done ≡ phase_sent (ended m p was_done m.writing) (marked p was_done w)
 over_sent m p was_done w is alone =
     ap (λ (o : Option Writing). went_on_with (ended m p was_done m.writing) (noted (counts p) was_done o)) is ∙ cond-true _ _ _ alone
 
 -- the manager after the next phase went out, by its parts
 pub parts_sent : (m : Manager) (p : Pending) (was_done : Bool) (w sent : Writing) (counter : ℕ) (pending : List Pending) (outgoing : List Outgoing)
-    → sent.later ≡ passed (drop 1 w.later) → sent.has_failed ≡ w.has_failed || (counts p && not was_done)
+    → sent.later ≡ without_empty_phases (drop 1 w.later) → sent.has_failed ≡ w.has_failed || (counts p && not was_done)
     → counter ≡ m.counter + length (next_phase w.later).steps
     → pending ≡ without_number p.number m.pending ++ next_pending m.counter w.later
     → outgoing ≡ m.outgoing ++ steps_out m.counter (next_phase w.later).steps
@@ -137,14 +137,14 @@ last_count m i q w h = whole_phase m i q w h.numbered h.there h.step h.writing h
 
 pub last_sent : (m : Manager) (i : ℕ) (q p : Pending) (was_done : Bool) (w sent : Writing) (counter : ℕ) (pending : List Pending) (outgoing : List Outgoing)
     → WasLast m i q w → number_fault (m.counter + count_after m) ≡ None → slice_get m.pending i ≡ Some p
-    → sent.later ≡ passed (drop 1 w.later) → sent.has_failed ≡ w.has_failed || (counts q && not was_done)
+    → sent.later ≡ without_empty_phases (drop 1 w.later) → sent.has_failed ≡ w.has_failed || (counts q && not was_done)
     → counter ≡ m.counter + length (next_phase w.later).steps
     → pending ≡ without_number q.number m.pending ++ next_pending m.counter w.later
     → outgoing ≡ m.outgoing ++ steps_out m.counter (next_phase w.later).steps
-    → record m { writing = Some sent; counter = counter; pending = pending; outgoing = outgoing } ≡ (unless_spent m (step_over m p was_done)).manager
+    → record m { writing = Some sent; counter = counter; pending = pending; outgoing = outgoing } ≡ (unless_spent m (after_step m p was_done)).manager
 last_sent m i q p was_done w sent counter pending outgoing h fits at later failed number waits out =
     let same : q ≡ p = some_is q p (sym h.there ∙ at) in
     parts_sent m q was_done w sent counter pending outgoing later failed number waits out
     ∙ sym (over_sent m q was_done w h.writing h.alone)
-    ∙ ap (λ (x : Pending). step_over m x was_done) same
-    ∙ sym (over_manager m (step_over m p was_done) (over_fault m i p was_done h.numbered at (ap is_step (sym same) ∙ h.step) ∙ fits))
+    ∙ ap (λ (x : Pending). after_step m x was_done) same
+    ∙ sym (over_manager m (after_step m p was_done) (over_fault m i p was_done h.numbered at (ap is_step (sym same) ∙ h.step) ∙ fits))

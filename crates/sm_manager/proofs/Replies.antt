@@ -2,7 +2,7 @@
 use Rattle.std.proofs.Common.{ℕ, List, refl, sym, ap, subst}
 use Rattle.std.specs.Prelude.{Some, None, Result, Ok, Err}
 use Rattle.std.specs.Result.{result_err}
-use Rattle.request_table.proofs.Places.{some_is}
+use Rattle.request_table.proofs.Indices.{some_is}
 use Rattle.smp_bytes.specs.Judges.{JudgesButFor}
 use Rattle.sweep.specs.declared.answer.Answer.{Answer}
 use Rattle.sweep.specs.declared.fault.SweepFault.{SweepFault}

@@ -4,7 +4,7 @@ use Rattle.std.proofs.lemmas.List.{append_assoc}
 use Rattle.std.proofs.lemmas.Option.{same_Some}
 use Rattle.std.specs.Prelude.{Some, None}
 use Rattle.sweep.specs.declared.request.Request.{Request}
-use Rattle.sweep.specs.Sweep.{Sweep, packet_of, sent_of, sent}
+use Rattle.sweep.specs.Sweep.{Sweep, packet_of, after_next_request_of, after_next_request}
 use Rattle.sm_manager.specs.Manager.{requests_out, with_all_sent}
 
 -- the first of the queue went out, and waits
@@ -13,10 +13,10 @@ pub record HasSent (s : Sweep) (packet : List ℕ) (t : Sweep) : Type 0 where
   pub out : requests_out s.generation s.queued ≡ record { packet = packet; to = None } ∷ requests_out t.generation t.queued
   pub less : length s.queued ≡ length t.queued + 1
 
-pub sent_one : (s : Sweep) (packet : List ℕ) → (sent s).packet ≡ Some packet → HasSent s packet (sent s).sweep
+pub sent_one : (s : Sweep) (packet : List ℕ) → (after_next_request s).packet ≡ Some packet → HasSent s packet (after_next_request s).sweep
 sent_one s packet e = by_queue s.queued refl e
   where
-    by_queue : (queue : List Request) → s.queued ≡ queue → (sent_of s queue).packet ≡ Some packet → HasSent s packet (sent_of s queue).sweep
+    by_queue : (queue : List Request) → s.queued ≡ queue → (after_next_request_of s queue).packet ≡ Some packet → HasSent s packet (after_next_request_of s queue).sweep
     by_queue [] is h = cc
     by_queue (r ∷ queue) is h =
         let same : packet_of s.generation r ≡ packet = same_Some _ _ h in

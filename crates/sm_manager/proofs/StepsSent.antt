@@ -6,12 +6,12 @@ use Rattle.std.specs.Prelude.{None}
 use Rattle.plan_steps.specs.declared.step.Step.{Step}
 use Rattle.plan_steps.specs.Step.{set_packet}
 use Rattle.sm_manager.specs.declared.outgoing.Outgoing.{Outgoing}
-use Rattle.sm_manager.specs.Requests.{Requests}
+use Rattle.sm_manager.specs.ManagerRequests.{ManagerRequests}
 use Rattle.sm_manager.specs.Writing.{numbered, pending_step, steps_out}
 
 -- what went out so far and what is left are what was to go out, and there are numbers and memory for what is left
-pub record AreGoing (counts : Bool) (rest : List Step) (now : Requests) (out : List Outgoing)
-    (steps : List Step) (was : Requests) (before : List Outgoing) : Type 0 where
+pub record AreGoing (counts : Bool) (rest : List Step) (now : ManagerRequests) (out : List Outgoing)
+    (steps : List Step) (was : ManagerRequests) (before : List Outgoing) : Type 0 where
   pub pending : now.pending ++ numbered counts now.counter rest ≡ was.pending ++ numbered counts was.counter steps
   pub outgoing : out ++ steps_out now.counter rest ≡ before ++ steps_out was.counter steps
   pub counter : now.counter + length rest ≡ was.counter + length steps
@@ -19,8 +19,8 @@ pub record AreGoing (counts : Bool) (rest : List Step) (now : Requests) (out : L
   pub room : length rest ≤ now.room
 
 -- one more
-pub one_gone : (counts : Bool) (s : Step) (rest : List Step) (now next : Requests) (out : List Outgoing)
-    (steps : List Step) (was : Requests) (before : List Outgoing) → AreGoing counts (s ∷ rest) now out steps was before
+pub one_gone : (counts : Bool) (s : Step) (rest : List Step) (now next : ManagerRequests) (out : List Outgoing)
+    (steps : List Step) (was : ManagerRequests) (before : List Outgoing) → AreGoing counts (s ∷ rest) now out steps was before
     → next.pending ≡ now.pending ++ pending_step now.counter counts s ∷ []
     → next.counter ≡ now.counter + 1 → now.room ≤ next.room + 1
     → AreGoing counts rest next (out ++ record { packet = set_packet now.counter s; to = None } ∷ []) steps was before

@@ -1,5 +1,5 @@
 -- The steps of a writing that were answered, and as done, call by call.
-use Rattle.std.specs.Prelude.{◌≡◌, ◌≢◌, ◌↔◌, ℕ, ◌+◌, Bool, true, false, ◌&&◌, not, List, [], ◌∷◌, length, ◌==◌, if◌then◌else◌, Option, Some, None, is_none}
+use Rattle.std.specs.Prelude.{◌≡◌, ◌≢◌, ◌↔◌, ℕ, ◌+◌, Bool, true, false, ◌&&◌, List, [], ◌∷◌, length, ◌==◌, if◌then◌else◌, Option, Some, None, is_none}
 use Rattle.smp_bytes.specs.Header.{done}
 use Rattle.smp_bytes.specs.Packet.{fault_of, status}
 use Rattle.smp_bytes.specs.declared.smp_fault.SmpFault.{SmpFault}
@@ -8,10 +8,10 @@ use Rattle.sm_manager.specs.declared.pending.Pending.{Pending}
 use Rattle.sm_manager.specs.Calls.{Call, BeginSweep, WriteSteps, Take, Packet, Timeout, Raise, Merge, Poll, Handover, after_call, after_calls}
 use Rattle.sm_manager.specs.Manager.{Manager, new_manager}
 use Rattle.sm_manager.specs.Packets.{is_for_sweep, is_info_request, pending_for, request_answered}
-use Rattle.sm_manager.specs.Planning.{Planning}
+use Rattle.lft_blocks.specs.Planning.{Planning}
 use Rattle.sm_manager.specs.Plans.{writing_fault}
-use Rattle.sm_manager.specs.Requests.{counts}
-use Rattle.sm_manager.specs.Writing.{is_written, phases_by, writing_begun}
+use Rattle.sm_manager.specs.ManagerRequests.{counts}
+use Rattle.sm_manager.specs.Writing.{is_written, phases_by, after_write_steps}
 
 -- the request that a packet answers is a step that counts, the answer's status is 0, and the answer is taken
 abbrev pub does_request : Manager → List ℕ → Option Pending → Bool
@@ -65,7 +65,7 @@ abbrev pub WrittenIsEachStepDone : Type 0
 WrittenIsEachStepDone =
     (port_guid port priority : ℕ) (planning : Planning) (before after : List Call)
     → writing_fault (after_calls before (new_manager port_guid port priority planning)) ≡ None
-    → BeginNone after (writing_begun (after_calls before (new_manager port_guid port priority planning)))
-    → (is_written (after_calls after (writing_begun (after_calls before (new_manager port_guid port priority planning)))) ≡ true)
-    ↔ (steps_done after (writing_begun (after_calls before (new_manager port_guid port priority planning)))
+    → BeginNone after (after_write_steps (after_calls before (new_manager port_guid port priority planning)))
+    → (is_written (after_calls after (after_write_steps (after_calls before (new_manager port_guid port priority planning)))) ≡ true)
+    ↔ (steps_done after (after_write_steps (after_calls before (new_manager port_guid port priority planning)))
     ≡ counting_in (phases_by (after_calls before (new_manager port_guid port priority planning)) (after_calls before (new_manager port_guid port priority planning)).sweep))

@@ -1,23 +1,23 @@
 -- A manager's life: one call after the other.
 use Rattle.std.specs.Prelude.{◌≡◌, ℕ, List, [], ◌∷◌, ◌++◌, Option, Some, None, Result, Ok, Err, if◌then◌else◌, is_none, max}
-use Rattle.fact_store.specs.Report.{Told}
+use Rattle.fact_store.specs.Report.{Sightings}
 use Rattle.fact_store.specs.Seen.{HaveSameMembers}
 use Rattle.fact_store.specs.View.{view_at, cells_of}
 use Rattle.smp_bytes.specs.Packet.{fault_of}
 use Rattle.smp_bytes.specs.declared.smp_fault.SmpFault.{SmpFault}
 use Rattle.sweep.specs.declared.answer.Answer.{Answer}
 use Rattle.sweep.specs.declared.fault.SweepFault.{SweepFault}
-use Rattle.sweep.specs.Replies.{judged, told_by}
+use Rattle.sweep.specs.Replies.{judged, sightings_by}
 use Rattle.sweep.specs.Sweep.{Sweep}
 use Rattle.lid_assign.specs.Lids.{IsNoRoom}
 use Rattle.lft_blocks.specs.Arrival.{EveryPacketArrives}
 use Rattle.lft_blocks.specs.Plan.{plan_of}
-use Rattle.sm_manager.specs.Manager.{Manager, new_manager, begin_fault, sweep_begun, floor_raised, merged, taken}
-use Rattle.sm_manager.specs.Election.{handed_over, handover_fault, poll_fault, poll_sent}
-use Rattle.sm_manager.specs.Packets.{took, gave_up, is_for_sweep, is_info_request}
-use Rattle.sm_manager.specs.Planning.{Planning}
+use Rattle.sm_manager.specs.Manager.{Manager, new_manager, begin_fault, after_begin_sweep, after_raise_floor, after_merge, after_take_outgoing}
+use Rattle.sm_manager.specs.Election.{after_handover, handover_fault, poll_fault, after_poll}
+use Rattle.sm_manager.specs.Packets.{after_packet, after_timeout, is_for_sweep, is_info_request}
+use Rattle.lft_blocks.specs.Planning.{Planning}
 use Rattle.sm_manager.specs.Plans.{writing_fault}
-use Rattle.sm_manager.specs.Writing.{writing_begun}
+use Rattle.sm_manager.specs.Writing.{after_write_steps}
 
 -- what may change a manager; a store that is merged is told by its floor, and by sightings that it is the view of there
 pub data Call : Type 0 where
@@ -27,21 +27,21 @@ pub data Call : Type 0 where
   Packet : (bytes : List ℕ) → (from : Option ℕ) → Call
   Timeout : (transaction : ℕ) → Call
   Raise : (floor : ℕ) → Call
-  Merge : (floor : ℕ) → (sightings : Told) → Call
+  Merge : (floor : ℕ) → (sightings : Sightings) → Call
   Poll : (lid : ℕ) → Call
   Handover : Call
 
 -- a refused call leaves the manager, and so does one that is refused memory: that is a life without this call
 abbrev pub after_call : Manager → Call → Manager
-after_call m BeginSweep = if is_none (begin_fault m) then sweep_begun m else m
-after_call m WriteSteps = if is_none (writing_fault m) then writing_begun m else m
-after_call m Take = (taken m).manager
-after_call m (Packet bytes from) = (took m bytes from).manager
-after_call m (Timeout transaction) = (gave_up m transaction).manager
-after_call m (Raise floor) = floor_raised m floor
-after_call m (Merge floor sightings) = merged m (view_at floor sightings)
-after_call m (Poll lid) = if is_none (poll_fault m) then poll_sent m lid else m
-after_call m Handover = if is_none (handover_fault m) then handed_over m else m
+after_call m BeginSweep = if is_none (begin_fault m) then after_begin_sweep m else m
+after_call m WriteSteps = if is_none (writing_fault m) then after_write_steps m else m
+after_call m Take = (after_take_outgoing m).manager
+after_call m (Packet bytes from) = (after_packet m bytes from).manager
+after_call m (Timeout transaction) = (after_timeout m transaction).manager
+after_call m (Raise floor) = after_raise_floor m floor
+after_call m (Merge floor sightings) = after_merge m (view_at floor sightings)
+after_call m (Poll lid) = if is_none (poll_fault m) then after_poll m lid else m
+after_call m Handover = if is_none (handover_fault m) then after_handover m else m
 
 abbrev pub after_calls : List Call → Manager → Manager
 after_calls [] m = m
@@ -49,37 +49,37 @@ after_calls (call ∷ calls) m = after_calls calls (after_call m call)
 
 -- what it takes in ------------------------------------------------------------------------------
 
-abbrev pub told_if : Result Answer SweepFault → Told
-told_if (Ok answer) = told_by answer
-told_if (Err why) = []
+abbrev pub sightings_if : Result Answer SweepFault → Sightings
+sightings_if (Ok answer) = sightings_by answer
+sightings_if (Err why) = []
 
-abbrev pub told_of_reply : List ℕ → Option Sweep → Told
-told_of_reply bytes None = []
-told_of_reply bytes (Some s) = told_if (judged s bytes)
+abbrev pub sightings_of_reply : List ℕ → Option Sweep → Sightings
+sightings_of_reply bytes None = []
+sightings_of_reply bytes (Some s) = sightings_if (judged s bytes)
 
-abbrev pub told_of_packet : Manager → List ℕ → Option SmpFault → Told
-told_of_packet m bytes (Some why) = []
-told_of_packet m bytes None =
+abbrev pub sightings_of_packet : Manager → List ℕ → Option SmpFault → Sightings
+sightings_of_packet m bytes (Some why) = []
+sightings_of_packet m bytes None =
     if is_info_request bytes then []
-    else if is_for_sweep bytes then told_of_reply bytes m.sweep
+    else if is_for_sweep bytes then sightings_of_reply bytes m.sweep
     else []
 
 -- the sightings of the report that a call accepts, or of the store that it merges
-abbrev pub told_in : Manager → Call → Told
-told_in m BeginSweep = []
-told_in m WriteSteps = []
-told_in m Take = []
-told_in m (Packet bytes from) = told_of_packet m bytes (fault_of bytes)
-told_in m (Timeout transaction) = []
-told_in m (Raise floor) = []
-told_in m (Merge floor sightings) = sightings
-told_in m (Poll lid) = []
-told_in m Handover = []
+abbrev pub sightings_of_call : Manager → Call → Sightings
+sightings_of_call m BeginSweep = []
+sightings_of_call m WriteSteps = []
+sightings_of_call m Take = []
+sightings_of_call m (Packet bytes from) = sightings_of_packet m bytes (fault_of bytes)
+sightings_of_call m (Timeout transaction) = []
+sightings_of_call m (Raise floor) = []
+sightings_of_call m (Merge floor sightings) = sightings
+sightings_of_call m (Poll lid) = []
+sightings_of_call m Handover = []
 
 -- all sightings that the calls took in
-abbrev pub taken_in : List Call → Manager → Told
+abbrev pub taken_in : List Call → Manager → Sightings
 taken_in [] m = []
-taken_in (call ∷ calls) m = told_in m call ++ taken_in calls (after_call m call)
+taken_in (call ∷ calls) m = sightings_of_call m call ++ taken_in calls (after_call m call)
 
 -- the floor that a call raises or merges, or 1
 abbrev pub floor_in : Call → ℕ

@@ -9,14 +9,14 @@ use Rattle.sm_manager.specs.declared.outgoing.Outgoing.{Outgoing}
 use Rattle.sm_manager.specs.contracts.outgoing.Outgoing as outgoing
 use Rattle.sm_manager.specs.declared.pending.Pending.{Pending}
 use Rattle.sm_manager.specs.contracts.pending.Pending as pending
-use Rattle.sm_manager.specs.declared.seen.SeenManager.{SeenManager}
-use Rattle.sm_manager.specs.contracts.seen.SeenManager as seen
-use Rattle.sm_manager.specs.declared.standing.Standing.{Standing}
-use Rattle.sm_manager.specs.contracts.standing.Standing as standing
+use Rattle.sm_state.specs.declared.seen.SeenManager.{SeenManager}
+use Rattle.sm_state.specs.contracts.seen.SeenManager as seen
+use Rattle.sm_state.specs.declared.standing.Standing.{Standing}
+use Rattle.sm_state.specs.contracts.standing.Standing as standing
 use Rattle.plan_steps.specs.Phases.{Phase}
 use Rattle.plan_steps.specs.contracts.phase.Phase as phase
 use Rattle.sm_manager.specs.Manager.{Manager, Writing}
-use Rattle.sm_manager.specs.Planning.{Planning, planning_code}
+use Rattle.lft_blocks.specs.Planning.{Planning, planning_code}
 
 -- by the codes of its parts
 abbrev pub writing_code : Coded Writing

@@ -1,6 +1,6 @@
 -- What a manager sends to other managers: polls, and controls as it hands over or takes over.
 -- InfiniBand Architecture Specification, Volume 1: subnet management, subnet manager (polling, handover); SMInfo.
-use Rattle.std.specs.Prelude.{ℕ, ◌+◌, List, [], ◌∷◌, ◌++◌, replicate, is_none, if◌then◌else◌, Option, Some, None, option_and_then}
+use Rattle.std.specs.Prelude.{ℕ, ◌+◌, [], ◌∷◌, ◌++◌, replicate, is_none, if◌then◌else◌, Option, Some, None, option_and_then}
 use Rattle.smp_bytes.specs.Header.{get, set, sm_info}
 use Rattle.smp_bytes.specs.Requests.{lid_routed}
 use Rattle.attr_codec.specs.SmInfo.{sm_info_bytes}
@@ -22,12 +22,12 @@ use Rattle.sm_manager.specs.declared.outgoing.Outgoing.{Outgoing}
 use Rattle.sm_manager.specs.declared.pending.Pending.{Pending}
 use Rattle.sm_manager.specs.declared.pending.Purpose.{Purpose}
 use Rattle.sm_manager.specs.declared.pending.Purpose.TheVariants as purpose
-use Rattle.sm_manager.specs.declared.seen.SeenManager.{SeenManager}
-use Rattle.sm_manager.specs.declared.standing.Standing.{Standing}
+use Rattle.sm_state.specs.declared.seen.SeenManager.{SeenManager}
+use Rattle.sm_state.specs.declared.standing.Standing.{Standing}
 use Rattle.sm_manager.specs.Manager.{Manager}
 use Rattle.sm_manager.specs.Plans.{number_fault, or_else, plan_fault}
-use Rattle.sm_manager.specs.Seen.{heir_of}
-use Rattle.sm_manager.specs.Standing.{info_of, is_in, moved_to}
+use Rattle.sm_state.specs.Seen.{successor_of}
+use Rattle.sm_state.specs.Standing.{info_of, is_in, moved_to}
 
 -- requests for SMInfo ---------------------------------------------------------------------------
 
@@ -49,8 +49,8 @@ control_out s number lid control =
 abbrev pub asked : Manager → Pending → Outgoing → Manager
 asked m waits out = record m { counter = m.counter + 1; pending = m.pending ++ waits ∷ []; outgoing = m.outgoing ++ out ∷ [] }
 
-abbrev pub poll_sent : Manager → ℕ → Manager
-poll_sent m lid = asked m (info_pending m.counter purpose.Poll 0) (poll_out m.counter lid)
+abbrev pub after_poll : Manager → ℕ → Manager
+after_poll m lid = asked m (info_pending m.counter purpose.Poll 0) (poll_out m.counter lid)
 
 abbrev pub control_sent : Manager → ℕ → Control → Manager
 control_sent m lid control =
@@ -63,14 +63,14 @@ message_count (Some lid) None = 0
 message_count (Some lid) (Some message) = 1
 
 -- a message goes out as a control
-abbrev pub told : Manager → Option ℕ → Option Message → Manager
-told m None message = m
-told m (Some lid) None = m
-told m (Some lid) (Some message) = control_sent m lid (control_of_message message)
+abbrev pub after_message : Manager → Option ℕ → Option Message → Manager
+after_message m None message = m
+after_message m (Some lid) None = m
+after_message m (Some lid) (Some message) = control_sent m lid (control_of_message message)
 
 -- polls -----------------------------------------------------------------------------------------
 
--- why no poll is sent, want of memory aside
+-- why no poll is sent, out of memory aside
 abbrev pub poll_fault : Manager → Option ManagerFault
 poll_fault m = if is_in Standby m.standing then number_fault (m.counter + 1) else Some fault.NotStandby
 
@@ -81,33 +81,33 @@ abbrev pub handover_move : Manager → Transition
 handover_move m = stepped m.standing.state HandoverWanted
 
 -- of the managers that the last sweep saw
-abbrev pub heir : Manager → Option SeenManager
-heir m = heir_of (info_of m.standing) m.seen
+abbrev pub successor : Manager → Option SeenManager
+successor m = successor_of (info_of m.standing) m.seen
 
 -- the port where a manager was seen, as far as it is known to be an end port
 abbrev pub port_seen : Cells → SeenManager → Option EndPort
 port_seen cells s = if is_end_port cells s.guid s.port then Some (record { node = s.guid; port = s.port }) else None
 
-abbrev pub heir_port : Manager → Option EndPort
-heir_port m = option_and_then (port_seen (cells_of m.store)) (heir m)
+abbrev pub successor_port : Manager → Option EndPort
+successor_port m = option_and_then (port_seen (cells_of m.store)) (successor m)
 
 -- the LID that the plan gives it
-abbrev pub heir_lid : Manager → Option ℕ
-heir_lid m = option_and_then (lid_of (lids m.planning.lmc (cells_of m.store))) (heir_port m)
+abbrev pub successor_lid : Manager → Option ℕ
+successor_lid m = option_and_then (lid_of (lids m.planning.lmc (cells_of m.store))) (successor_port m)
 
--- why a master hands nothing over, want of memory aside
-abbrev pub heir_fault : Manager → Option ManagerFault
-heir_fault m =
-    if is_none (heir_port m) then Some fault.Nobody
+-- why a master hands nothing over, out of memory aside
+abbrev pub successor_fault : Manager → Option ManagerFault
+successor_fault m =
+    if is_none (successor_port m) then Some fault.Nobody
     else or_else (plan_fault m.planning.lmc (cells_of m.store)) (number_fault (m.counter + 1))
 
--- where the table of states has nothing to say to the heir, it is no master
+-- where the table of states has nothing to say to the successor, it is no master
 abbrev pub handover_fault : Manager → Option ManagerFault
-handover_fault m = if is_none (handover_move m).message then Some fault.NotMaster else heir_fault m
+handover_fault m = if is_none (handover_move m).message then Some fault.NotMaster else successor_fault m
 
--- the state moves, and the heir is told to take over; it moves again once the heir has acknowledged
+-- the state moves, and the successor is told to take over; it moves again once the successor has acknowledged
 abbrev pub handed_to : Manager → Option ℕ → Manager
-handed_to m lid = told (record m { standing = moved_to (handover_move m).state m.standing }) lid (handover_move m).message
+handed_to m lid = after_message (record m { standing = moved_to (handover_move m).state m.standing }) lid (handover_move m).message
 
-abbrev pub handed_over : Manager → Manager
-handed_over m = handed_to m (heir_lid m)
+abbrev pub after_handover : Manager → Manager
+after_handover m = handed_to m (successor_lid m)

@@ -1,4 +1,4 @@
--- The names of a manager's faults, and which of them is want of memory.
+-- The names of a manager's faults, and which of them is out of memory.
 use Rattle.std.specs.Prelude.{ℕ, Bool, true, false, List, codes}
 use Rattle.sweep.specs.declared.fault.SweepFault.{SweepFault}
 use Rattle.sweep.specs.declared.fault.SweepFault.TheVariants as sweep

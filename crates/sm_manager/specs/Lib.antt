@@ -4,11 +4,9 @@ pub mod Coded
 pub mod Election
 pub mod Fault
 pub mod Manager
+pub mod ManagerRequests
+pub mod NotedManagers
 pub mod Packets
-pub mod Planning
 pub mod Plans
-pub mod Requests
-pub mod Seen
 pub mod Served
-pub mod Standing
 pub mod Writing

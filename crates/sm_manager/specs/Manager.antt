@@ -13,11 +13,11 @@ use Rattle.sm_manager.specs.declared.outgoing.Outgoing.{Outgoing}
 use Rattle.sm_manager.specs.declared.pending.Pending.{Pending}
 use Rattle.sm_manager.specs.declared.progress.Progress.{Progress}
 use Rattle.sm_manager.specs.declared.progress.Progress.TheVariants.{Never, Running, Done}
-use Rattle.sm_manager.specs.declared.seen.SeenManager.{SeenManager}
-use Rattle.sm_manager.specs.declared.standing.Standing.{Standing}
-use Rattle.sm_manager.specs.Planning.{Planning}
-use Rattle.sm_manager.specs.Seen.{verdict}
-use Rattle.sm_manager.specs.Standing.{active_once_more, info_of, moved_by, new_standing}
+use Rattle.sm_state.specs.declared.seen.SeenManager.{SeenManager}
+use Rattle.sm_state.specs.declared.standing.Standing.{Standing}
+use Rattle.lft_blocks.specs.Planning.{Planning}
+use Rattle.sm_state.specs.Seen.{sweep_verdict}
+use Rattle.sm_state.specs.Standing.{active_once_more, info_of, moved_by, new_standing}
 
 -- A plan that is being written, or was: the phases that have not been sent, and whether a step that counts was not done.
 pub record Writing : Type 0 where
@@ -91,12 +91,12 @@ is_over None = false
 is_over (Some s) = is_done s
 
 -- what the end of a sweep that saw these means for the state
-abbrev pub swept : List SeenManager → Standing → Standing
-swept seen s = moved_by (verdict (info_of s) seen) s
+abbrev pub after_verdict : List SeenManager → Standing → Standing
+after_verdict seen s = moved_by (sweep_verdict (info_of s) seen) s
 
 -- replies come and requests are given up only while a sweep runs: where it is done then, it ended by that
 abbrev pub after_sweep : Manager → Manager
-after_sweep m = record m { standing = if is_over m.sweep then swept m.seen m.standing else m.standing }
+after_sweep m = record m { standing = if is_over m.sweep then after_verdict m.seen m.standing else m.standing }
 
 -- the greatest generation of a fact, 0 where there is none
 abbrev pub newest_held : Facts → ℕ
@@ -111,19 +111,19 @@ abbrev pub begin_fault : Manager → Option ManagerFault
 begin_fault m = if is_running m.sweep then Some SweepRunning else (if newest_held m.store == 2 ^ 32 - 1 then Some GenerationsSpent else None)
 
 -- a sweep by the manager's own port, of the next generation; it has seen no manager yet
-abbrev pub sweep_begun : Manager → Manager
-sweep_begun m =
+abbrev pub after_begin_sweep : Manager → Manager
+after_begin_sweep m =
     with_sweep (record m { standing = active_once_more m.standing; seen = [] }) (started m.port (next_generation m.store) 1)
 
 -- other calls ------------------------------------------------------------------------------------
 
 -- the facts of another store are merged with its own
-abbrev pub merged : Manager → Facts → Manager
-merged m facts = record m { store = merge m.store facts }
+abbrev pub after_merge : Manager → Facts → Manager
+after_merge m facts = record m { store = merge m.store facts }
 
 -- it forgets what is below a floor
-abbrev pub floor_raised : Manager → ℕ → Manager
-floor_raised m floor = record m { store = raised m.store floor }
+abbrev pub after_raise_floor : Manager → ℕ → Manager
+after_raise_floor m floor = record m { store = raised m.store floor }
 
 -- the manager after its first packet was taken to be sent, and that packet
 pub record Taken : Type 0 where
@@ -134,8 +134,8 @@ abbrev pub taken_of : Manager → List Outgoing → Taken
 taken_of m [] = record { manager = m; packet = None }
 taken_of m (packet ∷ later) = record { manager = record m { outgoing = later }; packet = Some packet }
 
-abbrev pub taken : Manager → Taken
-taken m = taken_of m m.outgoing
+abbrev pub after_take_outgoing : Manager → Taken
+after_take_outgoing m = taken_of m m.outgoing
 
 -- the TransactionIDs that a sweep waits for, rising
 abbrev pub transactions_of : Option Sweep → List ℕ

@@ -13,20 +13,20 @@ use Rattle.fact_store.specs.declared.report_fault.ReportFault.TheVariants.{Smp}
 use Rattle.sweep.specs.declared.answer.Answer.{Answer}
 use Rattle.sweep.specs.declared.fault.SweepFault.{SweepFault}
 use Rattle.sweep.specs.declared.fault.SweepFault.TheVariants.{Bad}
-use Rattle.sweep.specs.Replies.{judged, replied, told_by}
-use Rattle.sweep.specs.Sweep.{Sweep, timed_out, timeout_fault}
+use Rattle.sweep.specs.Replies.{judged, after_reply, sightings_by}
+use Rattle.sweep.specs.Sweep.{Sweep, after_timeout as sweep_after_timeout, timeout_fault}
 use Rattle.sm_manager.specs.declared.fault.ManagerFault.{ManagerFault}
 use Rattle.sm_manager.specs.declared.fault.ManagerFault.TheVariants as fault
 use Rattle.sm_manager.specs.declared.pending.Pending.{Pending}
 use Rattle.sm_manager.specs.declared.pending.Purpose.{Purpose}
 use Rattle.sm_manager.specs.declared.pending.Purpose.TheVariants.{Poll, Control, Step}
-use Rattle.sm_manager.specs.declared.standing.Standing.{Standing}
+use Rattle.sm_state.specs.declared.standing.Standing.{Standing}
 use Rattle.sm_manager.specs.Manager.{Manager, with_sweep, after_sweep}
-use Rattle.sm_manager.specs.Requests.{with_number}
-use Rattle.sm_manager.specs.Seen.{with_seen}
+use Rattle.sm_manager.specs.ManagerRequests.{with_number}
+use Rattle.sm_manager.specs.NotedManagers.{with_seen}
 use Rattle.sm_manager.specs.Served.{served}
-use Rattle.sm_manager.specs.Standing.{poll_answered, poll_lost}
-use Rattle.sm_manager.specs.Writing.{is_done_by, is_spent, step_over, without}
+use Rattle.sm_state.specs.Standing.{poll_answered, poll_lost}
+use Rattle.sm_manager.specs.Writing.{is_done_by, is_spent, after_step, without}
 
 -- a call's outcome: the manager afterwards, and why it was refused, if it was
 pub record Called : Type 0 where
@@ -45,7 +45,7 @@ done m = record { manager = m; fault = None }
 -- the facts of an answer are merged with what is known, a manager that it shows is noted, and what it brings up goes out
 abbrev pub with_answer : Manager → Sweep → List ℕ → Answer → Manager
 with_answer m s packet answer =
-    after_sweep (with_sweep (record m { store = merge m.store (view (told_by answer)); seen = with_seen answer m.seen }) (replied s packet))
+    after_sweep (with_sweep (record m { store = merge m.store (view (sightings_by answer)); seen = with_seen answer m.seen }) (after_reply s packet))
 
 abbrev pub answered_by : Manager → Sweep → List ℕ → Result Answer SweepFault → Called
 answered_by m s packet (Ok answer) = done (with_answer m s packet answer)
@@ -73,9 +73,9 @@ abbrev pub unless_spent : Manager → Manager → Called
 unless_spent m after = if is_spent after then refused m fault.SequenceSpent else done after
 
 -- a poll was answered, or was not
-abbrev pub poll_over : Bool → Standing → Standing
-poll_over true s = poll_answered s
-poll_over false s = poll_lost s
+abbrev pub after_poll_end : Bool → Standing → Standing
+after_poll_end true s = poll_answered s
+after_poll_end false s = poll_lost s
 
 -- the number of a status
 abbrev pub status_number : Option Status → Option ℕ
@@ -83,14 +83,14 @@ status_number status = option_map (λ s. s.0) status
 
 -- a request waits no more: it was answered with this status, or nothing answered it; a step was done where its answer
 -- says so, and the next phase may go out
-abbrev pub request_over : Manager → Pending → Option ℕ → Purpose → Called
-request_over m p answer Poll = done (record (without m p) { standing = poll_over (is_some answer) m.standing })
-request_over m p answer Control = done (without m p)
-request_over m p answer (Step counts) = unless_spent m (step_over m p (is_done_by answer))
+abbrev pub after_request : Manager → Pending → Option ℕ → Purpose → Called
+after_request m p answer Poll = done (record (without m p) { standing = after_poll_end (is_some answer) m.standing })
+after_request m p answer Control = done (without m p)
+after_request m p answer (Step counts) = unless_spent m (after_step m p (is_done_by answer))
 
 abbrev pub request_answered : Manager → List ℕ → Option Pending → Called
 request_answered m packet None = refused m fault.Unasked
-request_answered m packet (Some p) = request_over m p (Some (status packet)) p.purpose
+request_answered m packet (Some p) = after_request m p (Some (status packet)) p.purpose
 
 -- requests of other managers --------------------------------------------------------------------
 
@@ -111,14 +111,14 @@ packet_taken m packet from None =
     else request_answered m packet (pending_for m packet)
 
 -- a packet that comes to the manager's port, from this LID
-abbrev pub took : Manager → List ℕ → Option ℕ → Called
-took m packet from = packet_taken m packet from (fault_of packet)
+abbrev pub after_packet : Manager → List ℕ → Option ℕ → Called
+after_packet m packet from = packet_taken m packet from (fault_of packet)
 
 -- timeouts --------------------------------------------------------------------------------------
 
 abbrev pub sweep_timed_out : Manager → Sweep → ℕ → Option SweepFault → Called
 sweep_timed_out m s transaction (Some why) = refused m fault.Unasked
-sweep_timed_out m s transaction None = done (after_sweep (record m { sweep = Some (timed_out s transaction) }))
+sweep_timed_out m s transaction None = done (after_sweep (record m { sweep = Some (sweep_after_timeout s transaction) }))
 
 abbrev pub sweep_gave_up : Manager → ℕ → Option Sweep → Called
 sweep_gave_up m transaction None = refused m fault.Unasked
@@ -126,11 +126,11 @@ sweep_gave_up m transaction (Some s) = sweep_timed_out m s transaction (timeout_
 
 abbrev pub request_gave_up : Manager → Option Pending → Called
 request_gave_up m None = refused m fault.Unasked
-request_gave_up m (Some p) = request_over m p None p.purpose
+request_gave_up m (Some p) = after_request m p None p.purpose
 
 -- nothing answered a request in time: one of the sweep, whose TransactionID has its generation in the high half, or another
-abbrev pub gave_up : Manager → ℕ → Called
-gave_up m transaction =
+abbrev pub after_timeout : Manager → ℕ → Called
+after_timeout m transaction =
     if nat_le (2 ^ 32) transaction then sweep_gave_up m transaction m.sweep
     else request_gave_up m (with_number transaction m.pending)
 

@@ -10,10 +10,10 @@ use Rattle.sm_state.specs.declared.event.Event.TheVariants as event
 use Rattle.sm_state.specs.declared.transition.Transition.{Transition}
 use Rattle.sm_state.specs.Steps.{status_of, stepped}
 use Rattle.sm_manager.specs.declared.outgoing.Outgoing.{Outgoing}
-use Rattle.sm_manager.specs.declared.standing.Standing.{Standing}
-use Rattle.sm_manager.specs.Election.{told}
+use Rattle.sm_state.specs.declared.standing.Standing.{Standing}
+use Rattle.sm_manager.specs.Election.{after_message}
 use Rattle.sm_manager.specs.Manager.{Manager}
-use Rattle.sm_manager.specs.Standing.{info_of, moved_to}
+use Rattle.sm_state.specs.Standing.{info_of, moved_to}
 
 -- answers ---------------------------------------------------------------------------------------
 
@@ -38,7 +38,7 @@ is_control packet = number_in method packet == set && not (is_directed packet)
 -- the state moves, the answer goes out, and then what the sender is told
 abbrev pub moved_on : Manager → List ℕ → Option ℕ → Transition → Manager
 moved_on m packet from move =
-    told (answering (record m { standing = moved_to move.state m.standing }) packet from (status_of move)) from move.message
+    after_message (answering (record m { standing = moved_to move.state m.standing }) packet from (status_of move)) from move.message
 
 -- as the table of states says
 abbrev pub controlled : Manager → List ℕ → Option ℕ → Manager

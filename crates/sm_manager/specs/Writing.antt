@@ -16,8 +16,8 @@ use Rattle.sm_manager.specs.declared.pending.Pending.{Pending}
 use Rattle.sm_manager.specs.declared.pending.Purpose.TheVariants.{Step as IsStep}
 use Rattle.sm_manager.specs.Manager.{Manager, Writing}
 use Rattle.sm_state.specs.declared.state.SmState.TheVariants.{Master}
-use Rattle.sm_manager.specs.Standing.{is_in}
-use Rattle.sm_manager.specs.Requests.{counts, how_many, is_step, no_step_waits, none_counts, without_number}
+use Rattle.sm_state.specs.Standing.{is_in}
+use Rattle.sm_manager.specs.ManagerRequests.{counts, how_many, is_step, no_step_waits, none_counts, without_number}
 
 -- a phase goes out --------------------------------------------------------------------------------
 
@@ -37,9 +37,9 @@ steps_out number [] = []
 steps_out number (s ∷ steps) = record { packet = set_packet number s; to = None } ∷ steps_out (suc number) steps
 
 -- phases without steps that come first are passed over
-abbrev pub passed : List Phase → List Phase
-passed [] = []
-passed (p ∷ phases) = if length p.steps == 0 then passed phases else p ∷ phases
+abbrev pub without_empty_phases : List Phase → List Phase
+without_empty_phases [] = []
+without_empty_phases (p ∷ phases) = if length p.steps == 0 then without_empty_phases phases else p ∷ phases
 
 -- the phase that comes first, and one without steps where there is none
 abbrev pub next_phase : List Phase → Phase
@@ -54,7 +54,7 @@ next_pending number phases = numbered (next_phase phases).counts number (next_ph
 abbrev pub phase_sent : Manager → Writing → Manager
 phase_sent m w =
     record m {
-      writing = Some (record w { later = passed (drop 1 w.later) });
+      writing = Some (record w { later = without_empty_phases (drop 1 w.later) });
       counter = m.counter + length (next_phase w.later).steps;
       pending = m.pending ++ next_pending m.counter w.later;
       outgoing = m.outgoing ++ steps_out m.counter (next_phase w.later).steps;
@@ -93,10 +93,10 @@ phases_by m (Some s) = phases_of (plan_of m.planning.rule m.planning.lmc (cells_
 
 -- the first of these phases is sent
 abbrev pub begun_with : Manager → List Phase → Manager
-begun_with m phases = phase_sent m (record { later = passed phases; has_failed = false })
+begun_with m phases = phase_sent m (record { later = without_empty_phases phases; has_failed = false })
 
-abbrev pub writing_begun : Manager → Manager
-writing_begun m = begun_with m (phases_by m m.sweep)
+abbrev pub after_write_steps : Manager → Manager
+after_write_steps m = begun_with m (phases_by m m.sweep)
 
 -- whether it is written -----------------------------------------------------------------------------
 
@@ -126,8 +126,8 @@ is_done_by None = false
 is_done_by (Some status) = status == done
 
 -- a step waits no more, and what comes next goes out
-abbrev pub step_over : Manager → Pending → Bool → Manager
-step_over m p was_done =
+abbrev pub after_step : Manager → Pending → Bool → Manager
+after_step m p was_done =
     went_on (record m { pending = without_number p.number m.pending; writing = noted (counts p) was_done m.writing })
 
 -- so many steps go out where one of those that wait ends: the next phase, where it is the last of its own

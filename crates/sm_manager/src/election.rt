@@ -5,8 +5,8 @@ ghost use Rattle.fact_store.specs.View.{cells_of};
 ghost use Rattle.lid_assign.specs.Lids.{lid_of, lids};
 ghost use Rattle.subnet_view.specs.EndPorts.{is_end_port};
 ghost use Rattle.smp_bytes.specs.Judges.{JudgesButFor};
-ghost use Rattle.sm_manager.specs.Election.{handed_over, handover_fault, heir_fault, heir_lid, heir_port, port_seen};
-ghost use Rattle.sm_manager.specs.Election.{control_out, info_pending, poll_fault, poll_out, poll_sent};
+ghost use Rattle.sm_manager.specs.Election.{after_handover, handover_fault, successor_fault, successor_lid, successor_port, port_seen};
+ghost use Rattle.sm_manager.specs.Election.{control_out, info_pending, poll_fault, poll_out, after_poll};
 ghost use Rattle.sm_manager.specs.declared.pending.Purpose.TheVariants.{Control as ForControl, Poll as ForPoll};
 ghost use Rattle.sm_state.specs.Controls.{modifier_of_control};
 ghost use Rattle.sm_manager.specs.Fault.{is_memory};
@@ -16,14 +16,12 @@ use crate::fault::ManagerFault;
 use crate::manager::Manager;
 use crate::outgoing::Outgoing;
 use crate::pending::Purpose;
-use crate::requests::Requests;
-use crate::seen::{SeenManager, heir};
-use crate::standing::Standing;
-use crate::steps::{make_room, reserve, where_numbered};
+use crate::requests::{ManagerRequests, make_room, reserve};
+use crate::write_steps::where_numbered;
 use attr_codec::Attribute;
 use fact_store::Store;
 use lid_assign::{LidFault, LidMap, assign};
-use sm_state::{Control, Event, SmState, step};
+use sm_state::{Control, Event, SeenManager, SmState, Standing, step, successor};
 use smp_bytes::{Lid, Method};
 use std::collections::VecDeque;
 use subnet_view::{EndPort, is_end_port};
@@ -36,7 +34,7 @@ impl Manager {
     /// `NotStandby`, `SequenceSpent` and `Memory`, in this order.
     pub fn poll(&mut self, lid: Lid) -> Result<(), ManagerFault>
         ensures judged { JudgesButFor is_memory result (poll_fault self.old) }
-        ensures ok { OnOk result (self.new ≡ poll_sent self.old lid) }
+        ensures ok { OnOk result (self.new ≡ after_poll self.old lid) }
         ensures err { OnErr result (self.new ≡ self.old) }
     {
         if !self.standing.is_in(SmState::Standby) {
@@ -57,14 +55,14 @@ impl Manager {
     /// `SequenceSpent`; `Memory`.
     pub fn handover(&mut self) -> Result<(), ManagerFault>
         ensures judged { JudgesButFor is_memory result (handover_fault self.old) }
-        ensures ok { OnOk result (self.new ≡ handed_over self.old) }
+        ensures ok { OnOk result (self.new ≡ after_handover self.old) }
         ensures err { OnErr result (self.new ≡ self.old) }
     {
         let transition = step(self.standing.state, Event::HandoverWanted);
         let Some(message) = transition.message else {
             return Err(ManagerFault::NotMaster);
         };
-        let lid = self.heir_lid()?;
+        let lid = self.successor_lid()?;
         reserve(1, 1, &mut self.requests, &mut self.outgoing)?;
         self.standing.move_to(transition.state);
         send_control(
@@ -78,23 +76,23 @@ impl Manager {
     }
 
     /// The LID of the manager that is to take over, where there is a number for telling it.
-    fn heir_lid(&self) -> Result<Lid, ManagerFault>
-        ensures judged { JudgesButFor is_memory result (heir_fault self.now) }
-        ensures lid { IfOk result (λ lid. heir_lid self.now ≡ Some lid) }
+    fn successor_lid(&self) -> Result<Lid, ManagerFault>
+        ensures judged { JudgesButFor is_memory result (successor_fault self.now) }
+        ensures lid { IfOk result (λ lid. successor_lid self.now ≡ Some lid) }
         ensures number { OnOk result (self.now.counter < 2 ^ 32) }
     {
-        let Some(port) = self.heir_port() else {
+        let Some(port) = self.successor_port() else {
             return Err(ManagerFault::Nobody);
         };
         where_numbered(self.planned_lid(port), self.requests.has_numbers(1))
     }
 
     /// The end port where that manager was seen.
-    fn heir_port(&self) -> Option<EndPort>
-        ensures { result ≡ heir_port self.now }
+    fn successor_port(&self) -> Option<EndPort>
+        ensures { result ≡ successor_port self.now }
     {
-        let heir = heir(&self.standing.info(), &self.seen)?;
-        port_seen(&self.store, &heir)
+        let successor = successor(&self.standing.info(), &self.seen)?;
+        port_seen(&self.store, &successor)
     }
 
     /// The LID that the plan gives to an end port.
@@ -134,7 +132,7 @@ fn port_seen(store: &Store, seen: &SeenManager) -> Option<EndPort>
 }
 
 /// A poll goes out to a LID. Takes no memory.
-fn send_poll(to: Lid, requests: &mut Requests, outgoing: &mut VecDeque<Outgoing>)
+fn send_poll(to: Lid, requests: &mut ManagerRequests, outgoing: &mut VecDeque<Outgoing>)
     requires number { requests.old.counter < 2 ^ 32 }
     requires room { 0 < requests.old.room }
     requires outgoing { deque_len outgoing.old < deque_capacity outgoing.old }
@@ -156,7 +154,7 @@ pub(crate) fn send_control(
     to: Lid,
     control: Control,
     standing: &Standing,
-    requests: &mut Requests,
+    requests: &mut ManagerRequests,
     outgoing: &mut VecDeque<Outgoing>,
 )
     requires number { requests.old.counter < 2 ^ 32 }

@@ -32,7 +32,7 @@ pub enum ManagerFault {
     /// There is no room for the LIDs.
     #[error("NoRoom")]
     NoRoom(NoRoom),
-    /// The sweep refuses the reply, for another reason than want of memory.
+    /// The sweep refuses the reply, for another reason than out of memory.
     #[error("{0}")]
     Sweep(SweepFault),
     /// The packet answers nothing that was asked, or the request that is to time out does not wait.

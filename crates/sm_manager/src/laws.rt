@@ -1,7 +1,6 @@
 //! What is so of a manager's whole life.
 ghost use Rattle.sm_manager.specs.Answered.{WrittenIsEachStepDone};
 ghost use Rattle.sm_manager.specs.Calls.{KnowsWhatItTookIn, SameTakenInSamePlan};
-ghost use Rattle.sm_manager.specs.Seen.{HeirLaw};
 
 /// After any calls, in whatever order, a manager knows the view of all sightings that it took in, at the greatest floor: those
 /// of the reports that it accepted, and those behind the stores that it merged; the floors that were raised, and those of
@@ -17,13 +16,6 @@ pub fn knows_what_it_took_in()
 #[tactic(auto, using(crate::proofs::Lives::same_taken_in_same_plan))]
 pub fn same_taken_in_same_plan()
     ensures { SameTakenInSamePlan }
-{}
-
-/// Whom a master hands over to wins over each candidate that was seen before it, and none that was seen after it wins over
-/// it; where there is nobody, there is no candidate.
-#[tactic(auto, using(crate::proofs::Heirs::heir_law))]
-pub fn heir_is_the_first_of_the_greatest()
-    ensures { HeirLaw }
 {}
 
 /// Where a writing begins after any calls and no other one follows, the plan is written exactly where as many of its steps

@@ -2,25 +2,24 @@
 #![tactic(auto)]
 
 mod election;
-mod endings;
+mod end_request;
 mod fault;
+mod generation;
 pub mod laws;
 mod manager;
+mod note_seen;
+mod on_packet;
+mod on_timeout;
 mod outgoing;
-mod packets;
 mod pending;
-mod planning;
 mod progress;
 mod requests;
-mod seen;
-mod served;
-mod standing;
-mod steps;
+mod sm_info_requests;
+mod write_steps;
 mod writing;
 
 pub use fault::ManagerFault;
 pub use manager::Manager;
 pub use outgoing::Outgoing;
 pub use pending::{Pending, Purpose};
-pub use planning::Planning;
 pub use progress::Progress;

@@ -1,26 +1,24 @@
-ghost use Rattle.std.specs.Prelude.{◌≡◌, IfOk, OnOk, OnErr, slice_get};
+ghost use Rattle.std.specs.Prelude.{◌≡◌, IfOk, OnOk, OnErr, slice_get, ◌-◌};
 ghost use Rattle.fact_store.specs.View.{cells_of};
 ghost use Rattle.lft_blocks.specs.Arrival.{EveryPacketArrives};
 ghost use Rattle.lft_blocks.specs.Plan.{plan_of};
-ghost use Rattle.sm_manager.specs.Manager.{begin_fault, floor_raised, merged, new_manager, outstanding, progress_of, sweep_begun, taken};
+ghost use Rattle.sm_manager.specs.Manager.{begin_fault, after_raise_floor, after_merge, new_manager, outstanding, progress_of, after_begin_sweep, after_take_outgoing, is_running};
 ghost use Rattle.smp_bytes.specs.Judges.{JudgesButFor};
 ghost use Rattle.sm_manager.specs.Fault.{is_memory};
 ghost use Rattle.sm_manager.specs.Plans.{plan_fault};
+ghost use Rattle.sweep.specs.Replies.{judged};
 
 use crate::fault::ManagerFault;
 use crate::outgoing::{Outgoing, send_queued};
-use crate::planning::Planning;
 use crate::progress::Progress;
-use crate::requests::Requests;
-use crate::seen::SeenManager;
-use crate::standing::Standing;
+use crate::requests::ManagerRequests;
 use crate::writing::Writing;
 use attr_codec::Priority;
 use fact_store::Store;
-use lft_blocks::{Plan, PlanFault};
-use sm_state::SmState;
+use lft_blocks::{Plan, PlanFault, Planning};
+use sm_state::{SeenManager, SmState, Standing};
 use smp_bytes::{Generation, Guid, PortNum};
-use std::alloc::{AllocError, Global};
+use std::alloc::Global;
 use std::collections::VecDeque;
 use std::marker::Model;
 use sweep::Sweep;
@@ -39,7 +37,7 @@ pub struct Manager {
     /// The managers that this sweep saw.
     pub(crate) seen: Vec<SeenManager>,
     pub(crate) writing: Option<Writing>,
-    pub(crate) requests: Requests,
+    pub(crate) requests: ManagerRequests,
     pub(crate) outgoing: VecDeque<Outgoing>,
 }
 
@@ -77,7 +75,7 @@ impl Manager {
             sweep: None,
             seen: Vec::new(alloc),
             writing: None,
-            requests: Requests::new(alloc),
+            requests: ManagerRequests::new(alloc),
             outgoing: VecDeque::new(alloc),
         }
     }
@@ -90,7 +88,7 @@ impl Manager {
     /// `SweepRunning`, `GenerationsSpent` and `Memory`, in this order.
     pub fn begin_sweep(&mut self) -> Result<(), ManagerFault>
         ensures judged { JudgesButFor is_memory result (begin_fault self.old) }
-        ensures ok { OnOk result (self.new ≡ sweep_begun self.old) }
+        ensures ok { OnOk result (self.new ≡ after_begin_sweep self.old) }
         ensures err { OnErr result (self.new ≡ self.old) }
     {
         if self.is_running() {
@@ -110,8 +108,8 @@ impl Manager {
 
     /// Takes the first packet that is to be sent. Takes no memory.
     pub fn take_outgoing(&mut self) -> Option<Outgoing>
-        ensures packet { result ≡ (taken self.old).packet }
-        ensures manager { self.new ≡ (taken self.old).manager }
+        ensures packet { result ≡ (after_take_outgoing self.old).packet }
+        ensures manager { self.new ≡ (after_take_outgoing self.old).manager }
     {
         self.outgoing.pop_front()
     }
@@ -120,7 +118,7 @@ impl Manager {
     /// are taken, but tell nothing where it is older; the next one is not. Takes no memory. Walks the store where this floor
     /// is greater than the one held.
     pub fn raise_floor(&mut self, floor: Generation)
-        ensures { self.new ≡ floor_raised self.old floor }
+        ensures { self.new ≡ after_raise_floor self.old floor }
     {
         self.store.raise_floor(floor);
     }
@@ -131,7 +129,7 @@ impl Manager {
     ///
     /// `Memory` alone.
     pub fn merge_from(&mut self, other: &Store) -> Result<(), ManagerFault>
-        ensures ok { OnOk result (self.new ≡ merged self.old other.now) }
+        ensures ok { OnOk result (self.new ≡ after_merge self.old other.now) }
         ensures err { OnErr result (self.new ≡ self.old) }
         ensures memory { OnErr result (result ≡ Err ManagerFault.Memory) }
     {
@@ -211,6 +209,16 @@ impl Manager {
                     }
                 }
             }
+        }
+    }
+
+    /// Whether a sweep was begun and is not done.
+    pub(crate) fn is_running(&self) -> bool
+        ensures { result ≡ is_running self.now.sweep }
+    {
+        match &self.sweep {
+            None => false,
+            Some(sweep) => !sweep.is_done(),
         }
     }
 }

@@ -39,7 +39,7 @@ impl Numbered for Pending {
 }
 
 impl Pending {
-    ghost use Rattle.sm_manager.specs.Requests.{counts, is_step};
+    ghost use Rattle.sm_manager.specs.ManagerRequests.{counts, is_step};
     ghost use Rattle.sm_manager.specs.Packets.{answers};
 
     /// Whether it is a step of a writing.

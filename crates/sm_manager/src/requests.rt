@@ -1,24 +1,32 @@
-ghost use Rattle.std.specs.Prelude.{◌≡◌, ◌+◌, ◌<◌, ◌≤◌, ◌^◌, [], ◌∷◌, ◌++◌, false, OnOk, Some, length, nat_le, option_copied, option_map, find, slice_get};
+ghost use Rattle.std.specs.Prelude.{◌≡◌, ◌+◌, ◌<◌, ◌≤◌, ◌^◌, [], ◌∷◌, ◌++◌, false, OnOk, Some, length, nat_le, option_copied, option_map, find, slice_get, None, Ok, Option};
 ghost use Rattle.plan_steps.specs.Step.{set_packet};
-ghost use Rattle.request_table.specs.Numbers.{IsPlaceFor};
+ghost use Rattle.request_table.specs.Numbers.{IsIndexFor};
 ghost use Rattle.smp_bytes.specs.Header.{sm_info};
 ghost use Rattle.smp_bytes.specs.Requests.{lid_routed};
 ghost use Rattle.sm_manager.specs.Election.{info_pending};
-ghost use Rattle.sm_manager.specs.Requests.{AreNumbered, how_many, is_for_step, is_step, no_step_waits, none_counts, with_number, without_number};
+ghost use Rattle.sm_manager.specs.ManagerRequests.{AreNumbered, how_many, is_for_step, is_step, no_step_waits, none_counts, with_number, without_number};
 ghost use Rattle.sm_manager.specs.Packets.{answers};
 ghost use Rattle.sm_manager.specs.Writing.{pending_step};
+ghost use Rattle.std.specs.VecDeque.{deque_capacity, deque_len};
+ghost use Rattle.smp_bytes.specs.Judges.{JudgesButFor};
+ghost use Rattle.sm_manager.specs.declared.pending.Pending.{Pending};
+ghost use Rattle.sm_manager.specs.Fault.{is_memory};
+ghost use Rattle.sm_manager.specs.Plans.{number_fault};
 
+use crate::fault::ManagerFault;
+use crate::outgoing::Outgoing;
 use crate::pending::{Pending, Purpose};
 use plan_steps::Step;
 use request_table::RequestTable;
 use smp_bytes::{AttributeId, Method, Smp};
 use std::alloc::{AllocError, Global};
+use std::collections::VecDeque;
 use std::marker::Model;
 
 /// The requests of a manager outside its sweeps that wait for their answers. Contracts see them, the number of the next
 /// one, and for how many more there is memory.
 #[derive(Drop)]
-pub(crate) struct Requests {
+pub(crate) struct ManagerRequests {
     table: RequestTable<Pending>,
     /// How many of them are steps of the last writing.
     steps: usize,
@@ -26,23 +34,23 @@ pub(crate) struct Requests {
     counting: usize,
 }
 
-impl Model for Requests {
-    ghost use Rattle.sm_manager.specs.Requests.{AreCounted, Requests};
+impl Model for ManagerRequests {
+    ghost use Rattle.sm_manager.specs.ManagerRequests.{AreCounted, ManagerRequests};
 
-    ghost Value = { Requests };
+    ghost Value = { ManagerRequests };
 
     ghost view = { λ a. record { counter = a.table.next; pending = a.table.requests; room = a.table.room } };
 
     ghost invariant = { λ a. AreCounted a.table.requests a.steps a.counting };
 }
 
-impl Requests {
+impl ManagerRequests {
     /// None yet. Takes no memory.
     pub(crate) fn new(alloc: Global) -> Self
         ensures counter { result.counter ≡ 1 }
         ensures pending { result.pending ≡ [] }
     {
-        Requests {
+        ManagerRequests {
             table: RequestTable::new(alloc, 1),
             steps: 0,
             counting: 0,
@@ -141,20 +149,20 @@ impl Requests {
         Smp::lid_routed(method, AttributeId::SM_INFO, modifier, number, payload)
     }
 
-    /// One that waits, by its place in the order of their numbers.
-    pub(crate) fn get(&self, place: usize) -> Option<&Pending>
-        ensures { option_copied result ≡ slice_get self.now.pending place }
+    /// One that waits, by its index in the order of their numbers.
+    pub(crate) fn get(&self, index: usize) -> Option<&Pending>
+        ensures { option_copied result ≡ slice_get self.now.pending index }
     {
-        self.table.get(place)
+        self.table.get(index)
     }
 
     /// What one that waits is for.
-    pub(crate) fn purpose(&self, place: usize) -> Purpose
-        requires { place < length self.now.pending }
+    pub(crate) fn purpose(&self, index: usize) -> Purpose
+        requires { index < length self.now.pending }
         ensures { Some result
-            ≡ option_map (λ p. p.purpose) (slice_get self.now.pending place) }
+            ≡ option_map (λ p. p.purpose) (slice_get self.now.pending index) }
     {
-        self.table.get(place).unwrap().purpose
+        self.table.get(index).unwrap().purpose
     }
 
     /// Whether no step that counts waits.
@@ -164,35 +172,35 @@ impl Requests {
         self.counting == 0
     }
 
-    /// The place of the one under a TransactionID. Takes a search.
-    pub(crate) fn place_of(&self, transaction: u64) -> Option<usize>
-        ensures { IsPlaceFor (with_number transaction self.now.pending) self.now.pending result }
+    /// The index of the one under a TransactionID. Takes a search.
+    pub(crate) fn index_of(&self, transaction: u64) -> Option<usize>
+        ensures { IsIndexFor (with_number transaction self.now.pending) self.now.pending result }
     {
-        self.table.place_of(transaction)
+        self.table.index_of(transaction)
     }
 
-    /// The place of the one that a packet answers. Takes a search.
-    pub(crate) fn place_for(&self, smp: &Smp) -> Option<usize>
-        ensures { IsPlaceFor (find (answers smp.now) self.now.pending) self.now.pending result }
+    /// The index of the one that a packet answers. Takes a search.
+    pub(crate) fn index_for(&self, smp: &Smp) -> Option<usize>
+        ensures { IsIndexFor (find (answers smp.now) self.now.pending) self.now.pending result }
     {
-        let place = self.table.count_below(smp.transaction_id());
-        let request = self.get(place)?;
+        let index = self.table.count_below(smp.transaction_id());
+        let request = self.get(index)?;
         if request.is_answered_by(smp) {
-            Some(place)
+            Some(index)
         } else {
             None
         }
     }
 
     /// One that waits has ended. Moves the requests on one side of it.
-    pub(crate) fn end(&mut self, place: usize) -> Pending
-        requires { place < length self.old.pending }
-        ensures request { Some result ≡ slice_get self.old.pending place }
+    pub(crate) fn end(&mut self, index: usize) -> Pending
+        requires { index < length self.old.pending }
+        ensures request { Some result ≡ slice_get self.old.pending index }
         ensures counter { self.new.counter ≡ self.old.counter }
         ensures pending { self.new.pending ≡ without_number result.number self.old.pending }
         ensures room { self.old.room ≤ self.new.room }
     {
-        let ended = self.table.end(place);
+        let ended = self.table.end(index);
         if ended.is_step() {
             self.steps -= 1;
         }
@@ -201,4 +209,44 @@ impl Requests {
         }
         ended
     }
+}
+
+/// Numbers and memory for so many requests more, and memory for so many packets.
+pub(crate) fn make_room(
+    count: usize,
+    packets: usize,
+    requests: &mut ManagerRequests,
+    outgoing: &mut VecDeque<Outgoing>,
+) -> Result<(), ManagerFault>
+    ensures judged { JudgesButFor is_memory result
+        (number_fault (requests.old.counter + count)) }
+    ensures numbered { AreNumbered requests.old.counter requests.old.pending }
+    ensures counter { requests.new.counter ≡ requests.old.counter }
+    ensures pending { requests.new.pending ≡ requests.old.pending }
+    ensures outgoing { outgoing.new.items ≡ outgoing.old.items }
+    ensures room { OnOk result (count ≤ requests.new.room) }
+    ensures more { OnOk result (deque_len outgoing.new + packets ≤ deque_capacity outgoing.new) }
+{
+    if !requests.has_numbers(count) {
+        return Err(ManagerFault::SequenceSpent);
+    }
+    reserve(count, packets, requests, outgoing)?;
+    Ok(())
+}
+
+/// Memory for so many requests more, and for so many packets.
+pub(crate) fn reserve(
+    count: usize,
+    packets: usize,
+    requests: &mut ManagerRequests,
+    outgoing: &mut VecDeque<Outgoing>,
+) -> Result<(), AllocError>
+    ensures counter { requests.new.counter ≡ requests.old.counter }
+    ensures pending { requests.new.pending ≡ requests.old.pending }
+    ensures outgoing { outgoing.new.items ≡ outgoing.old.items }
+    ensures room { OnOk result (count ≤ requests.new.room) }
+    ensures more { OnOk result (deque_len outgoing.new + packets ≤ deque_capacity outgoing.new) }
+{
+    requests.reserve(count)?;
+    outgoing.reserve(packets)
 }

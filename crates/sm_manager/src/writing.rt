@@ -1,11 +1,12 @@
-ghost use Rattle.std.specs.Prelude.{◌≡◌, ◌≤◌, ◌+◌, ◌^◌, ◌++◌, ◌||◌, ◌&&◌, false, not, drop, length};
+ghost use Rattle.std.specs.Prelude.{◌≡◌, ◌≤◌, ◌+◌, ◌^◌, ◌++◌, ◌||◌, ◌&&◌, false, not, drop, length, ◌<◌, None, Some};
 ghost use Rattle.std.specs.List.{list_any};
 ghost use Rattle.std.specs.VecDeque.{deque_capacity, deque_len};
-ghost use Rattle.sm_manager.specs.Writing.{next_pending, next_phase, numbered, passed, steps_out};
+ghost use Rattle.sm_manager.specs.Writing.{next_pending, next_phase, numbered, without_empty_phases, steps_out, is_written};
 
+use crate::manager::Manager;
 use crate::outgoing::Outgoing;
-use crate::requests::Requests;
-use plan_steps::{Phase, Step};
+use crate::requests::ManagerRequests;
+use plan_steps::{Phase, Step, phases};
 use std::collections::VecDeque;
 use std::marker::Model;
 
@@ -29,7 +30,7 @@ impl Model for Writing {
 impl Writing {
     /// No step of these phases was sent yet.
     pub(crate) fn new(phases: VecDeque<Phase>) -> Self
-        ensures { result ≡ record { later = passed phases.items; has_failed = false } }
+        ensures { result ≡ record { later = without_empty_phases phases.items; has_failed = false } }
     {
         let mut later = phases;
         pass(&mut later);
@@ -58,12 +59,16 @@ impl Writing {
     }
 
     /// The phase that comes first goes out. Takes no memory.
-    pub(crate) fn send_next(&mut self, requests: &mut Requests, outgoing: &mut VecDeque<Outgoing>)
+    pub(crate) fn send_next(
+        &mut self,
+        requests: &mut ManagerRequests,
+        outgoing: &mut VecDeque<Outgoing>,
+    )
         requires numbers { requests.old.counter + length (next_phase self.old.later).steps ≤ 2 ^ 32 }
         requires room { length (next_phase self.old.later).steps ≤ requests.old.room }
         requires outgoing { deque_len outgoing.old + length (next_phase self.old.later).steps
             ≤ deque_capacity outgoing.old }
-        ensures later { self.new.later ≡ passed (drop 1 self.old.later) }
+        ensures later { self.new.later ≡ without_empty_phases (drop 1 self.old.later) }
         ensures failed { self.new.has_failed ≡ self.old.has_failed }
         ensures counter { requests.new.counter
             ≡ requests.old.counter + length (next_phase self.old.later).steps }
@@ -95,7 +100,7 @@ impl Writing {
 
 /// Phases without steps that come first are passed over.
 fn pass(later: &mut VecDeque<Phase>)
-    ensures { later.new.items ≡ passed later.old.items }
+    ensures { later.new.items ≡ without_empty_phases later.old.items }
 {
     while let Some(phase) = later.front() {
         if !phase.steps.is_empty() {
@@ -109,7 +114,7 @@ fn pass(later: &mut VecDeque<Phase>)
 fn send_steps(
     counts: bool,
     steps: Vec<Step>,
-    requests: &mut Requests,
+    requests: &mut ManagerRequests,
     outgoing: &mut VecDeque<Outgoing>,
 )
     requires numbers { requests.old.counter + length steps.items ≤ 2 ^ 32 }
@@ -124,5 +129,17 @@ fn send_steps(
     for step in steps {
         let packet = requests.send(counts, step);
         outgoing.push_back_reserved(Outgoing { packet, to: None });
+    }
+}
+
+impl Manager {
+    /// Whether a writing was begun, and each step of it that sets a LID, a block or a top was answered, and as done.
+    pub fn written(&self) -> bool
+        ensures { result ≡ is_written self.now }
+    {
+        match &self.writing {
+            Some(writing) => writing.is_sent() && self.requests.none_counts(),
+            None => false,
+        }
     }
 }

@@ -1,2 +1,3 @@
-pub mod Winning
 pub mod Moves
+pub mod Successors
+pub mod Winning

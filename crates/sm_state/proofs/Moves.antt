@@ -10,7 +10,7 @@ use Rattle.sm_state.specs.declared.state.SmState.{SmState}
 use Rattle.sm_state.specs.declared.state.SmState.TheVariants.{NotActive, Discovering, Standby, Master}
 use Rattle.sm_state.specs.Controls.{control_of_modifier}
 use Rattle.sm_state.specs.StateLaws.{Is, IsNamed, MastersStay, NothingElseMoves, OthersAreTold, StatesAreNumbered}
-use Rattle.sm_state.specs.Steps.{obeyed, stepped}
+use Rattle.sm_state.specs.Steps.{after_control, stepped}
 
 abbrev Unmoved : SmState → Event → Type 0
 Unmoved state e = ((stepped state e).state ≡ state) × ((stepped state e).message ≡ None)
@@ -22,7 +22,7 @@ module _ (modifier : ℕ) where
 
   unmoved : (state : SmState) (found : Option Control) → control_of_modifier modifier ≡ found
       → (IsNamed state (event.Control modifier) → ⊥)
-      → ((obeyed state found).state ≡ state) × ((obeyed state found).message ≡ None)
+      → ((after_control state found).state ≡ state) × ((after_control state found).message ≡ None)
   unmoved Standby (Some control.Handover) e named = absurd (named (inl (is control.Handover e)))
   unmoved Standby (Some control.Disable) e named = absurd (named (inr (inl (is control.Disable e))))
   unmoved Standby (Some control.Discover) e named = absurd (named (inr (inr (inl (is control.Discover e)))))
@@ -48,9 +48,9 @@ module _ (modifier : ℕ) where
   unmoved Discovering (Some control.Discover) e named = (refl, refl)
   unmoved Discovering None e named = (refl, refl)
 
-  steps_down : (found : Option Control) → control_of_modifier modifier ≡ found → ((obeyed Master found).state ≡ Master → ⊥)
-      → (Is control.Acknowledge (event.Control modifier) × ((obeyed Master found).state ≡ Standby))
-      ⊎ (Is control.Discover (event.Control modifier) × ((obeyed Master found).state ≡ Discovering))
+  steps_down : (found : Option Control) → control_of_modifier modifier ≡ found → ((after_control Master found).state ≡ Master → ⊥)
+      → (Is control.Acknowledge (event.Control modifier) × ((after_control Master found).state ≡ Standby))
+      ⊎ (Is control.Discover (event.Control modifier) × ((after_control Master found).state ≡ Discovering))
   steps_down (Some control.Acknowledge) e leaves = inl (is control.Acknowledge e, refl)
   steps_down (Some control.Discover) e leaves = inr (is control.Discover e, refl)
   steps_down (Some control.Handover) e leaves = absurd (leaves refl)
@@ -59,8 +59,8 @@ module _ (modifier : ℕ) where
   steps_down None e leaves = absurd (leaves refl)
 
   told : (state : SmState) (found : Option Control) → control_of_modifier modifier ≡ found
-      → (obeyed state found).message ≡ Some message.Acknowledge
-      → Is control.Handover (event.Control modifier) × ((obeyed state found).state ≡ Master)
+      → (after_control state found).message ≡ Some message.Acknowledge
+      → Is control.Handover (event.Control modifier) × ((after_control state found).state ≡ Master)
   told Standby (Some control.Handover) e sends = (is control.Handover e, refl)
   told Master (Some control.Handover) e sends = (is control.Handover e, refl)
   told Standby (Some control.Disable) e sends = absurd (cc)

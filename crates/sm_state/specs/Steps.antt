@@ -22,19 +22,19 @@ abbrev pub refused : SmState → Transition
 refused state = record { state = state; message = None; is_refused = true }
 
 -- what a manager does about a control
-abbrev pub obeyed : SmState → Option Control → Transition
-obeyed Standby (Some control.Handover) = to Master (Some message.Acknowledge)
-obeyed Standby (Some control.Disable) = to NotActive None
-obeyed Standby (Some control.Discover) = to Discovering None
-obeyed NotActive (Some control.Standby) = to Standby None
-obeyed Master (Some control.Acknowledge) = to Standby None
-obeyed Master (Some control.Handover) = to Master (Some message.Acknowledge)
-obeyed Master (Some control.Discover) = to Discovering None
-obeyed state other = refused state
+abbrev pub after_control : SmState → Option Control → Transition
+after_control Standby (Some control.Handover) = to Master (Some message.Acknowledge)
+after_control Standby (Some control.Disable) = to NotActive None
+after_control Standby (Some control.Discover) = to Discovering None
+after_control NotActive (Some control.Standby) = to Standby None
+after_control Master (Some control.Acknowledge) = to Standby None
+after_control Master (Some control.Handover) = to Master (Some message.Acknowledge)
+after_control Master (Some control.Discover) = to Discovering None
+after_control state other = refused state
 
 -- and about any event
 abbrev pub stepped : SmState → Event → Transition
-stepped state (event.Control modifier) = obeyed state (control_of_modifier modifier)
+stepped state (event.Control modifier) = after_control state (control_of_modifier modifier)
 stepped Discovering event.Outranked = to Standby None
 stepped Discovering event.Unrivalled = to Master None
 stepped Standby event.PollsUnanswered = to Discovering None

@@ -4,9 +4,9 @@ ghost use Rattle.sm_state.specs.Controls.{control_of_modifier, modifier_of_contr
 /// What one subnet manager tells another to do, by a Set(SMInfo) (subnet management, SMInfo: controls).
 #[derive(Clone, Copy, Debug, PartialEq, Eq)]
 pub enum Control {
-    /// Be master in the sender's place.
+    /// Be master instead of the sender.
     Handover,
-    /// The sender is master in your place.
+    /// The sender is master instead of you.
     Acknowledge,
     Disable,
     Standby,

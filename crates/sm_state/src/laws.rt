@@ -1,5 +1,6 @@
 //! The laws of managers' states.
 ghost use Rattle.sm_state.specs.Ranks.{WinsIsAnOrder};
+ghost use Rattle.sm_state.specs.Seen.{SuccessorLaw};
 ghost use Rattle.sm_state.specs.StateLaws.{MastersStay, NothingElseMoves, OthersAreTold, StatesAreNumbered};
 
 /// Of two managers with different priorities or GUIDs one wins; none wins over itself; and who wins over
@@ -27,4 +28,11 @@ pub fn others_are_told()
 /// A state's number is read as that state.
 pub fn states_are_numbered()
     ensures { StatesAreNumbered }
+{}
+
+/// Whom a master hands over to wins over each candidate that was seen before it, and none that was seen after it wins over
+/// it; where there is nobody, there is no candidate.
+#[tactic(auto, using(crate::proofs::Successors::successor_law))]
+pub fn successor_is_the_first_of_the_greatest()
+    ensures { SuccessorLaw }
 {}

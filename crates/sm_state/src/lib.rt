@@ -4,14 +4,18 @@
 mod control;
 mod event;
 pub mod laws;
-mod rank;
+mod precedence;
+mod seen;
+mod standing;
 mod state;
-mod table;
 mod transition;
+mod transitions;
 
 pub use control::Control;
 pub use event::{Event, Message};
-pub use rank::wins;
+pub use precedence::wins;
+pub use seen::{SeenManager, successor, sweep_verdict};
+pub use standing::Standing;
 pub use state::SmState;
-pub use table::step;
 pub use transition::Transition;
+pub use transitions::step;

@@ -10,8 +10,8 @@ use Rattle.smp_bytes.specs.Packet.{mgmt_class, method, status_word, attribute_da
 use Rattle.smp_bytes.specs.Requests.{answer_status, answer_packet}
 use Rattle.smp_bytes.proofs.RequestLaws.{answer_parses}
 use Rattle.smp_bytes.specs.ReadBack.{IsKeptInAnswer, AnswerReadsBack}
-use Rattle.smp_bytes.proofs.PlaceLaws.{get_or-with_number}
-use Rattle.smp_bytes.proofs.PlaceLaws.{get_or-with_bytes_inside, bytes_in-with_bytes}
+use Rattle.smp_bytes.proofs.OffsetLaws.{get_or-with_number}
+use Rattle.smp_bytes.proofs.OffsetLaws.{get_or-with_bytes_inside, bytes_in-with_bytes}
 
 -- the status word without the direction is the status that was given
 status_given : (directed : Bool) (given : ℕ) → (directed ≡ true → given < 2 ^ 15)
@@ -102,24 +102,24 @@ module _ (request : List ℕ) (given : ℕ) (payload : List ℕ) (long : length 
       ap (λ n. bytes_in (record { at = 64; len = n }) (answer_packet request given payload)) (sym whole) ∙ bytes_in-with_bytes 64 payload judged (omega arith)
 
   -- a byte outside method, status and attribute
-  stays : (place : ℕ) → (place < 64) ⊎ (128 ≤ place) → (place < 4) ⊎ (6 ≤ place) → (place < 3) ⊎ (4 ≤ place)
-      → get_or (answer_packet request given payload) place 0 ≡ get_or request place 0
+  stays : (offset : ℕ) → (offset < 64) ⊎ (128 ≤ offset) → (offset < 4) ⊎ (6 ≤ offset) → (offset < 3) ⊎ (4 ≤ offset)
+      → get_or (answer_packet request given payload) offset 0 ≡ get_or request offset 0
   unfolding renamed judged
-  stays place no_data no_status no_method =
+  stays offset no_data no_status no_method =
       let l = length-renamed in
       let m = length-judged in
-      get_or-with_bytes 64 payload judged place (omega arith) (behind no_data)
-      ∙ get_or-with_number status_word (answer_status request given) renamed place (omega arith) no_status
-      ∙ get_or-with_number method 0x81 request place (omega arith) no_method
+      get_or-with_bytes 64 payload judged offset (omega arith) (behind no_data)
+      ∙ get_or-with_number status_word (answer_status request given) renamed offset (omega arith) no_status
+      ∙ get_or-with_number method 0x81 request offset (omega arith) no_method
     where
-      behind : (place < 64) ⊎ (128 ≤ place) → (place < 64) ⊎ (64 + length payload ≤ place)
+      behind : (offset < 64) ⊎ (128 ≤ offset) → (offset < 64) ⊎ (64 + length payload ≤ offset)
       behind (inl h) = inl h
       behind (inr h) = inr (omega arith)
 
-  kept_is : (place : ℕ) → IsKeptInAnswer place → get_or (answer_packet request given payload) place 0 ≡ get_or request place 0
-  kept_is place (inl first) = stays place (inl (omega arith)) (inl (omega arith)) (inl (omega arith))
-  kept_is place (inr (inl between)) = stays place (inl between.1) (inr between.0) (inr (omega arith))
-  kept_is place (inr (inr last)) = stays place (inr last) (inr (omega arith)) (inr (omega arith))
+  kept_is : (offset : ℕ) → IsKeptInAnswer offset → get_or (answer_packet request given payload) offset 0 ≡ get_or request offset 0
+  kept_is offset (inl first) = stays offset (inl (omega arith)) (inl (omega arith)) (inl (omega arith))
+  kept_is offset (inr (inl between)) = stays offset (inl between.1) (inr between.0) (inr (omega arith))
+  kept_is offset (inr (inr last)) = stays offset (inr last) (inr (omega arith)) (inr (omega arith))
 
   length-answer : length (answer_packet request given payload) ≡ 256
   unfolding renamed judged

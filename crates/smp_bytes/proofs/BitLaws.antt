@@ -68,7 +68,7 @@ bits_above m n shift width below h same =
     let at : (x : ℕ) → x / 2 ^ shift ≡ x / 2 ^ below / 2 ^ d = λ x. ap (λ k. x / 2 ^ k) sum ∙ sym (shr-shr x below d) in
     ap (λ x. x % 2 ^ width) (at m ∙ ap (λ x. x / 2 ^ d) same ∙ sym (at n))
 
--- the byte at a place, as a field of one byte
+-- the byte at an offset, as a field of one byte
 pub byte-number_in : (at : ℕ) (bytes : List ℕ) → number_in (record { at = at; len = 1 }) bytes ≡ get_or bytes at 0
 byte-number_in at bytes =
     let here = get_or-drop at bytes 0 0 in

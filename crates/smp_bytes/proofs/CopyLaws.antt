@@ -13,7 +13,7 @@ use Rattle.byteorder.specs.Endian.{big_from, big_bytes}
 use Rattle.byteorder.specs.Numbers.{big_from-lt, length-bytes_high_first}
 use Rattle.smp_bytes.specs.Field.{Field, number_in, bytes_in, with_bytes, with_number}
 
--- a byte of a number, by its place
+-- a byte of a number, by its offset
 byte_at-pow : (k x : ℕ) → byte_at k x ≡ x / 256 ^ k % 256
 byte_at-pow zero x = ap (λ y. y % 256) (sym (div-one x))
 byte_at-pow (suc k) x = refl
@@ -41,14 +41,14 @@ bytes_below (suc n) m a x few =
     ap (λ b. b ∷ big_bytes n (a * 256 ^ m + x)) (byte_below n m a x (omega arith))
     ∙ ap (λ bs. byte_at n x ∷ bs) (bytes_below n m a x (omega arith))
 
--- each place of bytes holds a number below 256; past the end 0 is read
-pub byte_at_place : (bytes : List ℕ) → All (λ byte. byte < 256) bytes → (k : ℕ) → get_or bytes k 0 < 256
-byte_at_place bytes all k =
+-- each of the bytes is a number below 256; past the end 0 is read
+pub byte_at_offset : (bytes : List ℕ) → All (λ byte. byte < 256) bytes → (k : ℕ) → get_or bytes k 0 < 256
+byte_at_offset bytes all k =
     ⊎_elim (λ inside. All-get_or (λ byte. byte < 256) bytes k 0 inside all)
     (λ past. subst (λ (n : ℕ). n < 256) (sym (get_or-eq_default bytes 0 past)) (omega arith))
     (cases_lt k (length bytes))
 
--- the number from a place on is that of what stands from there on
+-- the number from an offset on is that of what stands from there on
 big_from-drop : (at i n : ℕ) (bytes : List ℕ) → big_from (at + i) n bytes ≡ big_from i n (drop at bytes)
 big_from-drop at i zero bytes = refl
 big_from-drop at i (suc n) bytes =
@@ -74,9 +74,9 @@ pub big_bytes-number_in : (f : Field) (bytes : List ℕ) → f.at + f.len ≤ le
     → big_bytes f.len (number_in f bytes) ≡ bytes_in f bytes
 big_bytes-number_in f bytes lies all =
     ap (big_bytes f.len) (sym (big_from-drop f.at 0 f.len bytes) ∙ ap (λ k. big_from k f.len bytes) {x = f.at + 0} {y = f.at} (omega arith))
-    ∙ big_bytes-big_from f.len f.at bytes lies (byte_at_place bytes all)
+    ∙ big_bytes-big_from f.len f.at bytes lies (byte_at_offset bytes all)
 
--- of two writes at one place the last one stands
+-- of two writes at one offset the last one stands
 pub with_bytes-twice : (at : ℕ) (written before bytes : List ℕ) → at + length written ≤ length bytes → length before ≡ length written
     → with_bytes at written (with_bytes at before bytes) ≡ with_bytes at written bytes
 unfolding with_bytes

@@ -70,17 +70,17 @@ padded_integral-hex n small = padded_integral-zeros (digits 16 false n) ∙ ap (
     ∙ zeros_before-digits 15 64 n [] (omega arith) small ∙ append-nil (hex_text 16 n)
 
 -- one more digit, in front of those that stand
-pub hex_text-place : (place n : ℕ) (digits : List ℕ) (digit : ℕ) → 0 < place → place ≤ length digits → digit ≡ digit_glyph false (n % 16)
-    → hex_text (place - 1) (n / 16) ++ drop (place - 1) (slice_set digits (place - 1) digit) ≡ hex_text place n ++ drop place digits
+pub hex_text-index : (index n : ℕ) (digits : List ℕ) (digit : ℕ) → 0 < index → index ≤ length digits → digit ≡ digit_glyph false (n % 16)
+    → hex_text (index - 1) (n / 16) ++ drop (index - 1) (slice_set digits (index - 1) digit) ≡ hex_text index n ++ drop index digits
 unfolding hex_text
-hex_text-place zero n digits digit pos room e = absurd (omega arith)
-hex_text-place (suc k) n digits digit pos room e =
+hex_text-index zero n digits digit pos room e = absurd (omega arith)
+hex_text-index (suc k) n digits digit pos room e =
     let back : suc k - 1 ≡ k = omega arith in
     let inside : k < length digits = omega arith in
     rw (back, drop-set digits k digit inside, e, add-one k, append_assoc (hex_text k (n / 16)) (digit_glyph false (n % 16) ∷ []) (drop (suc k) digits))
 
 -- no more digits are wanted
-pub hex_text-done : (place n : ℕ) (digits text : List ℕ) → place ≤ 0 → hex_text place n ++ drop place digits ≡ text → digits ≡ text
+pub hex_text-done : (index n : ℕ) (digits text : List ℕ) → index ≤ 0 → hex_text index n ++ drop index digits ≡ text → digits ≡ text
 unfolding hex_text
 hex_text-done zero n digits text none e = e
 hex_text-done (suc k) n digits text none e = absurd (omega arith)

@@ -7,7 +7,7 @@ use Rattle.byteorder.specs.Numbers.{length-bytes_high_first}
 use Rattle.smp_bytes.proofs.CopyLaws.{big_bytes-number_in}
 use Rattle.smp_bytes.specs.Field.{bytes_in, replaced, with_number}
 use Rattle.smp_bytes.proofs.FieldLaws.{length-with_number}
-use Rattle.smp_bytes.proofs.PlaceLaws.{get_or-with_bytes_inside, get_or-with_number}
+use Rattle.smp_bytes.proofs.OffsetLaws.{get_or-with_bytes_inside, get_or-with_number}
 use Rattle.smp_bytes.proofs.BitLaws.{get_or-with_bits, replaced_fits}
 use Rattle.smp_bytes.specs.Laws.{BytesOutsideStay, OtherBytesStay, WriteIsUnique}
 
@@ -16,20 +16,20 @@ pub keeps_bytes_outside : BytesOutsideStay
 keeps_bytes_outside field number bytes lies =
     record {
       count = length-with_number field number bytes lies;
-      outside = λ place outside. get_or-with_number field number bytes place lies outside;
+      outside = λ offset outside. get_or-with_number field number bytes offset lies outside;
     }
 
 -- a write into some bits keeps the other bytes
 pub keeps_other_bytes : OtherBytesStay
 keeps_other_bytes bits number bytes there small =
-    let lies = there.place in
+    let lies = there.offset in
     let fits = replaced_fits bits number (get_or bytes bits.at 0) there.byte small there.within in
     let written = replaced bits number (get_or bytes bits.at 0) in
     record {
       count = length-with_number (record { at = bits.at; len = 1 }) written bytes (omega arith);
       byte = subst (λ (n : ℕ). n < 256) (sym (get_or-with_bits bits number bytes lies fits)) fits;
-      others = λ place other. get_or-with_number (record { at = bits.at; len = 1 }) written bytes place (omega arith)
-          (⊎_elim (λ below. inl below) (λ above. inr (omega arith)) (cases_lt place bits.at));
+      others = λ offset other. get_or-with_number (record { at = bits.at; len = 1 }) written bytes offset (omega arith)
+          (⊎_elim (λ below. inl below) (λ above. inr (omega arith)) (cases_lt offset bits.at));
     }
 
 -- the bytes of the number that is read from a field are the field's bytes, and all others are given
@@ -45,11 +45,11 @@ write_is_unique field number old new lies all keeps holds =
     ∙ ap (λ bytes. get_or bytes j 0) (sym written)
     ∙ sym (get_or-with_bytes_inside field.at (big_bytes field.len number) old j (omega arith) (omega arith)) in
     ext_get_or 0 new (with_number field number old) (omega arith)
-    (λ place within. ⊎_elim
-    (λ before. keeps.outside place (inl before) ∙ sym (get_or-with_number field number old place lies (inl before)))
+    (λ offset within. ⊎_elim
+    (λ before. keeps.outside offset (inl before) ∙ sym (get_or-with_number field number old offset lies (inl before)))
     (λ behind. ⊎_elim
-    (λ low. let sum : field.at + (place - field.at) ≡ place = omega arith in
-    ap (λ k. get_or new k 0) (sym sum) ∙ inside (place - field.at) (omega arith) ∙ ap (λ k. get_or (with_number field number old) k 0) sum)
-    (λ high. keeps.outside place (inr high) ∙ sym (get_or-with_number field number old place lies (inr high)))
-    (cases_lt place (field.at + field.len)))
-    (cases_lt place field.at))
+    (λ low. let sum : field.at + (offset - field.at) ≡ offset = omega arith in
+    ap (λ k. get_or new k 0) (sym sum) ∙ inside (offset - field.at) (omega arith) ∙ ap (λ k. get_or (with_number field number old) k 0) sum)
+    (λ high. keeps.outside offset (inr high) ∙ sym (get_or-with_number field number old offset lies (inr high)))
+    (cases_lt offset (field.at + field.len)))
+    (cases_lt offset field.at))

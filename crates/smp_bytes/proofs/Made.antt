@@ -9,7 +9,7 @@ use Rattle.smp_bytes.specs.Packet.{base_version, mgmt_class, class_version, meth
 use Rattle.smp_bytes.specs.Requests.{request_entries, path_entries, request, lid_routed, directed}
 use Rattle.smp_bytes.proofs.RequestLaws.{length-request, length-directed, lid_routed_field, lid_routed_parses, directed_field, directed_header, directed_parses}
 use Rattle.smp_bytes.specs.ReadBack.{reserved_after_attribute_id, HoldsRequest, HoldsPath, FitsRequest, DirectedReadsBack, LidRoutedReadsBack}
-use Rattle.smp_bytes.proofs.PlaceLaws.{get_or-with_bytes_inside, bytes_in-with_bytes, bytes_in-with_bytes_before, get_or-with_numbers_behind}
+use Rattle.smp_bytes.proofs.OffsetLaws.{get_or-with_bytes_inside, bytes_in-with_bytes, bytes_in-with_bytes_before, get_or-with_numbers_behind}
 
 module _ (method_number attribute modifier tid : ℕ) where
   -- the i-th field of a request holds its number
@@ -64,33 +64,33 @@ module _ (method_number attribute modifier tid : ℕ) where
     length-loaded = let long = length-begun in length-with_bytes 64 payload begun (omega arith) ∙ length-begun
 
     -- a byte behind the data is 0 before the path is written
-    zero_behind : (place : ℕ) → 128 ≤ place → place < 256 → get_or loaded place 0 ≡ 0
+    zero_behind : (offset : ℕ) → 128 ≤ offset → offset < 256 → get_or loaded offset 0 ≡ 0
     unfolding begun loaded
-    zero_behind place behind within =
+    zero_behind offset behind within =
         let long = length-begun in
         let made = length-request method_number attribute modifier tid 0x81 in
-        get_or-with_bytes 64 payload begun place (omega arith) (inr (omega arith))
-        ∙ get_or-with_numbers_behind 36 (path_entries (length path)) (request 0x81 method_number attribute modifier tid) place (omega arith) refl (omega arith)
-        ∙ get_or-with_numbers_behind 24 (request_entries 0x81 method_number attribute modifier tid) (replicate 256 0) place (omega arith) refl (omega arith)
-        ∙ get_or-replicate 256 place 0 0 within
+        get_or-with_bytes 64 payload begun offset (omega arith) (inr (omega arith))
+        ∙ get_or-with_numbers_behind 36 (path_entries (length path)) (request 0x81 method_number attribute modifier tid) offset (omega arith) refl (omega arith)
+        ∙ get_or-with_numbers_behind 24 (request_entries 0x81 method_number attribute modifier tid) (replicate 256 0) offset (omega arith) refl (omega arith)
+        ∙ get_or-replicate 256 offset 0 0 within
 
     -- a port of InitialPath or ReturnPath that the path does not reach
-    port_outside : (place : ℕ) → 128 ≤ place → place < 256 → (place < 129) ⊎ (129 + length path ≤ place)
-        → number_in (record { at = place; len = 1 }) (directed method_number attribute modifier tid path payload) ≡ 0
+    port_outside : (offset : ℕ) → 128 ≤ offset → offset < 256 → (offset < 129) ⊎ (129 + length path ≤ offset)
+        → number_in (record { at = offset; len = 1 }) (directed method_number attribute modifier tid path payload) ≡ 0
     unfolding begun loaded
-    port_outside place behind within outside =
+    port_outside offset behind within outside =
         let long = length-loaded in
-        byte-number_in place (directed method_number attribute modifier tid path payload)
-        ∙ get_or-with_bytes 129 path loaded place (omega arith) outside
-        ∙ zero_behind place behind within
+        byte-number_in offset (directed method_number attribute modifier tid path payload)
+        ∙ get_or-with_bytes 129 path loaded offset (omega arith) outside
+        ∙ zero_behind offset behind within
 
     port_inside : (i : ℕ) → i < length path → number_in (initial_path (i + 1)) (directed method_number attribute modifier tid path payload) ≡ get_or path i 0
     unfolding begun loaded
     port_inside i inside =
         let long = length-loaded in
-        let place : 128 + (i + 1) ≡ 129 + i = omega arith in
+        let offset : 128 + (i + 1) ≡ 129 + i = omega arith in
         byte-number_in (128 + (i + 1)) (directed method_number attribute modifier tid path payload)
-        ∙ ap (λ k. get_or (directed method_number attribute modifier tid path payload) k 0) place
+        ∙ ap (λ k. get_or (directed method_number attribute modifier tid path payload) k 0) offset
         ∙ get_or-with_bytes_inside 129 path loaded i (omega arith) inside
 
     data_of_directed : bytes_in attribute_data (directed method_number attribute modifier tid path payload) ≡ payload

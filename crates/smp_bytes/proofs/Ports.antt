@@ -16,7 +16,7 @@ drop_at_suc (suc n) (y ∷ ys) x at = drop_at_suc n ys x at
 pub drop_at : {T : Type 0} (n : ℕ) (xs : List T) (x : T) → slice_get xs n ≡ Some x → drop n xs ≡ x ∷ drop (n + 1) xs
 drop_at n xs x at = drop_at_suc n xs x at ∙ ap (λ k. x ∷ drop k xs) (sym (plus_one n))
 
--- what the port at a place decides
+-- what the port at an index decides
 pub ports_next : (packet : List ℕ) (n i : ℕ) (path : List ℕ) (port : ℕ) → slice_get path i ≡ Some port
     → has_ports packet n (drop i path) ≡ (number_in (initial_path n) packet == port && has_ports packet (n + 1) (drop (i + 1) path))
 ports_next packet n i path port at = ap (has_ports packet n) (drop_at i path port at)

@@ -6,9 +6,9 @@ use Rattle.byteorder.specs.Endian.{big_bytes}
 use Rattle.smp_bytes.specs.Field.{number_in, with_number}
 use Rattle.smp_bytes.specs.Packet.{mgmt_class, status_word, is_directed, is_returning, status}
 use Rattle.smp_bytes.specs.ReadBack.{StatusReadsBack}
-use Rattle.smp_bytes.proofs.CopyLaws.{byte_at_place}
+use Rattle.smp_bytes.proofs.CopyLaws.{byte_at_offset}
 use Rattle.smp_bytes.proofs.FieldLaws.{number_in-with_number, number_in-with_number_apart}
-use Rattle.smp_bytes.proofs.PlaceLaws.{get_or-with_bytes_inside}
+use Rattle.smp_bytes.proofs.OffsetLaws.{get_or-with_bytes_inside}
 
 -- the status word of a packet with another status
 word_given : Bool → ℕ → ℕ → ℕ
@@ -44,8 +44,8 @@ module _ (packet : List ℕ) (given : ℕ) (long : length packet ≡ 256) (bytes
   word_fits : word < 2 ^ 16
   unfolding word
   word_fits =
-      let high = byte_at_place packet bytes 4 in
-      let low = byte_at_place packet bytes 5 in
+      let high = byte_at_offset packet bytes 4 in
+      let low = byte_at_offset packet bytes 5 in
       let whole = word_of_bytes packet in
       word_given-fits (is_directed packet) (number_in status_word packet) given (omega arith) fits within
 
@@ -66,7 +66,7 @@ module _ (packet : List ℕ) (given : ℕ) (long : length packet ≡ 256) (bytes
       ap (λ n. n / 2 ^ 7 % 2 ^ 1 == 1) (get_or-with_bytes_inside 4 (big_bytes 2 word) packet 0 (omega arith) (omega arith)
       ∙ ap (λ (b : Bool). cond b (number_in status_word packet / 2 ^ 15 * 2 ^ 15 + given) given / 256 % 256) directed)
       ∙ ap (λ n. (n / 2 ^ 15 * 2 ^ 15 + given) / 256 % 256 / 2 ^ 7 % 2 ^ 1 == 1) (word_of_bytes packet)
-      ∙ ap (λ n. n == 1) (direction_given (get_or packet 4 0) (get_or packet 5 0) given (byte_at_place packet bytes 4) (byte_at_place packet bytes 5)
+      ∙ ap (λ n. n == 1) (direction_given (get_or packet 4 0) (get_or packet 5 0) given (byte_at_offset packet bytes 4) (byte_at_offset packet bytes 5)
       (within directed))
 
 pub status_reads_back : StatusReadsBack

@@ -2,12 +2,12 @@
 use Rattle.std.specs.Prelude.{ℕ, ◌+◌, ◌/◌, ◌%◌, ◌*◌, ◌^◌, ◌==◌, Bool, not, ◌||◌, List, [], ◌∷◌, ◌++◌, take, drop, slice_index, length, nat_le}
 use Rattle.byteorder.specs.Endian.{big_number, big_bytes}
 
--- whole bytes: the place of the first, and how many there are
+-- whole bytes: the offset of the first, and how many there are
 pub record Field : Type 0 where
   pub at : ℕ
   pub len : ℕ
 
--- some bits of one byte: its place, the lowest of the bits, and how many there are
+-- some bits of one byte: its offset, the lowest of the bits, and how many there are
 pub record Bits : Type 0 where
   pub at : ℕ
   pub shift : ℕ
@@ -25,11 +25,11 @@ bits_in bits bytes = slice_index bytes bits.at / 2 ^ bits.shift % 2 ^ bits.width
 abbrev pub bytes_in : Field → List ℕ → List ℕ
 bytes_in field bytes = take field.len (drop field.at bytes)
 
--- the bytes with others written over those from a place on
+-- the bytes with others written over those from an offset on
 unfoldable pub with_bytes : ℕ → List ℕ → List ℕ → List ℕ
 with_bytes at written bytes = take at bytes ++ (written ++ drop (at + length written) bytes)
 
--- the bytes with a number written into the place of a field
+-- the bytes with a number written into a field
 abbrev pub with_number : Field → ℕ → List ℕ → List ℕ
 with_number field number bytes = with_bytes field.at (big_bytes field.len number) bytes
 

@@ -6,7 +6,7 @@ abbrev pub Judges : {T F : Type 0} → Result T F → Option F → Type 0
 Judges (Ok value) fault = fault ≡ None
 Judges (Err first) fault = fault ≡ Some first
 
--- the same, but for want of memory, which is answered only where there is no fault
+-- the same, but out of memory is answered only where there is no fault
 abbrev pub JudgesButFor : {T F : Type 0} → (F → Bool) → Result T F → Option F → Type 0
 JudgesButFor is_memory (Ok value) fault = fault ≡ None
 JudgesButFor is_memory (Err first) fault = fault ≡ (if is_memory first then None else Some first)

@@ -21,7 +21,7 @@ FieldApartStays = (other field : Field) (number : ℕ) (bytes : List ℕ) → Li
 -- there are as many bytes as before, and each that is not of the field stays
 pub record KeepsBytesOutside (field : Field) (old new : List ℕ) : Type 0 where
   pub count : length new ≡ length old
-  pub outside : (place : ℕ) → (place < field.at) ⊎ (field.at + field.len ≤ place) → slice_index new place ≡ slice_index old place
+  pub outside : (offset : ℕ) → (offset < field.at) ⊎ (field.at + field.len ≤ offset) → slice_index new offset ≡ slice_index old offset
 
 -- so does a write into a field
 abbrev pub BytesOutsideStay : Type 0
@@ -42,7 +42,7 @@ LastWriteStands = (field : Field) (number before : ℕ) (bytes : List ℕ) → L
 
 -- the bits lie within a byte, which is one of these
 pub record AreBitsIn (bits : Bits) (bytes : List ℕ) : Type 0 where
-  pub place : bits.at < length bytes
+  pub offset : bits.at < length bytes
   pub byte : slice_index bytes bits.at < 256
   pub within : bits.shift + bits.width ≤ 8
 
@@ -59,7 +59,7 @@ BitsApartStay = (other bits : Bits) (number : ℕ) (bytes : List ℕ) → AreBit
 pub record KeepsOtherBytes (bits : Bits) (old new : List ℕ) : Type 0 where
   pub count : length new ≡ length old
   pub byte : slice_index new bits.at < 256
-  pub others : (place : ℕ) → place ≢ bits.at → slice_index new place ≡ slice_index old place
+  pub others : (offset : ℕ) → offset ≢ bits.at → slice_index new offset ≡ slice_index old offset
 
 -- so does a write into some bits
 abbrev pub OtherBytesStay : Type 0

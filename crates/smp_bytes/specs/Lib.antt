@@ -1,11 +1,5 @@
 pub mod Answers
-pub mod Cables
-pub mod DirectedWalk
-pub mod Fabric
-pub mod FabricLaws
-pub mod FabricWalks
 pub mod Field
-pub mod Forwarding
 pub mod Header
 pub mod Judges
 pub mod Laws

@@ -69,7 +69,7 @@ LidRoutedReadsBack =
 
 -- neither method nor status nor attribute
 abbrev pub IsKeptInAnswer : ℕ → Type 0
-IsKeptInAnswer place = (place < 3) ⊎ (((6 ≤ place) × (place < 64)) ⊎ (128 ≤ place))
+IsKeptInAnswer offset = (offset < 3) ⊎ (((6 ≤ offset) × (offset < 64)) ⊎ (128 ≤ offset))
 
 -- what an answer holds: all else is as it was in the request
 pub record HoldsAnswer (request answer : List ℕ) (given : ℕ) (payload : List ℕ) : Type 0 where
@@ -81,7 +81,7 @@ pub record HoldsAnswer (request answer : List ℕ) (given : ℕ) (payload : List
   pub returning : is_directed request ≡ true → is_returning answer ≡ true
   pub status : status answer ≡ given
   pub attribute_data : bytes_in attribute_data answer ≡ payload
-  pub kept : (place : ℕ) → IsKeptInAnswer place → slice_index answer place ≡ slice_index request place
+  pub kept : (offset : ℕ) → IsKeptInAnswer offset → slice_index answer offset ≡ slice_index request offset
 
 -- an answer holds what was given; in the directed class the status leaves its highest bit to the direction
 abbrev pub AnswerReadsBack : Type 0

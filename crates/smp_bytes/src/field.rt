@@ -1,4 +1,4 @@
-//! The table of fields: the place of each field's first byte in a packet (management datagram header; SMP formats).
+//! The table of fields: the offset of each field's first byte in a packet (management datagram header; SMP formats).
 
 pub const BASE_VERSION: usize = 0;
 

@@ -38,8 +38,8 @@ impl Guid {
     {
         let mut digits = [0; 16];
         let mut rest = self.0;
-        for place in (0..16).rev() {
-            digits[place] = hex_digit((rest % 16) as u8);
+        for index in (0..16).rev() {
+            digits[index] = hex_digit((rest % 16) as u8);
             rest /= 16;
         }
         digits

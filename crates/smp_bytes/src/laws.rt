@@ -3,8 +3,6 @@ ghost use Rattle.std.specs.Prelude.{◌≡◌};
 ghost use Rattle.smp_bytes.specs.Header.{get, set, get_resp, done, method_not_supported, method_and_attribute_not_supported, invalid_field, node_description, node_info, switch_info, port_info, linear_forwarding_table, sm_info};
 ghost use Rattle.smp_bytes.specs.Laws.{NumberIsRead, FieldApartStays, BytesOutsideStay, WriteIsUnique, LastWriteStands, BitsAreRead, BitsApartStay, OtherBytesStay};
 ghost use Rattle.smp_bytes.specs.ReadBack.{DirectedReadsBack, LidRoutedReadsBack, AnswerReadsBack, StatusReadsBack};
-ghost use Rattle.smp_bytes.specs.Cables.{CablesLeadBack};
-ghost use Rattle.smp_bytes.specs.FabricLaws.{PacketsEndOnce, WalksGoOn};
 
 use crate::header::{AttributeId, Method, Status};
 
@@ -96,21 +94,4 @@ pub fn attribute_numbers()
     ensures linear_forwarding_table { AttributeId.LINEAR_FORWARDING_TABLE.0
         ≡ linear_forwarding_table }
     ensures sm_info { AttributeId.SM_INFO.0 ≡ sm_info }
-{}
-
-/// The cable in a port leads back from the port at its other end.
-#[tactic(auto, using(crate::proofs::Cabled::cables_lead_back))]
-pub fn cables_lead_back()
-    ensures { CablesLeadBack }
-{}
-
-/// A directed walk of at least one port goes on by one port more from its end, where a switch is there.
-#[tactic(auto, using(crate::proofs::DirectedWalks::walks_go_on))]
-pub fn walks_go_on()
-    ensures { WalksGoOn }
-{}
-
-/// A packet for a LID that is sent from a port is delivered at a port, or lost at a node, and never both.
-pub fn packets_end_once()
-    ensures { PacketsEndOnce }
 {}

@@ -1,15 +1,12 @@
 //! Subnet management packets and the numbers that they carry, each as a type of its own.
 #![tactic(auto)]
 
-mod cable;
-mod course;
 mod field;
 mod generation;
 mod guid;
 mod header;
 pub mod laws;
 mod lid;
-mod node_id;
 mod node_type;
 mod path;
 mod port_num;
@@ -19,13 +16,10 @@ mod smp_fault;
 mod tests;
 pub mod wire;
 
-pub use cable::{Cable, NodePort};
-pub use course::Course;
 pub use generation::Generation;
 pub use guid::Guid;
 pub use header::{AttributeId, Method, SmpClass, Status};
 pub use lid::Lid;
-pub use node_id::NodeId;
 pub use node_type::NodeType;
 pub use path::Path;
 pub use port_num::PortNum;

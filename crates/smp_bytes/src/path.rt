@@ -67,7 +67,7 @@ impl<const MAX: usize> Path<MAX> {
         self.len() == MAX
     }
 
-    /// The port at place `i`, from 0 on.
+    /// The port at index `i`, from 0 on.
     pub fn get(&self, i: usize) -> Option<PortNum>
         ensures { result ≡ slice_get self.now i }
     {

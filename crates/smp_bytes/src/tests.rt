@@ -32,19 +32,19 @@ const REQUEST: [u8; 130] = [
 /// The bytes that a packet begins with, and 0 behind them.
 fn packet(begin: &[u8]) -> [u8; 256] {
     let mut bytes = [0; 256];
-    for (place, byte) in bytes.iter_mut().zip(begin) {
-        *place = *byte;
+    for (slot, byte) in bytes.iter_mut().zip(begin) {
+        *slot = *byte;
     }
     bytes
 }
 
-/// The bytes from a place on are these.
-fn assert_at(rt: &impl Abort, smp: &Smp, place: usize, wanted: &[u8]) {
-    let is_there = match smp.bytes().get(place..) {
+/// The bytes from an offset on are these.
+fn assert_at(rt: &impl Abort, smp: &Smp, offset: usize, wanted: &[u8]) {
+    let is_there = match smp.bytes().get(offset..) {
         Some(rest) => rest.starts_with(wanted),
         None => false,
     };
-    assert!(rt; is_there, "from {place} on");
+    assert!(rt; is_there, "from {offset} on");
 }
 
 /// What the readers tell of a packet, as numbers in the order of the fields.
@@ -104,9 +104,9 @@ const CHANGES: [(usize, u8, SmpFault, &str); 7] = [
 /// The reply with one byte changed is refused, and `{}` of the fault is its name.
 #[test]
 fn names_each_fault(rt: HostRuntime) -> Result<(), Fail> {
-    for (place, byte, fault, name) in CHANGES {
+    for (offset, byte, fault, name) in CHANGES {
         let mut bytes = packet(&REPLY);
-        if let Some(changed) = bytes.get_mut(place) {
+        if let Some(changed) = bytes.get_mut(offset) {
             *changed = byte;
         }
         let text = format!(in rt.alloc(); "{fault}")?;
@@ -124,20 +124,20 @@ fn makes_a_request_and_its_answer(rt: HostRuntime) {
     let request = Smp::directed(get, node_info, 0, 0x0000_0001_0000_0001, &path, &[0; 64]);
     assert_at(&rt, &request, 0, &packet(&REQUEST));
     let answer = request.answer(Status::DONE, &[0xAB; 64]);
-    for (place, bytes) in [
+    for (offset, bytes) in [
         (0, &[0x01, 0x81, 0x01, 0x81, 0x80, 0x00, 0x00, 0x01]),
         (64, &[0xAB; 8]),
         (120, &[0xAB; 8]),
         (128, &[0, 1, 0, 0, 0, 0, 0, 0]),
     ] {
-        assert_at(&rt, &answer, place, bytes);
+        assert_at(&rt, &answer, offset, bytes);
     }
 }
 
 #[test]
 fn makes_a_lid_routed_request(rt: HostRuntime) {
     let request = Smp::lid_routed(Method::SET, AttributeId::SM_INFO, 5, 7, &[0xCD; 64]);
-    for (place, bytes) in [
+    for (offset, bytes) in [
         (0, &[0x01, 0x01, 0x01, 0x02, 0, 0, 0, 0]),
         (8, &[0, 0, 0, 0, 0, 0, 0, 7]),
         (16, &[0x00, 0x20, 0, 0, 0, 0, 0, 5]),
@@ -145,7 +145,7 @@ fn makes_a_lid_routed_request(rt: HostRuntime) {
         (64, &[0xCD; 8]),
         (128, &[0, 0, 0, 0, 0, 0, 0, 0]),
     ] {
-        assert_at(&rt, &request, place, bytes);
+        assert_at(&rt, &request, offset, bytes);
     }
 }
 
@@ -159,13 +159,13 @@ fn writes_each_field(rt: HostRuntime) -> Result<(), Fail> {
     smp.set_hop_pointer(0);
     smp.set_initial_path(1, PortNum::new(8));
     smp.set_return_path(1, PortNum::new(9));
-    for (place, bytes) in [
+    for (offset, bytes) in [
         (0, &[0x01, 0x81, 0x01, 0x01, 0x00, 0x1C, 0x00, 0x00]),
         (8, &[1, 2, 3, 4, 5, 6, 7, 8]),
         (128, &[0, 8, 0, 0, 0, 0, 0, 0]),
         (192, &[0, 9, 0, 0, 0, 0, 0, 0]),
     ] {
-        assert_at(&rt, &smp, place, bytes);
+        assert_at(&rt, &smp, offset, bytes);
     }
     Ok(())
 }
@@ -190,7 +190,7 @@ fn answers_over_its_way(rt: HostRuntime) -> Result<(), Fail> {
     path.push(PortNum::new(3));
     let request = Smp::directed(Method::SET, set, 1, 7, &path, &[0; 64]);
     let reply = request.answer(Status::INVALID_FIELD, &[9; 64]);
-    for (place, value, is_answer) in [
+    for (offset, value, is_answer) in [
         (4, 0x80, true),
         (5, 0, true),
         (1, 0x01, false),
@@ -203,11 +203,14 @@ fn answers_over_its_way(rt: HostRuntime) -> Result<(), Fail> {
         (130, 1, true),
     ] {
         let mut bytes = *reply.bytes();
-        if let Some(byte) = bytes.get_mut(place) {
+        if let Some(byte) = bytes.get_mut(offset) {
             *byte = value;
         }
         let smp = Smp::parse(&bytes).ok().ok_or("no packet")?;
-        assert!(rt; smp.answers(7, set, 1, Some(&path)) == is_answer, "{place}");
+        assert!(rt;
+            smp.answers(7, set, 1, Some(&path)) == is_answer,
+            "{offset}"
+        );
     }
     let routed = Smp::lid_routed(Method::GET, sm, 0, 7, &[0; 64]);
     let by_lids = routed.answers(7, sm, 0, None) && !request.answers(7, set, 1, None);

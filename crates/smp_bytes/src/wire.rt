@@ -4,7 +4,7 @@ ghost use Rattle.smp_bytes.specs.Field.{bits_in, number_in, replaced, with_bits,
 
 use byteorder::{BigEndian, ByteOrder};
 
-/// The byte at a place.
+/// The byte at an offset.
 pub fn u8_at(bytes: &[u8], at: usize) -> u8
     requires { at < length bytes.now }
     ensures { result ≡ number_in (record { at = at; len = 1 }) bytes.now }
@@ -12,7 +12,7 @@ pub fn u8_at(bytes: &[u8], at: usize) -> u8
     bytes[at]
 }
 
-/// The number in the two bytes from a place on.
+/// The number in the two bytes from an offset on.
 pub fn u16_at(bytes: &[u8], at: usize) -> u16
     requires { at + 2 ≤ length bytes.now }
     ensures { result ≡ number_in (record { at = at; len = 2 }) bytes.now }
@@ -20,7 +20,7 @@ pub fn u16_at(bytes: &[u8], at: usize) -> u16
     BigEndian::read_u16(&bytes[at..])
 }
 
-/// The number in the three bytes from a place on.
+/// The number in the three bytes from an offset on.
 pub fn u24_at(bytes: &[u8], at: usize) -> u32
     requires { at + 3 ≤ length bytes.now }
     ensures number { result ≡ number_in (record { at = at; len = 3 }) bytes.now }
@@ -29,7 +29,7 @@ pub fn u24_at(bytes: &[u8], at: usize) -> u32
     BigEndian::read_u24(&bytes[at..])
 }
 
-/// The number in the four bytes from a place on.
+/// The number in the four bytes from an offset on.
 pub fn u32_at(bytes: &[u8], at: usize) -> u32
     requires { at + 4 ≤ length bytes.now }
     ensures { result ≡ number_in (record { at = at; len = 4 }) bytes.now }
@@ -37,7 +37,7 @@ pub fn u32_at(bytes: &[u8], at: usize) -> u32
     BigEndian::read_u32(&bytes[at..])
 }
 
-/// The number in the eight bytes from a place on.
+/// The number in the eight bytes from an offset on.
 pub fn u64_at(bytes: &[u8], at: usize) -> u64
     requires { at + 8 ≤ length bytes.now }
     ensures { result ≡ number_in (record { at = at; len = 8 }) bytes.now }
@@ -45,7 +45,7 @@ pub fn u64_at(bytes: &[u8], at: usize) -> u64
     BigEndian::read_u64(&bytes[at..])
 }
 
-/// Writes the byte at a place; all others stay.
+/// Writes the byte at an offset; all others stay.
 pub fn put_u8(bytes: &mut [u8], at: usize, number: u8)
     requires { at < length bytes.old }
     ensures { bytes.new ≡ with_number (record { at = at; len = 1 }) number bytes.old }
@@ -53,7 +53,7 @@ pub fn put_u8(bytes: &mut [u8], at: usize, number: u8)
     bytes[at] = number;
 }
 
-/// Writes the two bytes from a place on; all others stay.
+/// Writes the two bytes from an offset on; all others stay.
 pub fn put_u16(bytes: &mut [u8], at: usize, number: u16)
     requires { at + 2 ≤ length bytes.old }
     ensures { bytes.new ≡ with_number (record { at = at; len = 2 }) number bytes.old }
@@ -61,16 +61,16 @@ pub fn put_u16(bytes: &mut [u8], at: usize, number: u16)
     BigEndian::write_u16(&mut bytes[at..], number);
 }
 
-/// Writes the low 24 bits of a number into the three bytes from a place on; all others stay.
+/// Writes the low 24 bits of a number into the three bytes from an offset on; all others stay.
 pub fn put_u24(bytes: &mut [u8], at: usize, number: u32)
-    requires place { at + 3 ≤ length bytes.old }
+    requires offset { at + 3 ≤ length bytes.old }
     requires fits { number < 2 ^ 24 }
     ensures { bytes.new ≡ with_number (record { at = at; len = 3 }) number bytes.old }
 {
     BigEndian::write_u24(&mut bytes[at..], number);
 }
 
-/// Writes the four bytes from a place on; all others stay.
+/// Writes the four bytes from an offset on; all others stay.
 pub fn put_u32(bytes: &mut [u8], at: usize, number: u32)
     requires { at + 4 ≤ length bytes.old }
     ensures { bytes.new ≡ with_number (record { at = at; len = 4 }) number bytes.old }
@@ -78,7 +78,7 @@ pub fn put_u32(bytes: &mut [u8], at: usize, number: u32)
     BigEndian::write_u32(&mut bytes[at..], number);
 }
 
-/// Writes the eight bytes from a place on; all others stay.
+/// Writes the eight bytes from an offset on; all others stay.
 pub fn put_u64(bytes: &mut [u8], at: usize, number: u64)
     requires { at + 8 ≤ length bytes.old }
     ensures { bytes.new ≡ with_number (record { at = at; len = 8 }) number bytes.old }
@@ -86,7 +86,7 @@ pub fn put_u64(bytes: &mut [u8], at: usize, number: u64)
     BigEndian::write_u64(&mut bytes[at..], number);
 }
 
-/// Writes bytes over those from a place on; all others stay.
+/// Writes bytes over those from an offset on; all others stay.
 pub fn put_bytes(bytes: &mut [u8], at: usize, written: &[u8])
     requires { at + length written.now ≤ length bytes.old }
     ensures { bytes.new ≡ with_bytes at written.now bytes.old }
@@ -94,9 +94,9 @@ pub fn put_bytes(bytes: &mut [u8], at: usize, written: &[u8])
     bytes[at..at + written.len()].copy_from_slice(written);
 }
 
-/// The number that `width` bits of the byte at a place stand for, of which the lowest is bit `shift`.
+/// The number that `width` bits of the byte at an offset stand for, of which the lowest is bit `shift`.
 pub fn bits_at(bytes: &[u8], at: usize, shift: u32, width: u32) -> u8
-    requires place { at < length bytes.now }
+    requires offset { at < length bytes.now }
     requires some { 1 ≤ width }
     requires within { shift + width ≤ 8 }
     ensures number { result ≡ bits_in (record { at = at; shift = shift; width = width }) bytes.now }
@@ -107,9 +107,9 @@ pub fn bits_at(bytes: &[u8], at: usize, shift: u32, width: u32) -> u8
     number as u8
 }
 
-/// Writes a number into `width` bits of the byte at a place, of which the lowest is bit `shift`; all others stay.
+/// Writes a number into `width` bits of the byte at an offset, of which the lowest is bit `shift`; all others stay.
 pub fn put_bits(bytes: &mut [u8], at: usize, shift: u32, width: u32, number: u8)
-    requires place { at < length bytes.old }
+    requires offset { at < length bytes.old }
     requires some { 1 ≤ width }
     requires within { shift + width ≤ 8 }
     requires fits { number < 2 ^ width }

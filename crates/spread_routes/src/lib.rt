@@ -1,25 +1,11 @@
-//! Routes by labels: how far from the target each vertex gets its label, in rounds, and which exits gave it.
+//! A rule of routing that spreads routes over the wires.
 #![tactic(auto)]
 
-mod choice;
-mod class;
-mod first;
-mod height;
-mod key;
-mod labelling;
+mod index;
 pub mod laws;
-mod mark;
-mod mark_lists;
-mod ordering;
-mod place;
+mod leaves;
+mod lid_digit;
+mod spread;
 
-pub use choice::{candidates, chosen};
-pub use class::{Grades, grade};
-pub use first::keys;
-pub use height::units;
-pub use key::Key;
-pub use labelling::marks;
-pub use mark::{Label, Mark};
-pub use mark_lists::MarkLists;
-pub use ordering::grown_order;
-pub use place::{by_places, places};
+pub use leaves::leaf_switches;
+pub use spread::Spread;

@@ -16,7 +16,7 @@ use Rattle.fact_store.proofs.Entries.{cell_is_found, cells_in_order}
 use Rattle.fact_store.proofs.Keys.{key_total, key_exact}
 use Rattle.subnet_view.specs.Reading.{Cells, known_in, node_of, port_guid_of, link_of, cap_of, is_up}
 use Rattle.subnet_view.specs.Reading.{is_switch_node, port_count_of, is_usable, is_port_of, usable_guid, switches}
-use Rattle.subnet_view.specs.EndPorts.{is_end_port_place, is_end_port, guid_and_port, in_order, end_ports}
+use Rattle.subnet_view.specs.EndPorts.{is_end_port_number, is_end_port, guid_and_port, in_order, end_ports}
 use Rattle.subnet_view.specs.Wires.{is_wire_end, is_at, is_wire, across, attached}
 
 -- what a port claims
@@ -106,14 +106,14 @@ module _ (x y : Facts) (same : (key : Key) → is_claim key ≡ false → cell_f
   port_same : (g p : ℕ) → is_port_of (cells_of x) g p ≡ is_port_of (cells_of y) g p
   port_same g p = λ i. nat_le 1 p && nat_le p (count_same g i)
 
-  place_same : (g p : ℕ) → is_end_port_place (cells_of x) g p ≡ is_end_port_place (cells_of y) g p
-  place_same g p = λ i. cond (switch_same g i) (p == 0) (port_same g p i)
+  number_same : (g p : ℕ) → is_end_port_number (cells_of x) g p ≡ is_end_port_number (cells_of y) g p
+  number_same g p = λ i. cond (switch_same g i) (p == 0) (port_same g p i)
 
   end_port_same : (g p : ℕ) → is_end_port (cells_of x) g p ≡ is_end_port (cells_of y) g p
-  end_port_same g p = λ i. place_same g p i && is_some (guid_same g p i)
+  end_port_same g p = λ i. number_same g p i && is_some (guid_same g p i)
 
   guid_and_port_same : (k : Key) (c : Cell Value) → guid_and_port (cells_of x) (k, c) ≡ guid_and_port (cells_of y) (k, c)
-  guid_and_port_same (PortGuid g p) c = λ i. cond (place_same g p i) (option_map (λ guid. (guid, record { node = g; port = p })) (guid_same g p i)) None
+  guid_and_port_same (PortGuid g p) c = λ i. cond (number_same g p i) (option_map (λ guid. (guid, record { node = g; port = p })) (guid_same g p i)) None
   guid_and_port_same (Node g) c = refl
   guid_and_port_same (Link g p) c = refl
   guid_and_port_same (Port g p) c = refl

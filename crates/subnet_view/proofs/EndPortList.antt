@@ -15,7 +15,7 @@ use Rattle.fact_store.specs.Key.{key_cmp}
 use Rattle.fact_store.specs.Known.{value_in, guid_in}
 use Rattle.subnet_view.specs.declared.end_port.EndPort.{EndPort}
 use Rattle.subnet_view.specs.Reading.{Cells, port_guid_of}
-use Rattle.subnet_view.specs.EndPorts.{is_end_port_place, is_end_port, guid_and_port, port_cmp, in_order, end_ports, IsEndPort, ComesBefore, EndPortsLaw}
+use Rattle.subnet_view.specs.EndPorts.{is_end_port_number, is_end_port, guid_and_port, port_cmp, in_order, end_ports, IsEndPort, ComesBefore, EndPortsLaw}
 use Rattle.subnet_view.proofs.Apart.{contains_map, contains-from_map}
 use Rattle.subnet_view.proofs.EndPortOrder.{Rises, in_order_rises, was_ordered, is_ordered}
 use Rattle.subnet_view.proofs.EndPorts.{found_apart}
@@ -26,18 +26,18 @@ use Rattle.subnet_view.proofs.WireLaws.{end_port_from_test, test_from_end_port}
 module _ (cells : Cells) where
   -- an end port that is found, with its GUID
   found_is : (k : Key) (c : Cell Value) (x : ℕ × EndPort) → guid_and_port cells (k, c) ≡ Some x
-      → (is_end_port_place cells x.1.node x.1.port ≡ true) × (port_guid_of cells x.1.node x.1.port ≡ Some x.0)
+      → (is_end_port_number cells x.1.node x.1.port ≡ true) × (port_guid_of cells x.1.node x.1.port ≡ Some x.0)
   found_is (PortGuid g p) c x e =
-      elim (is_end_port_place cells g p) as (λ t. is_end_port_place cells g p ≡ t
+      elim (is_end_port_number cells g p) as (λ t. is_end_port_number cells g p ≡ t
       → cond t (option_map (λ guid. (guid, record { node = g; port = p })) (port_guid_of cells g p)) None ≡ Some x
-      → (is_end_port_place cells x.1.node x.1.port ≡ true) × (port_guid_of cells x.1.node x.1.port ≡ Some x.0)) [
+      → (is_end_port_number cells x.1.node x.1.port ≡ true) × (port_guid_of cells x.1.node x.1.port ≡ Some x.0)) [
         | true ↦ λ q. (elim (port_guid_of cells g p) as (λ o. port_guid_of cells g p ≡ o
             → option_map (λ guid. (guid, record { node = g; port = p })) o ≡ Some x
-            → (is_end_port_place cells x.1.node x.1.port ≡ true) × (port_guid_of cells x.1.node x.1.port ≡ Some x.0)) [
+            → (is_end_port_number cells x.1.node x.1.port ≡ true) × (port_guid_of cells x.1.node x.1.port ≡ Some x.0)) [
               | None ↦ λ r k. absurd (cc)
               | Some guid ↦ λ r k.
                   let at : (guid, record { node = g; port = p }) ≡ x = one _ _ k in
-                  subst (λ (y : ℕ × EndPort). (is_end_port_place cells y.1.node y.1.port ≡ true) × (port_guid_of cells y.1.node y.1.port ≡ Some y.0)) at (q, r)
+                  subst (λ (y : ℕ × EndPort). (is_end_port_number cells y.1.node y.1.port ≡ true) × (port_guid_of cells y.1.node y.1.port ≡ Some y.0)) at (q, r)
             ] refl)
         | false ↦ λ q k. absurd (cc)
       ] refl e
@@ -54,7 +54,7 @@ module _ (cells : Cells) where
   abbrev found : List (ℕ × EndPort)
   found = filter_map (guid_and_port cells) cells
 
-  ordered_is : (x : ℕ × EndPort) → Contains (in_order found) x → (is_end_port_place cells x.1.node x.1.port ≡ true) × (port_guid_of cells x.1.node x.1.port ≡ Some x.0)
+  ordered_is : (x : ℕ × EndPort) → Contains (in_order found) x → (is_end_port_number cells x.1.node x.1.port ≡ true) × (port_guid_of cells x.1.node x.1.port ≡ Some x.0)
   ordered_is x h = let i = taken_from (guid_and_port cells) cells x (was_ordered found x h) in found_is i.0.0 i.0.1 x i.2
 
   listed_is : (e : EndPort) → Contains (end_ports cells) e → IsEndPort cells e.node e.port
@@ -66,7 +66,7 @@ module _ (cells : Cells) where
 
   is_listed : (e : EndPort) → IsEndPort cells e.node e.port → Contains (end_ports cells) e
   is_listed e h =
-      let both = and_parts (is_end_port_place cells e.node e.port) (is_some (port_guid_of cells e.node e.port)) (test_from_end_port cells e.node e.port h) in
+      let both = and_parts (is_end_port_number cells e.node e.port) (is_some (port_guid_of cells e.node e.port)) (test_from_end_port cells e.node e.port h) in
       elim (find key_cmp (PortGuid e.node e.port) cells) as (λ o. find key_cmp (PortGuid e.node e.port) cells ≡ o → is_some (guid_in (value_in o)) ≡ true → Contains (end_ports cells) e) [
         | None ↦ λ q s. absurd (cc)
         | Some c ↦ λ q s. (elim (guid_in (value_in (Some c))) as (λ o. guid_in (value_in (Some c)) ≡ o → is_some o ≡ true → Contains (end_ports cells) e) [

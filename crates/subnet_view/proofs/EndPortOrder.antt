@@ -121,7 +121,7 @@ apart_from_distinct (x ∷ xs) d = (not_among x xs d.0, apart_from_distinct xs d
 apart_permutation : (xs ys : List (ℕ × EndPort)) → IsPermutation xs ys → Apart xs → Apart ys
 apart_permutation xs ys p a = apart_from_distinct ys (IsDistinct-IsPermutation ties (eq_by_cmp_equiv port_total).symm xs ys p (distinct_from_apart xs a))
 
--- each put in its place ------------------------------------------------------------------
+-- each put where it belongs ------------------------------------------------------------------
 
 pub less_from_test : (o : Ordering) → is_lt o ≡ true → o ≡ Less
 less_from_test Less e = refl

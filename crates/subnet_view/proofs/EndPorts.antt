@@ -15,7 +15,7 @@ use Rattle.fact_store.specs.View.{Facts, cells_of}
 use Rattle.fact_store.proofs.Entries.{cells_in_order}
 use Rattle.subnet_view.specs.declared.end_port.EndPort.{EndPort}
 use Rattle.subnet_view.specs.Reading.{Cells, port_guid_of}
-use Rattle.subnet_view.specs.EndPorts.{is_end_port_place, guid_and_port, comes_before, put_in_order, in_order, end_ports}
+use Rattle.subnet_view.specs.EndPorts.{is_end_port_number, guid_and_port, comes_before, put_in_order, in_order, end_ports}
 use Rattle.subnet_view.proofs.Apart.{Apart, apart-from_map}
 use Rattle.fact_store.proofs.Keys.{key_total}
 use Rattle.subnet_view.proofs.Members.{contains_here, contains_later, contains_cases, contains_none, contains_as, contains_first}
@@ -56,7 +56,7 @@ key_of e = PortGuid e.node e.port
 port_key : (cells : Cells) (k : Key) (c : Cell Value) (x : ℕ × EndPort) → guid_and_port cells (k, c) ≡ Some x → k ≡ key_of x.1
 unfolding key_of
 port_key cells (PortGuid g p) c x e =
-    elim (is_end_port_place cells g p) as (λ t. cond t (option_map (λ guid. (guid, record { node = g; port = p })) (port_guid_of cells g p)) None ≡ Some x
+    elim (is_end_port_number cells g p) as (λ t. cond t (option_map (λ guid. (guid, record { node = g; port = p })) (port_guid_of cells g p)) None ≡ Some x
     → PortGuid g p ≡ PortGuid x.1.node x.1.port) [
       | true ↦ (elim (port_guid_of cells g p) as (λ o. option_map (λ guid. (guid, record { node = g; port = p })) o ≡ Some x
           → PortGuid g p ≡ PortGuid x.1.node x.1.port) [

@@ -36,11 +36,11 @@ abbrev End : Type 0
 End = (ℕ × ℕ) × (ℕ × ℕ)
 
 -- the order of nodes and ports
-abbrev pub place_cmp : ℕ × ℕ → ℕ × ℕ → Ordering
-place_cmp a b = ordering_then (nat_cmp a.0 b.0) (nat_cmp a.1 b.1)
+abbrev pub node_port_cmp : ℕ × ℕ → ℕ × ℕ → Ordering
+node_port_cmp a b = ordering_then (nat_cmp a.0 b.0) (nat_cmp a.1 b.1)
 
-place_total : IsTotalOrder place_cmp
-place_total = then_total (on_total (λ (x : ℕ × ℕ). x.0) nat_cmp_total) (on_total (λ (x : ℕ × ℕ). x.1) nat_cmp_total)
+node_port_total : IsTotalOrder node_port_cmp
+node_port_total = then_total (on_total (λ (x : ℕ × ℕ). x.0) nat_cmp_total) (on_total (λ (x : ℕ × ℕ). x.1) nat_cmp_total)
 
 -- what is in the list, and what is not ----------------------------------------------------
 
@@ -81,16 +81,16 @@ end_listed cells g p x e =
 
 -- the list is in order ----------------------------------------------------------------------
 
-less_place : (a b : Ordering) → ordering_then a (ordering_then b Equal) ≡ Less → ordering_then a b ≡ Less
-less_place Less b e = refl
-less_place Equal Less e = refl
-less_place Equal Equal e = absurd (cc)
-less_place Equal Greater e = absurd (cc)
-less_place Greater b e = absurd (cc)
+less_node_port : (a b : Ordering) → ordering_then a (ordering_then b Equal) ≡ Less → ordering_then a b ≡ Less
+less_node_port Less b e = refl
+less_node_port Equal Less e = refl
+less_node_port Equal Equal e = absurd (cc)
+less_node_port Equal Greater e = absurd (cc)
+less_node_port Greater b e = absurd (cc)
 
 -- one port before another
 abbrev IsBefore : End → End → Type 0
-IsBefore a b = place_cmp a.0 b.0 ≡ Less
+IsBefore a b = node_port_cmp a.0 b.0 ≡ Less
 
 by_link : (cells : Cells) (k : Key) (c : Cell Value) (e : End) → wire_end cells (k, c) ≡ Some e → k ≡ Link e.0.0 e.0.1
 by_link cells (Link g p) c e i = let w = with_port g p e.0.0 e.0.1 (end_link cells g p) e.1 i in λ j. Link (w.0 j) (w.1 j)
@@ -113,33 +113,33 @@ rise cells (x ∷ es) s =
           let there = by_link cells from.0.0 from.0.1 b from.2 in
           let below : key_cmp (Link a.0.0 a.0.1) (Link b.0.0 b.0.1) ≡ Less
           = sym (λ j. key_cmp (here j) (there j)) ∙ below_at x.0 es (first_true _ _ s) from.0 from.1 in
-          less_place (nat_cmp a.0.0 b.0.0) (nat_cmp a.0.1 b.0.1) below)) i
+          less_node_port (nat_cmp a.0.0 b.0.0) (nat_cmp a.0.1 b.0.1) below)) i
     ] refl
 
-sorted : (facts : Facts) → IsSortedBy (λ a b. is_lt (place_cmp a.0 b.0)) (wire_ends (cells_of facts))
+sorted : (facts : Facts) → IsSortedBy (λ a b. is_lt (node_port_cmp a.0 b.0)) (wire_ends (cells_of facts))
 sorted facts k d from within =
     let ends = wire_ends (cells_of facts) in
-    ap is_lt (place_total.antisymm (get_or ends (k + 1) d).0 (get_or ends k d).0
+    ap is_lt (node_port_total.antisymm (get_or ends (k + 1) d).0 (get_or ends k d).0
     ∙ ap ordering_reverse (rise (cells_of facts) (cells_of facts) (cells_in_order facts) k (k + 1) d (omega arith) within))
 
 -- so a search among it by node and port can be trusted
-searchable : (facts : Facts) (x : ℕ × ℕ) → IsNonDecreasingBy (λ (e : End). ordering_index (place_cmp e.0 x)) (wire_ends (cells_of facts))
-searchable facts x = searchable_from_sorted place_total (λ (e : End). e.0) (wire_ends (cells_of facts)) x (sorted facts)
+searchable : (facts : Facts) (x : ℕ × ℕ) → IsNonDecreasingBy (λ (e : End). ordering_index (node_port_cmp e.0 x)) (wire_ends (cells_of facts))
+searchable facts x = searchable_from_sorted node_port_total (λ (e : End). e.0) (wire_ends (cells_of facts)) x (sorted facts)
 
 -- what it finds -----------------------------------------------------------------------------
 
 nowhere : (ends : List End) (x : ℕ × ℕ) (i : ℕ)
-    → IsPartitionPoint (λ (e : End). place_cmp e.0 x ≡ Less) (λ (e : End). place_cmp e.0 x ≡ Greater) ends i → (y : ℕ × ℕ)
+    → IsPartitionPoint (λ (e : End). node_port_cmp e.0 x ≡ Less) (λ (e : End). node_port_cmp e.0 x ≡ Greater) ends i → (y : ℕ × ℕ)
     → Contains ends (x, y) → ⊥
 nowhere ends x i parts y h =
-    let tied : place_cmp (get_or ends h.0 (x, y)).0 x ≡ Equal = ap (λ (e : End). place_cmp e.0 x) h.2 ∙ tied_itself place_total x in
+    let tied : node_port_cmp (get_or ends h.0 (x, y)).0 x ≡ Equal = ap (λ (e : End). node_port_cmp e.0 x) h.2 ∙ tied_itself node_port_total x in
     elim (cases_lt h.0 i) [
-      | inl l ↦ let less : place_cmp (get_or ends h.0 (x, y)).0 x ≡ Less = parts.0 h.0 (x, y) (omega arith) l in absurd (cc)
-      | inr g ↦ let greater : place_cmp (get_or ends h.0 (x, y)).0 x ≡ Greater = parts.1 h.0 (x, y) g h.1 in absurd (cc)
+      | inl l ↦ let less : node_port_cmp (get_or ends h.0 (x, y)).0 x ≡ Less = parts.0 h.0 (x, y) (omega arith) l in absurd (cc)
+      | inr g ↦ let greater : node_port_cmp (get_or ends h.0 (x, y)).0 x ≡ Greater = parts.1 h.0 (x, y) g h.1 in absurd (cc)
     ]
 
 module _ (facts : Facts) (ends : List End) (g p : ℕ) (are : ends ≡ wire_ends (cells_of facts)) where
-  link_at : (i : ℕ) (d : End) → i < length ends → place_cmp (get_or ends i d).0 (g, p) ≡ Equal
+  link_at : (i : ℕ) (d : End) → i < length ends → node_port_cmp (get_or ends i d).0 (g, p) ≡ Equal
       → Some (get_or ends i d).1 ≡ end_link (cells_of facts) g p
   link_at i d within tied =
       let e = get_or ends i d in
@@ -155,7 +155,7 @@ module _ (facts : Facts) (ends : List End) (g p : ℕ) (are : ends ≡ wire_ends
       ] refl
 
   abbrev IsSearched : Result ℕ ℕ → Type 0
-  IsSearched r = IsBinarySearchResult (λ (e : End). place_cmp e.0 (g, p)) ends r
+  IsSearched r = IsBinarySearchResult (λ (e : End). node_port_cmp e.0 (g, p)) ends r
 
   -- what is found there is the port's link
   pub one_found : (r : Result ℕ ℕ) (i : ℕ) (d : End) → IsSearchInRange r (length ends) → IsSearched r → result_ok r ≡ Some i
@@ -168,6 +168,6 @@ module _ (facts : Facts) (ends : List End) (g p : ℕ) (are : ends ≡ wire_ends
   pub none_found : (r : Result ℕ ℕ) → IsSearched r → result_ok r ≡ None → end_link (cells_of facts) g p ≡ None
   none_found (Ok j) found e = absurd (cc)
   none_found (Err j) found e =
-      let rising = subst (λ (es : List End). IsNonDecreasingBy (λ (e : End). ordering_index (place_cmp e.0 (g, p))) es) (sym are)
+      let rising = subst (λ (es : List End). IsNonDecreasingBy (λ (e : End). ordering_index (node_port_cmp e.0 (g, p))) es) (sym are)
       (searchable facts (g, p)) in
       no_link_listed (nowhere ends (g, p) j (found rising))

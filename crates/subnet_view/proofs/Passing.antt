@@ -15,7 +15,7 @@ use Rattle.fact_store.specs.Key.{key_cmp}
 use Rattle.fact_store.proofs.Keys.{key_exact, key_total, equal_from_test}
 use Rattle.fact_store.proofs.Orders.{first_true, second_true, is_less}
 use Rattle.fact_store.specs.Known.{value_in}
-use Rattle.subnet_view.specs.InStep.{AreLeft, IsFrom, KeepsFrom, is_before}
+use Rattle.subnet_view.specs.CellCursor.{AreLeft, IsFrom, KeepsFrom, is_before}
 use Rattle.subnet_view.specs.Reading.{Cells, known_in}
 
 -- what is left after the first cell was taken, if there is one

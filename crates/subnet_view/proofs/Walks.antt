@@ -13,7 +13,7 @@ use Rattle.fact_store.proofs.Entries.{cell_is_found}
 use Rattle.fact_store.proofs.Orders.{contained_get}
 use Rattle.subnet_view.specs.Reading.{Cells, cap_of, is_switch_in, known_in, port_guid_of, usable_guid}
 use Rattle.subnet_view.specs.declared.end_port.EndPort.{EndPort}
-use Rattle.subnet_view.specs.EndPorts.{guid_and_port, is_end_port_place}
+use Rattle.subnet_view.specs.EndPorts.{guid_and_port, is_end_port_number}
 use Rattle.subnet_view.proofs.Members.{contains_here, contains_later, contains_in}
 
 -- what stands between two lists
@@ -43,7 +43,7 @@ end_at g p guid = option_map (λ n. (n, record { node = g; port = p })) guid
 
 -- the port GUID of an end port's cell is what the cell says
 pub guid_at : (facts : Facts) (s : Key × Cell Value) (g p : ℕ) → cell_for facts s.0 ≡ Some s.1 → s.0 ≡ PortGuid g p
-    → is_end_port_place (cells_of facts) g p ≡ true
+    → is_end_port_number (cells_of facts) g p ≡ true
     → guid_and_port (cells_of facts) s ≡ end_at g p (guid_in (value_in (Some s.1)))
 guid_at facts s g p held is there =
     let known : known_in (cells_of facts) (PortGuid g p) ≡ value_in (Some s.1)

@@ -1,12 +1,12 @@
 -- When a view tells exactly what a part of a fabric is. What it says of claims may be anything.
 -- InfiniBand Architecture Specification, Volume 1: subnet management, NodeInfo, PortInfo and SwitchInfo.
 use Rattle.std.specs.Prelude.{◌≡◌, ◌↔◌, ℕ, Some, IsTrue}
-use Rattle.smp_bytes.specs.declared.cable.NodePort.{NodePort}
+use Rattle.fabric_model.specs.declared.cable.NodePort.{NodePort}
 use Rattle.smp_bytes.specs.NodeType.{is_switch}
-use Rattle.smp_bytes.specs.Fabric as fabric
-use Rattle.smp_bytes.specs.Fabric.{Fabric, IsNodeAt}
-use Rattle.smp_bytes.specs.FabricWalks as walks
-use Rattle.smp_bytes.specs.FabricWalks.{vertex_of}
+use Rattle.fabric_model.specs.Fabric as fabric
+use Rattle.fabric_model.specs.Fabric.{Fabric, IsNodeAt}
+use Rattle.fabric_model.specs.FabricWalks as walks
+use Rattle.fabric_model.specs.FabricWalks.{vertex_of}
 use Rattle.subnet_view.specs.Reading.{Cells, node_of, port_guid_of, cap_of, IsUsable}
 use Rattle.subnet_view.specs.EndPorts.{IsEndPort}
 use Rattle.subnet_view.specs.Wires.{IsWire}

@@ -15,16 +15,16 @@ use Rattle.subnet_view.specs.declared.end_port.EndPort.{EndPort}
 use Rattle.subnet_view.specs.Reading.{Cells, node_of, port_guid_of, is_switch_node, is_port_of}
 
 -- port 0 of a switch, or a port from 1 to the count of another node
-abbrev pub is_end_port_place : Cells → ℕ → ℕ → Bool
-is_end_port_place cells g p = if is_switch_node cells g then p == 0 else is_port_of cells g p
+abbrev pub is_end_port_number : Cells → ℕ → ℕ → Bool
+is_end_port_number cells g p = if is_switch_node cells g then p == 0 else is_port_of cells g p
 
 -- such a port with a known GUID
 abbrev pub is_end_port : Cells → ℕ → ℕ → Bool
-is_end_port cells g p = is_end_port_place cells g p && is_some (port_guid_of cells g p)
+is_end_port cells g p = is_end_port_number cells g p && is_some (port_guid_of cells g p)
 
 -- the end port of a cell with its port GUID, where the cell is an end port's GUID
 abbrev pub guid_and_port : Cells → Key × Cell Value → Option (ℕ × EndPort)
-guid_and_port cells ((PortGuid g p), c) = if is_end_port_place cells g p then option_map (λ guid. (guid, record { node = g; port = p })) (port_guid_of cells g p) else None
+guid_and_port cells ((PortGuid g p), c) = if is_end_port_number cells g p then option_map (λ guid. (guid, record { node = g; port = p })) (port_guid_of cells g p) else None
 guid_and_port cells (_, c) = None
 
 -- port GUID, node GUID and port
@@ -44,7 +44,7 @@ abbrev pub put_in_order : ℕ × EndPort → List (ℕ × EndPort) → List (ℕ
 put_in_order e [] = e ∷ []
 put_in_order e (x ∷ xs) = if comes_before e x then e ∷ x ∷ xs else x ∷ put_in_order e xs
 
--- each put in its place
+-- each put where it belongs
 abbrev pub in_order : List (ℕ × EndPort) → List (ℕ × EndPort)
 in_order [] = []
 in_order (x ∷ xs) = put_in_order x (in_order xs)

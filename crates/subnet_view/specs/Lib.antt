@@ -1,5 +1,5 @@
 pub mod Reading
-pub mod InStep
+pub mod CellCursor
 pub mod EndPorts
 pub mod Wires
 pub mod WireEnds

@@ -12,7 +12,7 @@ use Rattle.fact_store.specs.Key.{key_cmp}
 use Rattle.fact_store.specs.Known.{peer_in, value_in}
 use Rattle.subnet_view.specs.declared.port_reader.PortReader.{PortReader}
 use Rattle.subnet_view.specs.Reading.{Cells, node_of, port_guid_of, link_of, cap_of, is_up, is_switch_in, is_counted}
-use Rattle.subnet_view.specs.InStep.{KeepsFrom, is_before}
+use Rattle.subnet_view.specs.CellCursor.{KeepsFrom, is_before}
 use Rattle.subnet_view.specs.Wires.{is_at, is_wire_end}
 
 -- where the link of a port leads that can have a wire

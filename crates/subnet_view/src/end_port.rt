@@ -2,7 +2,7 @@ ghost use Rattle.std.specs.Prelude.{◌≡◌, Some, length, map, IfOk};
 ghost use Rattle.std.specs.List.{filter_map};
 ghost use Rattle.std.specs.List.Sorted.{IsPermutation, IsSorted};
 ghost use Rattle.fact_store.specs.View.{cell_for, cells_of};
-ghost use Rattle.subnet_view.specs.EndPorts.{is_end_port, is_end_port_place, guid_and_port, port_numbers, port_cmp, in_order, end_ports};
+ghost use Rattle.subnet_view.specs.EndPorts.{is_end_port, is_end_port_number, guid_and_port, port_numbers, port_cmp, in_order, end_ports};
 
 use crate::reading::{guid_said, is_counted, node, port_guid};
 use fact_store::{Key, Refused, Sighting, Store};
@@ -23,7 +23,7 @@ pub struct EndPort {
 pub fn is_end_port(store: &Store, node: Guid, port: PortNum) -> bool
     ensures { result ≡ is_end_port (cells_of store.now) node port }
 {
-    is_end_port_place(store, node, port) && port_guid(store, node, port).is_some()
+    is_end_port_number(store, node, port) && port_guid(store, node, port).is_some()
 }
 
 /// The end ports, by port GUID, then node GUID, then port. Walks the cells, and sorts.
@@ -102,7 +102,7 @@ pub(crate) fn guid_and_port(store: &Store, sighting: &Sighting) -> Option<(Guid,
 {
     match sighting.key() {
         Key::PortGuid(node, port) => {
-            if is_end_port_place(store, node, port) {
+            if is_end_port_number(store, node, port) {
                 let guid = guid_said(sighting)?;
                 Some((guid, EndPort { node, port }))
             } else {
@@ -115,8 +115,8 @@ pub(crate) fn guid_and_port(store: &Store, sighting: &Sighting) -> Option<(Guid,
 
 /// Whether the port is port 0 of a switch, or a port from 1 to the count of another node. Takes a
 /// search.
-fn is_end_port_place(store: &Store, node: Guid, port: PortNum) -> bool
-    ensures { result ≡ is_end_port_place (cells_of store.now) node port }
+fn is_end_port_number(store: &Store, node: Guid, port: PortNum) -> bool
+    ensures { result ≡ is_end_port_number (cells_of store.now) node port }
 {
     match self::node(store, node) {
         Some((NodeType::Switch, _)) => port.number() == 0,

@@ -3,7 +3,7 @@ ghost use Rattle.fact_store.specs.View.{cells_of};
 ghost use Rattle.subnet_view.specs.Reading.{is_counted, is_switch_in};
 ghost use Rattle.subnet_view.specs.WireEnds.{count_of, is_end_read, end_read, KeepsPort, PassesNone, ReadsAll};
 
-use crate::in_step::InStep;
+use crate::cell_cursor::CellCursor;
 use crate::reading::{is_counted, peer_said};
 use fact_store::{Key, Sighting, Store};
 use smp_bytes::{Guid, NodeType, PortNum};
@@ -11,10 +11,10 @@ use smp_bytes::{Guid, NodeType, PortNum};
 /// What is known of ports, in step with ports that rise.
 #[derive(Drop)]
 pub(crate) struct PortReader<'s> {
-    nodes: InStep<'s>,
-    guids: InStep<'s>,
-    ports: InStep<'s>,
-    caps: InStep<'s>,
+    nodes: CellCursor<'s>,
+    guids: CellCursor<'s>,
+    ports: CellCursor<'s>,
+    caps: CellCursor<'s>,
 }
 
 impl<'s> PortReader<'s> {
@@ -23,10 +23,10 @@ impl<'s> PortReader<'s> {
         ensures { ReadsAll (cells_of store.now) result }
     {
         PortReader {
-            nodes: InStep::new(store),
-            guids: InStep::new(store),
-            ports: InStep::new(store),
-            caps: InStep::new(store),
+            nodes: CellCursor::new(store),
+            guids: CellCursor::new(store),
+            ports: CellCursor::new(store),
+            caps: CellCursor::new(store),
         }
     }
 

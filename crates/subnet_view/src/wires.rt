@@ -83,11 +83,11 @@ impl<'s> Wires<'s> {
     fn end_link(&self, node: Guid, port: PortNum) -> Option<(Guid, PortNum)>
         ensures { result ≡ end_link (cells_of self.now) node port }
     {
-        let place = self
+        let end_index = self
             .ends
             .binary_search_by_key(&(node, port), |end| end.0)
             .ok()?;
-        Some(self.ends[place].1)
+        Some(self.ends[end_index].1)
     }
 }
 

@@ -5,9 +5,9 @@ use Rattle.fact_store.specs.declared.report.Context.TheVariants.{About}
 use Rattle.smp_bytes.specs.NodeType.{is_switch}
 use Rattle.std.proofs.lemmas.Bool.{cond-true, cond-false}
 use Rattle.sweep.specs.declared.request.Question.TheVariants as ask
-use Rattle.sweep.specs.declared.reached.Reached.{Reached}
+use Rattle.sweep.specs.declared.vertex.Vertex.{Vertex}
 use Rattle.sweep.specs.Finding.{port_questions, vertex_questions}
-use Rattle.sweep.specs.Requests.{HasAsked, Requests}
+use Rattle.sweep.specs.SweepRequests.{HasAsked, SweepRequests}
 use Rattle.sweep.specs.Sweep.{Asking, numbered}
 
 -- lists -----------------------------------------------------------------------------------------
@@ -45,7 +45,7 @@ length_numbered next [] = refl
 length_numbered next (a ∷ asked) = ap suc (length_numbered (next + 1) asked)
 
 -- the one after the other
-pub asked_both : (first later : List Asking) (old mid new : Requests) → HasAsked first old mid → HasAsked later mid new → HasAsked (first ++ later) old new
+pub asked_both : (first later : List Asking) (old mid new : SweepRequests) → HasAsked first old mid → HasAsked later mid new → HasAsked (first ++ later) old new
 asked_both first later old mid new a b =
     let long = length-append first later in
     record {
@@ -60,7 +60,7 @@ asked_both first later old mid new a b =
       room = omega (arith, a.room, b.room, long);
     }
 
-pub asked_none : (s : Requests) → s.queued ++ [] ≡ s.queued → HasAsked [] s s
+pub asked_none : (s : SweepRequests) → s.queued ++ [] ≡ s.queued → HasAsked [] s s
 asked_none s e = record { next = omega arith; outstanding = refl; queued = sym e; room = omega arith }
 
 -- ports ----------------------------------------------------------------------------------------
@@ -87,13 +87,13 @@ length_ports port (suc n) path context = ap suc (length_ports (port + 1) n path 
 
 -- a new vertex ----------------------------------------------------------------------------------
 
-pub switch_questions : (v : Reached) → is_switch v.kind ≡ true → vertex_questions v ≡ record { question = ask.Switch; path = v.path; context = About v.guid } ∷ port_questions 0 (v.ports + 1) v.path (About v.guid)
+pub switch_questions : (v : Vertex) → is_switch v.kind ≡ true → vertex_questions v ≡ record { question = ask.Switch; path = v.path; context = About v.guid } ∷ port_questions 0 (v.ports + 1) v.path (About v.guid)
 switch_questions v e = cond-true _ _ _ e
 
-pub length_switch : (v : Reached) → is_switch v.kind ≡ true → length (vertex_questions v) ≡ v.ports + 2
+pub length_switch : (v : Vertex) → is_switch v.kind ≡ true → length (vertex_questions v) ≡ v.ports + 2
 length_switch v e =
     let long = length_ports 0 (v.ports + 1) v.path (About v.guid) in
     ap length (switch_questions v e) ∙ omega (arith, long)
 
-pub length_adapter : (v : Reached) → is_switch v.kind ≡ false → length (vertex_questions v) ≡ 1
+pub length_adapter : (v : Vertex) → is_switch v.kind ≡ false → length (vertex_questions v) ≡ 1
 length_adapter v e = ap length (cond-false _ _ _ e)

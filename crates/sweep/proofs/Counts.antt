@@ -10,9 +10,9 @@ use Rattle.sweep.specs.declared.answer.Answer.{Answer}
 use Rattle.sweep.specs.declared.fault.SweepFault.{SweepFault}
 use Rattle.sweep.specs.declared.request.Request.{Request}
 use Rattle.sweep.specs.Finding.{finding, questions}
-use Rattle.sweep.specs.Replies.{belongs, judged, judged_as, judged_for, replied_to, request_of}
+use Rattle.sweep.specs.Replies.{belongs, judged, judged_as, judged_for, after_reply_to, request_of}
 use Rattle.sweep.specs.Runs.{EachCounts, Event, Hears, Sends, TimesOut, after, heard, replies_taken, taken_by, unended}
-use Rattle.sweep.specs.Sweep.{AreRising, Sweep, first_question, numbered, request_with, sent_of, started, timed_out_of, transaction_of, without_number}
+use Rattle.sweep.specs.Sweep.{AreRising, Sweep, first_question, numbered, request_with, after_next_request_of, started, after_timeout_of, transaction_of, without_number}
 use Rattle.sweep.proofs.Asked.{length_numbered}
 use Rattle.sweep.proofs.Numbers.{ordered_first, rising_asked, rising_ordered, rising_without, without_at}
 
@@ -53,7 +53,7 @@ record Steps (s t : Sweep) (taken : ℕ) : Type 0 where
 stays : (s : Sweep) → Rises s → Steps s s 0
 stays s rising = record { rising = rising; count = omega arith }
 
-sends : (s : Sweep) (q : List Request) → s.queued ≡ q → Rises s → Steps s (sent_of s q).sweep 0
+sends : (s : Sweep) (q : List Request) → s.queued ≡ q → Rises s → Steps s (after_next_request_of s q).sweep 0
 sends s [] e rising = stays s rising
 sends s (r ∷ q) e rising =
     let more = length-append s.outstanding (r ∷ []) in
@@ -62,7 +62,7 @@ sends s (r ∷ q) e rising =
       count = omega (arith, more, ap length e);
     }
 
-replies : (s : Sweep) (packet : List ℕ) (r : Request) → Rises s → request_of s packet ≡ Some r → Steps s (replied_to s packet (Some r)) 1
+replies : (s : Sweep) (packet : List ℕ) (r : Request) → Rises s → request_of s packet ≡ Some r → Steps s (after_reply_to s packet (Some r)) 1
 replies s packet r rising e =
     let at = found_somewhere (belongs s.generation packet) s.outstanding r e in
     let one = less s r at.0 rising at.1 in
@@ -76,7 +76,7 @@ replies s packet r rising e =
       count = omega (arith, one.less, more, count);
     }
 
-hears_as : (s : Sweep) (packet : List ℕ) (f : Option SmpFault) (o : Option Request) → request_of s packet ≡ o → (answer : Answer) → judged_as s packet f ≡ Ok answer → Rises s → Steps s (replied_to s packet o) 1
+hears_as : (s : Sweep) (packet : List ℕ) (f : Option SmpFault) (o : Option Request) → request_of s packet ≡ o → (answer : Answer) → judged_as s packet f ≡ Ok answer → Rises s → Steps s (after_reply_to s packet o) 1
 hears_as s packet (Some why) o e answer ok rising = absurd (cc)
 hears_as s packet None None e answer ok rising = absurd (cc (ap (judged_for s packet) e, ok))
 hears_as s packet None (Some r) e answer ok rising = replies s packet r rising e
@@ -85,7 +85,7 @@ hears : (s : Sweep) (packet : List ℕ) (j : Result Answer SweepFault) → judge
 hears s packet (Ok answer) e rising = hears_as s packet (fault_of packet) (request_of s packet) refl answer e rising
 hears s packet (Err why) e rising = stays s rising
 
-times_out : (s : Sweep) (transaction : ℕ) (o : Option Request) → request_with s.generation transaction s.outstanding ≡ o → Rises s → Steps s (timed_out_of s o) 0
+times_out : (s : Sweep) (transaction : ℕ) (o : Option Request) → request_with s.generation transaction s.outstanding ≡ o → Rises s → Steps s (after_timeout_of s o) 0
 times_out s transaction None e rising = stays s rising
 times_out s transaction (Some r) e rising =
     let at = found_somewhere (λ (q : Request). transaction_of s.generation q.number == transaction) s.outstanding r e in
@@ -97,7 +97,7 @@ counts : (events : List Event) (s : Sweep) → Rises s → unended (after s even
 counts [] s rising = omega arith
 counts (Sends ∷ events) s rising =
     let one = sends s s.queued refl rising in
-    let rest = counts events (sent_of s s.queued).sweep one.rising in
+    let rest = counts events (after_next_request_of s s.queued).sweep one.rising in
     omega (arith, one.count, rest)
 counts (Hears packet ∷ events) s rising =
     let one = hears s packet (judged s packet) refl rising in
@@ -105,7 +105,7 @@ counts (Hears packet ∷ events) s rising =
     omega (arith, one.count, rest)
 counts (TimesOut transaction ∷ events) s rising =
     let one = times_out s transaction (request_with s.generation transaction s.outstanding) refl rising in
-    let rest = counts events (timed_out_of s (request_with s.generation transaction s.outstanding)) one.rising in
+    let rest = counts events (after_timeout_of s (request_with s.generation transaction s.outstanding)) one.rising in
     omega (arith, one.count, rest)
 
 pub each_counts : EachCounts

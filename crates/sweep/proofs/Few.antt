@@ -16,17 +16,17 @@ use Rattle.fact_store.specs.declared.report_fault.ReportFault.{ReportFault}
 use Rattle.fact_store.specs.declared.report_fault.ReportFault.TheVariants as fault
 use Rattle.fact_store.specs.Report.{about_of, are_ports_in_range, attribute_fault, fits_node_info, kind_fault, may_be_asked_by, node_info_of, or_else, payload_of, packet_fault, report_fault}
 use Rattle.fact_store.specs.Sighting.{is_cabled_port}
-use Rattle.sweep.specs.declared.reached.Reached.{Reached}
+use Rattle.sweep.specs.declared.vertex.Vertex.{Vertex}
 use Rattle.sweep.specs.declared.request.Question.{Question}
 use Rattle.sweep.specs.declared.request.Question.TheVariants as ask
 use Rattle.sweep.specs.declared.request.Request.{Request}
-use Rattle.sweep.specs.declared.finding.Finding.TheVariants.{Nothing, Vertex}
+use Rattle.sweep.specs.declared.finding.Finding.TheVariants.{Nothing, NewVertex}
 use Rattle.sweep.specs.declared.finding.Onward.{Onward}
 use Rattle.sweep.specs.declared.finding.PortFinding.{PortFinding}
 use Rattle.sweep.specs.declared.finding.Onward.TheVariants.{Stays, Leads, TooFar}
 use Rattle.sweep.specs.Finding.{IsWithinReach, finding, finding_of, found_again, found_anew, leads_on, manager_questions, node_found_of, onward_questions, port_finding_of, port_found, port_found_questions, questions, vertex_of, vertex_questions}
 use Rattle.sweep.specs.Replies.{fault_by, fault_for, is_for, report_for}
-use Rattle.sweep.specs.Sweep.{Asking, Sweep, attribute_asked, reached_at, reached_first}
+use Rattle.sweep.specs.Sweep.{Asking, Sweep, attribute_asked, vertex_at, first_vertex}
 use Rattle.sweep.proofs.Asked.{length_adapter, length_switch}
 
 -- faults ---------------------------------------------------------------------------------------
@@ -53,14 +53,14 @@ kind_in_range context info kind e =
 
 -- what NodeInfo brings up ----------------------------------------------------------------------
 
-vertex_few : (v : Reached) → (is_switch v.kind ≡ true → v.ports ≤ 254) → length (vertex_questions v) ≤ 256
+vertex_few : (v : Vertex) → (is_switch v.kind ≡ true → v.ports ≤ 254) → length (vertex_questions v) ≤ 256
 vertex_few v ports = by (is_switch v.kind) refl
   where
     by : (b : Bool) → is_switch v.kind ≡ b → length (vertex_questions v) ≤ 256
     by true e = let long = length_switch v e in let most = ports e in omega (arith, long, most)
     by false e = let long = length_adapter v e in omega (arith, long)
 
-vertex_if : (path : List ℕ) (v : Reached) (t : Bool) → (t ≡ false → length (vertex_questions v) ≤ 256) → length (questions path (if t then Nothing else Vertex v)) ≤ 256
+vertex_if : (path : List ℕ) (v : Vertex) (t : Bool) → (t ≡ false → length (vertex_questions v) ≤ 256) → length (questions path (if t then Nothing else NewVertex v)) ≤ 256
 vertex_if path v true few = omega arith
 vertex_if path v false few = few refl
 
@@ -68,9 +68,9 @@ first_half : (a b : Bool) → (a || b) ≡ false → a ≡ false
 first_half false b e = refl
 first_half true b e = absurd (cc)
 
-again_few : (s : Sweep) (path : List ℕ) (info : NodeInfo) (first : Reached) → length (questions path (found_again s path info first)) ≤ 256
+again_few : (s : Sweep) (path : List ℕ) (info : NodeInfo) (first : Vertex) → length (questions path (found_again s path info first)) ≤ 256
 again_few s path info first =
-    let known : Bool = is_some (reached_at s.reached info.node_guid info.local_port_num) in
+    let known : Bool = is_some (vertex_at s.reached info.node_guid info.local_port_num) in
     vertex_if path (vertex_of path info first.kind first.ports) (is_switch first.kind || known)
     (λ e. vertex_few (vertex_of path info first.kind first.ports) (λ t. absurd (cc (first_half (is_switch first.kind) known e, t))))
 
@@ -78,7 +78,7 @@ anew_few : (context : Context) (path : List ℕ) (info : NodeInfo) (k : Option N
 anew_few context path info None e = absurd (cc)
 anew_few context path info (Some kind) e = vertex_few (vertex_of path info kind info.num_ports) (λ t. kind_in_range context info kind e)
 
-node_few : (s : Sweep) (context : Context) (path : List ℕ) (info : NodeInfo) (first : Option Reached) → kind_fault context info (type_of_number info.node_type) ≡ None → length (questions path (node_found_of s path info first)) ≤ 256
+node_few : (s : Sweep) (context : Context) (path : List ℕ) (info : NodeInfo) (first : Option Vertex) → kind_fault context info (type_of_number info.node_type) ≡ None → length (questions path (node_found_of s path info first)) ≤ 256
 node_few s context path info None e = anew_few context path info (type_of_number info.node_type) e
 node_few s context path info (Some first) e = again_few s path info first
 
@@ -119,7 +119,7 @@ no_attribute report f =
 
 few_of : (s : Sweep) (r : Request) (packet : List ℕ) (q : Question) → (number_in attribute_id packet == attribute_asked q) ≡ true → fault_by q (report_for s r packet) ≡ None → length (questions r.path (finding_of s r packet q)) ≤ 256
 few_of s r packet ask.Node e f =
-    node_few s r.context r.path (node_info_of packet) (reached_first s.reached (node_info_of packet).node_guid) (node_kind_fault r.context packet e (no_attribute (report_for s r packet) f))
+    node_few s r.context r.path (node_info_of packet) (first_vertex s.reached (node_info_of packet).node_guid) (node_kind_fault r.context packet e (no_attribute (report_for s r packet) f))
 few_of s r packet ask.Switch e f = omega arith
 few_of s r packet (ask.Port port) e f = port_few s r.path (about_of r.context) port (payload_of packet)
 few_of s r packet (ask.Manager guid port) e f = omega arith
@@ -135,7 +135,7 @@ leads_within true true e = refl
 leads_within true false e = absurd (cc)
 leads_within false u e = absurd (cc)
 
-reach_if : (path : List ℕ) (v : Reached) (t : Bool) → IsWithinReach path (if t then Nothing else Vertex v)
+reach_if : (path : List ℕ) (v : Vertex) (t : Bool) → IsWithinReach path (if t then Nothing else NewVertex v)
 reach_if path v true = tt
 reach_if path v false = tt
 
@@ -143,9 +143,9 @@ reach_anew : (path : List ℕ) (info : NodeInfo) (k : Option NodeType) → IsWit
 reach_anew path info None = tt
 reach_anew path info (Some kind) = tt
 
-reach_node : (s : Sweep) (path : List ℕ) (info : NodeInfo) (first : Option Reached) → IsWithinReach path (node_found_of s path info first)
+reach_node : (s : Sweep) (path : List ℕ) (info : NodeInfo) (first : Option Vertex) → IsWithinReach path (node_found_of s path info first)
 reach_node s path info None = reach_anew path info (type_of_number info.node_type)
-reach_node s path info (Some first) = reach_if path (vertex_of path info first.kind first.ports) (is_switch first.kind || is_some (reached_at s.reached info.node_guid info.local_port_num))
+reach_node s path info (Some first) = reach_if path (vertex_of path info first.kind first.ports) (is_switch first.kind || is_some (vertex_at s.reached info.node_guid info.local_port_num))
 
 reach_port : (s : Sweep) (path : List ℕ) (about : Option ℕ) (port : ℕ) (info : List ℕ) → IsWithinReach path (port_found s path about port info)
 reach_port s path None port info = tt
@@ -153,7 +153,7 @@ reach_port s path (Some guid) port info =
     λ e. ltb-true _ _ (leads_within (leads_on s path guid port info) (nat_lt (length path) max_hops) e)
 
 reach_of : (s : Sweep) (r : Request) (packet : List ℕ) (q : Question) → IsWithinReach r.path (finding_of s r packet q)
-reach_of s r packet ask.Node = reach_node s r.path (node_info_of packet) (reached_first s.reached (node_info_of packet).node_guid)
+reach_of s r packet ask.Node = reach_node s r.path (node_info_of packet) (first_vertex s.reached (node_info_of packet).node_guid)
 reach_of s r packet ask.Switch = tt
 reach_of s r packet (ask.Port port) = reach_port s r.path (about_of r.context) port (payload_of packet)
 reach_of s r packet (ask.Manager guid port) = tt

@@ -7,16 +7,16 @@ use Rattle.smp_bytes.specs.Packet.{fault_of, transaction_id}
 use Rattle.smp_bytes.specs.declared.smp_fault.SmpFault.{SmpFault}
 use Rattle.fact_store.specs.declared.report_fault.ReportFault.{ReportFault}
 use Rattle.fact_store.specs.declared.report_fault.ReportFault.TheVariants.{Generation, Smp}
-use Rattle.fact_store.specs.Report.{answer_fault, attribute_fault, or_else, packet_fault, reply_fault, report_fault, told_by_packet}
+use Rattle.fact_store.specs.Report.{answer_fault, attribute_fault, or_else, packet_fault, reply_fault, report_fault, sightings_by_packet}
 use Rattle.sweep.specs.declared.fault.SweepFault.TheVariants.{NotOutstanding, Bad, SequenceSpent}
 use Rattle.sweep.specs.declared.request.Question.{Question}
 use Rattle.sweep.specs.declared.request.Question.TheVariants as ask
 use Rattle.sweep.specs.declared.request.Request.{Request}
 use Rattle.sweep.specs.Finding.{finding, questions}
-use Rattle.sweep.specs.Replies.{answer_by, answer_for, belongs, fault_by, fault_for, is_for, is_spent, judged, judged_as, judged_by, judged_for, report_for, request_of, told_by}
+use Rattle.sweep.specs.Replies.{answer_by, answer_for, belongs, fault_by, fault_for, is_for, is_spent, judged, judged_as, judged_by, judged_for, report_for, request_of, sightings_by}
 use Rattle.sweep.specs.Sweep.{Sweep, transaction_of}
 use Rattle.sweep.proofs.Few.{few_questions}
-use Rattle.request_table.proofs.Places.{some_is}
+use Rattle.request_table.proofs.Indices.{some_is}
 
 -- what is found passes the test
 found_passes : {T : Type 0} (p : T → Bool) (xs : List T) (x : T) → find p xs ≡ Some x → p x ≡ true
@@ -44,12 +44,12 @@ fault_is_reply s r packet (ask.Port port) other positive parses = reply_judged s
 fault_is_reply s r packet (ask.Manager guid port) other positive parses = absurd (other guid port refl)
 
 -- nor does such a reply tell other facts
-pub told_is_reply : (s : Sweep) (r : Request) (packet : List ℕ) (q : Question) → ((guid port : ℕ) → q ≡ ask.Manager guid port → ⊥)
-    → told_by_packet s.generation r.context packet ≡ told_by (answer_by q (report_for s r packet))
-told_is_reply s r packet ask.Node other = refl
-told_is_reply s r packet ask.Switch other = refl
-told_is_reply s r packet (ask.Port port) other = refl
-told_is_reply s r packet (ask.Manager guid port) other = absurd (other guid port refl)
+pub sightings_of_reply : (s : Sweep) (r : Request) (packet : List ℕ) (q : Question) → ((guid port : ℕ) → q ≡ ask.Manager guid port → ⊥)
+    → sightings_by_packet s.generation r.context packet ≡ sightings_by (answer_by q (report_for s r packet))
+sightings_of_reply s r packet ask.Node other = refl
+sightings_of_reply s r packet ask.Switch other = refl
+sightings_of_reply s r packet (ask.Port port) other = refl
+sightings_of_reply s r packet (ask.Manager guid port) other = absurd (other guid port refl)
 
 -- a packet of an answer is judged as one
 pub packet_judged : (packet : List ℕ) → fault_of packet ≡ None → packet_fault packet ≡ answer_fault packet

@@ -1,5 +1,5 @@
 pub mod Keys
-pub mod Places
+pub mod Indices
 pub mod Numbers
 pub mod Asked
 pub mod Valid

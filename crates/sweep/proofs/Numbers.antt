@@ -1,4 +1,4 @@
--- Requests of a sweep by rising numbers: new ones, the place of one by its TransactionID, and what remains without it.
+-- Requests of a sweep by rising numbers: new ones, the index of one by its TransactionID, and what remains without it.
 use Rattle.std.proofs.Common.{◌≡◌, ◌≢◌, ℕ, suc, ◌+◌, ◌-◌, ◌*◌, ◌^◌, ◌<◌, ◌≤◌, Bool, false, ◌&&◌, List, [], ◌∷◌, ◌++◌, length, take, drop, arith, ap, sym, ◌∙◌, subst, length-append, length-take}
 use Rattle.std.specs.Prelude.{Some, find, remove, slice_get, nat_lt, ◌==◌}
 use Rattle.std.specs.List.{AllByRecursion}
@@ -10,9 +10,9 @@ use Rattle.std.proofs.lemmas.Option.{slice_get_within}
 use Rattle.smp_bytes.specs.Field.{number_in}
 use Rattle.smp_bytes.specs.Packet.{transaction_id}
 use Rattle.request_table.specs.Numbers.{AreNumbered}
-use Rattle.request_table.specs.Order.{AreOrdered, IsPlace}
+use Rattle.request_table.specs.Order.{AreOrdered, IsIndex}
 use Rattle.request_table.proofs.Numbers as numbers
-use Rattle.request_table.proofs.Places.{if_passes}
+use Rattle.request_table.proofs.Indices.{if_passes}
 use Rattle.sweep.specs.declared.request.Request.{Request}
 use Rattle.sweep.specs.Replies.{belongs, is_for}
 use Rattle.sweep.specs.Sweep.{Asking, AreRising, numbered, transaction_of, without_number}
@@ -66,23 +66,23 @@ other_packet generation packet r ne =
 
 module _ (generation transaction : ℕ) (xs ys : List Request) (next i : ℕ) where
   module _ (all : AreNumbered (λ (r : Request). r.number) (xs ++ ys) next)
-      (place : IsPlace (λ (r : Request). nat_lt r.number (transaction - generation * 2 ^ 32)) (xs ++ ys) i) where
+      (index : IsIndex (λ (r : Request). nat_lt r.number (transaction - generation * 2 ^ 32)) (xs ++ ys) i) where
     ordered : AreBelow xs
     ordered = ordered_first (λ (a : Request) (b : Request). a.number < b.number) xs ys (rising_ordered 0 (xs ++ ys) next all.rising)
 
-    -- the request with a TransactionID stands at the place, if there is one
+    -- the request with a TransactionID stands at the index, if there is one
     pub located : find (λ r. transaction_of generation r.number == transaction) xs
         ≡ if_passes (λ r. transaction_of generation r.number == transaction) (slice_get xs i)
     located =
         numbers.located_first (λ (r : Request). r.number) (transaction - generation * 2 ^ 32)
-        (λ r. transaction_of generation r.number == transaction) xs ys i (other_transaction generation transaction) ordered place
+        (λ r. transaction_of generation r.number == transaction) xs ys i (other_transaction generation transaction) ordered index
 
     -- and so does that which a packet with it answers
     pub located_for : (packet : List ℕ) → transaction ≡ number_in transaction_id packet
         → find (belongs generation packet) xs ≡ if_passes (belongs generation packet) (slice_get xs i)
     located_for packet is =
         numbers.located_first (λ (r : Request). r.number) (transaction - generation * 2 ^ 32) (belongs generation packet) xs ys i
-        (λ r ne. other_packet generation packet r (λ e. ne (omega (arith, e, is)))) ordered place
+        (λ r ne. other_packet generation packet r (λ e. ne (omega (arith, e, is)))) ordered index
 
 -- one that has ended ----------------------------------------------------------------------------
 

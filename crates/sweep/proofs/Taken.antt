@@ -13,27 +13,27 @@ use Rattle.sweep.specs.Fault.{is_memory}
 use Rattle.sweep.specs.declared.fault.SweepFault.{SweepFault}
 use Rattle.sweep.specs.declared.fault.SweepFault.TheVariants.{NotOutstanding, Bad, SequenceSpent, Memory}
 use Rattle.sweep.specs.declared.finding.Finding.{Finding}
-use Rattle.sweep.specs.declared.finding.Finding.TheVariants.{Nothing, Vertex, Port}
+use Rattle.sweep.specs.declared.finding.Finding.TheVariants.{Nothing, NewVertex, Port}
 use Rattle.sweep.specs.declared.finding.Onward.{Onward}
 use Rattle.sweep.specs.declared.finding.Onward.TheVariants.{Stays, Leads, TooFar}
-use Rattle.sweep.specs.declared.reached.Reached.{Reached}
-use Rattle.sweep.specs.declared.reached.SeenState.{SeenState}
-use Rattle.sweep.specs.declared.replies.Accepted.{Accepted}
+use Rattle.sweep.specs.declared.vertex.Vertex.{Vertex}
+use Rattle.sweep.specs.declared.vertex.SeenState.{SeenState}
+use Rattle.sweep.specs.declared.on_reply.Accepted.{Accepted}
 use Rattle.sweep.specs.declared.request.Request.{Request}
 use Rattle.sweep.specs.Accepting.{IsAccepted}
-use Rattle.sweep.specs.Finding.{one_too_far, questions, too_far_by, with_reached, with_state, with_state_of}
-use Rattle.sweep.specs.Found.{Found}
+use Rattle.sweep.specs.Finding.{one_too_far, questions, too_far_by, with_vertex, with_state, with_state_of}
+use Rattle.sweep.specs.Discovered.{Discovered}
 use Rattle.sweep.specs.Order.{AreInOrder}
 use Rattle.sweep.specs.Replies.{answer_for, fault_for, is_spent, judged, judged_as, judged_by, judged_for, request_of}
-use Rattle.sweep.specs.Requests.{Requests}
+use Rattle.sweep.specs.SweepRequests.{SweepRequests}
 use Rattle.sweep.specs.Sweep.{IsSweep, Sweep, numbered, state_key, vertex_key, without_number}
 use Rattle.sweep.specs.Taking.{HasTaken}
 use Rattle.sweep.proofs.Asked.{length_numbered}
-use Rattle.request_table.proofs.Places.{some_is}
-use Rattle.sweep.proofs.Places.{placed_ordered}
+use Rattle.request_table.proofs.Indices.{some_is}
+use Rattle.sweep.proofs.Indices.{placed_ordered}
 use Rattle.sweep.proofs.Valid.{valid_ended}
 
--- want of memory is no judgement ---------------------------------------------------------------
+-- out of memory is no judgement ---------------------------------------------------------------
 
 never_by : (s : Sweep) (r : Request) (packet : List ℕ) (o : Option ReportFault) → judged_by s r packet o ≡ Err Memory → ⊥
 never_by s r packet (Some why) e = cc
@@ -60,10 +60,10 @@ judges_err s packet Memory e = absurd (never_as s packet (fault_of packet) e)
 
 -- what was found -----------------------------------------------------------------------------
 
-pub reached_ordered : (f : Finding) (reached : List Reached) → AreInOrder vertex_key reached → AreInOrder vertex_key (with_reached f reached)
-reached_ordered Nothing reached ordered = ordered
-reached_ordered (Vertex v) reached ordered = placed_ordered vertex_key v reached ordered
-reached_ordered (Port found) reached ordered = ordered
+pub vertices_ordered : (f : Finding) (reached : List Vertex) → AreInOrder vertex_key reached → AreInOrder vertex_key (with_vertex f reached)
+vertices_ordered Nothing reached ordered = ordered
+vertices_ordered (NewVertex v) reached ordered = placed_ordered vertex_key v reached ordered
+vertices_ordered (Port found) reached ordered = ordered
 
 state_ordered : (guid port : ℕ) (state : Option PortState) (states : List SeenState) → AreInOrder state_key states → AreInOrder state_key (with_state_of guid port state states)
 state_ordered guid port None states ordered = ordered
@@ -71,7 +71,7 @@ state_ordered guid port (Some state) states ordered = placed_ordered state_key (
 
 pub states_ordered : (f : Finding) (states : List SeenState) → AreInOrder state_key states → AreInOrder state_key (with_state f states)
 states_ordered Nothing states ordered = ordered
-states_ordered (Vertex v) states ordered = ordered
+states_ordered (NewVertex v) states ordered = ordered
 states_ordered (Port found) states ordered = state_ordered found.guid found.port found.state states ordered
 
 one_at_most : (onward : Onward) → one_too_far onward ≤ 1
@@ -81,13 +81,13 @@ one_at_most TooFar = omega arith
 
 pub too_far_once : (f : Finding) → too_far_by f ≤ 1
 too_far_once Nothing = omega arith
-too_far_once (Vertex v) = omega arith
+too_far_once (NewVertex v) = omega arith
 too_far_once (Port found) = one_at_most found.onward
 
 -- the requests -----------------------------------------------------------------------------------
 
 -- a sweep's requests, with room for more
-pub record IsReady (s : Sweep) (requests : Requests) (found : Found) : Type 0 where
+pub record IsReady (s : Sweep) (requests : SweepRequests) (found : Discovered) : Type 0 where
   pub next : requests.next ≡ s.next
   pub outstanding : requests.outstanding ≡ s.outstanding
   pub queued : requests.queued ≡ s.queued
@@ -96,14 +96,14 @@ pub record IsReady (s : Sweep) (requests : Requests) (found : Found) : Type 0 wh
   pub too_far : found.too_far ≡ s.too_far
 
 -- and as the finding is put among what was found
-pub record HasPut (f : Finding) (old new : Found) : Type 0 where
-  pub reached : new.reached ≡ with_reached f old.reached
+pub record HasPut (f : Finding) (old new : Discovered) : Type 0 where
+  pub reached : new.reached ≡ with_vertex f old.reached
   pub states : new.states ≡ with_state f old.states
   pub too_far : new.too_far ≡ old.too_far + too_far_by f
 
-module _ (s : Sweep) (packet : List ℕ) (accepted : Accepted) (ok : IsAccepted s packet accepted) (mid new : Requests) (before after : Found) (ready : IsReady s mid before) (taken : HasTaken accepted.place accepted.finding mid new) where
+module _ (s : Sweep) (packet : List ℕ) (accepted : Accepted) (ok : IsAccepted s packet accepted) (mid new : SweepRequests) (before after : Discovered) (ready : IsReady s mid before) (taken : HasTaken accepted.index accepted.finding mid new) where
   same_request : taken.request ≡ ok.request
-  same_request = some_is taken.request ok.request (sym taken.waited ∙ ap (λ l. slice_get l accepted.place) ready.outstanding ∙ ok.waits)
+  same_request = some_is taken.request ok.request (sym taken.waited ∙ ap (λ l. slice_get l accepted.index) ready.outstanding ∙ ok.waits)
 
   pub next_then : new.next ≡ s.next + length (questions ok.request.path accepted.finding)
   next_then =
@@ -130,14 +130,14 @@ module _ (s : Sweep) (packet : List ℕ) (accepted : Accepted) (ok : IsAccepted 
   pub valid_then : IsSweep s → HasPut accepted.finding before after
       → IsSweep (record s { next = new.next; queued = new.queued; outstanding = new.outstanding; reached = after.reached; states = after.states; too_far = after.too_far })
   valid_then valid put =
-      valid_ended s (record s { next = new.next; queued = new.queued; outstanding = new.outstanding; reached = after.reached; states = after.states; too_far = after.too_far }) accepted.place ok.request (questions ok.request.path accepted.finding) valid
+      valid_ended s (record s { next = new.next; queued = new.queued; outstanding = new.outstanding; reached = after.reached; states = after.states; too_far = after.too_far }) accepted.index ok.request (questions ok.request.path accepted.finding) valid
       (record {
         waited = ok.waits;
         next = next_then;
         fits = omega (arith, next_then, ok.number);
         outstanding = outstanding_then;
         queued = queued_then;
-        reached = subst (AreInOrder vertex_key) (sym (put.reached ∙ ap (with_reached accepted.finding) ready.reached)) (reached_ordered accepted.finding s.reached valid.reached);
+        reached = subst (AreInOrder vertex_key) (sym (put.reached ∙ ap (with_vertex accepted.finding) ready.reached)) (vertices_ordered accepted.finding s.reached valid.reached);
         states = subst (AreInOrder state_key) (sym (put.states ∙ ap (with_state accepted.finding) ready.states)) (states_ordered accepted.finding s.states valid.states);
         counted = let once = too_far_once accepted.finding in omega (arith, put.too_far, ready.too_far, once);
       })

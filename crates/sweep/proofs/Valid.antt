@@ -36,8 +36,8 @@ valid_moved s t valid moved =
     }
 
 -- a request that waited has ended, and questions came up
-pub record HasEnded (s t : Sweep) (place : ℕ) (r : Request) (asked : List Asking) : Type 0 where
-  pub waited : slice_get s.outstanding place ≡ Some r
+pub record HasEnded (s t : Sweep) (index : ℕ) (r : Request) (asked : List Asking) : Type 0 where
+  pub waited : slice_get s.outstanding index ≡ Some r
   pub next : t.next ≡ s.next + length asked
   pub fits : t.next ≤ 2 ^ 32
   pub outstanding : t.outstanding ≡ without_number r.number s.outstanding
@@ -46,20 +46,20 @@ pub record HasEnded (s t : Sweep) (place : ℕ) (r : Request) (asked : List Aski
   pub states : AreInOrder state_key t.states
   pub counted : t.unanswered + t.too_far ≤ s.unanswered + s.too_far + 1
 
-pub valid_ended : (s t : Sweep) (place : ℕ) (r : Request) (asked : List Asking) → IsSweep s → HasEnded s t place r asked → IsSweep t
-valid_ended s t place r asked valid ended =
-    let within : place < length s.outstanding = slice_get_within s.outstanding place r ended.waited in
+pub valid_ended : (s t : Sweep) (index : ℕ) (r : Request) (asked : List Asking) → IsSweep s → HasEnded s t index r asked → IsSweep t
+valid_ended s t index r asked valid ended =
+    let within : index < length s.outstanding = slice_get_within s.outstanding index r ended.waited in
     let ordered = ordered_first (λ (a : Request) (b : Request). a.number < b.number) s.outstanding s.queued (rising_ordered 0 (s.outstanding ++ s.queued) s.next valid.rising) in
-    let gone : without_number r.number s.outstanding ≡ remove s.outstanding place = without_at s.outstanding place r ordered ended.waited in
-    let left : remove (s.outstanding ++ s.queued) place ≡ remove s.outstanding place ++ s.queued = remove-append_left s.outstanding s.queued place within in
-    let all : t.outstanding ++ t.queued ≡ remove (s.outstanding ++ s.queued) place ++ numbered s.next asked =
-    ap (λ l. l ++ t.queued) (ended.outstanding ∙ gone) ∙ ap (λ l. remove s.outstanding place ++ l) ended.queued
-    ∙ sym (append_assoc (remove s.outstanding place) s.queued (numbered s.next asked)) ∙ ap (λ l. l ++ numbered s.next asked) (sym left) in
-    let rising : AreRising 0 (remove (s.outstanding ++ s.queued) place ++ numbered s.next asked) (s.next + length asked) =
-    rising_asked 0 (remove (s.outstanding ++ s.queued) place) s.next asked (rising_without 0 (s.outstanding ++ s.queued) s.next place valid.rising) in
+    let gone : without_number r.number s.outstanding ≡ remove s.outstanding index = without_at s.outstanding index r ordered ended.waited in
+    let left : remove (s.outstanding ++ s.queued) index ≡ remove s.outstanding index ++ s.queued = remove-append_left s.outstanding s.queued index within in
+    let all : t.outstanding ++ t.queued ≡ remove (s.outstanding ++ s.queued) index ++ numbered s.next asked =
+    ap (λ l. l ++ t.queued) (ended.outstanding ∙ gone) ∙ ap (λ l. remove s.outstanding index ++ l) ended.queued
+    ∙ sym (append_assoc (remove s.outstanding index) s.queued (numbered s.next asked)) ∙ ap (λ l. l ++ numbered s.next asked) (sym left) in
+    let rising : AreRising 0 (remove (s.outstanding ++ s.queued) index ++ numbered s.next asked) (s.next + length asked) =
+    rising_asked 0 (remove (s.outstanding ++ s.queued) index) s.next asked (rising_without 0 (s.outstanding ++ s.queued) s.next index valid.rising) in
     let both = length-append s.outstanding s.queued in
-    let less = length-remove (s.outstanding ++ s.queued) place (omega (arith, within, both)) in
-    let more = length-append (remove (s.outstanding ++ s.queued) place) (numbered s.next asked) in
+    let less = length-remove (s.outstanding ++ s.queued) index (omega (arith, within, both)) in
+    let more = length-append (remove (s.outstanding ++ s.queued) index) (numbered s.next asked) in
     let count = length_numbered s.next asked in
     record {
       rising =

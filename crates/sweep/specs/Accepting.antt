@@ -1,19 +1,19 @@
 -- A reply that a sweep takes.
 use Rattle.std.specs.Prelude.{◌≡◌, ℕ, ◌+◌, ◌^◌, ◌≤◌, List, length, slice_get, Some, Ok}
-use Rattle.sweep.specs.declared.replies.Accepted.{Accepted}
+use Rattle.sweep.specs.declared.on_reply.Accepted.{Accepted}
 use Rattle.sweep.specs.declared.request.Request.{Request}
 use Rattle.sweep.specs.Sweep.{Sweep}
 use Rattle.sweep.specs.Finding.{finding, questions, IsWithinReach}
-use Rattle.sweep.specs.Replies.{judged, request_of, told_by}
+use Rattle.sweep.specs.Replies.{judged, request_of, sightings_by}
 
--- the place of the request, what the reply brings up and tells, and what is answered
+-- the index of the request, what the reply brings up and tells, and what is answered
 pub record IsAccepted (s : Sweep) (packet : List ℕ) (accepted : Accepted) : Type 0 where
   pub request : Request
-  pub waits : slice_get s.outstanding accepted.place ≡ Some request
+  pub waits : slice_get s.outstanding accepted.index ≡ Some request
   pub belongs : request_of s packet ≡ Some request
   pub finding : accepted.finding ≡ finding s request packet
   pub reach : IsWithinReach request.path accepted.finding
   pub few : length (questions request.path accepted.finding) ≤ 256
   pub number : s.next + length (questions request.path accepted.finding) ≤ 2 ^ 32
   pub answer : judged s packet ≡ Ok accepted.answer
-  pub told : accepted.told.items ≡ told_by accepted.answer
+  pub sightings : accepted.sightings.items ≡ sightings_by accepted.answer

@@ -16,20 +16,20 @@ use Rattle.fact_store.specs.Report.{about_of, guid_port, is_up_state, node_info_
 use Rattle.sweep.specs.declared.request.Question.{Question}
 use Rattle.sweep.specs.declared.request.Question.TheVariants as ask
 use Rattle.sweep.specs.declared.request.Request.{Request}
-use Rattle.sweep.specs.declared.reached.Reached.{Reached}
-use Rattle.sweep.specs.declared.reached.SeenState.{SeenState}
+use Rattle.sweep.specs.declared.vertex.Vertex.{Vertex}
+use Rattle.sweep.specs.declared.vertex.SeenState.{SeenState}
 use Rattle.sweep.specs.declared.finding.Finding.{Finding}
-use Rattle.sweep.specs.declared.finding.Finding.TheVariants.{Nothing, Vertex, Port}
+use Rattle.sweep.specs.declared.finding.Finding.TheVariants.{Nothing, NewVertex, Port}
 use Rattle.sweep.specs.declared.finding.Onward.{Onward}
 use Rattle.sweep.specs.declared.finding.PortFinding.{PortFinding}
 use Rattle.sweep.specs.declared.finding.Onward.TheVariants.{Stays, Leads, TooFar}
 use Rattle.sweep.specs.Order.{placed}
-use Rattle.sweep.specs.Sweep.{Sweep, Asking, asking, reached_first, reached_at, vertex_key, state_key}
+use Rattle.sweep.specs.Sweep.{Sweep, Asking, asking, first_vertex, vertex_at, vertex_key, state_key}
 
 -- by NodeInfo ---------------------------------------------------------------------------------
 
 -- a switch is one vertex, under port 0, and an adapter one for each port that is reached
-abbrev pub vertex_of : List ℕ → NodeInfo → NodeType → ℕ → Reached
+abbrev pub vertex_of : List ℕ → NodeInfo → NodeType → ℕ → Vertex
 vertex_of path info kind ports =
     record {
       guid = info.node_guid;
@@ -43,20 +43,20 @@ vertex_of path info kind ports =
 -- a node of a GUID that is new to the sweep
 abbrev pub found_anew : List ℕ → NodeInfo → Option NodeType → Finding
 found_anew path info None = Nothing
-found_anew path info (Some kind) = Vertex (vertex_of path info kind info.num_ports)
+found_anew path info (Some kind) = NewVertex (vertex_of path info kind info.num_ports)
 
 -- a node that is known: it is what its first reply said, and at most a port of an adapter is new
-abbrev pub found_again : Sweep → List ℕ → NodeInfo → Reached → Finding
+abbrev pub found_again : Sweep → List ℕ → NodeInfo → Vertex → Finding
 found_again s path info first =
-    if is_switch first.kind || is_some (reached_at s.reached info.node_guid info.local_port_num) then Nothing
-    else Vertex (vertex_of path info first.kind first.ports)
+    if is_switch first.kind || is_some (vertex_at s.reached info.node_guid info.local_port_num) then Nothing
+    else NewVertex (vertex_of path info first.kind first.ports)
 
-abbrev pub node_found_of : Sweep → List ℕ → NodeInfo → Option Reached → Finding
+abbrev pub node_found_of : Sweep → List ℕ → NodeInfo → Option Vertex → Finding
 node_found_of s path info None = found_anew path info (type_of_number info.node_type)
 node_found_of s path info (Some first) = found_again s path info first
 
 abbrev pub node_found : Sweep → List ℕ → NodeInfo → Finding
-node_found s path info = node_found_of s path info (reached_first s.reached info.node_guid)
+node_found s path info = node_found_of s path info (first_vertex s.reached info.node_guid)
 
 -- by PortInfo -----------------------------------------------------------------------------------
 
@@ -67,7 +67,7 @@ is_start (port ∷ path) = false
 -- a port of a switch, but not its management port, nor the one that leads back
 abbrev pub is_way_on : Sweep → ℕ → ℕ → Bool
 is_way_on s guid port =
-    option_map_or (λ first. is_switch first.kind && (not (port == 0) && not (port == first.arrival))) (reached_first s.reached guid) false
+    option_map_or (λ first. is_switch first.kind && (not (port == 0) && not (port == first.arrival))) (first_vertex s.reached guid) false
 
 -- the port that the sweep goes out by, or one of a switch
 abbrev pub goes_by : Sweep → List ℕ → ℕ → ℕ → Bool
@@ -90,7 +90,7 @@ has_manager info = bits_in is_sm_bit info == 1
 
 -- as the first reply of the node said
 abbrev pub is_of_adapter : Sweep → ℕ → Bool
-is_of_adapter s guid = option_map_or (λ first. not (is_switch first.kind)) (reached_first s.reached guid) false
+is_of_adapter s guid = option_map_or (λ first. not (is_switch first.kind)) (first_vertex s.reached guid) false
 
 -- of an adapter's port, but not of the sweep's own
 abbrev pub asks_manager : Sweep → List ℕ → ℕ → List ℕ → Bool
@@ -135,7 +135,7 @@ port_questions port (suc more) path context =
     record { question = ask.Port port; path = path; context = context } ∷ port_questions (port + 1) more path context
 
 -- of a switch its table and all its ports, the management port among them; of an adapter the port that was reached
-abbrev pub vertex_questions : Reached → List Asking
+abbrev pub vertex_questions : Vertex → List Asking
 vertex_questions v =
     if is_switch v.kind
     then record { question = ask.Switch; path = v.path; context = About v.guid } ∷ port_questions 0 (v.ports + 1) v.path (About v.guid)
@@ -160,15 +160,15 @@ port_found_questions path found = manager_questions path found ++ onward_questio
 
 abbrev pub questions : List ℕ → Finding → List Asking
 questions path Nothing = []
-questions path (Vertex v) = vertex_questions v
+questions path (NewVertex v) = vertex_questions v
 questions path (Port found) = port_found_questions path found
 
 -- what the sweep has then ----------------------------------------------------------------------------
 
-abbrev pub with_reached : Finding → List Reached → List Reached
-with_reached Nothing reached = reached
-with_reached (Vertex v) reached = placed vertex_key v reached
-with_reached (Port found) reached = reached
+abbrev pub with_vertex : Finding → List Vertex → List Vertex
+with_vertex Nothing reached = reached
+with_vertex (NewVertex v) reached = placed vertex_key v reached
+with_vertex (Port found) reached = reached
 
 -- a reserved number is no state
 abbrev pub with_state_of : ℕ → ℕ → Option PortState → List SeenState → List SeenState
@@ -177,7 +177,7 @@ with_state_of guid port (Some state) states = placed state_key (record { guid = 
 
 abbrev pub with_state : Finding → List SeenState → List SeenState
 with_state Nothing states = states
-with_state (Vertex v) states = states
+with_state (NewVertex v) states = states
 with_state (Port found) states = with_state_of found.guid found.port found.state states
 
 abbrev pub one_too_far : Onward → ℕ
@@ -187,13 +187,13 @@ one_too_far TooFar = 1
 
 abbrev pub too_far_by : Finding → ℕ
 too_far_by Nothing = 0
-too_far_by (Vertex v) = 0
+too_far_by (NewVertex v) = 0
 too_far_by (Port found) = one_too_far found.onward
 
 -- with what was found, and the questions that it brings up
 abbrev pub with_finding : Sweep → List ℕ → Finding → Sweep
 with_finding s path found =
-    record (asking s (questions path found)) { reached = with_reached found s.reached; states = with_state found s.states; too_far = s.too_far + too_far_by found }
+    record (asking s (questions path found)) { reached = with_vertex found s.reached; states = with_state found s.states; too_far = s.too_far + too_far_by found }
 
 -- a path goes on only where it is not at its greatest length
 abbrev pub IsPathWithinReach : List ℕ → Onward → Type 0
@@ -201,5 +201,5 @@ IsPathWithinReach path onward = onward ≡ Leads → length path < max_hops
 
 abbrev pub IsWithinReach : List ℕ → Finding → Type 0
 IsWithinReach path Nothing = Unit {0}
-IsWithinReach path (Vertex v) = Unit {0}
+IsWithinReach path (NewVertex v) = Unit {0}
 IsWithinReach path (Port found) = IsPathWithinReach path found.onward

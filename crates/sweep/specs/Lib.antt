@@ -1,8 +1,8 @@
 pub mod Fault
 pub mod Order
 pub mod Sweep
-pub mod Requests
-pub mod Found
+pub mod SweepRequests
+pub mod Discovered
 pub mod Finding
 pub mod Replies
 pub mod Taking

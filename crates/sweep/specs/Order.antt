@@ -1,11 +1,11 @@
--- Lists in the order of GUIDs and ports, and the place of an item in it.
+-- Lists in the order of GUIDs and ports, and the index of an item in it.
 use Rattle.std.specs.Prelude.{◌≡◌, ℕ, Bool, true, false, ◌&&◌, ◌||◌, List, [], ◌∷◌, find, nat_lt, slice_get, ◌==◌, if◌then◌else◌, Option}
 use Rattle.std.specs.Option.{option_map_or}
-use Rattle.request_table.specs.Order.{AreOrdered, IsPlace}
+use Rattle.request_table.specs.Order.{AreOrdered, IsIndex}
 
--- the item at a place passes the test
+-- the item at an index passes the test
 abbrev pub passes_at : {T : Type 0} → (T → Bool) → List T → ℕ → Bool
-passes_at test items place = option_map_or test (slice_get items place) false
+passes_at test items index = option_map_or test (slice_get items index) false
 
 -- by GUID and port -----------------------------------------------------------------------------
 
@@ -17,7 +17,7 @@ is_before a b = nat_lt a.0 b.0 || (a.0 == b.0 && nat_lt a.1 b.1)
 abbrev pub AreInOrder : {T : Type 0} → (T → ℕ × ℕ) → List T → Type 0
 AreInOrder key items = AreOrdered (λ a b. is_before (key a) (key b) ≡ true) items
 
--- with one put in at its place; where there is one with its GUID and port, that one stays
+-- with one put in at its index; where there is one with its GUID and port, that one stays
 abbrev pub placed : {T : Type 0} → (T → ℕ × ℕ) → T → List T → List T
 placed key x [] = x ∷ []
 placed key x (y ∷ ys) =
@@ -34,5 +34,5 @@ abbrev pub found_at : {T : Type 0} → (T → ℕ × ℕ) → ℕ → ℕ → Li
 found_at key guid port items = find (has_key key guid port) items
 
 -- where the one with this GUID and port is, or would be
-abbrev pub IsPlaceFor : {T : Type 0} → (T → ℕ × ℕ) → ℕ × ℕ → List T → ℕ → Type 0
-IsPlaceFor key at items place = IsPlace (λ x. is_before (key x) at) items place
+abbrev pub IsIndexFor : {T : Type 0} → (T → ℕ × ℕ) → ℕ × ℕ → List T → ℕ → Type 0
+IsIndexFor key at items index = IsIndex (λ x. is_before (key x) at) items index

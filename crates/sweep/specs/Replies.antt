@@ -7,7 +7,7 @@ use Rattle.fact_store.specs.declared.report.Report.{Report}
 use Rattle.fact_store.specs.declared.report_fault.ReportFault.{ReportFault}
 use Rattle.fact_store.specs.declared.report_fault.ReportFault.TheVariants as fault
 use Rattle.attr_codec.specs.SmInfo.{sm_info_in}
-use Rattle.fact_store.specs.Report.{Told, packet_fault, payload_of, report_fault, sightings_of}
+use Rattle.fact_store.specs.Report.{Sightings, packet_fault, payload_of, report_fault, sightings_of}
 use Rattle.sweep.specs.declared.answer.Answer.{Answer}
 use Rattle.sweep.specs.declared.answer.Answer.TheVariants.{Facts, Seen}
 use Rattle.sweep.specs.declared.fault.SweepFault.{SweepFault}
@@ -74,22 +74,22 @@ abbrev pub judged_as : Sweep → List ℕ → Option SmpFault → Result Answer 
 judged_as s packet (Some why) = Err (Bad (fault.Smp why))
 judged_as s packet None = judged_for s packet (request_of s packet)
 
--- what a sweep answers to these bytes, want of memory aside
+-- what a sweep answers to these bytes, out of memory aside
 abbrev pub judged : Sweep → List ℕ → Result Answer SweepFault
 judged s packet = judged_as s packet (fault_of packet)
 
 -- the facts that an answer tells; what a manager tells of itself is none
-abbrev pub told_by : Answer → Told
-told_by (Facts report) = sightings_of report
-told_by (Seen guid port info) = []
+abbrev pub sightings_by : Answer → Sightings
+sightings_by (Facts report) = sightings_of report
+sightings_by (Seen guid port info) = []
 
 -- what the sweep has then -----------------------------------------------------------------------
 
 -- the request has ended, and what its reply brings up is queued
-abbrev pub replied_to : Sweep → List ℕ → Option Request → Sweep
-replied_to s packet None = s
-replied_to s packet (Some r) = with_finding (record s { outstanding = without_number r.number s.outstanding }) r.path (finding s r packet)
+abbrev pub after_reply_to : Sweep → List ℕ → Option Request → Sweep
+after_reply_to s packet None = s
+after_reply_to s packet (Some r) = with_finding (record s { outstanding = without_number r.number s.outstanding }) r.path (finding s r packet)
 
 -- the sweep after a reply that it takes
-abbrev pub replied : Sweep → List ℕ → Sweep
-replied s packet = replied_to s packet (request_of s packet)
+abbrev pub after_reply : Sweep → List ℕ → Sweep
+after_reply s packet = after_reply_to s packet (request_of s packet)

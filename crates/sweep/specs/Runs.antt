@@ -4,8 +4,8 @@ use Rattle.sweep.specs.declared.answer.Answer.{Answer}
 use Rattle.sweep.specs.declared.fault.SweepFault.{SweepFault}
 use Rattle.sweep.specs.declared.request.Request.{Request}
 use Rattle.request_table.specs.Order.{AreOrdered}
-use Rattle.sweep.specs.Replies.{judged, replied}
-use Rattle.sweep.specs.Sweep.{Sweep, sent, started, timed_out}
+use Rattle.sweep.specs.Replies.{judged, after_reply}
+use Rattle.sweep.specs.Sweep.{Sweep, after_next_request, started, after_timeout}
 
 -- the next request goes out; these bytes come; a TransactionID times out
 pub data Event : Type 0 where
@@ -15,13 +15,13 @@ pub data Event : Type 0 where
 
 -- a reply that is refused leaves everything as it is
 abbrev pub heard : Sweep → List ℕ → Result Answer SweepFault → Sweep
-heard s packet (Ok answer) = replied s packet
+heard s packet (Ok answer) = after_reply s packet
 heard s packet (Err fault) = s
 
 abbrev pub step : Sweep → Event → Sweep
-step s Sends = (sent s).sweep
+step s Sends = (after_next_request s).sweep
 step s (Hears packet) = heard s packet (judged s packet)
-step s (TimesOut transaction) = timed_out s transaction
+step s (TimesOut transaction) = after_timeout s transaction
 
 abbrev pub first_number : List Request → List ℕ
 first_number [] = []

@@ -11,8 +11,8 @@ use Rattle.sweep.specs.declared.fault.SweepFault.TheVariants.{NotOutstanding}
 use Rattle.sweep.specs.declared.request.Question.{Question}
 use Rattle.sweep.specs.declared.request.Question.TheVariants as ask
 use Rattle.sweep.specs.declared.request.Request.{Request}
-use Rattle.sweep.specs.declared.reached.Reached.{Reached}
-use Rattle.sweep.specs.declared.reached.SeenState.{SeenState}
+use Rattle.sweep.specs.declared.vertex.Vertex.{Vertex}
+use Rattle.sweep.specs.declared.vertex.SeenState.{SeenState}
 use Rattle.request_table.specs.Numbers as numbers
 use Rattle.sweep.specs.Order.{AreInOrder, found_at}
 
@@ -25,7 +25,7 @@ pub record Sweep : Type 0 where
   pub next : ℕ
   pub queued : List Request
   pub outstanding : List Request
-  pub reached : List Reached
+  pub reached : List Vertex
   pub states : List SeenState
   pub unanswered : ℕ
   pub too_far : ℕ
@@ -99,14 +99,14 @@ pub record Sent : Type 0 where
   pub sweep : Sweep
   pub packet : Option (List ℕ)
 
-abbrev pub sent_of : Sweep → List Request → Sent
-sent_of s [] = record { sweep = s; packet = None }
-sent_of s (r ∷ queued) =
+abbrev pub after_next_request_of : Sweep → List Request → Sent
+after_next_request_of s [] = record { sweep = s; packet = None }
+after_next_request_of s (r ∷ queued) =
     record { sweep = record s { queued = queued; outstanding = s.outstanding ++ r ∷ [] }; packet = Some (packet_of s.generation r) }
 
 -- the first of the queue goes out, and waits for its reply from then on
-abbrev pub sent : Sweep → Sent
-sent s = sent_of s s.queued
+abbrev pub after_next_request : Sweep → Sent
+after_next_request s = after_next_request_of s s.queued
 
 -- without the request of a number
 abbrev pub without_number : ℕ → List Request → List Request
@@ -120,13 +120,13 @@ request_with generation transaction requests = find (λ r. transaction_of genera
 abbrev pub timeout_fault : Sweep → ℕ → Option SweepFault
 timeout_fault s transaction = if is_some (request_with s.generation transaction s.outstanding) then None else Some NotOutstanding
 
-abbrev pub timed_out_of : Sweep → Option Request → Sweep
-timed_out_of s None = s
-timed_out_of s (Some r) = record s { outstanding = without_number r.number s.outstanding; unanswered = s.unanswered + 1 }
+abbrev pub after_timeout_of : Sweep → Option Request → Sweep
+after_timeout_of s None = s
+after_timeout_of s (Some r) = record s { outstanding = without_number r.number s.outstanding; unanswered = s.unanswered + 1 }
 
 -- a request that timed out waits no more, and counts as one that was not answered
-abbrev pub timed_out : Sweep → ℕ → Sweep
-timed_out s transaction = timed_out_of s (request_with s.generation transaction s.outstanding)
+abbrev pub after_timeout : Sweep → ℕ → Sweep
+after_timeout s transaction = after_timeout_of s (request_with s.generation transaction s.outstanding)
 
 -- the TransactionID of the i-th request that waits
 abbrev pub outstanding_at : Sweep → ℕ → Option ℕ
@@ -142,25 +142,25 @@ is_done s = is_none_left s.queued && is_none_left s.outstanding
 
 -- what was found -----------------------------------------------------------------------------
 
-abbrev pub vertex_key : Reached → ℕ × ℕ
+abbrev pub vertex_key : Vertex → ℕ × ℕ
 vertex_key r = (r.guid, r.port)
 
 abbrev pub state_key : SeenState → ℕ × ℕ
 state_key p = (p.guid, p.port)
 
 -- the first vertex of a node, which says what the node is
-abbrev pub reached_first : List Reached → ℕ → Option Reached
-reached_first reached guid = find (λ r. r.guid == guid) reached
+abbrev pub first_vertex : List Vertex → ℕ → Option Vertex
+first_vertex reached guid = find (λ r. r.guid == guid) reached
 
-abbrev pub reached_at : List Reached → ℕ → ℕ → Option Reached
-reached_at reached guid port = found_at vertex_key guid port reached
+abbrev pub vertex_at : List Vertex → ℕ → ℕ → Option Vertex
+vertex_at reached guid port = found_at vertex_key guid port reached
 
 abbrev pub state_at : List SeenState → ℕ → ℕ → Option PortState
 state_at states guid port = option_map (λ p. p.state) (found_at state_key guid port states)
 
 -- the path that first reached a switch, by port 0, or an adapter's port
 abbrev pub path_to : Sweep → ℕ → ℕ → Option (List ℕ)
-path_to s guid port = option_map (λ r. r.path) (reached_at s.reached guid port)
+path_to s guid port = option_map (λ r. r.path) (vertex_at s.reached guid port)
 
 -- the state that the first reply said
 abbrev pub seen_state : Sweep → ℕ → ℕ → Option PortState

@@ -4,21 +4,21 @@ use Rattle.sweep.specs.declared.finding.Finding.{Finding}
 use Rattle.sweep.specs.declared.request.Request.{Request}
 use Rattle.sweep.specs.Sweep.{numbered, without_number}
 use Rattle.sweep.specs.Finding.{questions, IsWithinReach}
-use Rattle.sweep.specs.Requests.{Requests}
+use Rattle.sweep.specs.SweepRequests.{SweepRequests}
 
--- the request of the place waits, and there are numbers and memory for what its reply brings up
-pub record CanTake (requests : Requests) (place : ℕ) (found : Finding) : Type 0 where
+-- the request of the index waits, and there are numbers and memory for what its reply brings up
+pub record CanTake (requests : SweepRequests) (index : ℕ) (found : Finding) : Type 0 where
   pub request : Request
-  pub waits : slice_get requests.outstanding place ≡ Some request
+  pub waits : slice_get requests.outstanding index ≡ Some request
   pub reach : IsWithinReach request.path found
   pub few : length (questions request.path found) ≤ 256
   pub room : length (questions request.path found) ≤ requests.room
   pub number : requests.next + length (questions request.path found) ≤ 2 ^ 32
 
--- the request of the place has ended, and its reply's questions stand at the end of the queue
-pub record HasTaken (place : ℕ) (found : Finding) (old new : Requests) : Type 0 where
+-- the request of the index has ended, and its reply's questions stand at the end of the queue
+pub record HasTaken (index : ℕ) (found : Finding) (old new : SweepRequests) : Type 0 where
   pub request : Request
-  pub waited : slice_get old.outstanding place ≡ Some request
+  pub waited : slice_get old.outstanding index ≡ Some request
   pub next : new.next ≡ old.next + length (questions request.path found)
   pub outstanding : new.outstanding ≡ without_number request.number old.outstanding
   pub queued : new.queued ≡ old.queued ++ numbered old.next (questions request.path found)

@@ -1,9 +1,9 @@
 ghost use Rattle.std.specs.Prelude.{◌≡◌, ◌≤◌, ℕ, List, length};
 ghost use Rattle.sweep.specs.Finding.{asks_manager, finding, goes_by, has_manager, is_of_adapter, leads_on, node_found, onward, port_found_questions, port_found_of, questions, vertex_of, vertex_questions};
 
-use crate::reached::Reached;
 use crate::request::{Question, Request};
 use crate::sweep::Sweep;
+use crate::vertex::Vertex;
 use attr_codec::{Attribute, NodeInfo, PortInfo, PortState};
 use fact_store::{Context, is_up};
 use smp_bytes::{Guid, NodeType, Path, PortNum, Smp};
@@ -14,7 +14,7 @@ pub(crate) enum Finding {
     /// Nothing that is new.
     Nothing,
     /// A node, or another port of an adapter.
-    Vertex(Reached),
+    NewVertex(Vertex),
     /// What a port says of itself.
     Port(PortFinding),
 }
@@ -49,7 +49,7 @@ impl Finding {
         ensures within { result ≤ 257 }
     {
         match self {
-            Finding::Vertex(vertex) => vertex.question_count(),
+            Finding::NewVertex(vertex) => vertex.question_count(),
             Finding::Port(found) => found.question_count(),
             Finding::Nothing => 0,
         }
@@ -70,7 +70,7 @@ impl PortFinding {
     }
 }
 
-impl Reached {
+impl Vertex {
     /// How many requests a new vertex brings up.
     fn question_count(&self) -> u64
         ensures count { result ≡ length (vertex_questions self.now) }
@@ -111,7 +111,7 @@ impl Sweep {
     {
         let Some(first) = self.found.first_of(info.node_guid) else {
             return match info.node_type.node_type() {
-                Some(kind) => Finding::Vertex(vertex_of(path, info, kind, info.num_ports)),
+                Some(kind) => Finding::NewVertex(vertex_of(path, info, kind, info.num_ports)),
                 None => Finding::Nothing,
             };
         };
@@ -123,7 +123,7 @@ impl Sweep {
         if is_known {
             return Finding::Nothing;
         }
-        Finding::Vertex(vertex_of(path, info, first.kind, first.ports))
+        Finding::NewVertex(vertex_of(path, info, first.kind, first.ports))
     }
 
     /// What PortInfo brings up: the port's state, whether a manager sits there that is asked, and
@@ -201,14 +201,14 @@ fn has_manager(info: &PortInfo) -> bool
 
 /// The vertex of a node that answered: of a switch its management port, of an adapter the port that
 /// was asked.
-fn vertex_of(path: &Path<63>, info: &NodeInfo, kind: NodeType, ports: u8) -> Reached
+fn vertex_of(path: &Path<63>, info: &NodeInfo, kind: NodeType, ports: u8) -> Vertex
     ensures { result ≡ vertex_of path.now info.now kind ports }
 {
     let port = match kind {
         NodeType::Switch => PortNum::new(0),
         NodeType::ChannelAdapter | NodeType::Router => info.local_port_num,
     };
-    Reached {
+    Vertex {
         guid: info.node_guid,
         port,
         kind,

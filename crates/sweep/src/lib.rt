@@ -3,19 +3,19 @@
 #![tactic(auto)]
 
 mod answer;
+mod discovered;
+mod fact_sink;
 mod fault;
 mod finding;
-mod found;
-mod keeper;
 pub mod laws;
-mod reached;
-mod replies;
+mod on_reply;
 mod request;
 mod requests;
 mod sweep;
+mod vertex;
 
 pub use answer::Answer;
 pub use fault::SweepFault;
-pub use reached::{Reached, SeenState};
 pub use request::{Question, Request};
 pub use sweep::Sweep;
+pub use vertex::{SeenState, Vertex};

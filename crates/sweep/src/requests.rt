@@ -1,17 +1,17 @@
 ghost use Rattle.std.specs.Prelude.{◌≡◌, ◌&&◌, ◌+◌, ◌-◌, ◌*◌, ◌<◌, ◌≤◌, ◌^◌, [], ◌∷◌, ◌++◌, length, slice_get, option_copied, Some, OnOk, take, drop, find, nat_lt};
-ghost use Rattle.request_table.specs.Order.{IsPlace};
-ghost use Rattle.request_table.specs.Numbers.{AreNumbered, IsPlaceFor};
+ghost use Rattle.request_table.specs.Order.{IsIndex};
+ghost use Rattle.request_table.specs.Numbers.{AreNumbered, IsIndexFor};
 ghost use Rattle.fact_store.specs.declared.report.Context.TheVariants.{About};
 ghost use Rattle.sweep.specs.declared.finding.Onward.TheVariants.{Leads};
 ghost use Rattle.sweep.specs.Finding.{IsPathWithinReach, manager_questions, onward_questions, port_found_questions, port_questions, vertex_questions};
 ghost use Rattle.sweep.specs.Taking.{CanTake, HasTaken};
 ghost use Rattle.sweep.specs.Replies.{belongs};
-ghost use Rattle.sweep.specs.Requests.{Requests, HasAsked};
+ghost use Rattle.sweep.specs.SweepRequests.{SweepRequests, HasAsked};
 ghost use Rattle.sweep.specs.Sweep.{is_none_left, request_with, without_number};
 
 use crate::finding::{Finding, Onward, PortFinding};
-use crate::reached::Reached;
 use crate::request::{Question, Request, sequence_of, transaction_of};
+use crate::vertex::Vertex;
 use fact_store::Context;
 use request_table::RequestTable;
 use smp_bytes::{Generation, Guid, Path, PortNum, Smp};
@@ -20,37 +20,37 @@ use std::marker::Model;
 
 /// A reply brings up no more requests than this: a switch has 254 ports, its management port and a
 /// table.
-pub(crate) const MOST: usize = 256;
+pub(crate) const REQUESTS_PER_REPLY: usize = 256;
 
 /// The requests of a sweep. Contracts see those that wait for a reply, those to be sent, the number
 /// of the next one, and for how many more there is memory.
 #[derive(Drop)]
-pub(crate) struct Requests {
+pub(crate) struct SweepRequests {
     /// Those that wait, and then those to be sent.
     table: RequestTable<Request>,
     /// How many wait.
     sent: usize,
 }
 
-impl Model for Requests {
+impl Model for SweepRequests {
     ghost use Rattle.std.specs.Prelude.{◌≤◌, take, drop, length};
-    ghost use Rattle.sweep.specs.Requests.{Requests};
+    ghost use Rattle.sweep.specs.SweepRequests.{SweepRequests};
 
-    ghost Value = { Requests };
+    ghost Value = { SweepRequests };
 
     ghost view = { λ a. record { next = a.table.next; outstanding = take a.sent a.table.requests; queued = drop a.sent a.table.requests; room = a.table.room } };
 
     ghost invariant = { λ a. a.sent ≤ length a.table.requests };
 }
 
-impl Requests {
+impl SweepRequests {
     /// None yet. Takes no memory.
     pub(crate) fn new(alloc: Global, first: u32) -> Self
         ensures next { result.next ≡ first }
         ensures outstanding { result.outstanding ≡ [] }
         ensures queued { result.queued ≡ [] }
     {
-        Requests {
+        SweepRequests {
             table: RequestTable::new(alloc, first),
             sent: 0,
         }
@@ -75,9 +75,9 @@ impl Requests {
         ensures next { self.new.next ≡ self.old.next }
         ensures outstanding { self.new.outstanding ≡ self.old.outstanding }
         ensures queued { self.new.queued ≡ self.old.queued }
-        ensures room { OnOk result (MOST ≤ self.new.room) }
+        ensures room { OnOk result (REQUESTS_PER_REPLY ≤ self.new.room) }
     {
-        self.table.reserve(MOST)
+        self.table.reserve(REQUESTS_PER_REPLY)
     }
 
     /// The next one to be sent.
@@ -99,20 +99,20 @@ impl Requests {
         self.sent += 1;
     }
 
-    /// One that waits, by its place in the order of their numbers.
-    pub(crate) fn get(&self, place: usize) -> Option<&Request>
-        ensures { option_copied result ≡ slice_get self.now.outstanding place }
+    /// One that waits, by its index in the order of their numbers.
+    pub(crate) fn get(&self, index: usize) -> Option<&Request>
+        ensures { option_copied result ≡ slice_get self.now.outstanding index }
     {
-        if place < self.sent {
-            self.table.get(place)
+        if index < self.sent {
+            self.table.get(index)
         } else {
             None
         }
     }
 
-    /// How many have a lower TransactionID. Halves the places at each step.
+    /// How many have a lower TransactionID. Halves the indices at each step.
     fn count_below(&self, generation: Generation, transaction: u64) -> usize
-        ensures place { IsPlace (λ r. nat_lt r.number (transaction - generation * 2 ^ 32))
+        ensures index { IsIndex (λ r. nat_lt r.number (transaction - generation * 2 ^ 32))
             (self.now.outstanding ++ self.now.queued) result }
         ensures numbered { AreNumbered (λ r. r.number)
             (self.now.outstanding ++ self.now.queued) self.now.next }
@@ -120,38 +120,38 @@ impl Requests {
         self.table.count_below(sequence_of(generation, transaction))
     }
 
-    /// The place of the one that waits under a TransactionID. Takes a search.
-    pub(crate) fn place_of(&self, generation: Generation, transaction: u64) -> Option<usize>
-        ensures { IsPlaceFor (request_with generation transaction self.now.outstanding)
+    /// The index of the one that waits under a TransactionID. Takes a search.
+    pub(crate) fn index_of(&self, generation: Generation, transaction: u64) -> Option<usize>
+        ensures { IsIndexFor (request_with generation transaction self.now.outstanding)
             self.now.outstanding result }
     {
-        let place = self.count_below(generation, transaction);
-        let request = self.get(place)?;
+        let index = self.count_below(generation, transaction);
+        let request = self.get(index)?;
         if transaction_of(generation, request.number) == transaction {
-            Some(place)
+            Some(index)
         } else {
             None
         }
     }
 
-    /// The place of the one that waits for a packet. Takes a search.
-    pub(crate) fn place_for(&self, generation: Generation, smp: &Smp) -> Option<usize>
-        ensures { IsPlaceFor (find (belongs generation smp.now) self.now.outstanding)
+    /// The index of the one that waits for a packet. Takes a search.
+    pub(crate) fn index_for(&self, generation: Generation, smp: &Smp) -> Option<usize>
+        ensures { IsIndexFor (find (belongs generation smp.now) self.now.outstanding)
             self.now.outstanding result }
     {
-        let place = self.count_below(generation, smp.transaction_id());
-        let request = self.get(place)?;
+        let index = self.count_below(generation, smp.transaction_id());
+        let request = self.get(index)?;
         if request.is_answered_by(generation, smp) {
-            Some(place)
+            Some(index)
         } else {
             None
         }
     }
 
     /// One that waits has ended. Moves the requests on one side of it.
-    pub(crate) fn end(&mut self, place: usize) -> Request
-        requires { place < length self.old.outstanding }
-        ensures request { Some result ≡ slice_get self.old.outstanding place }
+    pub(crate) fn end(&mut self, index: usize) -> Request
+        requires { index < length self.old.outstanding }
+        ensures request { Some result ≡ slice_get self.old.outstanding index }
         ensures next { self.new.next ≡ self.old.next }
         ensures outstanding { self.new.outstanding
             ≡ without_number result.number self.old.outstanding }
@@ -159,7 +159,7 @@ impl Requests {
         ensures room { self.old.room ≤ self.new.room }
     {
         self.sent -= 1;
-        self.table.end(place)
+        self.table.end(index)
     }
 
     /// One more at the end of the queue. Takes no memory.
@@ -179,7 +179,7 @@ impl Requests {
     }
 
     /// PortInfo of all ports of a switch, from its management port on.
-    fn ask_ports(&mut self, vertex: &Reached)
+    fn ask_ports(&mut self, vertex: &Vertex)
         requires room { vertex.now.ports + 1 ≤ self.old.room }
         requires number { self.old.next + (vertex.now.ports + 1) ≤ 2 ^ 32 }
         requires ports { vertex.now.ports < 255 }
@@ -198,10 +198,10 @@ impl Requests {
     }
 
     /// What a new vertex is asked.
-    fn ask_vertex(&mut self, vertex: &Reached)
+    fn ask_vertex(&mut self, vertex: &Vertex)
         requires room { length (vertex_questions vertex.now) ≤ self.old.room }
         requires number { self.old.next + length (vertex_questions vertex.now) ≤ 2 ^ 32 }
-        requires few { length (vertex_questions vertex.now) ≤ MOST }
+        requires few { length (vertex_questions vertex.now) ≤ REQUESTS_PER_REPLY }
         ensures { HasAsked (vertex_questions vertex.now) self.old self.new }
     {
         let context = Context::About(vertex.guid);
@@ -254,14 +254,14 @@ impl Requests {
         }
     }
 
-    /// The request of a place has ended, and what its reply brings up is asked. Takes no memory.
-    pub(crate) fn take(&mut self, place: usize, finding: &Finding)
-        requires { CanTake self.old place finding.now }
-        ensures { HasTaken place finding.now self.old self.new }
+    /// The request of an index has ended, and what its reply brings up is asked. Takes no memory.
+    pub(crate) fn take(&mut self, index: usize, finding: &Finding)
+        requires { CanTake self.old index finding.now }
+        ensures { HasTaken index finding.now self.old self.new }
     {
-        let Request { path, .. } = self.end(place);
+        let Request { path, .. } = self.end(index);
         match finding {
-            Finding::Vertex(vertex) => self.ask_vertex(vertex),
+            Finding::NewVertex(vertex) => self.ask_vertex(vertex),
             Finding::Port(found) => self.ask_of_port(path, found),
             Finding::Nothing => {}
         }

@@ -1,12 +1,12 @@
 ghost use Rattle.std.specs.Prelude.{◌≡◌, IfOk, OnOk, OnErr, option_copied};
 ghost use Rattle.smp_bytes.specs.Judges.{Judges};
-ghost use Rattle.sweep.specs.Sweep.{is_done, outstanding_at, path_to, seen_state, sent, started, timed_out, timeout_fault};
+ghost use Rattle.sweep.specs.Sweep.{is_done, outstanding_at, path_to, seen_state, after_next_request, started, after_timeout, timeout_fault};
 
+use crate::discovered::Discovered;
 use crate::fault::SweepFault;
-use crate::found::Found;
-use crate::reached::Reached;
 use crate::request::{Question, transaction_of};
-use crate::requests::Requests;
+use crate::requests::SweepRequests;
+use crate::vertex::Vertex;
 use attr_codec::PortState;
 use fact_store::Context;
 use smp_bytes::{Generation, Guid, Path, PortNum, Smp};
@@ -20,8 +20,8 @@ pub struct Sweep {
     /// The port of its own node that it goes out by.
     pub(crate) origin: PortNum,
     pub(crate) generation: Generation,
-    pub(crate) requests: Requests,
-    pub(crate) found: Found,
+    pub(crate) requests: SweepRequests,
+    pub(crate) found: Discovered,
     pub(crate) unanswered: u64,
 }
 
@@ -46,14 +46,14 @@ impl Sweep {
     ) -> Result<Sweep, AllocError>
         ensures { IfOk result (λ sweep. sweep ≡ started origin generation first_sequence) }
     {
-        let mut requests = Requests::new(alloc, first_sequence);
+        let mut requests = SweepRequests::new(alloc, first_sequence);
         requests.reserve()?;
         requests.ask(Question::Node, Path::new(), Context::Start);
         Ok(Sweep {
             origin,
             generation,
             requests,
-            found: Found::new(alloc),
+            found: Discovered::new(alloc),
             unanswered: 0,
         })
     }
@@ -61,8 +61,8 @@ impl Sweep {
     /// The next request as a packet, first in, first out; from now on it waits for its reply. Takes
     /// one step.
     pub fn next_request(&mut self) -> Option<Smp>
-        ensures packet { result ≡ (sent self.old).packet }
-        ensures sweep { self.new ≡ (sent self.old).sweep }
+        ensures packet { result ≡ (after_next_request self.old).packet }
+        ensures sweep { self.new ≡ (after_next_request self.old).sweep }
     {
         let request = self.requests.first()?;
         let packet = request.packet(self.generation);
@@ -74,13 +74,13 @@ impl Sweep {
     /// moves the requests on one side of it.
     pub fn on_timeout(&mut self, transaction: u64) -> Result<(), SweepFault>
         ensures judged { Judges result (timeout_fault self.old transaction) }
-        ensures ok { OnOk result (self.new ≡ timed_out self.old transaction) }
+        ensures ok { OnOk result (self.new ≡ after_timeout self.old transaction) }
         ensures err { OnErr result (self.new ≡ self.old) }
     {
-        let Some(place) = self.requests.place_of(self.generation, transaction) else {
+        let Some(index) = self.requests.index_of(self.generation, transaction) else {
             return Err(SweepFault::NotOutstanding);
         };
-        self.requests.end(place);
+        self.requests.end(index);
         self.unanswered += 1;
         Ok(())
     }
@@ -99,7 +99,7 @@ impl Sweep {
         self.generation
     }
 
-    /// The TransactionID of the request at place `i` of those that wait for a reply, by rising
+    /// The TransactionID of the request at index `i` of those that wait for a reply, by rising
     /// TransactionIDs from 0 on.
     pub fn outstanding(&self, i: usize) -> Option<u64>
         ensures { result ≡ outstanding_at self.now i }
@@ -124,7 +124,7 @@ impl Sweep {
 
     /// The vertices that were reached, by rising GUIDs and ports: a switch under port 0, an adapter
     /// under each port that was reached.
-    pub fn reached(&self) -> &[Reached]
+    pub fn reached(&self) -> &[Vertex]
         ensures { result.now ≡ self.now.reached }
     {
         self.found.vertices()

@@ -6,19 +6,19 @@ use Rattle.std.proofs.lemmas.List.Elements.{All-head, All-tail}
 use Rattle.std.specs.Prelude.{Option, Some, None, Result, Ok, Err, All, slice_get, ◌==◌}
 use Rattle.std.specs.List.{AllByRecursion}
 use Rattle.smp_bytes.specs.declared.node_type.NodeType.{NodeType}
-use Rattle.smp_bytes.specs.declared.cable.NodePort.{NodePort}
-use Rattle.smp_bytes.specs.Cables.{is_same_port}
-use Rattle.smp_bytes.specs.Fabric.{Fabric, IsNodeAt}
+use Rattle.fabric_model.specs.declared.cable.NodePort.{NodePort}
+use Rattle.fabric_model.specs.Cables.{is_same_port}
+use Rattle.fabric_model.specs.Fabric.{Fabric, IsNodeAt}
 use Rattle.smp_bytes.specs.Field.{number_in, bytes_in}
 use Rattle.smp_bytes.specs.Header.{get, node_info, port_info, switch_info}
 use Rattle.smp_bytes.specs.Packet.{attribute_id, attribute_modifier, attribute_data}
-use Rattle.smp_bytes.specs.DirectedWalk.{directed_end}
-use Rattle.smp_bytes.proofs.Cabled.{same_port-is}
+use Rattle.fabric_model.specs.DirectedWalk.{directed_end}
+use Rattle.fabric_model.proofs.Cabled.{same_port-is}
 use Rattle.attr_codec.specs.declared.node_info.NodeInfo.{NodeInfo}
 use Rattle.attr_codec.specs.PortInfo.{base_lid}
 use Rattle.fact_store.specs.declared.report.Context.{Context}
 use Rattle.fact_store.specs.declared.report.Context.TheVariants.{Start, Via, About}
-use Rattle.fact_store.specs.Report.{told_of_link, told_of_kind, told_by_node_info, told_by_port_info, told_by_switch_info, node_info_of}
+use Rattle.fact_store.specs.Report.{sightings_of_link, sightings_of_kind, sightings_by_node_info, sightings_by_port_info, sightings_by_switch_info, node_info_of}
 use Rattle.attr_codec.specs.NodeTypeNumber.{type_of_number}
 use Rattle.fabric_sim.specs.Simulation.{Simulation, AreCables, port_count, fabric_of}
 use Rattle.fabric_sim.specs.Tells.{port_asked}
@@ -32,19 +32,19 @@ use Rattle.sweep.specs.declared.fault.SweepFault.{SweepFault}
 use Rattle.sweep.specs.declared.request.Question.{Question}
 use Rattle.sweep.specs.declared.request.Question.TheVariants as ask
 use Rattle.sweep.specs.declared.request.Request.{Request}
-use Rattle.sweep.specs.Sweep.{Sweep, attribute_asked, modifier_asked, transaction_of, packet_of, sent, sent_of}
-use Rattle.sweep.specs.Replies.{answer_by, judged, told_by}
-use Rattle.sm_laws.specs.Scene.{Handed}
-use Rattle.sm_laws.specs.Sweeping.{Sweeping, SweepEvent, Around, Ask, Send, Hear, TimeOut, CanBe, asking_more, sending, with_answer, hearing, after_sweep_event, after_sweep_events}
-use Rattle.sm_laws.proofs.Accepted.{IsFor, path_is}
-use Rattle.sm_laws.proofs.Answers.{was_there}
-use Rattle.sm_laws.proofs.Sound.{CanBeSwept, Asks, AreSound, IsSoundSweep}
-use Rattle.sm_laws.proofs.Swept as swept
-use Rattle.sm_laws.proofs.Swept.{Goes, goes_on}
-use Rattle.sm_laws.proofs.TracedScenes as traced
-use Rattle.sm_laws.proofs.TrueFacts.{IsCabled}
-use Rattle.sweep_complete.proofs.Lists.{all_append}
-use Rattle.sweep_complete.proofs.Sweeps.{told_in, told_more}
+use Rattle.sweep.specs.Sweep.{Sweep, attribute_asked, modifier_asked, transaction_of, packet_of, after_next_request, after_next_request_of}
+use Rattle.sweep.specs.Replies.{answer_by, judged, sightings_by}
+use Rattle.manager_laws.specs.Scene.{Handed}
+use Rattle.manager_laws.specs.Sweeping.{Sweeping, SweepEvent, Around, Ask, Send, Hear, TimeOut, CanBe, asking_more, sending, with_answer, hearing, after_sweep_event, after_sweep_events}
+use Rattle.manager_laws.proofs.Accepted.{IsFor, path_is}
+use Rattle.manager_laws.proofs.Answers.{was_there}
+use Rattle.manager_laws.proofs.Sound.{CanBeSwept, Asks, AreSound, IsSoundSweep}
+use Rattle.manager_laws.proofs.Swept as swept
+use Rattle.manager_laws.proofs.Swept.{Goes, goes_on}
+use Rattle.manager_laws.proofs.TracedScenes as traced
+use Rattle.manager_laws.proofs.TrueFacts.{IsCabled}
+use Rattle.manager_laws.proofs.Lists.{all_append}
+use Rattle.manager_laws.proofs.Sweeps.{told_in, told_more}
 use Rattle.takeover_laws.specs.Claims.{LidsStay, IsTrueClaim}
 use Rattle.takeover_laws.proofs.LidScenes.{LidSo, SameLids, LidsKnown, sends_known, event_known}
 use Rattle.takeover_laws.proofs.Returned.{same_attribute, same_modifier, same_data, same_status, comes_from, is_answer}
@@ -52,21 +52,21 @@ use Rattle.takeover_laws.proofs.Returned.{same_attribute, same_modifier, same_da
 -- other facts say nothing of LIDs ------------------------------------------------------------------
 
 module _ (f : Fabric) (generation : ℕ) where
-  no_claim_of_link : (context : Context) (info : NodeInfo) → AllByRecursion (IsTrueClaim f) (told_of_link generation context info)
+  no_claim_of_link : (context : Context) (info : NodeInfo) → AllByRecursion (IsTrueClaim f) (sightings_of_link generation context info)
   no_claim_of_link Start info = tt
   no_claim_of_link (Via guid port) info = (tt, (tt, tt))
   no_claim_of_link (About guid) info = tt
 
-  no_claim_of_kind : (context : Context) (info : NodeInfo) (m : Option NodeType) → AllByRecursion (IsTrueClaim f) (told_of_kind generation context info m)
+  no_claim_of_kind : (context : Context) (info : NodeInfo) (m : Option NodeType) → AllByRecursion (IsTrueClaim f) (sightings_of_kind generation context info m)
   no_claim_of_kind context info None = tt
   no_claim_of_kind context info (Some kind) = (tt, (tt, no_claim_of_link context info))
 
-  no_claim_of_switch : (context : Context) (packet : List ℕ) → AllByRecursion (IsTrueClaim f) (told_by_switch_info generation context packet)
+  no_claim_of_switch : (context : Context) (packet : List ℕ) → AllByRecursion (IsTrueClaim f) (sightings_by_switch_info generation context packet)
   no_claim_of_switch Start packet = tt
   no_claim_of_switch (Via guid port) packet = tt
   no_claim_of_switch (About guid) packet = (tt, tt)
 
-module _ {start : Simulation} {seat : NodePort} (cables : AreCables start) (counts : (place : ℕ) → port_count start place ≤ 254)
+module _ {start : Simulation} {seat : NodePort} (cables : AreCables start) (counts : (id : ℕ) → port_count start id ≤ 254)
     (can : CanBeSwept (fabric_of start) seat) (cabled : IsCabled (fabric_of start)) (within : IsPortOf start seat) where
   F : Fabric
   F = fabric_of start
@@ -82,16 +82,16 @@ module _ {start : Simulation} {seat : NodePort} (cables : AreCables start) (coun
         (swept.accepted_as cables counts can cabled s sound bytes is answer taken).good.directed
         (swept.accepted_as cables counts can cabled s sound bytes is answer taken).good.returning).is.end
         → (q : Question) → request.question ≡ q → (context : Context) → Asks (fabric_of start) seat request.path q context
-        → AllByRecursion (IsTrueClaim (fabric_of start)) (told_by (answer_by q (record { generation = s.generation; context = context; bytes = bytes })))
+        → AllByRecursion (IsTrueClaim (fabric_of start)) (sightings_by (answer_by q (record { generation = s.generation; context = context; bytes = bytes })))
     by_question request for leads ask.Node e context asks =
         let attribute : number_in attribute_id bytes ≡ node_info = for.attribute ∙ ap attribute_asked e in
-        subst (AllByRecursion (IsTrueClaim (fabric_of start))) (sym (ap (λ n. cond (n == node_info) (told_by_node_info s.generation context bytes)
-        (cond (n == port_info) (told_by_port_info s.generation context bytes) (told_by_switch_info s.generation context bytes))) attribute))
+        subst (AllByRecursion (IsTrueClaim (fabric_of start))) (sym (ap (λ n. cond (n == node_info) (sightings_by_node_info s.generation context bytes)
+        (cond (n == port_info) (sightings_by_port_info s.generation context bytes) (sightings_by_switch_info s.generation context bytes))) attribute))
         (no_claim_of_kind (fabric_of start) s.generation context (node_info_of bytes) (type_of_number (node_info_of bytes).node_type))
     by_question request for leads ask.Switch e context asks =
         let attribute : number_in attribute_id bytes ≡ switch_info = for.attribute ∙ ap attribute_asked e in
-        subst (AllByRecursion (IsTrueClaim (fabric_of start))) (sym (ap (λ n. cond (n == node_info) (told_by_node_info s.generation context bytes)
-        (cond (n == port_info) (told_by_port_info s.generation context bytes) (told_by_switch_info s.generation context bytes))) attribute))
+        subst (AllByRecursion (IsTrueClaim (fabric_of start))) (sym (ap (λ n. cond (n == node_info) (sightings_by_node_info s.generation context bytes)
+        (cond (n == port_info) (sightings_by_port_info s.generation context bytes) (sightings_by_switch_info s.generation context bytes))) attribute))
         (no_claim_of_switch (fabric_of start) s.generation context bytes)
     by_question request for leads (ask.Manager guid port) e context asks = tt
     by_question request for leads (ask.Port port) e Start asks = absurd asks
@@ -112,11 +112,11 @@ module _ {start : Simulation} {seat : NodePort} (cables : AreCables start) (coun
         let lid : f.base_lid (record { node = asks.to.end.node; port = number_in attribute_modifier bytes }) ≡ number_in base_lid (bytes_in attribute_data bytes) =
         (λ j. f.base_lid (record { node = (ap (λ (p : NodePort). p.node) ends) j; port = sym means j })) ∙ sym said
         ∙ sym (ap (number_in base_lid) (same_data AnySends (LidSo start) start seat bytes back)) in
-        subst (AllByRecursion (IsTrueClaim (fabric_of start))) (sym (ap (λ n. cond (n == node_info) (told_by_node_info s.generation (About guid) bytes)
-        (cond (n == port_info) (told_by_port_info s.generation (About guid) bytes) (told_by_switch_info s.generation (About guid) bytes))) attribute))
+        subst (AllByRecursion (IsTrueClaim (fabric_of start))) (sym (ap (λ n. cond (n == node_info) (sightings_by_node_info s.generation (About guid) bytes)
+        (cond (n == port_info) (sightings_by_port_info s.generation (About guid) bytes) (sightings_by_switch_info s.generation (About guid) bytes))) attribute))
         (tt, ((asks.to.end.node, asks.to.node, asks.to.has, lid), tt))
 
-    pub reply_claims : AllByRecursion (IsTrueClaim (fabric_of start)) (told_by answer)
+    pub reply_claims : AllByRecursion (IsTrueClaim (fabric_of start)) (sightings_by answer)
     reply_claims =
         let a = swept.accepted_as cables counts can cabled s sound bytes is answer taken in
         let found = swept.found cables counts can cabled s sound bytes is answer taken in
@@ -124,7 +124,7 @@ module _ {start : Simulation} {seat : NodePort} (cables : AreCables start) (coun
         let back = is_answer AnySends (LidSo start) start seat bytes lids a.good.directed a.good.returning in
         let leads = ap (directed_end (fabric_of start) seat) (sym (path_is bytes a.request for is.whole.count found.sound.sound.short))
         ∙ comes_from AnySends (LidSo start) start seat bytes back in
-        subst (λ x. AllByRecursion (IsTrueClaim (fabric_of start)) (told_by x)) (sym a.answer_is)
+        subst (λ x. AllByRecursion (IsTrueClaim (fabric_of start)) (sightings_by x)) (sym a.answer_is)
         (by_question a.request for leads a.request.question refl a.request.context found.sound.sound.asks)
 
   -- a run -----------------------------------------------------------------------------------------
@@ -141,10 +141,10 @@ module _ {start : Simulation} {seat : NodePort} (cables : AreCables start) (coun
       (transaction_of generation request.number) request.path (replicate 64 0) (swept.fits cables counts can cabled generation request few sound.0)
       (omega arith) sound.0.sound.short sound.0.sound.own within tt
 
-  asking_known : (w : Sweeping) → Goes cables counts can cabled w → ClaimsKnown w → ClaimsKnown (asking_more w (sent w.sweep))
+  asking_known : (w : Sweeping) → Goes cables counts can cabled w → ClaimsKnown w → ClaimsKnown (asking_more w (after_next_request w.sweep))
   asking_known w g k = by_queue w.sweep.queued refl
     where
-      by_queue : (queue : List Request) → w.sweep.queued ≡ queue → ClaimsKnown (asking_more w (sent_of w.sweep queue))
+      by_queue : (queue : List Request) → w.sweep.queued ≡ queue → ClaimsKnown (asking_more w (after_next_request_of w.sweep queue))
       by_queue [] e = record { scene = k.scene; asked = k.asked; claims = k.claims }
       by_queue (request ∷ queue) e =
           let all : AreSound (fabric_of start) seat (request ∷ queue) = subst (AreSound (fabric_of start) seat) e g.sound.queued in
@@ -191,7 +191,7 @@ module _ {start : Simulation} {seat : NodePort} (cables : AreCables start) (coun
             scene = k.scene;
             asked = k.asked;
             claims = subst (AllByRecursion (IsTrueClaim (fabric_of start))) (sym (told_more w.reports answer))
-                (all_append (IsTrueClaim (fabric_of start)) (told_in w.reports) (told_by answer) k.claims
+                (all_append (IsTrueClaim (fabric_of start)) (told_in w.reports) (sightings_by answer) k.claims
                 (reply_claims w.sweep g.sound h.packet.bytes is lid answer e));
           }
       judged_known is lid (Err why) e = k

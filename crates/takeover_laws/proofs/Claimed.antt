@@ -5,12 +5,12 @@ use Rattle.std.proofs.lemmas.Option.{same_Some}
 use Rattle.std.proofs.lemmas.List.Elements.{All-nil, All-cons, All-head, All-tail, recursion_from_All}
 use Rattle.std.specs.Prelude.{Option, Some, None, All, Contains, MatchBool, MatchOption, ◌==◌}
 use Rattle.std.specs.List.{AllByRecursion}
-use Rattle.smp_bytes.specs.declared.cable.NodePort.{NodePort}
+use Rattle.fabric_model.specs.declared.cable.NodePort.{NodePort}
 use Rattle.smp_bytes.specs.declared.node_type.NodeType.{NodeType}
 use Rattle.smp_bytes.specs.NodeType.{is_switch}
-use Rattle.smp_bytes.specs.Fabric as fabric
-use Rattle.smp_bytes.specs.Fabric.{Fabric, IsFabric, IsNodeAt, IsEndPortNumber}
-use Rattle.smp_bytes.specs.FabricWalks.{vertex_of, IsJoinedTo, Walk}
+use Rattle.fabric_model.specs.Fabric as fabric
+use Rattle.fabric_model.specs.Fabric.{Fabric, IsFabric, IsNodeAt, IsEndPortNumber}
+use Rattle.fabric_model.specs.FabricWalks.{vertex_of, IsJoinedTo, Walk}
 use Rattle.smp_bytes.specs.Field.{number_in}
 use Rattle.smp_bytes.specs.Header.{node_info, port_info}
 use Rattle.smp_bytes.specs.Packet.{attribute_id}
@@ -27,7 +27,7 @@ use Rattle.fact_store.specs.declared.report.Context.{Context}
 use Rattle.fact_store.specs.declared.report.Context.TheVariants.{Start, Via, About}
 use Rattle.fact_store.specs.declared.report.Report.{Report}
 use Rattle.fact_store.specs.Known.{value_in, lid_in}
-use Rattle.fact_store.specs.Report.{Told, told_of_link, told_of_kind, told_by_port_info, told_by_switch_info, node_info_of, sightings_of}
+use Rattle.fact_store.specs.Report.{Sightings, sightings_of_link, sightings_of_kind, sightings_by_port_info, sightings_by_switch_info, node_info_of, sightings_of}
 use Rattle.fact_store.specs.Seen.{IsCellIn, WasSighted}
 use Rattle.fact_store.specs.View.{view, cells_of, cell_for}
 use Rattle.fact_store.proofs.Views.{view_cells}
@@ -37,25 +37,25 @@ use Rattle.subnet_view.specs.Reading.{claim_of}
 use Rattle.subnet_view.specs.Agreement.{IsEndPortIn}
 use Rattle.subnet_view.proofs.Readers.{known_by_cells}
 use Rattle.sweep.specs.Sweep.{Sweep, Asking, started}
-use Rattle.sm_laws.specs.Sweeping.{Sweeping, SweepEvent, CanBe, Begins, after_sweep_events}
-use Rattle.sm_laws.specs.Truth.{HasNode, IsTrueOf, IsTrueSighting, AreGuidsDistinct}
-use Rattle.sm_laws.proofs.Answers.{begun, seat_in_port}
-use Rattle.sm_laws.proofs.Sound.{CanBeSwept}
-use Rattle.sm_laws.proofs.Swept.{accepted_facts_are_true, few_ports_there, can_sweep, cabled_there, goes_first}
-use Rattle.sweep_complete.specs.Complete.{IsWhole, facts_of}
-use Rattle.sweep_complete.proofs.Asked.{IsPending}
-use Rattle.sweep_complete.proofs.Closed.{was_reached, answered_port, crossed, none_pending}
-use Rattle.sweep_complete.proofs.Covered.{having, guid_at, IsReached, IsOrigin, Crossed, Covered}
-use Rattle.sweep_complete.proofs.Done.{done_sweeps_are_complete, seat_end}
-use Rattle.sweep_complete.proofs.Known.{HasKey, same_node}
-use Rattle.sweep_complete.proofs.Lists.{Has, has_as, has_left, has_right, has_either, contained_has, all_contained, all_append, all_first, all_last}
-use Rattle.sweep_complete.proofs.Sweeps.{told_in, all_covered}
+use Rattle.manager_laws.specs.Sweeping.{Sweeping, SweepEvent, CanBe, Begins, after_sweep_events}
+use Rattle.manager_laws.specs.Truth.{HasNode, IsTrueOf, IsTrueSighting, AreGuidsDistinct}
+use Rattle.manager_laws.proofs.Answers.{begun, seat_in_port}
+use Rattle.manager_laws.proofs.Sound.{CanBeSwept}
+use Rattle.manager_laws.proofs.Swept.{accepted_facts_are_true, few_ports_there, can_sweep, cabled_there, goes_first}
+use Rattle.manager_laws.specs.Complete.{IsWhole, facts_of}
+use Rattle.manager_laws.proofs.Asked.{IsPending}
+use Rattle.manager_laws.proofs.Closed.{was_reached, answered_port, crossed, none_pending}
+use Rattle.manager_laws.proofs.Covered.{having, guid_at, IsReached, IsOrigin, Crossed, Covered}
+use Rattle.manager_laws.proofs.Done.{done_sweeps_are_complete, seat_end}
+use Rattle.manager_laws.proofs.Known.{HasKey, same_node}
+use Rattle.manager_laws.proofs.Lists.{Has, has_as, has_left, has_right, has_either, contained_has, all_contained, all_append, all_first, all_last}
+use Rattle.manager_laws.proofs.Sweeps.{told_in, all_covered}
 use Rattle.takeover_laws.specs.Alike.{ClaimsAreTrue}
 use Rattle.takeover_laws.specs.Claims.{LidsStay, IsTrueClaim, IsTrueClaimOf, AcceptedClaimsAreTrue, SweptClaimsAreTrue, TakeoversChangeNothing}
 use Rattle.fabric_sim.proofs.Courses.{AnySends}
 use Rattle.fabric_sim.proofs.Traced.{IsOnCourse}
 use Rattle.fabric_sim.proofs.TracedCalls.{AreTraced}
-use Rattle.sm_laws.proofs.TracedScenes.{WereTraced}
+use Rattle.manager_laws.proofs.TracedScenes.{WereTraced}
 use Rattle.takeover_laws.proofs.LidScenes.{LidSo}
 use Rattle.takeover_laws.proofs.ClaimRuns.{all_known}
 use Rattle.takeover_laws.proofs.Seeing.{held_plan}
@@ -72,23 +72,23 @@ beside (Claim g p) = Claim g p
 beside (Cap g) = Cap g
 
 module _ (g p : ℕ) where
-  abbrev Tells : Told → Type 0
+  abbrev Tells : Sightings → Type 0
   Tells told = HasKey told (Port g p) → HasKey told (Claim g p)
 
-  link_tells : (generation : ℕ) (context : Context) (info : NodeInfo) → HasKey (told_of_link generation context info) (Port g p) → ⊥
+  link_tells : (generation : ℕ) (context : Context) (info : NodeInfo) → HasKey (sightings_of_link generation context info) (Port g p) → ⊥
   link_tells generation Start info h = h
   link_tells generation (Via guid port) info (inl e) = absurd (cc)
   link_tells generation (Via guid port) info (inr (inl e)) = absurd (cc)
   link_tells generation (Via guid port) info (inr (inr h)) = h
   link_tells generation (About guid) info h = h
 
-  kind_tells : (generation : ℕ) (context : Context) (info : NodeInfo) (m : Option NodeType) → Tells (told_of_kind generation context info m)
+  kind_tells : (generation : ℕ) (context : Context) (info : NodeInfo) (m : Option NodeType) → Tells (sightings_of_kind generation context info m)
   kind_tells generation context info None h = absurd h
   kind_tells generation context info (Some kind) (inl e) = absurd (cc)
   kind_tells generation context info (Some kind) (inr (inl e)) = absurd (cc)
   kind_tells generation context info (Some kind) (inr (inr h)) = absurd (link_tells generation context info h)
 
-  port_tells : (generation : ℕ) (context : Context) (packet : List ℕ) → Tells (told_by_port_info generation context packet)
+  port_tells : (generation : ℕ) (context : Context) (packet : List ℕ) → Tells (sightings_by_port_info generation context packet)
   unfolding beside
   port_tells generation Start packet h = absurd h
   port_tells generation (Via guid port) packet h = absurd h
@@ -96,7 +96,7 @@ module _ (g p : ℕ) where
   port_tells generation (About guid) packet (inr (inl e)) = absurd (cc)
   port_tells generation (About guid) packet (inr (inr h)) = absurd h
 
-  switch_tells : (generation : ℕ) (context : Context) (packet : List ℕ) → Tells (told_by_switch_info generation context packet)
+  switch_tells : (generation : ℕ) (context : Context) (packet : List ℕ) → Tells (sightings_by_switch_info generation context packet)
   switch_tells generation Start packet h = absurd h
   switch_tells generation (Via guid port) packet h = absurd h
   switch_tells generation (About guid) packet (inl e) = absurd (cc)
@@ -119,12 +119,12 @@ module _ (g p : ℕ) where
 
 -- what is known of a LID ---------------------------------------------------------------------------
 
-module _ (f : Fabric) (distinct : AreGuidsDistinct f) (told : Told) (all : AllByRecursion (IsTrueSighting f) told) (claims : AllByRecursion (IsTrueClaim f) told)
-    (g p place : ℕ) (node : fabric.Node) (has : HasNode f g place node) where
+module _ (f : Fabric) (distinct : AreGuidsDistinct f) (told : Sightings) (all : AllByRecursion (IsTrueSighting f) told) (claims : AllByRecursion (IsTrueClaim f) told)
+    (g p id : ℕ) (node : fabric.Node) (has : HasNode f g id node) where
   abbrev lid : ℕ
-  lid = f.base_lid (record { node = place; port = p })
+  lid = f.base_lid (record { node = id; port = p })
 
-  only : (v : Value) → IsTrueOf f (Claim g p) v → IsTrueClaimOf f (Claim g p) v → v ≡ Lid (f.base_lid (record { node = place; port = p }))
+  only : (v : Value) → IsTrueOf f (Claim g p) v → IsTrueClaimOf f (Claim g p) v → v ≡ Lid (f.base_lid (record { node = id; port = p }))
   only (Lid n) t (at, other, is, same) = let there = same_node f distinct is has in ap Lid (sym same ∙ ap (λ k. f.base_lid (record { node = k; port = p })) there.0)
   only (Kind kind ports) t c = absurd t
   only (Guid guid) t c = absurd t
@@ -133,11 +133,11 @@ module _ (f : Fabric) (distinct : AreGuidsDistinct f) (told : Told) (all : AllBy
   only (Count n) t c = absurd t
 
   says : (n : ℕ) (c : Cell Value) → IsTrueSighting f (Claim g p, c) → IsTrueClaim f (Claim g p, c) → generation_of c ≡ n
-      → c ≡ Known n (Lid (f.base_lid (record { node = place; port = p })))
+      → c ≡ Known n (Lid (f.base_lid (record { node = id; port = p })))
   says n (Known k v) t c e = let value = only v t c in λ j. Known (e j) (value j)
   says n (Disputed k) t c e = absurd t
 
-  pub claim_known : HasKey told (Claim g p) → claim_of (cells_of (view told)) g p ≡ Some (f.base_lid (record { node = place; port = p }))
+  pub claim_known : HasKey told (Claim g p) → claim_of (cells_of (view told)) g p ≡ Some (f.base_lid (record { node = id; port = p }))
   claim_known h =
       ap lid_in (sym (known_by_cells (view told) (Claim g p)) ∙ by_cell (cell_for (view told) (Claim g p)) ((view_cells told).cells (Claim g p)))
     where
@@ -146,12 +146,12 @@ module _ (f : Fabric) (distinct : AreGuidsDistinct f) (told : Told) (all : AllBy
           let (s, there, is) = contained_has (λ s. s.0 ≡ Claim g p) told h in
           (s.1, subst (λ k. Contains told (k, s.1)) is there)
 
-      so : (n : ℕ) (c : Cell Value) → Contains told (Claim g p, c) → generation_of c ≡ n → c ≡ Known n (Lid (f.base_lid (record { node = place; port = p })))
+      so : (n : ℕ) (c : Cell Value) → Contains told (Claim g p, c) → generation_of c ≡ n → c ≡ Known n (Lid (f.base_lid (record { node = id; port = p })))
       so n c there e =
           says n c (all_contained (IsTrueSighting f) told (Claim g p, c) all there) (all_contained (IsTrueClaim f) told (Claim g p, c) claims there) e
 
       by_cell : (o : Option (Cell Value)) → MatchOption o ((c : Cell Value) → WasSighted (Claim g p) told c → ⊥) (IsCellIn (Claim g p) told)
-          → value_in o ≡ Some (Lid (f.base_lid (record { node = place; port = p })))
+          → value_in o ≡ Some (Lid (f.base_lid (record { node = id; port = p })))
       by_cell None none = absurd (none sighted.0 sighted.1)
       by_cell (Some (Known n v)) (newest, say) =
           let c = newest.sighted in
@@ -159,12 +159,12 @@ module _ (f : Fabric) (distinct : AreGuidsDistinct f) (told : Told) (all : AllBy
           let there : Contains told (Claim g p, Known n v) = subst (λ z. Contains told (Claim g p, z)) is c.1 in
           ap value_in (ap (λ z. Some z) (so n (Known n v) there refl))
       by_cell (Some (Disputed n)) (newest, dispute) =
-          absurd (dispute (Lid (f.base_lid (record { node = place; port = p }))) (λ c there e. so n c there e))
+          absurd (dispute (Lid (f.base_lid (record { node = id; port = p }))) (λ c there e. so n c there e))
 
 -- what was reached ---------------------------------------------------------------------------------
 
 module _ {f : Fabric} {seat : NodePort} (can : CanBeSwept f seat) (is_fabric : IsFabric f) (at_seat : fabric.Node) (seat_there : IsNodeAt f seat.node at_seat)
-    (s : Sweep) (told : Told) (c : Covered f seat s told) (none : (a : Asking) → IsPending (s.outstanding ++ s.queued) a → ⊥)
+    (s : Sweep) (told : Sightings) (c : Covered f seat s told) (none : (a : Asking) → IsPending (s.outstanding ++ s.queued) a → ⊥)
     (start : Has (IsOrigin f seat) s.reached) (all : AllByRecursion (IsTrueSighting f) told) where
   abbrev Reaches : NodePort → Type 0
   Reaches p = IsReached f seat s.reached p
@@ -214,7 +214,7 @@ covers_first f seat generation first =
 
 -- the laws -----------------------------------------------------------------------------------------
 
-told_all : (P : Key × Cell Value → Type 0) (told : Told) → AllByRecursion P told → All P told
+told_all : (P : Key × Cell Value → Type 0) (told : Sightings) → AllByRecursion P told → All P told
 told_all P [] all = All-nil P
 told_all P (s ∷ told) all = All-cons P s told all.0 (told_all P told all.1)
 

@@ -9,22 +9,22 @@ use Rattle.std.proofs.lemmas.List.Elements.{All-from_recursion}
 use Rattle.std.specs.Prelude.{if◌then◌else◌, Option, Some, None, drop, is_none, is_some, max, slice_get, slice_index_or, ◌==◌, ◌&&◌, not}
 use Rattle.std.specs.List.{AllByRecursion}
 use Rattle.std.specs.Option.{option_map_or}
-use Rattle.smp_bytes.specs.declared.cable.NodePort.{NodePort}
+use Rattle.fabric_model.specs.declared.cable.NodePort.{NodePort}
 use Rattle.smp_bytes.specs.declared.node_type.NodeType.TheVariants.{ChannelAdapter, Switch}
-use Rattle.smp_bytes.specs.Fabric as fabric
-use Rattle.smp_bytes.specs.Fabric.{IsNodeAt, IsEndPortNumber}
-use Rattle.smp_bytes.specs.FabricWalks.{IsJoinedTo}
+use Rattle.fabric_model.specs.Fabric as fabric
+use Rattle.fabric_model.specs.Fabric.{IsNodeAt, IsEndPortNumber}
+use Rattle.fabric_model.specs.FabricWalks.{IsJoinedTo}
 use Rattle.smp_bytes.specs.Field.{number_in, with_bytes}
 use Rattle.smp_bytes.specs.Header.{set}
 use Rattle.smp_bytes.specs.Packet.{method}
 use Rattle.attr_codec.specs.declared.port_state.PortState.TheVariants.{Down}
 use Rattle.node_agents.specs.declared.port.Port.{Port}
 use Rattle.node_agents.specs.Agent.{Agent, base_lid_at, fresh_agent, node_of, port_in}
-use Rattle.node_agents.specs.Answers.{answered, get_of, set_of}
+use Rattle.node_agents.specs.Answers.{after_answer, get_of, set_of}
 use Rattle.node_agents.specs.PortInfo.{changed_port}
 use Rattle.fact_store.specs.declared.key.Key.TheVariants.{Node as NodeKey, PortGuid, Link, Port as PortKey, Claim, Cap}
 use Rattle.fact_store.specs.declared.value.Value.TheVariants.{Kind, Guid, Peer, Up, Lid, Count}
-use Rattle.fact_store.specs.Report.{Told}
+use Rattle.fact_store.specs.Report.{Sightings}
 use Rattle.fact_store.specs.View.{cells_of, no_facts, view}
 use Rattle.fact_store.proofs.Entries.{cells_of_view, entries-view}
 use Rattle.subnet_view.specs.Agreement.{AgreesOn}
@@ -35,31 +35,31 @@ use Rattle.lft_blocks.specs.Plan.{PlanValue, block_at, plan_of}
 use Rattle.plan_steps.specs.Phases.{Phase, phases_of}
 use Rattle.fabric_sim.specs.declared.flight.Flight.{Flight}
 use Rattle.fabric_sim.specs.Simulation.{Simulation, fabric_of, flight_with}
-use Rattle.fabric_sim.specs.Delivery.{outcome_of, delivered}
-use Rattle.fabric_sim.specs.Changes.{injected, joined}
+use Rattle.fabric_sim.specs.Delivery.{outcome_of, after_deliver}
+use Rattle.fabric_sim.specs.Changes.{after_inject, cabled_at}
 use Rattle.sweep.specs.Sweep.{started}
-use Rattle.sm_manager.specs.Manager.{begin_fault, new_manager, sweep_begun, with_sweep}
-use Rattle.sm_manager.specs.Planning.{Planning}
-use Rattle.spread_rule.specs.Rules.{up_and_down}
-use Rattle.sm_laws.specs.Scene.{Answer, Deliver, Lose, Repeat, Send as SendFrom}
-use Rattle.sm_manager.specs.Standing.{active_once_more}
+use Rattle.sm_manager.specs.Manager.{begin_fault, new_manager, after_begin_sweep, with_sweep}
+use Rattle.lft_blocks.specs.Planning.{Planning}
+use Rattle.lft_blocks.specs.Rules.{up_and_down}
+use Rattle.manager_laws.specs.Scene.{Answer, Deliver, Lose, Repeat, Send as SendFrom}
+use Rattle.sm_state.specs.Standing.{active_once_more}
 use Rattle.sm_manager.specs.declared.fault.ManagerFault.TheVariants.{GenerationsSpent}
 use Rattle.sm_manager.specs.Plans.{writing_fault}
 use Rattle.sm_manager.specs.Writing.{begun_with}
-use Rattle.sweep_complete.specs.Complete.{IsWhole}
-use Rattle.sweep_complete.proofs.Lists.{all_append}
-use Rattle.written_laws.specs.Managing.{Managing, ManagerEvent, Around, Begin, Write, Take, Send, Hear, TimeOut, Raise, Merge, Poll, HandOver}
-use Rattle.written_laws.proofs.Computed.{all_can_be, all_keep, are_kept, fault_is, fault_with, joined_told, keeps_by, merged_with, no_sweeps, one, one_view}
-use Rattle.written_laws.proofs.Computed.{sweep_in, sweep_there}
-use Rattle.written_laws.proofs.Generations.{nothing_found, nothing_newest}
-use Rattle.written_laws.proofs.Rests.{new_managers_rest}
-use Rattle.written_laws.specs.Sets.{IsOwnSet}
-use Rattle.written_laws.specs.Written.{AllKeep, IsWritingRun, at_writing, own_sets, plan_at}
+use Rattle.manager_laws.specs.Complete.{IsWhole}
+use Rattle.manager_laws.proofs.Lists.{all_append}
+use Rattle.manager_laws.specs.Managing.{Managing, ManagerEvent, Around, Begin, Write, Take, Send, Hear, TimeOut, Raise, Merge, Poll, HandOver}
+use Rattle.manager_laws.proofs.Computed.{all_can_be, all_keep, are_kept, fault_is, fault_with, joined_told, keeps_by, merged_with, no_sweeps, one, one_view}
+use Rattle.manager_laws.proofs.Computed.{sweep_in, sweep_there}
+use Rattle.manager_laws.proofs.Generations.{nothing_found, nothing_newest}
+use Rattle.manager_laws.proofs.Rests.{new_managers_rest}
+use Rattle.manager_laws.specs.Sets.{IsOwnSet}
+use Rattle.manager_laws.specs.Written.{AllKeep, IsWritingRun, at_writing, own_sets, plan_at}
 use Rattle.takeover_laws.specs.Claims.{HasLidsOf}
 use Rattle.takeover_laws.specs.Takeover.{AllCarry, Carrying, LidsStayAround, SomeManagerTakesOver, SweepsAlone, TakesOver, plan_by_it}
 use Rattle.takeover_laws.proofs.Takeover.{found_agrees}
-use Rattle.written_laws.specs.Managing.{CanBe, Starts, after_manager_event, after_manager_events}
-use Rattle.written_laws.proofs.ExampleFabric.{port}
+use Rattle.manager_laws.specs.Managing.{CanBe, Starts, after_manager_event, after_manager_events}
+use Rattle.manager_laws.proofs.ExampleFabric.{port}
 use Rattle.takeover_laws.proofs.ExampleFabric.{bare_agent, distinct, is_network, network, table, with_lid}
 
 -- the manager, and its sweep ------------------------------------------------------------------------------------
@@ -71,7 +71,7 @@ abbrev pub beginning : Managing
 beginning = record { scene = record { fabric = network; handed = [] }; seat = port 0 1; manager = new_manager 17 1 0 its_planning; out = [] }
 
 starts : Starts beginning
-unfolding joined fresh_agent
+unfolding cabled_at fresh_agent
 starts =
     record {
       quiet = record { fabric = is_network; flights = refl; handed = refl };
@@ -95,7 +95,7 @@ may_begin = ap (λ n. if n == 2 ^ 32 - 1 then Some GenerationsSpent else None) n
 
 begun : after_manager_event beginning Begin ≡ sweeping_with 1
 begun =
-    ap (λ o. record beginning { manager = if is_none o then sweep_begun (new_manager 17 1 0 its_planning) else new_manager 17 1 0 its_planning }) may_begin
+    ap (λ o. record beginning { manager = if is_none o then after_begin_sweep (new_manager 17 1 0 its_planning) else new_manager 17 1 0 its_planning }) may_begin
     ∙ ap (λ n. sweeping_with (max (n + 1) 1)) nothing_newest
 
 -- so many deliveries of a packet
@@ -120,12 +120,12 @@ abbrev pub swept : Managing
 swept = after_manager_events between (sweeping_with 1)
 
 whole : IsWhole (sweep_in swept.manager.sweep)
-unfolding joined fresh_agent injected delivered outcome_of answered get_of set_of changed_port with_bytes
+unfolding cabled_at fresh_agent after_inject after_deliver outcome_of after_answer get_of set_of changed_port with_bytes
 whole = record { done = refl; answered = refl; near = refl }
 
 -- what it was told ----------------------------------------------------------------------------------------------
 
-abbrev replies : List Told
+abbrev replies : List Sightings
 replies =
     (one (NodeKey 16) (Kind ChannelAdapter 1) ∷ one (PortGuid 16 1) (Guid 17) ∷ [])
     ∷ (one (PortKey 16 1) (Up true) ∷ one (Claim 16 1) (Lid 2) ∷ [])
@@ -138,10 +138,10 @@ replies =
     ∷ (one (PortKey 48 1) (Up true) ∷ one (Claim 48 1) (Lid 7) ∷ []) ∷ [] ∷ []
 
 merged_all : swept.manager.store ≡ merged_with no_facts replies
-unfolding joined fresh_agent injected delivered outcome_of answered get_of set_of changed_port with_bytes
+unfolding cabled_at fresh_agent after_inject after_deliver outcome_of after_answer get_of set_of changed_port with_bytes
 merged_all = refl
 
-abbrev pub all_told : Told
+abbrev pub all_told : Sightings
 all_told = joined_told [] replies
 
 abbrev cells : Cells
@@ -177,9 +177,9 @@ in_table [] i less = absurd (omega (arith, less))
 in_table (x ∷ xs) zero less = refl
 in_table (x ∷ xs) (suc i) less = in_table xs i (omega (arith, less))
 
-holds_at : (place p : ℕ) (node : fabric.Node) → IsNodeAt (fabric_of network) place node → IsEndPortNumber node p
-    → HoldsPlanAt plan (fabric_of network) (port place p) node
-unfolding joined fresh_agent
+holds_at : (id p : ℕ) (node : fabric.Node) → IsNodeAt (fabric_of network) id node → IsEndPortNumber node p
+    → HoldsPlanAt plan (fabric_of network) (port id p) node
+unfolding cabled_at fresh_agent
 holds_at zero p node there number =
     let e : slice_get (fabric_of network).nodes 0 ≡ Some node = there in
     first (same_Some _ _ e)
@@ -269,7 +269,7 @@ no_sets_carry some_plan (event ∷ events) w e =
     (no_set_carries some_plan w event parts.0, no_sets_carry some_plan events (after_manager_event w event) parts.1)
 
 between_sets_none : are_no_sets between (sweeping_with 1) ≡ true
-unfolding joined fresh_agent injected delivered outcome_of answered get_of set_of changed_port with_bytes
+unfolding cabled_at fresh_agent after_inject after_deliver outcome_of after_answer get_of set_of changed_port with_bytes
 between_sets_none = refl
 
 -- the LIDs of the ports of all agents
@@ -283,11 +283,11 @@ lids_after (event ∷ events) w = lids_in (after_manager_event w event).scene.fa
 lid_read : (s : Simulation) (p : NodePort) → (fabric_of s).base_lid p ≡ slice_index_or (slice_index_or (lids_in s) p.node []) p.port 0
 lid_read s p = by_agents s.agents p.node
   where
-    by_agents : (xs : List Agent) (place : ℕ) → option_map_or (λ a. base_lid_at a p.port) (slice_get xs place) 0
-        ≡ slice_index_or (slice_index_or (map (λ (a : Agent). map (λ (q : Port). q.base_lid) a.ports) xs) place []) p.port 0
-    by_agents [] place = refl
+    by_agents : (xs : List Agent) (id : ℕ) → option_map_or (λ a. base_lid_at a p.port) (slice_get xs id) 0
+        ≡ slice_index_or (slice_index_or (map (λ (a : Agent). map (λ (q : Port). q.base_lid) a.ports) xs) id []) p.port 0
+    by_agents [] id = refl
     by_agents (a ∷ xs) zero = sym (get_or-map (λ (q : Port). q.base_lid) a.ports p.port (port_in Down))
-    by_agents (a ∷ xs) (suc place) = by_agents xs place
+    by_agents (a ∷ xs) (suc id) = by_agents xs id
 
 same_lids : (f : Simulation) (w : Managing) → lids_in w.scene.fabric ≡ lids_in f → HasLidsOf (fabric_of f) w.scene
 same_lids f w e p = lid_read w.scene.fabric p ∙ ap (λ (ls : List (List ℕ)). slice_index_or (slice_index_or ls p.node []) p.port 0) e ∙ sym (lid_read f p)
@@ -301,7 +301,7 @@ lids_stay f (event ∷ events) w e = (
 )
 
 between_lids : lids_after between (sweeping_with 1) ≡ replicate (length between) (lids_in network)
-unfolding joined fresh_agent injected delivered outcome_of answered get_of set_of changed_port with_bytes
+unfolding cabled_at fresh_agent after_inject after_deliver outcome_of after_answer get_of set_of changed_port with_bytes
 between_lids = refl
 
 -- its writing: the first step gives its own port the LID that it has ---------------------------------------------------
@@ -315,15 +315,15 @@ abbrev writing_by : List Phase → Managing
 writing_by phases = record swept { manager = begun_with swept.manager phases }
 
 pub planning_is : swept.manager.planning ≡ its_planning
-unfolding joined fresh_agent injected delivered outcome_of answered get_of set_of changed_port with_bytes
+unfolding cabled_at fresh_agent after_inject after_deliver outcome_of after_answer get_of set_of changed_port with_bytes
 planning_is = refl
 
 has_swept : is_some swept.manager.sweep ≡ true
-unfolding joined fresh_agent injected delivered outcome_of answered get_of set_of changed_port with_bytes
+unfolding cabled_at fresh_agent after_inject after_deliver outcome_of after_answer get_of set_of changed_port with_bytes
 has_swept = refl
 
 no_fault : fault_with its_planning swept.manager (Some (sweep_in swept.manager.sweep)) cells ≡ None
-unfolding joined fresh_agent injected delivered outcome_of answered get_of set_of changed_port with_bytes
+unfolding cabled_at fresh_agent after_inject after_deliver outcome_of after_answer get_of set_of changed_port with_bytes
 no_fault = refl
 
 may_write : writing_fault swept.manager ≡ None
@@ -334,7 +334,7 @@ abbrev pub after : List ManagerEvent
 after = Take ∷ Send 10 ∷ Around (Deliver 20) ∷ Around (Deliver 21) ∷ Hear 11 ∷ []
 
 kept : are_kept plan (fabric_of network) (port 0 1) (phases_from cells) after (writing_by (phases_from cells)) ≡ true
-unfolding joined fresh_agent injected delivered outcome_of answered get_of set_of changed_port with_bytes
+unfolding cabled_at fresh_agent after_inject after_deliver outcome_of after_answer get_of set_of changed_port with_bytes
 kept = refl
 
 keeps : AllKeep plan (IsOwnSet (fabric_of network) (port 0 1) (phases_from cells)) after (writing_by (phases_from cells))

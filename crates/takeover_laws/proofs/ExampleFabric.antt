@@ -8,16 +8,16 @@ use Rattle.smp_bytes.specs.declared.node_type.NodeType.{NodeType}
 use Rattle.smp_bytes.specs.declared.node_type.NodeType.TheVariants.{ChannelAdapter, Switch}
 use Rattle.smp_bytes.specs.NodeType as types
 use Rattle.smp_bytes.specs.LidRange.{lid_end}
-use Rattle.smp_bytes.specs.Fabric as fabric
+use Rattle.fabric_model.specs.Fabric as fabric
 use Rattle.attr_codec.specs.declared.port_state.PortState.{PortState}
 use Rattle.attr_codec.specs.declared.port_state.PortState.TheVariants.{Active, Down, Initialize, NoChange}
 use Rattle.node_agents.specs.Agent.{Agent, IsAgent, IsPort, fresh_agent, has_seat, port_at, state_at, with_port}
 use Rattle.fabric_sim.specs.Simulation.{Simulation, IsSimulation, fabric_of, has_cable_port}
-use Rattle.fabric_sim.specs.Changes.{joined}
+use Rattle.fabric_sim.specs.Changes.{cabled_at}
 use Rattle.fabric_sim.proofs.AgentLists.{AllRelated, KeepsDown}
 use Rattle.fabric_sim.proofs.Invariants.{with_agents}
-use Rattle.sm_laws.specs.Truth.{AreGuidsDistinct}
-use Rattle.written_laws.proofs.ExampleFabric.{bare, distinct_by, is_bare, port}
+use Rattle.manager_laws.specs.Truth.{AreGuidsDistinct}
+use Rattle.manager_laws.proofs.ExampleFabric.{bare, distinct_by, is_bare, port}
 
 -- what they hold: LIDs 2, 5 and 7, and at the switch the ways to them
 abbrev pub with_lid : Agent → ℕ → ℕ → Agent
@@ -30,7 +30,7 @@ abbrev nobody : Agent
 nobody = fresh_agent (record { guid = 0; kind = ChannelAdapter; ports = 1; cap = 0; description = [] })
 
 abbrev pub bare_agent : ℕ → Agent
-bare_agent place = slice_index_or bare.agents place nobody
+bare_agent id = slice_index_or bare.agents id nobody
 
 abbrev pub agents : List Agent
 agents =
@@ -47,7 +47,7 @@ is_port_with : (kind : NodeType) (lid : ℕ) (is_sm : Bool) → lid < lid_end �
 is_port_with kind lid is_sm low no_sm state known = record { state = known; base_lid = low; is_sm = no_sm }
 
 first_is : IsAgent (with_lid (bare_agent 0) 1 2)
-unfolding joined fresh_agent
+unfolding cabled_at fresh_agent
 first_is =
     let o = is_bare.agents 0 nobody (omega arith) in
     record {
@@ -64,7 +64,7 @@ first_is =
     }
 
 switch_is : IsAgent (record (with_lid (bare_agent 1) 0 5) { table = table; top = 7 })
-unfolding joined fresh_agent
+unfolding cabled_at fresh_agent
 switch_is =
     let o = is_bare.agents 1 nobody (omega arith) in
     record {
@@ -84,7 +84,7 @@ switch_is =
     }
 
 last_is : IsAgent (with_lid (bare_agent 2) 1 7)
-unfolding joined fresh_agent
+unfolding cabled_at fresh_agent
 last_is =
     let o = is_bare.agents 2 nobody (omega arith) in
     record {
@@ -101,7 +101,7 @@ last_is =
     }
 
 keeps_first : KeepsDown (bare_agent 0) (with_lid (bare_agent 0) 1 2)
-unfolding joined fresh_agent
+unfolding cabled_at fresh_agent
 keeps_first = record { seats = record { node = refl; seats = seats }; to = to; from = from }
   where
     seats : (p : ℕ) → has_seat (bare_agent 0) p ≡ true → has_seat (with_lid (bare_agent 0) 1 2) p ≡ true
@@ -120,7 +120,7 @@ keeps_first = record { seats = record { node = refl; seats = seats }; to = to; f
     from (suc (suc p)) h = h
 
 keeps_switch : KeepsDown (bare_agent 1) (record (with_lid (bare_agent 1) 0 5) { table = table; top = 7 })
-unfolding joined fresh_agent
+unfolding cabled_at fresh_agent
 keeps_switch = record { seats = record { node = refl; seats = seats }; to = to; from = from }
   where
     seats : (p : ℕ) → has_seat (bare_agent 1) p ≡ true → has_seat (with_lid (bare_agent 1) 0 5) p ≡ true
@@ -142,7 +142,7 @@ keeps_switch = record { seats = record { node = refl; seats = seats }; to = to; 
     from (suc (suc (suc p))) h = h
 
 keeps_last : KeepsDown (bare_agent 2) (with_lid (bare_agent 2) 1 7)
-unfolding joined fresh_agent
+unfolding cabled_at fresh_agent
 keeps_last = record { seats = record { node = refl; seats = seats }; to = to; from = from }
   where
     seats : (p : ℕ) → has_seat (bare_agent 2) p ≡ true → has_seat (with_lid (bare_agent 2) 1 7) p ≡ true
@@ -161,14 +161,14 @@ keeps_last = record { seats = record { node = refl; seats = seats }; to = to; fr
     from (suc (suc p)) h = h
 
 all_keep : AllRelated KeepsDown bare.agents agents
-unfolding joined fresh_agent
+unfolding cabled_at fresh_agent
 all_keep zero = keeps_first
 all_keep (suc zero) = keeps_switch
 all_keep (suc (suc zero)) = keeps_last
-all_keep (suc (suc (suc place))) = tt
+all_keep (suc (suc (suc id))) = tt
 
 seats_there : (node p : ℕ) → option_map_or (λ a. has_seat a p) (slice_get agents node) false ≡ true → has_cable_port bare.agents (port node p) ≡ true
-unfolding joined fresh_agent
+unfolding cabled_at fresh_agent
 seats_there zero zero h = absurd (cc)
 seats_there zero (suc zero) h = refl
 seats_there zero (suc (suc p)) h = absurd (cc)
@@ -182,10 +182,10 @@ seats_there (suc (suc zero)) (suc (suc p)) h = absurd (cc)
 seats_there (suc (suc (suc n))) p h = absurd (cc)
 
 pub is_network : IsSimulation network
-unfolding joined fresh_agent
+unfolding cabled_at fresh_agent
 is_network =
     with_agents bare agents is_bare refl (All-from_recursion IsAgent agents (first_is, (switch_is, (last_is, tt)))) all_keep (λ p. seats_there p.node p.port)
 
 pub distinct : AreGuidsDistinct (fabric_of network)
-unfolding joined fresh_agent
+unfolding cabled_at fresh_agent
 distinct = distinct_by (fabric_of network) refl

@@ -2,35 +2,35 @@
 use Rattle.std.proofs.Common.{◌≡◌, ℕ, zero, suc, true, [], ◌∷◌, ◌++◌, refl, sym, ◌∙◌, subst, arith}
 use Rattle.std.proofs.lemmas.Option.{same_Some}
 use Rattle.std.specs.Prelude.{Some}
-use Rattle.smp_bytes.specs.declared.cable.NodePort.{NodePort}
+use Rattle.fabric_model.specs.declared.cable.NodePort.{NodePort}
 use Rattle.smp_bytes.specs.declared.node_type.NodeType.TheVariants.{ChannelAdapter}
-use Rattle.smp_bytes.specs.Fabric as fabric
-use Rattle.smp_bytes.specs.Fabric.{IsNodeAt, IsEndPortNumber, range_at}
-use Rattle.smp_bytes.specs.FabricWalks.{IsJoinedTo}
+use Rattle.fabric_model.specs.Fabric as fabric
+use Rattle.fabric_model.specs.Fabric.{IsNodeAt, IsEndPortNumber, range_at}
+use Rattle.fabric_model.specs.FabricWalks.{IsJoinedTo}
 use Rattle.node_agents.specs.Agent.{fresh_agent, node_of}
 use Rattle.fact_store.specs.declared.key.Key.TheVariants.{Node as NodeKey, PortGuid, Port as PortKey, Claim}
 use Rattle.fact_store.specs.declared.value.Value.TheVariants.{Kind, Guid, Up, Lid}
-use Rattle.fact_store.specs.Report.{Told}
+use Rattle.fact_store.specs.Report.{Sightings}
 use Rattle.fact_store.specs.View.{cells_of, view}
 use Rattle.fact_store.proofs.Entries.{cells_of_view, entries-view}
 use Rattle.fabric_sim.specs.Simulation.{fabric_of}
-use Rattle.fabric_sim.specs.Changes.{joined}
+use Rattle.fabric_sim.specs.Changes.{cabled_at}
 use Rattle.subnet_view.specs.Agreement.{IsEndPortIn, TellsEndPort}
 use Rattle.subnet_view.specs.Reading.{Cells}
 use Rattle.lid_assign.specs.Lids.{IsNoRoom, range_of}
 use Rattle.lft_blocks.specs.Plan.{plan_of}
-use Rattle.spread_rule.specs.Rules.{up_and_down}
-use Rattle.sm_manager.specs.Planning.{Planning}
-use Rattle.written_laws.specs.Managing.{Managing}
+use Rattle.lft_blocks.specs.Rules.{up_and_down}
+use Rattle.lft_blocks.specs.Planning.{Planning}
+use Rattle.manager_laws.specs.Managing.{Managing}
 use Rattle.takeover_laws.specs.Rest.{SomeManagerServesTheRest, TakesRest}
 use Rattle.takeover_laws.specs.Takeover.{plan_by_it}
-use Rattle.written_laws.proofs.Computed.{one}
+use Rattle.manager_laws.proofs.Computed.{one}
 use Rattle.takeover_laws.proofs.Example.{after, all_told, at_is, beginning, between, its_planning, planning_is, sweeps}
-use Rattle.written_laws.proofs.ExampleFabric.{port}
+use Rattle.manager_laws.proofs.ExampleFabric.{port}
 use Rattle.takeover_laws.proofs.ExampleFabric.{bare_agent, network, table, with_lid}
 
 -- of before the cut: an adapter that has LID 9
-abbrev before_cut : Told
+abbrev before_cut : Sightings
 before_cut =
     all_told ++ (one (NodeKey 64) (Kind ChannelAdapter 1) ∷ one (PortGuid 64 1) (Guid 65) ∷ one (PortKey 64 1) (Up true) ∷ one (Claim 64 1) (Lid 9) ∷ [])
 
@@ -44,13 +44,13 @@ has_room : ¬ (IsNoRoom 0 cells)
 has_room e = absurd (cc)
 
 -- what is known of an end port that is there, and that it holds the LID of the plan of before
-record IsTold (place p : ℕ) (node : fabric.Node) : Type 0 where
+record IsTold (id p : ℕ) (node : fabric.Node) : Type 0 where
   pub tells : TellsEndPort (cells_of_view before_cut) node p
   pub holds : range_of (plan_of up_and_down 0 (cells_of_view before_cut)).given (record { node = node.guid; port = p })
-      ≡ Some (range_at (fabric_of network) (port place p))
+      ≡ Some (range_at (fabric_of network) (port id p))
 
-told_at : (place p : ℕ) (node : fabric.Node) → IsNodeAt (fabric_of network) place node → IsEndPortNumber node p → IsTold place p node
-unfolding joined fresh_agent
+told_at : (id p : ℕ) (node : fabric.Node) → IsNodeAt (fabric_of network) id node → IsEndPortNumber node p → IsTold id p node
+unfolding cabled_at fresh_agent
 told_at zero p node there number =
     subst (λ (n : fabric.Node). IsTold 0 p n) (same_Some _ _ there) (by_port p (subst (λ (n : fabric.Node). IsEndPortNumber n p) (sym (same_Some _ _ there)) number))
   where

@@ -3,9 +3,9 @@ use Rattle.std.proofs.Common.{◌≡◌, ℕ, ◌≤◌, ◌^◌, Bool, true, fa
 use Rattle.std.proofs.lemmas.Bool.{cond_both}
 use Rattle.std.proofs.lemmas.List.Elements.{All-nil, All-cons}
 use Rattle.std.specs.Prelude.{Option, Some, None, Result, Ok, Err, All, is_none, max, nat_le, slice_get}
-use Rattle.smp_bytes.specs.declared.cable.NodePort.{NodePort}
+use Rattle.fabric_model.specs.declared.cable.NodePort.{NodePort}
 use Rattle.smp_bytes.specs.declared.smp_fault.SmpFault.{SmpFault}
-use Rattle.smp_bytes.specs.Cables.{is_same_port}
+use Rattle.fabric_model.specs.Cables.{is_same_port}
 use Rattle.smp_bytes.specs.Packet.{fault_of, status}
 use Rattle.fabric_sim.specs.Simulation.{Simulation}
 use Rattle.fact_store.specs.declared.report.Report.{Report}
@@ -18,47 +18,47 @@ use Rattle.lft_blocks.specs.Plan.{PlanValue}
 use Rattle.sweep.specs.declared.answer.Answer.{Answer}
 use Rattle.sweep.specs.declared.fault.SweepFault.{SweepFault}
 use Rattle.sweep.specs.declared.request.Request.{Request}
-use Rattle.sweep.specs.Sweep.{Sweep, request_with, timed_out_of, timeout_fault}
-use Rattle.sweep.specs.Replies.{judged, replied, replied_to, request_of, told_by}
+use Rattle.sweep.specs.Sweep.{Sweep, request_with, after_timeout_of, timeout_fault}
+use Rattle.sweep.specs.Replies.{judged, after_reply, after_reply_to, request_of, sightings_by}
 use Rattle.sm_manager.specs.declared.outgoing.Outgoing.{Outgoing}
 use Rattle.sm_manager.specs.declared.pending.Pending.{Pending}
-use Rattle.sm_manager.specs.Election.{handover_fault, heir_lid, poll_fault}
+use Rattle.sm_manager.specs.Election.{handover_fault, successor_lid, poll_fault}
 use Rattle.sm_manager.specs.Manager.{Manager, begin_fault}
-use Rattle.sm_manager.specs.Packets.{Called, answered_by, gave_up, is_for_sweep, is_info_request, packet_taken, pending_for}
+use Rattle.sm_manager.specs.Packets.{Called, answered_by, after_timeout, is_for_sweep, is_info_request, packet_taken, pending_for}
 use Rattle.sm_manager.specs.Packets.{request_answered, request_gave_up}
-use Rattle.sm_manager.specs.Packets.{sweep_answered, sweep_gave_up, sweep_timed_out, took}
+use Rattle.sm_manager.specs.Packets.{sweep_answered, sweep_gave_up, sweep_timed_out, after_packet}
 use Rattle.sm_manager.specs.Plans.{writing_fault}
-use Rattle.sm_manager.specs.Requests.{with_number}
-use Rattle.sm_laws.specs.Scene.{Handed, Scene}
-use Rattle.sm_laws.specs.Sweeping as sweeping
-use Rattle.sm_laws.specs.Sweeping.{Sweeping, SweepEvent, reports_of, after_sweep_event, after_sweep_events}
-use Rattle.sweep_complete.proofs.Sweeps.{told_in, told_more}
-use Rattle.written_laws.specs.Managing.{Managing, ManagerEvent, Around, Begin, Write, Take, Send, Hear, TimeOut, Raise, Merge, Poll, HandOver, CanBe}
-use Rattle.written_laws.specs.Managing.{hearing, sending, after_manager_event}
-use Rattle.written_laws.specs.Pings.{BeginsNoSweep}
-use Rattle.written_laws.proofs.Before.{is_none-none, takes_first}
-use Rattle.smp_bytes.specs.Fabric.{Fabric}
-use Rattle.written_laws.proofs.Followed.{HasAskedAll, asks, asks_can, asks_all}
-use Rattle.written_laws.proofs.Follows.{KeepsSweep, request_keeps, served_keeps, handed_keeps, Follows}
+use Rattle.sm_manager.specs.ManagerRequests.{with_number}
+use Rattle.manager_laws.specs.Scene.{Handed, Scene}
+use Rattle.manager_laws.specs.Sweeping as sweeping
+use Rattle.manager_laws.specs.Sweeping.{Sweeping, SweepEvent, reports_of, after_sweep_event, after_sweep_events}
+use Rattle.manager_laws.proofs.Sweeps.{told_in, told_more}
+use Rattle.manager_laws.specs.Managing.{Managing, ManagerEvent, Around, Begin, Write, Take, Send, Hear, TimeOut, Raise, Merge, Poll, HandOver, CanBe}
+use Rattle.manager_laws.specs.Managing.{hearing, sending, after_manager_event}
+use Rattle.manager_laws.specs.WritingPings.{BeginsNoSweep}
+use Rattle.manager_laws.proofs.Before.{is_none-none, takes_first}
+use Rattle.fabric_model.specs.Fabric.{Fabric}
+use Rattle.manager_laws.proofs.Followed.{HasAskedAll, asks, asks_can, asks_all}
+use Rattle.manager_laws.proofs.Follows.{KeepsSweep, request_keeps, served_keeps, handed_keeps, Follows}
 use Rattle.takeover_laws.specs.Claims.{HasLidsOf, LidsStay}
 use Rattle.takeover_laws.proofs.Seen.{SeenKeeping, nothing_seen, event_seen, asks_lids}
-use Rattle.written_laws.proofs.Generations.{AreOf, answer_of, of_both}
-use Rattle.written_laws.proofs.Goes.{Goes}
-use Rattle.written_laws.proofs.Sweeps.{Ground}
+use Rattle.manager_laws.proofs.Generations.{AreOf, answer_of, of_both}
+use Rattle.manager_laws.proofs.Goes.{Goes}
+use Rattle.manager_laws.proofs.WritingSweeps.{Ground}
 
 kept : (m : Manager) → KeepsSweep m m
 kept m = record { sweep = refl; store = refl }
 
 -- a sweep keeps its generation ----------------------------------------------------------------------------------
 
-replied_generation : (s : Sweep) (bytes : List ℕ) → (replied s bytes).generation ≡ s.generation
+replied_generation : (s : Sweep) (bytes : List ℕ) → (after_reply s bytes).generation ≡ s.generation
 replied_generation s bytes = by_request (request_of s bytes)
   where
-    by_request : (m : Option Request) → (replied_to s bytes m).generation ≡ s.generation
+    by_request : (m : Option Request) → (after_reply_to s bytes m).generation ≡ s.generation
     by_request None = refl
     by_request (Some r) = refl
 
-timed_generation : (s : Sweep) (m : Option Request) → (timed_out_of s m).generation ≡ s.generation
+timed_generation : (s : Sweep) (m : Option Request) → (after_timeout_of s m).generation ≡ s.generation
 timed_generation s None = refl
 timed_generation s (Some r) = refl
 
@@ -90,10 +90,10 @@ quiet_followed fab w after u seen seat keeps f =
 
 -- what an answer tells is what its report does
 facts_more : (floor : ℕ) (reports : List Report) (answer : Answer)
-    → merge (view_at floor (told_in reports)) (view (told_by answer)) ≡ view_at floor (told_in (reports ++ reports_of answer))
+    → merge (view_at floor (told_in reports)) (view (sightings_by answer)) ≡ view_at floor (told_in (reports ++ reports_of answer))
 facts_more floor reports answer =
-    sym (view_of_both floor 1 (told_in reports) (told_by answer))
-    ∙ at_same_floor (max floor 1) floor (seen (told_in reports ++ told_by answer)) (omega arith)
+    sym (view_of_both floor 1 (told_in reports) (sightings_by answer))
+    ∙ at_same_floor (max floor 1) floor (seen (told_in reports ++ sightings_by answer)) (omega arith)
     ∙ ap (view_at floor) (sym (told_more reports answer))
 
 module _ (fab : Fabric) (start : Simulation) (seat : NodePort) (plan : PlanValue) (ground : Ground start seat) where
@@ -104,12 +104,12 @@ module _ (fab : Fabric) (start : Simulation) (seat : NodePort) (plan : PlanValue
         → (after : Manager) → after ≡ (answered_by w.manager u.sweep bytes (Ok answer)).manager → IsFollowed fab (record w { manager = after }) u
     reply_follows which h there bytes_are same lids after after_is =
         record {
-          events = sweeping.Hear which ∷ asks (replied u.sweep bytes).queued;
-          lids = subst (λ x. HasLidsOf fab x.scene × LidsStay fab (asks (replied u.sweep bytes).queued) x) (sym heard)
-              (subst (HasLidsOf fab) (sym f.scene) lids, asks_lids fab (replied u.sweep bytes).queued hears (subst (HasLidsOf fab) (sym f.scene) lids));
-          can_be = All-cons sweeping.CanBe (sweeping.Hear which) (asks (replied u.sweep bytes).queued) tt (asks_can (replied u.sweep bytes).queued);
-          follows = subst (λ x. Follows (record w { manager = after }) (after_sweep_events (asks (replied u.sweep bytes).queued) x)) (sym heard)
-              (subst (λ x. Follows (record w { manager = x }) (after_sweep_events (asks (replied u.sweep bytes).queued) hears)) (sym after_is)
+          events = sweeping.Hear which ∷ asks (after_reply u.sweep bytes).queued;
+          lids = subst (λ x. HasLidsOf fab x.scene × LidsStay fab (asks (after_reply u.sweep bytes).queued) x) (sym heard)
+              (subst (HasLidsOf fab) (sym f.scene) lids, asks_lids fab (after_reply u.sweep bytes).queued hears (subst (HasLidsOf fab) (sym f.scene) lids));
+          can_be = All-cons sweeping.CanBe (sweeping.Hear which) (asks (after_reply u.sweep bytes).queued) tt (asks_can (after_reply u.sweep bytes).queued);
+          follows = subst (λ x. Follows (record w { manager = after }) (after_sweep_events (asks (after_reply u.sweep bytes).queued) x)) (sym heard)
+              (subst (λ x. Follows (record w { manager = x }) (after_sweep_events (asks (after_reply u.sweep bytes).queued) hears)) (sym after_is)
               (record {
                 scene = all.scene ∙ f.scene;
                 seat = all.seat ∙ f.seat;
@@ -117,26 +117,26 @@ module _ (fab : Fabric) (start : Simulation) (seat : NodePort) (plan : PlanValue
                 floor = f.floor;
                 generation = subst (λ g. f.floor ≤ g) (sym (ap (λ (x : Sweep). x.generation) all.sweep ∙ replied_generation u.sweep bytes)) f.generation;
                 told = subst (AreOf (λ g. f.floor ≤ g)) (sym (ap told_in all.reports ∙ told_more u.reports answer))
-                    (of_both (λ g. f.floor ≤ g) (told_in u.reports) (told_by answer) f.told
+                    (of_both (λ g. f.floor ≤ g) (told_in u.reports) (sightings_by answer) f.told
                     (answer_of (λ g. f.floor ≤ g) u.sweep bytes answer f.generation taken));
-                store = ap (λ x. merge x (view (told_by answer))) f.store ∙ facts_more f.floor u.reports answer
+                store = ap (λ x. merge x (view (sightings_by answer))) f.store ∙ facts_more f.floor u.reports answer
                     ∙ ap (λ (reports : List Report). view_at f.floor (told_in reports)) (sym all.reports);
               }));
         }
       where
         hears : Sweeping
-        hears = record u { sweep = replied u.sweep bytes; reports = u.reports ++ reports_of answer }
+        hears = record u { sweep = after_reply u.sweep bytes; reports = u.reports ++ reports_of answer }
 
-        heard : after_sweep_event u (sweeping.Hear which) ≡ record u { sweep = replied u.sweep bytes; reports = u.reports ++ reports_of answer }
+        heard : after_sweep_event u (sweeping.Hear which) ≡ record u { sweep = after_reply u.sweep bytes; reports = u.reports ++ reports_of answer }
         heard =
             ap (sweeping.hearing u) (ap (λ (x : Scene). slice_get x.handed which) f.scene ∙ there)
             ∙ ap (λ b. cond b (sweeping.with_answer u h.packet.bytes (judged u.sweep h.packet.bytes)) u) (ap (is_same_port h.at) f.seat ∙ same)
             ∙ ap (λ x. sweeping.with_answer u x (judged u.sweep x)) bytes_are
             ∙ ap (sweeping.with_answer u bytes) taken
 
-        all : HasAskedAll (record u { sweep = replied u.sweep bytes; reports = u.reports ++ reports_of answer })
-            (after_sweep_events (asks (replied u.sweep bytes).queued) (record u { sweep = replied u.sweep bytes; reports = u.reports ++ reports_of answer }))
-        all = asks_all (replied u.sweep bytes).queued (record u { sweep = replied u.sweep bytes; reports = u.reports ++ reports_of answer }) refl
+        all : HasAskedAll (record u { sweep = after_reply u.sweep bytes; reports = u.reports ++ reports_of answer })
+            (after_sweep_events (asks (after_reply u.sweep bytes).queued) (record u { sweep = after_reply u.sweep bytes; reports = u.reports ++ reports_of answer }))
+        all = asks_all (after_reply u.sweep bytes).queued (record u { sweep = after_reply u.sweep bytes; reports = u.reports ++ reports_of answer }) refl
 
   -- events ---------------------------------------------------------------------------------------------------------
 
@@ -170,11 +170,11 @@ module _ (fab : Fabric) (start : Simulation) (seat : NodePort) (plan : PlanValue
           (λ _. quiet _ (by_pending (pending_for w.manager h.packet.bytes))))
 
       by_port : (b : Bool) → is_same_port h.at w.seat ≡ b → IsFollowed fab
-          (cond b (record w { manager = (took w.manager h.packet.bytes (Some h.packet.slid)).manager }) w) u
+          (cond b (record w { manager = (after_packet w.manager h.packet.bytes (Some h.packet.slid)).manager }) w) u
       by_port false e = quiet_followed fab w w u (nothing_seen fab w.scene) refl (kept w.manager) f
       by_port true e = by_fault e (fault_of h.packet.bytes)
 
-  timed_followed : (w : Managing) (transaction : ℕ) (u : Sweeping) → Follows w u → HasLidsOf fab w.scene → IsFollowed fab (record w { manager = (gave_up w.manager transaction).manager }) u
+  timed_followed : (w : Managing) (transaction : ℕ) (u : Sweeping) → Follows w u → HasLidsOf fab w.scene → IsFollowed fab (record w { manager = (after_timeout w.manager transaction).manager }) u
   timed_followed w transaction u f now =
       cond_both (nat_le (2 ^ 32) transaction) _ _ (λ (x : Called). IsFollowed fab (record w { manager = x.manager }) u)
       (λ _. subst (λ o. IsFollowed fab (record w { manager = (sweep_gave_up w.manager transaction o).manager }) u) (sym f.sweep)
@@ -243,4 +243,4 @@ module _ (fab : Fabric) (start : Simulation) (seat : NodePort) (plan : PlanValue
       (cond_both (is_none (poll_fault w.manager)) _ _ (KeepsSweep w.manager) (λ _. record { sweep = refl; store = refl }) (λ _. kept w.manager)) f
   event_followed w HandOver u g quiet can_be f now lids =
       quiet_followed fab w (after_manager_event w HandOver) u (nothing_seen fab w.scene) refl
-      (cond_both (is_none (handover_fault w.manager)) _ _ (KeepsSweep w.manager) (λ _. handed_keeps w.manager (heir_lid w.manager)) (λ _. kept w.manager)) f
+      (cond_both (is_none (handover_fault w.manager)) _ _ (KeepsSweep w.manager) (λ _. handed_keeps w.manager (successor_lid w.manager)) (λ _. kept w.manager)) f

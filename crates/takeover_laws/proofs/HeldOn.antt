@@ -3,23 +3,23 @@ use Rattle.std.proofs.Common.{◌≡◌, ◌≢◌, ◌⊎◌, inl, inr, ℕ, ze
 use Rattle.std.proofs.lemmas.Bool.{eq-eqb, eqb-true, eqb-false, cases_lt}
 use Rattle.std.specs.Prelude.{Contains, MatchBool, Option, Some, not, slice_get, slice_index, ◌==◌, ◌||◌}
 use Rattle.std.specs.Option.{option_map_or}
-use Rattle.smp_bytes.specs.declared.cable.NodePort.{NodePort}
+use Rattle.fabric_model.specs.declared.cable.NodePort.{NodePort}
 use Rattle.smp_bytes.specs.NodeType as types
 use Rattle.smp_bytes.specs.Header.{set, done}
 use Rattle.smp_bytes.specs.Field.{number_in, bytes_in}
 use Rattle.smp_bytes.specs.Packet.{method, attribute_modifier, attribute_data, status}
-use Rattle.smp_bytes.specs.Fabric as fabrics
-use Rattle.smp_bytes.specs.Fabric.{Node, IsNodeAt}
-use Rattle.smp_bytes.specs.FabricWalks.{IsJoinedTo}
+use Rattle.fabric_model.specs.Fabric as fabrics
+use Rattle.fabric_model.specs.Fabric.{Node}
+use Rattle.fabric_model.specs.FabricWalks.{IsJoinedTo}
 use Rattle.node_agents.specs.declared.port.Port.{Port}
 use Rattle.node_agents.specs.Agent.{Agent, IsAgent, base_lid_at, entry_at, is_switch, lmc_at, node_of, range_at}
 use Rattle.node_agents.specs.PortInfo.{has_lid}
-use Rattle.node_agents.specs.Answers.{answered}
+use Rattle.node_agents.specs.Answers.{after_answer}
 use Rattle.node_agents.specs.AnswerLaws.{IsPacket}
 use Rattle.node_agents.proofs.Told.{refusals_change_nothing}
 use Rattle.fabric_sim.specs.Simulation.{Simulation, agent_at, fabric_of, port_of}
-use Rattle.fabric_sim.specs.Delivery.{delivered}
-use Rattle.fabric_sim.proofs.AgentLists.{changed_at_place}
+use Rattle.fabric_sim.specs.Delivery.{after_deliver}
+use Rattle.fabric_sim.proofs.AgentLists.{changed_at_id}
 use Rattle.fabric_sim.proofs.SeenFabrics.{agent_seen}
 use Rattle.fabric_sim.proofs.TracedCalls.{AsksAnAgent}
 use Rattle.fabric_sim.proofs.TripShapes.{IsAlong, agent_there}
@@ -27,10 +27,10 @@ use Rattle.lid_assign.specs.Lids.{range_of, top_of}
 use Rattle.lft_blocks.specs.Arrival.{HoldsPlan, HoldsPlanAt}
 use Rattle.lft_blocks.specs.Plan.{PlanValue, block_at, switches_of}
 use Rattle.subnet_view.specs.Agreement.{Part, IsEndPortIn}
-use Rattle.sweep_complete.proofs.Alike.{holding, joined_there, nodes_along}
-use Rattle.written_laws.specs.Sets.{Carries, TakesSet}
-use Rattle.written_laws.proofs.AgentSets.{Effect, effect, unset}
-use Rattle.written_laws.proofs.Taken.{carries, changed_other, node_of_agent, nodes_stay, upto}
+use Rattle.manager_laws.proofs.Alike.{holding, joined_there, nodes_along}
+use Rattle.manager_laws.specs.Sets.{Carries, TakesSet}
+use Rattle.manager_laws.proofs.AgentSets.{Effect, effect, unset}
+use Rattle.manager_laws.proofs.WritingTaken.{carries, changed_other, node_of_agent, nodes_stay, upto}
 
 -- an agent ---------------------------------------------------------------------------------------------
 
@@ -53,12 +53,12 @@ got (x ∷ xs) zero y e = refl
 got (x ∷ xs) (suc i) y e = got xs i y e
 
 module _ (plan : PlanValue) (a : Agent) (packet : List ℕ) (arrival : ℕ) (is : IsAgent a) (whole : IsPacket packet) (at_most : arrival ≤ a.node.ports)
-    (carries_it : number_in method packet ≡ set → status (answered a packet arrival).packet ≡ done → Carries plan a arrival packet) where
-  module _ (sets : number_in method packet ≡ set) (taken : status (answered a packet arrival).packet ≡ done) where
+    (carries_it : number_in method packet ≡ set → status (after_answer a packet arrival).packet ≡ done → Carries plan a arrival packet) where
+  module _ (sets : number_in method packet ≡ set) (taken : status (after_answer a packet arrival).packet ≡ done) where
     its : Carries plan a arrival packet
     its = carries_it sets taken
 
-    kept_by : Effect a packet arrival is whole at_most sets taken → KeepsHeld plan a (answered a packet arrival).agent
+    kept_by : Effect a packet arrival is whole at_most sets taken → KeepsHeld plan a (after_answer a packet arrival).agent
     unfolding Effect
     kept_by (inl (e, (port, (meant, sp)))) =
         record {
@@ -69,10 +69,10 @@ module _ (plan : PlanValue) (a : Agent) (packet : List ℕ) (arrival : ℕ) (is 
         }
       where
         by_port : (m : ℕ) → has_lid a m ≡ true → range_of plan.given (record { node = a.node.guid; port = m }) ≡ Some (range_at a m)
-            → (b : Bool) → (port == m) ≡ b → range_at (answered a packet arrival).agent m ≡ range_at a m
+            → (b : Bool) → (port == m) ≡ b → range_at (after_answer a packet arrival).agent m ≡ range_at a m
         by_port m has r true same_is =
             let same : port ≡ m = eqb-true _ _ same_is in
-            ap (range_at (answered a packet arrival).agent) (sym same) ∙ sp.lids (ap (has_lid a) same ∙ has)
+            ap (range_at (after_answer a packet arrival).agent) (sym same) ∙ sp.lids (ap (has_lid a) same ∙ has)
             ∙ its.lids e port (range_at a m) meant (ap (λ n. range_of plan.given (record { node = a.node.guid; port = n })) same ∙ r)
         by_port m has r false other =
             ap (λ (x : Port). (x.base_lid, x.lmc)) (sp.others m (λ same. eqb-false _ _ other (sym same)))
@@ -93,13 +93,13 @@ module _ (plan : PlanValue) (a : Agent) (packet : List ℕ) (arrival : ℕ) (is 
         by_block : (n : ℕ) (block : List ℕ) → block_at plan a.node.guid n ≡ Some block
             → ((i : ℕ) → i < 64 → slice_get block i ≡ Some (entry_at a (64 * n + i))) → (i : ℕ) → i < 64
             → (b : Bool) → (number_in attribute_modifier packet == n) ≡ b
-            → slice_get block i ≡ Some (entry_at (answered a packet arrival).agent (64 * n + i))
+            → slice_get block i ≡ Some (entry_at (after_answer a packet arrival).agent (64 * n + i))
         by_block n block is_block held i less true same_is =
             let same : number_in attribute_modifier packet ≡ n = eqb-true _ _ same_is in
             let payload : bytes_in attribute_data packet ≡ block = its.block e block (ap (block_at plan a.node.guid) same ∙ is_block) in
             got block i (entry_at a (64 * n + i)) (held i less)
             ∙ ap (λ d. Some (slice_index d i)) (sym payload)
-            ∙ ap (λ k. Some k) (sym (ap (λ m. entry_at (answered a packet arrival).agent (64 * m + i)) (sym same) ∙ sb.inside i less))
+            ∙ ap (λ k. Some k) (sym (ap (λ m. entry_at (after_answer a packet arrival).agent (64 * m + i)) (sym same) ∙ sb.inside i less))
         by_block n block is_block held i less false other_is =
             let other = eqb-false _ _ other_is in
             held i less ∙ ap (λ k. Some k) (sym (sb.outside (64 * n + i) (apart (number_in attribute_modifier packet) n i less other)))
@@ -108,18 +108,18 @@ module _ (plan : PlanValue) (a : Agent) (packet : List ℕ) (arrival : ℕ) (is 
             apart m n i less other = elim (cases_lt n m) [ inl lt ↦ inl (omega (arith, lt, less)) | inr ge ↦ inr (omega (arith, ge, less, other)) ]
 
   -- whatever it is asked
-  pub answered_keeps : KeepsHeld plan a (answered a packet arrival).agent
+  pub answered_keeps : KeepsHeld plan a (after_answer a packet arrival).agent
   answered_keeps = by_method (number_in method packet == set) refl
     where
-      by_status : number_in method packet ≡ set → (b : Bool) → (status (answered a packet arrival).packet == done) ≡ b
-          → KeepsHeld plan a (answered a packet arrival).agent
+      by_status : number_in method packet ≡ set → (b : Bool) → (status (after_answer a packet arrival).packet == done) ≡ b
+          → KeepsHeld plan a (after_answer a packet arrival).agent
       by_status sets true e =
           let taken = eqb-true _ _ e in kept_by sets taken (effect a packet arrival is whole at_most sets taken)
       by_status sets false e =
           subst (KeepsHeld plan a) (sym (refusals_change_nothing a packet arrival is whole (eqb-false _ _ e))) (itself plan a)
 
-      by_method : (b : Bool) → (number_in method packet == set) ≡ b → KeepsHeld plan a (answered a packet arrival).agent
-      by_method true e = by_status (eqb-true _ _ e) (status (answered a packet arrival).packet == done) refl
+      by_method : (b : Bool) → (number_in method packet == set) ≡ b → KeepsHeld plan a (after_answer a packet arrival).agent
+      by_method true e = by_status (eqb-true _ _ e) (status (after_answer a packet arrival).packet == done) refl
       by_method false e = subst (KeepsHeld plan a) (sym (unset a packet arrival is whole at_most e)) (itself plan a)
 
 -- a part of a fabric -----------------------------------------------------------------------------------------
@@ -140,7 +140,7 @@ module _ (start : Simulation) (plan : PlanValue) (part : Part) where
 
   -- each agent keeps what it holds of the plan
   abbrev pub AgentsKeep : Simulation → Simulation → Type 0
-  AgentsKeep s after = (place : ℕ) (a : Agent) → agent_at s place ≡ Some a → (b : Agent) × (agent_at after place ≡ Some b) × KeepsHeld plan a b
+  AgentsKeep s after = (id : ℕ) (a : Agent) → agent_at s id ≡ Some a → (b : Agent) × (agent_at after id ≡ Some b) × KeepsHeld plan a b
 
   module _ (listed : AreListed) (s after : Simulation) (along : IsAlong start s) (keep : AgentsKeep s after) (held : HeldOn s) where
     pub held_later : HeldOn after
@@ -180,37 +180,37 @@ module _ (start : Simulation) (plan : PlanValue) (part : Part) where
 
   -- where no agent changes
   pub same_keep : (s after : Simulation) → after.agents ≡ s.agents → AgentsKeep s after
-  same_keep s after same place a there = (a, ap (λ (xs : List Agent). slice_get xs place) same ∙ there, itself plan a)
+  same_keep s after same id a there = (a, ap (λ (xs : List Agent). slice_get xs id) same ∙ there, itself plan a)
 
   -- where the delivery of a packet asks one
   pub delivery_keeps : (s : Simulation) (seat : NodePort) → IsAlong start s → (n : ℕ)
       → ((at : NodePort) (a : Agent) (packet : List ℕ) → TakesSet s n at a packet → Carries plan a at.port packet)
-      → ((delivered s n).fabric.agents ≡ s.agents) ⊎ AsksAnAgent s n → AgentsKeep s (delivered s n).fabric
-  delivery_keeps s seat along n all (inl same) place a there = same_keep s (delivered s n).fabric same place a there
-  delivery_keeps s seat along n all (inr asks) place a there = by_place ((port_of asks.flight.place).node == place) refl
+      → ((after_deliver s n).fabric.agents ≡ s.agents) ⊎ AsksAnAgent s n → AgentsKeep s (after_deliver s n).fabric
+  delivery_keeps s seat along n all (inl same) id a there = same_keep s (after_deliver s n).fabric same id a there
+  delivery_keeps s seat along n all (inr asks) id a there = by_id ((port_of asks.flight.whereabouts).node == id) refl
     where
       change : Agent → Agent
-      change x = (answered x asks.request (port_of asks.flight.place).port).agent
+      change x = (after_answer x asks.request (port_of asks.flight.whereabouts).port).agent
 
-      by_place : (b : Bool) → ((port_of asks.flight.place).node == place) ≡ b
-          → (b : Agent) × (agent_at (delivered s n).fabric place ≡ Some b) × KeepsHeld plan a b
-      by_place false other = (
+      by_id : (b : Bool) → ((port_of asks.flight.whereabouts).node == id) ≡ b
+          → (b : Agent) × (agent_at (after_deliver s n).fabric id ≡ Some b) × KeepsHeld plan a b
+      by_id false other = (
         a,
-        ap (λ (xs : List Agent). slice_get xs place) asks.asked.agents
-            ∙ changed_other s.agents (port_of asks.flight.place).node place (λ x. (answered x asks.request (port_of asks.flight.place).port).agent) (eqb-false _ _ other)
+        ap (λ (xs : List Agent). slice_get xs id) asks.asked.agents
+            ∙ changed_other s.agents (port_of asks.flight.whereabouts).node id (λ x. (after_answer x asks.request (port_of asks.flight.whereabouts).port).agent) (eqb-false _ _ other)
             ∙ there,
         itself plan a,
       )
-      by_place true same_is =
-          let same : (port_of asks.flight.place).node ≡ place = eqb-true _ _ same_is in
-          let here : agent_at s (port_of asks.flight.place).node ≡ Some a = ap (slice_get s.agents) same ∙ there in
-          let is_agent : IsAgent a = agent_there s.agents (port_of asks.flight.place).node a along.agents here in
+      by_id true same_is =
+          let same : (port_of asks.flight.whereabouts).node ≡ id = eqb-true _ _ same_is in
+          let here : agent_at s (port_of asks.flight.whereabouts).node ≡ Some a = ap (slice_get s.agents) same ∙ there in
+          let is_agent : IsAgent a = agent_there s.agents (port_of asks.flight.whereabouts).node a along.agents here in
           let most = upto start s seat plan along n asks.flight asks.request asks.asked a here in (
-            (answered a asks.request (port_of asks.flight.place).port).agent,
-            ap (slice_get (delivered s n).fabric.agents) (sym same)
-                ∙ ap (λ (xs : List Agent). slice_get xs (port_of asks.flight.place).node) asks.asked.agents
-                ∙ changed_at_place s.agents (port_of asks.flight.place).node a (λ x. (answered x asks.request (port_of asks.flight.place).port).agent) here,
-            answered_keeps plan a asks.request (port_of asks.flight.place).port is_agent asks.asked.whole most
+            (after_answer a asks.request (port_of asks.flight.whereabouts).port).agent,
+            ap (slice_get (after_deliver s n).fabric.agents) (sym same)
+                ∙ ap (λ (xs : List Agent). slice_get xs (port_of asks.flight.whereabouts).node) asks.asked.agents
+                ∙ changed_at_id s.agents (port_of asks.flight.whereabouts).node a (λ x. (after_answer x asks.request (port_of asks.flight.whereabouts).port).agent) here,
+            answered_keeps plan a asks.request (port_of asks.flight.whereabouts).port is_agent asks.asked.whole most
                 (carries start s seat plan along n asks.flight asks.request asks.asked all a here),
           )
 

@@ -14,7 +14,7 @@ use Rattle.attr_codec.specs.PortInfo.{base_lid}
 use Rattle.node_agents.specs.declared.port.Port.{Port}
 use Rattle.node_agents.specs.Agent.{Agent, IsAgent, is_switch, node_of, port_at, base_lid_at}
 use Rattle.node_agents.specs.PortInfo.{port_meant, port_info_of}
-use Rattle.node_agents.specs.Answers.{Met, get_of, set_of, met_set, met, payload_told, answered}
+use Rattle.node_agents.specs.Answers.{Met, get_of, set_of, met_set, after_request, payload_told, after_answer}
 use Rattle.node_agents.specs.AnswerLaws.{IsPacket}
 use Rattle.node_agents.proofs.Lengths.{port_entries, port_marked, port_ranged, length-port_image, length-port_marked, length-port_ranged}
 use Rattle.node_agents.proofs.Outcomes.{answers_hold, get_of-port_info}
@@ -55,14 +55,14 @@ module _ (a : Agent) (packet : List ℕ) (arrival : ℕ) where
   set_now payload (Ok b) e h = record { keeps = keeps-set_of a b packet arrival e; told = h }
   set_now payload (Err refusal) e h = cc
 
-  now : (payload : List ℕ) → TellsNow payload (met a packet arrival)
+  now : (payload : List ℕ) → TellsNow payload (after_request a packet arrival)
   now payload =
       cond_both (number_in method packet == get) _ _ (TellsNow payload) (λ _ h. record { keeps = keeps_same a; told = h })
       (λ _. cond_both (number_in method packet == set) _ _ (TellsNow payload) (λ _. set_now payload (set_of a packet arrival) refl)
       (λ _ h. absurd (cc)))
 
-  module _ (is : IsAgent a) (whole : IsPacket packet) (status_is : status (answered a packet arrival).packet ≡ done)
-      (attribute_is : number_in attribute_id (answered a packet arrival).packet ≡ port_info) where
+  module _ (is : IsAgent a) (whole : IsPacket packet) (status_is : status (after_answer a packet arrival).packet ≡ done)
+      (attribute_is : number_in attribute_id (after_answer a packet arrival).packet ≡ port_info) where
     by_meant : {R : Type 0} (why : R) (b : Agent) (modifier : ℕ) (payload : List ℕ) → IsAgent b → (m : Option ℕ) → m ≡ port_meant b modifier arrival
         → ok_or (option_map (λ port. port_info_of (port_at b port) arrival) m) why ≡ Ok payload
         → number_in base_lid payload ≡ base_lid_at b (port_asked (node_of b) modifier arrival)
@@ -74,17 +74,17 @@ module _ (a : Agent) (packet : List ℕ) (arrival : ℕ) where
         meant_by (is_switch b) (nat_le modifier b.node.ports) (modifier == 0 || modifier == arrival) modifier arrival port (sym e) in
         ap (number_in base_lid) (sym payload_is) ∙ lid_written (port_at b port) arrival (omega (arith, low)) ∙ ap (base_lid_at b) port_is
 
-    pub lid_told : number_in base_lid (bytes_in attribute_data (answered a packet arrival).packet)
-        ≡ base_lid_at (answered a packet arrival).agent (port_asked (node_of a) (number_in attribute_modifier (answered a packet arrival).packet) arrival)
+    pub lid_told : number_in base_lid (bytes_in attribute_data (after_answer a packet arrival).packet)
+        ≡ base_lid_at (after_answer a packet arrival).agent (port_asked (node_of a) (number_in attribute_modifier (after_answer a packet arrival).packet) arrival)
     lid_told =
-        let told = (met a packet arrival).told in
+        let told = (after_request a packet arrival).told in
         let holds = answers_hold a packet arrival is whole in
         let (payload, told_is) = is_told told (sym holds.status ∙ status_is) in
         let then = now payload told_is in
-        let b = (met a packet arrival).agent in
+        let b = (after_request a packet arrival).agent in
         let payload_is = holds.attribute_data ∙ ap (λ t. payload_told t packet) told_is in
-        let attribute = number_in-alike attribute_id (answered a packet arrival).packet packet (λ place from less. holds.kept place (inr (inl (omega (arith, from), omega (arith, less))))) in
-        let modifier = number_in-alike attribute_modifier (answered a packet arrival).packet packet (λ place from less. holds.kept place (inr (inl (omega (arith, from), omega (arith, less))))) in
+        let attribute = number_in-alike attribute_id (after_answer a packet arrival).packet packet (λ id from less. holds.kept id (inr (inl (omega (arith, from), omega (arith, less))))) in
+        let modifier = number_in-alike attribute_modifier (after_answer a packet arrival).packet packet (λ id from less. holds.kept id (inr (inl (omega (arith, from), omega (arith, less))))) in
         ap (number_in base_lid) payload_is
         ∙ by_meant _ b (number_in attribute_modifier packet) payload (then.keeps.is_agent is) (port_meant b (number_in attribute_modifier packet) arrival) refl
         (sym (get_of-port_info b packet arrival (sym attribute ∙ attribute_is)) ∙ then.told)

@@ -8,9 +8,9 @@ use Rattle.subnet_view.specs.Reading as reading
 use Rattle.subnet_view.specs.Reading.{switches}
 use Rattle.subnet_view.specs.Agreement.{Part, AgreesOn}
 use Rattle.subnet_view.proofs.UsableSwitches.{switches_law}
-use Rattle.spread_rule.specs.Rules.{RuleValue}
+use Rattle.lft_blocks.specs.Rules.{RuleValue}
 use Rattle.lft_blocks.specs.Plan.{plan_of}
-use Rattle.written_laws.proofs.Planned.{switch_is, to_switches}
+use Rattle.manager_laws.proofs.Planned.{switch_is, to_switches}
 use Rattle.takeover_laws.proofs.HeldOn.{AreListed}
 
 pub are_listed : (rule : RuleValue) (lmc : ℕ) (facts : Facts) (start : Simulation) (part : Part) → AgreesOn part (cells_of facts) (fabric_of start)

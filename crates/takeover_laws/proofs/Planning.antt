@@ -5,7 +5,7 @@ use Rattle.std.specs.Option.{option_map_or}
 use Rattle.std.specs.List.{filter_map, list_any, range_with_len}
 use Rattle.smp_bytes.specs.NodeType.{is_switch}
 use Rattle.fact_store.specs.View.{Facts, cells_of}
-use Rattle.port_graph.specs.declared.exit.Exit.{Exit}
+use Rattle.port_graph.specs.declared.edge.Edge.{Edge}
 use Rattle.subnet_view.specs.declared.end_port.EndPort.{EndPort}
 use Rattle.subnet_view.specs.Reading.{Cells, port_guid_of, port_count_of, cap_of, is_switch_in, is_switch_node, is_usable, switches}
 use Rattle.subnet_view.specs.EndPorts.{end_ports}
@@ -14,15 +14,15 @@ use Rattle.subnet_view.proofs.EndPortList.{end_ports_law}
 use Rattle.subnet_view.proofs.Members.{contains_here, contains_later, contains_cases, contains_none}
 use Rattle.subnet_view.proofs.UsableSwitches.{switches_law}
 use Rattle.subnet_view.proofs.WireLaws.{wire_law}
-use Rattle.updown_routes.specs.Crossing.{Crossing}
-use Rattle.updown_routes.specs.Graph.{exit_at, exits_of, graph_of}
-use Rattle.spread_rule.specs.Bearing.{bearing_of, bears, bears_at}
-use Rattle.spread_rule.specs.Rules.{RuleValue}
-use Rattle.spread_rule.proofs.Whole.{rules_stay}
+use Rattle.updown_routes.specs.SwitchEdges.{SwitchEdges}
+use Rattle.updown_routes.specs.Graph.{edge_at, edges_of, graph_of}
+use Rattle.spread_routes.specs.LeafSwitches.{leaf_switches_of, is_leaf, has_adapter_at}
+use Rattle.lft_blocks.specs.Rules.{RuleValue}
+use Rattle.lft_blocks.proofs.RulesRoute.{rules_stay}
 use Rattle.lid_assign.specs.Ranges.{range_at, meets}
 use Rattle.lid_assign.specs.Lids.{IsNoRoom, if_fits, fitting_claim, claims, with_kept, kept, kept_range, hand_out, handed_out, lids, owner_of, top_of}
 use Rattle.lid_assign.proofs.Staying.{still_room, lids_same}
-use Rattle.lft_blocks.specs.Entries.{home_of, block_count}
+use Rattle.lft_blocks.specs.Entries.{attachment_of, block_count}
 use Rattle.lft_blocks.specs.Plan.{tables_of, plan_of}
 use Rattle.takeover_laws.specs.Alike.{IsAlike, ClaimAlike, AlikeViewsPlanAlike, ClaimedPlansStay}
 use Rattle.takeover_laws.proofs.Alike.{map_same, filter_same, end_ports_same, switches_same, usable_same, across_same, room_same}
@@ -46,11 +46,11 @@ module _ (z : Cells) (g p : ℕ) where
         | Some q ↦ λ e. h q ((wire_law z g p q.0 q.1).0 e)
       ] refl
 
-  abbrev exit_by : (ℕ → Bool) → Option (ℕ × ℕ) → Option Exit
-  exit_by usable o = option_and_then (λ q. cond (usable q.0) (Some (record { port = p; to = q.0 })) None) o
+  abbrev edge_by : (ℕ → Bool) → Option (ℕ × ℕ) → Option Edge
+  edge_by usable o = option_and_then (λ q. cond (usable q.0) (Some (record { port = p; to = q.0 })) None) o
 
-  exit_is : exit_at z g p ≡ exit_by (is_usable z) (across z g p)
-  exit_is =
+  edge_is : edge_at z g p ≡ edge_by (is_usable z) (across z g p)
+  edge_is =
       by_wire (λ q. cond (is_switch_node z q.0) (Some (record { port = p; to = q.0 })) None) (λ q. cond (is_usable z q.0) (Some (record { port = p; to = q.0 })) None)
       (λ q w. ap (λ b. cond b (Some (record { port = p; to = q.0 })) None) (end_usable z q.0 q.1 w.second))
 
@@ -72,7 +72,7 @@ module _ (z : Cells) (g p : ℕ) where
   abbrev home_by : (ℕ → Bool) → Option (ℕ × ℕ) → Option (ℕ × ℕ)
   home_by usable o = cond (usable g) (Some (g, 0)) (far_by usable o)
 
-  home_is : home_of z (record { node = g; port = p }) ≡ home_by (is_usable z) (across z g p)
+  home_is : attachment_of z (record { node = g; port = p }) ≡ home_by (is_usable z) (across z g p)
   home_is =
       elim (is_usable z g) as (λ t. is_usable z g ≡ t → cond t (Some (g, 0)) (attached z g p) ≡ cond t (Some (g, 0)) (far_by (is_usable z) (across z g p))) [
         | true ↦ λ e. refl
@@ -88,10 +88,10 @@ module _ (x y : Facts) (alike : IsAlike (cells_of x) (cells_of y)) where
   usable_as : (g : ℕ) → is_usable (cells_of x) g ≡ is_usable (cells_of y) g
   usable_as = usable_same x y alike
 
-  exit_same : (g p : ℕ) → exit_at (cells_of x) g p ≡ exit_at (cells_of y) g p
-  exit_same g p = exit_is (cells_of x) g p ∙ (λ i. exit_by (cells_of x) g p (λ h. usable_as h i) (across_same x y alike g p i)) ∙ sym (exit_is (cells_of y) g p)
+  edge_same : (g p : ℕ) → edge_at (cells_of x) g p ≡ edge_at (cells_of y) g p
+  edge_same g p = edge_is (cells_of x) g p ∙ (λ i. edge_by (cells_of x) g p (λ h. usable_as h i) (across_same x y alike g p i)) ∙ sym (edge_is (cells_of y) g p)
 
-  home_same : (e : EndPort) → home_of (cells_of x) e ≡ home_of (cells_of y) e
+  home_same : (e : EndPort) → attachment_of (cells_of x) e ≡ attachment_of (cells_of y) e
   home_same e =
       home_is (cells_of x) e.node e.port ∙ (λ i. home_by (cells_of x) e.node e.port (λ h. usable_as h i) (across_same x y alike e.node e.port i))
       ∙ sym (home_is (cells_of y) e.node e.port)
@@ -99,29 +99,29 @@ module _ (x y : Facts) (alike : IsAlike (cells_of x) (cells_of y)) where
   count_there : (g : ℕ) → Contains (switches (cells_of x)) g → port_count_of (cells_of x) g ≡ port_count_of (cells_of y) g
   count_there g h = alike.counts g (((switches_law x).0 g).0 h)
 
-  abbrev crossing : Cells → ℕ → Crossing
-  crossing z g = record { guid = g; exits = exits_of z g }
+  abbrev crossing : Cells → ℕ → SwitchEdges
+  crossing z g = record { guid = g; edges = edges_of z g }
 
   graph_same : graph_of (cells_of x) ≡ graph_of (cells_of y)
   graph_same =
       map_same (crossing (cells_of x)) (crossing (cells_of y)) (switches (cells_of x))
-      (λ g h. λ i. record { guid = g; exits = filter_map (λ p. exit_same g p i) (range_with_len 1 (count_there g h i)) })
+      (λ g h. λ i. record { guid = g; edges = filter_map (λ p. edge_same g p i) (range_with_len 1 (count_there g h i)) })
       ∙ ap (map (crossing (cells_of y))) (switches_same x y alike)
 
-  bears_at_same : (g p : ℕ) → bears_at (cells_of x) g p ≡ bears_at (cells_of y) g p
-  bears_at_same g p = λ i. option_map_or (λ q. not (usable_as q.0 i)) (across_same x y alike g p i) false
+  has_adapter_at_same : (g p : ℕ) → has_adapter_at (cells_of x) g p ≡ has_adapter_at (cells_of y) g p
+  has_adapter_at_same g p = λ i. option_map_or (λ q. not (usable_as q.0 i)) (across_same x y alike g p i) false
 
-  bearing_same : bearing_of (cells_of x) ≡ bearing_of (cells_of y)
-  bearing_same =
-      filter_same (bears (cells_of x)) (bears (cells_of y)) (switches (cells_of x))
-      (λ g h. λ i. list_any (λ p. bears_at_same g p i) (range_with_len 1 (count_there g h i)))
-      ∙ ap (filter (bears (cells_of y))) (switches_same x y alike)
+  leaf_switches_same : leaf_switches_of (cells_of x) ≡ leaf_switches_of (cells_of y)
+  leaf_switches_same =
+      filter_same (is_leaf (cells_of x)) (is_leaf (cells_of y)) (switches (cells_of x))
+      (λ g h. λ i. list_any (λ p. has_adapter_at_same g p i) (range_with_len 1 (count_there g h i)))
+      ∙ ap (filter (is_leaf (cells_of y))) (switches_same x y alike)
 
   plan_same : (rule : RuleValue) (lmc : ℕ) → lids lmc (cells_of x) ≡ lids lmc (cells_of y) → plan_of rule lmc (cells_of x) ≡ plan_of rule lmc (cells_of y)
   plan_same rule lmc given =
       λ i. record {
         given = given i;
-        tables = tables_of (λ lid. option_and_then (λ e. home_same e i) (owner_of (given i) lid)) (rules_stay rule x y graph_same bearing_same i).next
+        tables = tables_of (λ lid. option_and_then (λ e. home_same e i) (owner_of (given i) lid)) (rules_stay rule x y graph_same leaf_switches_same i).next
             (block_count (top_of (given i))) (switches_same x y alike i);
       }
 

@@ -5,13 +5,13 @@ use Rattle.std.proofs.lemmas.List.Elements.{Contains-append_left}
 use Rattle.std.proofs.lemmas.Option.{same_Some}
 use Rattle.std.specs.Prelude.{Contains, Some, is_some, max, nat_le, option_map}
 use Rattle.std.specs.List.{filter_map}
-use Rattle.smp_bytes.specs.declared.cable.NodePort.{NodePort}
+use Rattle.fabric_model.specs.declared.cable.NodePort.{NodePort}
 use Rattle.smp_bytes.specs.declared.node_type.NodeType.{NodeType}
 use Rattle.smp_bytes.specs.declared.node_type.NodeType.TheVariants.{Switch}
 use Rattle.smp_bytes.specs.NodeType.{is_switch}
-use Rattle.smp_bytes.specs.Fabric as fabrics
-use Rattle.smp_bytes.specs.Fabric.{Fabric, Node}
-use Rattle.smp_bytes.specs.FabricWalks.{IsJoinedTo}
+use Rattle.fabric_model.specs.Fabric as fabrics
+use Rattle.fabric_model.specs.Fabric.{Fabric, Node}
+use Rattle.fabric_model.specs.FabricWalks.{IsJoinedTo}
 use Rattle.fact_join.specs.Cell.{generation_of}
 use Rattle.fact_store.specs.Floor.{entries-dropped, kept}
 use Rattle.fact_store.specs.Seen.{newest_of}
@@ -35,9 +35,9 @@ use Rattle.lid_assign.proofs.Owners.{lid-from_given}
 use Rattle.lid_assign.proofs.Ranges.{some_width}
 use Rattle.lid_assign.proofs.Tops.{last_at_most, top_below}
 use Rattle.sm_manager.specs.Manager.{newest_held}
-use Rattle.written_laws.specs.Written.{at_writing}
-use Rattle.written_laws.proofs.Arrive.{pings_arrive_once_written}
-use Rattle.written_laws.proofs.Held as held
+use Rattle.manager_laws.specs.Written.{at_writing}
+use Rattle.manager_laws.proofs.Arrive.{pings_arrive_once_written}
+use Rattle.manager_laws.proofs.Held as held
 use Rattle.takeover_laws.specs.Rest.{FloorsForget, IsRestOf, LidsOutlast, RaisedManagersKnowNothing, RestIsServed}
 use Rattle.takeover_laws.specs.Takeover.{planning_at}
 use Rattle.takeover_laws.proofs.Takeover.{found_agrees, found_claims}

@@ -2,12 +2,12 @@
 use Rattle.std.proofs.Common.{◌≡◌, ◌⊎◌, inl, inr, ℕ, ◌+◌, ◌/◌, ◌%◌, ◌^◌, ◌<◌, ◌≤◌, true, cond, List, length, get_or, sym, ap, ◌∙◌, arith}
 use Rattle.std.proofs.lemmas.List.{ext_get_or, get_or-drop, get_or-take, length-drop, length-take-le}
 use Rattle.std.specs.Prelude.{Some, slice_index, take, drop, ◌==◌}
-use Rattle.smp_bytes.specs.declared.cable.NodePort.{NodePort}
+use Rattle.fabric_model.specs.declared.cable.NodePort.{NodePort}
 use Rattle.smp_bytes.specs.Field.{Field, number_in, bytes_in}
 use Rattle.smp_bytes.specs.Packet.{mgmt_class, attribute_id, attribute_modifier, attribute_data, hop_count, status_word, is_directed, is_returning, status}
-use Rattle.smp_bytes.specs.DirectedWalk.{directed_end}
+use Rattle.fabric_model.specs.DirectedWalk.{directed_end}
 use Rattle.smp_bytes.proofs.BitLaws.{byte-number_in}
-use Rattle.smp_bytes.proofs.PlaceLaws.{bytes_in-alike}
+use Rattle.smp_bytes.proofs.OffsetLaws.{bytes_in-alike}
 use Rattle.dr_forward.proofs.Trips.{field_kept}
 use Rattle.fabric_sim.specs.Simulation.{Simulation, fabric_of}
 use Rattle.fabric_sim.specs.Tells.{path_of}
@@ -25,7 +25,7 @@ module _ (Sends : NodePort → List ℕ → Type 0) (Tells : NodePort → NodePo
     same_modifier = same attribute_modifier (inr (omega arith, omega arith))
 
     pub same_data : bytes_in attribute_data bytes ≡ bytes_in attribute_data r.answer
-    same_data = bytes_in-alike attribute_data bytes r.answer (omega (arith, r.count)) (omega (arith, r.is.count)) (λ place from less. r.kept place (inr (omega (arith, from), omega (arith, less))))
+    same_data = bytes_in-alike attribute_data bytes r.answer (omega (arith, r.count)) (omega (arith, r.is.count)) (λ id from less. r.kept id (inr (omega (arith, from), omega (arith, less))))
 
     pub same_status : status bytes ≡ status r.answer
     same_status =

@@ -3,23 +3,23 @@ use Rattle.std.proofs.Common.{◌≡◌, ℕ, List, [], ◌∷◌, ◌++◌, ref
 use Rattle.std.proofs.lemmas.Bool.{cond_both}
 use Rattle.std.proofs.lemmas.List.Elements.{All-nil, All-cons}
 use Rattle.std.specs.Prelude.{Option, Some, None, All, slice_get}
-use Rattle.smp_bytes.specs.declared.cable.NodePort.{NodePort}
-use Rattle.smp_bytes.specs.Cables.{is_same_port}
+use Rattle.fabric_model.specs.declared.cable.NodePort.{NodePort}
+use Rattle.fabric_model.specs.Cables.{is_same_port}
 use Rattle.fabric_sim.specs.Simulation.{Simulation}
 use Rattle.lft_blocks.specs.Plan.{PlanValue}
 use Rattle.sweep.specs.declared.request.Request.{Request}
 use Rattle.sm_manager.specs.declared.outgoing.Outgoing.{Outgoing}
-use Rattle.sm_laws.specs.Scene.{Handed, Scene, Event, Send as SendFrom, CanHappen, after_event, sent, sent_from}
-use Rattle.sm_laws.specs.Sweeping as sweeping
-use Rattle.sm_laws.specs.Sweeping.{Sweeping, SweepEvent, asking_more, after_sweep_event, after_sweep_events}
-use Rattle.written_laws.specs.Managing.{Managing, ManagerEvent, Around, Begin, Write, Take, Send, Hear, TimeOut, Raise, Merge, Poll, HandOver}
-use Rattle.written_laws.specs.Managing.{CanBe, hearing, packet_of, sending, after_manager_event}
-use Rattle.smp_bytes.specs.Fabric.{Fabric}
-use Rattle.sweep.specs.Sweep.{sent as sent_of_sweep}
-use Rattle.written_laws.proofs.Followed.{on_scene, asks}
+use Rattle.manager_laws.specs.Scene.{Handed, Scene, Event, Send as SendFrom, CanHappen, after_event, sent, sent_from}
+use Rattle.manager_laws.specs.Sweeping as sweeping
+use Rattle.manager_laws.specs.Sweeping.{Sweeping, SweepEvent, asking_more, after_sweep_event, after_sweep_events}
+use Rattle.manager_laws.specs.Managing.{Managing, ManagerEvent, Around, Begin, Write, Take, Send, Hear, TimeOut, Raise, Merge, Poll, HandOver}
+use Rattle.manager_laws.specs.Managing.{CanBe, hearing, packet_of, sending, after_manager_event}
+use Rattle.fabric_model.specs.Fabric.{Fabric}
+use Rattle.sweep.specs.Sweep.{after_next_request as sent_of_sweep}
+use Rattle.manager_laws.proofs.Followed.{on_scene, asks}
 use Rattle.takeover_laws.specs.Claims.{HasLidsOf, LidsStay}
-use Rattle.written_laws.proofs.Fair.{IsFair, IsOwnPacket, own_there}
-use Rattle.written_laws.proofs.Steps.{StepSent}
+use Rattle.manager_laws.proofs.Fair.{IsFair, IsOwnPacket, own_there}
+use Rattle.manager_laws.proofs.Steps.{StepSent}
 
 -- what happens to the scene happens around a sweep
 pub record SeenKeeping (f : Fabric) (before after : Scene) : Type 0 where

@@ -3,8 +3,8 @@ use Rattle.std.proofs.Common.{◌≡◌, inl, inr, ℕ, ◌<◌, ◌≤◌, ◌^
 use Rattle.std.proofs.lemmas.List.Elements.{All-nil, All-head, All-tail}
 use Rattle.std.proofs.lemmas.Option.{same_Some}
 use Rattle.std.specs.Prelude.{Some, All}
-use Rattle.smp_bytes.specs.Fabric as fabrics
-use Rattle.smp_bytes.specs.FabricWalks.{IsJoinedTo}
+use Rattle.fabric_model.specs.Fabric as fabrics
+use Rattle.fabric_model.specs.FabricWalks.{IsJoinedTo}
 use Rattle.fabric_sim.specs.Simulation.{fabric_of}
 use Rattle.fact_store.specs.declared.report.Report.{Report}
 use Rattle.fact_store.specs.Seen.{newest_of}
@@ -16,32 +16,32 @@ use Rattle.lft_blocks.specs.Arrival.{HoldsPlan}
 use Rattle.lid_assign.specs.Lids.{IsNoRoom}
 use Rattle.sweep.specs.Sweep.{Sweep, started}
 use Rattle.sm_manager.specs.Manager.{newest_held, next_generation, with_all_sent}
-use Rattle.sm_laws.specs.Pings.{EachPingArrives}
-use Rattle.sm_laws.specs.Scene.{Scene}
-use Rattle.sm_laws.specs.Sweeping as sweeping
-use Rattle.sm_laws.specs.Sweeping.{Sweeping, SweepEvent, Begins, after_sweep_events}
-use Rattle.sm_laws.proofs.PlannedPings.{pings_arrive}
-use Rattle.sweep_complete.specs.Complete.{IsWhole, facts_of}
-use Rattle.sweep_complete.proofs.Done.{done_sweeps_are_complete, seat_end}
-use Rattle.sweep_complete.proofs.Sweeps.{told_in}
-use Rattle.written_laws.specs.Managing.{Managing, ManagerEvent, Begin, CanBe, after_manager_event, after_manager_events}
-use Rattle.written_laws.specs.Pings.{AreNoSweeps}
-use Rattle.written_laws.specs.Written.{IsWritingRun, SweepsFirst, at_end, at_writing, plan_at}
-use Rattle.written_laws.proofs.Before.{begins_first, event_goes}
-use Rattle.written_laws.proofs.Followed.{on_scene, runs_append, can_append, asks, asks_can, asks_all}
-use Rattle.written_laws.proofs.Follows.{Follows, holds_all}
-use Rattle.smp_bytes.specs.Fabric.{Fabric}
+use Rattle.manager_laws.specs.Pings.{EachPingArrives}
+use Rattle.manager_laws.specs.Scene.{Scene}
+use Rattle.manager_laws.specs.Sweeping as sweeping
+use Rattle.manager_laws.specs.Sweeping.{Sweeping, SweepEvent, Begins, after_sweep_events}
+use Rattle.manager_laws.proofs.PlannedPings.{pings_arrive}
+use Rattle.manager_laws.specs.Complete.{IsWhole, facts_of}
+use Rattle.manager_laws.proofs.Done.{done_sweeps_are_complete, seat_end}
+use Rattle.manager_laws.proofs.Sweeps.{told_in}
+use Rattle.manager_laws.specs.Managing.{Managing, ManagerEvent, Begin, CanBe, after_manager_event, after_manager_events}
+use Rattle.manager_laws.specs.WritingPings.{AreNoSweeps}
+use Rattle.manager_laws.specs.Written.{IsWritingRun, SweepsFirst, at_end, at_writing, plan_at}
+use Rattle.manager_laws.proofs.Before.{begins_first, event_goes}
+use Rattle.manager_laws.proofs.Followed.{on_scene, runs_append, can_append, asks, asks_can, asks_all}
+use Rattle.manager_laws.proofs.Follows.{Follows, holds_all}
+use Rattle.fabric_model.specs.Fabric.{Fabric}
 use Rattle.fact_store.specs.View.{Facts}
-use Rattle.written_laws.proofs.Arrive.{pings_arrive_once_written}
+use Rattle.manager_laws.proofs.Arrive.{pings_arrive_once_written}
 use Rattle.takeover_laws.specs.Alike.{ClaimsAreTrue}
 use Rattle.takeover_laws.specs.Claims.{HasLidsOf, LidsStay}
 use Rattle.takeover_laws.specs.Takeover.{LidsStayAround, TakesOver, TakeoverChangesNothing, planning_at, plan_by_it}
 use Rattle.takeover_laws.proofs.Claimed.{swept_claims_are_true, takeovers_change_nothing}
 use Rattle.takeover_laws.proofs.Seen.{SeenKeeping, event_seen, asks_lids, lids_append}
 use Rattle.takeover_laws.proofs.Following.{IsFollowed, event_followed}
-use Rattle.written_laws.proofs.Generations.{AreOf, floor_small}
-use Rattle.written_laws.proofs.Goes.{Goes}
-use Rattle.written_laws.proofs.Held as held
+use Rattle.manager_laws.proofs.Generations.{AreOf, floor_small}
+use Rattle.manager_laws.proofs.Goes.{Goes}
+use Rattle.manager_laws.proofs.Held as held
 
 -- scenes one after the other ---------------------------------------------------------------------------------
 

@@ -3,38 +3,37 @@ use Rattle.std.proofs.Common.{◌≡◌, inl, inr, ℕ, List, [], ◌∷◌, ref
 use Rattle.std.proofs.lemmas.Bool.{cond_both}
 use Rattle.std.proofs.lemmas.List.Elements.{All-head, All-tail}
 use Rattle.std.specs.Prelude.{Option, Some, None, All, slice_get}
-use Rattle.smp_bytes.specs.declared.cable.NodePort.{NodePort}
-use Rattle.smp_bytes.specs.Cables.{is_same_port}
-use Rattle.smp_bytes.specs.Fabric as fabrics
-use Rattle.smp_bytes.specs.Fabric.{Node}
-use Rattle.smp_bytes.specs.FabricWalks.{IsJoinedTo}
+use Rattle.fabric_model.specs.declared.cable.NodePort.{NodePort}
+use Rattle.fabric_model.specs.Cables.{is_same_port}
+use Rattle.fabric_model.specs.Fabric as fabrics
+use Rattle.fabric_model.specs.FabricWalks.{IsJoinedTo}
 use Rattle.node_agents.specs.Agent.{Agent}
 use Rattle.fact_store.specs.View.{Facts, cells_of}
 use Rattle.fabric_sim.specs.declared.packet.Packet.{Packet}
 use Rattle.fabric_sim.specs.Simulation.{Simulation, fabric_of}
-use Rattle.fabric_sim.specs.Changes.{lost, repeated}
-use Rattle.fabric_sim.specs.Delivery.{delivered}
+use Rattle.fabric_sim.specs.Changes.{after_lose, after_repeat}
+use Rattle.fabric_sim.specs.Delivery.{after_deliver}
 use Rattle.fabric_sim.proofs.Courses.{AnySends, SaysSo}
 use Rattle.fabric_sim.proofs.TracedCalls.{agents_after, injected_agents, lost_agents, repeated_agents}
 use Rattle.subnet_view.specs.Agreement.{AgreesOn}
 use Rattle.lid_assign.specs.Lids.{IsNoRoom}
-use Rattle.spread_rule.specs.Rules.{RuleValue}
+use Rattle.lft_blocks.specs.Rules.{RuleValue}
 use Rattle.lft_blocks.specs.Arrival.{HoldsPlan}
 use Rattle.lft_blocks.specs.Plan.{PlanValue, plan_of}
 use Rattle.sm_manager.specs.declared.outgoing.Outgoing.{Outgoing}
-use Rattle.sm_laws.specs.Scene.{Handed, Scene, Sending, ByLid, ByPath, Answer, Event, Deliver, Lose, Repeat, Send as SendFrom, after_event, answer_to, answered_from, asks_manager, sent, sent_from}
-use Rattle.sm_laws.proofs.Answers.{Continues}
-use Rattle.sm_laws.proofs.PlannedPings.{pings_arrive}
-use Rattle.sweep_complete.proofs.Alike.{agrees_along, end_port_along}
-use Rattle.written_laws.specs.Managing.{Managing, ManagerEvent, Around, Begin, Write, Take, Send, Hear, TimeOut, Raise, Merge, Poll, HandOver}
-use Rattle.written_laws.specs.Managing.{CanBe, hearing, packet_of, sending, after_manager_event, after_manager_events}
-use Rattle.written_laws.specs.Sets.{Carries, KeepsPlan, TakesSet}
-use Rattle.written_laws.specs.Written.{AllKeep, Keeps, IsWritingRun, SweepsFirst, at_first_steps, at_writing, own_sets, plan_at}
-use Rattle.written_laws.proofs.After.{Writes, event_writes}
-use Rattle.written_laws.proofs.Before.{begins_first, event_goes}
-use Rattle.written_laws.proofs.Goes.{Goes}
-use Rattle.written_laws.proofs.Held as held
-use Rattle.written_laws.proofs.Sweeps.{Ground}
+use Rattle.manager_laws.specs.Scene.{Handed, Scene, Sending, ByLid, ByPath, Answer, Event, Deliver, Lose, Repeat, Send as SendFrom, after_event, answer_to, answered_from, asks_manager, sent, sent_from}
+use Rattle.manager_laws.proofs.Answers.{Continues}
+use Rattle.manager_laws.proofs.PlannedPings.{pings_arrive}
+use Rattle.manager_laws.proofs.Alike.{agrees_along, end_port_along}
+use Rattle.manager_laws.specs.Managing.{Managing, ManagerEvent, Around, Begin, Write, Take, Send, Hear, TimeOut, Raise, Merge, Poll, HandOver}
+use Rattle.manager_laws.specs.Managing.{CanBe, hearing, packet_of, sending, after_manager_event, after_manager_events}
+use Rattle.manager_laws.specs.Sets.{Carries, KeepsPlan, TakesSet}
+use Rattle.manager_laws.specs.Written.{AllKeep, Keeps, IsWritingRun, SweepsFirst, at_first_steps, at_writing, own_sets, plan_at}
+use Rattle.manager_laws.proofs.After.{Writes, event_writes}
+use Rattle.manager_laws.proofs.Before.{begins_first, event_goes}
+use Rattle.manager_laws.proofs.Goes.{Goes}
+use Rattle.manager_laws.proofs.Held as held
+use Rattle.manager_laws.proofs.WritingSweeps.{Ground}
 use Rattle.takeover_laws.specs.Takeover.{AllCarry, Carrying, IsInUse, InUseAlong, IsInUseThroughout, PingsArriveThroughout, TakesOverQuietly, planning_at, plan_by_it}
 use Rattle.takeover_laws.proofs.HeldOn.{AreListed, HeldOn, delivery_keeps, held_later, holds_now, same_keep}
 use Rattle.takeover_laws.proofs.Listed.{are_listed}
@@ -73,13 +72,13 @@ module _ (start : Simulation) (seat : NodePort) (plan : PlanValue) (listed : Are
         → ((serial : ℕ) → event ≡ Deliver serial → (at : NodePort) (a : Agent) (packet : List ℕ) → TakesSet w.fabric serial at a packet → Carries plan a at.port packet)
         → HeldIn w.fabric → HeldIn (after_event w event).fabric
     around_held (Deliver n) carry h =
-        held_later start plan (IsJoinedTo (fabric_of start) seat) listed w.fabric (delivered w.fabric n).fabric c.fabric.along
+        held_later start plan (IsJoinedTo (fabric_of start) seat) listed w.fabric (after_deliver w.fabric n).fabric c.fabric.along
         (delivery_keeps start plan (IsJoinedTo (fabric_of start) seat) w.fabric seat c.fabric.along n (carry n refl)
         (agents_after AnySends (SaysSo start) ground.cables ground.counts c.fabric.along c.fabric.is c.fabric.flights n)) h
     around_held (Lose n) carry h =
-        keeps_still (lost w.fabric n).fabric (lost_agents AnySends (SaysSo start) ground.cables ground.counts c.fabric.along c.fabric.is c.fabric.flights n) h
+        keeps_still (after_lose w.fabric n).fabric (lost_agents AnySends (SaysSo start) ground.cables ground.counts c.fabric.along c.fabric.is c.fabric.flights n) h
     around_held (Repeat n) carry h =
-        keeps_still (repeated w.fabric n).fabric (repeated_agents AnySends (SaysSo start) ground.cables ground.counts c.fabric.along c.fabric.is c.fabric.flights n) h
+        keeps_still (after_repeat w.fabric n).fabric (repeated_agents AnySends (SaysSo start) ground.cables ground.counts c.fabric.along c.fabric.is c.fabric.flights n) h
     around_held (SendFrom at sending_it) carry h = keeps_still (sent w at sending_it).fabric (sending_still at sending_it) h
 
   -- whatever happens to the manager ------------------------------------------------------------------------------

@@ -1,9 +1,9 @@
 -- After a cut: what a floor forgets, which LIDs stay, and what a manager brings up that takes over the rest.
 use Rattle.std.specs.Prelude.{◌≡◌, ◌<◌, ℕ, true, max, List, [], Contains, Some}
-use Rattle.smp_bytes.specs.declared.cable.NodePort.{NodePort}
-use Rattle.smp_bytes.specs.Fabric as fabric
-use Rattle.smp_bytes.specs.Fabric.{Fabric, range_at}
-use Rattle.smp_bytes.specs.FabricWalks.{IsJoinedTo}
+use Rattle.fabric_model.specs.declared.cable.NodePort.{NodePort}
+use Rattle.fabric_model.specs.Fabric as fabric
+use Rattle.fabric_model.specs.Fabric.{range_at}
+use Rattle.fabric_model.specs.FabricWalks.{IsJoinedTo}
 use Rattle.fact_store.specs.View.{Facts, cells_of, raised}
 use Rattle.fabric_sim.specs.Simulation.{fabric_of}
 use Rattle.subnet_view.specs.declared.end_port.EndPort.{EndPort}
@@ -12,11 +12,11 @@ use Rattle.subnet_view.specs.EndPorts.{end_ports}
 use Rattle.subnet_view.specs.Agreement.{IsEndPortIn, TellsEndPort}
 use Rattle.lid_assign.specs.Lids.{IsNoRoom, lids, lid_of, range_of, room, top_of}
 use Rattle.sm_manager.specs.Manager.{new_manager, newest_held, next_generation}
-use Rattle.sm_manager.specs.Planning.{Planning}
+use Rattle.lft_blocks.specs.Planning.{Planning}
 use Rattle.sm_manager.specs.Writing.{is_written}
-use Rattle.sm_laws.specs.Pings.{EachPingArrives}
-use Rattle.written_laws.specs.Managing.{Managing, ManagerEvent, Raise, after_manager_event}
-use Rattle.written_laws.specs.Written.{at_end, at_writing, plan_at}
+use Rattle.manager_laws.specs.Pings.{EachPingArrives}
+use Rattle.manager_laws.specs.Managing.{Managing, ManagerEvent, Raise, after_manager_event}
+use Rattle.manager_laws.specs.Written.{at_end, at_writing, plan_at}
 use Rattle.takeover_laws.specs.Takeover.{SweepsAlone, planning_at, plan_by_it}
 
 -- floors -------------------------------------------------------------------------------------------------

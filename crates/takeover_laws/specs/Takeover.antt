@@ -1,7 +1,7 @@
 -- A manager takes over a subnet that holds a plan: it sweeps while no LID changes, and comes to this plan.
 use Rattle.std.specs.Prelude.{◌≡◌, ℕ, true, List, [], ◌∷◌, Some}
-use Rattle.smp_bytes.specs.Fabric.{Fabric}
-use Rattle.smp_bytes.specs.FabricWalks.{IsJoinedTo}
+use Rattle.fabric_model.specs.Fabric.{Fabric}
+use Rattle.fabric_model.specs.FabricWalks.{IsJoinedTo}
 use Rattle.fact_store.specs.View.{Facts, cells_of}
 use Rattle.fabric_sim.specs.Simulation.{fabric_of}
 use Rattle.subnet_view.specs.Agreement.{AgreesOn}
@@ -10,17 +10,17 @@ use Rattle.lft_blocks.specs.Plan.{PlanValue, plan_of}
 use Rattle.lft_blocks.specs.Arrival.{HoldsPlan}
 use Rattle.sweep.specs.Sweep.{Sweep}
 use Rattle.sm_manager.specs.Manager.{new_manager}
-use Rattle.sm_manager.specs.Planning.{Planning}
+use Rattle.lft_blocks.specs.Planning.{Planning}
 use Rattle.sm_manager.specs.Writing.{is_written}
-use Rattle.sm_laws.specs.Pings.{EachPingArrives}
-use Rattle.sweep_complete.specs.Complete.{IsWhole}
-use Rattle.smp_bytes.specs.declared.cable.NodePort.{NodePort}
+use Rattle.manager_laws.specs.Pings.{EachPingArrives}
+use Rattle.manager_laws.specs.Complete.{IsWhole}
+use Rattle.fabric_model.specs.declared.cable.NodePort.{NodePort}
 use Rattle.fabric_sim.specs.Simulation.{Simulation}
-use Rattle.spread_rule.specs.Rules.{RuleValue}
-use Rattle.written_laws.specs.Sets.{KeepsPlan, OwnSets}
-use Rattle.written_laws.specs.Managing.{Managing, ManagerEvent, Around, Begin, after_manager_event, after_manager_events}
-use Rattle.written_laws.specs.Pings.{AreNoSweeps}
-use Rattle.written_laws.specs.Written.{IsWritingRun, at_writing, at_first_steps, at_end, plan_at}
+use Rattle.lft_blocks.specs.Rules.{RuleValue}
+use Rattle.manager_laws.specs.Sets.{KeepsPlan, OwnSets}
+use Rattle.manager_laws.specs.Managing.{Managing, ManagerEvent, Around, Begin, after_manager_event, after_manager_events}
+use Rattle.manager_laws.specs.WritingPings.{AreNoSweeps}
+use Rattle.manager_laws.specs.Written.{IsWritingRun, at_writing, at_first_steps, at_end, plan_at}
 use Rattle.takeover_laws.specs.Claims.{HasLidsOf}
 
 -- at each moment of what happens each port has the LID that it has in this fabric

@@ -50,7 +50,7 @@ pub fn held_plans_are_planned()
 
 /// While no port gets another LID, each claim of a report that a sweep accepts is the LID that the
 /// port has: on every fabric whose nodes have different GUIDs, whatever other managers send
-/// of what `sm_laws::laws::answers_tell` names, whatever is lost, copied and reordered.
+/// of what `manager_laws::laws::answers_tell` names, whatever is lost, copied and reordered.
 pub fn accepted_claims_are_true()
     ensures { AcceptedClaimsAreTrue }
 {}

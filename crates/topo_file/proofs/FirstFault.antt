@@ -8,13 +8,13 @@ use Rattle.text_words.specs.Text.{lines}
 use Rattle.topo_file.specs.declared.draft.LinkAt.{LinkAt}
 use Rattle.topo_file.specs.declared.fault.TopoFault.{TopoFault}
 use Rattle.topo_file.specs.declared.fault.TopoFault.TheVariants.{Syntax, Name, Ports, Peer, Port, Linked, GuidRange, TooManyNodes, Memory}
-use Rattle.topo_file.specs.declared.line.Line.{Line}
-use Rattle.topo_file.specs.declared.line.Line.TheVariants as line
+use Rattle.topo_file.specs.declared.line.TopologyLine.{TopologyLine}
+use Rattle.topo_file.specs.declared.line.TopologyLine.TheVariants as line
 use Rattle.topo_file.specs.declared.line.LinkLine.{LinkLine}
 use Rattle.topo_file.specs.declared.node.Node.{Node}
-use Rattle.topo_file.specs.Line.{line_of}
-use Rattle.topo_file.specs.Topology.{Layout, place_of}
-use Rattle.topo_file.specs.Reading.{◌>>=◌, Lines, node_of, told_by, topology_in, topology_of, node_with, is_beyond, with_line, with_lines, with_link_line, with_node}
+use Rattle.topo_file.specs.TopologyLine.{line_of}
+use Rattle.topo_file.specs.Topology.{Layout, id_of}
+use Rattle.topo_file.specs.Reading.{◌>>=◌, Lines, node_of, nodes_of_lines, topology_in, topology_of, node_with, is_beyond, with_line, with_lines, with_link_line, with_node}
 use Rattle.topo_file.specs.TopoFault.{IsRefused}
 use Rattle.topo_file.specs.declared.line.NodeLine.{NodeLine}
 use Rattle.topo_file.proofs.Folds.{refused_then}
@@ -36,12 +36,12 @@ still_some : (o : Option ℕ) → is_some (option_map suc o) ≡ is_some o
 still_some None = refl
 still_some (Some n) = refl
 
-used_same : (nodes : List Node) (name : List ℕ) → is_used (names_of nodes) name ≡ is_some (place_of nodes name)
+used_same : (nodes : List Node) (name : List ℕ) → is_used (names_of nodes) name ≡ is_some (id_of nodes name)
 used_same [] name = refl
 used_same (node ∷ nodes) name =
-    elim (bytes_eq node.name name) as (λ b. (b || is_used (names_of nodes) name) ≡ is_some (if b then Some 0 else option_map suc (place_of nodes name))) [
+    elim (bytes_eq node.name name) as (λ b. (b || is_used (names_of nodes) name) ≡ is_some (if b then Some 0 else option_map suc (id_of nodes name))) [
       | true ↦ refl
-      | false ↦ used_same nodes name ∙ sym (still_some (place_of nodes name))
+      | false ↦ used_same nodes name ∙ sym (still_some (id_of nodes name))
     ]
 
 -- what lines tell, by the names of its nodes
@@ -60,7 +60,7 @@ node_same : (number : ℕ) (before : Lines) (node : Result Node TopoFault)
     → seen (node >>= with_node number before.nodes >>= λ nodes. Ok (record before { nodes = nodes })) ≡ (node >>= λ n. with_new_name number (names_of before.nodes) n.name)
 node_same number before (Err fault) = refl
 node_same number before (Ok node) =
-    tested (is_some (place_of before.nodes node.name)) (nat_lt (length before.nodes) 1024) number before node
+    tested (is_some (id_of before.nodes node.name)) (nat_lt (length before.nodes) 1024) number before node
     ∙ ap (λ a. if a then Err (Name number) else (if nat_lt (length before.nodes) 1024 then Ok (names_of before.nodes ++ Some node.name ∷ []) else Err (TooManyNodes number))) (sym (used_same before.nodes node.name))
     ∙ ap (λ n. if is_used (names_of before.nodes) node.name then Err (Name number) else (if nat_lt n 1024 then Ok (names_of before.nodes ++ Some node.name ∷ []) else Err (TooManyNodes number))) (sym (names_count before.nodes))
 
@@ -69,7 +69,7 @@ link_same : (number : ℕ) (nodes : List Node) (links : List LinkAt) (link : Lin
 link_same number [] links link = refl
 link_same number (node ∷ nodes) links link = refl
 
-line_same : (number : ℕ) (before : Lines) (told : Option Line) → seen (with_line number before told) ≡ with_name number (names_of before.nodes) told
+line_same : (number : ℕ) (before : Lines) (told : Option TopologyLine) → seen (with_line number before told) ≡ with_name number (names_of before.nodes) told
 line_same number before None = refl
 line_same number before (Some line.Empty) = refl
 line_same number before (Some (line.Node node)) = node_same number before (node_of number node)
@@ -101,7 +101,7 @@ judged_none text = record {
 
 -- no text says that memory is wanting -----------------------------------------------------------
 
--- it is a value, or a fault that is not want of memory
+-- it is a value, or a fault that is not out of memory
 abbrev IsPlain : {T : Type 0} → Result T TopoFault → Type 0
 IsPlain (Err Memory) = ⊥
 IsPlain _ = Unit {0}
@@ -128,13 +128,13 @@ node_plain number node (Some ports) None = tt
 node_plain number node None cap = tt
 
 with_plain : (number : ℕ) (nodes : List Node) (node : Node) → IsPlain (with_node number nodes node)
-with_plain number nodes node = plain_either (is_some (place_of nodes node.name)) _ _ tt (plain_either (nat_lt (length nodes) 1024) _ _ tt tt)
+with_plain number nodes node = plain_either (is_some (id_of nodes node.name)) _ _ tt (plain_either (nat_lt (length nodes) 1024) _ _ tt tt)
 
 below_plain : (number count : ℕ) (links : List LinkAt) (link : LinkLine) → IsPlain (with_link_line number count links link)
 below_plain number zero links link = tt
 below_plain number (suc last) links link = tt
 
-line_plain : (number : ℕ) (before : Lines) (told : Option Line) → IsPlain (with_line number before told)
+line_plain : (number : ℕ) (before : Lines) (told : Option TopologyLine) → IsPlain (with_line number before told)
 line_plain number before None = tt
 line_plain number before (Some line.Empty) = tt
 line_plain number before (Some (line.Node node)) =
@@ -166,16 +166,16 @@ told_fault (Err f) fault e = cc
 -- the first fault of the lines is the first of the text
 pub first_refuses : (text : List ℕ) (fault : TopoFault) → first_line_fault text ≡ Some fault → IsRefused fault (topology_of text)
 unfolding first_line_fault topology_of
-first_refuses text fault e = refused_then fault (told_by (lines text)) topology_in (refuses fault (told_by (lines text)) (told_fault (told_by (lines text)) fault e))
+first_refuses text fault e = refused_then fault (nodes_of_lines (lines text)) topology_in (refuses fault (nodes_of_lines (lines text)) (told_fault (nodes_of_lines (lines text)) fault e))
 
--- and it is never want of memory
+-- and it is never out of memory
 pub first_plain : (text : List ℕ) → first_line_fault text ≡ Some Memory → ⊥
 unfolding first_line_fault
 first_plain text e =
-    let told = told_fault (told_by (lines text)) Memory e in
+    let told = told_fault (nodes_of_lines (lines text)) Memory e in
     subst (λ (r : Result Lines TopoFault). IsPlain r) told (lines_plain 1 (record { nodes = []; links = [] }) (lines text))
 
 -- lines that tell something have no fault
-pub told_soundly : (text : List ℕ) (told : Lines) → told_by (lines text) ≡ Ok told → first_line_fault text ≡ None
+pub told_soundly : (text : List ℕ) (told : Lines) → nodes_of_lines (lines text) ≡ Ok told → first_line_fault text ≡ None
 unfolding first_line_fault
 told_soundly text told e = ap fault_of e

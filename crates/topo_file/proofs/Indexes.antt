@@ -15,20 +15,20 @@ use Rattle.std.specs.Cmp.{unsigned_ties}
 use Rattle.std.specs.Cmp.Lexicographic.{slice_cmp}
 use Rattle.std.specs.BTreeMap.{BTreeMap, Updates}
 use Rattle.std.specs.Str.{bytes_eq}
-use Rattle.smp_bytes.specs.declared.cable.Cable.{Cable}
-use Rattle.smp_bytes.specs.declared.cable.NodePort.{NodePort}
-use Rattle.smp_bytes.proofs.Cabled.{same_port-is}
+use Rattle.fabric_model.specs.declared.cable.Cable.{Cable}
+use Rattle.fabric_model.specs.declared.cable.NodePort.{NodePort}
+use Rattle.fabric_model.proofs.Cabled.{same_port-is}
 use Rattle.topo_file.specs.declared.node.Node.{Node}
 use Rattle.text_words.specs.NodeName.{is_name, name_in}
-use Rattle.smp_bytes.specs.Cables.{is_same_port, other_end}
-use Rattle.topo_file.specs.Topology.{IsNode, IsFound, place_of}
-use Rattle.topo_file.specs.Places.{HasPlaces, HasEnds, port_cmp}
+use Rattle.fabric_model.specs.Cables.{is_same_port, other_end}
+use Rattle.topo_file.specs.Topology.{IsNode, IsFound, id_of}
+use Rattle.topo_file.specs.Indexes.{HasIds, HasEnds, port_cmp}
 
 -- texts that are equal
 pub same_bytes : (xs ys : List ℕ) → bytes_eq xs ys ≡ true → xs ≡ ys
 same_bytes xs ys e = (bytes_eq-Decides xs ys).0 e
 
--- no place is found where no name before is the name and the later places have none
+-- no id is found where no name before is the name and the later ids have none
 pub none_before : (t : Bool) (o : Option ℕ) → cond t (Some 0) (option_map suc o) ≡ None → (t ≡ false) × (o ≡ None)
 none_before true o e = cc
 none_before false None e = (refl, refl)
@@ -41,26 +41,26 @@ found_before true true n o apart = absurd (let e : true ≡ false = apart refl i
 found_before true false n o apart = refl
 found_before false t n o apart = refl
 
-pub place_more : (nodes : List Node) (node : Node) (name : List ℕ) → place_of nodes node.name ≡ None
-    → place_of (nodes ++ node ∷ []) name ≡ cond (bytes_eq node.name name) (Some (length nodes)) (place_of nodes name)
-place_more [] node name e = refl
-place_more (m ∷ nodes) node name e =
-    let p = none_before (bytes_eq m.name node.name) (place_of nodes node.name) e in
+pub id_more : (nodes : List Node) (node : Node) (name : List ℕ) → id_of nodes node.name ≡ None
+    → id_of (nodes ++ node ∷ []) name ≡ cond (bytes_eq node.name name) (Some (length nodes)) (id_of nodes name)
+id_more [] node name e = refl
+id_more (m ∷ nodes) node name e =
+    let p = none_before (bytes_eq m.name node.name) (id_of nodes node.name) e in
     let apart : bytes_eq node.name name ≡ true → bytes_eq m.name name ≡ false = λ same. ap (bytes_eq m.name) (sym (same_bytes node.name name same)) ∙ p.0 in
-    ap (λ o. cond (bytes_eq m.name name) (Some 0) (option_map suc o)) (place_more nodes node name p.1)
-    ∙ found_before (bytes_eq node.name name) (bytes_eq m.name name) (length nodes) (place_of nodes name) apart
+    ap (λ o. cond (bytes_eq m.name name) (Some 0) (option_map suc o)) (id_more nodes node name p.1)
+    ∙ found_before (bytes_eq node.name name) (bytes_eq m.name name) (length nodes) (id_of nodes name) apart
 
 -- the index with a node more
-pub places_more : (nodes : List Node) (places new : BTreeMap (List ℕ) ℕ) (node : Node) → length nodes < 1024 → place_of nodes node.name ≡ None
-    → HasPlaces nodes places
-    → Updates (slice_cmp nat_cmp) places new node.name (Some (length nodes)) → HasPlaces (nodes ++ node ∷ []) new
-places_more nodes places new node room none has u = record {
+pub ids_more : (nodes : List Node) (ids new : BTreeMap (List ℕ) ℕ) (node : Node) → length nodes < 1024 → id_of nodes node.name ≡ None
+    → HasIds nodes ids
+    → Updates (slice_cmp nat_cmp) ids new node.name (Some (length nodes)) → HasIds (nodes ++ node ∷ []) new
+ids_more nodes ids new node room none has u = record {
   few = omega (arith, length-append nodes (node ∷ []), room);
-  found = λ name. u.0 name ∙ (λ i. cond (is_eq-slice_cmp node.name name i) (Some (length nodes)) (has.found name i)) ∙ sym (place_more nodes node name none);
+  found = λ name. u.0 name ∙ (λ i. cond (is_eq-slice_cmp node.name name i) (Some (length nodes)) (has.found name i)) ∙ sym (id_more nodes node name none);
 }
 
--- a name that is none has no place
-pub nameless : (nodes : List Node) (name : List ℕ) → AllByRecursion IsNode nodes → is_name name ≡ false → place_of nodes name ≡ None
+-- a name that is none has no id
+pub nameless : (nodes : List Node) (name : List ℕ) → AllByRecursion IsNode nodes → is_name name ≡ false → id_of nodes name ≡ None
 nameless [] name all none = refl
 nameless (node ∷ nodes) name all none =
     let apart : bytes_eq node.name name ≡ false =
@@ -69,14 +69,14 @@ nameless (node ∷ nodes) name all none =
           absurd (let f : true ≡ false = sym named ∙ none in cc)
       | false ↦ λ e. e
     ] refl in
-    let later : place_of nodes name ≡ None = nameless nodes name all.1 none in
+    let later : id_of nodes name ≡ None = nameless nodes name all.1 none in
     rw (apart, later) refl
 
 no_name : (t : Bool) (name : List ℕ) → cond t (Some name) None ≡ None → t ≡ false
 no_name true name e = cc
 no_name false name e = refl
 
-pub unnamed : (nodes : List Node) (name : List ℕ) → All IsNode nodes → name_in name ≡ None → place_of nodes name ≡ None
+pub unnamed : (nodes : List Node) (name : List ℕ) → All IsNode nodes → name_in name ≡ None → id_of nodes name ≡ None
 unnamed nodes name all none = nameless nodes name (recursion_from_All IsNode nodes all) (no_name (is_name name) name none)
 
 -- no other end is found where neither end of the first link is the port and the later links have none
@@ -146,27 +146,27 @@ pub nowhere : (o : Option ℕ) → false ≡ is_some o → o ≡ None
 nowhere None e = refl
 nowhere (Some n) e = cc
 
--- the place of a name, one further on
+-- the id of a name, one further on
 found_later : (m : Node) (nodes : List Node) (name : List ℕ) (o : Option ℕ) → m.name ≢ name → IsFound nodes name o
     → IsFound (m ∷ nodes) name (option_map suc o)
 found_later m nodes name None apart h = All-cons (λ node. node.name ≢ name) m nodes apart h
-found_later m nodes name (Some place) apart h = h
+found_later m nodes name (Some id) apart h = h
 
--- the place of a name is that of its node
-pub found_is : (nodes : List Node) (name : List ℕ) → IsFound nodes name (place_of nodes name)
+-- the id of a name is that of its node
+pub found_is : (nodes : List Node) (name : List ℕ) → IsFound nodes name (id_of nodes name)
 found_is [] name = λ k d h. absurd (omega arith)
 found_is (m ∷ nodes) name =
-    elim (bytes_eq m.name name) as (λ t. bytes_eq m.name name ≡ t → IsFound (m ∷ nodes) name (cond t (Some 0) (option_map suc (place_of nodes name)))) [
+    elim (bytes_eq m.name name) as (λ t. bytes_eq m.name name ≡ t → IsFound (m ∷ nodes) name (cond t (Some 0) (option_map suc (id_of nodes name)))) [
       | true ↦ λ e. (m, refl, same_bytes m.name name e)
-      | false ↦ λ e. found_later m nodes name (place_of nodes name)
+      | false ↦ λ e. found_later m nodes name (id_of nodes name)
           (λ same. let f : bytes_eq m.name name ≡ true = (bytes_eq-Decides m.name name).1 same in cc) (found_is nodes name)
     ] refl
 
-pub found_at : (nodes : List Node) (name : List ℕ) (o : Option ℕ) → o ≡ place_of nodes name → IsFound nodes name o
+pub found_at : (nodes : List Node) (name : List ℕ) (o : Option ℕ) → o ≡ id_of nodes name → IsFound nodes name o
 found_at nodes name o e = subst (λ (p : Option ℕ). IsFound nodes name p) (sym e) (found_is nodes name)
 
--- what stands at a place is a node as a topology may have it
-pub placed : (nodes : List Node) (place : ℕ) (found : Option (Bor Node)) → All IsNode nodes → option_copied found ≡ slice_get nodes place → IfSome found (λ n. IsNode n.now)
-placed nodes place None are e = tt
-placed nodes place (Some n) are e =
-    subst IsNode (get_or_from_slice_get nodes place n.now n.now (sym e)) (are place n.now (slice_get_within nodes place n.now (sym e)))
+-- what has an id is a node as a topology may have it
+pub listed_is_node : (nodes : List Node) (id : ℕ) (found : Option (Bor Node)) → All IsNode nodes → option_copied found ≡ slice_get nodes id → IfSome found (λ n. IsNode n.now)
+listed_is_node nodes id None are e = tt
+listed_is_node nodes id (Some n) are e =
+    subst IsNode (get_or_from_slice_get nodes id n.now n.now (sym e)) (are id n.now (slice_get_within nodes id n.now (sym e)))

@@ -6,22 +6,22 @@ use Rattle.std.specs.List.{AllPairs, AllByRecursion}
 use Rattle.std.proofs.lemmas.Result.{IfOk-at_ok}
 use Rattle.std.proofs.lemmas.List.Elements.{All-push}
 use Rattle.std.proofs.lemmas.List.Quantifiers.{all_pairs_push}
-use Rattle.smp_bytes.specs.Cables.{other_end}
-use Rattle.smp_bytes.specs.declared.cable.Cable.{Cable}
-use Rattle.smp_bytes.specs.declared.cable.NodePort.{NodePort}
+use Rattle.fabric_model.specs.Cables.{other_end}
+use Rattle.fabric_model.specs.declared.cable.Cable.{Cable}
+use Rattle.fabric_model.specs.declared.cable.NodePort.{NodePort}
 use Rattle.text_words.specs.Text.{lines}
 use Rattle.text_words.proofs.Ranges.{tested}
 use Rattle.topo_file.specs.declared.fault.TopoFault.{TopoFault}
 use Rattle.topo_file.specs.declared.fault.TopoFault.TheVariants.{Name, TooManyNodes, Linked}
-use Rattle.topo_file.specs.declared.line.Line.{Line}
-use Rattle.topo_file.specs.declared.line.Line.TheVariants as line
+use Rattle.topo_file.specs.declared.line.TopologyLine.{TopologyLine}
+use Rattle.topo_file.specs.declared.line.TopologyLine.TheVariants as line
 use Rattle.topo_file.specs.declared.line.LinkLine.{LinkLine}
 use Rattle.topo_file.specs.declared.draft.LinkAt.{LinkAt}
 use Rattle.topo_file.specs.declared.node.Node.{Node}
-use Rattle.topo_file.specs.Line.{line_of}
-use Rattle.topo_file.specs.Topology.{Layout, place_of}
+use Rattle.topo_file.specs.TopologyLine.{line_of}
+use Rattle.topo_file.specs.Topology.{Layout, id_of}
 use Rattle.topo_file.specs.Reading.{◌>>=◌, Lines, node_of, with_node, with_link_line, with_line, with_lines, port_at, link_between, link_to, link_of}
-use Rattle.topo_file.specs.Reading.{is_end, with_link, with_links, topology_in, told_by, topology_of}
+use Rattle.topo_file.specs.Reading.{is_end, with_link, with_links, topology_in, nodes_of_lines, topology_of}
 use Rattle.topo_file.specs.Printed.{IsInOrder, ReadTopologiesAreInOrder}
 use Rattle.topo_file.proofs.Printed.{Pairs, pairs, all_weaker}
 use Rattle.topo_file.proofs.WellFormed.{read_then, unless, where_true, kept_or}
@@ -39,7 +39,7 @@ anything (Err fault) = tt
 node_added : (number : ℕ) (nodes : List Node) (node : Node) → IfOk (with_node number nodes node) (λ now. length nodes ≤ length now)
 node_added number nodes node =
     let Longer : List Node → Type 0 = λ now. length nodes ≤ length now in
-    unless Longer (is_some (place_of nodes node.name)) (Name number) _ (λ e.
+    unless Longer (is_some (id_of nodes node.name)) (Name number) _ (λ e.
     where_true Longer (ltb (length nodes) 1024) (TooManyNodes number) (Ok (nodes ++ node ∷ [])) (λ few. omega (arith, length-append nodes (node ∷ []))))
 
 link_line_added : (number count : ℕ) (before : Lines) (link : LinkLine) → count ≡ length before.nodes → AreInOrder before
@@ -52,7 +52,7 @@ link_line_added number (suc last) before link e is =
       below = All-push (λ (x : LinkAt). x.node < length before.nodes) before.links at is.below (omega arith);
     }
 
-line_read : (number : ℕ) (before : Lines) (told : Option Line) → AreInOrder before → IfOk (with_line number before told) AreInOrder
+line_read : (number : ℕ) (before : Lines) (told : Option TopologyLine) → AreInOrder before → IfOk (with_line number before told) AreInOrder
 line_read number before None is = tt
 line_read number before (Some line.Empty) is = is
 line_read number before (Some (line.Node node)) is =
@@ -70,24 +70,24 @@ lines_read number before (l ∷ ls) is =
     (line_read number before (line_of l) is) (λ now h. lines_read (number + 1) now ls h)
 
 -- a link is at the node of its line
-port_here : (nodes : List Node) (place p : ℕ) (found : Option Node)
-    → IfSome (option_and_then (λ node. cond (leb p node.ports) (Some (record { node = place; port = p })) None) found) (λ (q : NodePort). q.node ≡ place)
-port_here nodes place p None = tt
-port_here nodes place p (Some node) = tested (λ (q : NodePort). q.node ≡ place) (leb p node.ports) _ (λ h. refl)
+port_here : (nodes : List Node) (id p : ℕ) (found : Option Node)
+    → IfSome (option_and_then (λ node. cond (leb p node.ports) (Some (record { node = id; port = p })) None) found) (λ (q : NodePort). q.node ≡ id)
+port_here nodes id p None = tt
+port_here nodes id p (Some node) = tested (λ (q : NodePort). q.node ≡ id) (leb p node.ports) _ (λ h. refl)
 
-port_is : (nodes : List Node) (place : ℕ) (port : Option ℕ) → IfSome (port_at nodes place port) (λ q. q.node ≡ place)
-port_is nodes place None = tt
-port_is nodes place (Some p) = port_here nodes place p (slice_get nodes place)
+port_is : (nodes : List Node) (id : ℕ) (port : Option ℕ) → IfSome (port_at nodes id port) (λ q. q.node ≡ id)
+port_is nodes id None = tt
+port_is nodes id (Some p) = port_here nodes id p (slice_get nodes id)
 
-between : (number place : ℕ) (one other : Option NodePort) → IfSome one (λ q. q.node ≡ place)
-    → IfOk (link_between number one other) (λ link. link.one.node ≡ place)
-between number place (Some one) (Some other) is = is
-between number place (Some one) None is = tt
-between number place None other is = tt
+between : (number id : ℕ) (one other : Option NodePort) → IfSome one (λ q. q.node ≡ id)
+    → IfOk (link_between number one other) (λ link. link.one.node ≡ id)
+between number id (Some one) (Some other) is = is
+between number id (Some one) None is = tt
+between number id None other is = tt
 
-link_here : (nodes : List Node) (at : LinkAt) (place : Option ℕ) → IfOk (link_to nodes at place) (λ link. link.one.node ≡ at.node)
+link_here : (nodes : List Node) (at : LinkAt) (id : Option ℕ) → IfOk (link_to nodes at id) (λ link. link.one.node ≡ at.node)
 link_here nodes at None = tt
-link_here nodes at (Some place) = between at.line at.node _ _ (port_is nodes at.node at.link.port)
+link_here nodes at (Some id) = between at.line at.node _ _ (port_is nodes at.node at.link.port)
 
 -- the links so far, before those of the lines to come
 record Before (links : List Cable) (ats : List LinkAt) : Type 0 where
@@ -118,7 +118,7 @@ links_read nodes links (at ∷ ats) is order =
     let Here : Cable → Type 0 = λ link. link.one.node ≡ at.node in
     let Kept : List Cable → Type 0 = λ now. Before now ats in
     read_then Kept IsInOrder (link_of nodes at >>= with_link at.line links) (λ now. with_links nodes now ats)
-    (read_then Here Kept (link_of nodes at) (with_link at.line links) (link_here nodes at (place_of nodes at.link.peer))
+    (read_then Here Kept (link_of nodes at) (with_link at.line links) (link_here nodes at (id_of nodes at.link.peer))
     (λ link h. link_added at.line links link at ats is h order.0))
     (λ now h. links_read nodes now ats h order.1)
 
@@ -137,7 +137,7 @@ pub read_in_order : ReadTopologiesAreInOrder
 unfolding topology_of
 read_in_order text t e =
     IfOk-at_ok (λ (t : Layout). IsInOrder t.links) e
-    (read_then AreInOrder (λ (t : Layout). IsInOrder t.links) (told_by (lines text)) topology_in
+    (read_then AreInOrder (λ (t : Layout). IsInOrder t.links) (nodes_of_lines (lines text)) topology_in
     (lines_read 1 (record { nodes = []; links = [] }) (lines text)
     (record { pairs = λ i j d h k. absurd (omega arith); below = λ k d h. absurd (omega arith) }))
     topology_ordered)

@@ -8,12 +8,12 @@ use Rattle.std.proofs.lemmas.Option.{slice_get_within}
 use Rattle.std.proofs.lemmas.List.Elements.{recursion_from_All}
 use Rattle.std.proofs.lemmas.Slice.Eq.{bytes_eq-Decides}
 use Rattle.std.specs.Str.{bytes_eq}
-use Rattle.smp_bytes.specs.Cables.{is_same_port, other_end}
-use Rattle.smp_bytes.proofs.Cabled.{same_port-is}
+use Rattle.fabric_model.specs.Cables.{is_same_port, other_end}
+use Rattle.fabric_model.proofs.Cabled.{same_port-is}
 use Rattle.smp_bytes.specs.declared.node_type.NodeType.{NodeType}
 use Rattle.smp_bytes.specs.declared.node_type.NodeType.TheVariants.{ChannelAdapter, Switch, Router}
-use Rattle.smp_bytes.specs.declared.cable.Cable.{Cable}
-use Rattle.smp_bytes.specs.declared.cable.NodePort.{NodePort}
+use Rattle.fabric_model.specs.declared.cable.Cable.{Cable}
+use Rattle.fabric_model.specs.declared.cable.NodePort.{NodePort}
 use Rattle.text_words.specs.NodeName.{is_name}
 use Rattle.text_words.specs.Printed.{line_text}
 use Rattle.text_words.proofs.Digits.{is_within, is_below, not_within}
@@ -21,16 +21,16 @@ use Rattle.text_words.proofs.Splits.{differs}
 use Rattle.text_words.proofs.NumbersPrinted.{count_is_read, guid_is_read}
 use Rattle.text_words.proofs.Printed.{IsWord, words_are_read, lines_are_read, printed, decimal_word, guid_word, quoted_word, bracketed_word, named_word}
 use Rattle.text_words.proofs.Printed.{quoted_is_read, bracketed_is_read, named_is_read}
-use Rattle.topo_file.specs.declared.line.Line.TheVariants as line
+use Rattle.topo_file.specs.declared.line.TopologyLine.TheVariants as line
 use Rattle.topo_file.specs.declared.line.NodeLine.{NodeLine}
 use Rattle.topo_file.specs.declared.line.LinkLine.{LinkLine}
 use Rattle.topo_file.specs.declared.draft.LinkAt.{LinkAt}
 use Rattle.topo_file.specs.declared.node.Node.{Node}
-use Rattle.topo_file.specs.Line.{line_in, line_of}
-use Rattle.topo_file.specs.Topology.{Layout, place_of, IsNode, IsLinkIn, AreApart}
-use Rattle.topo_file.specs.Reading.{◌>>=◌, node_of, with_lines, link_of, with_link, with_links, topology_in, told_by, topology_of}
+use Rattle.topo_file.specs.TopologyLine.{line_in, line_of}
+use Rattle.topo_file.specs.Topology.{Layout, id_of, IsNode, IsLinkIn, AreApart}
+use Rattle.topo_file.specs.Reading.{◌>>=◌, node_of, with_lines, link_of, with_link, with_links, topology_in, nodes_of_lines, topology_of}
 use Rattle.topo_file.specs.Printed.{node_words, name_at, link_words, links_at, lines_from, PrintedTopologiesAreRead}
-use Rattle.topo_file.proofs.Indexes.{same_bytes, place_more, after_all}
+use Rattle.topo_file.proofs.Indexes.{same_bytes, id_more, after_all}
 
 -- of each element and each later one, by recursion
 abbrev pub Pairs : {X : Type 0} → (X → X → Type 0) → List X → Type 0
@@ -133,7 +133,7 @@ record Fits (nodes : List Node) (link : Cable) : Type 0 where
   one_high : link.one.port ≤ 254
   other_high : link.other.port ≤ 254
   named : IsTrue (is_name (name_at nodes link.other.node))
-  found : place_of nodes (name_at nodes link.other.node) ≡ Some link.other.node
+  found : id_of nodes (name_at nodes link.other.node) ≡ Some link.other.node
 
 words_of_link : (nodes : List Node) (link : Cable) → Fits nodes link → AllByRecursion IsWord (link_words nodes link)
 words_of_link nodes link fits =
@@ -155,20 +155,20 @@ names_apart : (xs ys : List ℕ) → xs ≢ ys → bytes_eq xs ys ≡ false
 names_apart xs ys apart =
     elim (bytes_eq xs ys) as (λ t. bytes_eq xs ys ≡ t → bytes_eq xs ys ≡ false) [ true ↦ λ e. absurd (apart (same_bytes xs ys e)) | false ↦ λ e. e ] refl
 
-place_is : (nodes : List Node) (place : ℕ) (node : Node) → Pairs (λ x y. x.name ≢ y.name) nodes → slice_get nodes place ≡ Some node
-    → place_of nodes node.name ≡ Some place
-place_is [] place node apart e = cc
-place_is (m ∷ nodes) zero node apart e =
+id_is : (nodes : List Node) (id : ℕ) (node : Node) → Pairs (λ x y. x.name ≢ y.name) nodes → slice_get nodes id ≡ Some node
+    → id_of nodes node.name ≡ Some id
+id_is [] id node apart e = cc
+id_is (m ∷ nodes) zero node apart e =
     let same : m ≡ node = cc in
     let here : bytes_eq m.name node.name ≡ true = (bytes_eq-Decides m.name node.name).1 (ap (λ n. n.name) same) in
     rw here refl
-place_is (m ∷ nodes) (suc place) node apart e =
-    let other : m.name ≢ node.name = all_at (λ y. m.name ≢ y.name) nodes place node apart.0 e in
-    let later : place_of nodes node.name ≡ Some place = place_is nodes place node apart.1 e in
+id_is (m ∷ nodes) (suc id) node apart e =
+    let other : m.name ≢ node.name = all_at (λ y. m.name ≢ y.name) nodes id node apart.0 e in
+    let later : id_of nodes node.name ≡ Some id = id_is nodes id node apart.1 e in
     rw (names_apart m.name node.name other, later) refl
 
-named_here : (nodes : List Node) (place : ℕ) (node : Node) → slice_get nodes place ≡ Some node → name_at nodes place ≡ node.name
-named_here nodes place node e = rw e refl
+named_here : (nodes : List Node) (id : ℕ) (node : Node) → slice_get nodes id ≡ Some node → name_at nodes id ≡ node.name
+named_here nodes id node e = rw e refl
 
 fits_in : (nodes : List Node) (link : Cable) → AllByRecursion IsNode nodes → Pairs (λ x y. x.name ≢ y.name) nodes → IsLinkIn nodes link → Fits nodes link
 fits_in nodes link all apart is =
@@ -184,36 +184,36 @@ fits_in nodes link all apart is =
       one_high = omega arith;
       other_high = omega arith;
       named = subst (λ (n : List ℕ). IsTrue (is_name n)) (sym name) other.named;
-      found = ap (place_of nodes) name ∙ place_is nodes link.other.node is.other.node apart is.other.there;
+      found = ap (id_of nodes) name ∙ id_is nodes link.other.node is.other.node apart is.other.there;
     }
 
--- what holds of links holds of those at a place
+-- what holds of links holds of those at a node
 kept_if : (P : Cable → Type 0) (b : Bool) (link : Cable) (links : List Cable) → (b ≡ true → P link) → AllByRecursion P links
     → AllByRecursion P (cond b (link ∷ links) links)
 kept_if P true link links h g = (h refl, g)
 kept_if P false link links h g = g
 
-record FitsAt (nodes : List Node) (place : ℕ) (link : Cable) : Type 0 where
+record FitsAt (nodes : List Node) (id : ℕ) (link : Cable) : Type 0 where
   fits : Fits nodes link
-  here : link.one.node ≡ place
+  here : link.one.node ≡ id
 
-fits_at : (nodes : List Node) (place : ℕ) (links : List Cable) → AllByRecursion (Fits nodes) links
-    → AllByRecursion (FitsAt nodes place) (links_at links place)
-fits_at nodes place [] all = tt
-fits_at nodes place (link ∷ links) all =
-    kept_if (FitsAt nodes place) (link.one.node == place) link (links_at links place) (λ e. record { fits = all.0; here = eqb-true _ _ e })
-    (fits_at nodes place links all.1)
+fits_at : (nodes : List Node) (id : ℕ) (links : List Cable) → AllByRecursion (Fits nodes) links
+    → AllByRecursion (FitsAt nodes id) (links_at links id)
+fits_at nodes id [] all = tt
+fits_at nodes id (link ∷ links) all =
+    kept_if (FitsAt nodes id) (link.one.node == id) link (links_at links id) (λ e. record { fits = all.0; here = eqb-true _ _ e })
+    (fits_at nodes id links all.1)
 
 -- the lines of a topology have words
-words_at : (t : Layout) (place : ℕ) (rest : List Node) → AllByRecursion (Fits t.nodes) t.links → AllByRecursion IsNode rest
-    → AllByRecursion (AllByRecursion IsWord) (lines_from t place rest)
-words_at t place [] fits all = tt
-words_at t place (node ∷ rest) fits all = (
+words_at : (t : Layout) (id : ℕ) (rest : List Node) → AllByRecursion (Fits t.nodes) t.links → AllByRecursion IsNode rest
+    → AllByRecursion (AllByRecursion IsWord) (lines_from t id rest)
+words_at t id [] fits all = tt
+words_at t id (node ∷ rest) fits all = (
   words_of_node node all.0,
-  all_appended (AllByRecursion IsWord) (map (link_words t.nodes) (links_at t.links place)) (lines_from t (suc place) rest)
-      (all_mapped (FitsAt t.nodes place) (AllByRecursion IsWord) (link_words t.nodes) (links_at t.links place) (λ link h. words_of_link t.nodes link h.fits)
-      (fits_at t.nodes place t.links fits))
-      (words_at t (suc place) rest fits all.1),
+  all_appended (AllByRecursion IsWord) (map (link_words t.nodes) (links_at t.links id)) (lines_from t (suc id) rest)
+      (all_mapped (FitsAt t.nodes id) (AllByRecursion IsWord) (link_words t.nodes) (links_at t.links id) (λ link h. words_of_link t.nodes link h.fits)
+      (fits_at t.nodes id t.links fits))
+      (words_at t (suc id) rest fits all.1),
 )
 
 -- the link lines that links have, each with the number of some line
@@ -273,45 +273,45 @@ links_are nodes before (at ∷ ats) [] told fits free apart = absurd told
 
 -- the links in the order of their first ends' nodes
 abbrev links_from : List Cable → ℕ → List Node → List Cable
-links_from links place [] = []
-links_from links place (node ∷ rest) = links_at links place ++ links_from links (suc place) rest
+links_from links id [] = []
+links_from links id (node ∷ rest) = links_at links id ++ links_from links (suc id) rest
 
-no_links : (place : ℕ) (rest : List Node) → links_from [] place rest ≡ []
-no_links place [] = refl
-no_links place (node ∷ rest) = no_links (suc place) rest
+no_links : (id : ℕ) (rest : List Node) → links_from [] id rest ≡ []
+no_links id [] = refl
+no_links id (node ∷ rest) = no_links (suc id) rest
 
-passed : (link : Cable) (links : List Cable) (place : ℕ) (rest : List Node) → link.one.node < place
-    → links_from (link ∷ links) place rest ≡ links_from links place rest
-passed link links place [] h = refl
-passed link links place (node ∷ rest) h =
-    let here : (link.one.node == place) ≡ false = differs link.one.node place (λ same. omega arith) in
-    let later : links_from (link ∷ links) (suc place) rest ≡ links_from links (suc place) rest = passed link links (suc place) rest (omega arith) in
+passed : (link : Cable) (links : List Cable) (id : ℕ) (rest : List Node) → link.one.node < id
+    → links_from (link ∷ links) id rest ≡ links_from links id rest
+passed link links id [] h = refl
+passed link links id (node ∷ rest) h =
+    let here : (link.one.node == id) ≡ false = differs link.one.node id (λ same. omega arith) in
+    let later : links_from (link ∷ links) (suc id) rest ≡ links_from links (suc id) rest = passed link links (suc id) rest (omega arith) in
     rw (here, later) refl
 
-none_at : (links : List Cable) (place : ℕ) → AllByRecursion (λ x. place < x.one.node) links → links_at links place ≡ []
-none_at [] place all = refl
-none_at (link ∷ links) place all =
-    let past : place < link.one.node = all.0 in
-    let here : (link.one.node == place) ≡ false = differs link.one.node place (λ same. omega arith) in
-    rw here (none_at links place all.1)
+none_at : (links : List Cable) (id : ℕ) → AllByRecursion (λ x. id < x.one.node) links → links_at links id ≡ []
+none_at [] id all = refl
+none_at (link ∷ links) id all =
+    let past : id < link.one.node = all.0 in
+    let here : (link.one.node == id) ≡ false = differs link.one.node id (λ same. omega arith) in
+    rw here (none_at links id all.1)
 
 pub all_weaker : {X : Type 0} (P Q : X → Type 0) (xs : List X) → ((x : X) → P x → Q x) → AllByRecursion P xs → AllByRecursion Q xs
 all_weaker P Q [] f h = tt
 all_weaker P Q (x ∷ xs) f h = (f x h.0, all_weaker P Q xs f h.1)
 
-first : (link : Cable) (links : List Cable) (place : ℕ) (rest : List Node) → place ≤ link.one.node → link.one.node < place + length rest
-    → AllByRecursion (λ x. link.one.node ≤ x.one.node) links → links_from (link ∷ links) place rest ≡ link ∷ links_from links place rest
-first link links place [] low high all = absurd (omega arith)
-first link links place (node ∷ rest) low high all =
-    elim (cases_lt place link.one.node) [
-      | inl p ↦ let here : (link.one.node == place) ≡ false = differs link.one.node place (λ same. omega arith) in
-          let none : links_at links place ≡ [] =
-          none_at links place (all_weaker (λ (x : Cable). link.one.node ≤ x.one.node) (λ (x : Cable). place < x.one.node) links (λ x h. omega arith) all) in
-          let later : links_from (link ∷ links) (suc place) rest ≡ link ∷ links_from links (suc place) rest =
-          first link links (suc place) rest (omega arith) (omega arith) all in
+first : (link : Cable) (links : List Cable) (id : ℕ) (rest : List Node) → id ≤ link.one.node → link.one.node < id + length rest
+    → AllByRecursion (λ x. link.one.node ≤ x.one.node) links → links_from (link ∷ links) id rest ≡ link ∷ links_from links id rest
+first link links id [] low high all = absurd (omega arith)
+first link links id (node ∷ rest) low high all =
+    elim (cases_lt id link.one.node) [
+      | inl p ↦ let here : (link.one.node == id) ≡ false = differs link.one.node id (λ same. omega arith) in
+          let none : links_at links id ≡ [] =
+          none_at links id (all_weaker (λ (x : Cable). link.one.node ≤ x.one.node) (λ (x : Cable). id < x.one.node) links (λ x h. omega arith) all) in
+          let later : links_from (link ∷ links) (suc id) rest ≡ link ∷ links_from links (suc id) rest =
+          first link links (suc id) rest (omega arith) (omega arith) all in
           rw (here, none, later) refl
-      | inr p ↦ let here : (link.one.node == place) ≡ true = eq-eqb link.one.node place (omega arith) in
-          let later : links_from (link ∷ links) (suc place) rest ≡ links_from links (suc place) rest = passed link links (suc place) rest (omega arith) in
+      | inr p ↦ let here : (link.one.node == id) ≡ true = eq-eqb link.one.node id (omega arith) in
+          let later : links_from (link ∷ links) (suc id) rest ≡ links_from links (suc id) rest = passed link links (suc id) rest (omega arith) in
           rw (here, later) refl
     ]
 
@@ -326,31 +326,31 @@ in_order (link ∷ links) nodes order within =
 abbrev ReadsOn : Layout → ℕ → List Node → List LinkAt → List (List (List ℕ)) → Type 0
 ReadsOn t number nodes ats later = (with_lines number (record { nodes = nodes; links = ats }) (printed later) >>= topology_in) ≡ Ok t
 
-links_read : (t : Layout) (place number : ℕ) (nodes : List Node) (ats : List LinkAt) (done links : List Cable) (later : List (List (List ℕ)))
-    → length nodes ≡ suc place → AreTold t.nodes ats done → AllByRecursion (FitsAt t.nodes place) links
+links_read : (t : Layout) (id number : ℕ) (nodes : List Node) (ats : List LinkAt) (done links : List Cable) (later : List (List (List ℕ)))
+    → length nodes ≡ suc id → AreTold t.nodes ats done → AllByRecursion (FitsAt t.nodes id) links
     → ((m : ℕ) (now : List LinkAt) → AreTold t.nodes now (done ++ links) → ReadsOn t m nodes now later)
     → ReadsOn t number nodes ats (map (link_words t.nodes) links ++ later)
-links_read t place number nodes ats done [] later count told fits next =
+links_read t id number nodes ats done [] later count told fits next =
     next number ats (subst (λ (ls : List Cable). AreTold t.nodes ats ls) (sym (append-nil done)) told)
-links_read t place number nodes ats done (link ∷ links) later count told fits next =
-    let at : LinkAt = record { line = number; node = place; link = link_line_of t.nodes link } in
+links_read t id number nodes ats done (link ∷ links) later count told fits next =
+    let at : LinkAt = record { line = number; node = id; link = link_line_of t.nodes link } in
     let Numbered : ℕ → LinkAt = λ n. record { line = number; node = n; link = link_line_of t.nodes link } in
     let is : at ≡ at_of t.nodes number link = ap Numbered (sym fits.0.here) in
     let more : AreTold t.nodes (ats ++ at ∷ []) (done ++ link ∷ []) = told_more t.nodes ats done at link told is in
     rw (link_is_read t.nodes link fits.0.fits, count)
-    (links_read t place (number + 1) nodes (ats ++ at ∷ []) (done ++ link ∷ []) links later count more fits.1
+    (links_read t id (number + 1) nodes (ats ++ at ∷ []) (done ++ link ∷ []) links later count more fits.1
     (λ m now h. next m now (subst (λ (ls : List Cable). AreTold t.nodes now ls) (append_assoc done (link ∷ []) links) h)))
 
 -- so much was read
-record HasRead (t : Layout) (place : ℕ) (front rest : List Node) (ats : List LinkAt) (done : List Cable) : Type 0 where
+record HasRead (t : Layout) (id : ℕ) (front rest : List Node) (ats : List LinkAt) (done : List Cable) : Type 0 where
   all : front ++ rest ≡ t.nodes
-  count : length front ≡ place
+  count : length front ≡ id
   few : length front + length rest ≤ 1024
   nodes : AllByRecursion IsNode rest
-  new : AllByRecursion (λ n. place_of front n.name ≡ None) rest
+  new : AllByRecursion (λ n. id_of front n.name ≡ None) rest
   names : Pairs (λ x y. x.name ≢ y.name) rest
   told : AreTold t.nodes ats done
-  left : done ++ links_from t.links place rest ≡ t.links
+  left : done ++ links_from t.links id rest ≡ t.links
 
 -- what is known of the links of a topology
 record AreLinks (t : Layout) : Type 0 where
@@ -364,39 +364,39 @@ all_read t front ats are e told =
     let links : with_links t.nodes [] ats ≡ Ok t.links = links_are t.nodes [] ats t.links told are.fits are.free are.apart in
     rw (e, links) refl
 
-still_new : (front : List Node) (node : Node) (n : Node) → place_of front node.name ≡ None → place_of front n.name ≡ None → node.name ≢ n.name
-    → place_of (front ++ node ∷ []) n.name ≡ None
-still_new front node n here e apart = place_more front node n.name here ∙ rw (names_apart node.name n.name apart, e) refl
+still_new : (front : List Node) (node : Node) (n : Node) → id_of front node.name ≡ None → id_of front n.name ≡ None → node.name ≢ n.name
+    → id_of (front ++ node ∷ []) n.name ≡ None
+still_new front node n here e apart = id_more front node n.name here ∙ rw (names_apart node.name n.name apart, e) refl
 
-nodes_read : (t : Layout) (rest : List Node) (number place : ℕ) (front : List Node) (ats : List LinkAt) (done : List Cable) → AreLinks t
-    → HasRead t place front rest ats done → ReadsOn t number front ats (lines_from t place rest)
-nodes_read t [] number place front ats done are h =
+nodes_read : (t : Layout) (rest : List Node) (number id : ℕ) (front : List Node) (ats : List LinkAt) (done : List Cable) → AreLinks t
+    → HasRead t id front rest ats done → ReadsOn t number front ats (lines_from t id rest)
+nodes_read t [] number id front ats done are h =
     all_read t front ats are (sym (append-nil front) ∙ h.all)
     (subst (λ (ls : List Cable). AreTold t.nodes ats ls) (sym (append-nil done) ∙ h.left) h.told)
-nodes_read t (node ∷ rest) number place front ats done are h =
+nodes_read t (node ∷ rest) number id front ats done are h =
     let few : length front + suc (length rest) ≤ 1024 = h.few in
     let room : ltb (length front) 1024 ≡ true = is_below (length front) 1024 (omega arith) in
-    let count : length front ≡ place = h.count in
-    let longer : length (front ++ node ∷ []) ≡ suc place = omega (arith, length-append front (node ∷ []), count) in
-    let links = links_at t.links place in
+    let count : length front ≡ id = h.count in
+    let longer : length (front ++ node ∷ []) ≡ suc id = omega (arith, length-append front (node ∷ []), count) in
+    let links = links_at t.links id in
     rw (node_is_read node h.nodes.0, node_is_made number node.name node.kind node.ports node.guid node.cap h.nodes.0, h.new.0, room)
-    (links_read t place (number + 1) (front ++ node ∷ []) ats done links (lines_from t (suc place) rest) longer h.told
-    (fits_at t.nodes place t.links are.fits)
-    (λ m now told. nodes_read t rest m (suc place) (front ++ node ∷ []) now (done ++ links) are (record {
+    (links_read t id (number + 1) (front ++ node ∷ []) ats done links (lines_from t (suc id) rest) longer h.told
+    (fits_at t.nodes id t.links are.fits)
+    (λ m now told. nodes_read t rest m (suc id) (front ++ node ∷ []) now (done ++ links) are (record {
       all = append_assoc front (node ∷ []) rest ∙ h.all;
       count = longer;
       few = omega (arith, longer);
       nodes = h.nodes.1;
-      new = all_zipped (λ (n : Node). place_of front n.name ≡ None) (λ (n : Node). node.name ≢ n.name)
-          (λ (n : Node). place_of (front ++ node ∷ []) n.name ≡ None) rest
+      new = all_zipped (λ (n : Node). id_of front n.name ≡ None) (λ (n : Node). node.name ≢ n.name)
+          (λ (n : Node). id_of (front ++ node ∷ []) n.name ≡ None) rest
           (λ n e apart. still_new front node n h.new.0 e apart) h.new.1 h.names.0;
       names = h.names.1;
       told = told;
-      left = append_assoc done links (links_from t.links (suc place) rest) ∙ h.left;
+      left = append_assoc done links (links_from t.links (suc id) rest) ∙ h.left;
     })))
 
 -- before anything is read
-all_new : (nodes : List Node) → AllByRecursion (λ n. place_of [] n.name ≡ None) nodes
+all_new : (nodes : List Node) → AllByRecursion (λ n. id_of [] n.name ≡ None) nodes
 all_new [] = tt
 all_new (node ∷ nodes) = (refl, all_new nodes)
 
@@ -418,7 +418,7 @@ printed_is_read t is order =
     (λ link h. slice_get_within t.nodes link.one.node h.one.node h.one.there) links in
     let ordered : links_from t.links 0 t.nodes ≡ t.links = in_order t.links t.nodes (pairs (λ x y. x.one.node ≤ y.one.node) t.links order) within in
     let few : length t.nodes ≤ 1024 = is.few in
-    ap (λ ls. told_by ls >>= topology_in) (lines_are_read (lines_from t 0 t.nodes) (words_at t 0 t.nodes fits nodes))
+    ap (λ ls. nodes_of_lines ls >>= topology_in) (lines_are_read (lines_from t 0 t.nodes) (words_at t 0 t.nodes fits nodes))
     ∙ nodes_read t t.nodes 1 0 [] [] [] are (record {
       all = refl;
       count = refl;

@@ -12,22 +12,22 @@ use Rattle.std.specs.Str.{bytes_eq}
 use Rattle.smp_bytes.specs.NodeType.{is_switch}
 use Rattle.smp_bytes.specs.declared.node_type.NodeType.{NodeType}
 use Rattle.smp_bytes.specs.declared.node_type.NodeType.TheVariants.{ChannelAdapter, Switch, Router}
-use Rattle.smp_bytes.specs.declared.cable.Cable.{Cable}
-use Rattle.smp_bytes.specs.declared.cable.NodePort.{NodePort}
-use Rattle.smp_bytes.proofs.Cabled.{same_port-refl}
+use Rattle.fabric_model.specs.declared.cable.Cable.{Cable}
+use Rattle.fabric_model.specs.declared.cable.NodePort.{NodePort}
+use Rattle.fabric_model.proofs.Cabled.{same_port-refl}
 use Rattle.topo_file.specs.declared.fault.TopoFault.{TopoFault}
 use Rattle.topo_file.specs.declared.fault.TopoFault.TheVariants.{Name, GuidRange, TooManyNodes, Linked}
-use Rattle.topo_file.specs.declared.line.Line.{Line}
-use Rattle.topo_file.specs.declared.line.Line.TheVariants as line
+use Rattle.topo_file.specs.declared.line.TopologyLine.{TopologyLine}
+use Rattle.topo_file.specs.declared.line.TopologyLine.TheVariants as line
 use Rattle.topo_file.specs.declared.line.NodeLine.{NodeLine}
 use Rattle.topo_file.specs.declared.line.LinkLine.{LinkLine}
 use Rattle.topo_file.specs.declared.draft.LinkAt.{LinkAt}
 use Rattle.topo_file.specs.declared.node.Node.{Node}
-use Rattle.topo_file.specs.Line.{line_of}
-use Rattle.smp_bytes.specs.Cables.{is_same_port, other_end}
-use Rattle.topo_file.specs.Topology.{place_of, IsOfKind, IsNode, IsPortIn, IsLinkIn, AreApart, IsTopology}
+use Rattle.topo_file.specs.TopologyLine.{line_of}
+use Rattle.fabric_model.specs.Cables.{is_same_port, other_end}
+use Rattle.topo_file.specs.Topology.{id_of, IsOfKind, IsNode, IsPortIn, IsLinkIn, AreApart, IsTopology}
 use Rattle.topo_file.specs.Reading.{◌>>=◌, Lines, is_beyond, node_with, node_of, with_node, with_link_line, with_line, with_lines, port_at, link_between}
-use Rattle.topo_file.specs.Reading.{link_to, link_of, is_end, with_link, with_links, told_by}
+use Rattle.topo_file.specs.Reading.{link_to, link_of, is_end, with_link, with_links, nodes_of_lines}
 use Rattle.topo_file.specs.ReadingLaws.{AreNodes, IsLinkLine, IsDraft}
 use Rattle.text_words.proofs.Ranges.{tested}
 use Rattle.topo_file.proofs.Grammar.{HasRoom, IsNodeLine, IsLine, line_fits}
@@ -64,22 +64,22 @@ node_fits number node (Some ports) None is e f = tt
 node_fits number node None cap is e f = tt
 
 -- no node before has the name
-unplaced : (nodes : List Node) (name : List ℕ) → place_of nodes name ≡ None → (k : ℕ) (d : Node) → k < length nodes → (get_or nodes k d).name ≢ name
-unplaced [] name e k d h = absurd (omega arith)
-unplaced (m ∷ nodes) name e zero d h = λ same.
-    let apart : bytes_eq m.name name ≡ false = (none_before (bytes_eq m.name name) (place_of nodes name) e).0 in
+no_id : (nodes : List Node) (name : List ℕ) → id_of nodes name ≡ None → (k : ℕ) (d : Node) → k < length nodes → (get_or nodes k d).name ≢ name
+no_id [] name e k d h = absurd (omega arith)
+no_id (m ∷ nodes) name e zero d h = λ same.
+    let apart : bytes_eq m.name name ≡ false = (none_before (bytes_eq m.name name) (id_of nodes name) e).0 in
     let equal : bytes_eq m.name name ≡ true = (bytes_eq-Decides m.name name).1 same in cc
-unplaced (m ∷ nodes) name e (suc k) d h = unplaced nodes name (none_before (bytes_eq m.name name) (place_of nodes name) e).1 k d (omega arith)
+no_id (m ∷ nodes) name e (suc k) d h = no_id nodes name (none_before (bytes_eq m.name name) (id_of nodes name) e).1 k d (omega arith)
 
 nodes_fit : (number : ℕ) (nodes : List Node) (node : Node) → AreNodes nodes → IsNode node → IfOk (with_node number nodes node) AreNodes
 nodes_fit number nodes node are is =
-    unless AreNodes (is_some (place_of nodes node.name)) (Name number) _ (λ e.
+    unless AreNodes (is_some (id_of nodes node.name)) (Name number) _ (λ e.
     where_true AreNodes (ltb (length nodes) 1024) (TooManyNodes number) (Ok (nodes ++ node ∷ [])) (λ few.
     let room : length nodes < 1024 = ltb-true _ _ few in
     record {
       few = omega (arith, length-append nodes (node ∷ []), room);
       nodes = All-push IsNode nodes node are.nodes is;
-      names = all_pairs_push (λ x y. x.name ≢ y.name) nodes node are.names (unplaced nodes node.name (nowhere _ (sym e)));
+      names = all_pairs_push (λ x y. x.name ≢ y.name) nodes node are.names (no_id nodes node.name (nowhere _ (sym e)));
     }))
 
 -- the link lines
@@ -93,7 +93,7 @@ link_line_fits : (number count : ℕ) (before : Lines) (link : LinkLine) → IsD
 link_line_fits number zero before link is fits = tt
 link_line_fits number (suc last) before link is fits = record { nodes = is.nodes; links = fit_more before.links _ is.links fits }
 
-line_kept : (number : ℕ) (before : Lines) (told : Option Line) → IsDraft before → IfSome told IsLine → IfOk (with_line number before told) IsDraft
+line_kept : (number : ℕ) (before : Lines) (told : Option TopologyLine) → IsDraft before → IfSome told IsLine → IfOk (with_line number before told) IsDraft
 line_kept number before None is fits = tt
 line_kept number before (Some line.Empty) is fits = is
 line_kept number before (Some (line.Node node)) is fits =
@@ -113,19 +113,19 @@ lines_kept number before (l ∷ ls) is =
 empty_nodes : AreNodes []
 empty_nodes = record { few = omega arith; nodes = λ k d h. absurd (omega arith); names = λ i j d h k. absurd (omega arith) }
 
-pub told_fits : (ls : List (List ℕ)) (told : Lines) → told_by ls ≡ Ok told → IsDraft told
+pub told_fits : (ls : List (List ℕ)) (told : Lines) → nodes_of_lines ls ≡ Ok told → IsDraft told
 told_fits ls told e = IfOk-at_ok IsDraft e (lines_kept 1 (record { nodes = []; links = [] }) ls (record { nodes = empty_nodes; links = tt }))
 
 -- the port of a node
-port_here : (nodes : List Node) (place p : ℕ) (found : Option Node) → 1 ≤ p → slice_get nodes place ≡ found
-    → IfSome (option_and_then (λ node. cond (leb p node.ports) (Some (record { node = place; port = p })) None) found) (IsPortIn nodes)
-port_here nodes place p None some e = tt
-port_here nodes place p (Some node) some e = tested (IsPortIn nodes) (leb p node.ports) _
+port_here : (nodes : List Node) (id p : ℕ) (found : Option Node) → 1 ≤ p → slice_get nodes id ≡ found
+    → IfSome (option_and_then (λ node. cond (leb p node.ports) (Some (record { node = id; port = p })) None) found) (IsPortIn nodes)
+port_here nodes id p None some e = tt
+port_here nodes id p (Some node) some e = tested (IsPortIn nodes) (leb p node.ports) _
     (λ h. record { node = node; there = e; some = some; within = leb-true _ _ h })
 
-port_fits : (nodes : List Node) (place : ℕ) (port : Option ℕ) → ((p : ℕ) → port ≡ Some p → 1 ≤ p) → IfSome (port_at nodes place port) (IsPortIn nodes)
-port_fits nodes place None some = tt
-port_fits nodes place (Some p) some = port_here nodes place p (slice_get nodes place) (some p refl) refl
+port_fits : (nodes : List Node) (id : ℕ) (port : Option ℕ) → ((p : ℕ) → port ≡ Some p → 1 ≤ p) → IfSome (port_at nodes id port) (IsPortIn nodes)
+port_fits nodes id None some = tt
+port_fits nodes id (Some p) some = port_here nodes id p (slice_get nodes id) (some p refl) refl
 
 between : (nodes : List Node) (number : ℕ) (one other : Option NodePort) → IfSome one (IsPortIn nodes) → IfSome other (IsPortIn nodes)
     → IfOk (link_between number one other) (IsLinkIn nodes)
@@ -133,10 +133,10 @@ between nodes number (Some one) (Some other) is_one is_other = record { one = is
 between nodes number (Some one) None is_one is_other = tt
 between nodes number None other is_one is_other = tt
 
-link_fits_to : (nodes : List Node) (at : LinkAt) (place : Option ℕ) → IsLinkLine at.link → IfOk (link_to nodes at place) (IsLinkIn nodes)
+link_fits_to : (nodes : List Node) (at : LinkAt) (id : Option ℕ) → IsLinkLine at.link → IfOk (link_to nodes at id) (IsLinkIn nodes)
 link_fits_to nodes at None is = tt
-link_fits_to nodes at (Some place) is =
-    between nodes at.line _ _ (port_fits nodes at.node at.link.port is.port) (port_fits nodes place at.link.peer_port is.peer_port)
+link_fits_to nodes at (Some id) is =
+    between nodes at.line _ _ (port_fits nodes at.node at.link.port is.port) (port_fits nodes id at.link.peer_port is.peer_port)
 
 -- no link before is in the port
 apart_from : (p q : NodePort) → is_same_port p q ≡ false → p ≢ q
@@ -189,7 +189,7 @@ links_kept : (nodes : List Node) (links : List Cable) (ats : List LinkAt) → Ar
 links_kept nodes links [] are all = are
 links_kept nodes links (at ∷ ats) are all =
     read_then (AreLinks nodes) (AreLinks nodes) (link_of nodes at >>= with_link at.line links) (λ now. with_links nodes now ats)
-    (read_then (IsLinkIn nodes) (AreLinks nodes) (link_of nodes at) (with_link at.line links) (link_fits_to nodes at (place_of nodes at.link.peer) all.0)
+    (read_then (IsLinkIn nodes) (AreLinks nodes) (link_of nodes at) (with_link at.line links) (link_fits_to nodes at (id_of nodes at.link.peer) all.0)
     (λ link h. link_kept nodes at.line links link are h))
     (λ now h. links_kept nodes now ats h all.1)
 

@@ -6,10 +6,10 @@ use Rattle.std.specs.Str.{bytes_eq}
 use Rattle.text_words.specs.Text.{lines}
 use Rattle.topo_file.specs.declared.fault.TopoFault.{TopoFault}
 use Rattle.topo_file.specs.declared.fault.TopoFault.TheVariants.{Syntax, Name, TooManyNodes}
-use Rattle.topo_file.specs.declared.line.Line.{Line}
-use Rattle.topo_file.specs.declared.line.Line.TheVariants as line
-use Rattle.topo_file.specs.Line.{line_of}
-use Rattle.topo_file.specs.Reading.{◌>>=◌, node_of, told_by}
+use Rattle.topo_file.specs.declared.line.TopologyLine.{TopologyLine}
+use Rattle.topo_file.specs.declared.line.TopologyLine.TheVariants as line
+use Rattle.topo_file.specs.TopologyLine.{line_of}
+use Rattle.topo_file.specs.Reading.{◌>>=◌, node_of, nodes_of_lines}
 
 -- the fault of what is told, where it has one
 abbrev pub fault_of : {T : Type 0} → Result T TopoFault → Option TopoFault
@@ -18,7 +18,7 @@ fault_of (Err fault) = Some fault
 
 -- the first fault of a text's lines, apart from those of its links: a peer or a port that is not there, or a port with two links
 unfoldable pub first_line_fault : List ℕ → Option TopoFault
-first_line_fault text = fault_of (told_by (lines text))
+first_line_fault text = fault_of (nodes_of_lines (lines text))
 
 -- a name is among those that are there
 abbrev pub is_used : List (Option (List ℕ)) → List ℕ → Bool
@@ -36,7 +36,7 @@ below_node number [] = Err (Syntax number)
 below_node number (name ∷ names) = Ok (name ∷ names)
 
 -- the names with that of a line
-abbrev pub with_name : ℕ → List (Option (List ℕ)) → Option Line → Result (List (Option (List ℕ))) TopoFault
+abbrev pub with_name : ℕ → List (Option (List ℕ)) → Option TopologyLine → Result (List (Option (List ℕ))) TopoFault
 with_name number names None = Err (Syntax number)
 with_name number names (Some line.Empty) = Ok names
 with_name number names (Some (line.Node node)) = node_of number node >>= λ n. with_new_name number names n.name

@@ -1,6 +1,6 @@
 pub mod FirstFault
-pub mod Line
-pub mod Places
+pub mod TopologyLine
+pub mod Indexes
 pub mod Printed
 pub mod Reading
 pub mod ReadingLaws

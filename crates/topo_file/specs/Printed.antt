@@ -4,7 +4,7 @@ use Rattle.std.specs.List.{AllPairs}
 use Rattle.std.specs.Option.{option_map_or}
 use Rattle.smp_bytes.specs.NodeType.{is_switch}
 use Rattle.smp_bytes.specs.Text.{guid_text}
-use Rattle.smp_bytes.specs.declared.cable.Cable.{Cable}
+use Rattle.fabric_model.specs.declared.cable.Cable.{Cable}
 use Rattle.text_words.specs.Printed.{lines_text, quoted_text, bracketed_text, named_text}
 use Rattle.topo_file.specs.declared.node.Node.{Node}
 use Rattle.topo_file.specs.Topology.{Layout, IsTopology}
@@ -16,22 +16,22 @@ node_words node =
     (if is_switch node.kind then codes "Switch" else codes "Hca") ∷ decimal node.ports ∷ quoted_text node.name
     ∷ codes "guid" ∷ (codes "0x" ++ guid_text node.guid) ∷ (if is_switch node.kind then codes "cap" ∷ decimal node.cap ∷ [] else [])
 
--- the name of the node at a place
+-- the name of the node of an id
 abbrev pub name_at : List Node → ℕ → List ℕ
-name_at nodes place = option_map_or (λ node. node.name) (slice_get nodes place) []
+name_at nodes id = option_map_or (λ node. node.name) (slice_get nodes id) []
 
 -- the words of a link's line, below the node of its first end
 abbrev pub link_words : List Node → Cable → List (List ℕ)
 link_words nodes link = bracketed_text link.one.port ∷ named_text (name_at nodes link.other.node) link.other.port ∷ []
 
--- the links whose first end is at the node of a place
+-- the links whose first end is at the node of an id
 abbrev pub links_at : List Cable → ℕ → List Cable
-links_at links place = filter (λ link. link.one.node == place) links
+links_at links id = filter (λ link. link.one.node == id) links
 
--- the lines of the nodes from a place on, each with its links below it
+-- the lines of the nodes from an id on, each with its links below it
 abbrev pub lines_from : Layout → ℕ → List Node → List (List (List ℕ))
-lines_from t place [] = []
-lines_from t place (node ∷ later) = node_words node ∷ (map (link_words t.nodes) (links_at t.links place) ++ lines_from t (suc place) later)
+lines_from t id [] = []
+lines_from t id (node ∷ later) = node_words node ∷ (map (link_words t.nodes) (links_at t.links id) ++ lines_from t (suc id) later)
 
 -- the text of a topology: each node in its order, and below it the links whose first end is there
 abbrev pub topology_text : Layout → List ℕ

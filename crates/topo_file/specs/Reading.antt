@@ -3,20 +3,20 @@ use Rattle.std.specs.Prelude.{ℕ, zero, suc, ◌+◌, ◌^◌, ◌||◌, Bool, 
 use Rattle.std.specs.Prelude.{nat_lt, option_and_then, slice_get, if◌then◌else◌}
 use Rattle.std.specs.Option.{option_map_or}
 use Rattle.smp_bytes.specs.NodeType.{is_switch}
-use Rattle.smp_bytes.specs.declared.cable.Cable.{Cable}
-use Rattle.smp_bytes.specs.declared.cable.NodePort.{NodePort}
+use Rattle.fabric_model.specs.declared.cable.Cable.{Cable}
+use Rattle.fabric_model.specs.declared.cable.NodePort.{NodePort}
 use Rattle.topo_file.specs.declared.fault.TopoFault.{TopoFault}
 use Rattle.topo_file.specs.declared.fault.TopoFault.TheVariants.{Syntax, Name, Ports, Peer, Port, Linked, GuidRange, TooManyNodes}
-use Rattle.topo_file.specs.declared.line.Line.{Line}
-use Rattle.topo_file.specs.declared.line.Line.TheVariants as line
+use Rattle.topo_file.specs.declared.line.TopologyLine.{TopologyLine}
+use Rattle.topo_file.specs.declared.line.TopologyLine.TheVariants as line
 use Rattle.topo_file.specs.declared.line.NodeLine.{NodeLine}
 use Rattle.topo_file.specs.declared.line.LinkLine.{LinkLine}
 use Rattle.topo_file.specs.declared.draft.LinkAt.{LinkAt}
 use Rattle.topo_file.specs.declared.node.Node.{Node}
 use Rattle.text_words.specs.Text.{lines}
-use Rattle.topo_file.specs.Line.{line_of}
-use Rattle.smp_bytes.specs.Cables.{is_same_port, other_end}
-use Rattle.topo_file.specs.Topology.{Layout, place_of}
+use Rattle.topo_file.specs.TopologyLine.{line_of}
+use Rattle.fabric_model.specs.Cables.{is_same_port, other_end}
+use Rattle.topo_file.specs.Topology.{Layout, id_of}
 
 -- what may follow a value, or its fault
 infixl 10 ◌>>=◌
@@ -47,7 +47,7 @@ node_of number node = node_with number node node.ports node.cap
 -- the nodes with one more
 abbrev pub with_node : ℕ → List Node → Node → Result (List Node) TopoFault
 with_node number nodes node =
-    if is_some (place_of nodes node.name) then Err (Name number)
+    if is_some (id_of nodes node.name) then Err (Name number)
     else (if nat_lt (length nodes) 1024 then Ok (nodes ++ node ∷ []) else Err (TooManyNodes number))
 
 -- the link lines with one more, below the last of so many nodes
@@ -56,7 +56,7 @@ with_link_line number zero links link = Err (Syntax number)
 with_link_line number (suc last) links link = Ok (links ++ record { line = number; node = last; link = link } ∷ [])
 
 -- what a line of this number adds to the lines before it
-abbrev pub with_line : ℕ → Lines → Option Line → Result Lines TopoFault
+abbrev pub with_line : ℕ → Lines → Option TopologyLine → Result Lines TopoFault
 with_line number before None = Err (Syntax number)
 with_line number before (Some line.Empty) = Ok before
 with_line number before (Some (line.Node node)) =
@@ -69,11 +69,11 @@ abbrev pub with_lines : ℕ → Lines → List (List ℕ) → Result Lines TopoF
 with_lines number before [] = Ok before
 with_lines number before (line ∷ later) = with_line number before (line_of line) >>= λ now. with_lines (number + 1) now later
 
--- the port of the node at a place, where the node has it
+-- the port of the node of an id, where the node has it
 abbrev pub port_at : List Node → ℕ → Option ℕ → Option NodePort
-port_at nodes place port =
-    option_and_then (λ p. option_and_then (λ node. if nat_le p node.ports then Some (record { node = place; port = p }) else None)
-    (slice_get nodes place)) port
+port_at nodes id port =
+    option_and_then (λ p. option_and_then (λ node. if nat_le p node.ports then Some (record { node = id; port = p }) else None)
+    (slice_get nodes id)) port
 
 abbrev pub link_between : ℕ → Option NodePort → Option NodePort → Result Cable TopoFault
 link_between number (Some one) (Some other) = Ok (record { one = one; other = other })
@@ -82,11 +82,11 @@ link_between number None other = Err (Port number)
 
 abbrev pub link_to : List Node → LinkAt → Option ℕ → Result Cable TopoFault
 link_to nodes at None = Err (Peer at.line)
-link_to nodes at (Some place) = link_between at.line (port_at nodes at.node at.link.port) (port_at nodes place at.link.peer_port)
+link_to nodes at (Some id) = link_between at.line (port_at nodes at.node at.link.port) (port_at nodes id at.link.peer_port)
 
 -- the link that a line tells
 abbrev pub link_of : List Node → LinkAt → Result Cable TopoFault
-link_of nodes at = link_to nodes at (place_of nodes at.link.peer)
+link_of nodes at = link_to nodes at (id_of nodes at.link.peer)
 
 -- the port is there, and this one
 abbrev pub is_end : NodePort → Option NodePort → Bool
@@ -108,9 +108,9 @@ abbrev pub topology_in : Lines → Result Layout TopoFault
 topology_in told = with_links told.nodes [] told.links >>= λ links. Ok (record { nodes = told.nodes; links = links })
 
 -- the nodes and the links of all lines
-abbrev pub told_by : List (List ℕ) → Result Lines TopoFault
-told_by lines = with_lines 1 (record { nodes = []; links = [] }) lines
+abbrev pub nodes_of_lines : List (List ℕ) → Result Lines TopoFault
+nodes_of_lines lines = with_lines 1 (record { nodes = []; links = [] }) lines
 
 -- what a text says
 unfoldable pub topology_of : List ℕ → Result Layout TopoFault
-topology_of text = told_by (lines text) >>= topology_in
+topology_of text = nodes_of_lines (lines text) >>= topology_in

@@ -29,7 +29,7 @@ fault_word (GuidRange line) = codes "guid"
 fault_word (TooManyNodes line) = codes "too many nodes"
 fault_word Memory = codes "out of memory"
 
--- the line that has the fault, from 1; want of memory is no line's
+-- the line that has the fault, from 1; out of memory is no line's
 abbrev pub fault_line : TopoFault → Option ℕ
 fault_line (Syntax line) = Some line
 fault_line (Name line) = Some line

@@ -5,8 +5,8 @@ use Rattle.std.specs.List.{AllPairs}
 use Rattle.std.specs.Str.{bytes_eq}
 use Rattle.smp_bytes.specs.declared.node_type.NodeType.{NodeType}
 use Rattle.smp_bytes.specs.declared.node_type.NodeType.TheVariants.{ChannelAdapter, Switch, Router}
-use Rattle.smp_bytes.specs.declared.cable.Cable.{Cable}
-use Rattle.smp_bytes.specs.declared.cable.NodePort.{NodePort}
+use Rattle.fabric_model.specs.declared.cable.Cable.{Cable}
+use Rattle.fabric_model.specs.declared.cable.NodePort.{NodePort}
 use Rattle.topo_file.specs.declared.node.Node.{Node}
 use Rattle.text_words.specs.NodeName.{is_name}
 
@@ -15,15 +15,15 @@ pub record Layout : Type 0 where
   pub nodes : List Node
   pub links : List Cable
 
--- the place of the node that has the name
-abbrev pub place_of : List Node → List ℕ → Option ℕ
-place_of [] name = None
-place_of (node ∷ nodes) name = if bytes_eq node.name name then Some 0 else option_map suc (place_of nodes name)
+-- the id of the node that has the name
+abbrev pub id_of : List Node → List ℕ → Option ℕ
+id_of [] name = None
+id_of (node ∷ nodes) name = if bytes_eq node.name name then Some 0 else option_map suc (id_of nodes name)
 
--- the place is that of the node that has the name, or no node has it
+-- the id is that of the node that has the name, or no node has it
 abbrev pub IsFound : List Node → List ℕ → Option ℕ → Type 0
 IsFound nodes name None = All (λ node. node.name ≢ name) nodes
-IsFound nodes name (Some place) = (node : Node) × (slice_get nodes place ≡ Some node) × (node.name ≡ name)
+IsFound nodes name (Some id) = (node : Node) × (slice_get nodes id ≡ Some node) × (node.name ≡ name)
 
 -- the entries that a node's forwarding table may have, and the GUIDs that its ports may need
 abbrev pub IsOfKind : NodeType → ℕ → ℕ → ℕ → Type 0

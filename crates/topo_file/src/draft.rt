@@ -1,13 +1,14 @@
 ghost use Rattle.std.specs.Prelude.{◌≡◌, [], Some};
-ghost use Rattle.topo_file.specs.Line.{line_of};
+ghost use Rattle.topo_file.specs.TopologyLine.{line_of};
 ghost use Rattle.topo_file.specs.Reading.{with_line, node_of};
 ghost use Rattle.topo_file.specs.TopoFault.{Reads};
 
 use crate::fault::TopoFault;
-use crate::line::{Line, LinkLine, NodeLine, read_line};
+use crate::line::{LinkLine, NodeLine, TopologyLine, read_line};
 use crate::node::Node;
 use crate::nodes::Nodes;
-use smp_bytes::{NodeId, NodeType};
+use fabric_model::NodeId;
+use smp_bytes::NodeType;
 use std::alloc::Global;
 use std::marker::Model;
 
@@ -52,18 +53,18 @@ impl Draft {
         let Draft { nodes, links } = self;
         match read_line(line) {
             None => Err(TopoFault::Syntax { line: number }),
-            Some(Line::Empty) => Ok(Draft { nodes, links }),
-            Some(Line::Node(line)) => {
+            Some(TopologyLine::Empty) => Ok(Draft { nodes, links }),
+            Some(TopologyLine::Node(line)) => {
                 let nodes = nodes.with(number, node(number, line)?)?;
                 Ok(Draft { nodes, links })
             }
-            Some(Line::Link(link)) => Draft { nodes, links }.with_link(number, link),
+            Some(TopologyLine::Link(link)) => Draft { nodes, links }.with_link(number, link),
         }
     }
 
     /// These lines and the next one, a link.
     fn with_link(self, number: usize, link: LinkLine) -> Result<Self, TopoFault>
-        ensures { Reads result (with_line number self (Some (Line.Link link))) }
+        ensures { Reads result (with_line number self (Some (TopologyLine.Link link))) }
     {
         let Draft { nodes, mut links } = self;
         let count = nodes.len();

@@ -48,7 +48,7 @@ impl TopoFault {
         }
     }
 
-    /// The line that has the fault, from 1. Want of memory is no line's.
+    /// The line that has the fault, from 1. Out of memory is no line's.
     pub fn line(self) -> Option<usize>
         ensures { result ≡ fault_line self }
     {

@@ -1,11 +1,11 @@
 //! The first fault of a text's lines, found with no memory from the allocator.
 ghost use Rattle.std.specs.Prelude.{◌≡◌};
 ghost use Rattle.topo_file.specs.FirstFault.{Leaves, first_line_fault, is_used, with_name, with_new_name};
-ghost use Rattle.topo_file.specs.Line.{line_of};
+ghost use Rattle.topo_file.specs.TopologyLine.{line_of};
 
 use crate::draft::node;
 use crate::fault::TopoFault;
-use crate::line::{Line, read_line};
+use crate::line::{TopologyLine, read_line};
 use crate::node::Node;
 use crate::nodes::MAX_NODES;
 use arrayvec::ArrayVec;
@@ -38,9 +38,9 @@ fn judge_line(names: &mut Names, number: usize, line: &[u8]) -> Result<(), TopoF
 {
     match read_line(line) {
         None => Err(TopoFault::Syntax { line: number }),
-        Some(Line::Empty) => Ok(()),
-        Some(Line::Node(line)) => judge_node(names, number, node(number, line)?),
-        Some(Line::Link(_)) => {
+        Some(TopologyLine::Empty) => Ok(()),
+        Some(TopologyLine::Node(line)) => judge_node(names, number, node(number, line)?),
+        Some(TopologyLine::Link(_)) => {
             if names.is_empty() {
                 return Err(TopoFault::Syntax { line: number });
             }

@@ -1,6 +1,6 @@
 ghost use Rattle.std.specs.Prelude.{◌≡◌, ◌∷◌};
 ghost use Rattle.text_words.specs.Text.{words};
-ghost use Rattle.topo_file.specs.Line.{line_of, kind_of, node_line, cap_of, link_line};
+ghost use Rattle.topo_file.specs.TopologyLine.{line_of, kind_of, node_line, cap_of, link_line};
 
 use smp_bytes::{Guid, NodeType};
 use text_words::{
@@ -10,7 +10,7 @@ use text_words::{
 
 /// What a line says.
 #[derive(Drop)]
-pub(crate) enum Line {
+pub(crate) enum TopologyLine {
     Empty,
     Node(NodeLine),
     Link(LinkLine),
@@ -36,17 +36,17 @@ pub(crate) struct LinkLine {
     pub(crate) peer_port: Option<u8>,
 }
 
-#[tactic(auto, unfolding(crate::specs::Line::line_of))]
+#[tactic(auto, unfolding(crate::specs::TopologyLine::line_of))]
 /// What a line says; `None` is a line that is none of the grammar's.
-pub(crate) fn read_line(line: &[u8]) -> Option<Line>
+pub(crate) fn read_line(line: &[u8]) -> Option<TopologyLine>
     ensures { result ≡ line_of line.now }
 {
     let Some((word, rest)) = split_word(line) else {
-        return Some(Line::Empty);
+        return Some(TopologyLine::Empty);
     };
     match kind(word) {
-        Some(kind) => Some(Line::Node(node_line(kind, rest)?)),
-        None => Some(Line::Link(link_line(word, rest)?)),
+        Some(kind) => Some(TopologyLine::Node(node_line(kind, rest)?)),
+        None => Some(TopologyLine::Link(link_line(word, rest)?)),
     }
 }
 

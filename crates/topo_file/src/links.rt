@@ -1,17 +1,18 @@
 ghost use Rattle.std.specs.Prelude.{◌≡◌, [], ◌∷◌, ◌++◌};
-ghost use Rattle.smp_bytes.specs.Cables.{other_end};
+ghost use Rattle.fabric_model.specs.Cables.{other_end};
 ghost use Rattle.topo_file.specs.Reading.{with_link, with_links, link_of};
 ghost use Rattle.topo_file.specs.TopoFault.{Reads};
 
 use crate::draft::LinkAt;
 use crate::fault::TopoFault;
 use crate::nodes::Nodes;
-use smp_bytes::{Cable, NodeId, NodePort, PortNum};
+use fabric_model::{Cable, NodeId, NodePort};
+use smp_bytes::PortNum;
 use std::alloc::Global;
 use std::collections::BTreeMap;
 use std::marker::Model;
 
-/// Links by place, at most one in each port.
+/// Links in their order, at most one in each port.
 #[derive(Drop)]
 pub(crate) struct Links {
     links: Vec<Cable>,
@@ -21,8 +22,8 @@ pub(crate) struct Links {
 
 impl Model for Links {
     ghost use Rattle.std.specs.Prelude.{List};
-    ghost use Rattle.smp_bytes.specs.declared.cable.Cable.{Cable as Told};
-    ghost use Rattle.topo_file.specs.Places.{HasEnds};
+    ghost use Rattle.fabric_model.specs.declared.cable.Cable.{Cable as Told};
+    ghost use Rattle.topo_file.specs.Indexes.{HasEnds};
 
     ghost Value = { List Told };
 
@@ -109,7 +110,7 @@ fn link(nodes: &Nodes, at: &LinkAt) -> Result<Cable, TopoFault>
     ensures { Reads result (link_of nodes.now at.now) }
 {
     let line = at.line;
-    let Some(peer) = nodes.place(&at.link.peer) else {
+    let Some(peer) = nodes.id(&at.link.peer) else {
         return Err(TopoFault::Peer { line });
     };
     let one = nodes.port(at.node, at.link.port);

@@ -1,11 +1,12 @@
 ghost use Rattle.std.specs.Prelude.{◌≡◌, ◌<◌, ◌≤◌, [], length, slice_get, option_copied};
-ghost use Rattle.topo_file.specs.Topology.{place_of};
+ghost use Rattle.topo_file.specs.Topology.{id_of};
 ghost use Rattle.topo_file.specs.Reading.{with_node, port_at};
 ghost use Rattle.topo_file.specs.TopoFault.{Reads};
 
 use crate::fault::TopoFault;
 use crate::node::Node;
-use smp_bytes::{NodeId, NodePort, PortNum};
+use fabric_model::{NodeId, NodePort};
+use smp_bytes::PortNum;
 use std::alloc::Global;
 use std::collections::BTreeMap;
 use std::marker::Model;
@@ -14,24 +15,24 @@ use text_words::NodeName;
 /// The most nodes that a topology may have.
 pub(crate) const MAX_NODES: usize = 1024;
 
-/// Nodes by place, each with a name of its own.
+/// Nodes by id, each with a name of its own.
 #[derive(Drop)]
 pub(crate) struct Nodes {
     nodes: Vec<Node>,
     /// The node that has the name.
-    places: BTreeMap<NodeName, NodeId>,
+    ids: BTreeMap<NodeName, NodeId>,
 }
 
 impl Model for Nodes {
     ghost use Rattle.std.specs.Prelude.{List};
     ghost use Rattle.topo_file.specs.declared.node.Node.{Node as Told};
-    ghost use Rattle.topo_file.specs.Places.{HasPlaces};
+    ghost use Rattle.topo_file.specs.Indexes.{HasIds};
 
     ghost Value = { List Told };
 
     ghost view = { λ a. a.nodes.items };
 
-    ghost invariant = { λ a. HasPlaces a.nodes.items a.places };
+    ghost invariant = { λ a. HasIds a.nodes.items a.ids };
 }
 
 impl Nodes {
@@ -41,7 +42,7 @@ impl Nodes {
     {
         Nodes {
             nodes: Vec::new(alloc),
-            places: BTreeMap::new(alloc),
+            ids: BTreeMap::new(alloc),
         }
     }
 
@@ -56,7 +57,7 @@ impl Nodes {
     pub(crate) fn get(&self, node: NodeId) -> Option<&Node>
         ensures { option_copied result ≡ slice_get self.now node }
     {
-        self.nodes.get(node.place())
+        self.nodes.get(node.number())
     }
 
     /// The nodes in their order.
@@ -67,10 +68,10 @@ impl Nodes {
     }
 
     /// The node that has the name. A search.
-    pub(crate) fn place(&self, name: &NodeName) -> Option<NodeId>
-        ensures { result ≡ place_of self.now name.now }
+    pub(crate) fn id(&self, name: &NodeName) -> Option<NodeId>
+        ensures { result ≡ id_of self.now name.now }
     {
-        self.places.get(name).copied()
+        self.ids.get(name).copied()
     }
 
     /// The port of a node, where the node has it. Takes one step.
@@ -91,20 +92,17 @@ impl Nodes {
     pub(crate) fn with(self, line: usize, node: Node) -> Result<Self, TopoFault>
         ensures { Reads result (with_node line self node) }
     {
-        if self.place(&node.name).is_some() {
+        if self.id(&node.name).is_some() {
             return Err(TopoFault::Name { line });
         }
-        let place = self.len();
-        if place >= MAX_NODES {
+        let id = self.len();
+        if id >= MAX_NODES {
             return Err(TopoFault::TooManyNodes { line });
         }
-        let Nodes {
-            mut nodes,
-            mut places,
-        } = self;
+        let Nodes { mut nodes, mut ids } = self;
         let name = node.name.copied();
-        places.insert(name, NodeId::new(place))?;
+        ids.insert(name, NodeId::new(id))?;
         nodes.push(node)?;
-        Ok(Nodes { nodes, places })
+        Ok(Nodes { nodes, ids })
     }
 }

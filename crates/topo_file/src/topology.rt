@@ -1,7 +1,7 @@
 ghost use Rattle.std.specs.Prelude.{◌≡◌, ◌↔◌, Err, None, length, slice_get, IsTrue, IfOk, IfSome, option_copied};
 ghost use Rattle.text_words.specs.Text.{lines};
-ghost use Rattle.topo_file.specs.Topology.{place_of, IsFound, IsNode, IsTopology, GuidsDiffer};
-ghost use Rattle.topo_file.specs.Reading.{topology_of, topology_in, told_by};
+ghost use Rattle.topo_file.specs.Topology.{id_of, IsFound, IsNode, IsTopology, GuidsDiffer};
+ghost use Rattle.topo_file.specs.Reading.{topology_of, topology_in, nodes_of_lines};
 ghost use Rattle.topo_file.specs.ReadingLaws.{IsDraft};
 ghost use Rattle.topo_file.specs.FirstFault.{first_line_fault};
 ghost use Rattle.topo_file.specs.TopoFault.{Reads};
@@ -12,7 +12,7 @@ use crate::first_fault::first_line_fault;
 use crate::links::Links;
 use crate::node::Node;
 use crate::nodes::Nodes;
-use smp_bytes::{Cable, NodeId};
+use fabric_model::{Cable, NodeId};
 use std::alloc::{AllocError, Global};
 use std::collections::BTreeSet;
 use std::marker::Model;
@@ -47,7 +47,7 @@ impl Topology {
         self.nodes.len()
     }
 
-    /// A node: their places, from 0, are in the order of their lines. Takes one step.
+    /// A node: their ids, from 0, are in the order of their lines. Takes one step.
     pub fn node(&self, node: NodeId) -> Option<&Node>
         ensures node { option_copied result ≡ slice_get self.now.nodes node }
         ensures is_node { IfSome result (λ node. IsNode node.now) }
@@ -64,10 +64,10 @@ impl Topology {
 
     /// The node that has the name. A search.
     pub fn find(&self, name: &str) -> Option<NodeId>
-        ensures place { result ≡ place_of self.now.nodes name.now }
+        ensures id { result ≡ id_of self.now.nodes name.now }
         ensures found { IsFound self.now.nodes name.now result }
     {
-        self.nodes.place(&NodeName::new(name.as_bytes())?)
+        self.nodes.id(&NodeName::new(name.as_bytes())?)
     }
 
     /// Whether no two nodes have the same GUID. It is held.
@@ -91,7 +91,7 @@ impl Topology {
 /// table. A link has a port, and its peer's name and port. Takes a search for each node and each
 /// link.
 ///
-/// Want of memory is answered only where no line has a fault but for its link: whether a link's peer
+/// Out of memory is answered only where no line has a fault but for its link: whether a link's peer
 /// and ports are there, and free, is judged by indexes that take memory. Once memory is refused, the
 /// lines are judged with none, by a walk over at most 1,024 names for each node.
 pub fn parse(alloc: Global, text: &str) -> Result<Topology, TopoFault>
@@ -110,7 +110,7 @@ pub fn parse(alloc: Global, text: &str) -> Result<Topology, TopoFault>
 
 /// The nodes and the links of a text's lines.
 fn read_lines(alloc: Global, text: &[u8]) -> Result<Draft, TopoFault>
-    ensures { Reads result (told_by (lines text.now)) }
+    ensures { Reads result (nodes_of_lines (lines text.now)) }
 {
     let mut draft = Draft::new(alloc);
     let mut number = 0;

@@ -1,14 +1,14 @@
--- The order of switches, and the place of a switch in it, which falls along the wires that lead up.
+-- The order of switches, and the position of a switch in it, which falls along the wires that lead up.
 use Rattle.std.proofs.Common.{◌≡◌, ◌≤◌, ◌<◌, ℕ, List, [], ◌∷◌, refl, sym, ap, ◌∙◌, subst, arith, Bool, true, false, cond, ◌==◌, ◌||◌, ◌&&◌, map, length}
 use Rattle.std.proofs.lemmas.Bool.{ltb-true, lt-ltb, eqb-true, eq-eqb}
 use Rattle.std.specs.Prelude.{nat_lt, filter, Contains, unwrap_or}
 use Rattle.smp_bytes.proofs.Members.{contains_filter, contains-from_filter}
 use Rattle.subnet_view.proofs.Apart.{contains_map}
-use Rattle.port_graph.specs.declared.exit.Exit.{Exit}
+use Rattle.port_graph.specs.declared.edge.Edge.{Edge}
 use Rattle.port_graph.proofs.Counts.{filtered_less, filtered_all, length_map}
 use Rattle.port_graph.specs.Slopes.{ups_at, downs_at}
-use Rattle.updown_routes.specs.Crossing.{Crossing}
-use Rattle.updown_routes.specs.Graph.{exits_at}
+use Rattle.updown_routes.specs.SwitchEdges.{SwitchEdges}
+use Rattle.updown_routes.specs.Graph.{edges_at}
 use Rattle.updown_routes.specs.Ranks.{is_before, rank_of, slope_of, slopes_of}
 use Rattle.updown_routes.specs.GraphLaws.{IsGraph}
 
@@ -56,11 +56,11 @@ pub never_below : (r a : ℕ) → LexBelow r a r a → ⊥
 never_below r a (lesser h) = omega arith
 never_below r a (tied e h) = omega arith
 
--- what an exit of a list leads to is one of the ends of the list
-pub has_end : (es : List Exit) (e : Exit) → Contains es e → Contains (map (λ x. x.to) es) e.to
-has_end es e h = contains_map (λ (x : Exit). x.to) es e h
+-- what an edge of a list leads to is one of the ends of the list
+pub has_end : (es : List Edge) (e : Edge) → Contains es e → Contains (map (λ x. x.to) es) e.to
+has_end es e h = contains_map (λ (x : Edge). x.to) es e h
 
-module _ (graph : List Crossing) where
+module _ (graph : List SwitchEdges) where
   -- a switch's rank, and 0 of what has none
   abbrev pub rank : ℕ → ℕ
   rank a = unwrap_or (rank_of graph a) 0
@@ -83,60 +83,60 @@ module _ (graph : List Crossing) where
   height s = length (filter (λ a. is_before graph a s) (map (λ c. c.guid) graph))
 
   -- the wires up are those to switches before it
-  pub ups_filter : (cs : List Crossing) (s : ℕ) → ups_at (map (slope_of graph) cs) s ≡ filter (λ e. is_before graph e.to s) (exits_at cs s)
+  pub ups_filter : (cs : List SwitchEdges) (s : ℕ) → ups_at (map (slope_of graph) cs) s ≡ filter (λ e. is_before graph e.to s) (edges_at cs s)
   ups_filter [] s = refl
   ups_filter (c ∷ cs) s =
       elim (c.guid == s) as
-      (λ t. (c.guid == s) ≡ t → cond t (filter (λ e. is_before graph e.to c.guid) c.exits) (ups_at (map (slope_of graph) cs) s)
-      ≡ filter (λ e. is_before graph e.to s) (cond t c.exits (exits_at cs s))) [
-        | true ↦ λ p. ap (λ g. filter (λ e. is_before graph e.to g) c.exits) (eqb-true c.guid s p)
+      (λ t. (c.guid == s) ≡ t → cond t (filter (λ e. is_before graph e.to c.guid) c.edges) (ups_at (map (slope_of graph) cs) s)
+      ≡ filter (λ e. is_before graph e.to s) (cond t c.edges (edges_at cs s))) [
+        | true ↦ λ p. ap (λ g. filter (λ e. is_before graph e.to g) c.edges) (eqb-true c.guid s p)
         | false ↦ λ p. ups_filter cs s
       ] refl
 
   -- the wires down are those to switches after it
-  pub downs_filter : (cs : List Crossing) (s : ℕ) → downs_at (map (slope_of graph) cs) s ≡ filter (λ e. is_before graph s e.to) (exits_at cs s)
+  pub downs_filter : (cs : List SwitchEdges) (s : ℕ) → downs_at (map (slope_of graph) cs) s ≡ filter (λ e. is_before graph s e.to) (edges_at cs s)
   downs_filter [] s = refl
   downs_filter (c ∷ cs) s =
       elim (c.guid == s) as
-      (λ t. (c.guid == s) ≡ t → cond t (filter (λ e. is_before graph c.guid e.to) c.exits) (downs_at (map (slope_of graph) cs) s)
-      ≡ filter (λ e. is_before graph s e.to) (cond t c.exits (exits_at cs s))) [
-        | true ↦ λ p. ap (λ g. filter (λ e. is_before graph g e.to) c.exits) (eqb-true c.guid s p)
+      (λ t. (c.guid == s) ≡ t → cond t (filter (λ e. is_before graph c.guid e.to) c.edges) (downs_at (map (slope_of graph) cs) s)
+      ≡ filter (λ e. is_before graph s e.to) (cond t c.edges (edges_at cs s))) [
+        | true ↦ λ p. ap (λ g. filter (λ e. is_before graph g e.to) c.edges) (eqb-true c.guid s p)
         | false ↦ λ p. downs_filter cs s
       ] refl
 
   -- a wire up is one of its wires, to a switch before it
-  pub ups_are : (cs : List Crossing) (s : ℕ) (e : Exit) → Contains (ups_at (map (slope_of graph) cs) s) e
-      → Contains (exits_at cs s) e × (is_before graph e.to s ≡ true)
+  pub ups_are : (cs : List SwitchEdges) (s : ℕ) (e : Edge) → Contains (ups_at (map (slope_of graph) cs) s) e
+      → Contains (edges_at cs s) e × (is_before graph e.to s ≡ true)
   ups_are cs s e h =
-      contains-from_filter (λ (x : Exit). is_before graph x.to s) (exits_at cs s) e (subst (λ (es : List Exit). Contains es e) (ups_filter cs s) h)
+      contains-from_filter (λ (x : Edge). is_before graph x.to s) (edges_at cs s) e (subst (λ (es : List Edge). Contains es e) (ups_filter cs s) h)
 
   -- a wire down is one of its wires, to a switch after it
-  pub downs_are : (cs : List Crossing) (s : ℕ) (e : Exit) → Contains (downs_at (map (slope_of graph) cs) s) e
-      → Contains (exits_at cs s) e × (is_before graph s e.to ≡ true)
+  pub downs_are : (cs : List SwitchEdges) (s : ℕ) (e : Edge) → Contains (downs_at (map (slope_of graph) cs) s) e
+      → Contains (edges_at cs s) e × (is_before graph s e.to ≡ true)
   downs_are cs s e h =
-      contains-from_filter (λ (x : Exit). is_before graph s x.to) (exits_at cs s) e (subst (λ (es : List Exit). Contains es e) (downs_filter cs s) h)
+      contains-from_filter (λ (x : Edge). is_before graph s x.to) (edges_at cs s) e (subst (λ (es : List Edge). Contains es e) (downs_filter cs s) h)
 
   -- a wire to a switch before it is a wire up
-  pub ups_have : (cs : List Crossing) (s : ℕ) (e : Exit) → Contains (exits_at cs s) e → is_before graph e.to s ≡ true
+  pub ups_have : (cs : List SwitchEdges) (s : ℕ) (e : Edge) → Contains (edges_at cs s) e → is_before graph e.to s ≡ true
       → Contains (ups_at (map (slope_of graph) cs) s) e
   ups_have cs s e h b =
-      subst (λ (es : List Exit). Contains es e) (sym (ups_filter cs s)) (contains_filter (λ (x : Exit). is_before graph x.to s) (exits_at cs s) e h b)
+      subst (λ (es : List Edge). Contains es e) (sym (ups_filter cs s)) (contains_filter (λ (x : Edge). is_before graph x.to s) (edges_at cs s) e h b)
 
   -- a wire to a switch after it is a wire down
-  pub downs_have : (cs : List Crossing) (s : ℕ) (e : Exit) → Contains (exits_at cs s) e → is_before graph s e.to ≡ true
+  pub downs_have : (cs : List SwitchEdges) (s : ℕ) (e : Edge) → Contains (edges_at cs s) e → is_before graph s e.to ≡ true
       → Contains (downs_at (map (slope_of graph) cs) s) e
   downs_have cs s e h b =
-      subst (λ (es : List Exit). Contains es e) (sym (downs_filter cs s)) (contains_filter (λ (x : Exit). is_before graph s x.to) (exits_at cs s) e h b)
+      subst (λ (es : List Edge). Contains es e) (sym (downs_filter cs s)) (contains_filter (λ (x : Edge). is_before graph s x.to) (edges_at cs s) e h b)
 
   -- a wire up leads to a switch that fewer come before
-  pub height_falls : IsGraph graph → (s : ℕ) (e : Exit) → Contains (ups_at (slopes_of graph) s) e → height e.to < height s
+  pub height_falls : IsGraph graph → (s : ℕ) (e : Edge) → Contains (ups_at (slopes_of graph) s) e → height e.to < height s
   height_falls good s e h =
       let u = ups_are graph s e h in
       filtered_less (λ a. is_before graph a e.to) (λ a. is_before graph a s) (λ a k. before_trans a e.to s k u.1)
-      (map (λ c. c.guid) graph) e.to (good.leads_to_switch s e.to (has_end (exits_at graph s) e u.0)) (not_before_itself e.to) u.1
+      (map (λ c. c.guid) graph) e.to (good.leads_to_switch s e.to (has_end (edges_at graph s) e u.0)) (not_before_itself e.to) u.1
 
   -- no more come before than there are
   pub height_bounded : (s : ℕ) → height s ≤ length (slopes_of graph)
   height_bounded s =
       let all = filtered_all (λ a. is_before graph a s) (map (λ c. c.guid) graph) in
-      omega (arith, all, length_map (λ (c : Crossing). c.guid) graph, length_map (slope_of graph) graph)
+      omega (arith, all, length_map (λ (c : SwitchEdges). c.guid) graph, length_map (slope_of graph) graph)

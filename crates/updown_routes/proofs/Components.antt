@@ -4,7 +4,7 @@ use Rattle.std.proofs.lemmas.Option.{none-some, same_Some}
 use Rattle.std.specs.Prelude.{Option, None, Some, MatchOption, is_some, option_map, option_and_then, unwrap_or, Contains}
 use Rattle.std.specs.List.{find, filter_map}
 use Rattle.smp_bytes.proofs.Members.{contains_here, contains_later}
-use Rattle.port_graph.specs.declared.exit.Exit.{Exit}
+use Rattle.port_graph.specs.declared.edge.Edge.{Edge}
 use Rattle.port_graph.specs.Walks.{has_walk, Walk, HasNoWalk}
 use Rattle.port_graph.specs.Slopes.{Slope, ups_at, downs_at, below, down_distance, least_of, cost_within}
 use Rattle.port_graph.specs.Routes.{IsDownDistance}
@@ -12,8 +12,8 @@ use Rattle.port_graph.proofs.Counts.{length_map}
 use Rattle.port_graph.proofs.WalkLemmas.{least_found, least_is, walk_from_test, test_from_walk, shortest_is}
 use Rattle.port_graph.proofs.Lists.{found, contains_map, contains_filter_map, contains-from_filter_map, least_is_one, has_least}
 use Rattle.port_graph.proofs.Paths.{bounded_walk, keeps_to, walk_append, walk_back, walk_push, walk_reverse, has_least_from}
-use Rattle.updown_routes.specs.Crossing.{Crossing}
-use Rattle.updown_routes.specs.Graph.{exits_at, neighbors}
+use Rattle.updown_routes.specs.SwitchEdges.{SwitchEdges}
+use Rattle.updown_routes.specs.Graph.{edges_at, neighbors}
 use Rattle.updown_routes.specs.Ranks.{distance, in_one_component, root_of, rank_of, is_before, slope_of, slopes_of}
 use Rattle.updown_routes.specs.GraphLaws.{IsGraph, IsSwitch}
 use Rattle.updown_routes.specs.RouteLaws.{CostInComponent, DownDistanceLaw}
@@ -35,7 +35,7 @@ same_tests true b f g = sym (f refl)
 same_tests false true f g = g refl
 same_tests false false f g = refl
 
-module _ (graph : List Crossing) (good : IsGraph graph) where
+module _ (graph : List SwitchEdges) (good : IsGraph graph) where
   abbrev guids : List ℕ
   guids = map (λ c. c.guid) graph
 
@@ -46,7 +46,7 @@ module _ (graph : List Crossing) (good : IsGraph graph) where
   pub walk_joins : (n a b : ℕ) → IsSwitch graph a → Walk next a b n → (m : ℕ) × (distance graph a b ≡ Some m)
   walk_joins n a b h w =
       let i = bounded_walk next (length guids) guids n a b (omega arith) (keeps_to next guids good.leads_to_switch n a b h w) in
-      has_least_from 0 (length graph) (has_walk next a b) i.0 (omega arith) (omega (arith, i.1, length_map (λ (c : Crossing). c.guid) graph))
+      has_least_from 0 (length graph) (has_walk next a b) i.0 (omega arith) (omega (arith, i.1, length_map (λ (c : SwitchEdges). c.guid) graph))
       (test_from_walk next a b i.0 i.2)
 
   -- a distance is the length of a walk
@@ -147,7 +147,7 @@ module _ (graph : List Crossing) (good : IsGraph graph) where
   root_goes_down (suc n) r t h e d =
       let u = prior r t n d in
       let eu = root_before u.0 t r h u.2 e in
-      let x = contains_map (λ (y : Exit). y.to) (exits_at graph u.0) t u.2 in
+      let x = contains_map (λ (y : Edge). y.to) (edges_at graph u.0) t u.2 in
       let b : is_before graph u.0 x.0.to ≡ true = ap (is_before graph u.0) x.2 ∙ before_along u.0 t r n eu e u.1 d in
       let there = has_end (downs_at slopes u.0) x.0 (downs_have graph graph u.0 x.0 x.1 b) in
       walk_push (below slopes) n r u.0 t (root_goes_down n r u.0 (is_switch_before u.0 t u.2) eu u.1)
@@ -172,12 +172,12 @@ module _ (graph : List Crossing) (good : IsGraph graph) where
         | None ↦ λ p.
             let u = prior r s n k in
             let eu = root_before u.0 s r h u.2 e in
-            let x = contains_map (λ (y : Exit). y.to) (exits_at graph s) u.0 (good.both_ways u.0 s u.2) in
+            let x = contains_map (λ (y : Edge). y.to) (edges_at graph s) u.0 (good.both_ways u.0 s u.2) in
             let b : is_before graph x.0.to s ≡ true = ap (λ y. is_before graph y s) x.2 ∙ before_along u.0 s r n eu e u.1 k in
             let i = has_cost n u.0 r t d down (is_switch_before u.0 s u.2) eu u.1 in
             let c : cost_within slopes n x.0.to t ≡ Some i.0 = ap (λ y. cost_within slopes n y t) x.2 ∙ i.1 in
             let l = has_least (filter_map (λ y. cost_within slopes n y.to t) (ups_at slopes s)) i.0
-            (contains_filter_map (λ (y : Exit). cost_within slopes n y.to t) (ups_at slopes s) x.0 i.0 (ups_have graph graph s x.0 x.1 b) c) in
+            (contains_filter_map (λ (y : Edge). cost_within slopes n y.to t) (ups_at slopes s) x.0 i.0 (ups_have graph graph s x.0 x.1 b) c) in
             (suc l.0, ap (option_map suc) l.1)
       ] refl
 
@@ -193,10 +193,10 @@ module _ (graph : List Crossing) (good : IsGraph graph) where
         | None ↦ λ p.
             let n = some_least (least_of (filter_map (λ x. cost_within slopes k x.to t) (ups_at slopes s))) m p in
             let i = least_is_one (filter_map (λ x. cost_within slopes k x.to t) (ups_at slopes s)) n.0 n.1 in
-            let x = contains-from_filter_map (λ (y : Exit). cost_within slopes k y.to t) (ups_at slopes s) n.0 i.0 in
+            let x = contains-from_filter_map (λ (y : Edge). cost_within slopes k y.to t) (ups_at slopes s) n.0 i.0 in
             let j = more_climbs k x.0.to t n.0 x.2 in
             let l = has_least (filter_map (λ y. cost_within slopes (suc k) y.to t) (ups_at slopes s)) j.0
-            (contains_filter_map (λ (y : Exit). cost_within slopes (suc k) y.to t) (ups_at slopes s) x.0 j.0 x.1 j.1) in
+            (contains_filter_map (λ (y : Edge). cost_within slopes (suc k) y.to t) (ups_at slopes s) x.0 j.0 x.1 j.1) in
             (suc l.0, ap (option_map suc) l.1)
       ] e
     where
@@ -237,16 +237,16 @@ down_distance_law graph good s t hs =
     elim (down_distance (slopes_of graph) s t) as
     (λ o. down_distance (slopes_of graph) s t ≡ o → MatchOption o (HasNoWalk (below (slopes_of graph)) s t) (IsDownDistance (slopes_of graph) s t)) [
       | None ↦ λ e m w.
-          let i = bounded_walk (below (slopes_of graph)) (length (map (λ (c : Crossing). c.guid) graph)) (map (λ (c : Crossing). c.guid) graph) m s t
-          (omega arith) (keeps_to (below (slopes_of graph)) (map (λ (c : Crossing). c.guid) graph) (leads_down graph good) m s t hs w) in
+          let i = bounded_walk (below (slopes_of graph)) (length (map (λ (c : SwitchEdges). c.guid) graph)) (map (λ (c : SwitchEdges). c.guid) graph) m s t
+          (omega arith) (keeps_to (below (slopes_of graph)) (map (λ (c : SwitchEdges). c.guid) graph) (leads_down graph good) m s t hs w) in
           let l = has_least_from 0 (length (slopes_of graph)) (has_walk (below (slopes_of graph)) s t) i.0 (omega arith)
-          (omega (arith, i.1, length_map (λ (c : Crossing). c.guid) graph, length_map (slope_of graph) graph))
+          (omega (arith, i.1, length_map (λ (c : SwitchEdges). c.guid) graph, length_map (slope_of graph) graph))
           (test_from_walk (below (slopes_of graph)) s t i.0 i.2) in
           none-some l.0 (sym e ∙ l.1)
       | Some n ↦ λ e. shortest_is (below (slopes_of graph)) (length (slopes_of graph)) s t n e
     ] refl
   where
-    leads_down : (graph : List Crossing) → IsGraph graph → (x y : ℕ) → Contains (below (slopes_of graph) x) y → IsSwitch graph y
+    leads_down : (graph : List SwitchEdges) → IsGraph graph → (x y : ℕ) → Contains (below (slopes_of graph) x) y → IsSwitch graph y
     leads_down graph good x y h =
-        let e = contains_map (λ (z : Exit). z.to) (downs_at (slopes_of graph) x) y h in
-        subst (λ (z : ℕ). IsSwitch graph z) e.2 (good.leads_to_switch x e.0.to (has_end (exits_at graph x) e.0 (downs_are graph graph x e.0 e.1).0))
+        let e = contains_map (λ (z : Edge). z.to) (downs_at (slopes_of graph) x) y h in
+        subst (λ (z : ℕ). IsSwitch graph z) e.2 (good.leads_to_switch x e.0.to (has_end (edges_at graph x) e.0 (downs_are graph graph x e.0 e.1).0))

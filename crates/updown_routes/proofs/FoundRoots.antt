@@ -9,7 +9,7 @@ use Rattle.std.specs.Option.{option_or}
 use Rattle.std.specs.List.{find}
 use Rattle.smp_bytes.proofs.Members.{contains_here, contains_later, contains_cases, contains_none}
 use Rattle.port_graph.proofs.Counts.{length_map}
-use Rattle.updown_routes.specs.Crossing.{Crossing}
+use Rattle.updown_routes.specs.SwitchEdges.{SwitchEdges}
 use Rattle.updown_routes.specs.Graph.{guids_of}
 use Rattle.updown_routes.specs.GraphLaws.{IsGraph, IsSwitch}
 use Rattle.updown_routes.specs.Ranks.{distance, in_one_component, root_of}
@@ -17,14 +17,14 @@ use Rattle.updown_routes.proofs.Components.{find_same, same_tests, component_sym
 use Rattle.updown_routes.proofs.RootByRoot.{map_same}
 
 -- the first of these that reaches the switch
-abbrev pub first_root : List Crossing → List ℕ → ℕ → Option ℕ
+abbrev pub first_root : List SwitchEdges → List ℕ → ℕ → Option ℕ
 first_root graph roots v = find (λ root. in_one_component graph root v) roots
 
 -- what the first so many switches reach
-abbrev pub AreRootsOf : List Crossing → ℕ → List (Option ℕ) → Type 0
+abbrev pub AreRootsOf : List SwitchEdges → ℕ → List (Option ℕ) → Type 0
 AreRootsOf graph n roots = roots ≡ map (first_root graph (take n (guids_of graph))) (guids_of graph)
 
-module _ (graph : List Crossing) where
+module _ (graph : List SwitchEdges) where
   abbrev first : List ℕ → ℕ → Option ℕ
   first = first_root graph
 
@@ -73,7 +73,7 @@ module _ (graph : List Crossing) where
   pub no_roots : (roots : List (Option ℕ)) → roots ≡ replicate (length graph) None → AreRootsOf graph 0 roots
   no_roots roots e = e ∙ all_none graph
     where
-      all_none : (cs : List Crossing) → replicate (length cs) None ≡ map (first_root graph []) (guids_of cs)
+      all_none : (cs : List SwitchEdges) → replicate (length cs) None ≡ map (first_root graph []) (guids_of cs)
       all_none [] = refl
       all_none (c ∷ cs) = ap (λ (xs : List (Option ℕ)). None ∷ xs) (all_none cs)
 
@@ -97,7 +97,7 @@ module _ (graph : List Crossing) where
       ∙ map_same (λ v. option_or (first before v) (reached root v)) (first (take (n + 1) guids)) guids
       (λ v k. sym (ap (λ rs. first rs v) (one_more n h) ∙ first_more before root v))
 
-module _ (graph : List Crossing) (good : IsGraph graph) where
+module _ (graph : List SwitchEdges) (good : IsGraph graph) where
   is_before : (n root : ℕ) → Contains (take n (guids_of graph)) root → IsSwitch graph root
   is_before n root h = subst (λ (xs : List ℕ). Contains xs root) (take-append-drop n (guids_of graph))
       (Contains-append_left (take n (guids_of graph)) (drop n (guids_of graph)) root h)

@@ -4,7 +4,7 @@ use Rattle.std.proofs.lemmas.Option.{MatchOption-at_none, none-some, same_Some}
 use Rattle.std.proofs.lemmas.Bool.{true≢false}
 use Rattle.std.specs.Prelude.{Option, None, Some, MatchOption, Contains, is_some, option_map}
 use Rattle.std.specs.List.{filter_map}
-use Rattle.port_graph.specs.declared.exit.Exit.{Exit}
+use Rattle.port_graph.specs.declared.edge.Edge.{Edge}
 use Rattle.port_graph.specs.Walks.{Walk, HasNoWalk}
 use Rattle.port_graph.specs.Slopes.{Slope, ups_at, downs_at, below, down_distance, least_of, cost, same_number, port_down, port_up, next_port}
 use Rattle.port_graph.specs.Routes.{IsDownDistance, Climb, IsRoute, IsCost}
@@ -12,8 +12,8 @@ use Rattle.port_graph.proofs.WalkLemmas.{shortest_is}
 use Rattle.port_graph.proofs.Lists.{contains_map, contains_filter_map, contains-from_filter_map, has_least, least_is_one, find_none}
 use Rattle.port_graph.proofs.Paths.{walk_append}
 use Rattle.port_graph.proofs.Costs.{none_less, not_zero}
-use Rattle.updown_routes.specs.Crossing.{Crossing}
-use Rattle.updown_routes.specs.Graph.{exits_at, neighbors}
+use Rattle.updown_routes.specs.SwitchEdges.{SwitchEdges}
+use Rattle.updown_routes.specs.Graph.{edges_at, neighbors}
 use Rattle.updown_routes.specs.Ranks.{in_one_component, slopes_of}
 use Rattle.updown_routes.specs.GraphLaws.{IsGraph, IsSwitch}
 use Rattle.updown_routes.specs.RouteLaws.{CostLaw, NoCostBetween}
@@ -30,17 +30,17 @@ same_none : (o : Option ℕ) → same_number o None ≡ false
 same_none None = refl
 same_none (Some n) = refl
 
-module _ (graph : List Crossing) (good : IsGraph graph) where
+module _ (graph : List SwitchEdges) (good : IsGraph graph) where
   abbrev slopes : List Slope
   slopes = slopes_of graph
 
   -- a wire up leads to a neighbor
-  pub up_leads : (s : ℕ) (e : Exit) → Contains (ups_at slopes s) e → Contains (neighbors graph s) e.to
-  up_leads s e h = has_end (exits_at graph s) e (ups_are graph graph s e h).0
+  pub up_leads : (s : ℕ) (e : Edge) → Contains (ups_at slopes s) e → Contains (neighbors graph s) e.to
+  up_leads s e h = has_end (edges_at graph s) e (ups_are graph graph s e h).0
 
   -- a wire down leads to a neighbor
-  pub down_leads : (s : ℕ) (e : Exit) → Contains (downs_at slopes s) e → Contains (neighbors graph s) e.to
-  down_leads s e h = has_end (exits_at graph s) e (downs_are graph graph s e h).0
+  pub down_leads : (s : ℕ) (e : Edge) → Contains (downs_at slopes s) e → Contains (neighbors graph s) e.to
+  down_leads s e h = has_end (edges_at graph s) e (downs_are graph graph s e h).0
 
   -- the down distance is what the words say -----------------------------------------
 
@@ -74,21 +74,21 @@ module _ (graph : List Crossing) (good : IsGraph graph) where
   cost_up = costs.cost_up slopes (height graph) (height_falls graph good) (height_bounded graph)
 
   -- a wire up to a switch of cost m: the cost is at most one more
-  pub at_most_by : (s t m : ℕ) (e : Exit) → down_distance slopes s t ≡ None → Contains (ups_at slopes s) e → cost slopes e.to t ≡ Some m
+  pub at_most_by : (s t m : ℕ) (e : Edge) → down_distance slopes s t ≡ None → Contains (ups_at slopes s) e → cost slopes e.to t ≡ Some m
       → (n : ℕ) × (cost slopes s t ≡ Some n) × (n ≤ suc m)
   at_most_by s t m e none h k =
       let its : List ℕ = filter_map (λ x. cost slopes x.to t) (ups_at slopes s) in
-      let c = contains_filter_map (λ (x : Exit). cost slopes x.to t) (ups_at slopes s) e m h k in
+      let c = contains_filter_map (λ (x : Edge). cost slopes x.to t) (ups_at slopes s) e m h k in
       let l = has_least its m c in
       (suc l.0, cost_up s t none ∙ ap (option_map suc) l.1, omega (arith, (least_is_one its l.0 l.1).1 m c))
 
   -- and some wire up leads to a switch whose cost is one less
   pub best_up : (s t n : ℕ) → down_distance slopes s t ≡ None → cost slopes s t ≡ Some (suc n)
-      → (e : Exit) × Contains (ups_at slopes s) e × (cost slopes e.to t ≡ Some n)
+      → (e : Edge) × Contains (ups_at slopes s) e × (cost slopes e.to t ≡ Some n)
   best_up s t n none k =
       let its : List ℕ = filter_map (λ x. cost slopes x.to t) (ups_at slopes s) in
       let i = least_is_one its n (none_less (least_of its) n (sym (cost_up s t none) ∙ k)) in
-      contains-from_filter_map (λ (x : Exit). cost slopes x.to t) (ups_at slopes s) n i.0
+      contains-from_filter_map (λ (x : Edge). cost slopes x.to t) (ups_at slopes s) n i.0
 
   cost_of_route : (k d s t u : ℕ) → IsSwitch graph s → Climb slopes t s u k → IsDownDistance slopes u t d → (n : ℕ) × (cost slopes s t ≡ Some n) × (n ≤ k + d)
   cost_of_route zero d s t u hs c i =
@@ -140,7 +140,7 @@ module _ (graph : List Crossing) (good : IsGraph graph) where
   descent_is_walk : (n s t : ℕ) → Walk (below slopes) s t n → Walk (neighbors graph) s t n
   descent_is_walk zero s t e = e
   descent_is_walk (suc n) s t (c, h, w) =
-      let x = contains_map (λ (e : Exit). e.to) (downs_at slopes s) c h in
+      let x = contains_map (λ (e : Edge). e.to) (downs_at slopes s) c h in
       (c, subst (λ (y : ℕ). Contains (neighbors graph s) y) x.2 (down_leads s x.0 x.1), descent_is_walk n c t w)
 
   route_is_walk : (s t n : ℕ) → IsRoute slopes s t n → (m : ℕ) × Walk (neighbors graph) s t m
@@ -154,9 +154,9 @@ module _ (graph : List Crossing) (good : IsGraph graph) where
         | false ↦ (elim (down_distance slopes s t) as
             (λ o. down_distance slopes s t ≡ o → cond (is_some o) (port_down slopes s t) (port_up slopes s t) ≡ None) [
               | None ↦ λ e.
-                  let test : Exit → Bool = λ x. same_number (option_map suc (cost slopes x.to t)) (cost slopes s t) in
-                  let fails : (x : Exit) → test x ≡ false = λ x. let o = option_map suc (cost slopes x.to t) in ap (same_number o) k ∙ same_none o in
-                  ap (option_map (λ (x : Exit). x.port)) (find_none test (ups_at slopes s) fails)
+                  let test : Edge → Bool = λ x. same_number (option_map suc (cost slopes x.to t)) (cost slopes s t) in
+                  let fails : (x : Edge) → test x ≡ false = λ x. let o = option_map suc (cost slopes x.to t) in ap (same_number o) k ∙ same_none o in
+                  ap (option_map (λ (x : Edge). x.port)) (find_none test (ups_at slopes s) fails)
               | Some d ↦ λ e. absurd (none-some d (sym k ∙ cost_down s t d e))
             ] refl)
       ]

@@ -9,14 +9,14 @@ pub mod Ways
 pub mod LeastCosts
 pub mod NextPorts
 pub mod SwitchSearch
-pub mod ExitLists
+pub mod EdgeLists
 pub mod Walked
 pub mod Wirings
 pub mod RootByRoot
 pub mod Outside
 pub mod Orders
-pub mod Placing
-pub mod PlacedRoutes
+pub mod PositionLists
+pub mod PositionRoutes
 pub mod PartWires
 pub mod Joined
 pub mod RisingChannels

@@ -3,14 +3,14 @@ use Rattle.std.proofs.Common.{◌≡◌, ℕ, zero, suc, List, inl, inr, refl, s
 use Rattle.std.proofs.lemmas.Option.{none-some, same_Some}
 use Rattle.std.proofs.lemmas.Bool.{eqb-true, eqb-false}
 use Rattle.std.specs.Prelude.{Option, None, Some, MatchOption, Contains, option_map}
-use Rattle.port_graph.specs.declared.exit.Exit.{Exit}
+use Rattle.port_graph.specs.declared.edge.Edge.{Edge}
 use Rattle.port_graph.specs.Slopes.{Slope, ups_at, downs_at, below, down_distance, cost, same_number, next_port}
 use Rattle.port_graph.specs.Routes.{IsDownDistance, IsCost, IsPortDown, IsPortUp, IsNextPort}
 use Rattle.port_graph.proofs.WalkLemmas.{shortest_is, shortest_step, shortest_zero}
 use Rattle.port_graph.proofs.Lists.{found, contains_map}
 use Rattle.port_graph.proofs.Costs.{port_at_target, port_where_down, port_where_up, same_at, same_from, at_no_cost}
-use Rattle.updown_routes.specs.Crossing.{Crossing}
-use Rattle.updown_routes.specs.Graph.{exits_at}
+use Rattle.updown_routes.specs.SwitchEdges.{SwitchEdges}
+use Rattle.updown_routes.specs.Graph.{edges_at}
 use Rattle.updown_routes.specs.Ranks.{slopes_of, is_before}
 use Rattle.updown_routes.specs.GraphLaws.{IsGraph, IsSwitch}
 use Rattle.updown_routes.specs.RouteLaws.{NextPortLaw}
@@ -31,8 +31,8 @@ module _ (slopes : List Slope) (s t p q : ℕ) where
 
   one_port_up : IsPortUp slopes s t p → IsPortUp slopes s t q → p ≡ q
   one_port_up i j =
-      let x : Exit = record { port = p; to = i.to } in
-      let y : Exit = record { port = q; to = j.to } in
+      let x : Edge = record { port = p; to = i.to } in
+      let y : Edge = record { port = q; to = j.to } in
       let le = i.least_cost y j.its_cost j.wire j.is_cost in
       let ge = j.least_cost x i.its_cost i.wire i.is_cost in
       let same : i.its_cost ≡ j.its_cost = omega arith in
@@ -49,33 +49,33 @@ module _ (slopes : List Slope) (s t p q : ℕ) where
 
 -- what `next_port` gives ------------------------------------------------------------------
 
-module _ (graph : List Crossing) (good : IsGraph graph) where
+module _ (graph : List SwitchEdges) (good : IsGraph graph) where
   abbrev slopes : List Slope
   slopes = slopes_of graph
 
-  exits_rise : (s : ℕ) → Rises (λ e. e.port) (exits_at graph s)
-  exits_rise s = rises (λ (e : Exit). e.port) (exits_at graph s) (good.ports_rise s)
+  edges_rise : (s : ℕ) → Rises (λ e. e.port) (edges_at graph s)
+  edges_rise s = rises (λ (e : Edge). e.port) (edges_at graph s) (good.ports_rise s)
 
   ups_rise : (s : ℕ) → Rises (λ e. e.port) (ups_at slopes s)
-  ups_rise s = subst (λ (es : List Exit). Rises (λ e. e.port) es) (sym (ups_filter graph graph s))
-      (rises_filter (λ (e : Exit). e.port) (λ e. is_before graph e.to s) (exits_at graph s) (exits_rise s))
+  ups_rise s = subst (λ (es : List Edge). Rises (λ e. e.port) es) (sym (ups_filter graph graph s))
+      (rises_filter (λ (e : Edge). e.port) (λ e. is_before graph e.to s) (edges_at graph s) (edges_rise s))
 
   downs_rise : (s : ℕ) → Rises (λ e. e.port) (downs_at slopes s)
-  downs_rise s = subst (λ (es : List Exit). Rises (λ e. e.port) es) (sym (downs_filter graph graph s))
-      (rises_filter (λ (e : Exit). e.port) (λ e. is_before graph s e.to) (exits_at graph s) (exits_rise s))
+  downs_rise s = subst (λ (es : List Edge). Rises (λ e. e.port) es) (sym (downs_filter graph graph s))
+      (rises_filter (λ (e : Edge). e.port) (λ e. is_before graph s e.to) (edges_at graph s) (edges_rise s))
 
   -- the next port where there is a down distance
   pub down_port : (s t d : ℕ) → (s == t) ≡ false → down_distance slopes s t ≡ Some d → (p : ℕ) × (next_port slopes s t ≡ Some p) × IsPortDown slopes s t p
   down_port s t zero apart e = absurd (eqb-false s t apart (shortest_zero (below slopes) (length slopes) s t e))
   down_port s t (suc d) apart e =
       let c = shortest_step (below slopes) (length slopes) s t d e in
-      let x = contains_map (λ (y : Exit). y.to) (downs_at slopes s) c.0 c.1 in
-      let test : Exit → Bool = λ y. same_number (option_map suc (down_distance slopes y.to t)) (down_distance slopes s t) in
+      let x = contains_map (λ (y : Edge). y.to) (downs_at slopes s) c.0 c.1 in
+      let test : Edge → Bool = λ y. same_number (option_map suc (down_distance slopes y.to t)) (down_distance slopes s t) in
       let passes = same_at (down_distance slopes x.0.to t) (down_distance slopes s t) d (ap (λ y. down_distance slopes y t) x.2 ∙ c.2) e in
       let f = found test (downs_at slopes s) x.0 x.1 passes in
-      let l = find_least (λ (y : Exit). y.port) test (downs_at slopes s) f.0 (downs_rise s) f.1 in (
+      let l = find_least (λ (y : Edge). y.port) test (downs_at slopes s) f.0 (downs_rise s) f.1 in (
         f.0.port,
-        port_where_down slopes s t (suc d) apart e ∙ ap (option_map (λ (y : Exit). y.port)) f.1,
+        port_where_down slopes s t (suc d) apart e ∙ ap (option_map (λ (y : Edge). y.port)) f.1,
         record {
           distance = d;
           is_distance = shortest_is (below slopes) (length slopes) s t (suc d) e;
@@ -93,12 +93,12 @@ module _ (graph : List Crossing) (good : IsGraph graph) where
   up_port s t zero hs apart e k = absurd (eqb-false s t apart (at_no_cost slopes (height graph) (height_falls graph good) (height_bounded graph) s t k))
   up_port s t (suc n) hs apart e k =
       let x = best_up graph good s t n e k in
-      let test : Exit → Bool = λ y. same_number (option_map suc (cost slopes y.to t)) (cost slopes s t) in
+      let test : Edge → Bool = λ y. same_number (option_map suc (cost slopes y.to t)) (cost slopes s t) in
       let f = found test (ups_at slopes s) x.0 x.1 (same_at (cost slopes x.0.to t) (cost slopes s t) n x.2 k) in
-      let l = find_least (λ (y : Exit). y.port) test (ups_at slopes s) f.0 (ups_rise s) f.1 in
-      let leads : (y : Exit) → Contains (ups_at slopes s) y → IsSwitch graph y.to = λ y h. good.leads_to_switch s y.to (up_leads graph good s y h) in (
+      let l = find_least (λ (y : Edge). y.port) test (ups_at slopes s) f.0 (ups_rise s) f.1 in
+      let leads : (y : Edge) → Contains (ups_at slopes s) y → IsSwitch graph y.to = λ y h. good.leads_to_switch s y.to (up_leads graph good s y h) in (
         f.0.port,
-        port_where_up slopes s t apart e ∙ ap (option_map (λ (y : Exit). y.port)) f.1,
+        port_where_up slopes s t apart e ∙ ap (option_map (λ (y : Edge). y.port)) f.1,
         record {
           no_walk_down = no_walk_down graph good s t hs e;
           to = f.0.to;
@@ -115,7 +115,7 @@ module _ (graph : List Crossing) (good : IsGraph graph) where
   none_without_cost : (s t p : ℕ) → IsSwitch graph s → down_distance slopes s t ≡ None → cost slopes s t ≡ None → IsNextPort slopes s t p → ⊥
   none_without_cost s t p hs e k (apart, inl i) = no_walk_down graph good s t hs e (suc i.distance) i.is_distance.walk
   none_without_cost s t p hs e k (apart, inr i) =
-      let x : Exit = record { port = p; to = i.to } in
+      let x : Edge = record { port = p; to = i.to } in
       let to_switch = good.leads_to_switch s i.to (up_leads graph good s x i.wire) in
       let q = at_most_by graph good s t i.its_cost x e i.wire (cost_is graph good i.to t i.its_cost to_switch i.is_cost) in
       none-some q.0 (sym k ∙ q.1)

@@ -102,8 +102,8 @@ module _ (ranks : List (Option ℕ)) where
         (IsDistinct-IsPermutation nat_eq same_test (range_with_len 0 (length ranks)) order indices_moved
         (IsDistinct-from_AllPairs {eq = nat_eq} Decides-eqb (range_with_len 0 (length ranks)) range_apart))
 
-    at_place : (p : ℕ) → p < length order → (get_or sorted p (0, 0)).1 ≡ get_or order p 0
-    at_place p h = sym (get_or-map (λ (x : ℕ × ℕ). x.1) sorted p (0, 0) 0 (omega (arith, length_map (λ (x : ℕ × ℕ). x.1) sorted)))
+    at_position : (p : ℕ) → p < length order → (get_or sorted p (0, 0)).1 ≡ get_or order p 0
+    at_position p h = sym (get_or-map (λ (x : ℕ × ℕ). x.1) sorted p (0, 0) 0 (omega (arith, length_map (λ (x : ℕ × ℕ). x.1) sorted)))
 
     stands : (p : ℕ) → p < length order → ((get_or sorted p (0, 0)).1 < length ranks) × ((get_or sorted p (0, 0)).0 ≡ rank (get_or sorted p (0, 0)).1)
     stands p h = ranked_by_index (get_or sorted p (0, 0))
@@ -117,12 +117,12 @@ module _ (ranks : List (Option ℕ)) where
         let l : p < length order = omega arith in
         let not_less = sorted_far (λ a b. is_lt (pair_cmp a b)) (ranks_by pair_total (λ (a : ℕ × ℕ). a)) sorted rises p q (0, 0) (omega arith)
         (omega (arith, length_map (λ (a : ℕ × ℕ). a.1) sorted)) in
-        let a : x.0 ≡ rank (get_or order p 0) = (stands p l).1 ∙ ap rank (at_place p l) in
-        let b : y.0 ≡ rank (get_or order q 0) = (stands q k).1 ∙ ap rank (at_place q k) in
-        let apart : x.1 ≡ y.1 → ⊥ = λ e. order_apart p q 0 h k (sym (at_place p l) ∙ e ∙ at_place q k) in
+        let a : x.0 ≡ rank (get_or order p 0) = (stands p l).1 ∙ ap rank (at_position p l) in
+        let b : y.0 ≡ rank (get_or order q 0) = (stands q k).1 ∙ ap rank (at_position q k) in
+        let apart : x.1 ≡ y.1 → ⊥ = λ e. order_apart p q 0 h k (sym (at_position p l) ∙ e ∙ at_position q k) in
         elim (lex_total x.0 x.1 y.0 y.1 apart) [
           | inl below ↦
-              (λ i. lex (sym a i) (sym (at_place p l) i) (sym b i) (sym (at_place q k) i)) ∙ below_lex x.0 x.1 y.0 y.1 below
+              (λ i. lex (sym a i) (sym (at_position p l) i) (sym b i) (sym (at_position q k) i)) ∙ below_lex x.0 x.1 y.0 y.1 below
           | inr below ↦ absurd (true≢false (sym (less_pair y.0 y.1 x.0 x.1 below) ∙ not_less))
         ]
 
@@ -132,7 +132,7 @@ module _ (ranks : List (Option ℕ)) where
           all = order_long;
           each = λ i h. Contains-permutation (range_with_len 0 (length ranks)) order i indices_moved
               (i, omega (arith, length-range_with_len 0 (length ranks)), get_or-range_with_len 0 (length ranks) i i h ∙ omega arith);
-          within = λ p h. omega (arith, (stands p h).0, at_place p h);
+          within = λ p h. omega (arith, (stands p h).0, at_position p h);
           rises = goes_on;
         }
 

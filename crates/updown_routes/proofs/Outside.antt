@@ -5,7 +5,7 @@ use Rattle.std.specs.Prelude.{None, Some, Contains, option_and_then}
 use Rattle.std.specs.List.{find}
 use Rattle.smp_bytes.proofs.Members.{contains_here, contains_later}
 use Rattle.port_graph.specs.Walks.{Walk}
-use Rattle.updown_routes.specs.Crossing.{Crossing}
+use Rattle.updown_routes.specs.SwitchEdges.{SwitchEdges}
 use Rattle.updown_routes.specs.Graph.{guids_of, neighbors}
 use Rattle.updown_routes.specs.GraphLaws.{IsGraph, IsSwitch}
 use Rattle.updown_routes.specs.Ranks.{distance, in_one_component, rank_of}
@@ -15,7 +15,7 @@ none_passes : (p : ℕ → Bool) (xs : List ℕ) → ((x : ℕ) → Contains xs 
 none_passes p [] h = refl
 none_passes p (x ∷ xs) h = ap (λ t. cond t (Some x) (find p xs)) (h x (contains_here x xs)) ∙ none_passes p xs (λ y k. h y (contains_later x y xs k))
 
-module _ (graph : List Crossing) (good : IsGraph graph) where
+module _ (graph : List SwitchEdges) (good : IsGraph graph) where
   -- a walk to a switch begins at one
   walk_begins : (n a b : ℕ) → IsSwitch graph b → Walk (neighbors graph) a b n → IsSwitch graph a
   walk_begins zero a b h e = subst (λ (x : ℕ). IsSwitch graph x) (sym e) h

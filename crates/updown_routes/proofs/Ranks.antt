@@ -4,8 +4,8 @@ use Rattle.std.proofs.lemmas.Bool.{cases_order, false_from_ne_true, true≢false
 use Rattle.std.specs.Prelude.{Option, Some, MatchOption, unwrap_or, List, Contains}
 use Rattle.port_graph.specs.Walks.{Walk, IsShortest}
 use Rattle.port_graph.proofs.WalkLemmas.{shortest_is}
-use Rattle.updown_routes.specs.Crossing.{Crossing}
-use Rattle.updown_routes.specs.Graph.{exits_at, neighbors}
+use Rattle.updown_routes.specs.SwitchEdges.{SwitchEdges}
+use Rattle.updown_routes.specs.Graph.{edges_at, neighbors}
 use Rattle.updown_routes.specs.Ranks.{distance, in_one_component, root_of, rank_of, is_before}
 use Rattle.updown_routes.specs.GraphLaws.{IsGraph, IsSwitch}
 use Rattle.updown_routes.specs.RankLaws.{IsRoot, HasRank, RankLaw, BeforeLaw, SlopeLaw}
@@ -17,11 +17,11 @@ use Rattle.updown_routes.proofs.Components.{is_some_of, walk_joins, walk_of, joi
 pub one_shortest : (next : ℕ → List ℕ) (a b m n : ℕ) → IsShortest next a b m → IsShortest next a b n → m ≡ n
 one_shortest next a b m n i j = omega (arith, i.least n j.walk, j.least m i.walk)
 
-one_root : (graph : List Crossing) (a r s : ℕ) → IsRoot graph a r → IsRoot graph a s → r ≡ s
+one_root : (graph : List SwitchEdges) (a r s : ℕ) → IsRoot graph a r → IsRoot graph a s → r ≡ s
 one_root graph a r s i j = omega (arith, i.least s j.reached.0 j.reached.1, j.least r i.reached.0 i.reached.1)
 
 -- a switch has one rank
-pub one_rank : (graph : List Crossing) (a m n : ℕ) → HasRank graph a m → HasRank graph a n → m ≡ n
+pub one_rank : (graph : List SwitchEdges) (a m n : ℕ) → HasRank graph a m → HasRank graph a n → m ≡ n
 one_rank graph a m n (r, i, p) (s, j, q) =
     one_shortest (neighbors graph) s a m n (subst (λ (x : ℕ). IsShortest (neighbors graph) x a m) (one_root graph a r s i j) p) q
 
@@ -38,7 +38,7 @@ lex_total r a s b apart =
       | inr (inr l) ↦ inr (lesser l)
     ]
 
-module _ (graph : List Crossing) where
+module _ (graph : List SwitchEdges) where
   -- of two switches one is before the other, and not both
   pub before_total : (a b : ℕ) → (a ≡ b → ⊥) → is_before graph a b ≡ false → is_before graph b a ≡ true
   before_total a b apart e =
@@ -51,7 +51,7 @@ module _ (graph : List Crossing) where
   pub before_asymm : (a b : ℕ) → is_before graph a b ≡ true → is_before graph b a ≡ false
   before_asymm a b h = false_from_ne_true (is_before graph b a) (λ k. true≢false (sym (before_trans graph a b a h k) ∙ not_before_itself graph a))
 
-module _ (graph : List Crossing) (good : IsGraph graph) where
+module _ (graph : List SwitchEdges) (good : IsGraph graph) where
   -- a walk from a switch ends at one
   pub walk_ends : (n a b : ℕ) → IsSwitch graph a → Walk (neighbors graph) a b n → IsSwitch graph b
   walk_ends zero a b h e = subst (λ (x : ℕ). IsSwitch graph x) e h
@@ -59,7 +59,7 @@ module _ (graph : List Crossing) (good : IsGraph graph) where
 
   is_root : (a r : ℕ) → IsSwitch graph a → root_of graph a ≡ Some r → IsRoot graph a r
   is_root a r h e =
-      let guids : List ℕ = map (λ (c : Crossing). c.guid) graph in
+      let guids : List ℕ = map (λ (c : SwitchEdges). c.guid) graph in
       let f = find_least (λ (n : ℕ). n) (in_one_component graph a) guids r (numbers_rise guids good.rising) e in
       let d = is_some_of (distance graph a r) f.passes in
       record {
@@ -104,7 +104,7 @@ before_law graph good a b ha hb = (
 -- up and down are so in words where they are by the test
 pub slope_law : SlopeLaw
 slope_law graph good a e ha =
-    let to_switch : Contains (exits_at graph a) e → IsSwitch graph e.to = λ h. good.leads_to_switch a e.to (has_end (exits_at graph a) e h) in (
+    let to_switch : Contains (edges_at graph a) e → IsSwitch graph e.to = λ h. good.leads_to_switch a e.to (has_end (edges_at graph a) e h) in (
       (
         λ h. let u = ups_are graph graph a e h in (u.0, (before_law graph good e.to a (to_switch u.0) ha).0 u.1),
         λ u. ups_have graph graph a e u.0 ((before_law graph good e.to a (to_switch u.0) ha).1 u.1),

@@ -9,19 +9,19 @@ use Rattle.std.specs.Option.{option_or}
 use Rattle.std.specs.List.{find}
 use Rattle.smp_bytes.proofs.Members.{contains_here, contains_later, contains_cases, contains_none}
 use Rattle.port_graph.proofs.Counts.{length_map}
-use Rattle.updown_routes.specs.Crossing.{Crossing}
+use Rattle.updown_routes.specs.SwitchEdges.{SwitchEdges}
 use Rattle.updown_routes.specs.Graph.{guids_of}
 use Rattle.updown_routes.specs.GraphLaws.{IsGraph, IsSwitch}
 use Rattle.updown_routes.specs.Ranks.{distance, in_one_component, rank_of}
 use Rattle.updown_routes.proofs.Components.{find_same, same_tests, component_symm, component_trans}
 
 -- the distance from the first of these that reaches the switch
-abbrev pub first_distance : List Crossing → List ℕ → ℕ → Option ℕ
+abbrev pub first_distance : List SwitchEdges → List ℕ → ℕ → Option ℕ
 first_distance graph [] v = None
 first_distance graph (root ∷ roots) v = option_or (distance graph root v) (first_distance graph roots v)
 
 -- the ranks that the first so many roots give
-abbrev pub AreRanksOf : List Crossing → ℕ → List (Option ℕ) → Type 0
+abbrev pub AreRanksOf : List SwitchEdges → ℕ → List (Option ℕ) → Type 0
 AreRanksOf graph n ranks = ranks ≡ map (first_distance graph (take n (guids_of graph))) (guids_of graph)
 
 -- a map is that of another function that gives the same
@@ -37,7 +37,7 @@ or_assoc : (o p q : Option ℕ) → option_or o (option_or p q) ≡ option_or (o
 or_assoc None p q = refl
 or_assoc (Some n) p q = refl
 
-module _ (graph : List Crossing) where
+module _ (graph : List SwitchEdges) where
   abbrev first : List ℕ → ℕ → Option ℕ
   first = first_distance graph
 
@@ -86,7 +86,7 @@ module _ (graph : List Crossing) where
   pub no_ranks : (ranks : List (Option ℕ)) → ranks ≡ replicate (length graph) None → AreRanksOf graph 0 ranks
   no_ranks ranks e = e ∙ all_none graph
     where
-      all_none : (cs : List Crossing) → replicate (length cs) None ≡ map (first_distance graph []) (guids_of cs)
+      all_none : (cs : List SwitchEdges) → replicate (length cs) None ≡ map (first_distance graph []) (guids_of cs)
       all_none [] = refl
       all_none (c ∷ cs) = ap (λ (xs : List (Option ℕ)). None ∷ xs) (all_none cs)
 
@@ -107,7 +107,7 @@ module _ (graph : List Crossing) where
       ∙ map_same (λ v. option_or (first roots v) (distance graph root v)) (first (take (n + 1) guids)) guids
       (λ v k. sym (ap (λ rs. first rs v) (one_more_root n h) ∙ first_more roots root v))
 
-module _ (graph : List Crossing) (good : IsGraph graph) where
+module _ (graph : List SwitchEdges) (good : IsGraph graph) where
   is_root : (n root : ℕ) → Contains (take n (guids_of graph)) root → IsSwitch graph root
   is_root n root h = subst (λ (xs : List ℕ). Contains xs root) (take-append-drop n (guids_of graph))
       (Contains-append_left (take n (guids_of graph)) (drop n (guids_of graph)) root h)

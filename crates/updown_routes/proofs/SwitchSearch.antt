@@ -14,10 +14,10 @@ use Rattle.std.specs.Ordering.{nat_cmp}
 use Rattle.fact_store.specs.View.{Facts, cells_of}
 use Rattle.subnet_view.specs.Reading.{Cells, is_switch_node, cap_of, switches}
 use Rattle.subnet_view.specs.Wires.{across}
-use Rattle.port_graph.specs.declared.exit.Exit.{Exit}
-use Rattle.updown_routes.specs.Graph.{exit_at}
+use Rattle.port_graph.specs.declared.edge.Edge.{Edge}
+use Rattle.updown_routes.specs.Graph.{edge_at}
 use Rattle.updown_routes.specs.Wiring.{by_guid, IsIndexOf, IsIndexIn}
-use Rattle.updown_routes.proofs.Graphs.{exit_to_usable}
+use Rattle.updown_routes.proofs.Graphs.{edge_to_usable}
 use Rattle.updown_routes.proofs.Switches.{switch_usable, usable_switch}
 
 -- numbers that rise do not fall
@@ -46,37 +46,37 @@ index_found xs x (Err i) s rise = λ h.
 pub index_in : (xs : List ℕ) (x i : ℕ) → IsIndexOf xs x i → Contains xs x
 index_in xs x i (l, e) = subst (λ (y : ℕ). Contains xs y) e (Contains-get_or xs i 0 l)
 
--- a wire to a switch is the exit to its index, and any other wire is none
+-- a wire to a switch is the edge to its index, and any other wire is none
 module _ (facts : Facts) (g p : ℕ) (q : ℕ × ℕ) (wire : across (cells_of facts) g p ≡ Some q) where
   abbrev guids : List ℕ
   guids = switches (cells_of facts)
 
-  exit_by_test : exit_at (cells_of facts) g p ≡ cond (is_switch_node (cells_of facts) q.0) (Some (record { port = p; to = q.0 })) None
-  exit_by_test = ap (option_and_then
+  edge_by_test : edge_at (cells_of facts) g p ≡ cond (is_switch_node (cells_of facts) q.0) (Some (record { port = p; to = q.0 })) None
+  edge_by_test = ap (option_and_then
       (λ (x : ℕ × ℕ). cond (is_switch_node (cells_of facts) x.0) (Some (record { port = p; to = x.0 })) None)) wire
 
   abbrev test : Bool
   test = is_switch_node (cells_of facts) q.0
 
-  -- a wire to what is no switch is no exit
-  pub no_exit : (Contains guids q.0 → ⊥) → exit_at (cells_of facts) g p ≡ None
-  no_exit none =
-      let exit : Option Exit = Some (record { port = p; to = q.0 }) in
-      let nothing : Option Exit = None in
-      exit_by_test ∙ (elim test as (λ t. test ≡ t → cond t exit nothing ≡ nothing) [
+  -- a wire to what is no switch is no edge
+  pub no_edge : (Contains guids q.0 → ⊥) → edge_at (cells_of facts) g p ≡ None
+  no_edge none =
+      let edge : Option Edge = Some (record { port = p; to = q.0 }) in
+      let nothing : Option Edge = None in
+      edge_by_test ∙ (elim test as (λ t. test ≡ t → cond t edge nothing ≡ nothing) [
         | true ↦ λ e. absurd (none
-            (usable_switch facts q.0 (exit_to_usable (cells_of facts) g p q.0 (record { end_port = q.1; wire = wire; is_switch = e }))))
+            (usable_switch facts q.0 (edge_to_usable (cells_of facts) g p q.0 (record { end_port = q.1; wire = wire; is_switch = e }))))
         | false ↦ λ e. refl
       ] refl)
 
-  -- a wire to the switch at an index is the exit there
-  pub exit_to_index : (i : ℕ) → IsIndexOf guids q.0 i → Some (by_guid guids (record { port = p; to = i })) ≡ exit_at (cells_of facts) g p
-  exit_to_index i found =
+  -- a wire to the switch at an index is the edge there
+  pub edge_to_index : (i : ℕ) → IsIndexOf guids q.0 i → Some (by_guid guids (record { port = p; to = i })) ≡ edge_at (cells_of facts) g p
+  edge_to_index i found =
       let is = and_parts test (is_some (cap_of (cells_of facts) q.0)) (switch_usable facts q.0 (index_in guids q.0 i found)) in
-      let exit : ℕ → Option Exit = λ x. Some (record { port = p; to = x }) in
-      ap exit found.1 ∙ sym (ap (λ t. cond t (exit q.0) None) is.0) ∙ sym exit_by_test
+      let edge : ℕ → Option Edge = λ x. Some (record { port = p; to = x }) in
+      ap edge found.1 ∙ sym (ap (λ t. cond t (edge q.0) None) is.0) ∙ sym edge_by_test
 
--- a port without a wire has no exit
-pub no_wire : (cells : Cells) (g p : ℕ) → across cells g p ≡ None → exit_at cells g p ≡ None
+-- a port without a wire has no edge
+pub no_wire : (cells : Cells) (g p : ℕ) → across cells g p ≡ None → edge_at cells g p ≡ None
 no_wire cells g p e = ap (option_and_then
     (λ (q : ℕ × ℕ). if is_switch_node cells q.0 then Some (record { port = p; to = q.0 }) else None)) e

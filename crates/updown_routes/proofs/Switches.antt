@@ -6,15 +6,15 @@ use Rattle.std.specs.List.Sorted.{IsStrictlyIncreasing}
 use Rattle.fact_store.specs.View.{Facts, cells_of}
 use Rattle.subnet_view.specs.Reading.{Cells, is_usable, switches}
 use Rattle.subnet_view.proofs.UsableSwitches.{usable_law, switches_law}
-use Rattle.updown_routes.specs.Crossing.{Crossing}
-use Rattle.updown_routes.specs.Graph.{exits_of, graph_of, guids_of}
+use Rattle.updown_routes.specs.SwitchEdges.{SwitchEdges}
+use Rattle.updown_routes.specs.Graph.{edges_of, graph_of, guids_of}
 use Rattle.updown_routes.specs.GraphLaws.{SwitchLaw}
 
 -- the graph's GUIDs are those of the switches
 pub graph_guids : (cells : Cells) → guids_of (graph_of cells) ≡ switches cells
 graph_guids cells = same (switches cells)
   where
-    same : (gs : List ℕ) → map (λ (c : Crossing). c.guid) (map (λ g. record { guid = g; exits = exits_of cells g }) gs) ≡ gs
+    same : (gs : List ℕ) → map (λ (c : SwitchEdges). c.guid) (map (λ g. record { guid = g; edges = edges_of cells g }) gs) ≡ gs
     same [] = refl
     same (g ∷ gs) = ap (λ xs. g ∷ xs) (same gs)
 

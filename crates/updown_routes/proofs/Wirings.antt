@@ -7,48 +7,48 @@ use Rattle.std.proofs.lemmas.List.Kept.{AllPairs-from_increasing}
 use Rattle.std.specs.Prelude.{Option, None, slice_index}
 use Rattle.std.specs.List.Sorted.{IsStrictlyIncreasing}
 use Rattle.subnet_view.specs.Reading.{Cells, switches}
-use Rattle.port_graph.specs.declared.exit.Exit.{Exit}
+use Rattle.port_graph.specs.declared.edge.Edge.{Edge}
 use Rattle.port_graph.specs.Walks.{shortest}
 use Rattle.port_graph.specs.Heads.{heads, AreDistances}
 use Rattle.port_graph.proofs.Counts.{length_map}
 use Rattle.port_graph.proofs.Lists.{contains_map}
 use Rattle.port_graph.proofs.Renaming.{IsRenamed, shortest_renamed}
-use Rattle.updown_routes.specs.Crossing.{Crossing}
-use Rattle.updown_routes.specs.Graph.{guids_of, exits_at, neighbors, exits_of, graph_of}
+use Rattle.updown_routes.specs.SwitchEdges.{SwitchEdges}
+use Rattle.updown_routes.specs.Graph.{guids_of, edges_at, neighbors, edges_of, graph_of}
 use Rattle.updown_routes.specs.Ranks.{distance}
-use Rattle.updown_routes.specs.Wiring.{by_guid, crossings, named, switch_at, LeadBelow, IsWiring}
+use Rattle.updown_routes.specs.Wiring.{by_guid, switch_edges, named, switch_at, LeadBelow, IsWiring}
 use Rattle.updown_routes.specs.GraphLaws.{IsGraph}
 use Rattle.updown_routes.proofs.Rising.{Rises, numbers_rise}
 
 -- lists of one length ---------------------------------------------------------------------
 
 -- the switches of a graph that is put together
-pub guids_of_crossings : (gs : List ℕ) (rows : List (List Exit)) → length rows ≡ length gs → guids_of (crossings gs rows) ≡ gs
-guids_of_crossings [] rows e = refl
-guids_of_crossings (g ∷ gs) [] e = absurd (omega arith)
-guids_of_crossings (g ∷ gs) (es ∷ rows) e = ap (λ xs. g ∷ xs) (guids_of_crossings gs rows (omega arith))
+pub guids_of_switch_edges : (gs : List ℕ) (rows : List (List Edge)) → length rows ≡ length gs → guids_of (switch_edges gs rows) ≡ gs
+guids_of_switch_edges [] rows e = refl
+guids_of_switch_edges (g ∷ gs) [] e = absurd (omega arith)
+guids_of_switch_edges (g ∷ gs) (es ∷ rows) e = ap (λ xs. g ∷ xs) (guids_of_switch_edges gs rows (omega arith))
 
-exits_of_crossings : (gs : List ℕ) (rows : List (List Exit)) (i : ℕ) → Rises (λ n. n) gs → length rows ≡ length gs → i < length gs
-    → exits_at (crossings gs rows) (slice_index gs i) ≡ get_or rows i []
-exits_of_crossings [] rows i r e h = absurd (omega arith)
-exits_of_crossings (g ∷ gs) [] i r e h = absurd (omega arith)
-exits_of_crossings (g ∷ gs) (es ∷ rows) zero r e h = ap (λ t. cond t es (exits_at (crossings gs rows) g)) (eq-eqb g g refl)
-exits_of_crossings (g ∷ gs) (es ∷ rows) (suc i) r e h =
+edges_of_switch_edges : (gs : List ℕ) (rows : List (List Edge)) (i : ℕ) → Rises (λ n. n) gs → length rows ≡ length gs → i < length gs
+    → edges_at (switch_edges gs rows) (slice_index gs i) ≡ get_or rows i []
+edges_of_switch_edges [] rows i r e h = absurd (omega arith)
+edges_of_switch_edges (g ∷ gs) [] i r e h = absurd (omega arith)
+edges_of_switch_edges (g ∷ gs) (es ∷ rows) zero r e h = ap (λ t. cond t es (edges_at (switch_edges gs rows) g)) (eq-eqb g g refl)
+edges_of_switch_edges (g ∷ gs) (es ∷ rows) (suc i) r e h =
     let l : i < length gs = omega arith in
     let above = r.0 (slice_index gs i) (Contains-get_or gs i 0 l) in
     let apart : (g == slice_index gs i) ≡ false = false_from_ne_true (g == slice_index gs i) (λ t. omega (arith, eqb-true g (slice_index gs i) t)) in
-    ap (λ t. cond t es (exits_at (crossings gs rows) (slice_index gs i))) apart ∙ exits_of_crossings gs rows i r.1 (omega arith) l
+    ap (λ t. cond t es (edges_at (switch_edges gs rows) (slice_index gs i))) apart ∙ edges_of_switch_edges gs rows i r.1 (omega arith) l
 
 -- rows that a function gives
-crossings_by : (f : ℕ → List Exit) (gs : List ℕ) → crossings gs (map f gs) ≡ map (λ g. record { guid = g; exits = f g }) gs
-crossings_by f [] = refl
-crossings_by f (g ∷ gs) = ap (λ (xs : List Crossing). record { guid = g; exits = f g } ∷ xs) (crossings_by f gs)
+switch_edges_by : (f : ℕ → List Edge) (gs : List ℕ) → switch_edges gs (map f gs) ≡ map (λ g. record { guid = g; edges = f g }) gs
+switch_edges_by f [] = refl
+switch_edges_by f (g ∷ gs) = ap (λ (xs : List SwitchEdges). record { guid = g; edges = f g } ∷ xs) (switch_edges_by f gs)
 
--- the switches and their exits are the graph of the facts
-pub named_is_graph : (cells : Cells) (guids : List ℕ) (exits : List (List Exit)) → guids ≡ switches cells
-    → map (map (by_guid guids)) exits ≡ map (exits_of cells) guids → named guids exits ≡ graph_of cells
-named_is_graph cells guids exits same rows =
-    ap (crossings guids) rows ∙ crossings_by (exits_of cells) guids ∙ ap (map (λ g. record { guid = g; exits = exits_of cells g })) same
+-- the switches and their edges are the graph of the facts
+pub named_is_graph : (cells : Cells) (guids : List ℕ) (edges : List (List Edge)) → guids ≡ switches cells
+    → map (map (by_guid guids)) edges ≡ map (edges_of cells) guids → named guids edges ≡ graph_of cells
+named_is_graph cells guids edges same rows =
+    ap (switch_edges guids) rows ∙ switch_edges_by (edges_of cells) guids ∙ ap (map (λ g. record { guid = g; edges = edges_of cells g })) same
 
 -- numbers that rise differ
 pub apart_by_index : (xs : List ℕ) → IsStrictlyIncreasing xs → (i j : ℕ) → i < length xs → j < length xs → slice_index xs i ≡ slice_index xs j → i ≡ j
@@ -61,20 +61,20 @@ apart_by_index xs rise i j h k e =
 
 -- by index --------------------------------------------------------------------------------
 
-module _ (guids : List ℕ) (exits : List (List Exit)) (is : IsWiring guids exits) (graph : List Crossing) (by_name : named guids exits ≡ graph) where
-  abbrev rows : List (List Exit)
-  rows = map (map (by_guid guids)) exits
+module _ (guids : List ℕ) (edges : List (List Edge)) (is : IsWiring guids edges) (graph : List SwitchEdges) (by_name : named guids edges ≡ graph) where
+  abbrev rows : List (List Edge)
+  rows = map (map (by_guid guids)) edges
 
   as_many_rows : length rows ≡ length guids
-  as_many_rows = length_map (map (by_guid guids)) exits ∙ is.as_many
+  as_many_rows = length_map (map (by_guid guids)) edges ∙ is.as_many
 
   -- the GUIDs of the graph
   pub guids_are : guids_of graph ≡ guids
-  guids_are = sym (ap guids_of by_name) ∙ guids_of_crossings guids rows as_many_rows
+  guids_are = sym (ap guids_of by_name) ∙ guids_of_switch_edges guids rows as_many_rows
 
   -- there are as many switches as GUIDs
   pub length_is : length graph ≡ length guids
-  length_is = sym (length_map (λ (c : Crossing). c.guid) graph) ∙ ap length guids_are
+  length_is = sym (length_map (λ (c : SwitchEdges). c.guid) graph) ∙ ap length guids_are
 
   -- it is a graph
   pub good : IsGraph graph
@@ -84,44 +84,44 @@ module _ (guids : List ℕ) (exits : List (List Exit)) (is : IsWiring guids exit
   pub rise : IsStrictlyIncreasing guids
   rise = subst IsStrictlyIncreasing guids_are good.rising
 
-  -- the exits of the switch at an index
-  exits_by_index : (i : ℕ) → i < length guids → exits_at graph (slice_index guids i) ≡ map (by_guid guids) (get_or exits i [])
-  exits_by_index i h =
-      sym (ap (λ (g : List Crossing). exits_at g (slice_index guids i)) by_name)
-      ∙ exits_of_crossings guids rows i (numbers_rise guids rise) as_many_rows h
-      ∙ get_or-map (map (by_guid guids)) exits i [] [] (omega (arith, is.as_many))
+  -- the edges of the switch at an index
+  edges_by_index : (i : ℕ) → i < length guids → edges_at graph (slice_index guids i) ≡ map (by_guid guids) (get_or edges i [])
+  edges_by_index i h =
+      sym (ap (λ (g : List SwitchEdges). edges_at g (slice_index guids i)) by_name)
+      ∙ edges_of_switch_edges guids rows i (numbers_rise guids rise) as_many_rows h
+      ∙ get_or-map (map (by_guid guids)) edges i [] [] (omega (arith, is.as_many))
 
-  -- the exits by index are those by GUID
-  pub exits_of_switch : (i : ℕ) → i < length graph → map (by_guid (guids_of graph)) (get_or exits i []) ≡ exits_at graph (switch_at graph i)
-  exits_of_switch i h =
-      ap (λ gs. map (by_guid gs) (get_or exits i [])) guids_are ∙ sym (exits_by_index i (omega (arith, length_is)))
-      ∙ sym (ap (λ gs. exits_at graph (slice_index gs i)) guids_are)
+  -- the edges by index are those by GUID
+  pub edges_of_switch : (i : ℕ) → i < length graph → map (by_guid (guids_of graph)) (get_or edges i []) ≡ edges_at graph (switch_at graph i)
+  edges_of_switch i h =
+      ap (λ gs. map (by_guid gs) (get_or edges i [])) guids_are ∙ sym (edges_by_index i (omega (arith, length_is)))
+      ∙ sym (ap (λ gs. edges_at graph (slice_index gs i)) guids_are)
 
   -- they lead to switches
-  pub exits_to_switches : (i : ℕ) → LeadBelow (length graph) (get_or exits i [])
-  exits_to_switches i e h = omega (arith, is.to_switches i e h, is.as_many, length_is)
+  pub edges_to_switches : (i : ℕ) → LeadBelow (length graph) (get_or edges i [])
+  edges_to_switches i e h = omega (arith, is.to_switches i e h, is.as_many, length_is)
 
-  ends_by_guid : (es : List Exit) → map (λ e. e.to) (map (by_guid guids) es) ≡ map (slice_index guids) (map (λ e. e.to) es)
+  ends_by_guid : (es : List Edge) → map (λ e. e.to) (map (by_guid guids) es) ≡ map (slice_index guids) (map (λ e. e.to) es)
   ends_by_guid [] = refl
   ends_by_guid (e ∷ es) = ap (λ ns. slice_index guids e.to ∷ ns) (ends_by_guid es)
 
   -- the graph is that of the indices, by the GUIDs
-  renamed : IsRenamed (slice_index guids) (length guids) (neighbors graph) (heads exits)
+  renamed : IsRenamed (slice_index guids) (length guids) (neighbors graph) (heads edges)
   renamed =
       record {
-        named = λ i h. ap (map (λ (e : Exit). e.to)) (exits_by_index i h) ∙ ends_by_guid (get_or exits i []);
-        within = λ i b h k. let x = contains_map (λ (e : Exit). e.to) (get_or exits i []) b k in omega (arith, x.2, is.to_switches i x.0 x.1, is.as_many);
+        named = λ i h. ap (map (λ (e : Edge). e.to)) (edges_by_index i h) ∙ ends_by_guid (get_or edges i []);
+        within = λ i b h k. let x = contains_map (λ (e : Edge). e.to) (get_or edges i []) b k in omega (arith, x.2, is.to_switches i x.0 x.1, is.as_many);
         apart = λ i j h k e. apart_by_index guids rise i j h k e;
       }
 
   distance_by_index : (i j : ℕ) → i < length guids → j < length guids
-      → shortest (heads exits) (length exits) i j ≡ distance graph (slice_index guids i) (slice_index guids j)
+      → shortest (heads edges) (length edges) i j ≡ distance graph (slice_index guids i) (slice_index guids j)
   distance_by_index i j h k =
-      sym (shortest_renamed (slice_index guids) (length guids) (neighbors graph) (heads exits) renamed (length exits) i j h k)
+      sym (shortest_renamed (slice_index guids) (length guids) (neighbors graph) (heads edges) renamed (length edges) i j h k)
       ∙ ap (λ n. shortest (neighbors graph) n (slice_index guids i) (slice_index guids j)) (is.as_many ∙ sym length_is)
 
   -- the distances that a search among the indices finds are those of the graph
-  pub distances_are : (i : ℕ) (found : List (Option ℕ)) → i < length graph → AreDistances exits i found
+  pub distances_are : (i : ℕ) (found : List (Option ℕ)) → i < length graph → AreDistances edges i found
       → found ≡ map (distance graph (switch_at graph i)) (guids_of graph)
   distances_are i found h all =
       ext_get_or None found (map (distance graph (switch_at graph i)) (guids_of graph))

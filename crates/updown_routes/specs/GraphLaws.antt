@@ -4,16 +4,16 @@ use Rattle.std.specs.List.Sorted.{IsStrictlyIncreasing}
 use Rattle.fact_store.specs.View.{Facts, cells_of}
 use Rattle.subnet_view.specs.Reading.{is_usable}
 use Rattle.subnet_view.specs.Wires.{IsWire}
-use Rattle.updown_routes.specs.Crossing.{Crossing}
-use Rattle.updown_routes.specs.Graph.{guids_of, exits_at, neighbors, graph_of}
+use Rattle.updown_routes.specs.SwitchEdges.{SwitchEdges}
+use Rattle.updown_routes.specs.Graph.{guids_of, edges_at, neighbors, graph_of}
 
-abbrev pub IsSwitch : List Crossing → ℕ → Type 0
+abbrev pub IsSwitch : List SwitchEdges → ℕ → Type 0
 IsSwitch graph a = Contains (guids_of graph) a
 
--- the switches stand by rising GUID, and each has its exits by rising port; each wire leads to a switch that has a wire back
-pub record IsGraph (graph : List Crossing) : Type 0 where
+-- the switches stand by rising GUID, and each has its edges by rising port; each wire leads to a switch that has a wire back
+pub record IsGraph (graph : List SwitchEdges) : Type 0 where
   pub rising : IsStrictlyIncreasing (guids_of graph)
-  pub ports_rise : (a : ℕ) → IsStrictlyIncreasing (map (λ e. e.port) (exits_at graph a))
+  pub ports_rise : (a : ℕ) → IsStrictlyIncreasing (map (λ e. e.port) (edges_at graph a))
   pub leads_to_switch : (a b : ℕ) → Contains (neighbors graph a) b → IsSwitch graph b
   pub both_ways : (a b : ℕ) → Contains (neighbors graph a) b → Contains (neighbors graph b) a
 
@@ -29,7 +29,7 @@ SwitchLaw = (facts : Facts) (g : ℕ) → IsSwitch (graph_of (cells_of facts)) g
 abbrev pub IsSwitchWire : Facts → ℕ → ℕ → ℕ → Type 0
 IsSwitchWire facts g p h = IsTrue (is_usable (cells_of facts) h) × ((q : ℕ) × IsWire (cells_of facts) g p h q)
 
--- its exits are the wires among the usable switches
-abbrev pub ExitLaw : Type 0
-ExitLaw = (facts : Facts) (g p h : ℕ) → IsTrue (is_usable (cells_of facts) g)
-    → Contains (exits_at (graph_of (cells_of facts)) g) (record { port = p; to = h }) ↔ IsSwitchWire facts g p h
+-- its edges are the wires among the usable switches
+abbrev pub EdgeLaw : Type 0
+EdgeLaw = (facts : Facts) (g p h : ℕ) → IsTrue (is_usable (cells_of facts) g)
+    → Contains (edges_at (graph_of (cells_of facts)) g) (record { port = p; to = h }) ↔ IsSwitchWire facts g p h

@@ -1,4 +1,4 @@
-pub mod Crossing
+pub mod SwitchEdges
 pub mod Graph
 pub mod GraphLaws
 pub mod Ranks
@@ -8,6 +8,6 @@ pub mod Channels
 pub mod Routing
 pub mod Wiring
 pub mod Order
-pub mod Placed
+pub mod Positions
 pub mod Ports
 pub mod Roots

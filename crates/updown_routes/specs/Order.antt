@@ -22,7 +22,7 @@ pub record IsOrder (ranks : List (Option ℕ)) (order : List ℕ) : Type 0 where
   pub within : (p : ℕ) → p < length order → slice_index order p < length ranks
   pub rises : (p q : ℕ) → p < q → q < length order → goes_before ranks (slice_index order p) (slice_index order q) ≡ true
 
--- at each index its place in the order
-pub record ArePlaces (order places : List ℕ) : Type 0 where
-  pub all : length places ≡ length order
-  pub place : (p : ℕ) → p < length order → slice_index places (slice_index order p) ≡ p
+-- at each index its position in the order
+pub record ArePositions (order positions : List ℕ) : Type 0 where
+  pub all : length positions ≡ length order
+  pub position : (p : ℕ) → p < length order → slice_index positions (slice_index order p) ≡ p

@@ -1,30 +1,30 @@
 -- The next ports between the switches of a graph, by rising GUID.
 use Rattle.std.specs.Prelude.{◌≡◌, ℕ, List, map, Option, option_and_then, slice_get}
-use Rattle.port_graph.specs.declared.exit.Exit.{Exit}
+use Rattle.port_graph.specs.declared.edge.Edge.{Edge}
 use Rattle.port_graph.specs.Indexed.{indexed}
 use Rattle.port_graph.specs.Slopes.{next_port}
-use Rattle.updown_routes.specs.Crossing.{Crossing}
+use Rattle.updown_routes.specs.SwitchEdges.{SwitchEdges}
 use Rattle.updown_routes.specs.Graph.{guids_of}
 use Rattle.updown_routes.specs.GraphLaws.{IsGraph}
 use Rattle.updown_routes.specs.Ranks.{slopes_of}
 
 -- the next port of each switch to a target
-abbrev pub ports_to : List Crossing → ℕ → List (Option ℕ)
+abbrev pub ports_to : List SwitchEdges → ℕ → List (Option ℕ)
 ports_to graph t = map (λ s. next_port (slopes_of graph) s t) (guids_of graph)
 
 -- to each switch
-abbrev pub ports_of : List Crossing → List (List (Option ℕ))
+abbrev pub ports_of : List SwitchEdges → List (List (Option ℕ))
 ports_of graph = map (ports_to graph) (guids_of graph)
 
 -- between the switches at two indices, where there are such
-abbrev pub next_port_at : List Crossing → ℕ → ℕ → Option ℕ
+abbrev pub next_port_at : List SwitchEdges → ℕ → ℕ → Option ℕ
 next_port_at graph i j = option_and_then (λ t. option_and_then (λ s. next_port (slopes_of graph) s t) (slice_get (guids_of graph) i)) (slice_get (guids_of graph) j)
 
--- the next ports between the vertices at these places
-abbrev pub port_rows : List (List Exit) → List (List Exit) → List ℕ → List (List (Option ℕ))
-port_rows ups downs places = map (λ t. map (λ s. next_port (indexed ups downs) s t) places) places
+-- the next ports between the vertices at these positions
+abbrev pub port_rows : List (List Edge) → List (List Edge) → List ℕ → List (List (Option ℕ))
+port_rows ups downs positions = map (λ t. map (λ s. next_port (indexed ups downs) s t) positions) positions
 
 -- a graph, and for each target the next ports of its switches
-pub record IsRouted (graph : List Crossing) (towards : List (List (Option ℕ))) : Type 0 where
+pub record IsRouted (graph : List SwitchEdges) (towards : List (List (Option ℕ))) : Type 0 where
   pub is_graph : IsGraph graph
   pub are_ports : towards ≡ ports_of graph

@@ -1,38 +1,38 @@
 -- Ranks, and what is up and down, in words.
 use Rattle.std.specs.Prelude.{◌≡◌, ◌<◌, ◌≤◌, ◌↔◌, ◌⊎◌, ℕ, List, Contains, IsTrue, MatchOption}
-use Rattle.port_graph.specs.declared.exit.Exit.{Exit}
+use Rattle.port_graph.specs.declared.edge.Edge.{Edge}
 use Rattle.port_graph.specs.Walks.{Walk, IsShortest}
 use Rattle.port_graph.specs.Slopes.{ups_at, downs_at}
-use Rattle.updown_routes.specs.Crossing.{Crossing}
-use Rattle.updown_routes.specs.Graph.{exits_at, neighbors}
+use Rattle.updown_routes.specs.SwitchEdges.{SwitchEdges}
+use Rattle.updown_routes.specs.Graph.{edges_at, neighbors}
 use Rattle.updown_routes.specs.GraphLaws.{IsGraph, IsSwitch}
 use Rattle.updown_routes.specs.Ranks.{rank_of, is_before, slopes_of}
 
 -- the root of a switch's component: it can be reached, and no switch with a lesser GUID can
-pub record IsRoot (graph : List Crossing) (a root : ℕ) : Type 0 where
+pub record IsRoot (graph : List SwitchEdges) (a root : ℕ) : Type 0 where
   pub reached : (n : ℕ) × Walk (neighbors graph) a root n
   pub least : (b n : ℕ) → Walk (neighbors graph) a b n → root ≤ b
 
 -- a switch's rank is the length of a shortest walk from its root
-abbrev pub HasRank : List Crossing → ℕ → ℕ → Type 0
+abbrev pub HasRank : List SwitchEdges → ℕ → ℕ → Type 0
 HasRank graph a n = (root : ℕ) × IsRoot graph a root × IsShortest (neighbors graph) root a n
 
 -- lesser in rank, or of one rank and lesser in GUID
-abbrev pub IsBefore : List Crossing → ℕ → ℕ → Type 0
+abbrev pub IsBefore : List SwitchEdges → ℕ → ℕ → Type 0
 IsBefore graph a b = (m n : ℕ) → HasRank graph a m → HasRank graph b n → (m < n) ⊎ ((m ≡ n) × (a < b))
 
 -- the laws: ------------------------------------------------------------------------
 
 -- each switch has a rank, and it is the one in words
 abbrev pub RankLaw : Type 0
-RankLaw = (graph : List Crossing) → IsGraph graph → (a : ℕ) → IsSwitch graph a → MatchOption (rank_of graph a) ⊥ (HasRank graph a)
+RankLaw = (graph : List SwitchEdges) → IsGraph graph → (a : ℕ) → IsSwitch graph a → MatchOption (rank_of graph a) ⊥ (HasRank graph a)
 
 -- what is before by the test is before in words
 abbrev pub BeforeLaw : Type 0
-BeforeLaw = (graph : List Crossing) → IsGraph graph → (a b : ℕ) → IsSwitch graph a → IsSwitch graph b → IsTrue (is_before graph a b) ↔ IsBefore graph a b
+BeforeLaw = (graph : List SwitchEdges) → IsGraph graph → (a b : ℕ) → IsSwitch graph a → IsSwitch graph b → IsTrue (is_before graph a b) ↔ IsBefore graph a b
 
--- an exit leads up where its end is before the switch, and down where its end is after it
+-- an edge leads up where its end is before the switch, and down where its end is after it
 abbrev pub SlopeLaw : Type 0
-SlopeLaw = (graph : List Crossing) → IsGraph graph → (a : ℕ) (e : Exit) → IsSwitch graph a
-    → (Contains (ups_at (slopes_of graph) a) e ↔ (Contains (exits_at graph a) e × IsBefore graph e.to a))
-    × (Contains (downs_at (slopes_of graph) a) e ↔ (Contains (exits_at graph a) e × IsBefore graph a e.to))
+SlopeLaw = (graph : List SwitchEdges) → IsGraph graph → (a : ℕ) (e : Edge) → IsSwitch graph a
+    → (Contains (ups_at (slopes_of graph) a) e ↔ (Contains (edges_at graph a) e × IsBefore graph e.to a))
+    × (Contains (downs_at (slopes_of graph) a) e ↔ (Contains (edges_at graph a) e × IsBefore graph a e.to))

@@ -1,15 +1,15 @@
--- Switches by index, in the order of their GUIDs, with exits that lead to indices.
+-- Switches by index, in the order of their GUIDs, with edges that lead to indices.
 use Rattle.std.specs.Prelude.{◌≡◌, ◌<◌, ℕ, Option, MatchOption, List, [], ◌∷◌, map, length, slice_index, Contains}
-use Rattle.port_graph.specs.declared.exit.Exit.{Exit}
+use Rattle.port_graph.specs.declared.edge.Edge.{Edge}
 use Rattle.port_graph.specs.Heads.{LeadToVertices}
-use Rattle.updown_routes.specs.Crossing.{Crossing}
-use Rattle.updown_routes.specs.Graph.{guids_of, exits_at}
+use Rattle.updown_routes.specs.SwitchEdges.{SwitchEdges}
+use Rattle.updown_routes.specs.Graph.{guids_of, edges_at}
 use Rattle.updown_routes.specs.GraphLaws.{IsGraph}
 use Rattle.updown_routes.specs.Ranks.{distance, rank_of}
 
--- each exit leads to a lesser number
-abbrev pub LeadBelow : ℕ → List Exit → Type 0
-LeadBelow n exits = (e : Exit) → Contains exits e → e.to < n
+-- each edge leads to a lesser number
+abbrev pub LeadBelow : ℕ → List Edge → Type 0
+LeadBelow n edges = (e : Edge) → Contains edges e → e.to < n
 
 -- the number stands at the index
 abbrev pub IsIndexOf : List ℕ → ℕ → ℕ → Type 0
@@ -20,38 +20,38 @@ abbrev pub IsIndexIn : List ℕ → ℕ → Option ℕ → Type 0
 IsIndexIn numbers number found = MatchOption found (¬ (Contains numbers number)) (IsIndexOf numbers number)
 
 -- the GUID of the switch at an index
-abbrev pub switch_at : List Crossing → ℕ → ℕ
+abbrev pub switch_at : List SwitchEdges → ℕ → ℕ
 switch_at graph i = slice_index (guids_of graph) i
 
--- an exit to an index, by the GUID at that index
-abbrev pub by_guid : List ℕ → Exit → Exit
+-- an edge to an index, by the GUID at that index
+abbrev pub by_guid : List ℕ → Edge → Edge
 by_guid guids e = record { port = e.port; to = slice_index guids e.to }
 
--- the exits of the switch at an index, which lead to indices
-abbrev pub AreExitsAt : List Crossing → ℕ → List Exit → Type 0
-AreExitsAt graph i exits = map (by_guid (guids_of graph)) exits ≡ exits_at graph (switch_at graph i)
+-- the edges of the switch at an index, which lead to indices
+abbrev pub AreEdgesAt : List SwitchEdges → ℕ → List Edge → Type 0
+AreEdgesAt graph i edges = map (by_guid (guids_of graph)) edges ≡ edges_at graph (switch_at graph i)
 
 -- the distances from the switch at an index to each, by rising GUID
-abbrev pub distances_from : List Crossing → ℕ → List (Option ℕ)
+abbrev pub distances_from : List SwitchEdges → ℕ → List (Option ℕ)
 distances_from graph i = map (distance graph (switch_at graph i)) (guids_of graph)
 
--- switches, each with its exits
-abbrev pub crossings : List ℕ → List (List Exit) → List Crossing
-crossings [] exits = []
-crossings (g ∷ guids) [] = []
-crossings (g ∷ guids) (es ∷ exits) = record { guid = g; exits = es } ∷ crossings guids exits
+-- switches, each with its edges
+abbrev pub switch_edges : List ℕ → List (List Edge) → List SwitchEdges
+switch_edges [] edges = []
+switch_edges (g ∷ guids) [] = []
+switch_edges (g ∷ guids) (es ∷ edges) = record { guid = g; edges = es } ∷ switch_edges guids edges
 
--- the graph of switches whose exits lead to indices
-abbrev pub named : List ℕ → List (List Exit) → List Crossing
-named guids exits = crossings guids (map (map (by_guid guids)) exits)
+-- the graph of switches whose edges lead to indices
+abbrev pub named : List ℕ → List (List Edge) → List SwitchEdges
+named guids edges = switch_edges guids (map (map (by_guid guids)) edges)
 
--- each switch has exits, to switches, and together they are a graph
-pub record IsWiring (guids : List ℕ) (exits : List (List Exit)) : Type 0 where
-  pub as_many : length exits ≡ length guids
-  pub to_switches : LeadToVertices exits
-  pub is_graph : IsGraph (named guids exits)
+-- each switch has edges, to switches, and together they are a graph
+pub record IsWiring (guids : List ℕ) (edges : List (List Edge)) : Type 0 where
+  pub as_many : length edges ≡ length guids
+  pub to_switches : LeadToVertices edges
+  pub is_graph : IsGraph (named guids edges)
 
 -- a graph, and the ranks of its switches
-pub record IsRanked (graph : List Crossing) (ranks : List (Option ℕ)) : Type 0 where
+pub record IsRanked (graph : List SwitchEdges) (ranks : List (Option ℕ)) : Type 0 where
   pub is_graph : IsGraph graph
   pub are_ranks : ranks ≡ map (rank_of graph) (guids_of graph)

@@ -3,13 +3,13 @@ ghost use Rattle.fact_store.specs.View.{cells_of};
 ghost use Rattle.updown_routes.specs.Graph.{graph_of, guids_of};
 ghost use Rattle.updown_routes.specs.GraphLaws.{IsGraph};
 ghost use Rattle.updown_routes.specs.Ranks.{rank_of, root_of};
-ghost use Rattle.updown_routes.specs.Wiring.{AreExitsAt, IsIndexIn, LeadBelow};
+ghost use Rattle.updown_routes.specs.Wiring.{AreEdgesAt, IsIndexIn, LeadBelow};
 
 use crate::rank::ranks;
 use crate::root::roots;
 use crate::wiring::Wiring;
 use fact_store::Refused;
-use port_graph::Exit;
+use port_graph::Edge;
 use smp_bytes::Guid;
 use std::alloc::{AllocError, Global};
 use std::marker::Model;
@@ -25,10 +25,10 @@ pub struct Graph {
 
 impl Model for Graph {
     ghost use Rattle.std.specs.Prelude.{List};
-    ghost use Rattle.updown_routes.specs.Crossing.{Crossing};
+    ghost use Rattle.updown_routes.specs.SwitchEdges.{SwitchEdges};
     ghost use Rattle.updown_routes.specs.Wiring.{IsRanked};
 
-    ghost Value = { List Crossing };
+    ghost Value = { List SwitchEdges };
 
     ghost view = { λ a. a.wiring };
 
@@ -108,13 +108,13 @@ impl Graph {
         &self.ranks
     }
 
-    /// The exits of the switch at an index, which lead to indices. Takes one step.
-    pub fn exits(&self, index: usize) -> &[Exit]
+    /// The edges of the switch at an index, which lead to indices. Takes one step.
+    pub fn edges(&self, index: usize) -> &[Edge]
         requires { index < length self.now }
-        ensures exits { AreExitsAt self.now index result.now }
+        ensures edges { AreEdgesAt self.now index result.now }
         ensures to_switches { LeadBelow (length self.now) result.now }
         ensures is_graph { IsGraph self.now }
     {
-        self.wiring.exits(index)
+        self.wiring.edges(index)
     }
 }

@@ -1,11 +1,11 @@
 //! The laws of the graph of switches, of ranks and of routes.
-ghost use Rattle.updown_routes.specs.GraphLaws.{GraphLaw, SwitchLaw, ExitLaw};
+ghost use Rattle.updown_routes.specs.GraphLaws.{GraphLaw, SwitchLaw, EdgeLaw};
 ghost use Rattle.updown_routes.specs.RankLaws.{RankLaw, BeforeLaw, SlopeLaw};
 ghost use Rattle.updown_routes.specs.Channels.{ChannelLaw};
 ghost use Rattle.updown_routes.specs.Routing.{UpdownIsRouting};
 ghost use Rattle.updown_routes.specs.RouteLaws.{DownDistanceLaw, CostLaw, CostRecursion, NextPortLaw, WayLaw, NoCostBetween, CostInComponent};
 
-/// What facts give is a graph: its switches stand by rising GUID, each with its exits by rising
+/// What facts give is a graph: its switches stand by rising GUID, each with its edges by rising
 /// port, and each wire leads to a switch that has a wire back.
 pub fn facts_give_a_graph()
     ensures { GraphLaw }
@@ -16,9 +16,9 @@ pub fn switches_are_the_usable_ones()
     ensures { SwitchLaw }
 {}
 
-/// The exits of a switch are the wires from it to usable switches.
-pub fn exits_are_wires_among_switches()
-    ensures { ExitLaw }
+/// The edges of a switch are the wires from it to usable switches.
+pub fn edges_are_wires_among_switches()
+    ensures { EdgeLaw }
 {}
 
 /// Each switch has a rank: the length of a shortest walk from the switch with the least GUID of
@@ -78,8 +78,8 @@ pub fn a_cost_within_a_component()
     ensures { CostInComponent }
 {}
 
-/// The channels of the wires that a way by next ports takes have rising numbers, so no circle of
-/// channels waits for itself.
+/// The channels of the wires that a way by next ports takes have rising numbers, so channels never
+/// wait for each other in a credit loop.
 pub fn channels_rise_along_ways()
     ensures { ChannelLaw }
 {}

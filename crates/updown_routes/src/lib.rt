@@ -3,11 +3,11 @@
 
 mod graph;
 pub mod laws;
-mod order;
+mod positions;
 mod rank;
 mod root;
 mod routes;
-mod slope;
+mod up_down_edges;
 mod wiring;
 
 pub use graph::Graph;

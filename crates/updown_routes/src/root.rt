@@ -29,9 +29,9 @@ fn fill(roots: &mut [Option<Guid>], distances: &[Option<usize>], root: Guid)
     requires { length roots.old ≡ length distances.now }
     ensures { FillsIn roots.old distances.now root roots.new }
 {
-    for (i, place) in roots.iter_mut().enumerate() {
-        if place.is_none() && distances[i].is_some() {
-            *place = Some(root);
+    for (i, slot) in roots.iter_mut().enumerate() {
+        if slot.is_none() && distances[i].is_some() {
+            *slot = Some(root);
         }
     }
 }

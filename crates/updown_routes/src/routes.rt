@@ -5,8 +5,8 @@ ghost use Rattle.updown_routes.specs.Ports.{next_port_at, port_rows};
 ghost use Rattle.updown_routes.specs.Ranks.{slopes_of};
 
 use crate::graph::Graph;
-use crate::order::{order, places};
-use crate::slope::Slopes;
+use crate::positions::{order, positions};
+use crate::up_down_edges::UpDownEdges;
 use fact_store::Refused;
 use port_graph::next_ports;
 use smp_bytes::{Guid, PortNum};
@@ -23,10 +23,10 @@ pub struct Routes<'g> {
 
 impl<'g> Model for Routes<'g> {
     ghost use Rattle.std.specs.Prelude.{List, map};
-    ghost use Rattle.updown_routes.specs.Crossing.{Crossing};
+    ghost use Rattle.updown_routes.specs.SwitchEdges.{SwitchEdges};
     ghost use Rattle.updown_routes.specs.Ports.{IsRouted};
 
-    ghost Value = { List Crossing };
+    ghost Value = { List SwitchEdges };
 
     ghost view = { λ a. a.graph.now };
 
@@ -39,9 +39,9 @@ impl<'g> Routes<'g> {
         ensures { IfOk result (λ routes. routes ≡ graph.now) }
     {
         let order = order(alloc, graph.ranks())?;
-        let places = places(alloc, &order)?;
-        let slopes = Slopes::of(alloc, graph, &order, &places)?;
-        let towards = towards(alloc, &slopes, &places)?;
+        let positions = positions(alloc, &order)?;
+        let slopes = UpDownEdges::of(alloc, graph, &order, &positions)?;
+        let towards = towards(alloc, &slopes, &positions)?;
         Ok(Routes { graph, towards })
     }
 
@@ -65,38 +65,38 @@ impl<'g> Routes<'g> {
     }
 }
 
-/// The next ports between the switches at these places: for each target those of each switch.
+/// The next ports between the switches at these positions: for each target those of each switch.
 fn towards(
     alloc: Global,
-    slopes: &Slopes,
-    places: &[usize],
+    slopes: &UpDownEdges,
+    positions: &[usize],
 ) -> Result<Vec<Vec<Option<PortNum>>>, AllocError>
     requires slopes { AreSlopes slopes.now.ups slopes.now.downs }
-    requires places { All (λ p. p < length slopes.now.ups) places.now }
+    requires positions { All (λ p. p < length slopes.now.ups) positions.now }
     ensures { IfOk result (λ towards. map (λ ports. ports.items) towards.items
-        ≡ port_rows slopes.now.ups slopes.now.downs places.now) }
+        ≡ port_rows slopes.now.ups slopes.now.downs positions.now) }
 {
-    let mut towards = Vec::with_capacity(alloc, places.len())?;
-    for target in places {
+    let mut towards = Vec::with_capacity(alloc, positions.len())?;
+    for target in positions {
         let found = next_ports(alloc, &slopes.ups, &slopes.downs, *target)?;
-        towards.push(at_places(alloc, &found, places)?)?;
+        towards.push(at_positions(alloc, &found, positions)?)?;
     }
     Ok(towards)
 }
 
-/// The ports at these places.
-fn at_places(
+/// The ports at these positions.
+fn at_positions(
     alloc: Global,
     ports: &[Option<PortNum>],
-    places: &[usize],
+    positions: &[usize],
 ) -> Result<Vec<Option<PortNum>>, AllocError>
-    requires { All (λ p. p < length ports.now) places.now }
+    requires { All (λ p. p < length ports.now) positions.now }
     ensures { IfOk result (λ found.
-        found.items ≡ map (λ p. slice_index_or ports.now p None) places.now) }
+        found.items ≡ map (λ p. slice_index_or ports.now p None) positions.now) }
 {
-    let mut found = Vec::with_capacity(alloc, places.len())?;
-    for place in places {
-        found.push(ports[*place])?;
+    let mut found = Vec::with_capacity(alloc, positions.len())?;
+    for position in positions {
+        found.push(ports[*position])?;
     }
     Ok(found)
 }

@@ -3,12 +3,12 @@ ghost use Rattle.std.specs.List.Sorted.{IsStrictlyIncreasing};
 ghost use Rattle.fact_store.specs.View.{cells_of};
 ghost use Rattle.subnet_view.specs.Reading.{port_count_of, switches};
 ghost use Rattle.port_graph.specs.Heads.{LeadToVertices};
-ghost use Rattle.updown_routes.specs.Graph.{exit_at, exits_of, graph_of, guids_of};
+ghost use Rattle.updown_routes.specs.Graph.{edge_at, edges_of, graph_of, guids_of};
 ghost use Rattle.updown_routes.specs.GraphLaws.{IsGraph};
-ghost use Rattle.updown_routes.specs.Wiring.{by_guid, distances_from, AreExitsAt, IsIndexIn, LeadBelow};
+ghost use Rattle.updown_routes.specs.Wiring.{by_guid, distances_from, AreEdgesAt, IsIndexIn, LeadBelow};
 
 use fact_store::{Refused, Store};
-use port_graph::{Exit, Exits};
+use port_graph::{Adjacency, Edge};
 use smp_bytes::{Guid, PortNum};
 use std::alloc::{AllocError, Global};
 use std::marker::Model;
@@ -17,22 +17,22 @@ use subnet_view::{Wires, switches};
 /// The usable switches and the wires between them.
 #[derive(Drop)]
 pub(crate) struct Wiring {
-    /// The switches by rising GUID. An exit leads to an index among them.
+    /// The switches by rising GUID. An edge leads to an index among them.
     guids: Vec<Guid>,
-    /// The exits of each switch, by rising port.
-    exits: Exits,
+    /// The edges of each switch, by rising port.
+    edges: Adjacency,
 }
 
 impl Model for Wiring {
     ghost use Rattle.std.specs.Prelude.{List};
-    ghost use Rattle.updown_routes.specs.Crossing.{Crossing};
+    ghost use Rattle.updown_routes.specs.SwitchEdges.{SwitchEdges};
     ghost use Rattle.updown_routes.specs.Wiring.{named, IsWiring};
 
-    ghost Value = { List Crossing };
+    ghost Value = { List SwitchEdges };
 
-    ghost view = { λ a. named a.guids.items a.exits };
+    ghost view = { λ a. named a.guids.items a.edges };
 
-    ghost invariant = { λ a. IsWiring a.guids.items a.exits };
+    ghost invariant = { λ a. IsWiring a.guids.items a.edges };
 }
 
 impl Wiring {
@@ -42,8 +42,8 @@ impl Wiring {
         ensures { IfOk result (λ wiring. wiring ≡ graph_of (cells_of wires.now)) }
     {
         let guids = switches(alloc, wires.store())?;
-        let exits = exits(alloc, wires, &guids)?;
-        Ok(Wiring { guids, exits })
+        let edges = edges(alloc, wires, &guids)?;
+        Ok(Wiring { guids, edges })
     }
 
     /// How many switches there are.
@@ -82,13 +82,13 @@ impl Wiring {
         index_of(&self.guids, switch)
     }
 
-    /// The exits of the switch at an index, which lead to indices. Takes one step.
-    pub(crate) fn exits(&self, index: usize) -> &[Exit]
+    /// The edges of the switch at an index, which lead to indices. Takes one step.
+    pub(crate) fn edges(&self, index: usize) -> &[Edge]
         requires { index < length self.now }
-        ensures exits { AreExitsAt self.now index result.now }
+        ensures edges { AreEdgesAt self.now index result.now }
         ensures to_switches { LeadBelow (length self.now) result.now }
     {
-        self.exits.at(index)
+        self.edges.at(index)
     }
 
     /// The distances from the switch at an index to each switch.
@@ -100,41 +100,41 @@ impl Wiring {
         requires { from < length self.now }
         ensures { IfOk result (λ found. found.items ≡ distances_from self.now from) }
     {
-        port_graph::distances(alloc, &self.exits, from)
+        port_graph::distances(alloc, &self.edges, from)
     }
 }
 
-/// The exits of each switch, where the GUIDs are those of the usable switches.
-fn exits(alloc: Global, wires: &Wires, guids: &[Guid]) -> Result<Exits, AllocError>
+/// The edges of each switch, where the GUIDs are those of the usable switches.
+fn edges(alloc: Global, wires: &Wires, guids: &[Guid]) -> Result<Adjacency, AllocError>
     requires { guids.now ≡ switches (cells_of wires.now) }
-    ensures wires { IfOk result (λ exits.
-        map (map (by_guid guids.now)) exits ≡ map (exits_of (cells_of wires.now)) guids.now) }
-    ensures to_switches { IfOk result (λ exits. LeadToVertices exits) }
+    ensures wires { IfOk result (λ edges.
+        map (map (by_guid guids.now)) edges ≡ map (edges_of (cells_of wires.now)) guids.now) }
+    ensures to_switches { IfOk result (λ edges. LeadToVertices edges) }
 {
-    let mut exits = Exits::new(alloc);
+    let mut edges = Adjacency::new(alloc);
     for guid in guids {
-        let found = exits_of(alloc, wires, guids, *guid)?;
-        exits.push_vertex(&found)?;
+        let found = edges_of(alloc, wires, guids, *guid)?;
+        edges.push_vertex(&found)?;
     }
-    Ok(exits)
+    Ok(edges)
 }
 
 /// The wires from a switch to switches, by rising port.
-fn exits_of(
+fn edges_of(
     alloc: Global,
     wires: &Wires,
     guids: &[Guid],
     guid: Guid,
-) -> Result<Vec<Exit>, AllocError>
+) -> Result<Vec<Edge>, AllocError>
     requires { guids.now ≡ switches (cells_of wires.now) }
     ensures wires { IfOk result (λ found.
-        map (by_guid guids.now) found.items ≡ exits_of (cells_of wires.now) guid) }
+        map (by_guid guids.now) found.items ≡ edges_of (cells_of wires.now) guid) }
     ensures to_switches { IfOk result (λ found. LeadBelow (length guids.now) found.items) }
 {
     let mut found = Vec::new(alloc);
     for before in 0..port_count(wires.store(), guid) {
-        if let Some(exit) = exit_at(wires, guids, guid, PortNum::new(before + 1)) {
-            found.push(exit)?;
+        if let Some(edge) = edge_at(wires, guids, guid, PortNum::new(before + 1)) {
+            found.push(edge)?;
         }
     }
     Ok(found)
@@ -142,14 +142,14 @@ fn exits_of(
 
 /// The wire in a port, where it leads to a switch. Takes two searches among the wires, and one among
 /// the switches where there is one.
-fn exit_at(wires: &Wires, guids: &[Guid], guid: Guid, port: PortNum) -> Option<Exit>
+fn edge_at(wires: &Wires, guids: &[Guid], guid: Guid, port: PortNum) -> Option<Edge>
     requires { guids.now ≡ switches (cells_of wires.now) }
-    ensures wire { option_map (by_guid guids.now) result ≡ exit_at (cells_of wires.now) guid port }
+    ensures wire { option_map (by_guid guids.now) result ≡ edge_at (cells_of wires.now) guid port }
     ensures to_switch { IfSome result (λ e. e.to < length guids.now) }
 {
     let (far, _) = wires.across(guid, port)?;
     let to = index_of(guids, far)?;
-    Some(Exit { port, to })
+    Some(Edge { port, to })
 }
 
 /// The index of a GUID among GUIDs that rise. A search.

@@ -2,8 +2,9 @@
 ghost use Rattle.std.specs.Prelude.{◌<◌, ◌≤◌};
 
 use super::*;
+use byte_io::{FromBytes, ReadError, Source};
 use fact_store::{Context, Report, Store};
-use record_file::{FromBytes, ReadError, Source, absorb_by};
+use record_file::absorb_by;
 use smp_bytes::Generation;
 use sweep::{Answer, Sweep, SweepFault};
 

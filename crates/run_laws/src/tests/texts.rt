@@ -1,8 +1,9 @@
 //! What `{}` says of each fault whose text no clause names.
+use byte_io::{ReadError, WriteFault};
 use fabric_sim::FabricFault;
 use fact_store::{IngestFault, Refused, ReportFault};
 use lid_assign::{LidFault, NoRoom};
-use record_file::{FileFault, ReadError, WriteFault};
+use record_file::FileFault;
 use schedule_file::ScheduleFault;
 use sm_cli::{Fault, TextFault};
 use sm_manager::ManagerFault;
@@ -110,15 +111,19 @@ const PEER: TopoFault = TopoFault::Peer { line: 3 };
 
 const SEAT: ScheduleFault = ScheduleFault::Seat { line: 3 };
 
-const LID: plan_file::TextFault = plan_file::TextFault::Line(plan_file::LineFault {
-    line: 3,
-    wrong: plan_file::Wrong::Lid,
-});
+const LID: plan_file::PlanTextFault = plan_file::PlanTextFault::TextLine(
+    plan_file::PlanLineFault {
+        line: 3,
+        wrong: plan_file::PlanTextError::Lid,
+    },
+);
 
-const AGAIN: roots_file::TextFault = roots_file::TextFault::Line(roots_file::LineFault {
-    line: 3,
-    wrong: roots_file::Wrong::Repeated,
-});
+const AGAIN: roots_file::RootsTextFault = roots_file::RootsTextFault::Line(
+    roots_file::RootsLineFault {
+        line: 3,
+        wrong: roots_file::RootsTextError::Repeated,
+    },
+);
 
 const TEXTS: [(TextFault, &str); 6] = [
     (TextFault::NotUtf8, "not UTF-8"),
@@ -130,17 +135,17 @@ const TEXTS: [(TextFault, &str); 6] = [
 ];
 
 const RUNS: [(Fault, &str); 6] = [
-    (Fault::Open { place: 1 }, "cannot open"),
+    (Fault::Open { input: 1 }, "cannot open"),
     (
         Fault::File {
-            place: 1,
+            input: 1,
             fault: BAD,
         },
         "bad report 3: Port",
     ),
     (
         Fault::Text {
-            place: 1,
+            input: 1,
             fault: TextFault::NoRoot,
         },
         "no root",

@@ -3,7 +3,7 @@ use Rattle.std.proofs.Common.{subst, arith}
 use Rattle.std.specs.Prelude.{MatchOption, Option}
 use Rattle.fact_store.specs.View.{cells_of}
 use Rattle.audit.specs.declared.end.Failure.{Failure}
-use Rattle.audit.specs.Steps.{IsFailureOf, LineIsRight}
+use Rattle.audit.specs.NextHops.{IsFailureOf, LineIsRight}
 use Rattle.audit.proofs.Judged.{right_more, all_right}
 use Rattle.audit.proofs.arrival.first_failure.Goals as goal
 

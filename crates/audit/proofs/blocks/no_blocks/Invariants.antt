@@ -1,4 +1,4 @@
-use Rattle.audit.specs.Steps.{AreBlank}
+use Rattle.audit.specs.NextHops.{AreBlank}
 use Rattle.audit.proofs.blocks.no_blocks.Given as goal
 
 -- the rows so far

@@ -11,7 +11,7 @@ use Rattle.record_file.proofs.Writing.{appends_then}
 use Rattle.audit_report.specs.AuditText.{channel_text, channels_text}
 use Rattle.audit_report.proofs.audit_text.write_channels.Goals as goal
 
-channels_are : (cells : Cells) (circle : List ℕ) → length circle ≢ 0 → codes " on one lane" ++ flat_map (channel_text cells) circle ≡ channels_text cells circle
+channels_are : (cells : Cells) (cycle : List ℕ) → length cycle ≢ 0 → codes " on one lane" ++ flat_map (channel_text cells) cycle ≡ channels_text cells cycle
 channels_are cells [] h = absurd (h refl)
 channels_are cells (channel ∷ later) h = refl
 
@@ -23,8 +23,8 @@ returns g c =
     record {
       ok = on_ok_weaker c.write_each_channel.result
           (λ part. subst (Appends (written a.sink.now) (written c.write_each_channel.new.sink))
-          (channels_are cells a.circle.now (eqb-false (length a.circle.now) 0 (sym c.is_empty.ensures ∙ c.if-is_empty.false)))
-          (appends_then (written a.sink.now) (written c.write-2.new.self) (written c.write_each_channel.new.sink) (codes " on one lane") (flat_map (channel_text cells) a.circle.now)
+          (channels_are cells a.cycle.now (eqb-false (length a.cycle.now) 0 (sym c.is_empty.ensures ∙ c.if-is_empty.false)))
+          (appends_then (written a.sink.now) (written c.write-2.new.self) (written c.write_each_channel.new.sink) (codes " on one lane") (flat_map (channel_text cells) a.cycle.now)
           c.in_ok-write.ensures.writes.ok part))
           c.write_each_channel.ensures.ok;
       err = c.write_each_channel.ensures.err;

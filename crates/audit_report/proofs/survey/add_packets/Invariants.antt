@@ -3,5 +3,5 @@ use Rattle.audit_report.proofs.Surveyed.{AreCounted}
 use Rattle.audit_report.proofs.survey.add_packets.Given as goal
 
 -- those of the end ports so far
-abbrev pub invariant-loop-place : goal.invariant-loop-place
-invariant-loop-place l = AreCounted (cells_of l.network.facts) l.network.held l.line l.fn.tally l.place l.tally
+abbrev pub invariant-loop-index : goal.invariant-loop-index
+invariant-loop-index l = AreCounted (cells_of l.network.facts) l.network.held l.line l.fn.tally l.index l.tally

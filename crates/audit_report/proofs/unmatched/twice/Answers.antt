@@ -12,9 +12,9 @@ loop-line-preserved c =
     let line = c.line-item.result in
     elim c.if-is_twice.branch [
       | then-is_twice+in_ok-add w ↦
-          told_more p lines c.loop-line.line-index line c.loop-line.told c.if-is_twice.told c.loop-line.invariant c.loop-line-test.true c.line-item.is
-          (sym w.if-is_twice.ensures) (w.told-is ∙ w.in_ok-add.ensures)
+          told_more p lines c.loop-line.line-index line c.loop-line.few c.if-is_twice.few c.loop-line.invariant c.loop-line-test.true c.line-item.is
+          (sym w.if-is_twice.ensures) (w.few-is ∙ w.in_ok-add.ensures)
       | else-is_twice w ↦
-          told_same p lines c.loop-line.line-index line c.loop-line.told c.if-is_twice.told c.loop-line.invariant c.loop-line-test.true c.line-item.is
-          (sym w.if-is_twice.ensures) w.told-is
+          told_same p lines c.loop-line.line-index line c.loop-line.few c.if-is_twice.few c.loop-line.invariant c.loop-line-test.true c.line-item.is
+          (sym w.if-is_twice.ensures) w.few-is
     ]

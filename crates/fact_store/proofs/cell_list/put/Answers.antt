@@ -4,7 +4,7 @@ use Rattle.std.specs.Prelude.{Some, Result, slice_get}
 use Rattle.fact_join.specs.declared.cell.Cell.{Cell}
 use Rattle.fact_store.specs.declared.key.Key.{Key}
 use Rattle.fact_store.specs.declared.value.Value.{Value}
-use Rattle.fact_store.specs.Cells.{IsSearched, IsPlaceFor}
+use Rattle.fact_store.specs.Cells.{IsSearched, IsIndexFor}
 use Rattle.fact_store.proofs.Puts.{put_cells, put_seen, joined_cells, joined_seen}
 use Rattle.fact_store.proofs.cell_list.put.Goals as goal
 
@@ -14,26 +14,26 @@ some_key a b e = cc
 
 pub returns-in-Ok-clause-cells : goal.returns-in-Ok-clause-cells
 returns-in-Ok-clause-cells c =
-    let at : slice_get c.args.cells.now.items c.in-Ok.place ≡ Some c.unwrap-held.result = sym c.get.ensures ∙ c.unwrap-held.ensures in
-    let found : (x : Cell Value) × (slice_get c.args.cells.now.items c.in-Ok.place ≡ Some (c.key.result, x)) = subst (λ (r : Result ℕ ℕ). IsSearched c.key.result c.args.cells.now.items r) c.in-Ok.is c.place_of.ensures in
+    let at : slice_get c.args.cells.now.items c.in-Ok.index ≡ Some c.unwrap-held.result = sym c.get.ensures ∙ c.unwrap-held.ensures in
+    let found : (x : Cell Value) × (slice_get c.args.cells.now.items c.in-Ok.index ≡ Some (c.key.result, x)) = subst (λ (r : Result ℕ ℕ). IsSearched c.key.result c.args.cells.now.items r) c.in-Ok.is c.index_of.ensures in
     let same : c.unwrap-held.result.0 ≡ c.args.sighting.0 = some_key c.unwrap-held.result (c.key.result, found.0) (sym at ∙ found.1) ∙ c.key.ensures.value in
-    joined_cells c.args.cells.now.items c.requires.cells c.in-Ok.place c.args.sighting c.set.new.self.items c.unwrap-held.result at same c.join_cells.result c.join_cells.ensures.value c.join_cells.ensures.in_range c.set.ensures.items
+    joined_cells c.args.cells.now.items c.requires.cells c.in-Ok.index c.args.sighting c.set.new.self.items c.unwrap-held.result at same c.join_cells.result c.join_cells.ensures.value c.join_cells.ensures.in_range c.set.ensures.items
 
 pub returns-in-Ok-clause-put : goal.returns-in-Ok-clause-put
 returns-in-Ok-clause-put c =
-    let at : slice_get c.args.cells.now.items c.in-Ok.place ≡ Some c.unwrap-held.result = sym c.get.ensures ∙ c.unwrap-held.ensures in
-    let found : (x : Cell Value) × (slice_get c.args.cells.now.items c.in-Ok.place ≡ Some (c.key.result, x)) = subst (λ (r : Result ℕ ℕ). IsSearched c.key.result c.args.cells.now.items r) c.in-Ok.is c.place_of.ensures in
+    let at : slice_get c.args.cells.now.items c.in-Ok.index ≡ Some c.unwrap-held.result = sym c.get.ensures ∙ c.unwrap-held.ensures in
+    let found : (x : Cell Value) × (slice_get c.args.cells.now.items c.in-Ok.index ≡ Some (c.key.result, x)) = subst (λ (r : Result ℕ ℕ). IsSearched c.key.result c.args.cells.now.items r) c.in-Ok.is c.index_of.ensures in
     let same : c.unwrap-held.result.0 ≡ c.args.sighting.0 = some_key c.unwrap-held.result (c.key.result, found.0) (sym at ∙ found.1) ∙ c.key.ensures.value in
-    joined_seen c.args.cells.now.items c.requires.cells c.in-Ok.place c.args.sighting c.set.new.self.items c.unwrap-held.result at same c.join_cells.result c.join_cells.ensures.value c.join_cells.ensures.in_range c.set.ensures.items
+    joined_seen c.args.cells.now.items c.requires.cells c.in-Ok.index c.args.sighting c.set.new.self.items c.unwrap-held.result at same c.join_cells.result c.join_cells.ensures.value c.join_cells.ensures.in_range c.set.ensures.items
 
 pub returns-in-Err-clause-cells : goal.returns-in-Err-clause-cells
 returns-in-Err-clause-cells c =
-    let place : IsPlaceFor c.key.result c.args.cells.now.items c.in-Err.place = subst (λ (r : Result ℕ ℕ). IsSearched c.key.result c.args.cells.now.items r) c.in-Err.is c.place_of.ensures in
-    let there : IsPlaceFor c.args.sighting.0 c.args.cells.now.items c.in-Err.place = subst (λ (k : Key). IsPlaceFor k c.args.cells.now.items c.in-Err.place) c.key.ensures.value place in
-    put_cells c.args.cells.now.items c.requires.cells c.in-Err.place c.args.sighting c.insert.new.self.items there c.key.ensures.in_range c.insert.ensures.items
+    let index : IsIndexFor c.key.result c.args.cells.now.items c.in-Err.index = subst (λ (r : Result ℕ ℕ). IsSearched c.key.result c.args.cells.now.items r) c.in-Err.is c.index_of.ensures in
+    let there : IsIndexFor c.args.sighting.0 c.args.cells.now.items c.in-Err.index = subst (λ (k : Key). IsIndexFor k c.args.cells.now.items c.in-Err.index) c.key.ensures.value index in
+    put_cells c.args.cells.now.items c.requires.cells c.in-Err.index c.args.sighting c.insert.new.self.items there c.key.ensures.in_range c.insert.ensures.items
 
 pub returns-in-Err-clause-put : goal.returns-in-Err-clause-put
 returns-in-Err-clause-put c =
-    let place : IsPlaceFor c.key.result c.args.cells.now.items c.in-Err.place = subst (λ (r : Result ℕ ℕ). IsSearched c.key.result c.args.cells.now.items r) c.in-Err.is c.place_of.ensures in
-    let there : IsPlaceFor c.args.sighting.0 c.args.cells.now.items c.in-Err.place = subst (λ (k : Key). IsPlaceFor k c.args.cells.now.items c.in-Err.place) c.key.ensures.value place in
-    put_seen c.args.cells.now.items c.requires.cells c.in-Err.place c.args.sighting c.insert.new.self.items there c.key.ensures.in_range c.insert.ensures.items
+    let index : IsIndexFor c.key.result c.args.cells.now.items c.in-Err.index = subst (λ (r : Result ℕ ℕ). IsSearched c.key.result c.args.cells.now.items r) c.in-Err.is c.index_of.ensures in
+    let there : IsIndexFor c.args.sighting.0 c.args.cells.now.items c.in-Err.index = subst (λ (k : Key). IsIndexFor k c.args.cells.now.items c.in-Err.index) c.key.ensures.value index in
+    put_seen c.args.cells.now.items c.requires.cells c.in-Err.index c.args.sighting c.insert.new.self.items there c.key.ensures.in_range c.insert.ensures.items

@@ -2,7 +2,7 @@
 use Rattle.fact_store.specs.Seen.{seen}
 use Rattle.std.proofs.Common.{sym, ◌∙◌, ◌∷◌, []}
 use Rattle.fact_store.proofs.Held.{held_kept, merged_held, one_kept, put_in_view}
-use Rattle.fact_store.proofs.Views.{told_below}
+use Rattle.fact_store.proofs.Views.{sighting_below}
 use Rattle.fact_store.proofs.cell_list.put_kept.Goals as goal
 
 pub returns-then-is_at_least-clause-cells : goal.returns-then-is_at_least-clause-cells
@@ -14,4 +14,4 @@ pub returns-then-is_at_least-clause-put : goal.returns-then-is_at_least-clause-p
 returns-then-is_at_least-clause-put c = put_in_view c.args.floor c.args.cells.now.items c.put.new.cells.items c.args.sighting c.put.ensures.put
 
 pub returns-else-is_at_least-clause-put : goal.returns-else-is_at_least-clause-put
-returns-else-is_at_least-clause-put c = told_below c.args.floor c.args.cells.now.items c.args.sighting (sym c.is_at_least.ensures ∙ c.if-is_at_least.false)
+returns-else-is_at_least-clause-put c = sighting_below c.args.floor c.args.cells.now.items c.args.sighting (sym c.is_at_least.ensures ∙ c.if-is_at_least.false)

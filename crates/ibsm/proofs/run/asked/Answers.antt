@@ -1,6 +1,6 @@
 use Rattle.std.proofs.Common.{sym, subst}
 use Rattle.std.specs.Prelude.{codes}
-use Rattle.ibsm.specs.Asked.{HasLmc, HasNoRoots, HasRule, IsFloor, IsLmc, IsRule, word_named}
+use Rattle.ibsm.specs.Asked.{HasLmc, HasNoRoots, HasRule, IsFloor}
 use Rattle.clap.specs.Matches.{found_of}
 use Rattle.clap.specs.Simple.{subcommand_rows_of}
 use Rattle.ibsm.proofs.Words.{first_is, named}

@@ -1,6 +1,6 @@
 use Rattle.std.proofs.Common.{rules, ◌≡◌, ◌∙◌, false, sym, subst}
 use Rattle.std.specs.Prelude.{codes}
-use Rattle.sm_manager.specs.Planning.{Planning}
+use Rattle.lft_blocks.specs.Planning.{Planning}
 use Rattle.ibsm.specs.Asked.{AsksRule, IsLmc, IsRule, word_named}
 use Rattle.clap.specs.Matches.{found_of}
 use Rattle.clap.specs.Simple.{subcommand_rows_of}

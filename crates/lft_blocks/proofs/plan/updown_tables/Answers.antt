@@ -1,18 +1,18 @@
 use Rattle.std.proofs.Common.{refl, sym, ap, ◌∙◌, List, ℕ, length, map}
 use Rattle.std.specs.List.{range_with_len}
-use Rattle.updown_routes.specs.Crossing.{Crossing}
+use Rattle.updown_routes.specs.SwitchEdges.{SwitchEdges}
 use Rattle.updown_routes.specs.Graph.{guids_of}
-use Rattle.lft_blocks.specs.Homes.{table_in}
-use Rattle.lft_blocks.specs.Rows.{placed_home}
-use Rattle.lft_blocks.proofs.HomeTables.{tables_same}
-use Rattle.lft_blocks.proofs.RowSteps.{placed_itself}
+use Rattle.lft_blocks.specs.Attachments.{table_in}
+use Rattle.lft_blocks.specs.TableRows.{attachment_by_index}
+use Rattle.lft_blocks.proofs.AttachmentTables.{tables_same}
+use Rattle.lft_blocks.proofs.RowSteps.{indexed_itself}
 use Rattle.lft_blocks.proofs.plan.updown_tables.Goals as goal
 
 pub returns : goal.returns
 returns c =
     let graph = c.args.graph.now in
     let guids = guids_of graph in
-    let homes = c.args.homes.now in
+    let attachments = c.args.attachments.now in
     let count = c.args.count in
-    c.in_ok-tables.ensures ∙ (λ i. map (table_in homes (c.in_ok-routes.ensures i) (c.switches.ensures i) count) (range_with_len 0 (length (c.switches.ensures i))))
-    ∙ sym (tables_same graph guids (placed_home guids homes) homes count refl c.requires.rising (placed_itself guids homes c.requires.within))
+    c.in_ok-tables.ensures ∙ (λ i. map (table_in attachments (c.in_ok-routes.ensures i) (c.switches.ensures i) count) (range_with_len 0 (length (c.switches.ensures i))))
+    ∙ sym (tables_same graph guids (attachment_by_index guids attachments) attachments count refl c.requires.rising (indexed_itself guids attachments c.requires.within))

@@ -3,36 +3,36 @@ use Rattle.std.specs.Prelude.{IfOk}
 use Rattle.std.specs.List.{range_with_len}
 use Rattle.std.specs.List.Sorted.{IsStrictlyIncreasing}
 use Rattle.fact_store.specs.View.{cells_of}
-use Rattle.updown_routes.specs.Crossing.{Crossing}
+use Rattle.updown_routes.specs.SwitchEdges.{SwitchEdges}
 use Rattle.updown_routes.specs.Graph.{graph_of, guids_of}
 use Rattle.updown_routes.proofs.Switches.{graph_guids, switches_rise}
-use Rattle.spread_rule.specs.Bearing.{bearing_of}
-use Rattle.spread_rule.specs.Spread.{Grading, grading_of, spread_at, spread_by}
+use Rattle.spread_routes.specs.LeafSwitches.{leaf_switches_of}
+use Rattle.spread_routes.specs.Spread.{Grading, grading_of, spread_at, spread_by}
 use Rattle.lft_blocks.specs.Plan.{SwitchTable}
-use Rattle.lft_blocks.specs.Rows.{AreRows, table_of_row}
+use Rattle.lft_blocks.specs.TableRows.{AreRows, table_of_row}
 use Rattle.lft_blocks.proofs.RowSteps.{tables_are}
 use Rattle.lft_blocks.proofs.spread_table.spread_tables.Goals as goal
 
-pub bearing_switches-requires : goal.bearing_switches-requires
-bearing_switches-requires c = c.switches-guids.ensures ∙ ap guids_of c.requires.graph ∙ graph_guids (cells_of c.args.wires.now)
+pub leaf_switches-requires : goal.leaf_switches-requires
+leaf_switches-requires c = c.switches-guids.ensures ∙ ap guids_of c.requires.graph ∙ graph_guids (cells_of c.args.wires.now)
 
 pub returns : goal.returns
 unfolding spread_by
 returns c =
     let graph = c.args.graph.now in
     let guids = guids_of graph in
-    let homes = c.args.homes.now in
-    let bearing = bearing_of (cells_of c.args.wires.now) in
+    let attachments = c.args.attachments.now in
+    let leaves = leaf_switches_of (cells_of c.args.wires.now) in
     let roots = c.args.roots.now in
     let count = c.args.count in
-    let by = grading_of graph bearing roots in
+    let by = grading_of graph leaves roots in
     let rows = c.in_ok-rows.rows.items in
     let theirs = c.switches-guids.ensures in
     let is : c.in_ok-spread.spread ≡ by =
-    c.in_ok-spread.ensures ∙ ap (λ (xs : List ℕ). grading_of graph xs roots) (c.deref.ensures.value ∙ c.in_ok-bearing.ensures) in
-    let are : AreRows (spread_at by).next guids homes (length guids) rows =
-    subst (λ (x : Grading × ℕ). AreRows (spread_at x.0).next (guids_of x.0.graph) homes x.1 rows) (λ i. (is i, length (theirs i))) c.in_ok-rows.ensures in
-    let rising : IsStrictlyIncreasing guids = subst (λ (g : List Crossing). IsStrictlyIncreasing (guids_of g)) (sym c.requires.graph) (switches_rise c.args.wires.now) in
+    c.in_ok-spread.ensures ∙ ap (λ (xs : List ℕ). grading_of graph xs roots) (c.deref.ensures.value ∙ c.in_ok-leaves.ensures) in
+    let are : AreRows (spread_at by).next guids attachments (length guids) rows =
+    subst (λ (x : Grading × ℕ). AreRows (spread_at x.0).next (guids_of x.0.graph) attachments x.1 rows) (λ i. (is i, length (theirs i))) c.in_ok-rows.ensures in
+    let rising : IsStrictlyIncreasing guids = subst (λ (g : List SwitchEdges). IsStrictlyIncreasing (guids_of g)) (sym c.requires.graph) (switches_rise c.args.wires.now) in
     let tables = (λ i. map (table_of_row (theirs i) (c.deref_mut.ensures.value i) count) (range_with_len 0 (length (theirs i))))
-    ∙ tables_are graph guids (λ i. guids) rising (spread_at by).next homes c.requires.within count c.requires.all rows are in
+    ∙ tables_are graph guids (λ i. guids) rising (spread_at by).next attachments c.requires.within count c.requires.all rows are in
     subst (λ (ts : List SwitchTable). IfOk c.tables_of.result (λ found. found.items ≡ ts)) tables c.tables_of.ensures

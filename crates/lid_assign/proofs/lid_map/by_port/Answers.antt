@@ -1,4 +1,4 @@
--- A place more.
+-- An entry more.
 use Rattle.std.proofs.Common.{List, ℕ, sym, subst}
 use Rattle.subnet_view.specs.declared.end_port.EndPort.{EndPort}
 use Rattle.lid_assign.specs.Indexed.{ByPort}

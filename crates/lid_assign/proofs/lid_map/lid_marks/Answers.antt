@@ -40,9 +40,9 @@ loop-lid-preserved c =
     let x = c.in-Some.ensures.steps in
     let step = stepped c.loop-lid.lid-iterator.iter.iter.rest.now c.next.new.self.iter.iter.rest.now (c.in-Some.field-0-0, c.in-Some.lid) _ x.0 x.1 x.2 in
     let below = next_below c.args.end c.args.lmc _ _ c.in-Some.field-0-0 c.in-Some.lid step c.loop-lid.invariant.2 in
-    let place = c.from.ensures ∙ c.number.ensures in
-    let marks = marks_more _ c.loop-lid.marks.items c.in-Some.field-0-0 c.in-Some.lid c.from.result place
-    (omega (arith, below, c.loop-lid.invariant.1, place, some_width c.args.lmc c.in-Some.field-0-0)) c.loop-lid.invariant.3 in
+    let number_is = c.from.ensures ∙ c.number.ensures in
+    let marks = marks_more _ c.loop-lid.marks.items c.in-Some.field-0-0 c.in-Some.lid c.from.result number_is
+    (omega (arith, below, c.loop-lid.invariant.1, number_is, some_width c.args.lmc c.in-Some.field-0-0)) c.loop-lid.invariant.3 in
     let Are : List (EndPort × ℕ) → Type 0 = λ given. AreLidMarks given (slice_set c.loop-lid.marks.items c.from.result true) in (
       c.loop-lid.invariant.0,
       length-set c.loop-lid.marks.items c.from.result true ∙ c.loop-lid.invariant.1,

@@ -37,7 +37,7 @@ filled {X} C follows not_some = follows same
     same None h = refl
     same (Some x) h = absurd (not_some x h)
 
--- nothing is at each place
+-- nothing is at each index
 nowhere : {X : Type 0} (n : ℕ) (xs : List (Option X)) → xs ≡ replicate n None → (k : ℕ) → slice_index_or xs k None ≡ None
 nowhere {X} n xs e k = ap (λ ys. slice_index_or ys k None) e ∙ (elim (cases_lt k n) [
   | inl l ↦ get_or-replicate n k None None l

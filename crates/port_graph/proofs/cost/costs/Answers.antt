@@ -1,8 +1,8 @@
 -- Vertex by vertex.
 use Rattle.std.proofs.Common.{◌≡◌, ◌<◌, ◌+◌, List, ℕ, sym, ap, ◌∙◌, subst, arith, length}
 use Rattle.std.specs.Prelude.{Option, None, Contains, slice_index_or}
-use Rattle.port_graph.specs.declared.exit.Exit.{Exit}
-use Rattle.port_graph.specs.Heads.{exits_at}
+use Rattle.port_graph.specs.declared.edge.Edge.{Edge}
+use Rattle.port_graph.specs.Heads.{edges_at}
 use Rattle.port_graph.specs.Indexed.{AreCosts, cost_of}
 use Rattle.port_graph.proofs.Searching.{known_below}
 use Rattle.port_graph.proofs.SearchSteps.{all_from_contained}
@@ -11,8 +11,8 @@ use Rattle.port_graph.proofs.cost.costs.Goals as goal
 
 pub cost-cost-requires-clause-known : goal.cost-cost-requires-clause-known
 cost-cost-requires-clause-known c =
-    all_from_contained (λ (e : Exit). e.to < length c.deref.result.now) c.at.result.now
-    (λ e h. omega (arith, c.requires.rise c.loop-vertex.vertex e (subst (λ (xs : List Exit). Contains xs e) c.at.ensures h), c.loop-vertex.invariant.0.all, ap length c.deref.ensures.value))
+    all_from_contained (λ (e : Edge). e.to < length c.deref.result.now) c.at.result.now
+    (λ e h. omega (arith, c.requires.rise c.loop-vertex.vertex e (subst (λ (xs : List Edge). Contains xs e) c.at.ensures h), c.loop-vertex.invariant.0.all, ap length c.deref.ensures.value))
 
 pub cost-cost-requires-clause-room : goal.cost-cost-requires-clause-room
 cost-cost-requires-clause-room c =
@@ -24,7 +24,7 @@ pub loop-vertex-preserved : goal.loop-vertex-preserved
 loop-vertex-preserved c =
     let n = c.loop-vertex.vertex in
     let costs = c.loop-vertex.costs.items in
-    let is : c.cost-cost.result ≡ cost_of (slice_index_or c.args.distances.now n None) (exits_at c.args.ups.now n) costs =
+    let is : c.cost-cost.result ≡ cost_of (slice_index_or c.args.distances.now n None) (edges_at c.args.ups.now n) costs =
     c.cost-cost.ensures ∙ (λ i. cost_of (slice_index_or c.args.distances.now n None) (c.at.ensures i) (c.deref.ensures.value i)) in
     let Are : List (Option ℕ) → Type 0 = λ costs. AreCosts c.args.ups.now c.args.distances.now (n + 1) costs × AreBounded (length c.args.ups.now) costs in
     subst Are (sym c.in_ok-push.ensures.items) (

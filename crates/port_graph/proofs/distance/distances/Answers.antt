@@ -2,10 +2,10 @@
 use Rattle.std.proofs.Common.{◌≡◌, ◌<◌, List, ℕ, refl, ap, ◌∙◌, arith, length, replicate, [], ◌∷◌, ◌++◌, add-one}
 use Rattle.std.proofs.lemmas.List.{nil_from_length}
 use Rattle.std.specs.Prelude.{Option, None, Some}
-use Rattle.port_graph.specs.declared.exit.Exit.{Exit}
+use Rattle.port_graph.specs.declared.edge.Edge.{Edge}
 use Rattle.port_graph.specs.Heads.{heads}
 use Rattle.port_graph.proofs.Searching.{found}
-use Rattle.port_graph.proofs.SearchSteps.{all_from_contained, starts, distance_below, places, between, fewer, written}
+use Rattle.port_graph.proofs.SearchSteps.{all_from_contained, starts, distance_below, lead_within, between, fewer, written}
 use Rattle.port_graph.proofs.distance.distances.Goals as goal
 
 -- what follows if a clone of nothing is nothing
@@ -18,31 +18,31 @@ filled {X} C follows not_some = follows same
 
 pub loop-vertex-init : goal.loop-vertex-init
 loop-vertex-init c =
-    let n = length c.args.exits.now in
+    let n = length c.args.edges.now in
     let none : c.in_ok-distances.distances.items ≡ replicate n None = filled _ c.in_ok-distances.ensures.items_if_clones_equal (λ x k. k) ∙ ap (λ m. replicate m None) c.len.ensures in
-    starts (heads c.args.exits.now) c.args.from n c.in_ok-distances.distances.items c.push_back.new.self.items c.requires.vertex none
+    starts (heads c.args.edges.now) c.args.from n c.in_ok-distances.distances.items c.push_back.new.self.items c.requires.vertex none
     (◌∙◌ {A = List (ℕ × ℕ)} c.in_ok-push_back.ensures.items (ap (λ q. q ++ (c.args.from, 0) ∷ []) c.in_ok-queue.ensures.items))
 
 pub overflow_add-distance : goal.overflow_add-distance
 overflow_add-distance c =
     let below =
-    distance_below c.args.exits.now c.args.from c.requires.lead c.loop-vertex.distances.items c.loop-vertex.queue.items c.pop_front.new.self.items
+    distance_below c.args.edges.now c.args.from c.requires.lead c.loop-vertex.distances.items c.loop-vertex.queue.items c.pop_front.new.self.items
     c.in-Some.vertex c.in-Some.distance c.in-Some.ensures.items c.loop-vertex.invariant in
     omega (arith, below)
 
 pub reach_all-requires : goal.reach_all-requires
 reach_all-requires c =
     let within =
-    places c.args.exits.now c.args.from c.requires.lead c.loop-vertex.distances.items c.loop-vertex.queue.items c.pop_front.new.self.items
+    lead_within c.args.edges.now c.args.from c.requires.lead c.loop-vertex.distances.items c.loop-vertex.queue.items c.pop_front.new.self.items
     c.in-Some.vertex c.in-Some.distance c.in-Some.ensures.items c.loop-vertex.invariant c.at.result.now c.at.ensures in
-    all_from_contained (λ (e : Exit). e.to < length c.deref_mut.result.now) c.at.result.now (λ e h. omega (arith, within e h, c.deref_mut.ensures.len))
+    all_from_contained (λ (e : Edge). e.to < length c.deref_mut.result.now) c.at.result.now (λ e h. omega (arith, within e h, c.deref_mut.ensures.len))
 
 pub loop-vertex-smaller : goal.loop-vertex-smaller
 loop-vertex-smaller c =
     let step =
     written c.loop-vertex.distances c.deref_mut.result.now c.reach_all.new.distances c.pop_front.new.self.items c.reach_all.new.queue.items
     _ c.at.result.now (omega arith) c.deref_mut.ensures.value c.in_ok-reach_all.ensures in
-    fewer c.args.exits.now c.args.from c.requires.lead c.loop-vertex.distances.items c.loop-vertex.queue.items c.pop_front.new.self.items
+    fewer c.args.edges.now c.args.from c.requires.lead c.loop-vertex.distances.items c.loop-vertex.queue.items c.pop_front.new.self.items
     c.in-Some.vertex c.in-Some.distance c.in-Some.ensures.items c.loop-vertex.invariant c.at.result.now c.at.ensures
     _ (add-one c.in-Some.distance) _ step
 
@@ -51,7 +51,7 @@ loop-vertex-preserved c =
     let step =
     written c.loop-vertex.distances c.deref_mut.result.now c.reach_all.new.distances c.pop_front.new.self.items c.reach_all.new.queue.items
     _ c.at.result.now (omega arith) c.deref_mut.ensures.value c.in_ok-reach_all.ensures in
-    between c.args.exits.now c.args.from c.requires.lead c.loop-vertex.distances.items c.loop-vertex.queue.items c.pop_front.new.self.items
+    between c.args.edges.now c.args.from c.requires.lead c.loop-vertex.distances.items c.loop-vertex.queue.items c.pop_front.new.self.items
     c.in-Some.vertex c.in-Some.distance c.in-Some.ensures.items c.loop-vertex.invariant c.at.result.now c.at.ensures
     _ (add-one c.in-Some.distance) _ step
 
@@ -61,5 +61,5 @@ returns c =
       all = c.loop-vertex.invariant.search.all;
       shortest = λ a h.
           let none = nil_from_length c.loop-vertex.queue.items (omega (arith, c.in_default.ensures.cases)) in
-          found (heads c.args.exits.now) c.args.from (length c.args.exits.now) (c.loop-vertex.distances.items, c.loop-vertex.queue.items) none c.loop-vertex.invariant a;
+          found (heads c.args.edges.now) c.args.from (length c.args.edges.now) (c.loop-vertex.distances.items, c.loop-vertex.queue.items) none c.loop-vertex.invariant a;
     }

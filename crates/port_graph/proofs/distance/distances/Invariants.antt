@@ -3,9 +3,9 @@ use Rattle.port_graph.specs.Heads.{heads}
 use Rattle.port_graph.proofs.Searching.{IsBetween, unknown}
 use Rattle.port_graph.proofs.distance.distances.Given as goal
 
--- each vertex that has a distance waits, or its exits were followed
+-- each vertex that has a distance waits, or its edges were followed
 abbrev pub invariant-loop-vertex : goal.invariant-loop-vertex
-invariant-loop-vertex l = IsBetween (heads l.exits) l.from (length l.exits) (l.distances.items, l.queue.items)
+invariant-loop-vertex l = IsBetween (heads l.edges) l.from (length l.edges) (l.distances.items, l.queue.items)
 
 -- the vertices that have no distance yet, and those that wait
 abbrev pub decreases-loop-vertex : goal.decreases-loop-vertex

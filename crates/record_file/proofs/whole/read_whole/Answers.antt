@@ -1,9 +1,9 @@
 use Rattle.std.proofs.Common.{refl, arith}
-use Rattle.record_file.specs.Reading.{ReadingState, state_of}
+use Rattle.byte_io.specs.Reading.{ReadingState, state_of}
 use Rattle.record_file.specs.Whole.{FailsToRead}
 use Rattle.record_file.specs.declared.file_fault.FileFault.TheVariants.{Memory, TooLong}
 use Rattle.record_file.proofs.ReadWhole.{memory-below, too-long}
-use Rattle.record_file.proofs.Readings.{IsWithin, fresh, piece-taken}
+use Rattle.byte_io.proofs.Readings.{IsWithin, fresh, piece-taken}
 use Rattle.record_file.proofs.whole.read_whole.Goals as goal
 
 pub returns-then-is_spent-clause-fails : goal.returns-then-is_spent-clause-fails

@@ -1,6 +1,6 @@
 use Rattle.std.proofs.Common.{◌≡◌, ◌-◌, ◌^◌}
-use Rattle.record_file.specs.Reading.{state_of}
-use Rattle.record_file.proofs.Readings.{HasTaken, fresh}
+use Rattle.byte_io.specs.Reading.{state_of}
+use Rattle.byte_io.proofs.Readings.{HasTaken, fresh}
 use Rattle.record_file.proofs.whole.read_whole.Given as goal
 
 -- so many bytes were taken, in whole pieces

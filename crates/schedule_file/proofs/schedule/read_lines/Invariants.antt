@@ -1,12 +1,12 @@
 use Rattle.std.proofs.Common.{◌≡◌, ◌+◌, ◌≤◌, ℕ, List, length}
 use Rattle.text_words.specs.Text.{lines}
 use Rattle.topo_file.specs.declared.node.Node.{Node}
-use Rattle.schedule_file.specs.Schedule.{Script, with_lines, told_by}
+use Rattle.schedule_file.specs.Schedule.{Script, with_lines, schedule_of_lines}
 use Rattle.schedule_file.proofs.schedule.read_lines.Given as goal
 
 -- the lines so far, with those to come
 pub record HasTold (nodes : List Node) (text rest : List ℕ) (before : Script) (number : ℕ) : Type 0 where
-  pub told : with_lines nodes (number + 1) before (lines rest) ≡ told_by nodes (lines text)
+  pub told : with_lines nodes (number + 1) before (lines rest) ≡ schedule_of_lines nodes (lines text)
   pub counted : number + length rest ≤ length text
 
 abbrev pub invariant-loop-line : goal.invariant-loop-line

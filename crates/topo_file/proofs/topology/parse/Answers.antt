@@ -3,7 +3,7 @@ use Rattle.std.proofs.Common.{◌≡◌, ◌∙◌, Some, sym, ap}
 use Rattle.text_words.specs.Text.{lines}
 use Rattle.topo_file.specs.FirstFault.{first_line_fault}
 use Rattle.topo_file.specs.declared.fault.TopoFault.TheVariants.{Memory}
-use Rattle.topo_file.specs.Reading.{topology_of, topology_in, told_by}
+use Rattle.topo_file.specs.Reading.{topology_of, topology_in, nodes_of_lines}
 use Rattle.topo_file.proofs.FirstFault.{first_plain, first_refuses, told_soundly}
 use Rattle.topo_file.proofs.Folds.{refused_then}
 use Rattle.topo_file.proofs.WellFormed.{told_fits}
@@ -30,4 +30,4 @@ returns-in-Some-clause-memory c = λ e.
 
 pub returns-in-Err-clause-reads : goal.returns-in-Err-clause-reads
 unfolding topology_of
-returns-in-Err-clause-reads c = rw (← c.as_bytes.ensures.value) (refused_then _ (told_by (lines c.as_bytes.result.now)) topology_in c.in-Err.ensures)
+returns-in-Err-clause-reads c = rw (← c.as_bytes.ensures.value) (refused_then _ (nodes_of_lines (lines c.as_bytes.result.now)) topology_in c.in-Err.ensures)

@@ -4,7 +4,7 @@ use Rattle.std.proofs.lemmas.List.{with_items_is, get_or_default}
 use Rattle.std.specs.Prelude.{Option, None, Some, is_some}
 use Rattle.std.specs.Option.{option_or}
 use Rattle.port_graph.proofs.Counts.{length_map}
-use Rattle.updown_routes.specs.Crossing.{Crossing}
+use Rattle.updown_routes.specs.SwitchEdges.{SwitchEdges}
 use Rattle.updown_routes.specs.Graph.{guids_of}
 use Rattle.updown_routes.proofs.RootByRoot.{first_distance, AreRanksOf, no_ranks, ranks_filled, ranks_passed, all_ranks}
 use Rattle.updown_routes.proofs.rank.ranks.Goals as goal
@@ -23,7 +23,7 @@ loop-root-init c = no_ranks c.args.wiring.now c.in_ok-ranks.ranks.items
     (filled _ c.in_ok-ranks.ensures.items_if_clones_equal (λ x k. k) ∙ ap (λ m. replicate m None) c.len.ensures.count)
 
 -- the items are those written
-written : (n : ℕ) (graph : List Crossing) (new : List (Option ℕ)) (items : List (Option ℕ)) → items ≡ new → AreRanksOf graph n new → AreRanksOf graph n items
+written : (n : ℕ) (graph : List SwitchEdges) (new : List (Option ℕ)) (items : List (Option ℕ)) → items ≡ new → AreRanksOf graph n new → AreRanksOf graph n items
 written n graph new items e are = e ∙ are
 
 pub loop-root-preserved : goal.loop-root-preserved
@@ -32,7 +32,7 @@ loop-root-preserved c =
     let guids : List ℕ = guids_of graph in
     let root = c.loop-root.root in
     let ranks = c.loop-root.ranks.items in
-    let below : root < length guids = omega (arith, c.loop-root-test.true, c.len-root-end.ensures.count, length_map (λ (x : Crossing). x.guid) graph) in
+    let below : root < length guids = omega (arith, c.loop-root-test.true, c.len-root-end.ensures.count, length_map (λ (x : SwitchEdges). x.guid) graph) in
     let long : length ranks ≡ length guids = ap length c.loop-root.invariant ∙ length_map (first_distance graph (take root guids)) guids in
     elim c.if-is_none.branch [
       | then-is_none+in_ok-distances w ↦
@@ -48,4 +48,4 @@ loop-root-preserved c =
 
 pub returns : goal.returns
 returns c = all_ranks c.args.wiring.now c.len.ensures.is_graph c.loop-root.root c.loop-root.ranks.items
-    (omega (arith, c.loop-root-test.false, c.len-root-end.ensures.count, length_map (λ (x : Crossing). x.guid) c.args.wiring.now)) c.loop-root.invariant
+    (omega (arith, c.loop-root-test.false, c.len-root-end.ensures.count, length_map (λ (x : SwitchEdges). x.guid) c.args.wiring.now)) c.loop-root.invariant

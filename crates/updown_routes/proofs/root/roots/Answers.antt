@@ -4,7 +4,7 @@ use Rattle.std.proofs.lemmas.List.{with_items_is, get_or_default}
 use Rattle.std.specs.Prelude.{Option, None, Some, is_some, option_map}
 use Rattle.std.specs.Option.{option_or}
 use Rattle.port_graph.proofs.Counts.{length_map}
-use Rattle.updown_routes.specs.Crossing.{Crossing}
+use Rattle.updown_routes.specs.SwitchEdges.{SwitchEdges}
 use Rattle.updown_routes.specs.Graph.{guids_of}
 use Rattle.updown_routes.proofs.FoundRoots.{first_root, AreRootsOf, no_roots, roots_filled, roots_passed, all_roots}
 use Rattle.updown_routes.proofs.root.roots.Goals as goal
@@ -23,7 +23,7 @@ loop-index-init c = no_roots c.args.wiring.now c.in_ok-roots.roots.items
     (filled _ c.in_ok-roots.ensures.items_if_clones_equal (λ x k. k) ∙ ap (λ m. replicate m None) c.len.ensures.count)
 
 -- the items are those written
-written : (n : ℕ) (graph : List Crossing) (new : List (Option ℕ)) (items : List (Option ℕ)) → items ≡ new → AreRootsOf graph n new → AreRootsOf graph n items
+written : (n : ℕ) (graph : List SwitchEdges) (new : List (Option ℕ)) (items : List (Option ℕ)) → items ≡ new → AreRootsOf graph n new → AreRootsOf graph n items
 written n graph new items e are = e ∙ are
 
 pub loop-index-preserved : goal.loop-index-preserved
@@ -32,7 +32,7 @@ loop-index-preserved c =
     let guids : List ℕ = guids_of graph in
     let index = c.loop-index.index in
     let roots = c.loop-index.roots.items in
-    let below : index < length guids = omega (arith, c.loop-index-test.true, c.len-index-end.ensures.count, length_map (λ (x : Crossing). x.guid) graph) in
+    let below : index < length guids = omega (arith, c.loop-index-test.true, c.len-index-end.ensures.count, length_map (λ (x : SwitchEdges). x.guid) graph) in
     let long : length roots ≡ length guids = ap length c.loop-index.invariant ∙ length_map (first_root graph (take index guids)) guids in
     elim c.if-is_none.branch [
       | then-is_none+in_ok-distances w ↦
@@ -52,4 +52,4 @@ loop-index-preserved c =
 
 pub returns : goal.returns
 returns c = all_roots c.args.wiring.now c.len.ensures.is_graph c.loop-index.index c.loop-index.roots.items
-    (omega (arith, c.loop-index-test.false, c.len-index-end.ensures.count, length_map (λ (x : Crossing). x.guid) c.args.wiring.now)) c.loop-index.invariant
+    (omega (arith, c.loop-index-test.false, c.len-index-end.ensures.count, length_map (λ (x : SwitchEdges). x.guid) c.args.wiring.now)) c.loop-index.invariant

@@ -6,4 +6,4 @@ use Rattle.updown_routes.proofs.routes.towards.Given as goal
 
 -- the ports to the targets so far
 abbrev pub invariant-loop-target : goal.invariant-loop-target
-invariant-loop-target l = IsMapped (λ t. map (λ s. next_port (indexed l.slopes.ups l.slopes.downs) s t) l.places) l.places (map (λ ports. ports.items) l.towards.items) l.target-index
+invariant-loop-target l = IsMapped (λ t. map (λ s. next_port (indexed l.slopes.ups l.slopes.downs) s t) l.positions) l.positions (map (λ ports. ports.items) l.towards.items) l.target-index

@@ -4,7 +4,7 @@ use Rattle.std.specs.Prelude.{None, Option, map, not, position}
 use Rattle.std.proofs.lemmas.List.{length-map}
 use Rattle.audit.specs.declared.end.End.{End}
 use Rattle.audit.specs.Ends.{Ended, end_from}
-use Rattle.audit.specs.Steps.{is_at}
+use Rattle.audit.specs.NextHops.{is_at}
 use Rattle.audit.proofs.Arrivals.{all_comes, nowhere}
 use Rattle.audit.proofs.ends.Ends.first_elsewhere.Goals as goal
 

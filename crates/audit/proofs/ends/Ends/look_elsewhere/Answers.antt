@@ -2,21 +2,21 @@
 use Rattle.std.proofs.Common.{sym, ap, ◌∙◌, arith, below_more}
 use Rattle.std.specs.Prelude.{None, Option, not}
 use Rattle.audit.specs.declared.end.End.{End}
-use Rattle.audit.specs.Steps.{is_at}
+use Rattle.audit.specs.NextHops.{is_at}
 use Rattle.audit.proofs.Arrivals.{first_there, nowhere}
 use Rattle.audit.proofs.ends.Ends.look_elsewhere.Goals as goal
 
-pub loop-place-preserved : goal.loop-place-preserved
-loop-place-preserved c = below_more _ _ c.loop-place.invariant (sym c.arrives.ensures ∙ c.if-not-arrives.false)
+pub loop-index-preserved : goal.loop-index-preserved
+loop-index-preserved c = below_more _ _ c.loop-index.invariant (sym c.arrives.ensures ∙ c.if-not-arrives.false)
 
 pub returns-then-not-arrives : goal.returns-then-not-arrives
 returns-then-not-arrives c =
     let port = c.args.self.now.port in
-    first_there (λ (end : Option End). not (is_at port end)) c.args.self.now.ends None c.loop-place.place (omega arith)
-    (λ k less. ap not (c.loop-place.invariant k less)) (sym (ap not c.arrives.ensures) ∙ ap not c.if-not-arrives.true)
+    first_there (λ (end : Option End). not (is_at port end)) c.args.self.now.ends None c.loop-index.index (omega arith)
+    (λ k less. ap not (c.loop-index.invariant k less)) (sym (ap not c.arrives.ensures) ∙ ap not c.if-not-arrives.true)
 
 pub returns : goal.returns
 returns c =
     let port = c.args.self.now.port in
-    nowhere (λ (end : Option End). not (is_at port end)) c.args.self.now.ends None c.loop-place.place (omega arith)
-    (λ k less. ap not (c.loop-place.invariant k less))
+    nowhere (λ (end : Option End). not (is_at port end)) c.args.self.now.ends None c.loop-index.index (omega arith)
+    (λ k less. ap not (c.loop-index.invariant k less))

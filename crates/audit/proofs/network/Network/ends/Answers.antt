@@ -4,10 +4,10 @@ use Rattle.std.proofs.lemmas.List.{length-map}
 use Rattle.std.specs.Prelude.{IfOk, map}
 use Rattle.fact_store.specs.View.{cells_of}
 use Rattle.audit.specs.Ends.{end_from}
-use Rattle.audit.specs.declared.node.Node.{Node}
-use Rattle.audit.specs.declared.step.Step.{Step}
+use Rattle.audit.specs.declared.audited_switch.AuditedSwitch.{AuditedSwitch}
+use Rattle.audit.specs.declared.next_hop.NextHop.{NextHop}
 use Rattle.audit.specs.Network.{Seen, all_begin, first_switch}
-use Rattle.audit.specs.Steps.{AreBlocks, AreBrought, step_of}
+use Rattle.audit.specs.NextHops.{AreBlocks, AreBrought, next_hop_of}
 use Rattle.audit.proofs.Brought.{brought_is, if_ok}
 use Rattle.audit.proofs.network.Network.ends.Goals as goal
 
@@ -19,7 +19,7 @@ new-requires-clause-begin c =
     let nodes = c.self.inside.nodes.items in
     let steps = c.in_ok-steps.steps.items in
     let line = c.args.line.now in
-    let step : Node → Step = step_of c.deref-3.result.now c.deref-4.result.now line.lid in
+    let step : AuditedSwitch → NextHop = next_hop_of c.deref-3.result.now c.deref-4.result.now line.lid in
     let long : length steps ≡ length nodes = ap length c.in_ok-steps.ensures ∙ length-map c.deref-2.result.now step ∙ ap length c.deref-2.ensures.value in
     let count : length nodes ≡ length c.in_ok-walks.walks.items = sym (c.in_ok-walks.ensures.as_many ∙ long) in
     c.self.invariant.begin_is ∙ ap (λ n. all_begin n c.self.inside.firsts.items) count
@@ -37,7 +37,7 @@ returns c =
     let blocks = subst Gathered (sym c.self.view_is) c.requires.held in
     let owners = c.in_ok-owners.owners.items in
     let walks = c.in_ok-walks.walks.items in
-    let steps = c.in_ok-steps.ensures ∙ (λ i. map (step_of (c.deref-3.ensures.value i) (c.deref-4.ensures.value i) line.lid) (c.deref-2.ensures.value i)) in
+    let steps = c.in_ok-steps.ensures ∙ (λ i. map (next_hop_of (c.deref-3.ensures.value i) (c.deref-4.ensures.value i) line.lid) (c.deref-2.ensures.value i)) in
     subst Found c.self.view_is
     (if_ok
     (λ ended. (ended.port ≡ line.port) × (ended.ends ≡ map (end_from owners walks) c.deref-5.result.now))

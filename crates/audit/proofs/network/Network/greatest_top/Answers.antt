@@ -2,9 +2,9 @@
 use Rattle.std.proofs.Common.{◌≡◌, ◌∙◌, List, ap, map, subst}
 use Rattle.fact_store.specs.View.{cells_of}
 use Rattle.lid_assign.specs.Lids.{greatest}
-use Rattle.audit.specs.Exits.{greatest_top}
+use Rattle.audit.specs.Edges.{greatest_top}
 use Rattle.audit.specs.Network.{Seen}
-use Rattle.audit.specs.declared.node.Node.{Node}
+use Rattle.audit.specs.declared.audited_switch.AuditedSwitch.{AuditedSwitch}
 use Rattle.audit.proofs.Tops.{greatest_is}
 use Rattle.audit.proofs.network.Network.greatest_top.Goals as goal
 
@@ -14,5 +14,5 @@ returns c =
     let Told : Seen → Type 0 = λ s. c.greatest_top.result ≡ greatest_top (cells_of s.facts) s.held in
     subst Told c.self.view_is
     (c.greatest_top.ensures
-    ∙ ap (λ (nodes : List Node). greatest (map (λ (n : Node). n.top) nodes)) c.deref.ensures.value
+    ∙ ap (λ (nodes : List AuditedSwitch). greatest (map (λ (n : AuditedSwitch). n.top) nodes)) c.deref.ensures.value
     ∙ greatest_is (cells_of inside.store.now) inside.held.now inside.nodes.items c.self.invariant.nodes_are)

@@ -5,7 +5,7 @@ use Rattle.std.proofs.lemmas.Bool.{eq-eqb, ne_eqb}
 use Rattle.port_graph.proofs.Counts.{length_map}
 use Rattle.fact_store.specs.View.{cells_of}
 use Rattle.subnet_view.specs.EndPorts.{end_ports}
-use Rattle.audit.specs.Network.{source_of}
+use Rattle.audit.specs.Network.{sender_of}
 use Rattle.audit_report.specs.Passing.{Audited, EachHasTables}
 use Rattle.audit_report.proofs.Missing.{tables_is}
 use Rattle.audit_report.proofs.report.Audit.has_tables.Goals as goal
@@ -30,5 +30,5 @@ returns-else-count-eq0 c =
     subst Judges c.self.view_is
     (tables_is cells a.network.held a.unmatched b c.self.invariant.differ
     (c.is_empty.ensures ∙ ap (λ ss. length ss == 0) c.sources.ensures
-    ∙ ap (λ n. n == 0) (length_map (source_of cells) (end_ports cells))
+    ∙ ap (λ n. n == 0) (length_map (sender_of cells) (end_ports cells))
     ∙ sym (ap (λ t. t || (length (end_ports cells) == 0)) (ne_eqb a.unmatched.tableless.count 0 (λ e. c.if-count-eq0.false (c.count.ensures ∙ e))))))

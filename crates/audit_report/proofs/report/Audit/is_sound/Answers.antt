@@ -1,4 +1,4 @@
--- By what was counted, and the circle.
+-- By what was counted, and the cycle.
 use Rattle.std.proofs.Common.{◌≡◌, ◌∙◌, sym, ap, subst, arith, length, Bool, true, false, refl}
 use Rattle.std.specs.Prelude.{IsTrue, ◌↔◌, ◌&&◌, ◌==◌}
 use Rattle.std.specs.Vec.{vec_len}
@@ -17,11 +17,11 @@ returns-then-self c =
     let a = c.self.inside in
     let b = c.is_empty.result in
     let Judges = λ (x : Audited). IsTrue b ↔ IsSound (cells_of x.facts) x.held in
-    let long : vec_len a.circle ≡ length a.circle.items = omega (arith, a.circle.ok.0) in
+    let long : vec_len a.cycle ≡ length a.cycle.items = omega (arith, a.cycle.ok.0) in
     subst Judges c.self.view_is
-    (sound_is a.network a.tally a.unmatched a.disputed a.ways a.circle.items b c.self.invariant
+    (sound_is a.network a.tally a.unmatched a.disputed a.ways a.cycle.items b c.self.invariant
     (c.is_empty.ensures ∙ ap (λ n. n == 0) long
-    ∙ sym (ap (λ t. t && (length a.circle.items == 0)) (eq-eqb a.tally.all.arrived a.tally.all.sent c.if-self.true))))
+    ∙ sym (ap (λ t. t && (length a.cycle.items == 0)) (eq-eqb a.tally.all.arrived a.tally.all.sent c.if-self.true))))
 
 pub returns-else-self : goal.returns-else-self
 returns-else-self c =
@@ -29,5 +29,5 @@ returns-else-self c =
     let b = (a.tally.all.arrived == a.tally.all.sent) in
     let Judges = λ (x : Audited). IsTrue b ↔ IsSound (cells_of x.facts) x.held in
     subst Judges c.self.view_is
-    (sound_is a.network a.tally a.unmatched a.disputed a.ways a.circle.items b c.self.invariant
-    (not_both (a.tally.all.arrived == a.tally.all.sent) (length a.circle.items == 0) (ne_eqb a.tally.all.arrived a.tally.all.sent c.if-self.false)))
+    (sound_is a.network a.tally a.unmatched a.disputed a.ways a.cycle.items b c.self.invariant
+    (not_both (a.tally.all.arrived == a.tally.all.sent) (length a.cycle.items == 0) (ne_eqb a.tally.all.arrived a.tally.all.sent c.if-self.false)))

@@ -1,6 +1,6 @@
 use Rattle.std.proofs.Common.{◌≡◌, length, take, arith, ap, ◌∙◌, rules}
 use Rattle.std.proofs.lemmas.List.{take_all}
-use Rattle.smp_bytes.specs.Cables.{other_end}
+use Rattle.fabric_model.specs.Cables.{other_end}
 use Rattle.fabric_sim.specs.Build.{uncabled, cabled}
 use Rattle.fabric_sim.proofs.Built.{link_at, links_in_start, one_port, other_port, one_free, other_free, links_in_more}
 use Rattle.fabric_sim.proofs.fabric.Fabric.of.Goals as goal

@@ -15,9 +15,9 @@ returns-clause-found c =
     elim c.match-found.branch [
       | in-Ok w ↦
           w.cell-is ∙ ap Some w.cell.ensures.value
-          ∙ found_at c.self.inside.floor c.self.inside.cells.items c.self.invariant c.args.self.now c.self.view_is w.in-Ok.place c.args.key w.unwrap.result (sym w.get.ensures ∙ w.unwrap.ensures) (subst (λ (r : Result ℕ ℕ). IsSearched c.args.key c.self.inside.cells.items r) w.in-Ok.is c.find-found.ensures.place)
+          ∙ found_at c.self.inside.floor c.self.inside.cells.items c.self.invariant c.args.self.now c.self.view_is w.in-Ok.index c.args.key w.unwrap.result (sym w.get.ensures ∙ w.unwrap.ensures) (subst (λ (r : Result ℕ ℕ). IsSearched c.args.key c.self.inside.cells.items r) w.in-Ok.is c.find-found.ensures.index)
       | in-Err w ↦
-          w.cell-is ∙ sym (not_found c.self.inside.floor c.self.inside.cells.items c.self.invariant c.args.self.now c.self.view_is c.args.key (subst (λ (r : Result ℕ ℕ). IsSearched c.args.key c.self.inside.cells.items r) w.in-Err.is c.find-found.ensures.place).absent)
+          w.cell-is ∙ sym (not_found c.self.inside.floor c.self.inside.cells.items c.self.invariant c.args.self.now c.self.view_is c.args.key (subst (λ (r : Result ℕ ℕ). IsSearched c.args.key c.self.inside.cells.items r) w.in-Err.is c.find-found.ensures.index).absent)
     ]
 
 pub returns-clause-counted : goal.returns-clause-counted

@@ -3,12 +3,12 @@ use Rattle.fact_store.specs.View.{Facts, cells_of}
 use Rattle.lid_assign.specs.Lids.{top_of}
 use Rattle.updown_routes.specs.Graph.{graph_of, guids_of}
 use Rattle.updown_routes.proofs.Switches.{graph_guids}
-use Rattle.spread_rule.specs.Rules.{rule_of, value_of}
-use Rattle.spread_rule.proofs.Whole.{rules_are_routings}
-use Rattle.lft_blocks.specs.Entries.{home_of_lid, block_count}
+use Rattle.lft_blocks.specs.Rules.{rule_of, value_of}
+use Rattle.lft_blocks.proofs.RulesRoute.{rules_are_routings}
+use Rattle.lft_blocks.specs.Entries.{attachment_of_lid, block_count}
 use Rattle.lft_blocks.specs.Arrival.{EveryPacketArrivesBy}
 use Rattle.lft_blocks.specs.Plan.{PlanValue, tables_of}
-use Rattle.lft_blocks.proofs.HomeTables.{switches_rise, are_tables}
+use Rattle.lft_blocks.proofs.AttachmentTables.{switches_rise, are_tables}
 use Rattle.lft_blocks.proofs.Reached.{packets_arrive_by_each_routing}
 use Rattle.lft_blocks.proofs.Rooms.{has_room}
 use Rattle.lft_blocks.proofs.plan.Plan.of.Goals as goal
@@ -23,8 +23,8 @@ invariant_of-result c =
     let guids = c.into_switches.result.items in
     let given = c.in_ok-graph.ensures ∙ ap (λ (f : Facts). graph_of (cells_of f)) c.in_ok-wires.ensures in
     let theirs = c.into_switches.ensures ∙ ap guids_of given ∙ graph_guids (cells_of facts) in
-    are_tables (home_of_lid cells lids) next count guids c.in_ok-tables.tables.items (switches_rise facts guids theirs)
-    (c.in_ok-tables.ensures ∙ ap (tables_of (home_of_lid cells lids) next count) (sym c.into_switches.ensures))
+    are_tables (attachment_of_lid cells lids) next count guids c.in_ok-tables.tables.items (switches_rise facts guids theirs)
+    (c.in_ok-tables.ensures ∙ ap (tables_of (attachment_of_lid cells lids) next count) (sym c.into_switches.ensures))
 
 pub returns-clause-plan : goal.returns-clause-plan
 returns-clause-plan c =
@@ -34,7 +34,7 @@ returns-clause-plan c =
     let graph = c.in_ok-graph.ensures ∙ ap (λ (f : Facts). graph_of (cells_of f)) c.in_ok-wires.ensures in
     let guids = ap guids_of graph ∙ graph_guids cells in
     let tables = c.in_ok-tables.ensures
-    ∙ (λ j. tables_of (home_of_lid (cells_of (c.in_ok-wires.ensures j)) (lids j)) (rule_of rule (cells_of (c.in_ok-wires.ensures j))).next (block_count (top_of (lids j))) (guids j)) in
+    ∙ (λ j. tables_of (attachment_of_lid (cells_of (c.in_ok-wires.ensures j)) (lids j)) (rule_of rule (cells_of (c.in_ok-wires.ensures j))).next (block_count (top_of (lids j))) (guids j)) in
     λ i. record { given = lids i; tables = tables i }
 
 pub returns-clause-arrives : goal.returns-clause-arrives

@@ -1,18 +1,18 @@
--- The page that has the place has the other item.
+-- The page that has the index has the other item.
 use Rattle.std.proofs.Common.{◌≡◌, List, arith, ap, length, set, refl, subst, ◌∙◌}
 use Rattle.std.specs.Prelude.{Vec}
 use Rattle.std.specs.Vec.{with_item}
 use Rattle.std.specs.declared.alloc.Global.{Global}
-use Rattle.page_list.specs.Pages.{items_of, IsPlace}
+use Rattle.page_list.specs.Pages.{items_of, IsSlot}
 use Rattle.page_list.proofs.Replaced.{replaced_pages, replaced_items}
 use Rattle.page_list.proofs.page_list.PageList.set.Goals as goal
 
 pub invariant_of-self : goal.invariant_of-self
 invariant_of-self g c =
-    let k = c.place_of-at.result.page in
+    let k = c.slot_of-at.result.page in
     let view : items_of c.self.inside.pages.items ≡ c.args.self.now.items = λ i. (c.self.view_is i).items in
-    let at : IsPlace c.self.inside.pages.items c.args.i k c.place_of-at.result.offset = subst (λ (ps : List (Vec g.row.T.Denot Global)). IsPlace ps c.args.i k c.place_of-at.result.offset) c.deref.ensures.value c.place_of-at.ensures in
-    replaced_pages {p' = with_item c.index_mut.result.now c.place_of-at.result.offset c.args.item} (record {
+    let at : IsSlot c.self.inside.pages.items c.args.i k c.slot_of-at.result.offset = subst (λ (ps : List (Vec g.row.T.Denot Global)). IsSlot ps c.args.i k c.slot_of-at.result.offset) c.deref.ensures.value c.slot_of-at.ensures in
+    replaced_pages {p' = with_item c.index_mut.result.now c.slot_of-at.result.offset c.args.item} (record {
       were = c.self.invariant;
       at = at;
       within = omega (arith, c.requires, ap length view);
@@ -25,10 +25,10 @@ invariant_of-self g c =
 
 pub returns-clause-items : goal.returns-clause-items
 returns-clause-items g c =
-    let k = c.place_of-at.result.page in
+    let k = c.slot_of-at.result.page in
     let view : items_of c.self.inside.pages.items ≡ c.args.self.now.items = λ i. (c.self.view_is i).items in
-    let at : IsPlace c.self.inside.pages.items c.args.i k c.place_of-at.result.offset = subst (λ (ps : List (Vec g.row.T.Denot Global)). IsPlace ps c.args.i k c.place_of-at.result.offset) c.deref.ensures.value c.place_of-at.ensures in
-    replaced_items {pages' = with_item c.self.inside.pages k (with_item c.index_mut.result.now c.place_of-at.result.offset c.args.item)} {p' = with_item c.index_mut.result.now c.place_of-at.result.offset c.args.item} (record {
+    let at : IsSlot c.self.inside.pages.items c.args.i k c.slot_of-at.result.offset = subst (λ (ps : List (Vec g.row.T.Denot Global)). IsSlot ps c.args.i k c.slot_of-at.result.offset) c.deref.ensures.value c.slot_of-at.ensures in
+    replaced_items {pages' = with_item c.self.inside.pages k (with_item c.index_mut.result.now c.slot_of-at.result.offset c.args.item)} {p' = with_item c.index_mut.result.now c.slot_of-at.result.offset c.args.item} (record {
       were = c.self.invariant;
       at = at;
       within = omega (arith, c.requires, ap length view);

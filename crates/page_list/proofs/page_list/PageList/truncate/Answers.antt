@@ -1,15 +1,15 @@
--- The page that has the place keeps what is before it, and those before that page stay.
+-- The page that has the index keeps what is before it, and those before that page stay.
 use Rattle.std.proofs.Common.{◌≡◌, ℕ, List, add-one, arith, ap, take, set, subst, ◌∙◌}
 use Rattle.std.specs.Prelude.{Vec}
 use Rattle.std.specs.declared.alloc.Global.{Global}
-use Rattle.page_list.specs.Pages.{items_of, IsPlace}
+use Rattle.page_list.specs.Pages.{items_of, IsSlot}
 use Rattle.page_list.proofs.Truncated.{cut_pages, cut_items}
 use Rattle.page_list.proofs.page_list.PageList.truncate.Goals as goal
 
 pub invariant_of-self : goal.invariant_of-self
 invariant_of-self g c =
-    let k = c.place_of-at.result.page in
-    let at : IsPlace c.self.inside.pages.items c.args.n k c.place_of-at.result.offset = subst (λ (ps : List (Vec g.row.T.Denot Global)). IsPlace ps c.args.n k c.place_of-at.result.offset) c.deref.ensures.value c.place_of-at.ensures in
+    let k = c.slot_of-at.result.page in
+    let at : IsSlot c.self.inside.pages.items c.args.n k c.slot_of-at.result.offset = subst (λ (ps : List (Vec g.row.T.Denot Global)). IsSlot ps c.args.n k c.slot_of-at.result.offset) c.deref.ensures.value c.slot_of-at.ensures in
     cut_pages {p' = c.truncate.new.self} (record {
       were = c.self.invariant;
       at = at;
@@ -25,9 +25,9 @@ invariant_of-self g c =
 
 pub returns-clause-items : goal.returns-clause-items
 returns-clause-items g c =
-    let k = c.place_of-at.result.page in
+    let k = c.slot_of-at.result.page in
     let view : items_of c.self.inside.pages.items ≡ c.args.self.now.items = λ i. (c.self.view_is i).items in
-    let at : IsPlace c.self.inside.pages.items c.args.n k c.place_of-at.result.offset = subst (λ (ps : List (Vec g.row.T.Denot Global)). IsPlace ps c.args.n k c.place_of-at.result.offset) c.deref.ensures.value c.place_of-at.ensures in
+    let at : IsSlot c.self.inside.pages.items c.args.n k c.slot_of-at.result.offset = subst (λ (ps : List (Vec g.row.T.Denot Global)). IsSlot ps c.args.n k c.slot_of-at.result.offset) c.deref.ensures.value c.slot_of-at.ensures in
     cut_items {pages' = c.truncate-2.new.self} {starts' = c.truncate-3.new.self} {p' = c.truncate.new.self} (record {
       were = c.self.invariant;
       at = at;

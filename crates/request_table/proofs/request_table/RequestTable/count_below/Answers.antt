@@ -1,16 +1,16 @@
--- The numbers rise, so one search finds the place.
+-- The numbers rise, so one search finds the index.
 use Rattle.std.proofs.lemmas.Fn.{always_returns_same}
 use Rattle.std.proofs.Common.{◌≡◌, Bool, subst, rules, of_calls}
 use Rattle.std.specs.Prelude.{nat_lt}
-use Rattle.request_table.specs.Order.{IsPlace}
+use Rattle.request_table.specs.Order.{IsIndex}
 use Rattle.request_table.specs.Numbers.{Table}
 use Rattle.request_table.proofs.Numbers.{numbers_part}
 use Rattle.request_table.proofs.request_table.RequestTable.count_below.Goals as goal
 
-pub returns-clause-place : goal.returns-clause-place
-returns-clause-place g c =
+pub returns-clause-index : goal.returns-clause-index
+returns-clause-index g c =
     let test : g.row.T.Denot → Bool = λ r. nat_lt (g.T.Numbered.number r) c.args.number in
-    subst (λ (v : Table g.row.T.Denot). IsPlace test v.requests c.partition_point.result) c.self.view_is
+    subst (λ (v : Table g.row.T.Denot). IsIndex test v.requests c.partition_point.result) c.self.view_is
     (record {
       within = search rules;
       parts =

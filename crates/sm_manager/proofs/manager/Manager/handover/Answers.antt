@@ -1,13 +1,13 @@
--- What the table of states says goes to the heir.
+-- What the table of states says goes to the successor.
 use Rattle.std.proofs.Common.{◌≡◌, ◌+◌, [], ◌∷◌, ◌++◌, sym, ap, ◌∙◌, subst}
 use Rattle.sm_state.specs.declared.transition.Transition.{Transition}
 use Rattle.sm_state.specs.Controls.{modifier_of_control}
 use Rattle.sm_manager.specs.declared.pending.Purpose.TheVariants.{Control}
 use Rattle.sm_manager.specs.contracts.manager.Manager.{the_view}
-use Rattle.sm_manager.specs.Election.{control_out, handed_over, heir_lid, info_pending}
+use Rattle.sm_manager.specs.Election.{control_out, after_handover, successor_lid, info_pending}
 use Rattle.sm_manager.specs.Manager.{Manager}
-use Rattle.sm_manager.specs.Standing.{moved_to}
-use Rattle.sm_manager.proofs.HeirLids.{handed_parts}
+use Rattle.sm_state.specs.Standing.{moved_to}
+use Rattle.sm_manager.proofs.SuccessorLids.{handed_parts}
 use Rattle.sm_manager.proofs.manager.Manager.handover.Goals as goal
 
 pub returns-clause-ok : goal.returns-clause-ok
@@ -20,10 +20,10 @@ returns-clause-ok c =
     let kept = c.reserve.ensures in
     let sent = c.send_control.ensures in
     subst
-    (λ (x : Manager). record m { standing = standing; counter = requests.counter; pending = requests.pending; outgoing = out.items } ≡ handed_over x)
+    (λ (x : Manager). record m { standing = standing; counter = requests.counter; pending = requests.pending; outgoing = out.items } ≡ after_handover x)
     c.self.view_is
     (handed_parts m standing requests.counter requests.pending out.items lid c.in-Some.message
-    (ap heir_lid c.self.view_is ∙ c.in_ok-lid.ensures.lid)
+    (ap successor_lid c.self.view_is ∙ c.in_ok-lid.ensures.lid)
     (sym (ap (λ (t : Transition). t.message) c.step-transition.ensures) ∙ c.in-Some.is)
     (c.move_to.ensures ∙ ap (λ (t : Transition). moved_to t.state m.standing) c.step-transition.ensures)
     (sent.counter ∙ ap (λ n. n + 1) kept.counter)

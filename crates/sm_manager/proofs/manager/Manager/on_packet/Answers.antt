@@ -6,12 +6,12 @@ use Rattle.smp_bytes.specs.Judges.{JudgesButFor}
 use Rattle.smp_bytes.specs.Packet.{fault_of}
 use Rattle.sm_manager.specs.Fault.{is_memory}
 use Rattle.sm_manager.specs.Manager.{Manager}
-use Rattle.sm_manager.specs.Packets.{Called, is_info_request, packet_taken, took, unless_spent}
+use Rattle.sm_manager.specs.Packets.{Called, is_info_request, packet_taken, after_packet, unless_spent}
 use Rattle.sm_manager.specs.Served.{served}
 use Rattle.sm_manager.proofs.manager.Manager.on_packet.Goals as goal
 
 comes_to : (m : Manager) (bytes packet : List ℕ) (from : Option ℕ) → packet ≡ bytes → fault_of bytes ≡ None → is_info_request packet ≡ true
-    → unless_spent m (served m packet from) ≡ took m bytes from
+    → unless_spent m (served m packet from) ≡ after_packet m bytes from
 comes_to m bytes packet from same none holds =
     ap (λ p. unless_spent m (served m p from)) same
     ∙ sym (ap (packet_taken m bytes from) none ∙ cond-true (is_info_request bytes) _ _ (ap is_info_request (sym same) ∙ holds))

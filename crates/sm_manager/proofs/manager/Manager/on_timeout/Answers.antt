@@ -1,4 +1,4 @@
--- The request at the place is the one of the number.
+-- The request at the index is the one of the number.
 use Rattle.std.proofs.Common.{◌<◌, length, subst}
 use Rattle.std.proofs.lemmas.Option.{slice_get_within}
 use Rattle.sm_manager.specs.Manager.{Manager}
@@ -6,5 +6,5 @@ use Rattle.sm_manager.proofs.manager.Manager.on_timeout.Goals as goal
 
 pub end_request-requires : goal.end_request-requires
 end_request-requires c =
-    subst (λ (x : Manager). c.in-Some.place < length x.pending) c.self.view_is
-    (slice_get_within c.self.inside.requests.pending c.in-Some.place (c.in-Some.ensures.0) (c.in-Some.ensures.1))
+    subst (λ (x : Manager). c.in-Some.index < length x.pending) c.self.view_is
+    (slice_get_within c.self.inside.requests.pending c.in-Some.index (c.in-Some.ensures.0) (c.in-Some.ensures.1))

@@ -5,7 +5,7 @@ use Rattle.lft_blocks.specs.Plan.{plan_of}
 use Rattle.fact_store.specs.View.{cells_of}
 use Rattle.plan_steps.specs.Phases.{Phase, phases_of}
 use Rattle.sm_manager.specs.Manager.{Manager, Writing}
-use Rattle.sm_manager.specs.Writing.{passed, phases_by}
+use Rattle.sm_manager.specs.Writing.{without_empty_phases, phases_by}
 use Rattle.sm_manager.proofs.manager.Manager.planned.Goals as goal
 
 -- what is so of all that is found is so of this
@@ -13,7 +13,7 @@ found_is : {T F : Type 0} (r : Result T F) (x : T) (P : T → Type 0) → r ≡ 
 found_is r x P e all = subst (λ (it : Result _ _). IfOk it P) e all
 
 begins : List Phase → Writing
-begins phases = record { later = passed phases; has_failed = false }
+begins phases = record { later = without_empty_phases phases; has_failed = false }
 
 pub returns-clause-writing : goal.returns-clause-writing
 unfolding begins

@@ -17,13 +17,13 @@ replies m packet from fails = ap (unless_spent m) (sym (cond-false (is_control p
 
 pub returns-then-is_control-clause-judged : goal.returns-then-is_control-clause-judged
 returns-then-is_control-clause-judged c =
-    subst (λ (x : Called). JudgesButFor is_memory c.obey.result x.fault)
-    (obeys c.args.self.now c.args.smp.now c.args.from (sym c.is_control.ensures ∙ c.if-is_control.true)) c.obey.ensures.judged
+    subst (λ (x : Called). JudgesButFor is_memory c.answer_control.result x.fault)
+    (obeys c.args.self.now c.args.smp.now c.args.from (sym c.is_control.ensures ∙ c.if-is_control.true)) c.answer_control.ensures.judged
 
 pub returns-then-is_control-clause-ok : goal.returns-then-is_control-clause-ok
 returns-then-is_control-clause-ok c =
-    subst (λ (x : Called). OnOk c.obey.result (c.obey.new.self ≡ x.manager))
-    (obeys c.args.self.now c.args.smp.now c.args.from (sym c.is_control.ensures ∙ c.if-is_control.true)) c.obey.ensures.ok
+    subst (λ (x : Called). OnOk c.answer_control.result (c.answer_control.new.self ≡ x.manager))
+    (obeys c.args.self.now c.args.smp.now c.args.from (sym c.is_control.ensures ∙ c.if-is_control.true)) c.answer_control.ensures.ok
 
 pub returns-else-is_control-clause-judged : goal.returns-else-is_control-clause-judged
 returns-else-is_control-clause-judged c =

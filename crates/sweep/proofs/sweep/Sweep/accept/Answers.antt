@@ -1,12 +1,12 @@
--- The request of the place is the one that the packet answers, and the answer to it is that of its report.
+-- The request of the index is the one that the packet answers, and the answer to it is that of its report.
 use Rattle.std.proofs.Common.{◌≡◌, ℕ, ◌+◌, ◌^◌, ◌≤◌, List, length, ap, sym, subst, ◌∙◌, arith}
 use Rattle.std.specs.Prelude.{Some, None, Ok, option_copied, slice_get}
-use Rattle.request_table.specs.Numbers.{IsPlaceFor}
+use Rattle.request_table.specs.Numbers.{IsIndexFor}
 use Rattle.sweep.specs.declared.answer.Answer.{Answer}
 use Rattle.sweep.specs.declared.finding.Finding.{Finding}
 use Rattle.sweep.specs.declared.request.Request.{Request}
 use Rattle.sweep.specs.Finding.{IsWithinReach, finding, questions}
-use Rattle.sweep.specs.Replies.{answer_by, answer_for, fault_for, report_for, request_of, told_by}
+use Rattle.sweep.specs.Replies.{answer_by, answer_for, fault_for, report_for, request_of, sightings_by}
 use Rattle.sweep.specs.Sweep.{Sweep}
 use Rattle.sweep.proofs.Few.{within_reach}
 use Rattle.sweep.proofs.Judged.{few_asked, judged_ok}
@@ -17,10 +17,10 @@ returns-clause-ok c =
     let s : Sweep = c.args.self.now in
     let packet : List ℕ = c.args.smp.now in
     let r : Request = c.unwrap-request.result.now in
-    let at : slice_get s.outstanding c.in-Some.place ≡ Some r =
-    ap (λ (v : Sweep). slice_get v.outstanding c.in-Some.place) (sym c.self.view_is) ∙ sym c.get.ensures ∙ ap (option_copied {T = Request}) c.unwrap-request.ensures in
-    let there : IsPlaceFor (request_of s packet) s.outstanding (Some c.in-Some.place) =
-    subst (λ (v : Sweep). IsPlaceFor (request_of v packet) v.outstanding (Some c.in-Some.place)) c.self.view_is c.in-Some.ensures in
+    let at : slice_get s.outstanding c.in-Some.index ≡ Some r =
+    ap (λ (v : Sweep). slice_get v.outstanding c.in-Some.index) (sym c.self.view_is) ∙ sym c.get.ensures ∙ ap (option_copied {T = Request}) c.unwrap-request.ensures in
+    let there : IsIndexFor (request_of s packet) s.outstanding (Some c.in-Some.index) =
+    subst (λ (v : Sweep). IsIndexFor (request_of v packet) v.outstanding (Some c.in-Some.index)) c.self.view_is c.in-Some.ensures in
     let waits : request_of s packet ≡ Some r = there.2 ∙ sym there.1 ∙ at in
     let same : c.number.result ≡ s.generation = c.number.ensures.value ∙ ap (λ (v : Sweep). v.generation) c.self.view_is in
     let taken : fault_for s r packet ≡ None = c.in-Ok.ensures.judged in
@@ -41,5 +41,5 @@ returns-clause-ok c =
       few = subst (λ (f : Finding). length (questions r.path f) ≤ 256) (sym found) (few_asked s packet r waits taken);
       number = subst (λ (f : Finding). s.next + length (questions r.path f) ≤ 2 ^ 32) (sym found) fits;
       answer = judged_ok s packet r waits taken c.bytes-bytes.ensures.parses fits ∙ ap (λ (a : Answer). Ok a) answer;
-      told = c.in-Ok.ensures.told ∙ ap told_by answer;
+      sightings = c.in-Ok.ensures.sightings ∙ ap sightings_by answer;
     }

@@ -4,7 +4,7 @@ use Rattle.sweep.proofs.sweep.Sweep.on_timeout.Goals as goal
 
 pub invariant_of-self : goal.invariant_of-self
 invariant_of-self c =
-    valid_ended _ _ c.in-Some.place c.end.result [] c.self.invariant
+    valid_ended _ _ c.in-Some.index c.end.result [] c.self.invariant
     (record {
       waited = sym c.end.ensures.request;
       next = omega (arith, c.end.ensures.next);

@@ -1,8 +1,8 @@
 -- The index has the new link.
 use Rattle.std.proofs.Common.{◌≡◌, ℕ, Some, None, ap, ◌∙◌, subst}
 use Rattle.std.specs.BTreeMap.{Updates}
-use Rattle.smp_bytes.specs.Cables.{other_end}
-use Rattle.topo_file.specs.Places.{port_cmp}
+use Rattle.fabric_model.specs.Cables.{other_end}
+use Rattle.topo_file.specs.Indexes.{port_cmp}
 use Rattle.topo_file.proofs.Indexes.{ends_indexed}
 use Rattle.topo_file.proofs.links.Links.with_new.Goals as goal
 

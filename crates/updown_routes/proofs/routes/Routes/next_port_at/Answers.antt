@@ -3,9 +3,9 @@ use Rattle.std.proofs.Common.{◌≡◌, sym, ap, ◌∙◌, List, ℕ, Vec, Glo
 use Rattle.std.proofs.lemmas.Option.{slice_get-map}
 use Rattle.std.specs.Prelude.{Option, Some, option_map, option_and_then, slice_get}
 use Rattle.std.specs.Option.{option_copied, option_flatten}
-use Rattle.updown_routes.specs.Crossing.{Crossing}
+use Rattle.updown_routes.specs.SwitchEdges.{SwitchEdges}
 use Rattle.updown_routes.specs.Ports.{ports_of, next_port_at}
-use Rattle.updown_routes.proofs.PlacedRoutes.{port_in_rows}
+use Rattle.updown_routes.proofs.PositionRoutes.{port_in_rows}
 use Rattle.updown_routes.proofs.Walked.{copied_item}
 use Rattle.updown_routes.proofs.routes.Routes.next_port_at.Goals as goal
 
@@ -24,4 +24,4 @@ returns c =
     c.flatten.ensures ∙ ap option_flatten (c.copied.ensures ∙ copied_item c.deref-2.result.now c.args.switch c.get-2.result c.get-2.ensures.lookup
     ∙ ap (λ xs. slice_get xs c.args.switch) c.deref-2.ensures.value) in
     port ∙ sym (port_in_rows graph c.args.switch c.args.target ∙ ap (option_and_then (λ xs. option_flatten (slice_get xs c.args.switch))) row)
-    ∙ ap (λ (g : List Crossing). next_port_at g c.args.switch c.args.target) c.self.view_is
+    ∙ ap (λ (g : List SwitchEdges). next_port_at g c.args.switch c.args.target) c.self.view_is

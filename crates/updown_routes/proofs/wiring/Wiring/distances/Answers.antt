@@ -11,14 +11,14 @@ use Rattle.updown_routes.proofs.wiring.Wiring.distances.Goals as goal
 
 pub distances-requires-clause-vertex : goal.distances-requires-clause-vertex
 distances-requires-clause-vertex c =
-    let l = length_is c.self.inside.guids.items c.self.inside.exits c.self.invariant c.args.self.now c.self.view_is in
+    let l = length_is c.self.inside.guids.items c.self.inside.edges c.self.invariant c.args.self.now c.self.view_is in
     omega (arith, c.requires, c.self.invariant.as_many)
 
 pub returns : goal.returns
 returns c =
     let graph = c.args.self.now in
-    elim c.distances.result as (λ r. IfOk r (λ found. AreDistances c.self.inside.exits c.args.from found.items)
+    elim c.distances.result as (λ r. IfOk r (λ found. AreDistances c.self.inside.edges c.args.from found.items)
     → IfOk r (λ found. found.items ≡ map (distance graph (switch_at graph c.args.from)) (guids_of graph))) [
-      | Ok found ↦ λ are. distances_are c.self.inside.guids.items c.self.inside.exits c.self.invariant graph c.self.view_is c.args.from found.items c.requires are
+      | Ok found ↦ λ are. distances_are c.self.inside.guids.items c.self.inside.edges c.self.invariant graph c.self.view_is c.args.from found.items c.requires are
       | Err e ↦ λ are. tt
     ] c.distances.ensures

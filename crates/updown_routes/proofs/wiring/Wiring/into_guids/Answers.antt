@@ -4,4 +4,4 @@ use Rattle.updown_routes.proofs.Wirings.{guids_are}
 use Rattle.updown_routes.proofs.wiring.Wiring.into_guids.Goals as goal
 
 pub returns : goal.returns
-returns c = sym (guids_are c.self.inside.guids.items c.self.inside.exits c.self.invariant c.args.self c.self.view_is)
+returns c = sym (guids_are c.self.inside.guids.items c.self.inside.edges c.self.invariant c.args.self c.self.view_is)

@@ -7,6 +7,6 @@ use Rattle.updown_routes.proofs.wiring.Wiring.switch.Goals as goal
 
 pub returns : goal.returns
 returns c =
-    let are = guids_are c.self.inside.guids.items c.self.inside.exits c.self.invariant c.args.self.now c.self.view_is in
+    let are = guids_are c.self.inside.guids.items c.self.inside.edges c.self.invariant c.args.self.now c.self.view_is in
     c.copied.ensures ∙ copied_item c.deref.result.now c.args.index c.get.result c.get.ensures.lookup
     ∙ ap (λ (gs : List ℕ). slice_get gs c.args.index) (c.deref.ensures.value ∙ sym are)

@@ -1,0 +1,143 @@
+-- What becomes of a packet for a LID at each switch, and at the port that sends it.
+use Rattle.std.specs.Prelude.{◌≡◌, ◌≢◌, ◌↔◌, Bool, false, Contains, ℕ, ◌<◌, ◌%◌, ◌==◌, List, [], Option, None, Some, length, map, nat_lt, slice_get, slice_index_or, slice_set, if◌then◌else◌}
+use Rattle.std.specs.Option.{option_map_or}
+use Rattle.subnet_view.specs.declared.end_port.EndPort.{EndPort}
+use Rattle.subnet_view.specs.Reading.{Cells, is_usable, port_count_of, switches}
+use Rattle.plan_file.specs.declared.held.HeldBlock.{HeldBlock}
+use Rattle.plan_file.specs.declared.held.HeldLid.{HeldLid}
+use Rattle.plan_file.specs.Held.{HeldPlan}
+use Rattle.subnet_view.specs.EndPorts.{end_ports}
+use Rattle.audit.specs.declared.end.Cause.{Cause}
+use Rattle.audit.specs.declared.end.Cause.TheVariants.{AboveTop, NoEntry, NoPort, NoLink, Foreign}
+use Rattle.audit.specs.declared.end.End.{End}
+use Rattle.audit.specs.declared.end.Failure.{Failure}
+use Rattle.audit.specs.declared.end.End.TheVariants.{Taken, Lost}
+use Rattle.audit.specs.declared.far_end.Far.{Far}
+use Rattle.audit.specs.declared.far_end.Far.TheVariants.{Nothing, Switch, Port}
+use Rattle.audit.specs.declared.senders.Sender.{Sender}
+use Rattle.audit.specs.declared.audited_switch.AuditedSwitch.{AuditedSwitch}
+use Rattle.audit.specs.declared.next_hop.NextHop.{NextHop}
+use Rattle.audit.specs.declared.next_hop.NextHop.TheVariants.{To, Ends}
+use Rattle.audit.specs.Network.{row_of, sender_of}
+use Rattle.audit.specs.Tables.{owners_of, is_owner, is_same_end, counted, entry_for, entry_in, block_at, top_of}
+use Rattle.audit.specs.WalkEnds.{IsEndOf, after, end_of}
+
+-- an adapter port takes a packet for a LID that it holds
+abbrev pub at_port : List EndPort → EndPort → End
+at_port owners e = if is_owner owners e then Taken e else Lost e.node Foreign
+
+-- by a port of the node g: to a switch; to a port, which takes it where it holds the LID; or nowhere, and it is lost for this cause
+abbrev pub over : List EndPort → ℕ → Cause → Far → NextHop
+over owners g cause Nothing = Ends (Lost g cause)
+over owners g cause (Switch index) = To index
+over owners g cause (Port e) = Ends (at_port owners e)
+
+-- why a switch with so many ports and a top does not send a packet for a LID on, by the entry that counts: the first of these that is so
+abbrev pub cause_by : ℕ → ℕ → ℕ → ℕ → Cause
+cause_by ports top lid entry = if nat_lt top lid then AboveTop else (if entry == 255 then NoEntry else (if nat_lt ports entry then NoPort else NoLink))
+
+-- the same of a switch of the facts
+abbrev pub cause_of : Cells → HeldPlan → ℕ → ℕ → Cause
+cause_of cells held lid g = cause_by (port_count_of cells g) (top_of held g) lid (entry_for held lid g)
+
+-- by its entry: 0 is the switch itself, and the ports of its row lead on
+abbrev pub by_entry : List EndPort → ℕ → Cause → List Far → ℕ → NextHop
+by_entry owners g cause row entry =
+    if entry == 0 then Ends (Taken (record { node = g; port = 0 })) else over owners g cause (slice_index_or row entry Nothing)
+
+-- what each usable switch does with a packet for the LID
+abbrev pub next_hops_of : Cells → HeldPlan → ℕ → List NextHop
+next_hops_of cells held lid = map (λ g. by_entry (owners_of held lid) g (cause_of cells held lid g) (row_of cells g) (entry_for held lid g)) (switches cells)
+
+-- the same of a switch with its index, its top and its row, by the blocks of a number
+abbrev pub entry_among : List (List ℕ) → Option ℕ → ℕ → ℕ
+entry_among rows index lid = option_map_or (λ k. slice_index_or (slice_index_or rows k []) (lid % 64) 255) index 255
+
+abbrev pub next_hop_by : List EndPort → ℕ → AuditedSwitch → ℕ → NextHop
+next_hop_by owners lid node entry = by_entry owners node.guid (cause_by node.ports node.top lid entry) node.row entry
+
+abbrev pub next_hop_of : List EndPort → List (List ℕ) → ℕ → AuditedSwitch → NextHop
+next_hop_of owners rows lid node = next_hop_by owners lid node (counted lid node.top (entry_among rows node.index lid))
+
+-- a switch's own packet begins there; an adapter port takes its own LID, and sends any other out by its own port
+abbrev pub sent : List EndPort → EndPort → Option ℕ → Far → NextHop
+sent owners e (Some index) far = To index
+sent owners e None far = if is_owner owners e then Ends (Taken e) else over owners e.node NoLink far
+
+-- where a packet begins
+abbrev pub first_hop : List EndPort → Sender → NextHop
+first_hop owners source = sent owners source.port source.switch source.far
+
+-- where forwarding brings a packet for the LID that an end port sends; None is that it goes round for ever
+abbrev pub IsBrought : Cells → HeldPlan → ℕ → EndPort → Option End → Type 0
+IsBrought cells held lid e end = IsEndOf (next_hops_of cells held lid) (first_hop (owners_of held lid) (sender_of cells e)) end
+
+-- after as many steps as there are switches a packet has ended, or goes round for ever
+abbrev pub end_for : Cells → HeldPlan → ℕ → EndPort → Option End
+end_for cells held lid e = end_of (after (length (switches cells)) (next_hops_of cells held lid) (first_hop (owners_of held lid) (sender_of cells e)))
+
+-- that is where forwarding brings it, and nowhere else
+abbrev pub EndsAreFound : Type 0
+EndsAreFound = (cells : Cells) (held : HeldPlan) (lid : ℕ) (e : EndPort) (end : Option End) → IsBrought cells held lid e end ↔ (end ≡ end_for cells held lid e)
+
+-- the entry by which a usable switch forwards packets for the LID
+abbrev pub entry_by : Cells → HeldPlan → ℕ → ℕ → Option ℕ
+entry_by cells held g lid = if is_usable cells g then Some (entry_for held lid g) else None
+
+-- and each end port, in its order
+pub record AreBrought (cells : Cells) (held : HeldPlan) (lid : ℕ) (ends : List (Option End)) : Type 0 where
+  pub as_many : length ends ≡ length (end_ports cells)
+  pub brought : (k : ℕ) (e : EndPort) (end : Option End) → slice_get (end_ports cells) k ≡ Some e → slice_get ends k ≡ Some end → IsBrought cells held lid e end
+
+-- so many blocks with no entry
+pub record AreBlank (count : ℕ) (rows : List (List ℕ)) : Type 0 where
+  pub as_many : length rows ≡ count
+  pub entry : (index i : ℕ) → slice_index_or (slice_index_or rows index []) i 255 ≡ 255
+
+-- the blocks of a number, by the indices of their switches
+pub record AreBlocks (held : HeldPlan) (number : ℕ) (rows : List (List ℕ)) : Type 0 where
+  pub as_many : length rows ≡ length held.switches
+  pub entry : (index i : ℕ) → index < length rows → slice_index_or (slice_index_or rows index []) i 255 ≡ entry_in (block_at held index number) i
+
+-- with a block where that of its switch is
+abbrev pub with_row : List (List ℕ) → HeldBlock → List (List ℕ)
+with_row rows block = slice_set rows block.switch block.entries
+
+-- the same, if there is one
+abbrev pub with_block : List (List ℕ) → Option HeldBlock → List (List ℕ)
+with_block rows block = option_map_or (with_row rows) block rows
+
+-- the packets of every end port for a LID come to an end port that holds it
+abbrev pub LineArrives : Cells → HeldPlan → HeldLid → Type 0
+LineArrives cells held line = (e : EndPort) → Contains (end_ports cells) e → IsBrought cells held line.lid e (Some (Taken line.port))
+
+-- a packet ends at the port
+abbrev pub is_at : EndPort → Option End → Bool
+is_at e None = false
+is_at e (Some (Lost g cause)) = false
+is_at e (Some (Taken x)) = is_same_end e x
+
+-- those of an end port do not: they end elsewhere, or go round for ever
+pub record IsFailure (cells : Cells) (held : HeldPlan) (failure : Failure) : Type 0 where
+  pub is_source : Contains (end_ports cells) failure.source
+  pub is_end_port : Contains (end_ports cells) failure.line.port
+  pub brought : IsBrought cells held failure.line.lid failure.source failure.end
+  pub elsewhere : failure.end ≢ Some (Taken failure.line.port)
+
+-- a failure of the line
+pub record IsFailureOf (cells : Cells) (held : HeldPlan) (line : HeldLid) (failure : Failure) : Type 0 where
+  pub line_is : failure.line ≡ line
+  pub fails : IsFailure cells held failure
+
+-- they do, where the view has that end port
+abbrev pub LineIsRight : Cells → HeldPlan → HeldLid → Type 0
+LineIsRight cells held line = Contains (end_ports cells) line.port → LineArrives cells held line
+
+-- the packets of every end port for every LID that an end port holds come there
+abbrev pub AllArrive : Cells → HeldPlan → Type 0
+AllArrive cells held = (line : HeldLid) → Contains held.lids line → LineIsRight cells held line
+
+-- a failure of a line that is held
+pub record IsHeldFailure (cells : Cells) (held : HeldPlan) (failure : Failure) : Type 0 where
+  pub is_held : Contains held.lids failure.line
+  pub fails : IsFailure cells held failure

@@ -1,0 +1,103 @@
+ghost use Rattle.std.specs.Prelude.{◌≡◌, IfOk, map};
+ghost use Rattle.fact_store.specs.View.{cells_of};
+ghost use Rattle.subnet_view.specs.Reading.{switches};
+ghost use Rattle.lid_assign.specs.Lids.{greatest};
+ghost use Rattle.audit.specs.Network.{node_of};
+ghost use Rattle.audit.specs.Tables.{index_of, top_at};
+
+use crate::far_ends::{FarEnds, row_of};
+use plan_file::Held;
+use smp_bytes::{Guid, Lid};
+use std::alloc::{AllocError, Global};
+use subnet_view::Wires;
+use updown_routes::port_count;
+
+/// A usable switch.
+#[derive(Drop)]
+pub(crate) struct AuditedSwitch {
+    pub(crate) guid: Guid,
+    /// Where the wires in its ports lead.
+    pub(crate) row: FarEnds,
+    /// Its index among the switches that are held.
+    pub(crate) index: Option<usize>,
+    /// The greatest LID that it forwards, and 0 where it is not held.
+    pub(crate) top: Lid,
+    /// The number of its ports.
+    pub(crate) ports: u8,
+}
+
+/// The usable switches of the view, by rising GUID.
+pub(crate) fn nodes(
+    alloc: Global,
+    wires: &Wires,
+    guids: &[Guid],
+    held: &Held,
+) -> Result<Vec<AuditedSwitch>, AllocError>
+    requires { guids.now ≡ switches (cells_of wires.now) }
+    ensures { IfOk result (λ nodes. nodes.items ≡ map (node_of (cells_of wires.now) held.now) guids.now) }
+{
+    let mut nodes = Vec::with_capacity(alloc, guids.len())?;
+    for guid in guids {
+        nodes.push(node_at(alloc, wires, guids, held, *guid)?)?;
+    }
+    Ok(nodes)
+}
+
+/// A usable switch.
+fn node_at(
+    alloc: Global,
+    wires: &Wires,
+    guids: &[Guid],
+    held: &Held,
+    guid: Guid,
+) -> Result<AuditedSwitch, AllocError>
+    requires { guids.now ≡ switches (cells_of wires.now) }
+    ensures { IfOk result (λ node. node ≡ node_of (cells_of wires.now) held.now guid) }
+{
+    let row = row_of(alloc, wires, guids, guid)?;
+    let index = index_of(held, guid);
+    let top = top_at(held, index);
+    let ports = port_count(wires.store(), guid);
+    Ok(AuditedSwitch {
+        guid,
+        row,
+        index,
+        top,
+        ports,
+    })
+}
+
+/// The index of a switch among those that are held. Takes a walk.
+pub(crate) fn index_of(held: &Held, guid: Guid) -> Option<usize>
+    ensures { result ≡ index_of held.now guid }
+{
+    held.switches()
+        .iter()
+        .position(|switch| switch.guid == guid)
+}
+
+/// The top of the switch at an index, and 0 where there is none.
+pub(crate) fn top_at(held: &Held, index: Option<usize>) -> Lid
+    ensures { result ≡ top_at held.now index }
+{
+    let Some(index) = index else {
+        return Lid::new(0);
+    };
+    match held.switches().get(index) {
+        Some(switch) => switch.top,
+        None => Lid::new(0),
+    }
+}
+
+/// The greatest of the switches' tops, and 0 where there is none.
+pub(crate) fn greatest_top(nodes: &[AuditedSwitch]) -> Lid
+    ensures { result ≡ greatest (map (λ node. node.top) nodes.now) }
+{
+    let mut greatest = Lid::new(0);
+    for node in nodes {
+        if greatest < node.top {
+            greatest = node.top;
+        }
+    }
+    greatest
+}

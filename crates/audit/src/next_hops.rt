@@ -1,0 +1,174 @@
+//! What becomes of packets for one LID at each switch.
+ghost use Rattle.std.specs.Prelude.{◌≡◌, IfOk, map};
+ghost use Rattle.audit.specs.NextHops.{at_port, cause_by, entry_among, first_hop, over, next_hop_of};
+ghost use Rattle.audit.specs.Edges.{edge_of, edge_to};
+ghost use Rattle.audit.specs.Tables.{counted, is_owner};
+
+use crate::audited_switch::AuditedSwitch;
+use crate::end::{Cause, End};
+use crate::far_end::Far;
+use crate::next_hop::NextHop;
+use crate::senders::Sender;
+use port_graph::Edge;
+use smp_bytes::{Guid, Lid, PortNum};
+use std::alloc::{AllocError, Global};
+use subnet_view::EndPort;
+
+/// Whether an end port is one of these.
+pub(crate) fn is_owner(owners: &[EndPort], port: &EndPort) -> bool
+    ensures { result ≡ is_owner owners.now port.now }
+{
+    owners
+        .iter()
+        .any(|owner| owner.node == port.node && owner.port == port.port)
+}
+
+/// What each switch does.
+pub(crate) fn steps(
+    alloc: Global,
+    nodes: &[AuditedSwitch],
+    owners: &[EndPort],
+    rows: &[[u8; 64]],
+    lid: Lid,
+) -> Result<Vec<NextHop>, AllocError>
+    ensures { IfOk result (λ steps. steps.items ≡ map (next_hop_of owners.now rows.now lid) nodes.now) }
+{
+    nodes
+        .iter()
+        .map(|node| step_at(owners, rows, lid, node))
+        .collect(alloc)
+}
+
+/// What a switch does.
+fn step_at(owners: &[EndPort], rows: &[[u8; 64]], lid: Lid, node: &AuditedSwitch) -> NextHop
+    ensures { result ≡ next_hop_of owners.now rows.now lid node.now }
+{
+    let entry = counted(lid, node.top, entry_among(rows, node.index, lid));
+    if entry == 0 {
+        return NextHop::Ends(End::Taken(EndPort {
+            node: node.guid,
+            port: PortNum::new(0),
+        }));
+    }
+    match node.row.far(entry) {
+        Far::Nothing => NextHop::Ends(End::Lost(
+            node.guid,
+            cause_by(node.ports, node.top, lid, entry),
+        )),
+        Far::Switch(index) => NextHop::To(index),
+        Far::Port(port) => NextHop::Ends(at_port(owners, &port)),
+    }
+}
+
+/// Why a switch with so many ports and this top does not send a packet on by its entry.
+fn cause_by(ports: u8, top: Lid, lid: Lid, entry: u8) -> Cause
+    ensures { result ≡ cause_by ports top lid entry }
+{
+    if top < lid {
+        Cause::AboveTop
+    } else if entry == 255 {
+        Cause::NoEntry
+    } else if ports < entry {
+        Cause::NoPort
+    } else {
+        Cause::NoLink
+    }
+}
+
+/// The entry of the switch at an index.
+fn entry_among(rows: &[[u8; 64]], index: Option<usize>, lid: Lid) -> u8
+    ensures { result ≡ entry_among rows.now index lid }
+{
+    let Some(index) = index else {
+        return 255;
+    };
+    match rows.get(index) {
+        Some(row) => row[usize::from(lid.number()) % 64],
+        None => 255,
+    }
+}
+
+/// The entry that counts.
+pub(crate) fn counted(lid: Lid, top: Lid, entry: u8) -> u8
+    ensures { result ≡ counted lid top entry }
+{
+    if lid.number() == 0 || top < lid {
+        255
+    } else {
+        entry
+    }
+}
+
+/// By which port each switch sends packets on to another usable switch.
+pub(crate) fn edges(
+    alloc: Global,
+    nodes: &[AuditedSwitch],
+    rows: &[[u8; 64]],
+    lid: Lid,
+) -> Result<Vec<Option<Edge>>, AllocError>
+    ensures { IfOk result (λ edges. edges.items ≡ map (edge_of rows.now lid) nodes.now) }
+{
+    nodes
+        .iter()
+        .map(|node| edge_at(rows, lid, node))
+        .collect(alloc)
+}
+
+/// By which port a switch sends packets on to another usable switch.
+fn edge_at(rows: &[[u8; 64]], lid: Lid, node: &AuditedSwitch) -> Option<Edge>
+    ensures { result ≡ edge_of rows.now lid node.now }
+{
+    let entry = counted(lid, node.top, entry_among(rows, node.index, lid));
+    if entry == 0 {
+        return None;
+    }
+    edge_to(entry, node.row.far(entry))
+}
+
+/// The edge by a port whose wire leads to a usable switch.
+fn edge_to(port: u8, far: Far) -> Option<Edge>
+    ensures { result ≡ edge_to port far }
+{
+    match far {
+        Far::Switch(to) => Some(Edge {
+            port: PortNum::new(port),
+            to,
+        }),
+        _ => None,
+    }
+}
+
+/// What becomes of a packet that leaves a node by a port, where it is lost for a cause if no wire is in the port.
+fn over(owners: &[EndPort], node: Guid, cause: Cause, far: Far) -> NextHop
+    ensures { result ≡ over owners.now node cause far }
+{
+    match far {
+        Far::Nothing => NextHop::Ends(End::Lost(node, cause)),
+        Far::Switch(index) => NextHop::To(index),
+        Far::Port(port) => NextHop::Ends(at_port(owners, &port)),
+    }
+}
+
+/// What becomes of a packet that comes to an adapter port.
+fn at_port(owners: &[EndPort], port: &EndPort) -> End
+    ensures { result ≡ at_port owners.now port.now }
+{
+    if is_owner(owners, port) {
+        End::Taken(*port)
+    } else {
+        End::Lost(port.node, Cause::Foreign)
+    }
+}
+
+/// Where a source's packet begins.
+pub(crate) fn first_hop(owners: &[EndPort], source: &Sender) -> NextHop
+    ensures { result ≡ first_hop owners.now source.now }
+{
+    let Some(index) = source.switch else {
+        if is_owner(owners, &source.port) {
+            return NextHop::Ends(End::Taken(source.port));
+        }
+        return over(owners, source.port.node, Cause::NoLink, source.far);
+    };
+    NextHop::To(index)
+}

@@ -1,0 +1,20 @@
+-- A vertex more.
+use Rattle.std.proofs.Common.{◌+◌, sym, subst}
+use Rattle.audit_channels.specs.Columns.{IsWithSome}
+use Rattle.audit_channels.proofs.Columns.{nothing_more, one_more}
+use Rattle.audit_channels.proofs.column.add_column.Goals.{in-Some+in_ok-add, in_default}
+use Rattle.audit_channels.proofs.column.add_column.Goals as goal
+
+pub loop-vertex-preserved : goal.loop-vertex-preserved
+loop-vertex-preserved c =
+    let old = c.args.waits.now in
+    let column = c.args.column.now in
+    let vertex = c.loop-vertex.vertex in
+    elim c.match-in_turn.branch [
+      | in-Some+in_ok-add w ↦
+          subst (IsWithSome (vertex + 1) old column) (sym w.waits-is)
+          (one_more old c.loop-vertex.waits w.add.new.self column vertex w.in-Some.turn c.loop-vertex.invariant w.in-Some.ensures w.in_ok-add.ensures)
+      | in_default w ↦
+          subst (IsWithSome (vertex + 1) old column) (sym w.waits-is)
+          (nothing_more old c.loop-vertex.waits column vertex c.loop-vertex.invariant w.in_default.ensures)
+    ]

@@ -1,0 +1,53 @@
+-- A LID more.
+use Rattle.std.proofs.Common.{◌+◌, List, sym, subst}
+use Rattle.fact_store.specs.View.{cells_of}
+use Rattle.audit.specs.declared.senders.Sender.{Sender}
+use Rattle.audit_channels.specs.declared.sender_groups.Groups.{Groups}
+use Rattle.audit_channels.specs.declared.way_tally.WayTally.{WayTally}
+use Rattle.audit_channels.specs.Groups.{AreGrouped, IsRoster, adapters}
+use Rattle.audit_channels.proofs.Rosters.{a_target, no_target}
+use Rattle.audit_channels.proofs.Surveyed.{AreSurveyed, line_surveyed, line_passed}
+use Rattle.audit_channels.proofs.ways.tally_of.Goals as goal
+use Rattle.audit_channels.proofs.ways.tally_of.Goals.{in-Some+in_ok-add_ways, in_default}
+
+pub add_ways-requires-clause-target : goal.add_ways-requires-clause-target
+add_ways-requires-clause-target c =
+    let cells = cells_of c.args.network.now.facts in
+    let roster = subst (λ (ss : List Sender). IsRoster cells ss) (sym c.deref.ensures.value) c.in_ok-roster.ensures in
+    (a_target cells c.deref.result.now c.line-item.result.port roster c.in-Some.far c.in-Some.ensures).0
+
+pub add_ways-requires-clause-far : goal.add_ways-requires-clause-far
+add_ways-requires-clause-far c =
+    let cells = cells_of c.args.network.now.facts in
+    let roster = subst (λ (ss : List Sender). IsRoster cells ss) (sym c.deref.ensures.value) c.in_ok-roster.ensures in
+    (a_target cells c.deref.result.now c.line-item.result.port roster c.in-Some.far c.in-Some.ensures).1
+
+pub loop-line-preserved : goal.loop-line-preserved
+loop-line-preserved c =
+    let cells = cells_of c.args.network.now.facts in
+    let held = c.args.network.now.held in
+    let lines = c.lids-line-items.result.now in
+    let line = c.line-item.result in
+    let n = c.loop-line.line-index in
+    let rows = c.in_ok-blocks-2.blocks.rows.items in
+    let number = c.in_ok-blocks-2.blocks.number in
+    let before = c.loop-line.invariant.0 in
+    let roster = subst (λ (ss : List Sender). IsRoster cells ss) (sym c.deref.ensures.value) c.in_ok-roster.ensures in
+    let Surveyed = λ (t : WayTally). AreSurveyed cells held lines number rows (n + 1) t in
+    let Grouped = λ (g : Groups). AreGrouped cells (adapters cells) g in
+    elim c.match-target_among.branch [
+      | in-Some+in_ok-add_ways w ↦ (
+        subst Surveyed (sym w.tally-is)
+            (line_surveyed cells held lines c.loop-line.blocks.number number c.loop-line.blocks.rows.items rows n line c.loop-line.tally w.add_ways.new.tally
+            before c.in_ok-blocks-2.ensures.0 c.loop-line-test.true c.line-item.is
+            (a_target cells c.deref.result.now line.port roster w.in-Some.far w.in-Some.ensures).0 w.in_ok-add_ways.ensures.ways),
+        subst Grouped (sym w.senders-is) w.in_ok-add_ways.ensures.senders,
+      )
+      | in_default w ↦ (
+        subst Surveyed (sym w.tally-is)
+            (line_passed cells held lines c.loop-line.blocks.number number c.loop-line.blocks.rows.items rows n line c.loop-line.tally
+            before c.in_ok-blocks-2.ensures.0 c.loop-line-test.true c.line-item.is
+            (no_target cells c.deref.result.now line.port roster c.target_among.result c.target_among.ensures w.in_default.not-Some)),
+        subst Grouped (sym w.senders-is) c.loop-line.invariant.1,
+      )
+    ]

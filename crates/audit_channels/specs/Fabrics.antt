@@ -1,0 +1,56 @@
+-- The channels that packets take in a fabric, and their numbers.
+-- InfiniBand Architecture Specification, Volume 1: switches, unicast forwarding by the linear forwarding table; link layer, flow control by credits.
+use Rattle.std.specs.Prelude.{◌≡◌, ◌<◌, ◌≤◌, ◌+◌, ◌*◌, ℕ, List, Some, IsTrue, slice_get, slice_index_or}
+use Rattle.fabric_model.specs.declared.cable.NodePort.{NodePort}
+use Rattle.smp_bytes.specs.NodeType.{is_switch}
+use Rattle.fabric_model.specs.Fabric.{Node, Fabric, IsNodeAt, IsEndPort}
+use Rattle.fabric_model.specs.FabricWalks.{IsWire, IsJoinedTo}
+use Rattle.fabric_model.specs.Forwarding.{Standing, sent_from, Hop, Goes}
+use Rattle.fact_store.specs.View.{Facts, cells_of}
+use Rattle.subnet_view.specs.Reading.{Cells, switches}
+use Rattle.subnet_view.specs.Agreement.{Part, IsEndPortIn}
+use Rattle.plan_file.specs.Held.{HeldPlan}
+use Rattle.audit.specs.Fabrics.{IsSeenIn}
+use Rattle.audit.specs.Network.{index_in}
+use Rattle.audit_channels.specs.Waiting.{RiseOnWays}
+
+-- a wire from one switch to another, taken that way: its channel is that of the port by which it leaves the usable switch of an index
+pub record IsChannel (cells : Cells) (f : Fabric) (hop : Hop) (channel : ℕ) : Type 0 where
+  pub wire : IsWire f hop.out hop.into
+  pub from : Node
+  pub from_there : IsNodeAt f hop.out.node from
+  pub from_switch : IsTrue (is_switch from.kind)
+  pub to : Node
+  pub to_there : IsNodeAt f hop.into.node to
+  pub to_switch : IsTrue (is_switch to.kind)
+  pub index : ℕ
+  pub index_is : index_in (switches cells) from.guid ≡ Some index
+  pub channel_is : channel ≡ 256 * index + hop.out.port
+
+-- two wires that a packet takes in turn, both channels
+pub record TakeInTurn (cells : Cells) (f : Fabric) (hops : List Hop) (channel next : ℕ) : Type 0 where
+  pub nth : ℕ
+  pub hop : Hop
+  pub later : Hop
+  pub hop_is : slice_get hops nth ≡ Some hop
+  pub later_is : slice_get hops (nth + 1) ≡ Some later
+  pub channel_is : IsChannel cells f hop channel
+  pub next_is : IsChannel cells f later next
+
+-- a packet from an end port of the part for a LID has taken these wires so far
+pub record Travels (part : Part) (f : Fabric) (hops : List Hop) : Type 0 where
+  pub source : NodePort
+  pub node : Node
+  pub is_source : IsEndPortIn part f source node
+  pub lid : ℕ
+  pub is_lid : 1 ≤ lid
+  pub end : Standing
+  pub goes : Goes f lid (sent_from source) hops end
+
+-- where what is joined to an end port is as the facts say and holds the tables, the numbers rise from each channel to the next
+abbrev pub ChannelsRise : Type 0
+ChannelsRise =
+    (facts : Facts) (held : HeldPlan) (f : Fabric) (origin : NodePort) (numbers : List ℕ) → IsEndPort f origin
+    → IsSeenIn (IsJoinedTo f origin) (cells_of facts) held f → RiseOnWays (cells_of facts) held numbers
+    → (hops : List Hop) → Travels (IsJoinedTo f origin) f hops → (channel next : ℕ) → TakeInTurn (cells_of facts) f hops channel next
+    → slice_index_or numbers channel 0 < slice_index_or numbers next 0

@@ -1,0 +1,43 @@
+//! Some channels of one row of 64, as the bits of a word.
+ghost use Rattle.std.specs.Prelude.{◌≡◌, ◌↔◌, ◌⊎◌, ◌/◌, ℕ, IsTrue};
+ghost use Rattle.audit_channels.specs.Known.{Knows};
+
+/// Channels of which each is known: those of a row of 64 at whose indices the bits of a word are set.
+#[derive(Clone, Copy)]
+pub(crate) struct Known {
+    row: usize,
+    bits: u64,
+}
+
+impl Known {
+    /// No channel.
+    pub(crate) fn none() -> Self
+        ensures { (channel : ℕ) → ¬ (Knows result channel) }
+    {
+        Known { row: 0, bits: 0 }
+    }
+
+    /// Whether a channel is known. Takes one step.
+    pub(crate) fn has(self, channel: usize) -> bool
+        ensures { IsTrue result ↔ Knows self channel }
+    {
+        self.row == channel / 64 && (self.bits >> (channel % 64)) & 1 == 1
+    }
+
+    /// The same, and a channel where it is of their row, or none was known.
+    pub(crate) fn with(self, channel: usize) -> Self
+        ensures kept { (other : ℕ) → Knows self other → Knows result other }
+        ensures only { (other : ℕ) → Knows result other → Knows self other ⊎ (other ≡ channel) }
+        ensures of_row { self.row ≡ channel / 64 → Knows result channel }
+        ensures first { self.bits ≡ 0 → Knows result channel }
+    {
+        let row = channel / 64;
+        if self.row != row && self.bits != 0 {
+            return self;
+        }
+        Known {
+            row,
+            bits: self.bits | 1 << (channel % 64),
+        }
+    }
+}

@@ -1,0 +1,60 @@
+ghost use Rattle.std.specs.Prelude.{◌≡◌, ◌<◌, ◌*◌, ◌^◌, ◌↔◌, IfOk, IsTrue, OnOk, length};
+ghost use Rattle.fact_store.specs.View.{cells_of};
+ghost use Rattle.audit_channels.specs.Columns.{IsWithColumn};
+ghost use Rattle.audit_channels.specs.Waiting.{AreWaits, IsAdded};
+
+use crate::{Waits, add_column};
+use audit::Network;
+use port_graph::Edge;
+use smp_bytes::Lid;
+use std::alloc::{AllocError, Global};
+
+/// For each channel those that packets take next, LID by LID up to the greatest top: above it no switch sends them on.
+pub(crate) fn waits(alloc: Global, network: &Network) -> Result<Waits, AllocError>
+    ensures { IfOk result (λ waits. AreWaits (cells_of network.now.facts) network.now.held waits) }
+{
+    let count = network.switch_count().checked_mul(256).ok_or(AllocError)?;
+    let mut waits = Waits::new(alloc, count)?;
+    let mut blocks = network.blocks(alloc, 0)?;
+    let mut before = Vec::new(alloc);
+    for below in 0..network.greatest_top().number() {
+        let lid = Lid::new(below + 1);
+        blocks = network.blocks_for(alloc, blocks, lid)?;
+        let column = network.edges(alloc, &blocks, lid)?;
+        add_after(&mut waits, &before, &column)?;
+        before = column;
+    }
+    Ok(waits)
+}
+
+/// Adds a column, unless it is the one before, which has been added.
+fn add_after(
+    waits: &mut Waits,
+    before: &[Option<Edge>],
+    column: &[Option<Edge>],
+) -> Result<(), AllocError>
+    requires added { IsAdded before.now waits.old }
+    requires channels { length waits.old ≡ 256 * length column.now }
+    requires room { 256 * length column.now < 2 ^ 64 }
+    ensures { OnOk result (IsWithColumn waits.old column.now waits.new) }
+{
+    if is_same(column, before) {
+        return Ok(());
+    }
+    add_column(waits, column)
+}
+
+/// Whether two columns are one.
+fn is_same(column: &[Option<Edge>], other: &[Option<Edge>]) -> bool
+    ensures { IsTrue result ↔ (column.now ≡ other.now) }
+{
+    if column.len() != other.len() {
+        return false;
+    }
+    for (vertex, edge) in column.iter().enumerate() {
+        if *edge != other[vertex] {
+            return false;
+        }
+    }
+    true
+}

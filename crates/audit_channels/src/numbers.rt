@@ -1,0 +1,84 @@
+//! Numbers are given to channels behind which all have one, the greatest first.
+ghost use Rattle.std.specs.Prelude.{◌≡◌, ◌==◌, ◌<◌, IfOk, count_by, length, position};
+ghost use Rattle.audit_channels.specs.Numbers.{is_held_up, has_none, AreGiven, AreFurther, next_number};
+
+use crate::waits::Waits;
+use std::alloc::{AllocError, Global};
+
+/// A number for each channel that comes before no cycle, and 0 for the others. A round takes a step for each
+/// channel and each that follows it, and there are as many rounds as channels follow each other in the longest way.
+pub(crate) fn numbers(alloc: Global, waits: &Waits) -> Result<Vec<usize>, AllocError>
+    ensures { IfOk result (λ numbers. AreGiven waits.now numbers.items) }
+{
+    let mut numbers = vec![in alloc; 0; waits.len()]?;
+    let mut left = waits.len();
+    while left > 0 {
+        let next = further(alloc, waits, &numbers, left)?;
+        let now = count_without(&next);
+        if now == left {
+            return Ok(numbers);
+        }
+        numbers = next;
+        left = now;
+    }
+    Ok(numbers)
+}
+
+/// The same with this number for each channel behind which all have one.
+fn further(
+    alloc: Global,
+    waits: &Waits,
+    numbers: &[usize],
+    number: usize,
+) -> Result<Vec<usize>, AllocError>
+    ensures { IfOk result (λ next. AreFurther waits.now numbers.now number next.items) }
+{
+    let mut next = Vec::with_capacity(alloc, numbers.len())?;
+    for (channel, old) in numbers.iter().enumerate() {
+        let new = next_number(waits.at(channel), numbers, *old, number);
+        next.push(new)?;
+    }
+    Ok(next)
+}
+
+/// The number of a channel, by those of the channels that follow it.
+fn next_number(following: &[usize], numbers: &[usize], old: usize, number: usize) -> usize
+    ensures { result ≡ next_number following.now numbers.now old number }
+{
+    if old == 0 && !is_held_up(following, numbers) {
+        number
+    } else {
+        old
+    }
+}
+
+/// Whether a channel that follows has no number.
+fn is_held_up(following: &[usize], numbers: &[usize]) -> bool
+    ensures { result ≡ is_held_up numbers.now following.now }
+{
+    following.iter().any(|next| has_none(numbers, *next))
+}
+
+/// Whether a channel has no number.
+pub(crate) fn has_none(numbers: &[usize], channel: usize) -> bool
+    ensures { result ≡ has_none numbers.now channel }
+{
+    match numbers.get(channel) {
+        Some(number) => *number == 0,
+        None => false,
+    }
+}
+
+/// How many channels have no number.
+fn count_without(numbers: &[usize]) -> usize
+    ensures { result ≡ count_by (λ n. n == 0) numbers.now }
+{
+    numbers.iter().filter(|number| **number == 0).count()
+}
+
+/// The first channel without a number.
+pub(crate) fn first_without(numbers: &[usize]) -> Option<usize>
+    ensures { result ≡ position (λ n. n == 0) numbers.now }
+{
+    numbers.iter().position(|number| *number == 0)
+}

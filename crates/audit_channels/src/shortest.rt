@@ -1,0 +1,215 @@
+//! Of cycles of channels a shortest one, by a search in breadth from each channel without a number.
+ghost use Rattle.std.specs.Prelude.{◌≡◌, ◌<◌, ◌≤◌, ◌+◌, ◌^◌, ℕ, true, None, IfOk, IfSome, OnOk, length, slice_index_or};
+ghost use Rattle.audit_channels.specs.Numbers.{has_none, AreGiven};
+ghost use Rattle.audit_channels.specs.Orders.{Follows, IsCycle, NoneShorter};
+ghost use Rattle.audit_channels.specs.Searches.{at_index, HasReached, IsStep, AreWays, IsSearch, Grows, IsLeast, NoneBelow};
+
+use crate::cycle::follows;
+use crate::numbers::has_none;
+use crate::waits::Waits;
+use std::alloc::{AllocError, Global};
+
+/// A cycle of the fewest channels, where one is known; that one, where none is shorter. Marks are shared by the
+/// searches, one from each channel, so that each costs what it reaches.
+pub(crate) fn shortest_cycle(
+    alloc: Global,
+    waits: &Waits,
+    numbers: &[usize],
+    known: Vec<usize>,
+) -> Result<Vec<usize>, AllocError>
+    requires given { AreGiven waits.now numbers.now }
+    requires known { IsCycle waits.now known.items }
+    ensures cycle { IfOk result (λ cycle. IsCycle waits.now cycle.items) }
+    ensures none_shorter { IfOk result (λ cycle. NoneShorter waits.now cycle.items) }
+{
+    let mut shortest = known;
+    let mut marks = vec![in alloc; 0; waits.len()]?;
+    for first in 0..waits.len() {
+        shortest = shorter_from(alloc, waits, numbers, &mut marks, first, shortest)?;
+    }
+    Ok(shortest)
+}
+
+/// The known cycle, or one of fewer channels, where one leads through this channel.
+fn shorter_from(
+    alloc: Global,
+    waits: &Waits,
+    numbers: &[usize],
+    marks: &mut [usize],
+    first: usize,
+    known: Vec<usize>,
+) -> Result<Vec<usize>, AllocError>
+    requires given { AreGiven waits.now numbers.now }
+    requires first { first + 1 < 2 ^ 64 }
+    requires many { length marks.old ≡ length waits.now }
+    requires marks { (c : ℕ) → slice_index_or marks.old c 0 ≤ first }
+    requires known { IsCycle waits.now known.items }
+    ensures many { OnOk result (length marks.new ≡ length waits.now) }
+    ensures marks { OnOk result ((c : ℕ) → slice_index_or marks.new c 0 ≤ first + 1) }
+    ensures cycle { IfOk result (λ cycle. IsCycle waits.now cycle.items) }
+    ensures no_longer { IfOk result (λ cycle. length cycle.items ≤ length known.items) }
+    ensures none { IfOk result (λ cycle. has_none numbers.now first ≡ true → NoneBelow waits.now first (length cycle.items)) }
+{
+    if !has_none(numbers, first) {
+        return Ok(known);
+    }
+    let found = cycle_of(alloc, waits, numbers, marks, first, known.len())?;
+    if found.is_empty() {
+        Ok(known)
+    } else {
+        Ok(found)
+    }
+}
+
+/// A channel that a search reached.
+#[derive(Clone, Copy)]
+pub(crate) struct Visited {
+    channel: usize,
+    /// The index of the channel that it was reached from.
+    from: usize,
+    /// How many channels the way to it has.
+    count: usize,
+}
+
+/// The channels of a shortest cycle from a channel on, where they are fewer than this, or none. Takes a step for each
+/// channel that a way of so few channels leads to, and each that follows that. What is reached is marked with the
+/// channel and one.
+fn cycle_of(
+    alloc: Global,
+    waits: &Waits,
+    numbers: &[usize],
+    marks: &mut [usize],
+    first: usize,
+    least: usize,
+) -> Result<Vec<usize>, AllocError>
+    requires first_fits { first + 1 < 2 ^ 64 }
+    requires given { AreGiven waits.now numbers.now }
+    requires first { has_none numbers.now first ≡ true }
+    requires many { length marks.old ≡ length waits.now }
+    requires marks { (c : ℕ) → slice_index_or marks.old c 0 ≤ first }
+    ensures many { OnOk result (length marks.new ≡ length waits.now) }
+    ensures marks { OnOk result ((c : ℕ) → slice_index_or marks.new c 0 ≤ first + 1) }
+    ensures found { IfOk result (λ found. IsLeast waits.now first least found.items) }
+{
+    let mut reached = Vec::new(alloc);
+    reached.push(Visited {
+        channel: first,
+        from: 0,
+        count: 1,
+    })?;
+    for index in 0..usize::MAX {
+        let Some(here) = in_turn(&reached, index, least) else {
+            return Ok(Vec::new(alloc));
+        };
+        if follows(waits, here.channel, first) {
+            let cycle = way_back(alloc, waits, &reached, index, first)?;
+            return Ok(cycle);
+        }
+        reach_on(
+            waits,
+            numbers,
+            marks,
+            &mut reached,
+            index,
+            here,
+            first,
+            least,
+        )?;
+    }
+    Ok(Vec::new(alloc))
+}
+
+/// What was reached at an index, where a cycle from there would be of fewer channels than this.
+fn in_turn(reached: &[Visited], index: usize, least: usize) -> Option<Visited>
+    ensures some { IfSome result (λ here. (index < length reached.now) × (here ≡ at_index reached.now index) × (here.count < least)) }
+    ensures none { result ≡ None → index < length reached.now → least ≤ (at_index reached.now index).count }
+{
+    let here = *reached.get(index)?;
+    if here.count < least { Some(here) } else { None }
+}
+
+/// Reaches those of the channels that follow one which have no number and no mark of this search, where a cycle from
+/// there would still be of fewer channels than this.
+fn reach_on(
+    waits: &Waits,
+    numbers: &[usize],
+    marks: &mut [usize],
+    reached: &mut Vec<Visited>,
+    index: usize,
+    here: Visited,
+    first: usize,
+    least: usize,
+) -> Result<(), AllocError>
+    requires many { length numbers.now ≡ length waits.now }
+    requires first { first + 1 < 2 ^ 64 }
+    requires count { here.count < least }
+    requires search { IsSearch waits.now first (here.count + 1) reached.old.items marks.old }
+    requires index { index < length reached.old.items }
+    requires here { here ≡ at_index reached.old.items index }
+    ensures search { OnOk result (IsSearch waits.now first (here.count + 1) reached.new.items marks.new) }
+    ensures grows { OnOk result (Grows reached.old.items reached.new.items) }
+    ensures onward { OnOk result (here.count + 1 < least → (c : ℕ) → Follows waits.now here.channel c → has_none numbers.now c ≡ true
+        → HasReached reached.new.items c (here.count + 1)) }
+{
+    if here.count + 1 >= least {
+        return Ok(());
+    }
+    for channel in waits.at(here.channel) {
+        let next = Visited {
+            channel: *channel,
+            from: index,
+            count: here.count + 1,
+        };
+        reach(waits, numbers, marks, reached, next, first)?;
+    }
+    Ok(())
+}
+
+/// Reaches a channel, where it has no number and no mark of this search.
+fn reach(
+    waits: &Waits,
+    numbers: &[usize],
+    marks: &mut [usize],
+    reached: &mut Vec<Visited>,
+    next: Visited,
+    first: usize,
+) -> Result<(), AllocError>
+    requires many { length numbers.now ≡ length waits.now }
+    requires first { first + 1 < 2 ^ 64 }
+    requires search { IsSearch waits.now first next.count reached.old.items marks.old }
+    requires step { IsStep waits.now reached.old.items next (length reached.old.items) }
+    ensures search { OnOk result (IsSearch waits.now first next.count reached.new.items marks.new) }
+    ensures grows { OnOk result (Grows reached.old.items reached.new.items) }
+    ensures onward { OnOk result (has_none numbers.now next.channel ≡ true → HasReached reached.new.items next.channel next.count) }
+{
+    if has_none(numbers, next.channel) && marks[next.channel] != first + 1 {
+        marks[next.channel] = first + 1;
+        reached.push(next)?;
+    }
+    Ok(())
+}
+
+/// The cycle of the way to what was reached at an index, which the first channel follows.
+fn way_back(
+    alloc: Global,
+    waits: &Waits,
+    reached: &[Visited],
+    index: usize,
+    first: usize,
+) -> Result<Vec<usize>, AllocError>
+    requires ways { AreWays waits.now first reached.now }
+    requires index { index < length reached.now }
+    requires back { Follows waits.now (at_index reached.now index).channel first }
+    ensures cycle { IfOk result (λ way. IsCycle waits.now way.items) }
+    ensures count { IfOk result (λ way. length way.items ≡ (at_index reached.now index).count) }
+{
+    let mut way = Vec::new(alloc);
+    let mut at = index;
+    while at > 0 {
+        let here = reached[at];
+        way.insert(0, here.channel)?;
+        at = here.from;
+    }
+    way.insert(0, first)?;
+    Ok(way)
+}

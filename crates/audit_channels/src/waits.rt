@@ -1,0 +1,65 @@
+ghost use Rattle.std.specs.Prelude.{◌≡◌, ◌<◌, [], IfOk, OnOk, length, replicate, slice_index_or};
+ghost use Rattle.audit_channels.specs.Orders.{IsWith, LeadToChannels};
+
+use crate::following::Following;
+use std::alloc::{AllocError, Global};
+use std::marker::Model;
+
+/// For each channel those that follow it: a packet that holds the channel can wait for them. Channels are the
+/// numbers from 0 on.
+#[derive(Drop)]
+pub struct Waits {
+    channels: Vec<Following>,
+}
+
+impl Model for Waits {
+    ghost use Rattle.std.specs.Prelude.{List, ℕ, map};
+    ghost use Rattle.audit_channels.specs.Orders.{LeadToChannels};
+
+    ghost Value = { List (List ℕ) };
+
+    ghost view = { λ a. map (λ x. x.channels.items) a.channels.items };
+
+    ghost invariant = { λ a. LeadToChannels (map (λ x. x.channels.items) a.channels.items) };
+}
+
+impl Waits {
+    /// So many channels, none of which follows another.
+    pub fn new(alloc: Global, count: usize) -> Result<Self, AllocError>
+        ensures { IfOk result (λ waits. waits ≡ replicate count []) }
+    {
+        let mut channels = Vec::with_capacity(alloc, count)?;
+        for _channel in 0..count {
+            channels.push(Following::new(alloc))?;
+        }
+        Ok(Waits { channels })
+    }
+
+    /// How many channels there are.
+    pub fn len(&self) -> usize
+        ensures count { result ≡ length self.now }
+        ensures channels { LeadToChannels self.now }
+    {
+        self.channels.len()
+    }
+
+    /// The channels that follow a channel. Takes one step.
+    pub fn at(&self, channel: usize) -> &[usize]
+        ensures { result.now ≡ slice_index_or self.now channel [] }
+    {
+        match self.channels.get(channel) {
+            Some(following) => following.channels(),
+            None => &[],
+        }
+    }
+
+    /// That one channel follows another. Takes one step where that is known, and else a walk over those that follow it.
+    pub fn add(&mut self, channel: usize, next: usize) -> Result<(), AllocError>
+        requires channel { channel < length self.old }
+        requires next { next < length self.old }
+        ensures { OnOk result (IsWith self.old channel next self.new) }
+    {
+        self.channels[channel].add(next)?;
+        Ok(())
+    }
+}

@@ -1,3 +1,0 @@
-pub mod Fabrics
-pub mod Orders
-pub mod Waiting

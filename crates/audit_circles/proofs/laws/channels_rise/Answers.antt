@@ -1,5 +1,0 @@
-use Rattle.audit_circles.proofs.Fabrics.{channels_rise}
-use Rattle.audit_circles.proofs.laws.channels_rise.Goals as goal
-
-pub returns : goal.returns
-returns c = record { law = channels_rise }

@@ -1,5 +1,0 @@
-use Rattle.audit_circles.proofs.Orders.{never_both}
-use Rattle.audit_circles.proofs.laws.never_both.Goals as goal
-
-pub returns : goal.returns
-returns c = record { law = never_both }

@@ -1,0 +1,124 @@
+-- The sites of end ports, and which of them is that of a port.
+use Rattle.std.proofs.Common.{◌≡◌, ◌<◌, ℕ, zero, suc, List, [], ◌∷◌, refl, sym, ap, subst, ◌∙◌, Bool, true, false, cond, ◌&&◌, ◌||◌, length, get_or, arith}
+use Rattle.std.specs.Prelude.{Contains, Option, None, Some, count_by, find, map}
+use Rattle.std.proofs.lemmas.Bool.{eq-eqb, eqb-true}
+use Rattle.std.proofs.lemmas.List.Sums.{sum_by-cons}
+use Rattle.std.proofs.lemmas.Option.{same_Some}
+use Rattle.smp_bytes.proofs.Members.{contains_here, contains_later, list_all_at}
+use Rattle.subnet_view.specs.declared.end_port.EndPort.{EndPort}
+use Rattle.subnet_view.specs.Reading.{Cells}
+use Rattle.audit.specs.Tables.{is_owner, is_same_end}
+use Rattle.audit.proofs.Judged.{same_ends}
+use Rattle.audit_report.specs.declared.site.Site.{Site}
+use Rattle.audit_channels.specs.Ways.{is_adapter}
+use Rattle.audit_report.specs.Sites.{are_adapters, are_joined, are_joined_adapters, are_one_component, first_root, is_one_root, leads_to, site_of}
+
+module _ (cells : Cells) (port : EndPort) where
+  abbrev at : Site → Bool
+  at site = is_same_end port site.port
+
+  -- the site that is found is that of the port, which is one of these
+  pub site_is : (ports : List EndPort) (site : Site) → find at (map (site_of cells) ports) ≡ Some site → (site ≡ site_of cells port) × (is_owner ports port ≡ true)
+  site_is [] site e = absurd (cc)
+  site_is (x ∷ ports) site e =
+      elim (is_same_end port x) as (λ t. is_same_end port x ≡ t → cond t (Some (site_of cells x)) (find at (map (site_of cells) ports)) ≡ Some site
+      → (site ≡ site_of cells port) × ((t || is_owner ports port) ≡ true)) [
+        | true ↦ λ q k. (sym (same_Some (site_of cells x) site k) ∙ ap (site_of cells) (same_ends port x q), refl)
+        | false ↦ λ q k. site_is ports site k
+      ] refl e
+
+  -- where none is found, it is none of these
+  pub no_site : (ports : List EndPort) → find at (map (site_of cells) ports) ≡ None → is_owner ports port ≡ false
+  no_site [] e = refl
+  no_site (x ∷ ports) e =
+      elim (is_same_end port x) as (λ t. cond t (Some (site_of cells x)) (find at (map (site_of cells) ports)) ≡ None → (t || is_owner ports port) ≡ false) [
+        | true ↦ λ k. absurd (cc)
+        | false ↦ λ k. no_site ports k
+      ] e
+
+-- the site at an index is that of the end port there
+pub site_there : (cells : Cells) (ports : List EndPort) (index : ℕ) (site : Site) (d : EndPort) → index < length ports
+    → site ≡ get_or (map (site_of cells) ports) index site → site ≡ site_of cells (get_or ports index d)
+site_there cells [] index site d h e = absurd (omega arith)
+site_there cells (x ∷ ports) zero site d h e = e
+site_there cells (x ∷ ports) (suc index) site d h e = site_there cells ports index site d (omega arith) e
+
+-- where all lie in one component -----------------------------------------------------------------
+
+found_listed : {X : Type 0} (p : X → Bool) (xs : List X) (x : X) → find p xs ≡ Some x → Contains xs x
+found_listed p [] x e = absurd (cc)
+found_listed p (y ∷ xs) x e =
+    elim (p y) as (λ t. cond t (Some y) (find p xs) ≡ Some x → Contains (y ∷ xs) x) [
+      | true ↦ λ k. subst (λ z. Contains (y ∷ xs) z) (same_Some y x k) (contains_here y xs)
+      | false ↦ λ k. contains_later y x xs (found_listed p xs x k)
+    ] e
+
+pub site_listed : (port : EndPort) (sites : List Site) (site : Site) → find (λ site. is_same_end port site.port) sites ≡ Some site → Contains sites site
+site_listed port sites site e = found_listed (λ (s : Site). is_same_end port s.port) sites site e
+
+one_root : (a b r : Option ℕ) → is_one_root a r ≡ true → is_one_root b r ≡ true → is_one_root a b ≡ true
+one_root None b r h k = absurd (cc)
+one_root (Some x) None r h k = absurd (cc)
+one_root (Some x) (Some y) None h k = absurd (cc)
+one_root (Some x) (Some y) (Some r) h k = eq-eqb x y (eqb-true x r h ∙ sym (eqb-true y r k))
+
+or_true : (a b : Bool) → ((a || true) || b) ≡ true
+or_true true b = refl
+or_true false b = refl
+
+count_all : {X : Type 0} (p : X → Bool) (xs : List X) → ((x : X) → Contains xs x → p x ≡ true) → length xs ≡ count_by p xs
+count_all p [] h = refl
+count_all p (x ∷ xs) h =
+    let rest = count_all p xs (λ y c. h y (contains_later x y xs c)) in
+    let one : ◌≡◌ {A = ℕ} (cond (p x) 1 0) 1 = ap (λ t. cond t 1 0) (h x (contains_here x xs)) in
+    omega (arith, rest, one) ∙ sym (sum_by-cons (λ y. cond (p y) 1 0) x xs)
+
+each_joined : (sites : List Site) (owner : Site) → are_one_component sites ≡ true → Contains sites owner
+    → (site : Site) → Contains sites site → are_joined site owner ≡ true
+each_joined sites owner whole listed site c =
+    let rooted : (site : Site) → Contains sites site → is_one_root site.root (first_root sites) ≡ true =
+    λ site c. list_all_at (λ (s : Site). is_one_root s.root (first_root sites)) sites whole site c in
+    let one = one_root site.root owner.root (first_root sites) (rooted site c) (rooted owner listed) in
+    ap (λ t. (is_same_end site.port owner.port || t) || leads_to site.across owner.port) one ∙ or_true (is_same_end site.port owner.port) (leads_to site.across owner.port)
+
+pub whole_joined : (sites : List Site) (owner : Site) → are_one_component sites ≡ true → Contains sites owner
+    → length sites ≡ count_by (λ site. are_joined site owner) sites
+whole_joined sites owner whole listed = count_all (λ (site : Site). are_joined site owner) sites (each_joined sites owner whole listed)
+
+-- adapter ports among them -----------------------------------------------------------------------
+
+same_counts : {X : Type 0} (p q : X → Bool) (xs : List X) → ((x : X) → Contains xs x → p x ≡ q x) → count_by p xs ≡ count_by q xs
+same_counts p q [] h = refl
+same_counts p q (x ∷ xs) h =
+    let rest = same_counts p q xs (λ y c. h y (contains_later x y xs c)) in
+    let one : ◌≡◌ {A = ℕ} (cond (p x) 1 0) (cond (q x) 1 0) = ap (λ t. cond t 1 0) (h x (contains_here x xs)) in
+    sum_by-cons (λ y. cond (p y) 1 0) x xs ∙ omega (arith, rest, one) ∙ sym (sum_by-cons (λ y. cond (q y) 1 0) x xs)
+
+count_none : {X : Type 0} (p : X → Bool) (xs : List X) → ((x : X) → p x ≡ false) → 0 ≡ count_by p xs
+count_none p [] h = refl
+count_none p (x ∷ xs) h =
+    let rest = count_none p xs h in
+    let one : ◌≡◌ {A = ℕ} (cond (p x) 1 0) 0 = ap (λ t. cond t 1 0) (h x) in
+    omega (arith, rest, one) ∙ sym (sum_by-cons (λ y. cond (p y) 1 0) x xs)
+
+and_true : (a b : Bool) → b ≡ true → (a && b) ≡ a
+and_true true b h = h
+and_true false b h = refl
+
+and_false : (a b : Bool) → b ≡ false → (a && b) ≡ false
+and_false true b h = h
+and_false false b h = refl
+
+-- where the end port is a switch's there are none
+pub none_joined : (sites : List Site) (owner : Site) → is_adapter owner.port ≡ false → 0 ≡ count_by (λ site. are_joined_adapters site owner) sites
+none_joined sites owner other =
+    count_none (λ (site : Site). are_joined_adapters site owner) sites
+    (λ site. and_false (are_joined site owner) (are_adapters site.port owner.port) (and_false (is_adapter site.port) (is_adapter owner.port) other))
+
+pub adapters_joined : (sites : List Site) (owner : Site) → are_one_component sites ≡ true → Contains sites owner → is_adapter owner.port ≡ true
+    → count_by (λ site. is_adapter site.port) sites ≡ count_by (λ site. are_joined_adapters site owner) sites
+adapters_joined sites owner whole listed same =
+    same_counts (λ (site : Site). is_adapter site.port) (λ site. are_joined_adapters site owner) sites
+    (λ site c. (
+    sym (and_true (is_adapter site.port) (is_adapter owner.port) same)
+    ∙ sym (ap (λ t. t && are_adapters site.port owner.port) (each_joined sites owner whole listed site c))))

@@ -1,4 +1,0 @@
-pub mod Figures
-pub mod Groups
-pub mod Tally
-pub mod Ways

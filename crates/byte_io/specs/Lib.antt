@@ -1,0 +1,5 @@
+pub mod Budget
+pub mod Memory
+pub mod Reading
+pub mod Source
+pub mod Writes

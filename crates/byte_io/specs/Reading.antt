@@ -1,0 +1,74 @@
+-- What a reading takes from its source, piece by piece.
+use Rattle.std.specs.Prelude.{◌≡◌, ℕ, ◌+◌, ◌<◌, ◌≤◌, ◌^◌, Bool, false, List, [], Option, Result, Ok, Err, IsTrue, length, take}
+use Rattle.std.specs.Io.KnownBytes.{Consumes, IsAtEnd}
+use Rattle.byte_io.specs.Budget.{IsSpent}
+use Rattle.byte_io.specs.declared.reading.PieceFault.{PieceFault}
+use Rattle.byte_io.specs.declared.reading.PieceFault.TheVariants.{Read, TooLong}
+use Rattle.byte_io.specs.declared.reading.Reading.{Reading}
+
+-- what the source has left, whether it failed and how often it was interrupted, and the bytes and calls of the reading
+pub record ReadingState : Type 0 where
+  pub left : Option (List ℕ)
+  pub has_failed : Bool
+  pub interruptions : ℕ
+  pub bytes : ℕ
+  pub calls : ℕ
+
+abbrev pub state_of : {S : Type 0} → (S → Option (List ℕ)) → (S → Bool) → (S → ℕ) → Reading S → ReadingState
+state_of left has_failed interruptions r = record {
+  left = left r.source.now;
+  has_failed = has_failed r.source.now;
+  interruptions = interruptions r.source.now;
+  bytes = r.budget.bytes;
+  calls = r.budget.calls;
+}
+
+-- these bytes were taken, and no more calls were interrupted than made
+pub record Takes (old new : ReadingState) (taken : List ℕ) : Type 0 where
+  pub consumed : Consumes old.left new.left taken
+  pub counted : new.bytes ≡ old.bytes + length taken
+  pub asked : new.interruptions + old.calls ≤ old.interruptions + new.calls
+
+-- each call took a byte or was interrupted
+pub record EachCallTakes (old new : ReadingState) : Type 0 where
+  pub paid : (new.calls + old.bytes) + old.interruptions ≤ (old.calls + new.bytes) + new.interruptions
+
+-- not all calls were interrupted
+pub record IsAnswered (old new : ReadingState) : Type 0 where
+  pub answered : new.interruptions + old.calls < old.interruptions + new.calls
+
+-- so many bytes stand in the front of the room, or none at the end; the 2^40th byte of a reading comes alone
+pub record GivesPiece (n : ℕ) (old new : ReadingState) (room : List ℕ) : Type 0 where
+  pub within : n ≤ length room
+  pub taken : Takes old new (take n room)
+  pub paid : 0 < n → EachCallTakes old new
+  pub end : n ≡ 0 → IsAtEnd new.left
+  pub below : n ≡ 0 → new.bytes < 2 ^ 40
+  pub alone : new.bytes ≡ 2 ^ 40 → n ≡ 1
+  pub answered : IsAnswered old new
+  pub works : new.has_failed ≡ false
+
+-- the source failed, and no byte was taken
+pub record FailsToGive (old new : ReadingState) : Type 0 where
+  pub taken : Takes old new []
+  pub below : new.bytes < 2 ^ 40
+  pub answered : IsAnswered old new
+  pub failed : IsTrue new.has_failed
+
+-- the reading was spent, and no byte was taken
+pub record IsSpentBefore (old new : ReadingState) : Type 0 where
+  pub taken : Takes old new []
+  pub spent : IsSpent new.bytes new.calls
+  pub each : EachCallTakes old new
+  pub kept : new.has_failed ≡ old.has_failed
+  pub begun : old.bytes < 2 ^ 40 → old.calls < 2 ^ 40 → new.has_failed ≡ false
+
+abbrev pub GivesAt : Result ℕ PieceFault → ReadingState → ReadingState → List ℕ → Type 0
+GivesAt (Ok n) old new room = GivesPiece n old new room
+GivesAt (Err Read) old new room = FailsToGive old new
+GivesAt (Err TooLong) old new room = IsSpentBefore old new
+
+-- what a reading gives in this room, and what becomes of it
+abbrev pub Gives : {S : Type 0} → (S → Option (List ℕ)) → (S → Bool) → (S → ℕ) → Result ℕ PieceFault → Reading S → Reading S → List ℕ → Type 0
+Gives left has_failed interruptions result old new room =
+    GivesAt result (state_of left has_failed interruptions old) (state_of left has_failed interruptions new) room

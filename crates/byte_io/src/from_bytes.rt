@@ -1,0 +1,54 @@
+ghost use Rattle.std.specs.Prelude.{◌≡◌, ◌≤◌, ◌+◌, ◌++◌, ◌↔◌, Err, Ok, Some, false, length, min, take, drop, IfOk, IsTrue};
+ghost use Rattle.std.specs.Io.KnownBytes.{ReadConsumes};
+ghost use Rattle.byte_io.specs.Source.{interruption};
+
+use crate::source::{ReadError, Source};
+use std::marker::Model;
+
+/// A source over bytes in memory. No read fails or is interrupted. Contracts see the bytes that are left.
+#[derive(Drop)]
+pub struct FromBytes<'b> {
+    left: &'b [u8],
+}
+
+impl<'b> Model for FromBytes<'b> {
+    ghost use Rattle.std.specs.Prelude.{ℕ, List};
+
+    ghost Value = { List ℕ };
+
+    ghost view = { λ s. s.left.now };
+}
+
+impl<'b> FromBytes<'b> {
+    pub fn new(bytes: &'b [u8]) -> Self
+        ensures { result ≡ bytes.now }
+    {
+        FromBytes { left: bytes }
+    }
+}
+
+impl<'b> Source for FromBytes<'b> {
+    ghost left = { λ s. Some s };
+
+    ghost has_failed = { λ _. false };
+
+    ghost interruptions = { λ _. 0 };
+
+    /// Gives as many bytes as are left and have room; what stands in `room` behind them stays.
+    fn read(&mut self, room: &mut [u8]) -> Result<usize, ReadError>
+        ensures count { result ≡ Ok (min (length room.old) (length self.old)) }
+        ensures given { room.new ≡ take (length room.old) self.old ++ drop (length self.old) room.old }
+        ensures left { self.new ≡ drop (length room.old) self.old }
+        ensures within { IfOk result (λ n. n ≤ length room.new) }
+        ensures bytes { ReadConsumes (Some self.old) (Some self.new) result room.new }
+        ensures failed { (result ≡ Err ReadError.Failed) ↔ IsTrue false }
+        ensures stays { IsTrue false → IsTrue false }
+        ensures interrupted { 0 ≡ 0 + interruption result }
+    {
+        let count = room.len().min(self.left.len());
+        let (given, left) = self.left.split_at(count);
+        room[..count].copy_from_slice(given);
+        self.left = left;
+        Ok(count)
+    }
+}

@@ -1,0 +1,56 @@
+ghost use Rattle.std.specs.Prelude.{◌≡◌, false};
+
+use crate::interruption::is_interruption;
+use crate::source::{ReadError, Source};
+use std::io::Read;
+
+/// A source over any reader. A failed read is remembered: every later call fails too. No contract of a
+/// reader says when its calls fail, so no clause says of which errors this one does: an `Interrupted` one is
+/// no failure, and each other one is.
+#[derive(Drop)]
+pub struct FromRead<R> {
+    reader: R,
+    has_failed: bool,
+    interruptions: u64,
+}
+
+impl<R: Read> FromRead<R> {
+    pub fn new(reader: R) -> Self
+        ensures left { ⟦<FromRead<R> as Source>⟧.left result ≡ R.remaining reader }
+        ensures has_failed { ⟦<FromRead<R> as Source>⟧.has_failed result ≡ false }
+        ensures interruptions { ⟦<FromRead<R> as Source>⟧.interruptions result ≡ 0 }
+    {
+        FromRead {
+            reader,
+            has_failed: false,
+            interruptions: 0,
+        }
+    }
+}
+
+impl<R: Read> Source for FromRead<R> {
+    ghost left = { λ s. R.remaining s.reader };
+
+    ghost has_failed = { λ s. s.has_failed };
+
+    ghost interruptions = { λ s. s.interruptions };
+
+    /// An interrupted read that can't be counted any more counts as failed.
+    fn read(&mut self, room: &mut [u8]) -> Result<usize, ReadError> {
+        if self.has_failed {
+            return Err(ReadError::Failed);
+        }
+        match self.reader.read(room) {
+            Ok(count) => Ok(count),
+            Err(error) => {
+                if is_interruption(error.kind()) && self.interruptions < u64::MAX {
+                    self.interruptions += 1;
+                    Err(ReadError::Interrupted)
+                } else {
+                    self.has_failed = true;
+                    Err(ReadError::Failed)
+                }
+            }
+        }
+    }
+}

@@ -1,0 +1,84 @@
+ghost use Rattle.std.specs.Prelude.{◌≡◌, ◌<◌, ◌≤◌, ◌+◌, ◌↔◌, length, take, IfOk, OnErr, IsTrue};
+ghost use Rattle.std.specs.Io.KnownBytes.{Consumes, IsAtEnd, Keeps};
+ghost use Rattle.byte_io.specs.Source.{interruption};
+
+use crate::budget::Budget;
+use crate::source::{ReadError, Source};
+
+/// Why a reading gave nothing though the source isn't at its end.
+#[derive(Clone, Copy)]
+pub enum PieceFault {
+    Read,
+    TooLong,
+}
+
+/// A source that is read from, and what one reading may still take from it.
+#[derive(Drop)]
+pub struct Reading<'s, S> {
+    source: &'s mut S,
+    budget: Budget,
+}
+
+impl<'s, S: Source> Reading<'s, S> {
+    ghost use Rattle.byte_io.specs.Budget.{IsSpent};
+    ghost use Rattle.byte_io.specs.Reading.{Gives};
+
+    pub fn new(source: &'s mut S) -> Self
+        ensures same_source { result.source.ghost_name ≡ source.entry.ghost_name }
+        ensures source { result.source.now ≡ source.old }
+        ensures bytes { result.budget.bytes ≡ 0 }
+        ensures calls { result.budget.calls ≡ 0 }
+    {
+        Reading {
+            source,
+            budget: Budget::new(),
+        }
+    }
+
+    /// No call may be made any more.
+    pub fn is_spent(&self) -> bool
+        ensures { IsTrue result ↔ IsSpent self.now.budget.bytes self.now.budget.calls }
+    {
+        self.budget.is_spent()
+    }
+
+    /// What the next call gives that isn't interrupted, in the front of the room: at the end no
+    /// byte.
+    pub fn piece(&mut self, room: &mut [u8]) -> Result<usize, PieceFault>
+        requires some { 0 < length room.old }
+        ensures same_source { self.new.source.ghost_name ≡ self.old.source.ghost_name }
+        ensures gives { Gives S.left S.has_failed S.interruptions result
+            self.old self.new room.new }
+    {
+        while !self.budget.is_spent() {
+            let most = self.budget.share(room.len());
+            self.budget.calls += 1;
+            match read_front(self.source, room, most) {
+                Ok(count) => {
+                    self.budget.bytes += count as u64;
+                    return Ok(count);
+                }
+                Err(ReadError::Interrupted) => {}
+                Err(ReadError::Failed) => return Err(PieceFault::Read),
+            }
+        }
+        Err(PieceFault::TooLong)
+    }
+}
+
+/// One call, which reads at most so many bytes into the front of the room.
+fn read_front<S: Source>(source: &mut S, room: &mut [u8], most: usize) -> Result<usize, ReadError>
+    requires { most ≤ length room.old }
+    ensures within { IfOk result (λ n. n ≤ most) }
+    ensures bytes { IfOk result (λ n.
+        Consumes (S.left source.old) (S.left source.new) (take n room.new)) }
+    ensures room { length room.new ≡ length room.old }
+    ensures end { IfOk result (λ n. n ≡ 0 → 0 < most → IsAtEnd (S.left source.new)) }
+    ensures err { OnErr result (Keeps (S.left source.old) (S.left source.new)) }
+    ensures failed { (result ≡ Err ReadError.Failed) ↔ IsTrue (S.has_failed source.new) }
+    ensures stays { IsTrue (S.has_failed source.old) → IsTrue (S.has_failed source.new) }
+    ensures interrupted { S.interruptions source.new
+        ≡ S.interruptions source.old + interruption result }
+{
+    source.read(&mut room[..most])
+}

@@ -1,0 +1,38 @@
+ghost use Rattle.std.specs.Prelude.{◌≡◌, ◌↔◌, ℕ, Bool, true, false, List, [], Option, OnOk, IsErr, IsTrue};
+ghost use Rattle.byte_io.specs.Writes.{Writes};
+
+use thiserror::Error;
+
+/// Why bytes weren't written.
+#[derive(Clone, Copy, Debug, PartialEq, Eq, Error)]
+pub enum WriteFault {
+    /// The sink failed, and so does each later call.
+    #[error("write failed")]
+    Write,
+}
+
+/// What bytes are written to.
+pub trait Sink {
+    ghost use Rattle.std.specs.Io.KnownBytes.{Appends, Keeps};
+
+    // The bytes that it holds, where they are known.
+    ghost written: { Self → Option (List ℕ) };
+
+    // A call has failed, and so does each later one.
+    ghost has_failed: { Self → Bool };
+
+    // Nothing was written since the last flush, so nothing is held back.
+    ghost is_flushed: { Self → Bool };
+
+    /// Writes all of the bytes, or fails. How much of them went out before a failure isn't said.
+    fn write(&mut self, bytes: &[u8]) -> Result<(), WriteFault>
+        ensures writes { Writes written has_failed result self.old self.new bytes.now }
+        ensures stays { IsTrue (has_failed self.old) → IsTrue (has_failed self.new) }
+        ensures held_back { OnOk result (is_flushed self.new ≡ false) };
+
+    /// Passes on what is held back.
+    fn flush(&mut self) -> Result<(), WriteFault>
+        ensures writes { Writes written has_failed result self.old self.new [] }
+        ensures stays { IsTrue (has_failed self.old) → IsTrue (has_failed self.new) }
+        ensures flushed { OnOk result (IsTrue (is_flushed self.new)) };
+}

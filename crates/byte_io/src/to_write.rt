@@ -1,0 +1,102 @@
+ghost use Rattle.std.specs.Prelude.{◌≡◌, false, OnOk};
+ghost use Rattle.std.specs.Io.KnownBytes.{Appends, Keeps};
+
+use crate::interruption::is_interruption;
+use crate::sink::{Sink, WriteFault};
+use std::io::Write;
+
+/// As many interrupted tries of one call count as a failure.
+const MOST_INTERRUPTIONS: u64 = 1 << 40;
+
+/// A sink over any writer. A failed write is remembered: every later call fails too. No contract of a
+/// writer says when its calls fail, so no clause says of which errors this one does: an `Interrupted` call is
+/// made again, and each other error is a failure.
+#[derive(Drop)]
+pub struct ToWrite<W> {
+    writer: W,
+    has_failed: bool,
+    is_flushed: bool,
+}
+
+impl<W: Write> ToWrite<W> {
+    /// The writer may hold bytes back already, so the first flush is passed on.
+    pub fn new(writer: W) -> Self
+        ensures written { ⟦<ToWrite<W> as Sink>⟧.written result ≡ W.contents writer }
+        ensures has_failed { ⟦<ToWrite<W> as Sink>⟧.has_failed result ≡ false }
+        ensures is_flushed { ⟦<ToWrite<W> as Sink>⟧.is_flushed result ≡ false }
+    {
+        ToWrite {
+            writer,
+            has_failed: false,
+            is_flushed: false,
+        }
+    }
+}
+
+impl<W: Write> Sink for ToWrite<W> {
+    ghost written = { λ s. W.contents s.writer };
+
+    ghost has_failed = { λ s. s.has_failed };
+
+    ghost is_flushed = { λ s. s.is_flushed };
+
+    /// A write that takes no byte, or the 2^40th interrupted one of a call, counts as failed.
+    fn write(&mut self, bytes: &[u8]) -> Result<(), WriteFault> {
+        if self.has_failed {
+            return Err(WriteFault::Write);
+        }
+        self.is_flushed = false;
+        let outcome = write_all(&mut self.writer, bytes);
+        self.has_failed = outcome.is_err();
+        outcome
+    }
+
+    /// The 2^40th interrupted try of a call counts as failed.
+    fn flush(&mut self) -> Result<(), WriteFault> {
+        if self.has_failed {
+            return Err(WriteFault::Write);
+        }
+        let outcome = flush_all(&mut self.writer);
+        self.has_failed = outcome.is_err();
+        self.is_flushed = outcome.is_ok();
+        outcome
+    }
+}
+
+/// Writes all of the bytes, and asks again after an interrupted write.
+fn write_all<W: Write>(writer: &mut W, bytes: &[u8]) -> Result<(), WriteFault>
+    ensures { OnOk result (Appends (W.contents writer.old) (W.contents writer.new) bytes.now) }
+{
+    let mut rest = bytes;
+    let mut tries_left = MOST_INTERRUPTIONS;
+    while !rest.is_empty() {
+        match writer.write(rest) {
+            Ok(0) => return Err(WriteFault::Write),
+            Ok(count) => rest = &rest[count..],
+            Err(error) => {
+                tries_left -= 1;
+                if !is_interruption(error.kind()) || tries_left == 0 {
+                    return Err(WriteFault::Write);
+                }
+            }
+        }
+    }
+    Ok(())
+}
+
+/// Passes on what the writer holds back, and asks again after an interrupted try.
+fn flush_all<W: Write>(writer: &mut W) -> Result<(), WriteFault>
+    ensures { OnOk result (Keeps (W.contents writer.old) (W.contents writer.new)) }
+{
+    for _ in 0..MOST_INTERRUPTIONS {
+        match writer.flush() {
+            Ok(()) => return Ok(()),
+            Err(error) => {
+                if !is_interruption(error.kind()) {
+                    return Err(WriteFault::Write);
+                }
+            }
+        }
+    }
+    Err(WriteFault::Write)
+}

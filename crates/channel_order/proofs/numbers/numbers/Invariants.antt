@@ -1,8 +1,0 @@
-use Rattle.channel_order.proofs.Given.{SoFar}
-use Rattle.channel_order.proofs.numbers.numbers.Given as goal
-
-abbrev pub invariant-loop-left : goal.invariant-loop-left
-invariant-loop-left l = SoFar l.waits l.numbers.items l.left
-
-abbrev pub decreases-loop-left : goal.decreases-loop-left
-decreases-loop-left l = l.left

@@ -1,6 +1,0 @@
-use Rattle.std.proofs.Common.{subst}
-use Rattle.channel_order.specs.Orders.{LeadToChannels}
-use Rattle.channel_order.proofs.waits.Waits.len.Goals as goal
-
-pub returns-clause-channels : goal.returns-clause-channels
-returns-clause-channels c = subst LeadToChannels c.self.view_is c.self.invariant

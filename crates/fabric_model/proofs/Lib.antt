@@ -1,0 +1,4 @@
+pub mod Cabled
+pub mod DirectedWalks
+pub mod FabricWalks
+pub mod Forwarded

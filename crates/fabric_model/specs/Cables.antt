@@ -1,0 +1,31 @@
+-- Cables: which port is at the other end of the cable in a port.
+use Rattle.std.specs.Prelude.{◌≡◌, ℕ, ◌≤◌, Bool, ◌&&◌, ◌||◌, List, [], ◌∷◌, ◌==◌, if◌then◌else◌, Option, Some, None, count_by}
+use Rattle.fabric_model.specs.declared.cable.NodePort.{NodePort}
+use Rattle.fabric_model.specs.declared.cable.Cable.{Cable}
+
+abbrev pub is_same_port : NodePort → NodePort → Bool
+is_same_port a b = a.node == b.node && a.port == b.port
+
+-- the port at the other end of the cable in a port; that port itself, for a loop
+abbrev pub other_end : List Cable → NodePort → Option NodePort
+other_end [] p = None
+other_end (c ∷ cables) p =
+    if is_same_port c.one p then Some c.other
+    else if is_same_port c.other p then Some c.one
+    else other_end cables p
+
+-- the cable has an end in the port
+abbrev pub is_cable_in : NodePort → Cable → Bool
+is_cable_in p c = is_same_port c.one p || is_same_port c.other p
+
+-- how many cables have an end in a port
+abbrev pub cables_in : NodePort → List Cable → ℕ
+cables_in p cables = count_by (is_cable_in p) cables
+
+-- at most one cable is in each port
+abbrev pub IsOneCableAPort : List Cable → Type 0
+IsOneCableAPort cables = (p : NodePort) → cables_in p cables ≤ 1
+
+-- a cable leads back to where it leads from
+abbrev pub CablesLeadBack : Type 0
+CablesLeadBack = (cables : List Cable) (p q : NodePort) → IsOneCableAPort cables → other_end cables p ≡ Some q → other_end cables q ≡ Some p

@@ -1,0 +1,35 @@
+-- Which ports of a fabric are joined: the wires between them, and walks over wires.
+-- InfiniBand Architecture Specification, Volume 1: architectural overview, topology: channel adapters and switches joined by links.
+use Rattle.std.specs.Prelude.{◌≡◌, ◌≢◌, ◌⊎◌, ℕ, zero, suc, Some, IsTrue, if◌then◌else◌}
+use Rattle.fabric_model.specs.declared.cable.NodePort.{NodePort}
+use Rattle.fabric_model.specs.Fabric.{Fabric, IsEndPort, is_switch_at}
+
+-- a cable between two different ports
+pub record IsWire (f : Fabric) (p q : NodePort) : Type 0 where
+  pub cable : f.across p ≡ Some q
+  pub different : p ≢ q
+
+-- a switch is one vertex, named by its port 0, and each adapter port is one
+abbrev pub vertex_of : Fabric → NodePort → NodePort
+vertex_of f p = if is_switch_at f p.node then record { node = p.node; port = 0 } else p
+
+-- two vertices with a wire between their ports
+pub record AreNeighbors (f : Fabric) (a b : NodePort) : Type 0 where
+  pub out : NodePort
+  pub into : NodePort
+  pub wire : IsWire f out into
+  pub of_one : vertex_of f out ≡ a
+  pub of_other : vertex_of f into ≡ b
+
+-- a walk of so many wires from one vertex to another, with switches between them
+abbrev pub Walk : Fabric → NodePort → NodePort → ℕ → Type 0
+Walk f a b zero = a ≡ b
+Walk f a b (suc n) = (c : NodePort) × AreNeighbors f a c × ((n ≡ 0) ⊎ IsTrue (is_switch_at f c.node)) × Walk f c b n
+
+-- some walk leads from the one vertex to the other
+abbrev pub IsJoinedTo : Fabric → NodePort → NodePort → Type 0
+IsJoinedTo f a b = (n : ℕ) × Walk f a b n
+
+-- each end port is joined to each other
+abbrev pub IsConnected : Fabric → Type 0
+IsConnected f = (a b : NodePort) → IsEndPort f a → IsEndPort f b → IsJoinedTo f a b

@@ -1,0 +1,31 @@
+ghost use Rattle.std.specs.Prelude.{◌≡◌};
+
+use std::marker::Model;
+
+/// A node of a fabric, by its number among the fabric's nodes, from 0. It says nothing of another fabric.
+#[derive(Clone, Copy, Debug, PartialEq, Eq, PartialOrd, Ord)]
+pub struct NodeId(usize);
+
+impl Model for NodeId {
+    ghost use Rattle.std.specs.Prelude.{ℕ};
+
+    ghost Value = { ℕ };
+
+    ghost view = { λ a. a.0 };
+
+    ghost inverse = { λ n. record { 0 = n } };
+}
+
+impl NodeId {
+    pub const fn new(number: usize) -> Self
+        ensures { result ≡ number }
+    {
+        NodeId(number)
+    }
+
+    pub const fn number(self) -> usize
+        ensures { result ≡ self }
+    {
+        self.0
+    }
+}

@@ -1,0 +1,47 @@
+ghost use Rattle.std.specs.Prelude.{◌≡◌};
+ghost use Rattle.fabric_sim.specs.Changes.{addressed, after_inject};
+ghost use Rattle.fabric_sim.specs.Delivery.{ComesTo};
+
+use crate::fabric::Fabric;
+use crate::fault::FabricFault;
+use crate::flight::Whereabouts;
+use crate::packet::Packet;
+use fabric_model::NodePort;
+
+/// The offset of MgmtClass in a packet, and its value where switches forward the packet by LIDs.
+const MGMT_CLASS: usize = 1;
+
+const LID_ROUTED: u8 = 0x01;
+
+impl Fabric {
+    /// Sends a packet from a seat, and gives its serial number. The SLID of a packet that switches forward by LIDs is
+    /// the LID of the port.
+    ///
+    /// # Errors
+    ///
+    /// `NoSuchPort` where no manager sits there, `SerialsSpent`, and `Memory`.
+    #[tactic(auto, unfolding(crate::specs::Changes::after_inject))]
+    pub fn inject(&mut self, from: NodePort, packet: Packet) -> Result<u64, FabricFault>
+        ensures { ComesTo result self.old self.new (after_inject self.old from packet) }
+    {
+        if !self.is_seat(&from) {
+            return Err(FabricFault::NoSuchPort);
+        }
+        let packet = self.addressed(&from, packet);
+        self.enqueue(Whereabouts::Seat(from), packet)
+    }
+
+    /// The packet with the LID of its port, where switches forward it by LIDs.
+    fn addressed(&self, from: &NodePort, packet: Packet) -> Packet
+        ensures { result ≡ addressed self.now from.now packet }
+    {
+        if packet.bytes[MGMT_CLASS] == LID_ROUTED {
+            Packet {
+                slid: self.base_lid(from),
+                ..packet
+            }
+        } else {
+            packet
+        }
+    }
+}

@@ -1,0 +1,30 @@
+ghost use Rattle.std.specs.Prelude.{◌≡◌};
+ghost use Rattle.fabric_sim.specs.Simulation.{is_cable_port};
+ghost use Rattle.fabric_sim.specs.Changes.{after_seat};
+
+use crate::fabric::Fabric;
+use crate::fault::FabricFault;
+use fabric_model::NodePort;
+
+impl Fabric {
+    /// Lets a subnet manager sit at a port of an adapter, and sets IsSM there. Takes no memory.
+    ///
+    /// # Errors
+    ///
+    /// `NoSuchPort`, also at a switch, and `PortTaken` where a manager sits there.
+    #[tactic(auto, using(crate::proofs::AgentLists::within_agents), unfolding(crate::specs::Changes::after_seat))]
+    pub fn seat(&mut self, at: NodePort) -> Result<(), FabricFault>
+        ensures fabric { self.new ≡ (after_seat self.old at).fabric }
+        ensures result { result ≡ (after_seat self.old at).result }
+    {
+        if self.is_switch_at(at.node) || !self.is_cable_port(&at) {
+            return Err(FabricFault::NoSuchPort);
+        }
+        if self.is_seat(&at) {
+            return Err(FabricFault::PortTaken);
+        }
+        let agent = &mut self.agents[at.node.number()];
+        agent.set_seat(at.port);
+        Ok(())
+    }
+}

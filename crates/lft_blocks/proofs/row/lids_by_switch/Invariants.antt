@@ -1,7 +1,0 @@
-use Rattle.std.proofs.Common.{map}
-use Rattle.lft_blocks.specs.Rows.{AreLidsAt}
-use Rattle.lft_blocks.proofs.row.lids_by_switch.Given as goal
-
--- the LIDs so far
-abbrev pub invariant-loop-lid : goal.invariant-loop-lid
-invariant-loop-lid l = AreLidsAt l.homes l.lid l.switches (map (λ lids. lids.items) l.lists.items)

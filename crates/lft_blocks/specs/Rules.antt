@@ -1,0 +1,39 @@
+-- The rules that can be asked for, on the wires of a view.
+use Rattle.std.specs.Prelude.{◌≡◌, ℕ, List, Option, None, Some}
+use Rattle.fact_store.specs.View.{Facts, cells_of}
+use Rattle.subnet_view.specs.Reading.{Cells}
+use Rattle.updown_routes.specs.Graph.{graph_of}
+use Rattle.updown_routes.specs.Routing.{Routing, IsRouting, updown}
+use Rattle.lft_blocks.specs.declared.rule.Rule.{Rule}
+use Rattle.lft_blocks.specs.declared.rule.Rule.TheVariants.{UpDown, Spread}
+use Rattle.spread_routes.specs.LeafSwitches.{leaf_switches_of}
+use Rattle.spread_routes.specs.Spread.{spread_by}
+
+-- a rule by its roots: None is up and down, and has none; Some is to spread, by these roots, of which there may be none
+abbrev pub RuleValue : Type 0
+RuleValue = Option (List ℕ)
+
+abbrev pub up_and_down : RuleValue
+up_and_down = None
+
+abbrev pub value_of : Rule → RuleValue
+value_of UpDown = None
+value_of (Spread roots) = Some roots.items
+
+-- what such a rule makes of the wires of a view
+abbrev pub routing_by : RuleValue → Cells → Routing
+routing_by None cells = updown (graph_of cells)
+routing_by (Some roots) cells = spread_by (graph_of cells) (leaf_switches_of cells) roots
+
+-- what a rule does
+abbrev pub rule_of : Rule → Cells → Routing
+rule_of rule cells = routing_by (value_of rule) cells
+
+-- each is a rule of routing
+abbrev pub RulesAreRoutings : Type 0
+RulesAreRoutings = (rule : RuleValue) (facts : Facts) → IsRouting (graph_of (cells_of facts)) (routing_by rule (cells_of facts))
+
+-- of a view they hang on the wires between switches, and on the leaf switches
+abbrev pub RulesStay : Type 0
+RulesStay = (rule : RuleValue) (x y : Facts) → graph_of (cells_of x) ≡ graph_of (cells_of y) → leaf_switches_of (cells_of x) ≡ leaf_switches_of (cells_of y)
+    → routing_by rule (cells_of x) ≡ routing_by rule (cells_of y)

@@ -1,0 +1,73 @@
+ghost use Rattle.std.specs.Prelude.{◌≡◌, ◌*◌, ◌≤◌, IfOk, length};
+ghost use Rattle.fact_store.specs.View.{cells_of};
+ghost use Rattle.std.specs.List.Sorted.{IsStrictlyIncreasing};
+ghost use Rattle.subnet_view.specs.Reading.{switches};
+ghost use Rattle.lid_assign.specs.Lids.{top_of};
+ghost use Rattle.updown_routes.specs.Wiring.{IsIndexIn};
+ghost use Rattle.lft_blocks.specs.Entries.{attachment_of, attachment_of_lid, block_count};
+ghost use Rattle.lft_blocks.specs.Attachments.{IsIndexed, AreIndexed};
+
+use lid_assign::LidMap;
+use smp_bytes::{Guid, Lid, PortNum};
+use std::alloc::{AllocError, Global};
+use subnet_view::{EndPort, Wires, is_usable};
+
+/// Where an end port lies.
+#[derive(Clone, Copy)]
+pub(crate) struct Attachment {
+    /// The index of a switch among the usable ones, by rising GUID.
+    pub(crate) switch: usize,
+    /// The port of it.
+    pub(crate) port: PortNum,
+}
+
+/// The attachment of each LID that has an entry in one of so many blocks, at the LID.
+pub(crate) fn attachments(
+    alloc: Global,
+    wires: &Wires,
+    guids: &[Guid],
+    lids: &LidMap,
+    count: usize,
+) -> Result<Vec<Option<Attachment>>, AllocError>
+    requires switches { guids.now ≡ switches (cells_of wires.now) }
+    requires count { count ≡ block_count (top_of lids.now) }
+    requires few { count ≤ 1024 }
+    ensures indexed { IfOk result (λ attachments.
+        AreIndexed guids.now (attachment_of_lid (cells_of wires.now) lids.now) attachments.items) }
+    ensures all { IfOk result (λ attachments. length attachments.items ≡ 64 * count) }
+{
+    let mut attachments = Vec::with_capacity(alloc, 64 * count)?;
+    for lid in 0..64 * count {
+        attachments.push(attachment_of_lid(wires, guids, lids, Lid::new(lid as u16)))?;
+    }
+    Ok(attachments)
+}
+
+/// The attachment of a LID. Takes some six searches.
+fn attachment_of_lid(wires: &Wires, guids: &[Guid], lids: &LidMap, lid: Lid) -> Option<Attachment>
+    requires { guids.now ≡ switches (cells_of wires.now) }
+    ensures { IsIndexed guids.now (attachment_of_lid (cells_of wires.now) lids.now lid) result }
+{
+    let (guid, port) = attachment_of(wires, lids.owner(lid)?)?;
+    let switch = index_of(guids, guid)?;
+    Some(Attachment { switch, port })
+}
+
+/// The usable switch and the port of it at which an end port lies.
+fn attachment_of(wires: &Wires, port: EndPort) -> Option<(Guid, PortNum)>
+    ensures { result ≡ attachment_of (cells_of wires.now) port }
+{
+    if is_usable(wires.store(), port.node) {
+        Some((port.node, PortNum::new(0)))
+    } else {
+        wires.attached(port.node, port.port)
+    }
+}
+
+/// The index of a GUID among GUIDs that rise. A search.
+pub(crate) fn index_of(guids: &[Guid], guid: Guid) -> Option<usize>
+    requires { IsStrictlyIncreasing guids.now }
+    ensures { IsIndexIn guids.now guid result }
+{
+    guids.binary_search(&guid).ok()
+}

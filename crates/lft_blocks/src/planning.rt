@@ -1,0 +1,61 @@
+ghost use Rattle.std.specs.Prelude.{◌≡◌, IfOk};
+ghost use Rattle.fact_store.specs.View.{cells_of};
+ghost use Rattle.smp_bytes.specs.Judges.{JudgesButFor};
+ghost use Rattle.lid_assign.specs.LidFault.{is_memory, lid_fault, no_room};
+ghost use Rattle.lft_blocks.specs.Arrival.{EveryPacketArrives};
+ghost use Rattle.lft_blocks.specs.Plan.{plan_of};
+ghost use Rattle.lft_blocks.specs.Rules.{value_of};
+
+use crate::{Plan, PlanFault, Rule};
+use attr_codec::Lmc;
+use fact_store::Store;
+use std::alloc::{AllocError, Global};
+use std::marker::Model;
+
+/// How a manager plans. Managers of one subnet plan alike.
+#[derive(Drop)]
+pub struct Planning {
+    /// An adapter port has 2^LMC LIDs.
+    pub lmc: Lmc,
+    /// How packets are led between switches.
+    pub rule: Rule,
+}
+
+impl Model for Planning {
+    ghost use Rattle.lft_blocks.specs.Rules.{value_of};
+    ghost use Rattle.lft_blocks.specs.Planning.{Planning, planning_code};
+
+    ghost Value = { Planning };
+
+    ghost coded = { planning_code };
+
+    ghost view = { λ a. record { lmc = a.lmc; rule = value_of a.rule } };
+}
+
+impl Planning {
+    /// By an LMC and a rule of routing.
+    pub fn new(lmc: Lmc, rule: Rule) -> Self
+        ensures { result ≡ record { lmc = lmc; rule = value_of rule } }
+    {
+        Planning { lmc, rule }
+    }
+
+    /// The same once more. Takes a step for each root of the rule.
+    pub fn try_clone(&self, alloc: Global) -> Result<Self, AllocError>
+        ensures { IfOk result (λ planning. planning ≡ self.now) }
+    {
+        Ok(Planning {
+            lmc: self.lmc,
+            rule: self.rule.try_clone(alloc)?,
+        })
+    }
+
+    /// The plan of what a store holds.
+    pub fn plan(&self, alloc: Global, store: &Store) -> Result<Plan, PlanFault>
+        ensures judged { JudgesButFor is_memory result (lid_fault (no_room self.now.lmc (cells_of store.now))) }
+        ensures plan { IfOk result (λ plan. plan ≡ plan_of self.now.rule self.now.lmc (cells_of store.now)) }
+        ensures arrives { IfOk result (λ plan. EveryPacketArrives self.now.rule (cells_of store.now) plan) }
+    {
+        Plan::of(alloc, store, self.lmc, &self.rule)
+    }
+}

@@ -1,0 +1,76 @@
+ghost use Rattle.std.specs.Prelude.{◌≡◌, ◌<◌, ◌≤◌, length, map, unwrap_or, IfOk};
+ghost use Rattle.std.specs.List.{range_with_len};
+ghost use Rattle.updown_routes.specs.Ports.{next_port_at};
+ghost use Rattle.lft_blocks.specs.Attachments.{AreWithin, row_of, table_in};
+
+use crate::attachment::Attachment;
+use crate::block::{NO_WAY, blocks};
+use crate::table::Table;
+use smp_bytes::Guid;
+use std::alloc::{AllocError, Global};
+use updown_routes::Routes;
+
+/// The table of each switch. Each entry takes two steps.
+pub(crate) fn tables(
+    alloc: Global,
+    routes: &Routes,
+    attachments: &[Option<Attachment>],
+    guids: &[Guid],
+    count: usize,
+) -> Result<Vec<Table>, AllocError>
+    requires within { AreWithin (length guids.now) attachments.now }
+    requires few { count ≤ 1024 }
+    ensures { IfOk result (λ tables. tables.items
+        ≡ map (table_in attachments.now routes.now guids.now count)
+        (range_with_len 0 (length guids.now))) }
+{
+    let mut tables = Vec::with_capacity(alloc, guids.len())?;
+    for own in 0..guids.len() {
+        tables.push(table_at(alloc, routes, attachments, guids, count, own)?)?;
+    }
+    Ok(tables)
+}
+
+/// The table of the switch at the index `own`.
+fn table_at(
+    alloc: Global,
+    routes: &Routes,
+    attachments: &[Option<Attachment>],
+    guids: &[Guid],
+    count: usize,
+    own: usize,
+) -> Result<Table, AllocError>
+    requires within { AreWithin (length guids.now) attachments.now }
+    requires few { count ≤ 1024 }
+    requires own { own < length guids.now }
+    ensures { IfOk result (λ table.
+        table ≡ table_in attachments.now routes.now guids.now count own) }
+{
+    let row = row(alloc, routes, own, guids.len())?;
+    let blocks = blocks(alloc, attachments, &row, own, count)?;
+    Ok(Table {
+        guid: guids[own],
+        blocks,
+    })
+}
+
+/// The next port from the switch at the index `own` towards each of so many, and 255 where there is no way.
+fn row(alloc: Global, routes: &Routes, own: usize, len: usize) -> Result<Vec<u8>, AllocError>
+    ensures { IfOk result (λ row. row.items ≡ row_of routes.now own len) }
+{
+    let mut row = Vec::with_capacity(alloc, len)?;
+    for to in 0..len {
+        row.push(port_towards(routes, own, to))?;
+    }
+    Ok(row)
+}
+
+/// The next port, and 255 where there is no way.
+fn port_towards(routes: &Routes, own: usize, to: usize) -> u8
+    ensures { result ≡ unwrap_or (next_port_at routes.now own to) 255 }
+{
+    match routes.next_port_at(own, to) {
+        Some(port) => port.number(),
+        None => NO_WAY,
+    }
+}

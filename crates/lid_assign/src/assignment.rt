@@ -1,0 +1,64 @@
+ghost use Rattle.std.specs.Prelude.{◌≡◌, IfOk, unwrap_or};
+ghost use Rattle.lid_assign.specs.declared.fault.LidFault.TheVariants.{Memory};
+ghost use Rattle.fact_store.specs.View.{cells_of};
+ghost use Rattle.lid_assign.specs.Lids.{lids, handed_out};
+ghost use Rattle.lid_assign.specs.LidFault.{is_memory, lid_fault, no_room};
+ghost use Rattle.lid_assign.specs.Marks.{IsFound};
+ghost use Rattle.smp_bytes.specs.Judges.{JudgesButFor};
+
+use crate::fault::LidFault;
+use crate::hand_out::hand_out;
+use crate::keep_claims::keep_claims;
+use crate::lid_map::LidMap;
+use crate::room::{no_room, room, room_and_end_ports};
+use attr_codec::Lmc;
+use fact_store::Store;
+use smp_bytes::Lid;
+use std::alloc::Global;
+use subnet_view::{EndPort, end_ports};
+
+/// A LID for each end port of the view: a switch has that number, and an adapter's port has 2^LMC from it on,
+/// its range. It begins at a multiple of its width, and not at 0, and ends below the room of every usable
+/// switch's table. An end port keeps its claim where that range fits so, and meets none that fits and that an
+/// earlier end port claims; each other one in turn takes the least number whose range is open. Walks the cells
+/// twice, and takes a search for each end port.
+///
+/// # Errors
+///
+/// `NoRoom` where an end port finds no LID, and `Memory` where each would find one.
+pub fn assign(alloc: Global, store: &Store, lmc: Lmc) -> Result<LidMap, LidFault>
+    ensures judged { JudgesButFor is_memory result (lid_fault (no_room lmc (cells_of store.now))) }
+    ensures lids { IfOk result (λ map. map ≡ lids lmc (cells_of store.now)) }
+{
+    match handed_out(alloc, store, lmc) {
+        Ok(Some(given)) => Ok(LidMap::new(alloc, lmc, given)?),
+        Ok(None) => Err(LidFault::NoRoom(room_and_end_ports(store))),
+        Err(_) => Err(out_of_memory(store, lmc)),
+    }
+}
+
+/// What is answered where memory is refused before the LIDs are known.
+fn out_of_memory(store: &Store, lmc: Lmc) -> LidFault
+    ensures { result ≡ unwrap_or (lid_fault (no_room lmc (cells_of store.now))) Memory }
+{
+    match no_room(store, lmc) {
+        Some(no_room) => LidFault::NoRoom(no_room),
+        None => LidFault::Memory,
+    }
+}
+
+/// The end ports in their order, each with its LID. None where one of them finds none.
+fn handed_out(
+    alloc: Global,
+    store: &Store,
+    lmc: Lmc,
+) -> Result<Option<Vec<(EndPort, Lid)>>, LidFault>
+    ensures { IfOk result (IsFound (λ given. given.items) (handed_out lmc (cells_of store.now))) }
+{
+    let ports = end_ports(alloc, store)?;
+    let room = usize::from(room(store));
+    let mut claimed = vec![in alloc; false; room]?;
+    let mut taken = vec![in alloc; false; room]?;
+    let keepers = keep_claims(alloc, store, lmc, &ports, &mut claimed, &mut taken)?;
+    Ok(hand_out(alloc, lmc, &keepers, &mut taken)?)
+}

@@ -1,0 +1,69 @@
+//! Whether LIDs run out, told without memory: each next end port is sought among all cells.
+ghost use Rattle.std.specs.Prelude.{◌≡◌, ◌≤◌, false, replicate};
+ghost use Rattle.std.specs.List.{filter_map};
+ghost use Rattle.fact_store.specs.View.{cells_of};
+ghost use Rattle.lid_assign.specs.Lids.{is_no_room, kept, kept_range, room};
+ghost use Rattle.lid_assign.specs.Marks.{AreTaken};
+
+use crate::hand_out::{first, take};
+use crate::keep_claims::{claims_first, keep};
+use crate::lid_marks::width;
+use crate::room::room;
+use attr_codec::Lmc;
+use fact_store::Store;
+use subnet_view::{claim, next_end_port};
+
+/// How many numbers are below the first that is no unicast LID.
+const NUMBERS: usize = 0xC000;
+
+/// Whether one of the end ports finds no LID. Takes no memory, and walks the cells twice for each end port.
+pub(crate) fn runs_out(store: &Store, lmc: Lmc) -> bool
+    ensures { result ≡ is_no_room lmc (cells_of store.now) }
+{
+    runs_out_below::<NUMBERS>(store, lmc, usize::from(room(store)))
+}
+
+/// The same, below a room of at most `N` numbers.
+fn runs_out_below<const N: usize>(store: &Store, lmc: Lmc, most: usize) -> bool
+    requires room { most ≡ room (cells_of store.now) }
+    requires within { most ≤ N }
+    requires small { N ≤ 0xC000 }
+    ensures { result ≡ is_no_room lmc (cells_of store.now) }
+{
+    let mut taken = [false; N];
+    keep_in_turn(store, lmc, &mut [false; N][..most], &mut taken[..most]);
+    runs_out_after(store, lmc, &mut [false; N][..most], &mut taken[..most])
+}
+
+/// Marks the numbers of the end ports that keep their claims.
+fn keep_in_turn(store: &Store, lmc: Lmc, claimed: &mut [bool], taken: &mut [bool])
+    requires claimed { claimed.old ≡ replicate (room (cells_of store.now)) false }
+    requires taken { taken.old ≡ replicate (room (cells_of store.now)) false }
+    ensures { AreTaken (room (cells_of store.now))
+        (filter_map (kept_range lmc) (kept lmc (cells_of store.now))) taken.new }
+{
+    let mut last = None;
+    while let Some(end) = next_end_port(store, last) {
+        keep(claim(store, end.1), width(lmc, end.1), claimed, taken);
+        last = Some(end);
+    }
+}
+
+/// Whether one of the end ports that keep no claim finds no LID, where the numbers of those that do are taken.
+fn runs_out_after(store: &Store, lmc: Lmc, claimed: &mut [bool], taken: &mut [bool]) -> bool
+    requires claimed { claimed.old ≡ replicate (room (cells_of store.now)) false }
+    requires taken { AreTaken (room (cells_of store.now))
+        (filter_map (kept_range lmc) (kept lmc (cells_of store.now))) taken.old }
+    ensures { result ≡ is_no_room lmc (cells_of store.now) }
+{
+    let mut next = first(lmc);
+    let mut last = None;
+    while let Some(end) = next_end_port(store, last) {
+        let kept = claims_first(claim(store, end.1), width(lmc, end.1), claimed);
+        if kept.is_none() && take(taken, &mut next, lmc, end.1).is_none() {
+            return true;
+        }
+        last = Some(end);
+    }
+    false
+}

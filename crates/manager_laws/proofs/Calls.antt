@@ -1,0 +1,367 @@
+-- What a call is to a manager: the end of a step that waits, or nothing to its writing.
+use Rattle.std.proofs.Common.{◌≡◌, ◌⊎◌, inl, inr, ℕ, ◌+◌, ◌<◌, ◌^◌, Bool, true, false, List, [], ◌∷◌, ◌++◌, length, replicate, refl, sym, ap, ◌∙◌, subst, arith}
+use Rattle.std.proofs.lemmas.Bool.{cond_both, and_parts, and_from, eqb-true}
+use Rattle.std.proofs.lemmas.List.{append_assoc, append-nil, length-drop, length-replicate, length-take-le}
+use Rattle.std.specs.Prelude.{Contains, Option, Some, None, drop, is_none, nat_le, not, slice_get, if◌then◌else◌, ◌==◌}
+use Rattle.fabric_model.specs.declared.cable.NodePort.{NodePort}
+use Rattle.smp_bytes.specs.declared.smp_fault.SmpFault.{SmpFault}
+use Rattle.fabric_model.specs.Cables.{is_same_port}
+use Rattle.smp_bytes.specs.Header.{get, set, done, sm_info}
+use Rattle.smp_bytes.specs.Field.{bytes_in, number_in, with_bits}
+use Rattle.smp_bytes.specs.Packet.{attribute_data, attribute_id, attribute_modifier, fault_of, is_directed, is_response, method, mgmt_class, status}
+use Rattle.smp_bytes.specs.Requests.{answer_packet, lid_routed, request_entries}
+use Rattle.smp_bytes.specs.ReadBack.{HoldsAnswer}
+use Rattle.smp_bytes.proofs.Answered.{answer_reads_back}
+use Rattle.smp_bytes.proofs.FieldLaws.{length-with_bytes, length-with_number, length-with_numbers, number_in-with_numbers}
+use Rattle.smp_bytes.proofs.RequestLaws.{length-request, lid_routed_field}
+use Rattle.attr_codec.specs.declared.sm_info.SmInfo.{SmInfo}
+use Rattle.attr_codec.specs.Image.{image}
+use Rattle.attr_codec.specs.SmInfo.{priority, sm_info_bytes, sm_info_entries}
+use Rattle.fabric_sim.specs.Simulation.{Simulation}
+use Rattle.fabric_sim.proofs.Courses.{IsForManager}
+use Rattle.lft_blocks.specs.Plan.{PlanValue}
+use Rattle.subnet_view.proofs.Apart.{found_there}
+use Rattle.subnet_view.proofs.Members.{contains_cases, contains_none}
+use Rattle.sm_state.specs.declared.control.Control.{Control}
+use Rattle.sm_state.specs.declared.event.Message.{Message}
+use Rattle.sm_state.specs.declared.transition.Transition.{Transition}
+use Rattle.sm_state.specs.Controls.{control_of_message, modifier_of_control}
+use Rattle.sm_state.specs.declared.event.Event.TheVariants as event
+use Rattle.sm_state.specs.Steps.{status_of, stepped}
+use Rattle.sm_manager.specs.declared.outgoing.Outgoing.{Outgoing}
+use Rattle.sm_manager.specs.declared.pending.Pending.{Pending}
+use Rattle.sm_manager.specs.declared.pending.Purpose.{Purpose}
+use Rattle.sm_manager.specs.declared.pending.Purpose.TheVariants as purpose
+use Rattle.sm_state.specs.declared.standing.Standing.{Standing}
+use Rattle.sm_manager.specs.Election.{asked, control_sent, after_handover, handed_to, handover_fault, handover_move, successor_lid, poll_fault, after_poll, after_message}
+use Rattle.sm_manager.specs.Manager.{Manager}
+use Rattle.sm_manager.specs.Packets.{Called, answers, after_timeout, is_for_sweep, is_info_request, packet_taken, pending_for, request_answered}
+use Rattle.sm_manager.specs.Packets.{request_gave_up, after_request, after_packet, unless_spent}
+use Rattle.sm_manager.specs.ManagerRequests.{is_for_step, is_step, with_number}
+use Rattle.sm_manager.specs.Served.{answer_data, answer_out, answering, controlled, is_control, moved_on, replying, served, status_for}
+use Rattle.sm_state.specs.Standing.{info_of, moved_to}
+use Rattle.sm_manager.specs.Writing.{is_done_by, is_spent, after_step, without}
+use Rattle.manager_laws.specs.Scene.{Handed, asks_manager}
+use Rattle.manager_laws.proofs.Fair.{BesideCall, IsOwnPacket, answer_own, asked_are_own, lid_own, own_more}
+use Rattle.manager_laws.proofs.WritingLists.{in_left, in_either}
+use Rattle.manager_laws.proofs.Numbered.{AreOnce, once_more, once_without, one_once, others_wait, others_waited}
+use Rattle.manager_laws.proofs.Steps.{StepSent}
+use Rattle.manager_laws.proofs.WritingSweeps.{Ground, SweepCall, SweepSide, sweep_replied, sweep_timed, unchanged}
+
+-- packets by LIDs ----------------------------------------------------------------------------------------
+
+-- a request by LIDs is not directed
+module _ (method_number attribute modifier tid : ℕ) (payload : List ℕ) (whole : length payload ≡ 64) where
+  length-lid_routed : length (lid_routed method_number attribute modifier tid payload) ≡ 256
+  length-lid_routed =
+      let long = length-request method_number attribute modifier tid 0x01 in
+      length-with_bytes 64 payload _ (omega (arith, long, whole)) ∙ long
+
+  not_directed : is_directed (lid_routed method_number attribute modifier tid payload) ≡ false
+  not_directed =
+      ap (λ n. n == 0x81) (lid_routed_field method_number attribute modifier tid mgmt_class payload whole (omega arith)
+      ∙ number_in-with_numbers 256 (request_entries 0x01 method_number attribute modifier tid) (replicate 256 0) 1 _ refl refl refl (omega arith))
+
+-- what a manager tells of itself fills an attribute
+length-sm_info : (info : SmInfo) → length (sm_info_bytes info) ≡ 64
+length-sm_info info =
+    let long : length (image (sm_info_entries info)) ≡ 64 = length-with_numbers 64 (sm_info_entries info) (replicate 64 0) refl refl in
+    let whole = image (sm_info_entries info) in
+    let first = with_bits priority info.priority whole in
+    let longer : length (with_bits priority info.priority (image (sm_info_entries info))) ≡ 64 =
+    length-with_number (record { at = 20; len = 1 }) _ whole (omega (arith, long)) ∙ long in
+    length-with_number (record { at = 20; len = 1 }) _ first (omega (arith, longer)) ∙ longer
+
+length-data : (packet : List ℕ) → length packet ≡ 256 → length (bytes_in attribute_data packet) ≡ 64
+length-data packet long = length-take-le 64 (drop 64 packet) (omega (arith, length-drop 64 packet, long))
+
+-- a step that waits ends; where it was done, this is known -------------------------------------------------
+
+pub record StepEnds (Heard : Pending → Type 0) (m after : Manager) : Type 0 where
+  pub step : Pending
+  pub there : Contains m.pending step
+  pub counts : Bool
+  pub purpose_is : step.purpose ≡ purpose.Step counts
+  pub was_done : Bool
+  pub is : after ≡ (unless_spent m (after_step m step was_done)).manager
+  pub heard : was_done ≡ true → Heard step
+
+-- its answer came, and says that it was done
+pub record HeardBy (bytes : List ℕ) (p : Pending) : Type 0 where
+  pub answers_it : answers bytes p ≡ true
+  pub done_is : status bytes ≡ done
+  pub no_sweep : is_for_sweep bytes ≡ false
+
+module _ (start : Simulation) (seat : NodePort) (plan : PlanValue) (g : Ground start seat) (old : Type 0) (handed : List Handed) where
+  Beside : Manager → Manager → Type 0
+  Beside m after = BesideCall start seat plan old handed m after
+
+  -- a call that is the sweep's business
+  pub beside_swept : (new : Type 0) (m after : Manager) → AreOnce m.counter m.pending → SweepCall start seat new m after
+      → BesideCall start seat plan new handed m after
+  beside_swept new m after once call =
+      record {
+        writing = call.writing;
+        steps_stay = λ p there _. subst (λ ps. Contains ps p) (sym call.pending) there;
+        steps_were = λ p there _. subst (λ ps. Contains ps p) call.pending there;
+        upto = let same = call.counter in omega (arith, same);
+        once = subst (λ n. AreOnce n after.pending) (sym call.counter) (subst (AreOnce m.counter) (sym call.pending) once);
+        more = call.more;
+        outgoing = call.outgoing;
+        own = λ c all. asked_are_own start seat plan c all handed g call.more call.asks;
+        side = call.side;
+      }
+
+  -- nothing happens
+  stays : (m : Manager) → SweepSide start seat old m → AreOnce m.counter m.pending → Beside m m
+  unfolding Beside
+  stays m side once = beside_swept old m m once (unchanged start seat old m side)
+
+  -- one call after the other
+  both : (m middle after : Manager) → Beside m middle → Beside middle after → Beside m after
+  unfolding Beside
+  both m middle after one other =
+      record {
+        writing = other.writing ∙ one.writing;
+        steps_stay = λ p there is. other.steps_stay p (one.steps_stay p there is) is;
+        steps_were = λ p there is. one.steps_were p (other.steps_were p there is) is;
+        upto = let first = one.upto in let second = other.upto in omega (arith, first, second);
+        once = other.once;
+        more = one.more ++ other.more;
+        outgoing = other.outgoing ∙ ap (λ out. out ++ other.more) one.outgoing ∙ append_assoc m.outgoing one.more other.more;
+        own = λ c all. own_more start seat plan c all handed one.more other.more (one.own c all) (other.own c all);
+        side = other.side;
+      }
+
+  -- a request that is no step waits no more
+  module _ (m : Manager) (side : SweepSide start seat old m) (once : AreOnce m.counter m.pending) (p : Pending) (there : Contains m.pending p)
+      (other : is_step p ≡ false) where
+    over : (standing : Standing) → Beside m (record (without m p) { standing = standing })
+    unfolding Beside
+    over standing =
+        record {
+          writing = refl;
+          steps_stay = λ q among is. others_wait p.number m.pending q
+              (λ same. absurd (cc (sym other ∙ ap is_step (sym (once.once q p among there same)) ∙ is))) among;
+          steps_were = λ q among is. others_waited p.number m.pending q among;
+          upto = omega arith;
+          once = once_without p.number m.counter m.pending once;
+          more = [];
+          outgoing = sym (append-nil m.outgoing);
+          own = λ c all. tt;
+          side = record { port = side.port; lmc = side.lmc; sweep = side.sweep; knows = side.knows };
+        }
+
+    over_still : Beside m (without m p)
+    over_still = over m.standing
+
+  -- a request by LIDs goes out, and waits
+  asks : (m : Manager) → SweepSide start seat old m → AreOnce m.counter m.pending → (waits : Pending) (out : Outgoing) → waits.number ≡ m.counter
+      → is_step waits ≡ false
+      → length out.packet ≡ 256 → is_directed out.packet ≡ false → Beside m (asked m waits out)
+  unfolding Beside
+  asks m side once waits out number other count by_lids =
+      record {
+        writing = refl;
+        steps_stay = λ q among is. in_left m.pending (waits ∷ []) q among;
+        steps_were = λ q among is. elim (in_either m.pending (waits ∷ []) q among) [
+          | inl i ↦ i
+          | inr k ↦ absurd (cc (sym other ∙ ap is_step (only q k) ∙ is))
+        ];
+        upto = omega arith;
+        once = once_more m.counter (m.counter + 1) m.pending (waits ∷ []) once
+            (subst (λ n. AreOnce (n + 1) (waits ∷ [])) number (one_once waits)) (omega arith)
+            (λ q k. let same = ap (λ (x : Pending). x.number) (only q k) in omega (arith, same, number));
+        more = out ∷ [];
+        outgoing = refl;
+        own = λ c all. (lid_own start seat plan c all handed out count by_lids, tt);
+        side = record { port = side.port; lmc = side.lmc; sweep = side.sweep; knows = side.knows };
+      }
+    where
+      only : (q : Pending) → Contains (waits ∷ []) q → waits ≡ q
+      only q k = elim (contains_cases waits q [] k) [ inl i ↦ i | inr none ↦ absurd (contains_none q none) ]
+
+  polls : (m : Manager) → SweepSide start seat old m → AreOnce m.counter m.pending → (lid : ℕ) → Beside m (after_poll m lid)
+  polls m side once lid =
+      let whole = length-replicate {A = ℕ} 64 0 in
+      asks m side once _ _ refl refl (length-lid_routed get sm_info 0 m.counter (replicate 64 0) whole)
+      (not_directed get sm_info 0 m.counter (replicate 64 0) whole)
+
+  controls : (m : Manager) → SweepSide start seat old m → AreOnce m.counter m.pending → (lid : ℕ) (control : Control) → Beside m (control_sent m lid control)
+  controls m side once lid control =
+      let payload = sm_info_bytes (info_of m.standing) in
+      let whole = length-sm_info (info_of m.standing) in
+      asks m side once _ _ refl refl (length-lid_routed set sm_info (modifier_of_control control) m.counter payload whole)
+      (not_directed set sm_info (modifier_of_control control) m.counter payload whole)
+
+  tells : (m : Manager) → SweepSide start seat old m → AreOnce m.counter m.pending → (lid : Option ℕ) (message : Option Message) → Beside m (after_message m lid message)
+  tells m side once None message = stays m side once
+  tells m side once (Some lid) None = stays m side once
+  tells m side once (Some lid) (Some message) = controls m side once lid (control_of_message message)
+
+  -- it is in another state
+  moves : (m : Manager) → SweepSide start seat old m → AreOnce m.counter m.pending → (standing : Standing) → Beside m (record m { standing = standing })
+  unfolding Beside
+  moves m side once standing =
+      record {
+        writing = refl;
+        steps_stay = λ q among is. among;
+        steps_were = λ q among is. among;
+        upto = omega arith;
+        once = once;
+        more = [];
+        outgoing = sym (append-nil m.outgoing);
+        own = λ c all. tt;
+        side = record { port = side.port; lmc = side.lmc; sweep = side.sweep; knows = side.knows };
+      }
+
+  -- requests of other managers -----------------------------------------------------------------------------
+
+  module _ (which : ℕ) (h : Handed) (there : slice_get handed which ≡ Some h) (here : is_same_port h.at seat ≡ true)
+      (is : IsForManager start seat h.packet.bytes)
+      (asks_it : is_info_request h.packet.bytes ≡ true) where
+    asks_here : asks_manager seat h ≡ true
+    asks_here =
+        let parts = and_parts (not (is_response h.packet.bytes)) (number_in attribute_id h.packet.bytes == sm_info) asks_it in
+        and_from _ _ (and_from (is_same_port h.at seat) (not (is_response h.packet.bytes)) here parts.0) parts.1
+
+    -- an answer goes out
+    module _ (m : Manager) (side : SweepSide start seat old m) (once : AreOnce m.counter m.pending) (lid : Option ℕ) (given : ℕ) (small : given < 2 ^ 15) where
+      payload : List ℕ
+      payload = answer_data m.standing h.packet.bytes given
+
+      whole : length (answer_data m.standing h.packet.bytes given) ≡ 64
+      whole = cond_both (given == done) _ _ (λ (d : List ℕ). length d ≡ 64) (λ _. length-sm_info (info_of m.standing))
+          (λ _. length-data h.packet.bytes is.whole.count)
+
+      holds : HoldsAnswer h.packet.bytes (answer_packet h.packet.bytes given (answer_data m.standing h.packet.bytes given)) given
+          (answer_data m.standing h.packet.bytes given)
+      holds = answer_reads_back h.packet.bytes given (answer_data m.standing h.packet.bytes given) is.whole.count is.whole.parses whole (omega (arith, small))
+          (λ _. small)
+
+      own_answer : (c : ℕ) (all : List StepSent) → IsOwnPacket start seat plan c all handed (answer_out m.standing h.packet.bytes lid given)
+      own_answer c all = by_class (is_directed h.packet.bytes) refl
+        where
+          out : (to : Option ℕ) → Outgoing
+          out to = record { packet = answer_packet h.packet.bytes given (answer_data m.standing h.packet.bytes given); to = to }
+
+          by_class : (b : Bool) → is_directed h.packet.bytes ≡ b → IsOwnPacket start seat plan c all handed (answer_out m.standing h.packet.bytes lid given)
+          by_class true e =
+              let same : answer_out m.standing h.packet.bytes lid given ≡ out None = ap (λ b. out (if b then None else lid)) e in
+              subst (IsOwnPacket start seat plan c all handed) (sym same)
+              (answer_own start seat plan c all handed which h given (answer_data m.standing h.packet.bytes given) there asks_here e small whole)
+          by_class false e = lid_own start seat plan c all handed (answer_out m.standing h.packet.bytes lid given) holds.count (holds.class ∙ e)
+
+      answers_it : Beside m (answering m h.packet.bytes lid given)
+      unfolding Beside
+      answers_it =
+          record {
+            writing = refl;
+            steps_stay = λ q among is. among;
+            steps_were = λ q among is. among;
+            upto = omega arith;
+            once = once;
+            more = answer_out m.standing h.packet.bytes lid given ∷ [];
+            outgoing = refl;
+            own = λ c all. (own_answer c all, tt);
+            side = record { port = side.port; lmc = side.lmc; sweep = side.sweep; knows = side.knows };
+          }
+
+    module _ (m : Manager) (side : SweepSide start seat old m) (once : AreOnce m.counter m.pending) (lid : Option ℕ) where
+      moves_on : (move : Transition) → Beside m (moved_on m h.packet.bytes lid move)
+      unfolding Beside
+      moves_on move =
+          let standing = moved_to move.state m.standing in
+          let in_state = record m { standing = standing } in
+          let one = moves m side once standing in
+          let small : status_of move < 2 ^ 15 = cond_both move.is_refused _ _ (λ (n : ℕ). n < 2 ^ 15) (λ _. omega arith) (λ _. omega arith) in
+          let two = answers_it in_state one.side one.once lid (status_of move) small in
+          let answered = answering in_state h.packet.bytes lid (status_of move) in
+          both m in_state _ one (both in_state answered _ two (tells answered two.side two.once lid move.message))
+
+      replies : Beside m (replying m h.packet.bytes lid)
+      replies = answers_it m side once lid (status_for h.packet.bytes) small
+        where
+          small : status_for h.packet.bytes < 2 ^ 15
+          small =
+              cond_both (number_in method h.packet.bytes == get) _ _ (λ (n : ℕ). n < 2 ^ 15) (λ _. omega arith)
+              (λ _. cond_both (number_in method h.packet.bytes == set) _ _ (λ (n : ℕ). n < 2 ^ 15) (λ _. omega arith) (λ _. omega arith))
+
+      pub serves : BesideCall start seat plan old handed m (unless_spent m (served m h.packet.bytes lid)).manager
+      unfolding Beside
+      serves =
+          cond_both (is_spent (served m h.packet.bytes lid)) _ _ (λ (x : Called). BesideCall start seat plan old handed m x.manager) (λ _. stays m side once)
+          (λ _. cond_both (is_control h.packet.bytes) (controlled m h.packet.bytes lid) (replying m h.packet.bytes lid)
+          (λ (x : Manager). BesideCall start seat plan old handed m x)
+          (λ _. moves_on (stepped m.standing.state (event.Control (number_in attribute_modifier h.packet.bytes)))) (λ _. replies))
+
+  -- any packet -------------------------------------------------------------------------------------------------
+
+  module _ (m : Manager) (side : SweepSide start seat old m) (once : AreOnce m.counter m.pending) where
+    Comes : (Pending → Type 0) → Manager → Type 0
+    Comes Heard after = BesideCall start seat plan old handed m after ⊎ StepEnds Heard m after
+
+    -- a request that waits is answered, or given up
+    ends : (Heard : Pending → Type 0) (p : Pending) → Contains m.pending p → (answer : Option ℕ) → (is_done_by answer ≡ true → Heard p)
+        → (u : Purpose) → p.purpose ≡ u → Comes Heard (after_request m p answer u).manager
+    unfolding Comes Beside
+    ends Heard p there answer heard purpose.Poll e = inl (over m side once p there (ap is_for_step e) _)
+    ends Heard p there answer heard purpose.Control e = inl (over_still m side once p there (ap is_for_step e))
+    ends Heard p there answer heard (purpose.Step counts) e =
+        inr (record { step = p; there = there; counts = counts; purpose_is = e; was_done = is_done_by answer; is = refl; heard = heard })
+
+    pub packet_comes : (which : ℕ) (h : Handed) (lid : Option ℕ) → slice_get handed which ≡ Some h → is_same_port h.at seat ≡ true
+        → IsForManager start seat h.packet.bytes
+        → BesideCall start seat plan old handed m (after_packet m h.packet.bytes lid).manager ⊎ StepEnds (HeardBy h.packet.bytes) m (after_packet m h.packet.bytes lid).manager
+    unfolding Comes Beside
+    packet_comes which h lid there here is = by_fault (fault_of h.packet.bytes) refl
+      where
+        by_pending : is_for_sweep h.packet.bytes ≡ false → (o : Option Pending) → pending_for m h.packet.bytes ≡ o
+            → Comes (HeardBy h.packet.bytes) (request_answered m h.packet.bytes o).manager
+        by_pending no_sweep None e = inl (stays m side once)
+        by_pending no_sweep (Some p) e =
+            let found = found_there (answers h.packet.bytes) m.pending p e in
+            ends (HeardBy h.packet.bytes) p found.0 (Some (status h.packet.bytes))
+            (λ is_done. record { answers_it = found.1; done_is = eqb-true _ _ is_done; no_sweep = no_sweep }) p.purpose refl
+
+        by_fault : (why : Option SmpFault) → fault_of h.packet.bytes ≡ why → Comes (HeardBy h.packet.bytes) (packet_taken m h.packet.bytes lid why).manager
+        by_fault (Some why) e = inl (stays m side once)
+        by_fault None e =
+            cond_both (is_info_request h.packet.bytes) _ _ (λ (x : Called). Comes (HeardBy h.packet.bytes) x.manager)
+            (λ asks_it. inl (serves which h there here is asks_it m side once lid))
+            (λ _. cond_both (is_for_sweep h.packet.bytes) _ _ (λ (x : Called). Comes (HeardBy h.packet.bytes) x.manager)
+            (λ _. inl (beside_swept old m _ once (sweep_replied start seat g old m side h.packet.bytes is)))
+            (λ other. by_pending other (pending_for m h.packet.bytes) refl))
+
+    pub time_passes : (transaction : ℕ)
+        → BesideCall start seat plan old handed m (after_timeout m transaction).manager ⊎ StepEnds (λ p. ⊥) m (after_timeout m transaction).manager
+    unfolding Comes Beside
+    time_passes transaction =
+        cond_both (nat_le (2 ^ 32) transaction) _ _ (λ (x : Called). Comes (λ p. ⊥) x.manager)
+        (λ _. inl (beside_swept old m _ once (sweep_timed start seat old m side transaction)))
+        (λ _. by_pending (with_number transaction m.pending) refl)
+      where
+        by_pending : (o : Option Pending) → with_number transaction m.pending ≡ o → Comes (λ p. ⊥) (request_gave_up m o).manager
+        by_pending None e = inl (stays m side once)
+        by_pending (Some p) e =
+            ends (λ q. ⊥) p (found_there (λ (x : Pending). x.number == transaction) m.pending p e).0 None (λ none. absurd (cc)) p.purpose refl
+
+    -- what the election asks for ------------------------------------------------------------------------------
+
+    pub polls_beside : (lid : ℕ) → BesideCall start seat plan old handed m (if is_none (poll_fault m) then after_poll m lid else m)
+    unfolding Beside
+    polls_beside lid =
+        cond_both (is_none (poll_fault m)) _ _ (λ (x : Manager). BesideCall start seat plan old handed m x) (λ _. polls m side once lid)
+        (λ _. stays m side once)
+
+    pub hands_over : BesideCall start seat plan old handed m (if is_none (handover_fault m) then after_handover m else m)
+    unfolding Beside
+    hands_over =
+        cond_both (is_none (handover_fault m)) _ _ (λ (x : Manager). BesideCall start seat plan old handed m x) (λ _. to_heir (successor_lid m))
+        (λ _. stays m side once)
+      where
+        to_heir : (lid : Option ℕ) → BesideCall start seat plan old handed m (handed_to m lid)
+        to_heir lid =
+            let standing = moved_to (handover_move m).state m.standing in
+            let one = moves m side once standing in
+            both m (record m { standing = standing }) _ one (tells (record m { standing = standing }) one.side one.once lid (handover_move m).message)

@@ -1,0 +1,77 @@
+-- A sweep that is done has found the part of the fabric that is joined to its seat: all of it, and nothing else.
+use Rattle.std.specs.Prelude.{◌≡◌, ℕ, true, List, Some, All, flat_map}
+use Rattle.fabric_model.specs.declared.cable.NodePort.{NodePort}
+use Rattle.fabric_model.specs.Fabric.{Fabric, IsNodeAt, Node}
+use Rattle.fabric_model.specs.FabricWalks.{vertex_of, IsJoinedTo}
+use Rattle.fabric_model.specs.DirectedWalk.{directed_end}
+use Rattle.fact_store.specs.declared.report.Report.{Report}
+use Rattle.fact_store.specs.Report.{sightings_of}
+use Rattle.fact_store.specs.View.{Facts, cells_of, view}
+use Rattle.subnet_view.specs.EndPorts.{IsEndPort}
+use Rattle.subnet_view.specs.Agreement.{AgreesOn}
+use Rattle.fabric_sim.specs.Simulation.{Simulation, fabric_of}
+use Rattle.sweep.specs.Sweep.{Sweep, is_done, path_to}
+use Rattle.lid_assign.specs.Lids.{IsNoRoom}
+use Rattle.lft_blocks.specs.Rules.{RuleValue}
+use Rattle.lft_blocks.specs.Plan.{plan_of}
+use Rattle.lft_blocks.specs.Arrival.{HoldsPlan}
+use Rattle.manager_laws.specs.Pings.{EachPingArrives}
+use Rattle.manager_laws.specs.Sweeping.{Sweeping, SweepEvent, CanBe, Begins, after_sweep_events}
+
+-- nothing is to be sent or waits, and each request was answered, over a path as long as it had to be
+pub record IsWhole (s : Sweep) : Type 0 where
+  pub done : is_done s ≡ true
+  pub answered : s.unanswered ≡ 0
+  pub near : s.too_far ≡ 0
+
+-- what reports tell together
+abbrev pub facts_of : List Report → Facts
+facts_of reports = view (flat_map sightings_of reports)
+
+-- the facts of reports are those of the part of a simulated fabric that is joined to an end port
+abbrev pub AgreeWith : List Report → Simulation → NodePort → Type 0
+AgreeWith reports s seat = AgreesOn (IsJoinedTo (fabric_of s) seat) (cells_of (facts_of reports)) (fabric_of s)
+
+-- the path that the sweep has for an end port leads there from its seat: to the port of an adapter, or to a switch
+pub record HasWay (f : Fabric) (seat : NodePort) (s : Sweep) (guid port : ℕ) : Type 0 where
+  pub path : List ℕ
+  pub told : path_to s guid port ≡ Some path
+  pub end : NodePort
+  pub leads : directed_end f seat path ≡ Some end
+  pub node : Node
+  pub there : IsNodeAt f end.node node
+  pub named : node.guid ≡ guid
+  pub vertex : vertex_of f end ≡ record { node = end.node; port = port }
+
+-- they agree with the fabric as it was when the sweep began, and as it is when the sweep has ended, and the sweep has a way to
+-- each of their end ports
+pub record HasFoundAll (begun ended : Sweeping) : Type 0 where
+  pub at_first : AgreeWith ended.reports begun.scene.fabric begun.seat
+  pub at_last : AgreeWith ended.reports ended.scene.fabric begun.seat
+  pub ways : (guid port : ℕ) → IsEndPort (cells_of (facts_of ended.reports)) guid port → HasWay (fabric_of begun.scene.fabric) begun.seat ended.sweep guid port
+
+-- whatever else happens, a sweep that has every answer has found all that is joined to its seat
+abbrev pub DoneSweepsAreComplete : Type 0
+DoneSweepsAreComplete =
+    (w : Sweeping) (generation first : ℕ) (events : List SweepEvent) → Begins w generation first → All CanBe events
+    → IsWhole (after_sweep_events events w).sweep → HasFoundAll w (after_sweep_events events w)
+
+-- so once the fabric holds the plan of what it has found under an LMC, as far as its seat is joined to, each ping there arrives
+abbrev pub SweptPingsArrive : Type 0
+SweptPingsArrive =
+    (rule : RuleValue) (lmc : ℕ) (w : Sweeping) (generation first : ℕ) (events : List SweepEvent) → Begins w generation first → All CanBe events
+    → IsWhole (after_sweep_events events w).sweep
+    → let ended = after_sweep_events events w in
+    let cells = cells_of (facts_of ended.reports) in
+    let f = fabric_of ended.scene.fabric in
+    ¬ (IsNoRoom lmc cells) → HoldsPlan (IsJoinedTo f w.seat) (plan_of rule lmc cells) f → EachPingArrives rule cells (plan_of rule lmc cells) ended.scene.fabric w.seat
+
+-- there is such a sweep: a fabric, and events after which a sweep on it has every answer
+pub record SomeSweepIsWhole : Type 0 where
+  pub sweeping : Sweeping
+  pub generation : ℕ
+  pub first : ℕ
+  pub events : List SweepEvent
+  pub begins : Begins sweeping generation first
+  pub can_be : All CanBe events
+  pub whole : IsWhole (after_sweep_events events sweeping).sweep

@@ -1,0 +1,10 @@
+pub mod AnswersTell
+pub mod Complete
+pub mod Managing
+pub mod Pings
+pub mod Scene
+pub mod Sets
+pub mod Sweeping
+pub mod Truth
+pub mod WritingPings
+pub mod Written

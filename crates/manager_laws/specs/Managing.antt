@@ -1,0 +1,132 @@
+-- A manager at its seat on a fabric on which other managers work too: its calls, and the packets that it gave out.
+use Rattle.std.specs.Prelude.{◌≡◌, ◌<◌, ◌≢◌, ℕ, true, false, List, [], ◌∷◌, ◌++◌, All, slice_get, if◌then◌else◌, Option, Some, None, IsTrue}
+use Rattle.std.specs.Option.{unwrap_or}
+use Rattle.fabric_model.specs.declared.cable.NodePort.{NodePort}
+use Rattle.fabric_model.specs.Cables.{is_same_port}
+use Rattle.smp_bytes.specs.Packet.{permissive_lid}
+use Rattle.fact_store.specs.Report.{Sightings}
+use Rattle.fact_store.specs.Sighting.{IsSighting, AreInRange, is_generation}
+use Rattle.fabric_sim.specs.declared.packet.Packet.{Packet}
+use Rattle.fabric_sim.specs.Simulation.{fabric_of, is_seat_at}
+use Rattle.sm_manager.specs.declared.outgoing.Outgoing.{Outgoing}
+use Rattle.lft_blocks.specs.Planning.{Planning}
+use Rattle.sm_manager.specs.Manager.{Manager, Taken, is_running, new_manager, after_take_outgoing}
+use Rattle.sm_manager.specs.Calls as calls
+use Rattle.sm_manager.specs.Calls.{Call, after_call}
+use Rattle.manager_laws.specs.Scene as around
+use Rattle.manager_laws.specs.Scene.{Handed, Scene, Event, CanHappen, IsQuiet, after_event, sent_from}
+use Rattle.manager_laws.specs.Truth.{AreGuidsDistinct}
+
+-- the scene, the manager's seat, the manager, and the packets that it gave out
+pub record Managing : Type 0 where
+  pub scene : Scene
+  pub seat : NodePort
+  pub manager : Manager
+  pub out : List Outgoing
+
+-- Something happens on the fabric; the manager is told to begin a sweep, or to write its plan; it gives its first packet out;
+-- a packet that it gave out is sent from its seat, and may be again; a packet that was handed up at its seat is given to it,
+-- and may be again; one of its requests times out; its floor is raised; facts of others at a floor are merged with its own; it is told
+-- to poll a LID, or to hand over.
+pub data ManagerEvent : Type 0 where
+  Around : (event : Event) → ManagerEvent
+  Begin : ManagerEvent
+  Write : ManagerEvent
+  Take : ManagerEvent
+  Send : (which : ℕ) → ManagerEvent
+  Hear : (which : ℕ) → ManagerEvent
+  TimeOut : (transaction : ℕ) → ManagerEvent
+  Raise : (floor : ℕ) → ManagerEvent
+  Merge : (floor : ℕ) → (sightings : Sightings) → ManagerEvent
+  Poll : (lid : ℕ) → ManagerEvent
+  HandOver : ManagerEvent
+
+-- which of these there are --------------------------------------------------------------------
+
+-- other managers send from other seats
+abbrev pub IsElsewhere : NodePort → Event → Type 0
+IsElsewhere seat (around.Send other sending) = other ≢ seat
+IsElsewhere seat event = Unit {0}
+
+abbrev pub CanBe : NodePort → ManagerEvent → Type 0
+CanBe seat (Around event) = CanHappen event × IsElsewhere seat event
+CanBe seat (Raise floor) = IsTrue (is_generation floor)
+CanBe seat (Merge floor sightings) = IsTrue (is_generation floor) × All IsSighting sightings
+CanBe seat event = Unit {0}
+
+-- what they do --------------------------------------------------------------------------------
+
+-- the manager is called; a call that it refuses leaves it as it is
+abbrev pub calling : Managing → Call → Managing
+calling w call = record w { manager = after_call w.manager call }
+
+abbrev pub one_more : List Outgoing → Option Outgoing → List Outgoing
+one_more out None = out
+one_more out (Some packet) = out ++ packet ∷ []
+
+abbrev pub taking : Managing → Taken → Managing
+taking w t = record w { manager = t.manager; out = one_more w.out t.packet }
+
+-- by the path that it carries, or to a LID
+abbrev pub packet_of : Outgoing → Packet
+packet_of o = record { bytes = o.packet; slid = permissive_lid; dlid = unwrap_or o.to permissive_lid }
+
+abbrev pub sending : Managing → Option Outgoing → Managing
+sending w None = w
+sending w (Some o) = record w { scene = sent_from w.scene w.seat (packet_of o) }
+
+-- with the LID that it came from
+abbrev pub hearing : Managing → Option Handed → Managing
+hearing w None = w
+hearing w (Some h) = if is_same_port h.at w.seat then calling w (calls.Packet h.packet.bytes (Some h.packet.slid)) else w
+
+abbrev pub after_manager_event : Managing → ManagerEvent → Managing
+after_manager_event w (Around event) = record w { scene = after_event w.scene event }
+after_manager_event w Begin = calling w calls.BeginSweep
+after_manager_event w Write = calling w calls.WriteSteps
+after_manager_event w Take = taking w (after_take_outgoing w.manager)
+after_manager_event w (Send which) = sending w (slice_get w.out which)
+after_manager_event w (Hear which) = hearing w (slice_get w.scene.handed which)
+after_manager_event w (TimeOut transaction) = calling w (calls.Timeout transaction)
+after_manager_event w (Raise floor) = calling w (calls.Raise floor)
+after_manager_event w (Merge floor sightings) = calling w (calls.Merge floor sightings)
+after_manager_event w (Poll lid) = calling w (calls.Poll lid)
+after_manager_event w HandOver = calling w calls.Handover
+
+abbrev pub after_manager_events : List ManagerEvent → Managing → Managing
+after_manager_events [] w = w
+after_manager_events (event ∷ events) w = after_manager_events events (after_manager_event w event)
+
+-- where they begin ----------------------------------------------------------------------------
+
+-- a manager that has nothing to send and waits for nothing: one that was just made, or one between its tasks
+pub record IsAtRest (m : Manager) : Type 0 where
+  -- no sweep of it goes on
+  pub sweep : is_running m.sweep ≡ false
+  -- no request outside sweeps waits for its answer
+  pub pending : m.pending ≡ []
+  -- no packet is to be sent
+  pub outgoing : m.outgoing ≡ []
+  -- what it knows is of keys, generations and values that there are
+  pub facts : AreInRange m.store
+  pub floor : IsTrue (is_generation m.store.floor)
+
+-- where a run starts
+pub record Starts (w : Managing) : Type 0 where
+  -- no packet is on its way or was handed up; the agents may be in any state
+  pub quiet : IsQuiet w.scene
+  -- no two nodes have one GUID
+  pub distinct : AreGuidsDistinct (fabric_of w.scene.fabric)
+  -- the manager sits at a port of an adapter
+  pub seat : is_seat_at w.scene.fabric w.seat ≡ true
+  -- it was told this port's number
+  pub port : w.manager.port ≡ w.seat.port
+  -- and an LMC that there is
+  pub lmc : w.manager.planning.lmc < 8
+  pub at_rest : IsAtRest w.manager
+  -- it gave no packet out
+  pub out : w.out ≡ []
+
+-- a manager that was just made is at rest
+abbrev pub NewManagersRest : Type 0
+NewManagersRest = (port_guid port priority : ℕ) (planning : Planning) → IsAtRest (new_manager port_guid port priority planning)

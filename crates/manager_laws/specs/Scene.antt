@@ -1,0 +1,112 @@
+-- A fabric on which subnet managers work, and what was handed up to them: what may happen there while no cable changes.
+use Rattle.std.specs.Prelude.{◌≡◌, ℕ, ◌<◌, ◌≤◌, ◌^◌, Bool, false, ◌&&◌, not, List, [], ◌∷◌, ◌++◌, length, slice_get, ◌==◌, if◌then◌else◌, Option, Some, None, Result, Ok, Err}
+use Rattle.fabric_model.specs.declared.cable.NodePort.{NodePort}
+use Rattle.fabric_model.specs.Cables.{is_same_port}
+use Rattle.smp_bytes.specs.Header.{sm_info}
+use Rattle.smp_bytes.specs.Field.{number_in}
+use Rattle.smp_bytes.specs.Packet.{attribute_id, is_directed, is_response, max_hops}
+use Rattle.smp_bytes.specs.Requests.{directed, answer_packet}
+use Rattle.smp_bytes.specs.ReadBack.{FitsRequest}
+use Rattle.fabric_sim.specs.declared.packet.Packet.{Packet}
+use Rattle.fabric_sim.specs.declared.delivered.Delivered.{Delivered}
+use Rattle.fabric_sim.specs.declared.delivered.Delivered.TheVariants.{Moved, Answered, ToManager, Discarded}
+use Rattle.fabric_sim.specs.declared.fault.FabricFault.{FabricFault}
+use Rattle.fabric_sim.specs.Simulation.{Simulation, IsSimulation}
+use Rattle.fabric_sim.specs.Delivery.{after_deliver}
+use Rattle.fabric_sim.specs.Changes.{after_inject, after_repeat, after_lose}
+use Rattle.fabric_sim.specs.ThereAndBack.{BeginsWith, directed_packet}
+
+-- a packet that a delivery handed up, and the port at which it did
+pub record Handed : Type 0 where
+  pub at : NodePort
+  pub packet : Packet
+
+-- the fabric, and all that was handed up so far
+pub record Scene : Type 0 where
+  pub fabric : Simulation
+  pub handed : List Handed
+
+-- what a manager may send from its port: any packet that is forwarded by LIDs; a request that a path routes; the answer to a
+-- request for SMInfo that was handed up there
+pub data Sending : Type 0 where
+  ByLid : (packet : Packet) → Sending
+  ByPath : (method attribute modifier tid : ℕ) (path payload : List ℕ) → Sending
+  Answer : (which status : ℕ) (payload : List ℕ) → Sending
+
+-- what may happen
+pub data Event : Type 0 where
+  Deliver : (serial : ℕ) → Event
+  Lose : (serial : ℕ) → Event
+  Repeat : (serial : ℕ) → Event
+  Send : (seat : NodePort) (sending : Sending) → Event
+
+-- which of these there are --------------------------------------------------------------------
+
+-- a directed path leaves by the port of its sender's seat
+abbrev pub CanSend : NodePort → Sending → Type 0
+CanSend seat (ByLid packet) = (length packet.bytes ≡ 256) × (is_directed packet.bytes ≡ false)
+CanSend seat (ByPath method attribute modifier tid path payload) =
+    FitsRequest method attribute modifier tid payload × (method < 2 ^ 7) × (length path ≤ max_hops) × BeginsWith seat.port path
+CanSend seat (Answer which status payload) = (status < 2 ^ 15) × (length payload ≡ 64)
+
+abbrev pub CanHappen : Event → Type 0
+CanHappen (Send seat sending) = CanSend seat sending
+CanHappen (Deliver serial) = Unit {0}
+CanHappen (Lose serial) = Unit {0}
+CanHappen (Repeat serial) = Unit {0}
+
+-- what they do --------------------------------------------------------------------------------
+
+abbrev pub with_fabric : Scene → Simulation → Scene
+with_fabric s fabric = record s { fabric = fabric }
+
+abbrev pub handed_by : Result Delivered FabricFault → List Handed
+handed_by (Ok (ToManager at packet)) = record { at = at; packet = packet } ∷ []
+handed_by (Ok (Moved serial)) = []
+handed_by (Ok (Answered serial)) = []
+handed_by (Ok (Discarded reason)) = []
+handed_by (Err fault) = []
+
+-- the packet is sent from the seat, if one is there and a serial number is left
+abbrev pub sent_from : Scene → NodePort → Packet → Scene
+sent_from s seat packet = with_fabric s (after_inject s.fabric seat packet).fabric
+
+-- what was handed up at the seat is a request for SMInfo
+abbrev pub asks_manager : NodePort → Handed → Bool
+asks_manager seat h =
+    is_same_port h.at seat && not (is_response h.packet.bytes) && number_in attribute_id h.packet.bytes == sm_info
+
+-- the answer to a directed request goes back by its path, and another one to the LID where its request came from
+abbrev pub answer_to : Packet → ℕ → List ℕ → Packet
+answer_to request status payload =
+    let answer = answer_packet request.bytes status payload in
+    if is_directed request.bytes then directed_packet answer
+    else record { bytes = answer; slid = request.dlid; dlid = request.slid }
+
+abbrev pub answered_from : Scene → NodePort → ℕ → List ℕ → Option Handed → Scene
+answered_from s seat status payload None = s
+answered_from s seat status payload (Some h) =
+    if asks_manager seat h then sent_from s seat (answer_to h.packet status payload) else s
+
+abbrev pub sent : Scene → NodePort → Sending → Scene
+sent s seat (ByLid packet) = sent_from s seat packet
+sent s seat (ByPath method attribute modifier tid path payload) =
+    sent_from s seat (directed_packet (directed method attribute modifier tid path payload))
+sent s seat (Answer which status payload) = answered_from s seat status payload (slice_get s.handed which)
+
+abbrev pub after_event : Scene → Event → Scene
+after_event s (Deliver serial) =
+    let done = after_deliver s.fabric serial in record { fabric = done.fabric; handed = s.handed ++ handed_by done.result }
+after_event s (Lose serial) = with_fabric s (after_lose s.fabric serial).fabric
+after_event s (Repeat serial) = with_fabric s (after_repeat s.fabric serial).fabric
+after_event s (Send seat sending) = sent s seat sending
+
+abbrev pub after_events : List Event → Scene → Scene
+after_events [] s = s
+after_events (event ∷ events) s = after_events events (after_event s event)
+
+-- a fabric with agents in any state, nothing on its way, and nothing handed up
+pub record IsQuiet (s : Scene) : Type 0 where
+  pub fabric : IsSimulation s.fabric
+  pub flights : s.fabric.flights ≡ []
+  pub handed : s.handed ≡ []

@@ -1,0 +1,56 @@
+-- Once the plan of a sweep that has every answer is written, pings arrive.
+use Rattle.std.specs.Prelude.{◌≡◌, ◌≢◌, ◌≤◌, ℕ, true, List, [], ◌∷◌, Some, None}
+use Rattle.fact_store.specs.View.{cells_of}
+use Rattle.sweep.specs.Sweep.{Sweep}
+use Rattle.lft_blocks.specs.Planning.{Planning}
+use Rattle.sm_manager.specs.Manager.{begin_fault, new_manager}
+use Rattle.sm_manager.specs.Writing.{is_written}
+use Rattle.manager_laws.specs.Pings.{EachPingArrives}
+use Rattle.manager_laws.specs.Complete.{IsWhole}
+use Rattle.manager_laws.specs.Managing.{Managing, ManagerEvent, Begin, Raise, Merge, after_manager_event, after_manager_events}
+use Rattle.manager_laws.specs.Written.{IsWritingRun, at_writing, at_end, plan_at}
+
+-- no other sweep begins, no facts of others are merged, and no floor comes above that of the store
+abbrev pub BeginsNoSweep : Managing → ManagerEvent → Type 0
+BeginsNoSweep w Begin = begin_fault w.manager ≢ None
+BeginsNoSweep w (Raise floor) = floor ≤ w.manager.store.floor
+BeginsNoSweep w (Merge floor sightings) = (sightings ≡ []) × (floor ≤ w.manager.store.floor)
+BeginsNoSweep w event = Unit {0}
+
+abbrev pub AreNoSweeps : List ManagerEvent → Managing → Type 0
+AreNoSweeps [] w = Unit {0}
+AreNoSweeps (event ∷ events) w = BeginsNoSweep w event × AreNoSweeps events (after_manager_event w event)
+
+-- A manager that holds no facts sweeps, and writes the plan of what it was told.
+pub record BringsUp (w : Managing) (before between after : List ManagerEvent) : Type 0 where
+  pub run : IsWritingRun w before between after
+  -- it holds no facts when the sweep begins; its floor may have been raised
+  pub knew_nothing : cells_of (after_manager_events before w).manager.store ≡ []
+  -- until the writing it learns from this sweep alone
+  pub alone : AreNoSweeps between (after_manager_event (after_manager_events before w) Begin)
+  -- the sweep has every answer, and nothing was out of its reach
+  pub sweep : Sweep
+  pub is_last : (at_writing w before between).manager.sweep ≡ Some sweep
+  pub whole : IsWhole sweep
+  -- the plan is written in the end
+  pub written : is_written (at_end w before between after).manager ≡ true
+
+-- then each ping from an end port of what the seat is joined to, for each LID of the plan, reaches its owner
+abbrev pub PingsArriveOnceWritten : Type 0
+PingsArriveOnceWritten =
+    (w : Managing) (before between after : List ManagerEvent) → BringsUp w before between after
+    → EachPingArrives (at_writing w before between).manager.planning.rule (cells_of (at_writing w before between).manager.store) (plan_at (at_writing w before between))
+    (at_end w before between after).scene.fabric w.seat
+
+-- there is a manager that brings a subnet up: one that was just made, on a fabric, with what happens there
+pub record SomeManagerBringsUp : Type 0 where
+  pub managing : Managing
+  pub port_guid : ℕ
+  pub port : ℕ
+  pub priority : ℕ
+  pub planning : Planning
+  pub new : managing.manager ≡ new_manager port_guid port priority planning
+  pub before : List ManagerEvent
+  pub between : List ManagerEvent
+  pub after : List ManagerEvent
+  pub brings_up : BringsUp managing before between after

@@ -1,0 +1,111 @@
+-- Once a plan is written, whatever else happened, the fabric holds it wherever the sweep before came to.
+-- InfiniBand Architecture Specification, Volume 1: subnet management, initialization.
+use Rattle.std.specs.Prelude.{◌≡◌, ◌≢◌, ◌⊎◌, ℕ, true, List, [], ◌∷◌, All, Contains, Some, None, IsSome}
+use Rattle.fabric_model.specs.declared.cable.NodePort.{NodePort}
+use Rattle.fabric_model.specs.Fabric as fabric
+use Rattle.fabric_model.specs.Fabric.{Fabric, range_at}
+use Rattle.fact_store.specs.View.{cells_of}
+use Rattle.subnet_view.specs.declared.end_port.EndPort.{EndPort}
+use Rattle.subnet_view.specs.Agreement.{IsPortNamed}
+use Rattle.lid_assign.specs.Lids.{range_of, top_of}
+use Rattle.lft_blocks.specs.Plan.{PlanValue, plan_of, block_at, switches_of}
+use Rattle.lft_blocks.specs.Arrival.{HoldsBlock}
+use Rattle.fabric_sim.specs.Simulation.{fabric_of}
+use Rattle.sweep.specs.Sweep.{Sweep, path_to}
+use Rattle.lft_blocks.specs.Planning.{Planning}
+use Rattle.sm_manager.specs.Manager.{begin_fault, new_manager}
+use Rattle.sm_manager.specs.Plans.{writing_fault}
+use Rattle.sm_manager.specs.Writing.{is_written, phases_by}
+use Rattle.manager_laws.specs.Truth.{HasNode}
+use Rattle.manager_laws.specs.Managing.{Managing, ManagerEvent, Around, Begin, Write, CanBe, Starts, after_manager_event, after_manager_events}
+use Rattle.manager_laws.specs.Sets.{IsOwnSet, OwnSets, KeepsPlan}
+
+-- a plan where a sweep came to -----------------------------------------------------------------
+
+-- the sweep came to a switch, by port 0, or to an adapter's port
+abbrev pub IsReached : Sweep → ℕ → ℕ → Type 0
+IsReached s guid port = IsSome (path_to s guid port)
+
+-- each end port and each switch of the plan that the sweep came to holds what the plan has for it
+pub record IsHeldWhere (plan : PlanValue) (s : Sweep) (f : Fabric) : Type 0 where
+  pub lids : (e : EndPort) (range : ℕ × ℕ) (port : NodePort) → range_of plan.given e ≡ Some range → IsReached s e.node e.port
+      → IsPortNamed f e.node e.port port → range_at f port ≡ range
+  pub tops : (guid top id : ℕ) (node : fabric.Node) → top_of plan.given ≡ Some top → Contains (switches_of plan) guid → IsReached s guid 0
+      → HasNode f guid id node → f.top id ≡ top
+  pub blocks : (guid b id : ℕ) (block : List ℕ) (node : fabric.Node) → block_at plan guid b ≡ Some block → IsReached s guid 0
+      → HasNode f guid id node → HoldsBlock f id b block
+
+-- runs -------------------------------------------------------------------------------------------
+
+abbrev pub BeginsSweep : Managing → ManagerEvent → Type 0
+BeginsSweep w Begin = begin_fault w.manager ≡ None
+BeginsSweep w event = ⊥
+
+abbrev pub BeginsNoWriting : Managing → ManagerEvent → Type 0
+BeginsNoWriting w Write = writing_fault w.manager ≢ None
+BeginsNoWriting w event = Unit {0}
+
+-- no writing begins before a sweep does
+abbrev pub SweepsFirst : List ManagerEvent → Managing → Type 0
+SweepsFirst [] w = Unit {0}
+SweepsFirst (event ∷ events) w =
+    BeginsSweep w event ⊎ (BeginsNoWriting w event × SweepsFirst events (after_manager_event w event))
+
+-- that is so of whatever happens to a manager that was just made
+abbrev pub NewManagersSweepFirst : Type 0
+NewManagersSweepFirst =
+    (port_guid port priority : ℕ) (planning : Planning) (w : Managing) (events : List ManagerEvent) → w.manager ≡ new_manager port_guid port priority planning
+    → SweepsFirst events w
+
+-- no writing begins, and each Set that an agent takes is one of the own, or carries the plan's values
+abbrev pub Keeps : PlanValue → OwnSets → Managing → ManagerEvent → Type 0
+Keeps plan own w (Around event) = KeepsPlan plan own w.scene.fabric event
+Keeps plan own w event = BeginsNoWriting w event
+
+abbrev pub AllKeep : PlanValue → OwnSets → List ManagerEvent → Managing → Type 0
+AllKeep plan own [] w = Unit {0}
+AllKeep plan own (event ∷ events) w = Keeps plan own w event × AllKeep plan own events (after_manager_event w event)
+
+-- when the writing begins: after a sweep began and more happened
+abbrev pub at_writing : Managing → List ManagerEvent → List ManagerEvent → Managing
+at_writing w before between = after_manager_events between (after_manager_event (after_manager_events before w) Begin)
+
+-- the plan that is written, under the manager's LMC
+abbrev pub plan_at : Managing → PlanValue
+plan_at w = plan_of w.manager.planning.rule w.manager.planning.lmc (cells_of w.manager.store)
+
+-- the Sets of the writing's own steps
+abbrev pub own_sets : Managing → Managing → OwnSets
+own_sets start w = IsOwnSet (fabric_of start.scene.fabric) start.seat (phases_by w.manager w.manager.sweep)
+
+-- when its first steps are to be sent
+abbrev pub at_first_steps : Managing → List ManagerEvent → List ManagerEvent → Managing
+at_first_steps w before between = after_manager_event (at_writing w before between) Write
+
+-- at the end
+abbrev pub at_end : Managing → List ManagerEvent → List ManagerEvent → List ManagerEvent → Managing
+at_end w before between after = after_manager_events after (at_first_steps w before between)
+
+-- A sweep begins, and some time later a writing.
+pub record IsWritingRun (w : Managing) (before between after : List ManagerEvent) : Type 0 where
+  pub starts : Starts w
+  -- before the sweep, between it and the writing, and after this began, only such things happen as there are
+  pub before_can : All (CanBe w.seat) before
+  pub between_can : All (CanBe w.seat) between
+  pub after_can : All (CanBe w.seat) after
+  -- the manager wrote nothing over the paths of a sweep that it began before the run
+  pub sweeps_first : SweepsFirst before w
+  -- neither the sweep nor the writing is refused
+  pub sweep_begins : begin_fault (after_manager_events before w).manager ≡ None
+  pub writing_begins : writing_fault (at_writing w before between).manager ≡ None
+  -- from the writing's first step on no other writing begins, and each Set that an agent takes, unless it is one of the
+  -- writing's own, carries the plan's values
+  pub keep : AllKeep (plan_at (at_writing w before between)) (own_sets w (at_writing w before between)) after (at_first_steps w before between)
+
+-- once the plan is written, all that the last sweep before came to holds it
+abbrev pub WrittenPlansAreHeld : Type 0
+WrittenPlansAreHeld =
+    (w : Managing) (before between after : List ManagerEvent) → IsWritingRun w before between after
+    → is_written (at_end w before between after).manager ≡ true
+    → (s : Sweep) → (at_writing w before between).manager.sweep ≡ Some s
+    → IsHeldWhere (plan_at (at_writing w before between)) s (fabric_of (at_end w before between after).scene.fabric)

@@ -1,5 +1,0 @@
-use Rattle.next_tables.proofs.Waits.{no_circle_in_step}
-use Rattle.next_tables.proofs.laws.no_circle_in_step.Goals as goal
-
-pub returns : goal.returns
-returns c = record { law = no_circle_in_step }

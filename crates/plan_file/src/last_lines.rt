@@ -1,0 +1,166 @@
+ghost use Rattle.std.specs.Prelude.{◌≡◌};
+ghost use Rattle.plan_file.specs.TextLine.{line_of};
+ghost use Rattle.plan_file.specs.Reading.{start, item_of, last_lines_after};
+ghost use Rattle.plan_file.specs.Reading.{lid_with, lid_after, lid_behind, is_behind, switch_with, block_with};
+
+use crate::fault::{PlanLineFault, PlanTextError};
+use crate::held::{HeldLid, HeldSwitch};
+use crate::item::{HeldRange, Item};
+use crate::line::{BlockLine, LidLine, SwitchLine, TextLine, read_line};
+use smp_bytes::{Guid, Lid};
+use subnet_view::EndPort;
+
+/// The first number that is no LID of an end port.
+const LID_END: u32 = 0xC000;
+
+/// What the lines before leave for the order of those to come.
+#[derive(Clone, Copy)]
+pub(crate) struct LastLines {
+    /// The first LID of the last line of an end port.
+    pub(crate) lid: Option<HeldLid>,
+    /// The last switch.
+    pub(crate) switch: Option<Guid>,
+    /// The least number that its next block may have.
+    pub(crate) block: u32,
+}
+
+impl LastLines {
+    /// Above all lines.
+    pub(crate) fn start() -> Self
+        ensures { result ≡ start }
+    {
+        LastLines {
+            lid: None,
+            switch: None,
+            block: 0,
+        }
+    }
+
+    /// What the line of a number says, or what is wrong with it.
+    pub(crate) fn item(&self, number: usize, line: &[u8]) -> Result<Item, PlanLineFault>
+        ensures { result ≡ item_of number self.now (line_of line.now) }
+    {
+        match read_line(line) {
+            None => wrong(number, PlanTextError::Syntax),
+            Some(TextLine::Empty) => Ok(Item::Nothing),
+            Some(TextLine::Lid(line)) => lid(number, self.lid, line),
+            Some(TextLine::Switch(line)) => switch(number, self.switch, line),
+            Some(TextLine::Block(line)) => self.block(number, line),
+        }
+    }
+
+    /// What the line of a block says.
+    fn block(&self, number: usize, line: BlockLine) -> Result<Item, PlanLineFault>
+        ensures { result ≡ block_with number self.now line.number line.entries }
+    {
+        if self.switch.is_none() {
+            return wrong(number, PlanTextError::Syntax);
+        }
+        match line.number {
+            Some(block) if u32::from(block) >= self.block => Ok(Item::Block(block, line.entries)),
+            _ => wrong(number, PlanTextError::Block),
+        }
+    }
+
+    /// What this line leaves.
+    pub(crate) fn after(&self, item: &Item) -> Self
+        ensures { result ≡ last_lines_after self.now item.now }
+    {
+        match item {
+            Item::Nothing => *self,
+            Item::Lid(range) => LastLines {
+                lid: Some(range.first),
+                ..*self
+            },
+            Item::Switch(held) => LastLines {
+                lid: self.lid,
+                switch: Some(held.guid),
+                block: 0,
+            },
+            Item::Block(number, _) => LastLines {
+                block: u32::from(*number) + 1,
+                ..*self
+            },
+        }
+    }
+}
+
+/// The fault of a line.
+fn wrong(line: usize, wrong: PlanTextError) -> Result<Item, PlanLineFault>
+    ensures { result ≡ Err (record { line = line; wrong = wrong }) }
+{
+    Err(PlanLineFault { line, wrong })
+}
+
+/// What the line of a LID says behind the last one.
+fn lid(number: usize, last: Option<HeldLid>, line: LidLine) -> Result<Item, PlanLineFault>
+    ensures { result ≡ lid_with number last line.lid line.node line.port line.lmc }
+{
+    let Some(lid) = line.lid else {
+        return wrong(number, PlanTextError::Lid);
+    };
+    let Some(port) = line.port else {
+        return wrong(number, PlanTextError::Port);
+    };
+    let Some(lmc) = line.lmc else {
+        return wrong(number, PlanTextError::Lmc);
+    };
+    if LID_END < u32::from(lid) + u32::from(lmc.width()) {
+        return wrong(number, PlanTextError::Lid);
+    }
+    let node = line.node;
+    let first = HeldLid {
+        lid: Lid::new(lid),
+        port: EndPort { node, port },
+    };
+    lid_after(number, last, HeldRange { first, lmc })
+}
+
+/// What a line of a LID says behind the last one, if there is one.
+fn lid_after(number: usize, last: Option<HeldLid>, range: HeldRange) -> Result<Item, PlanLineFault>
+    ensures { result ≡ lid_after number last range }
+{
+    match last {
+        Some(last) => lid_behind(number, last, range),
+        None => Ok(Item::Lid(range)),
+    }
+}
+
+/// What a line of a LID says behind another.
+fn lid_behind(number: usize, last: HeldLid, range: HeldRange) -> Result<Item, PlanLineFault>
+    ensures { result ≡ lid_behind number last range }
+{
+    let held = range.first;
+    if held.lid < last.lid {
+        wrong(number, PlanTextError::Lid)
+    } else if is_behind(last, held) {
+        Ok(Item::Lid(range))
+    } else {
+        wrong(number, PlanTextError::Port)
+    }
+}
+
+/// Whether a LID that is not less, or else the end port, is greater.
+fn is_behind(last: HeldLid, held: HeldLid) -> bool
+    ensures { result ≡ is_behind last held }
+{
+    let is_same_node = last.port.node == held.port.node;
+    last.lid < held.lid
+        || last.port.node < held.port.node
+        || (is_same_node && last.port.port < held.port.port)
+}
+
+/// What the line of a switch says behind the last one.
+fn switch(number: usize, last: Option<Guid>, line: SwitchLine) -> Result<Item, PlanLineFault>
+    ensures { result ≡ switch_with number last line.guid line.top }
+{
+    let Some(top) = line.top else {
+        return wrong(number, PlanTextError::Lid);
+    };
+    let guid = line.guid;
+    let top = Lid::new(top);
+    match last {
+        Some(last) if guid <= last => wrong(number, PlanTextError::Switch),
+        _ => Ok(Item::Switch(HeldSwitch { guid, top })),
+    }
+}

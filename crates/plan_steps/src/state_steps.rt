@@ -1,0 +1,139 @@
+ghost use Rattle.std.specs.Prelude.{◌≡◌, IfOk, false};
+ghost use Rattle.std.specs.List.{filter_map};
+ghost use Rattle.std.specs.Option.{option_map_or};
+ghost use Rattle.fact_store.specs.View.{cells_of};
+ghost use Rattle.sweep.specs.Sweep.{seen_state};
+ghost use Rattle.plan_steps.specs.States.{is_due, state_data, state_step, vertex_port};
+ghost use Rattle.plan_steps.specs.States.{wired_port, wired_ports};
+
+use crate::lid_steps::port_data;
+use crate::step::{Step, step_at};
+use attr_codec::{Lmc, PortState};
+use fact_store::{Key, Sighting, Store};
+use lid_assign::LidMap;
+use smp_bytes::{AttributeId, Guid, Lid, PortNum};
+use std::alloc::{AllocError, Global};
+use subnet_view::{EndPort, is_usable, wire};
+use sweep::Sweep;
+
+/// The ports on wires, both ends of each, by node GUID and port. Walks the cells.
+pub(crate) fn wired_ports(alloc: Global, store: &Store) -> Result<Vec<(Guid, PortNum)>, AllocError>
+    ensures { IfOk result (λ ports. ports.items ≡ wired_ports (cells_of store.now)) }
+{
+    let mut ports = Vec::new(alloc);
+    for sighting in store.cells() {
+        if let Some(port) = wired_port(store, &sighting) {
+            ports.push(port)?;
+        }
+    }
+    Ok(ports)
+}
+
+/// The port of a cell, where the cell is its link and it is on a wire.
+fn wired_port(store: &Store, sighting: &Sighting) -> Option<(Guid, PortNum)>
+    ensures { result ≡ wired_port (cells_of store.now) sighting.now }
+{
+    match sighting.key() {
+        Key::Link(guid, port) => {
+            if wire(store, guid, port).is_some() {
+                Some((guid, port))
+            } else {
+                None
+            }
+        }
+        _ => None,
+    }
+}
+
+/// The state for each of these ports that was reached and is still to come to it, in their order.
+/// Takes some five searches for each.
+#[tactic(auto, using(crate::proofs::Walked::walked_some, crate::proofs::Walked::walked_none))]
+pub(crate) fn state_steps(
+    alloc: Global,
+    store: &Store,
+    sweep: &Sweep,
+    lids: &LidMap,
+    master: Lid,
+    ports: &[(Guid, PortNum)],
+    state: PortState,
+) -> Result<Vec<Step>, AllocError>
+    ensures { IfOk result (λ steps. steps.items
+        ≡ filter_map (state_step (cells_of store.now) sweep.now lids.now master state) ports.now) }
+{
+    let mut steps = Vec::new(alloc);
+    for at in ports {
+        if let Some(step) = state_step(store, sweep, lids, master, state, at.0, at.1) {
+            steps.push(step)?;
+        }
+    }
+    Ok(steps)
+}
+
+/// The step of a port on a wire.
+fn state_step(
+    store: &Store,
+    sweep: &Sweep,
+    lids: &LidMap,
+    master: Lid,
+    state: PortState,
+    guid: Guid,
+    port: PortNum,
+) -> Option<Step>
+    ensures { result ≡ state_step (cells_of store.now) sweep.now lids.now master state (guid, port) }
+{
+    if !is_still_due(sweep, state, guid, port) {
+        return None;
+    }
+    step_at(
+        sweep,
+        guid,
+        vertex_port(store, guid, port),
+        AttributeId::PORT_INFO,
+        u32::from(port.number()),
+        state_data(lids, master, state, guid, port),
+    )
+}
+
+/// Whether the sweep saw a port in a state from which it is still to come to this one.
+fn is_still_due(sweep: &Sweep, state: PortState, guid: Guid, port: PortNum) -> bool
+    ensures { result ≡ option_map_or (is_due state) (seen_state sweep.now guid port) false }
+{
+    match sweep.seen_state(guid, port) {
+        Some(seen) => is_due(state, seen),
+        None => false,
+    }
+}
+
+/// Whether a port in the state `seen` is still to come to this one.
+fn is_due(state: PortState, seen: PortState) -> bool
+    ensures { result ≡ is_due state seen }
+{
+    match state {
+        PortState::Armed => matches!(seen, PortState::Initialize),
+        PortState::Active => matches!(seen, PortState::Initialize | PortState::Armed),
+        PortState::NoChange | PortState::Down | PortState::Initialize => false,
+    }
+}
+
+/// The vertex of a port on a wire: its switch by port 0, or the adapter's port itself.
+fn vertex_port(store: &Store, guid: Guid, port: PortNum) -> PortNum
+    ensures { result ≡ vertex_port (cells_of store.now) (guid, port) }
+{
+    if is_usable(store, guid) {
+        PortNum::new(0)
+    } else {
+        port
+    }
+}
+
+/// An end port's LIDs go with its state; a switch's other ports have none.
+fn state_data(lids: &LidMap, master: Lid, state: PortState, guid: Guid, port: PortNum) -> [u8; 64]
+    ensures { result ≡ state_data lids.now master state (guid, port) }
+{
+    let end = EndPort { node: guid, port };
+    let lmc = lids.lmc_of(&end);
+    match lids.lid_of(end) {
+        Some(lid) => port_data(lid, lmc, master, state),
+        None => port_data(Lid::new(0), Lmc::ZERO, Lid::new(0), state),
+    }
+}

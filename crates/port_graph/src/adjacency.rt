@@ -1,0 +1,73 @@
+ghost use Rattle.std.specs.Prelude.{◌≡◌, [], ◌∷◌, ◌++◌, length, OnOk, OnErr, slice_index_or};
+
+use crate::edge::Edge;
+use std::alloc::{AllocError, Global};
+use std::marker::Model;
+
+/// The edges of each vertex, all in one list. The vertices are the numbers from 0 on.
+#[derive(Drop)]
+pub struct Adjacency {
+    /// Where each vertex has its edges.
+    spans: Vec<Span>,
+    edges: Vec<Edge>,
+}
+
+/// Where the edges of a vertex begin and end.
+#[derive(Clone, Copy)]
+struct Span {
+    start: usize,
+    end: usize,
+}
+
+impl Model for Adjacency {
+    ghost use Rattle.std.specs.Prelude.{List};
+    ghost use Rattle.port_graph.specs.declared.edge.Edge.{Edge as GraphEdge};
+    ghost use Rattle.port_graph.specs.Spans.{cut, AreWithin};
+
+    ghost Value = { List (List GraphEdge) };
+
+    ghost view = { λ a. cut a.edges.items a.spans.items };
+
+    ghost invariant = { λ a. AreWithin a.edges.items a.spans.items };
+}
+
+impl Adjacency {
+    /// No vertex.
+    pub fn new(alloc: Global) -> Self
+        ensures { result ≡ [] }
+    {
+        Adjacency {
+            spans: Vec::new(alloc),
+            edges: Vec::new(alloc),
+        }
+    }
+
+    /// How many vertices there are.
+    pub fn len(&self) -> usize
+        ensures { result ≡ length self.now }
+    {
+        self.spans.len()
+    }
+
+    /// Adds a vertex with these edges, in their order. On an error nothing has changed.
+    pub fn push_vertex(&mut self, edges: &[Edge]) -> Result<(), AllocError>
+        ensures added { OnOk result (self.new ≡ self.old ++ edges.now ∷ []) }
+        ensures unchanged { OnErr result (self.new ≡ self.old) }
+    {
+        let start = self.edges.len();
+        self.edges.extend_from_slice(edges)?;
+        let end = self.edges.len();
+        self.spans.push(Span { start, end })?;
+        Ok(())
+    }
+
+    /// The edges of a vertex in their order. None past the last vertex. Takes one step.
+    pub fn at(&self, vertex: usize) -> &[Edge]
+        ensures { result.now ≡ slice_index_or self.now vertex [] }
+    {
+        match self.spans.get(vertex) {
+            Some(span) => &self.edges[span.start..span.end],
+            None => &[],
+        }
+    }
+}

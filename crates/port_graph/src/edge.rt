@@ -1,0 +1,10 @@
+use smp_bytes::PortNum;
+
+/// An edge of a graph, seen from the vertex that it leaves.
+#[derive(Clone, Copy, Debug, PartialEq, Eq)]
+pub struct Edge {
+    /// The port by which it leaves.
+    pub port: PortNum,
+    /// The vertex to which it leads.
+    pub to: usize,
+}

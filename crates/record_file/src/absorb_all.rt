@@ -1,0 +1,48 @@
+//! Reading files into a store.
+ghost use Rattle.std.specs.Prelude.{◌≡◌, ◌↔◌, ◌<◌, ◌≤◌, Err, IsTrue};
+ghost use Rattle.record_file.specs.Absorbs.{Absorbs, AnswersKnown};
+
+use crate::absorber::Absorber;
+use crate::file_fault::FileFault;
+use byte_io::{Reading, Source};
+use fact_store::Store;
+
+/// How many bytes `absorb` reads at a time.
+const READ_LEN: usize = 4096;
+
+/// Takes one file, of reports or of a store's cells, into the store, record after record, in
+/// constant memory of its own.
+/// The header of a store file raises the store's floor before the first record. After a fault the store holds what it
+/// held before, and the floor and the whole records that stand before the fault. Who wants all or nothing absorbs into a fresh store and merges.
+pub fn absorb<S: Source>(source: &mut S, store: &mut Store) -> Result<(), FileFault>
+    ensures read { (result ≡ Err FileFault.Read) ↔ IsTrue (S.has_failed source.new) }
+    ensures absorbs { Absorbs S.left S.interruptions result
+        source.old source.new store.old store.new }
+    ensures known { AnswersKnown S.left S.interruptions result source.old source.new }
+{
+    absorb_by::<READ_LEN, S>(source, store)
+}
+
+/// The same, reading at most `N` bytes at a time.
+pub fn absorb_by<const N: usize, S: Source>(
+    source: &mut S,
+    store: &mut Store,
+) -> Result<(), FileFault>
+    requires some { 0 < N }
+    requires most { N ≤ 4096 }
+    ensures read { (result ≡ Err FileFault.Read) ↔ IsTrue (S.has_failed source.new) }
+    ensures absorbs { Absorbs S.left S.interruptions result
+        source.old source.new store.old store.new }
+    ensures known { AnswersKnown S.left S.interruptions result source.old source.new }
+{
+    let mut reading = Reading::new(source);
+    let mut absorber = Absorber::new();
+    let mut room = [0; N];
+    loop {
+        let count = reading.piece(&mut room)?;
+        if count == 0 {
+            return absorber.finish();
+        }
+        absorber.feed(&room[..count], store)?;
+    }
+}

@@ -1,0 +1,121 @@
+//! The facts of a store as text: a line for its floor, and one for each cell.
+ghost use Rattle.std.specs.Prelude.{◌≡◌, IsTrue, OnOk};
+ghost use Rattle.byte_io.specs.Writes.{Writes};
+ghost use Rattle.fact_store.specs.Sighting.{AreInRange};
+ghost use Rattle.record_file.specs.FactsText.{kind_word, subject_text, key_text, value_text, cell_text, fact_text, line_text, floor_line, facts_text};
+
+use byte_io::{Sink, WriteFault, write_guid, write_number, write_port};
+use fact_join::Cell;
+use fact_store::{Key, Sighting, Store, Value};
+use smp_bytes::Generation;
+
+/// The word of what a fact is about.
+fn kind_word(key: &Key) -> &'static str
+    ensures { result.now ≡ kind_word key.now }
+{
+    match key {
+        Key::Node(_) => "node",
+        Key::PortGuid(..) => "portguid",
+        Key::Link(..) => "link",
+        Key::Port(..) => "port",
+        Key::Claim(..) => "claim",
+        Key::Cap(_) => "cap",
+    }
+}
+
+/// Writes the node or the port that a fact is about.
+fn write_subject<W: Sink>(sink: &mut W, key: &Key) -> Result<(), WriteFault>
+    ensures writes { Writes W.written W.has_failed result sink.old sink.new (subject_text key.now) }
+{
+    match *key {
+        Key::Node(guid) | Key::Cap(guid) => write_guid(sink, guid),
+        Key::PortGuid(guid, port)
+        | Key::Link(guid, port)
+        | Key::Port(guid, port)
+        | Key::Claim(guid, port) => write_port(sink, guid, port),
+    }
+}
+
+/// Writes what a fact is about: `node`, `portguid`, `link`, `port`, `claim` or `cap`, and the node or port.
+fn write_key<W: Sink>(sink: &mut W, key: &Key) -> Result<(), WriteFault>
+    ensures writes { Writes W.written W.has_failed result sink.old sink.new (key_text key.now) }
+{
+    sink.write(kind_word(key).as_bytes())?;
+    sink.write(b" ")?;
+    write_subject(sink, key)
+}
+
+/// Writes what a fact says.
+fn write_value<W: Sink>(sink: &mut W, value: &Value) -> Result<(), WriteFault>
+    ensures writes { Writes W.written W.has_failed result sink.old sink.new (value_text value.now) }
+{
+    match *value {
+        Value::Kind(kind, ports) => {
+            sink.write(kind.word().as_bytes())?;
+            sink.write(b" ")?;
+            write_number(sink, u64::from(ports))
+        }
+        Value::Guid(guid) => write_guid(sink, guid),
+        Value::Peer(guid, port) => write_port(sink, guid, port),
+        Value::Up(true) => sink.write(b"up"),
+        Value::Up(false) => sink.write(b"down"),
+        Value::Lid(lid) => write_number(sink, u64::from(lid.number())),
+        Value::Count(count) => write_number(sink, u64::from(count)),
+    }
+}
+
+/// Writes the value of a cell, or `disputed`, and its generation.
+fn write_state<W: Sink>(sink: &mut W, cell: &Cell<Value>) -> Result<(), WriteFault>
+    ensures writes { Writes W.written W.has_failed result sink.old sink.new (cell_text cell.now) }
+{
+    match cell {
+        Cell::Known(_, value) => write_value(sink, value)?,
+        Cell::Disputed(_) => sink.write(b"disputed")?,
+    }
+    sink.write(b" @")?;
+    write_number(sink, u64::from(cell.generation().number()))
+}
+
+/// Writes a key and what is said of it.
+fn write_fact<W: Sink>(sink: &mut W, cell: &Sighting) -> Result<(), WriteFault>
+    ensures writes { Writes W.written W.has_failed result sink.old sink.new (fact_text cell.now) }
+{
+    write_key(sink, &cell.key())?;
+    sink.write(b" ")?;
+    write_state(sink, &cell.cell())
+}
+
+/// Writes the line of a cell: its key, its value or `disputed`, and `@` with its generation.
+pub fn write_cell<W: Sink>(sink: &mut W, cell: &Sighting) -> Result<(), WriteFault>
+    ensures writes { Writes W.written W.has_failed result sink.old sink.new (line_text cell.now) }
+{
+    write_fact(sink, cell)?;
+    sink.write(b"\n")
+}
+
+/// Writes the line of a floor over 1: `floor`, and its generation.
+fn write_floor<W: Sink>(sink: &mut W, floor: Generation) -> Result<(), WriteFault>
+    ensures writes { Writes W.written W.has_failed result sink.old sink.new (floor_line floor) }
+{
+    if floor.number() <= 1 {
+        // A sink that has failed says so even here.
+        return sink.write(b"");
+    }
+    sink.write(b"floor ")?;
+    write_number(sink, u64::from(floor.number()))?;
+    sink.write(b"\n")
+}
+
+/// Writes the line of the floor, if it is over 1, and that of each cell in the order of the keys, and flushes. It takes no
+/// memory.
+pub fn write_facts<W: Sink>(sink: &mut W, store: &Store) -> Result<(), WriteFault>
+    ensures writes { Writes W.written W.has_failed result sink.old sink.new (facts_text store.now) }
+    ensures flushed { OnOk result (IsTrue (W.is_flushed sink.new)) }
+    ensures in_range { OnOk result (AreInRange store.now) }
+{
+    write_floor(sink, store.floor())?;
+    for cell in store.cells() {
+        write_cell(sink, &cell)?;
+    }
+    sink.flush()
+}

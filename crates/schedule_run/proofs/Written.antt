@@ -1,0 +1,14 @@
+-- One text behind another.
+use Rattle.std.proofs.Common.{ℕ, Bool, List, ◌++◌, Option, Result, Ok, Err}
+use Rattle.std.specs.Io.KnownBytes.{Appends}
+use Rattle.byte_io.specs.Writes.{Writes}
+use Rattle.byte_io.specs.declared.sink.WriteFault.{WriteFault}
+use Rattle.record_file.proofs.Writing.{appends_then}
+
+-- what was written before, and what a call writes then
+pub writes_then : {W : Type 0} (written : W → Option (List ℕ)) (has_failed : W → Bool)
+    (result : Result (Unit {0}) WriteFault) (old mid new : W) (front back : List ℕ)
+    → Appends (written old) (written mid) front → Writes written has_failed result mid new back → Writes written has_failed result old new (front ++ back)
+writes_then written has_failed (Ok u) old mid new front back before h =
+    record { ok = appends_then (written old) (written mid) (written new) front back before h.ok; failed = h.failed }
+writes_then written has_failed (Err fault) old mid new front back before h = record { ok = tt; failed = h.failed }

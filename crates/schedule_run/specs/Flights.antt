@@ -1,0 +1,24 @@
+-- The packets in flight that commands are about.
+use Rattle.std.specs.Prelude.{ℕ, ◌-◌, List, Option, None, Some, length, option_map, slice_get}
+use Rattle.std.specs.Option.{option_map_or}
+use Rattle.fabric_sim.specs.Changes.{after_lose}
+use Rattle.fabric_sim.specs.Simulation.{Simulation}
+use Rattle.fabric_sim.specs.declared.packet.Packet.{Packet}
+use Rattle.sm_manager.specs.declared.outgoing.Outgoing.{Outgoing}
+use Rattle.fabric_sim.specs.declared.flight.Flight.{Flight}
+use Rattle.schedule_file.specs.declared.command.Which.{Which}
+use Rattle.schedule_file.specs.declared.command.Which.TheVariants.{Last, Serial}
+
+-- the serial number of the last packet in flight, or the one that is told
+abbrev pub serial_of : List Flight → Which → Option ℕ
+serial_of flights Last = option_map (λ flight. flight.serial) (slice_get flights (length flights - 1))
+serial_of flights (Serial serial) = Some serial
+
+-- a packet as it goes out: to a LID, or on a directed route, where the LIDs of both ends are the permissive one
+abbrev pub packet_out : Outgoing → Packet
+packet_out outgoing = record { bytes = outgoing.packet; slid = 0xFFFF; dlid = option_map_or (λ lid. lid) outgoing.to 0xFFFF }
+
+-- the fabric with the packet of this serial number lost; there may be none that is meant
+abbrev pub without : Simulation → Option ℕ → Simulation
+without fabric None = fabric
+without fabric (Some serial) = (after_lose fabric serial).fabric

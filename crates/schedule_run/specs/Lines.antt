@@ -1,0 +1,54 @@
+-- The lines that commands print.
+use Rattle.std.specs.Prelude.{ℕ, List, ◌++◌, codes, decimal}
+use Rattle.fabric_model.specs.declared.cable.NodePort.{NodePort}
+use Rattle.text_words.specs.Printed.{bracketed_text, quoted_text}
+use Rattle.topo_file.specs.declared.node.Node.{Node}
+use Rattle.topo_file.specs.Printed.{name_at}
+use Rattle.fabric_sim.specs.declared.ping.Ping.{Ping}
+use Rattle.fabric_sim.specs.declared.ping.Ping.TheVariants.{Reached, Lost}
+use Rattle.sm_state.specs.declared.state.SmState.{SmState}
+use Rattle.sm_state.specs.States.{state_word}
+use Rattle.sm_manager.specs.declared.progress.Progress.{Progress}
+use Rattle.sm_manager.specs.declared.progress.Progress.TheVariants.{Never, Running, Done}
+
+-- words, and how many
+abbrev pub count_text : List ℕ → ℕ → List ℕ
+count_text words count = words ++ decimal count
+
+-- how many requests were not answered, and how many ports lead too far
+unfoldable pub counts_text : ℕ → ℕ → List ℕ
+counts_text unanswered too_far = count_text (codes " unanswered ") unanswered ++ count_text (codes " toofar ") too_far
+
+abbrev pub stage_text : Progress → List ℕ
+stage_text Never = codes " never"
+stage_text (Running unanswered too_far) = codes " running" ++ counts_text unanswered too_far
+stage_text (Done unanswered too_far) = codes " done" ++ counts_text unanswered too_far
+
+-- how far the manager of a name is with its sweep
+abbrev pub progress_line : List ℕ → Progress → List ℕ
+progress_line manager progress = codes "progress " ++ manager ++ stage_text progress ++ codes "\n"
+
+-- the manager of a name is in this state
+abbrev pub state_line : List ℕ → SmState → List ℕ
+state_line manager state = codes "state " ++ manager ++ codes " " ++ state_word state ++ codes "\n"
+
+-- a port: its node's name in quotes, and its number in brackets
+abbrev pub port_text : List Node → NodePort → List ℕ
+port_text nodes p = quoted_text (name_at nodes p.node) ++ bracketed_text p.port
+
+-- from where a packet is sent, and to which LID
+unfoldable pub start_text : List Node → NodePort → ℕ → List ℕ
+start_text nodes source lid = codes "ping " ++ port_text nodes source ++ codes " " ++ decimal lid
+
+-- where it comes to
+unfoldable pub end_text : List Node → Ping → List ℕ
+end_text nodes (Reached p hops) = codes " reached " ++ port_text nodes p ++ codes " hops " ++ decimal hops
+end_text nodes (Lost number) = codes " lost " ++ quoted_text (name_at nodes number)
+
+-- both
+abbrev pub ping_line : List Node → NodePort → ℕ → Ping → List ℕ
+ping_line nodes source lid ping = start_text nodes source lid ++ end_text nodes ping ++ codes "\n"
+
+-- a packet in flight: its serial number, and the node where it waits
+abbrev pub flight_line : List Node → ℕ → ℕ → List ℕ
+flight_line nodes serial number = codes "packet " ++ decimal serial ++ codes " " ++ quoted_text (name_at nodes number) ++ codes "\n"

@@ -1,8 +1,0 @@
-use Rattle.fact_store.specs.Walk.{cells_left}
-use Rattle.record_file.proofs.Writing.{HasWritten}
-use Rattle.sm_cli.specs.FactsText.{line_text}
-use Rattle.sm_cli.proofs.facts_text.write_facts.Given as goal
-
--- the lines of the cells given so far were written
-abbrev pub invariant-loop-cell : goal.invariant-loop-cell
-invariant-loop-cell g l = HasWritten line_text (g.W.Sink.written l.initial.sink) (g.W.Sink.written l.sink) l.yielded (cells_left l.cell-iterator) (cells_left l.initial.cell-iterator)

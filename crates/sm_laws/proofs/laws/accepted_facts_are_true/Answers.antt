@@ -1,5 +1,0 @@
-use Rattle.sm_laws.proofs.Swept as swept
-use Rattle.sm_laws.proofs.laws.accepted_facts_are_true.Goals as goal
-
-pub returns : goal.returns
-returns c = swept.accepted_facts_are_true

@@ -1,5 +1,0 @@
-use Rattle.sm_laws.proofs.PlannedPings as pings
-use Rattle.sm_laws.proofs.laws.pings_arrive.Goals as goal
-
-pub returns : goal.returns
-returns c = pings.pings_arrive

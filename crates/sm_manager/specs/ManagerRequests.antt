@@ -1,0 +1,61 @@
+-- The requests of a manager outside its sweeps, by rising numbers.
+use Rattle.std.specs.Prelude.{◌≡◌, ℕ, Bool, true, false, List, filter, length, ◌==◌, Option}
+use Rattle.request_table.specs.Numbers as numbers
+use Rattle.sm_manager.specs.declared.pending.Pending.{Pending}
+use Rattle.sm_manager.specs.declared.pending.Purpose.{Purpose}
+use Rattle.sm_manager.specs.declared.pending.Purpose.TheVariants as purpose
+
+-- the number of the next one, those that wait for their answers, and for how many more there is memory
+pub record ManagerRequests : Type 0 where
+  pub counter : ℕ
+  pub pending : List Pending
+  pub room : ℕ
+
+-- 32 bits hold each number, and they rise
+abbrev pub AreNumbered : ℕ → List Pending → Type 0
+AreNumbered counter pending = numbers.AreNumbered (λ (p : Pending). p.number) pending counter
+
+-- the request of a number
+abbrev pub with_number : ℕ → List Pending → Option Pending
+with_number number pending = numbers.with_number (λ (p : Pending). p.number) number pending
+
+-- without the request of a number
+abbrev pub without_number : ℕ → List Pending → List Pending
+without_number number pending = numbers.without_number (λ (p : Pending). p.number) number pending
+
+-- what they are for ------------------------------------------------------------------------------
+
+abbrev pub is_for_step : Purpose → Bool
+is_for_step purpose.Poll = false
+is_for_step purpose.Control = false
+is_for_step (purpose.Step counts) = true
+
+-- a step of the last writing
+abbrev pub is_step : Pending → Bool
+is_step p = is_for_step p.purpose
+
+abbrev pub counts_as : Purpose → Bool
+counts_as purpose.Poll = false
+counts_as purpose.Control = false
+counts_as (purpose.Step counts) = counts
+
+-- a step without which the plan is not written
+abbrev pub counts : Pending → Bool
+counts p = counts_as p.purpose
+
+-- how many pass a test
+abbrev pub how_many : (Pending → Bool) → List Pending → ℕ
+how_many test pending = length (filter test pending)
+
+-- no step of the last writing waits
+abbrev pub no_step_waits : List Pending → Bool
+no_step_waits pending = how_many is_step pending == 0
+
+-- nor one without which the plan is not written
+abbrev pub none_counts : List Pending → Bool
+none_counts pending = how_many counts pending == 0
+
+-- so many are steps, and so many count
+pub record AreCounted (pending : List Pending) (steps counting : ℕ) : Type 0 where
+  pub steps_are : steps ≡ how_many is_step pending
+  pub counting_are : counting ≡ how_many counts pending

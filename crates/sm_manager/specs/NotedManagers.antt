@@ -1,0 +1,10 @@
+-- The managers that a sweep has seen so far.
+use Rattle.std.specs.Prelude.{List, [], ◌∷◌, ◌++◌}
+use Rattle.sweep.specs.declared.answer.Answer.{Answer}
+use Rattle.sweep.specs.declared.answer.Answer.TheVariants.{Facts, Seen}
+use Rattle.sm_state.specs.declared.seen.SeenManager.{SeenManager}
+
+-- what a sweep saw, in the order in which it did
+abbrev pub with_seen : Answer → List SeenManager → List SeenManager
+with_seen (Facts report) seen = seen
+with_seen (Seen guid port info) seen = seen ++ record { guid = guid; port = port; info = info } ∷ []

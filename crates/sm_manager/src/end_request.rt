@@ -1,0 +1,79 @@
+//! How requests outside sweeps end.
+ghost use Rattle.std.specs.Prelude.{◌≡◌, ◌<◌, OnOk, OnErr, length, slice_get, option_map, is_some};
+ghost use Rattle.smp_bytes.specs.Judges.{JudgesButFor};
+ghost use Rattle.sm_manager.specs.declared.pending.Pending.{Pending};
+ghost use Rattle.sm_manager.specs.Fault.{is_memory};
+ghost use Rattle.sm_manager.specs.Packets.{pending_for, after_poll_end, request_answered, after_request, status_number};
+ghost use Rattle.sm_manager.specs.Writing.{is_done_by};
+
+use crate::fault::ManagerFault;
+use crate::manager::Manager;
+use crate::pending::Purpose;
+use sm_state::Standing;
+use smp_bytes::{Smp, Status};
+
+impl Manager {
+    /// Takes an answer to a request outside sweeps.
+    pub(crate) fn take_answer(&mut self, smp: &Smp) -> Result<(), ManagerFault>
+        ensures judged { JudgesButFor is_memory result
+            (request_answered self.old smp.now (pending_for self.old smp.now)).fault }
+        ensures ok { OnOk result (self.new
+            ≡ (request_answered self.old smp.now (pending_for self.old smp.now)).manager) }
+        ensures err { OnErr result (self.new ≡ self.old) }
+    {
+        match self.requests.index_for(smp) {
+            Some(index) => self.end_request(index, Some(smp.status())),
+            None => Err(ManagerFault::Unasked),
+        }
+    }
+
+    /// A request outside sweeps waits no more: it was answered with a status, or was not answered in time.
+    pub(crate) fn end_request(
+        &mut self,
+        index: usize,
+        answer: Option<Status>,
+    ) -> Result<(), ManagerFault>
+        requires { index < length self.old.pending }
+        ensures judged { (p : Pending) → slice_get self.old.pending index ≡ Some p
+            → JudgesButFor is_memory result
+            (after_request self.old p (status_number answer) p.purpose).fault }
+        ensures ok { (p : Pending) → slice_get self.old.pending index ≡ Some p
+            → OnOk result (self.new
+            ≡ (after_request self.old p (status_number answer) p.purpose).manager) }
+        ensures err { OnErr result (self.new ≡ self.old) }
+    {
+        match self.requests.purpose(index) {
+            Purpose::Step { .. } => self.end_step(index, is_done_by(answer)),
+            Purpose::Poll => {
+                self.requests.end(index);
+                end_poll(&mut self.standing, answer.is_some());
+                Ok(())
+            }
+            Purpose::Control => {
+                self.requests.end(index);
+                Ok(())
+            }
+        }
+    }
+}
+
+/// Whether a step was done: its answer says so.
+fn is_done_by(answer: Option<Status>) -> bool
+    ensures { result ≡ is_done_by (status_number answer) }
+{
+    match answer {
+        Some(status) => status == Status::DONE,
+        None => false,
+    }
+}
+
+/// A poll was answered, or was not.
+fn end_poll(standing: &mut Standing, was_answered: bool)
+    ensures { standing.new ≡ after_poll_end was_answered standing.old }
+{
+    if was_answered {
+        standing.hear_poll();
+    } else {
+        standing.lose_poll();
+    }
+}

@@ -1,0 +1,126 @@
+ghost use Rattle.std.specs.Prelude.{◌≡◌, ◌-◌, OnOk, OnErr};
+ghost use Rattle.sm_manager.specs.Manager.{after_verdict};
+ghost use Rattle.sm_manager.specs.Packets.{HasSender, IsFaultWithoutRoom, is_for_sweep, is_info_request, sweep_answered, after_packet};
+ghost use Rattle.smp_bytes.specs.Judges.{JudgesButFor};
+ghost use Rattle.sm_manager.specs.Fault.{is_memory, refusal_of};
+ghost use Rattle.sweep.specs.Replies.{judged};
+
+use crate::fault::ManagerFault;
+use crate::manager::Manager;
+use crate::note_seen::note_seen;
+use crate::outgoing::send_queued;
+use fact_store::ReportFault;
+use sm_state::{SeenManager, Standing, sweep_verdict};
+use smp_bytes::{AttributeId, Lid, Method, Smp, SmpClass};
+use sweep::{Sweep, SweepFault};
+
+/// How many requests a reply brings up at most: one for a switch's table and one for each of its 255 ports.
+const REQUESTS_PER_REPLY: usize = 256;
+
+impl Manager {
+    /// Takes a packet that came to the manager's port, and the LID of its sender, which a packet by LIDs has. A reply that
+    /// its sweep waits for tells facts, which are taken in, or shows another manager, which is noted, and what it brings up
+    /// goes out; where the sweep is done then, the state moves by what it saw. An answer to a poll or a control ends it; one
+    /// to a step of a writing does too, and the last of a phase brings up the next phase. A request for SMInfo is answered,
+    /// and a control obeyed where the state has a move for it. The work does not grow with what is known, but for the
+    /// searches, and for the managers that a sweep saw at its end.
+    ///
+    /// # Errors
+    ///
+    /// `Sweep` with what is wrong with bytes that are no packet; `Unasked` for what answers nothing, requests other than
+    /// those for SMInfo among them; `Sweep` for a reply that the sweep refuses; `SequenceSpent` where there are no numbers
+    /// for what goes out; `Memory`.
+    pub fn on_packet(&mut self, bytes: &[u8; 256], from: Option<Lid>) -> Result<(), ManagerFault>
+        requires { HasSender bytes.now from }
+        ensures judged { JudgesButFor is_memory result (after_packet self.old bytes.now from).fault }
+        ensures ok { OnOk result (self.new ≡ (after_packet self.old bytes.now from).manager) }
+        ensures err { OnErr result (self.new ≡ self.old) }
+    {
+        let smp = match Smp::parse(bytes) {
+            Ok(smp) => smp,
+            Err(fault) => {
+                return Err(ManagerFault::Sweep(SweepFault::Bad(ReportFault::Smp(fault))));
+            }
+        };
+        if is_info_request(&smp) {
+            self.serve(&smp, from)
+        } else if is_for_sweep(&smp) {
+            self.take_reply(&smp)
+        } else {
+            self.take_answer(&smp)
+        }
+    }
+
+    /// Takes a reply to the sweep.
+    fn take_reply(&mut self, smp: &Smp) -> Result<(), ManagerFault>
+        ensures judged { JudgesButFor is_memory result
+            (sweep_answered self.old smp.now self.old.sweep).fault }
+        ensures ok { OnOk result (self.new
+            ≡ (sweep_answered self.old smp.now self.old.sweep).manager) }
+        ensures err { OnErr result (self.new ≡ self.old) }
+    {
+        let Some(sweep) = &mut self.sweep else {
+            return Err(ManagerFault::Unasked);
+        };
+        if self.outgoing.reserve(REQUESTS_PER_REPLY).is_err() || self.seen.reserve(1).is_err() {
+            return Err(fault_without_room(sweep, smp));
+        }
+        match sweep.on_reply_into(smp, &mut self.store) {
+            Ok(answer) => {
+                note_seen(&mut self.seen, &answer);
+                send_queued(sweep, &mut self.outgoing);
+                if sweep.is_done() {
+                    end_sweep(&mut self.standing, &self.seen);
+                }
+                Ok(())
+            }
+            Err(fault) => Err(refusal_of(fault)),
+        }
+    }
+}
+
+/// A sweep that saw these has got done.
+pub(crate) fn end_sweep(standing: &mut Standing, seen: &[SeenManager])
+    ensures { standing.new ≡ after_verdict seen.now standing.old }
+{
+    let event = sweep_verdict(&standing.info(), seen);
+    standing.move_by(event);
+}
+
+/// The refusal of a sweep as the manager's own.
+fn refusal_of(fault: SweepFault) -> ManagerFault
+    ensures { result ≡ refusal_of fault }
+{
+    match fault {
+        SweepFault::Memory => ManagerFault::Memory,
+        SweepFault::NotOutstanding | SweepFault::Bad(_) | SweepFault::SequenceSpent => {
+            ManagerFault::Sweep(fault)
+        }
+    }
+}
+
+/// Why a reply is not taken where there is no room for what it may bring up: memory is wanting only if it is not refused.
+fn fault_without_room(sweep: &Sweep, smp: &Smp) -> ManagerFault
+    ensures { IsFaultWithoutRoom (judged sweep.now smp.now) result }
+{
+    match sweep.judge(smp) {
+        Ok(_) => ManagerFault::Memory,
+        Err(fault) => ManagerFault::Sweep(fault),
+    }
+}
+
+/// Whether a packet is a request for SMInfo.
+fn is_info_request(smp: &Smp) -> bool
+    ensures { result ≡ is_info_request smp.now }
+{
+    !smp.is_response() && smp.attribute_id() == AttributeId::SM_INFO
+}
+
+/// Whether a packet answers a request of a sweep: over a directed route, with a generation in its TransactionID.
+fn is_for_sweep(smp: &Smp) -> bool
+    ensures { result ≡ is_for_sweep smp.now }
+{
+    smp.method() == Method::GET_RESP
+        && smp.class() == SmpClass::DirectedRoute
+        && smp.transaction_id() > 0xFFFF_FFFF
+}

@@ -1,0 +1,53 @@
+ghost use Rattle.std.specs.Prelude.{◌≡◌, ◌-◌, OnOk, OnErr};
+ghost use Rattle.sm_manager.specs.Packets.{after_timeout, sweep_gave_up};
+ghost use Rattle.smp_bytes.specs.Judges.{JudgesButFor};
+ghost use Rattle.sm_manager.specs.Fault.{is_memory};
+ghost use Rattle.sweep.specs.Replies.{judged};
+
+use crate::fault::ManagerFault;
+use crate::manager::Manager;
+use crate::on_packet::end_sweep;
+
+impl Manager {
+    /// A request was not answered in time, and waits no more. Three polls in a row move the state; where a sweep is done by
+    /// it, the state moves by what it saw. Takes memory only where a phase of a writing ends by it.
+    ///
+    /// # Errors
+    ///
+    /// `Unasked`: no request of this TransactionID waits. `SequenceSpent` and `Memory`, where the next phase would go out.
+    pub fn on_timeout(&mut self, transaction: u64) -> Result<(), ManagerFault>
+        ensures judged { JudgesButFor is_memory result (after_timeout self.old transaction).fault }
+        ensures ok { OnOk result (self.new ≡ (after_timeout self.old transaction).manager) }
+        ensures err { OnErr result (self.new ≡ self.old) }
+    {
+        if transaction > 0xFFFF_FFFF {
+            return self.give_up(transaction);
+        }
+        match self.requests.index_of(transaction) {
+            Some(index) => self.end_request(index, None),
+            None => Err(ManagerFault::Unasked),
+        }
+    }
+
+    /// A request of the sweep was not answered in time.
+    fn give_up(&mut self, transaction: u64) -> Result<(), ManagerFault>
+        ensures judged { JudgesButFor is_memory result
+            (sweep_gave_up self.old transaction self.old.sweep).fault }
+        ensures ok { OnOk result (self.new
+            ≡ (sweep_gave_up self.old transaction self.old.sweep).manager) }
+        ensures err { OnErr result (self.new ≡ self.old) }
+    {
+        let Some(sweep) = &mut self.sweep else {
+            return Err(ManagerFault::Unasked);
+        };
+        match sweep.on_timeout(transaction) {
+            Ok(()) => {
+                if sweep.is_done() {
+                    end_sweep(&mut self.standing, &self.seen);
+                }
+                Ok(())
+            }
+            Err(_) => Err(ManagerFault::Unasked),
+        }
+    }
+}

@@ -1,0 +1,154 @@
+//! What a manager answers other managers.
+ghost use Rattle.std.specs.Prelude.{◌≡◌, ◌<◌, ◌^◌, OnOk, OnErr};
+ghost use Rattle.smp_bytes.specs.Judges.{JudgesButFor};
+ghost use Rattle.sm_manager.specs.Election.{message_count};
+ghost use Rattle.sm_manager.specs.Fault.{is_memory};
+ghost use Rattle.sm_manager.specs.Packets.{unless_spent};
+ghost use Rattle.sm_manager.specs.Served.{answer_data, answer_out, controlled, is_control, replying, served, status_for};
+ghost use Rattle.sm_state.specs.Standing.{moved_to};
+ghost use Rattle.sm_state.specs.Steps.{status_of};
+
+use crate::election::send_control;
+use crate::fault::ManagerFault;
+use crate::manager::Manager;
+use crate::outgoing::Outgoing;
+use crate::requests::make_room;
+use attr_codec::Attribute;
+use sm_state::{Event, Message, Standing, Transition, step};
+use smp_bytes::{Lid, Method, Smp, SmpClass, Status};
+use std::alloc::AllocError;
+use std::collections::VecDeque;
+
+impl Manager {
+    /// Answers a request for SMInfo: by its path where it came directed, and to the LID of its sender otherwise.
+    pub(crate) fn serve(&mut self, smp: &Smp, from: Option<Lid>) -> Result<(), ManagerFault>
+        ensures judged { JudgesButFor is_memory result
+            (unless_spent self.old (served self.old smp.now from)).fault }
+        ensures ok { OnOk result (self.new
+            ≡ (unless_spent self.old (served self.old smp.now from)).manager) }
+        ensures err { OnErr result (self.new ≡ self.old) }
+    {
+        if is_control(smp) {
+            self.answer_control(smp, from)
+        } else {
+            self.reply(smp, from)
+        }
+    }
+
+    /// Answers a request that is no control.
+    fn reply(&mut self, smp: &Smp, from: Option<Lid>) -> Result<(), ManagerFault>
+        ensures judged { JudgesButFor is_memory result
+            (unless_spent self.old (replying self.old smp.now from)).fault }
+        ensures ok { OnOk result (self.new
+            ≡ (unless_spent self.old (replying self.old smp.now from)).manager) }
+        ensures err { OnErr result (self.new ≡ self.old) }
+    {
+        make_room(0, 1, &mut self.requests, &mut self.outgoing)?;
+        let answer = answer(smp, &from, status_for(smp), &self.standing);
+        self.outgoing.push_back_reserved(answer);
+        Ok(())
+    }
+
+    /// The state moves as the table of states says, the control is answered, and then its sender may be told more.
+    fn answer_control(&mut self, smp: &Smp, from: Option<Lid>) -> Result<(), ManagerFault>
+        ensures judged { JudgesButFor is_memory result
+            (unless_spent self.old (controlled self.old smp.now from)).fault }
+        ensures ok { OnOk result (self.new
+            ≡ (unless_spent self.old (controlled self.old smp.now from)).manager) }
+        ensures err { OnErr result (self.new ≡ self.old) }
+    {
+        let transition = step(
+            self.standing.state,
+            Event::Control(smp.attribute_modifier()),
+        );
+        let message = transition.message;
+        let count = message_count(&from, &message);
+        make_room(count, count + 1, &mut self.requests, &mut self.outgoing)?;
+        let answer = move_on(&transition, smp, &from, &mut self.standing);
+        self.outgoing.push_back_reserved(answer);
+        if let Some(lid) = from {
+            if let Some(message) = message {
+                send_control(
+                    lid,
+                    message.control(),
+                    &self.standing,
+                    &mut self.requests,
+                    &mut self.outgoing,
+                );
+            }
+        }
+        Ok(())
+    }
+}
+
+/// The state moves, and the answer to the control tells of it.
+fn move_on(
+    transition: &Transition,
+    smp: &Smp,
+    from: &Option<Lid>,
+    standing: &mut Standing,
+) -> Outgoing
+    ensures standing { standing.new ≡ moved_to transition.now.state standing.old }
+    ensures answer { result ≡ answer_out (moved_to transition.now.state standing.old)
+        smp.now from.now (status_of transition.now) }
+{
+    standing.move_to(transition.state);
+    answer(smp, from, transition.status(), standing)
+}
+
+/// The answer to a request: by its path where it came directed, and to the LID of its sender otherwise.
+fn answer(smp: &Smp, from: &Option<Lid>, status: Status, standing: &Standing) -> Outgoing
+    requires { status.0 < 2 ^ 15 }
+    ensures { result ≡ answer_out standing.now smp.now from.now status.0 }
+{
+    let to = match smp.class() {
+        SmpClass::DirectedRoute => None,
+        SmpClass::LidRouted => *from,
+    };
+    let packet = smp.answer(status, &answer_data(smp, status, standing));
+    Outgoing { packet, to }
+}
+
+/// What an answer carries: what the manager tells of itself, and in a refusal what the request carried.
+fn answer_data(smp: &Smp, status: Status, standing: &Standing) -> [u8; 64]
+    ensures { result ≡ answer_data standing.now smp.now status.0 }
+{
+    if status == Status::DONE {
+        standing.info().encode()
+    } else {
+        smp.attribute_data()
+    }
+}
+
+/// Whether a request may be a control to be obeyed: a Set by LIDs.
+fn is_control(smp: &Smp) -> bool
+    ensures { result ≡ is_control smp.now }
+{
+    smp.method() == Method::SET && smp.class() == SmpClass::LidRouted
+}
+
+/// The status of the answer to a request that is no control.
+fn status_for(smp: &Smp) -> Status
+    ensures status { result.0 ≡ status_for smp.now }
+    ensures small { result.0 < 2 ^ 15 }
+{
+    let method = smp.method();
+    if method == Method::GET {
+        Status::DONE
+    } else if method == Method::SET {
+        Status::INVALID_FIELD
+    } else {
+        Status::METHOD_NOT_SUPPORTED
+    }
+}
+
+/// How many requests go out for a message: none where there is none, or nobody to send it to.
+fn message_count(to: &Option<Lid>, message: &Option<Message>) -> usize
+    ensures { result ≡ message_count to.now message.now }
+{
+    if to.is_some() && message.is_some() {
+        1
+    } else {
+        0
+    }
+}

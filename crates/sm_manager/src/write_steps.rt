@@ -1,0 +1,137 @@
+ghost use Rattle.std.specs.Prelude.{◌≡◌, ◌<◌, true, false, None, Some, Ok, Option, IfOk, OnOk, OnErr, length, slice_get};
+ghost use Rattle.smp_bytes.specs.Judges.{Judges, JudgesButFor};
+ghost use Rattle.sm_manager.specs.declared.pending.Pending.{Pending};
+ghost use Rattle.sm_manager.specs.declared.fault.ManagerFault.{ManagerFault as Refusal};
+ghost use Rattle.sm_manager.specs.Fault.{is_memory};
+ghost use Rattle.sm_manager.specs.Packets.{unless_spent};
+ghost use Rattle.sm_manager.specs.Plans.{or_else, unless_numbers, writing_fault};
+ghost use Rattle.sm_manager.specs.ManagerRequests.{is_step};
+ghost use Rattle.sm_manager.specs.Writing.{count_after, without_empty_phases, phases_by, after_step, write_fault, after_write_steps};
+
+use crate::fault::ManagerFault;
+use crate::manager::Manager;
+use crate::requests::{make_room, reserve};
+use crate::writing::Writing;
+use plan_steps::{most_steps, phases};
+use sm_state::SmState;
+use sweep::Sweep;
+
+impl Manager {
+    /// Begins to write the plan of what is known: each end port's LID, each switch's forwarding blocks and their top, and
+    /// then the states of ports on wires, over the paths of the last sweep. A phase goes out as a whole, and the next one
+    /// once each of its steps was answered or timed out.
+    ///
+    /// # Errors
+    ///
+    /// `NotMaster`, `SweepRunning`, `WritingRunning`, `NoRoom`, `SequenceSpent`, where there are fewer numbers than a phase
+    /// could need, and `Memory`, in this order.
+    pub fn write_steps(&mut self) -> Result<(), ManagerFault>
+        ensures judged { JudgesButFor is_memory result (writing_fault self.old) }
+        ensures ok { OnOk result (self.new ≡ after_write_steps self.old) }
+        ensures err { OnErr result (self.new ≡ self.old) }
+    {
+        let mut writing = self.planned()?;
+        let count = writing.next_count();
+        reserve(count, count, &mut self.requests, &mut self.outgoing)?;
+        writing.send_next(&mut self.requests, &mut self.outgoing);
+        self.writing = Some(writing);
+        Ok(())
+    }
+
+    /// The writing of the plan of what is known, of which no step was sent.
+    fn planned(&self) -> Result<Writing, ManagerFault>
+        ensures judged { JudgesButFor is_memory result (writing_fault self.now) }
+        ensures writing { IfOk result (λ w. w
+            ≡ record { later = without_empty_phases (phases_by self.now self.now.sweep); has_failed = false }) }
+    {
+        let sweep = self.last_sweep()?;
+        let are_numbers = self.requests.has_numbers(most_steps(&self.store));
+        let plan = where_numbered(self.plan(), are_numbers)?;
+        let phases = phases(
+            self.alloc,
+            &plan,
+            &self.store,
+            sweep,
+            self.standing.guid,
+            self.port,
+        )?;
+        Ok(Writing::new(phases))
+    }
+
+    /// The last sweep, where it is done and no writing goes on.
+    fn last_sweep(&self) -> Result<&Sweep, ManagerFault>
+        ensures judged { Judges result (write_fault self.now) }
+        ensures sweep { IfOk result (λ s. self.now.sweep ≡ Some s.now) }
+    {
+        let Some(sweep) = &self.sweep else {
+            return Err(ManagerFault::NotMaster);
+        };
+        if !self.standing.is_in(SmState::Master) {
+            return Err(ManagerFault::NotMaster);
+        }
+        if !sweep.is_done() {
+            return Err(ManagerFault::SweepRunning);
+        }
+        if !self.requests.has_no_step() {
+            return Err(ManagerFault::WritingRunning);
+        }
+        Ok(sweep)
+    }
+
+    /// A step waits no more, and the next phase goes out where it was the last of its own.
+    pub(crate) fn end_step(&mut self, index: usize, was_done: bool) -> Result<(), ManagerFault>
+        requires within { index < length self.old.pending }
+        requires step { (p : Pending) → slice_get self.old.pending index ≡ Some p
+            → is_step p ≡ true }
+        ensures judged { (p : Pending) → slice_get self.old.pending index ≡ Some p
+            → JudgesButFor is_memory result
+            (unless_spent self.old (after_step self.old p was_done)).fault }
+        ensures ok { (p : Pending) → slice_get self.old.pending index ≡ Some p
+            → OnOk result (self.new ≡ (unless_spent self.old (after_step self.old p was_done)).manager) }
+        ensures err { OnErr result (self.new ≡ self.old) }
+    {
+        let count = self.count_after();
+        make_room(count, count, &mut self.requests, &mut self.outgoing)?;
+        let ended = self.requests.end(index);
+        if let Some(writing) = &mut self.writing {
+            writing.note(ended.counts(), was_done);
+            if self.requests.has_no_step() {
+                writing.send_next(&mut self.requests, &mut self.outgoing);
+            }
+        }
+        Ok(())
+    }
+
+    /// How many steps go out where one that waits ends.
+    fn count_after(&self) -> usize
+        ensures { result ≡ count_after self.now }
+    {
+        if self.requests.step_count() > 1 {
+            return 0;
+        }
+        match &self.writing {
+            Some(writing) => writing.next_count(),
+            None => 0,
+        }
+    }
+}
+
+/// What was found, where there are numbers for what follows. Another refusal comes first, and out of memory last.
+pub(crate) fn where_numbered<T: Drop>(
+    found: Result<T, ManagerFault>,
+    are_numbers: bool,
+) -> Result<T, ManagerFault>
+    ensures judged { (why : Option Refusal) → JudgesButFor is_memory found why
+        → JudgesButFor is_memory result (or_else why (unless_numbers are_numbers)) }
+    ensures found { IfOk result (λ it. found ≡ Ok it) }
+    ensures numbers { OnOk result (are_numbers ≡ true) }
+{
+    if are_numbers {
+        return found;
+    }
+    match found {
+        Ok(_) => Err(ManagerFault::SequenceSpent),
+        Err(ManagerFault::Memory) => Err(ManagerFault::SequenceSpent),
+        Err(fault) => Err(fault),
+    }
+}

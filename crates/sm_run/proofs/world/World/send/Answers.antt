@@ -1,7 +1,0 @@
-use Rattle.sm_run.proofs.Seats.{sent_leaves}
-use Rattle.sm_run.proofs.world.World.send.Goals as goal
-
-pub returns-clause-leaves : goal.returns-clause-leaves
-returns-clause-leaves g c =
-    sent_leaves c.args.self.now.fabric c.args.self.now.managers.items c.args.seat c.index_mut.result.now c.requires c.index_mut.ensures.value
-    c.send_queued.new.fabric c.send_queued.new.manager c.send_queued.result c.send_queued.ensures.fabric c.send_queued.ensures.manager

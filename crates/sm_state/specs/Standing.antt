@@ -1,0 +1,52 @@
+-- A manager among the managers of its subnet: who it is, and how its state moves.
+-- InfiniBand Architecture Specification, Volume 1: subnet management, subnet manager (states, priorities); SMInfo.
+use Rattle.std.specs.Prelude.{ℕ, ◌+◌, ◌-◌, ◌^◌, Bool, min, nat_le, ◌==◌, if◌then◌else◌}
+use Rattle.attr_codec.specs.declared.sm_info.SmInfo.{SmInfo}
+use Rattle.sm_state.specs.declared.event.Event.{Event}
+use Rattle.sm_state.specs.declared.event.Event.TheVariants.{PollsUnanswered}
+use Rattle.sm_state.specs.declared.state.SmState.{SmState}
+use Rattle.sm_state.specs.declared.state.SmState.TheVariants.{Discovering}
+use Rattle.sm_state.specs.States.{number_of_state}
+use Rattle.sm_state.specs.Steps.{stepped}
+use Rattle.sm_state.specs.declared.standing.Standing.{Standing}
+
+-- one at the port of this GUID, which has done nothing
+abbrev pub new_standing : ℕ → ℕ → Standing
+new_standing guid priority = record { guid = guid; priority = priority; state = Discovering; act_count = 0; polls_lost = 0 }
+
+-- what it tells of itself; its SM_Key is 0
+abbrev pub info_of : Standing → SmInfo
+info_of s = record { guid = s.guid; sm_key = 0; act_count = s.act_count; priority = s.priority; state = number_of_state s.state }
+
+abbrev pub is_in : SmState → Standing → Bool
+is_in state s = number_of_state s.state == number_of_state state
+
+-- one more, as far as 32 bits count
+abbrev pub one_more : ℕ → ℕ
+one_more n = min (n + 1) (2 ^ 32 - 1)
+
+-- a sweep begins
+abbrev pub active_once_more : Standing → Standing
+active_once_more s = record s { act_count = one_more s.act_count }
+
+-- how the state moves --------------------------------------------------------------------------
+
+-- with a change of state the polls are counted anew
+abbrev pub moved_to : SmState → Standing → Standing
+moved_to state s = if is_in state s then s else record s { state = state; polls_lost = 0 }
+
+-- by the table of states
+abbrev pub moved_by : Event → Standing → Standing
+moved_by e s = moved_to (stepped s.state e).state s
+
+-- polls -----------------------------------------------------------------------------------------
+
+abbrev pub poll_answered : Standing → Standing
+poll_answered s = record s { polls_lost = 0 }
+
+-- three in a row, or more
+abbrev pub three_lost : Standing → Standing
+three_lost s = if nat_le 3 s.polls_lost then moved_by PollsUnanswered s else s
+
+abbrev pub poll_lost : Standing → Standing
+poll_lost s = three_lost (record s { polls_lost = one_more s.polls_lost })

@@ -1,6 +1,0 @@
--- A way that delivers passes each switch once, and so ends within the bound.
-use Rattle.smp_bytes.proofs.Forwarded.{packets_end_once}
-use Rattle.smp_bytes.proofs.laws.packets_end_once.Goals as goal
-
-pub returns : goal.returns
-returns c = packets_end_once

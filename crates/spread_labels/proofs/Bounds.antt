@@ -1,0 +1,56 @@
+-- Costs are less than the number of vertices: below each cost stand all lesser ones, each at a vertex of its own.
+use Rattle.std.proofs.Common.{◌≡◌, ◌<◌, ℕ, zero, suc, List, [], ◌∷◌, inl, inr, refl, ap, ◌∙◌, subst, arith, Bool, true, false, length}
+use Rattle.std.proofs.lemmas.Bool.{cases_eq, ltb-true, lt-ltb, le-ltb}
+use Rattle.std.specs.Prelude.{Option, None, Some, filter, nat_lt, Contains}
+use Rattle.smp_bytes.proofs.Members.{contains_here, contains_later}
+use Rattle.port_graph.proofs.Counts.{filtered_less, filtered_all}
+use Rattle.spread_labels.specs.declared.label.Mark.{Mark}
+use Rattle.spread_labels.specs.Labels.{Marks}
+
+-- the numbers below n
+abbrev numbers : ℕ → List ℕ
+numbers zero = []
+numbers (suc n) = n ∷ numbers n
+
+all_numbers : (n : ℕ) → length (numbers n) ≡ n
+all_numbers zero = refl
+all_numbers (suc n) = ap suc (all_numbers n)
+
+among_numbers : (n k : ℕ) → k < n → Contains (numbers n) k
+among_numbers zero k h = absurd (omega arith)
+among_numbers (suc n) k h =
+    elim (cases_eq n k) [
+      | inl same ↦ subst (λ (m : ℕ). Contains (n ∷ numbers n) m) same (contains_here n (numbers n))
+      | inr other ↦ let below : k < n = grind arith in contains_later n k (numbers n) (among_numbers n k below)
+    ]
+
+abbrev is_below : ℕ → Option Mark → Bool
+is_below k None = false
+is_below k (Some m) = nat_lt m.cost k
+
+below_more : (k : ℕ) (o : Option Mark) → is_below k o ≡ true → is_below (suc k) o ≡ true
+below_more k None e = absurd (cc)
+below_more k (Some m) e = lt-ltb m.cost (suc k) (omega (arith, ltb-true m.cost k e))
+
+-- a vertex of cost one less
+abbrev pub Before : Marks → ℕ → ℕ → Type 0
+Before marks n cost = (x : ℕ) × (m : Mark) × (marks x ≡ Some m) × (m.cost ≡ cost) × (x < n)
+
+module _ (marks : Marks) (n : ℕ) (before : (s : ℕ) (m : Mark) (r : ℕ) → marks s ≡ Some m → m.cost ≡ suc r → Before marks n r) where
+  abbrev below : ℕ → ℕ
+  below k = length (filter (λ s. is_below k (marks s)) (numbers n))
+
+  one_more : (k s : ℕ) (m : Mark) → marks s ≡ Some m → m.cost ≡ k → s < n → below k < below (suc k)
+  one_more k s m e c h =
+      filtered_less (λ x. is_below k (marks x)) (λ x. is_below (suc k) (marks x)) (λ x. below_more k (marks x)) (numbers n) s (among_numbers n s h)
+      (ap (is_below k) e ∙ le-ltb m.cost k (omega arith)) (ap (is_below (suc k)) e ∙ lt-ltb m.cost (suc k) (omega arith))
+
+  as_many : (k s : ℕ) (m : Mark) → marks s ≡ Some m → m.cost ≡ k → s < n → k < below (suc k)
+  as_many zero s m e c h = omega (arith, one_more zero s m e c h)
+  as_many (suc k) s m e c h =
+      let b = before s m k e c in
+      omega (arith, as_many k b.0 b.1 b.2 b.3 b.4, one_more (suc k) s m e c h)
+
+  pub cost_below : (s : ℕ) (m : Mark) → marks s ≡ Some m → s < n → m.cost < n
+  cost_below s m e h =
+      omega (arith, as_many m.cost s m e refl h, filtered_all (λ x. is_below (suc m.cost) (marks x)) (numbers n), all_numbers n)

@@ -1,0 +1,28 @@
+-- Which of the edges that gave a vertex its mark is taken.
+use Rattle.std.specs.Prelude.{◌≡◌, ◌<◌, ℕ, suc, ◌&&◌, ◌||◌, ◌==◌, ◌%◌, Bool, false}
+use Rattle.std.specs.Prelude.{nat_lt, List, [], ◌∷◌, filter, length, Option, None, Some, slice_get, slice_index_or}
+use Rattle.port_graph.specs.declared.edge.Edge.{Edge}
+use Rattle.port_graph.specs.Heads.{edges_at, LeadToVertices}
+use Rattle.spread_labels.specs.declared.label.Mark.{Mark}
+use Rattle.spread_labels.specs.Labels.{candidates, is_down}
+use Rattle.spread_labels.specs.RoundMarks.{AreMarksAfter}
+
+-- whether an edge leads up, or to one marked Down, and to a cost one less
+abbrev pub is_nearer_by : ℕ → Edge → Option Mark → Option Mark → Bool
+is_nearer_by s e (Some m) (Some to) = (suc to.cost == m.cost) && (nat_lt e.to s || is_down to.label)
+is_nearer_by s e _ _ = false
+
+abbrev pub is_nearer : ℕ → List (Option Mark) → Edge → Bool
+is_nearer s marks e = is_nearer_by s e (slice_index_or marks s None) (slice_index_or marks e.to None)
+
+-- the one with this number, counted round
+abbrev pub chosen : List Edge → ℕ → Option Edge
+chosen [] choice = None
+chosen (e ∷ es) choice = slice_get (e ∷ es) (choice % length (e ∷ es))
+
+-- by the marks of all vertices these edges are the candidates
+abbrev pub CandidatesAreNearer : Type 0
+CandidatesAreNearer =
+    (edges : List (List Edge)) (t : ℕ) (marks : List (Option Mark)) → LeadToVertices edges → t < length edges
+    → AreMarksAfter edges t (length edges) marks → (s : ℕ) → s < length edges
+    → filter (is_nearer s marks) (edges_at edges s) ≡ candidates edges t s

@@ -1,0 +1,65 @@
+-- Labels towards a target, in rounds. Vertices are numbers by their position in an order: up is to a lesser number, down to a greater one.
+use Rattle.std.specs.Prelude.{ℕ, zero, suc, Bool, true, false, ◌||◌, ◌==◌, nat_lt}
+use Rattle.std.specs.Prelude.{List, [], ◌∷◌, filter, length, Option, None, Some, if◌then◌else◌}
+use Rattle.std.specs.List.{list_any}
+use Rattle.port_graph.specs.declared.edge.Edge.{Edge}
+use Rattle.port_graph.specs.Heads.{edges_at}
+use Rattle.spread_labels.specs.declared.label.Label.{Label}
+use Rattle.spread_labels.specs.declared.label.Label.TheVariants.{Up, Down}
+use Rattle.spread_labels.specs.declared.label.Mark.{Mark}
+
+abbrev pub is_down : Label → Bool
+is_down Up = false
+is_down Down = true
+
+-- what is known of each vertex
+abbrev pub Marks : Type 0
+Marks = ℕ → Option Mark
+
+-- an edge gives a label: up to a vertex that has one, or down to one labelled Down
+abbrev pub gives_from : ℕ → Edge → Option Mark → Bool
+gives_from s e None = false
+gives_from s e (Some m) = nat_lt e.to s || is_down m.label
+
+abbrev pub gives : Marks → ℕ → Edge → Bool
+gives marks s e = gives_from s e (marks e.to)
+
+-- the edges of a vertex that give it a label
+abbrev pub givers : List (List Edge) → Marks → ℕ → List Edge
+givers edges marks s = filter (gives marks s) (edges_at edges s)
+
+-- whether one of the edges leads up
+abbrev pub leads_up : ℕ → List Edge → Bool
+leads_up s es = list_any (λ e. nat_lt e.to s) es
+
+-- Up where one of these edges leads up, else Down
+abbrev pub mark_by : ℕ → ℕ → List Edge → Option Mark
+mark_by round s [] = None
+mark_by round s (e ∷ es) = Some (record { cost = round; label = if leads_up s (e ∷ es) then Up else Down })
+
+-- a label stays
+abbrev pub mark_or : Option Mark → Option Mark → Option Mark
+mark_or None other = other
+mark_or (Some m) other = Some m
+
+-- the labels after so many rounds: at first the target alone is Down; at each round a vertex without a label gets one from the
+-- edges that give, by the labels of the round before
+abbrev pub marks_after : List (List Edge) → ℕ → ℕ → ℕ → Option Mark
+marks_after edges t zero s = if s == t then Some (record { cost = 0; label = Down }) else None
+marks_after edges t (suc round) s = mark_or (marks_after edges t round s) (mark_by (suc round) s (givers edges (marks_after edges t round) s))
+
+-- the labels after as many rounds as there are vertices
+abbrev pub marks : List (List Edge) → ℕ → ℕ → Option Mark
+marks edges t s = marks_after edges t (length edges) s
+
+-- the edges that gave a vertex its label, by the labels of the round before
+abbrev pub givers_before : List (List Edge) → ℕ → ℕ → ℕ → List Edge
+givers_before edges t s zero = []
+givers_before edges t s (suc round) = givers edges (marks_after edges t round) s
+
+abbrev pub candidates_by : List (List Edge) → ℕ → ℕ → Option Mark → List Edge
+candidates_by edges t s None = []
+candidates_by edges t s (Some m) = givers_before edges t s m.cost
+
+abbrev pub candidates : List (List Edge) → ℕ → ℕ → List Edge
+candidates edges t s = candidates_by edges t s (marks edges t s)

@@ -1,0 +1,40 @@
+-- How high vertices stand over leaf vertices, and what a digit counts at each level.
+use Rattle.std.specs.Prelude.{ℕ, zero, suc, Bool, List, [], ◌∷◌, map, filter, length, ◌==◌, nat_lt, ◌*◌, min, max, unwrap_or, slice_index}
+use Rattle.port_graph.specs.declared.edge.Edge.{Edge}
+use Rattle.port_graph.specs.Heads.{edges_at}
+use Rattle.spread_labels.specs.DistanceClasses.{distance_sum}
+use Rattle.spread_labels.specs.Orders.{numbers_from}
+
+-- the distance from the nearest leaf vertex, and 0 where there is none
+abbrev pub level_of : List (List Edge) → List ℕ → ℕ → ℕ
+level_of edges leaves s = unwrap_or (distance_sum edges leaves s).near 0
+
+-- the level of each vertex
+abbrev pub levels_of : List (List Edge) → List ℕ → List ℕ
+levels_of edges leaves = map (level_of edges leaves) (numbers_from 0 (length edges))
+
+-- whether an edge of a vertex leads to a higher one
+abbrev pub is_rise : List ℕ → ℕ → Edge → Bool
+is_rise levels s e = nat_lt (slice_index levels s) (slice_index levels e.to)
+
+-- how many edges of a vertex do
+abbrev pub rises_at : List (List Edge) → List ℕ → ℕ → ℕ
+rises_at edges levels s = length (filter (is_rise levels s) (edges_at edges s))
+
+-- the greatest of n and the others
+abbrev pub greatest : ℕ → List ℕ → ℕ
+greatest n [] = n
+greatest n (m ∷ ms) = greatest (max n m) ms
+
+-- the width of a level: the most edges to higher vertices that a vertex of it has, and at least 1
+abbrev pub width_of : List (List Edge) → List ℕ → ℕ → ℕ
+width_of edges levels h = greatest 1 (map (rises_at edges levels) (filter (λ s. slice_index levels s == h) (numbers_from 0 (length edges))))
+
+-- the digit weight of a level: the product of the widths of the lesser levels, and no more than 65536, over which no LID is
+abbrev pub digit_weight_of : List (List Edge) → List ℕ → ℕ → ℕ
+digit_weight_of edges levels zero = 1
+digit_weight_of edges levels (suc h) = min (digit_weight_of edges levels h * width_of edges levels h) 65536
+
+-- the digit weight of the level of each vertex
+abbrev pub digit_weights_of : List (List Edge) → List ℕ → List ℕ
+digit_weights_of edges levels = map (λ h. digit_weight_of edges levels h) levels

@@ -1,0 +1,16 @@
+pub mod Labels
+pub mod RoundMarks
+pub mod Giving
+pub mod Candidates
+pub mod Listed
+pub mod LabelLaws
+pub mod Ways
+pub mod Orders
+pub mod Keys
+pub mod DistanceClasses
+pub mod Stages
+pub mod Firsts
+pub mod Levels
+pub mod Positions
+pub mod Sides
+pub mod EveryPair

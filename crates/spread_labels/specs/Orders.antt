@@ -1,0 +1,99 @@
+-- The grown order: next comes the earliest of the vertices that have an edge to one placed; where none has, the earliest of all
+-- that are left.
+use Rattle.std.specs.Prelude.{◌≡◌, ◌≢◌, true, false, ◌<◌, ℕ, zero, suc, Bool, not}
+use Rattle.std.specs.Prelude.{◌==◌, List, [], ◌∷◌, map, filter, length, Contains, slice_index_or, if◌then◌else◌}
+use Rattle.std.specs.List.{list_any}
+use Rattle.port_graph.specs.declared.edge.Edge.{Edge}
+use Rattle.port_graph.specs.Walks.{Walk}
+use Rattle.port_graph.specs.Heads.{edges_at, heads, LeadToVertices}
+use Rattle.spread_labels.specs.LabelLaws.{IsSymmetric, IsGrownGraph}
+
+-- the numbers from k on
+abbrev pub numbers_from : ℕ → ℕ → List ℕ
+numbers_from k zero = []
+numbers_from k (suc n) = k ∷ numbers_from (suc k) n
+
+-- a test of keys: the earliest of x and the others
+abbrev pub earliest : (ℕ → ℕ → Bool) → ℕ → List ℕ → ℕ
+earliest before x [] = x
+earliest before x (y ∷ ys) = earliest before (if before y x then y else x) ys
+
+-- whether some edge leads to one of the vertices placed
+abbrev pub is_beside : List (List Edge) → List ℕ → ℕ → Bool
+is_beside edges placed s = list_any (λ e. list_any (λ p. p == e.to) placed) (edges_at edges s)
+
+-- the earliest of the front, and where it is empty of all that are left
+abbrev pub choose : (ℕ → ℕ → Bool) → ℕ → List ℕ → List ℕ → ℕ
+choose before x rest [] = earliest before x rest
+choose before x rest (y ∷ ys) = earliest before y ys
+
+abbrev pub next_placed : List (List Edge) → (ℕ → ℕ → Bool) → List ℕ → ℕ → List ℕ → ℕ
+next_placed edges before placed x rest = choose before x rest (filter (is_beside edges placed) (x ∷ rest))
+
+abbrev pub without : ℕ → List ℕ → List ℕ
+without s xs = filter (λ x. not (x == s)) xs
+
+-- the order of those that are left, behind those that are placed
+abbrev pub grown_behind : List (List Edge) → (ℕ → ℕ → Bool) → ℕ → List ℕ → List ℕ → List ℕ
+grown_behind edges before zero placed rest = []
+grown_behind edges before (suc n) placed [] = []
+grown_behind edges before (suc n) placed (x ∷ rest) =
+    next_placed edges before placed x rest
+    ∷ grown_behind edges before n (next_placed edges before placed x rest ∷ placed) (without (next_placed edges before placed x rest) (x ∷ rest))
+
+abbrev pub order : List (List Edge) → (ℕ → ℕ → Bool) → List ℕ
+order edges before = grown_behind edges before (length edges) [] (numbers_from 0 (length edges))
+
+-- which vertex has a position, and which position a vertex has
+abbrev pub at_position : List ℕ → ℕ → ℕ
+at_position vertices i = slice_index_or vertices i 0
+
+abbrev pub position_of : List ℕ → ℕ → ℕ
+position_of [] s = 0
+position_of (x ∷ xs) s = if x == s then 0 else suc (position_of xs s)
+
+-- an edge to one of these
+abbrev pub Beside : List (List Edge) → List ℕ → ℕ → Type 0
+Beside edges placed s = (e : Edge) × Contains (edges_at edges s) e × Contains placed e.to
+
+-- each vertex has one position; and each but the first of its component has an edge to one before it
+pub record IsGrownOrder (edges : List (List Edge)) (vertices : List ℕ) : Type 0 where
+  pub all : (s : ℕ) → s < length edges → Contains vertices s
+  pub vertex : (i : ℕ) → i < length vertices → at_position vertices i < length edges
+  pub once : (i j : ℕ) → i < length vertices → j < i → at_position vertices j ≡ at_position vertices i → ⊥
+  pub grown : (i j n : ℕ) → i < length vertices → j < i → Walk (heads edges) (at_position vertices i) (at_position vertices j) n
+      → (e : Edge) × Contains (edges_at edges (at_position vertices i)) e × ((k : ℕ) × (k < i) × (at_position vertices k ≡ e.to))
+
+-- the graph with its vertices numbered by their positions
+abbrev pub positioned_edge : List ℕ → Edge → Edge
+positioned_edge vertices e = record { port = e.port; to = position_of vertices e.to }
+
+abbrev pub by_position : List (List Edge) → List ℕ → List (List Edge)
+by_position edges vertices = map (λ s. map (positioned_edge vertices) (edges_at edges s)) vertices
+
+-- whatever the keys, the grown order is one, and the graph by its positions is grown
+pub record Grows (edges : List (List Edge)) (before : ℕ → ℕ → Bool) : Type 0 where
+  pub is_grown : IsGrownOrder edges (order edges before)
+  pub graph : IsGrownGraph (by_position edges (order edges before))
+
+abbrev pub OrderLaw : Type 0
+OrderLaw = (edges : List (List Edge)) (before : ℕ → ℕ → Bool) → LeadToVertices edges → IsSymmetric edges → Grows edges before
+
+-- the keys tell any two vertices apart
+pub record AreKeys (before : ℕ → ℕ → Bool) : Type 0 where
+  pub not_itself : (a : ℕ) → before a a ≡ false
+  pub trans : (a b c : ℕ) → before a b ≡ true → before b c ≡ true → before a c ≡ true
+  pub total : (a b : ℕ) → a ≢ b → before a b ≡ false → before b a ≡ true
+
+-- s is placed before y with reason: where y is beside one placed, s is too and is earlier; and where s is not, it is earlier
+pub record IsEarlier (edges : List (List Edge)) (before : ℕ → ℕ → Bool) (placed : List ℕ) (s y : ℕ) : Type 0 where
+  pub front : Beside edges placed y → Beside edges placed s × (before y s ≡ false)
+  pub alone : (Beside edges placed s → ⊥) → before y s ≡ false
+
+-- so is each vertex before each that comes later
+abbrev pub AreEarlier : List (List Edge) → (ℕ → ℕ → Bool) → List ℕ → List ℕ → Type 0
+AreEarlier edges before placed [] = Unit {0}
+AreEarlier edges before placed (s ∷ ss) = ((y : ℕ) → Contains ss y → IsEarlier edges before placed s y) × AreEarlier edges before (s ∷ placed) ss
+
+abbrev pub KeysLaw : Type 0
+KeysLaw = (edges : List (List Edge)) (before : ℕ → ℕ → Bool) → LeadToVertices edges → AreKeys before → AreEarlier edges before [] (order edges before)

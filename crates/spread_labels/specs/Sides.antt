@@ -1,0 +1,31 @@
+-- The edges up and those down, each in lists of their own, as slopes have them.
+use Rattle.std.specs.Prelude.{ℕ, suc, Bool, nat_lt, List, [], ◌∷◌, filter}
+use Rattle.port_graph.specs.declared.edge.Edge.{Edge}
+use Rattle.port_graph.specs.Slopes.{Slope}
+use Rattle.port_graph.specs.Indexed.{indexed, AreSlopes}
+use Rattle.port_graph.specs.Routes.{Climbs, Descends}
+use Rattle.spread_labels.specs.LabelLaws.{IsSymmetric}
+use Rattle.spread_labels.specs.Ways.{Climbs as ClimbsBy, Descends as DescendsBy}
+
+-- of each vertex from the k-th on the edges that pass a test
+abbrev pub rows_from : (ℕ → Edge → Bool) → ℕ → List (List Edge) → List (List Edge)
+rows_from test k [] = []
+rows_from test k (es ∷ rows) = filter (test k) es ∷ rows_from test (suc k) rows
+
+abbrev pub ups_of : List (List Edge) → List (List Edge)
+ups_of edges = rows_from (λ s e. nat_lt e.to s) 0 edges
+
+abbrev pub downs_of : List (List Edge) → List (List Edge)
+downs_of edges = rows_from (λ s e. nat_lt s e.to) 0 edges
+
+abbrev pub slopes_of : List (List Edge) → List Slope
+slopes_of edges = indexed (ups_of edges) (downs_of edges)
+
+-- the sides are slopes, on which what climbs and descends is the same
+pub record AreSides (edges : List (List Edge)) : Type 0 where
+  pub slopes : AreSlopes (ups_of edges) (downs_of edges)
+  pub climbs : (es : List Edge) (s u : ℕ) → ClimbsBy edges s es u → Climbs (slopes_of edges) s es u
+  pub descends : (es : List Edge) (s u : ℕ) → DescendsBy edges s es u → Descends (slopes_of edges) s es u
+
+abbrev pub SidesLaw : Type 0
+SidesLaw = (edges : List (List Edge)) → IsSymmetric edges → AreSides edges

@@ -1,0 +1,49 @@
+-- How far each vertex has come while the order grows.
+use Rattle.std.specs.Prelude.{ℕ, Bool, true, false, List, [], ◌∷◌, filter, Option, None, Some, slice_index_or, slice_set, if◌then◌else◌}
+use Rattle.port_graph.specs.declared.edge.Edge.{Edge}
+use Rattle.spread_labels.specs.declared.growth.Stage.{Stage}
+use Rattle.spread_labels.specs.declared.growth.Stage.TheVariants.{Left, Beside, Placed}
+use Rattle.spread_labels.specs.Orders.{earliest, numbers_from}
+
+-- whether a stage is this one
+abbrev pub is_stage : Stage → Stage → Bool
+is_stage Left Left = true
+is_stage Beside Beside = true
+is_stage Placed Placed = true
+is_stage _ _ = false
+
+abbrev pub stage_at : List Stage → ℕ → Stage
+stage_at stages s = slice_index_or stages s Left
+
+-- the earliest of these vertices
+abbrev pub earliest_of : (ℕ → ℕ → Bool) → List ℕ → Option ℕ
+earliest_of before [] = None
+earliest_of before (x ∷ xs) = Some (earliest before x xs)
+
+-- a vertex or one that was found, whichever is earlier
+abbrev pub earlier_of : (ℕ → ℕ → Bool) → Option ℕ → ℕ → ℕ
+earlier_of before None y = y
+earlier_of before (Some x) y = if before y x then y else x
+
+abbrev pub earliest_at : (ℕ → ℕ → Bool) → List Stage → Stage → ℕ → Option ℕ
+earliest_at before stages stage n = earliest_of before (filter (λ s. is_stage (stage_at stages s) stage) (numbers_from 0 n))
+
+-- the earliest of those beside, and where there is none of all that are left
+abbrev pub first_of : Option ℕ → Option ℕ → Option ℕ
+first_of None other = other
+first_of (Some x) other = Some x
+
+abbrev pub next_at : (ℕ → ℕ → Bool) → List Stage → ℕ → Option ℕ
+next_at before stages n = first_of (earliest_at before stages Beside n) (earliest_at before stages Left n)
+
+-- a vertex that is left is beside one
+abbrev pub beside : List Stage → ℕ → List Stage
+beside stages s = if is_stage (stage_at stages s) Left then slice_set stages s Beside else stages
+
+abbrev pub beside_all : List Stage → List Edge → List Stage
+beside_all stages [] = stages
+beside_all stages (e ∷ es) = beside_all (beside stages e.to) es
+
+-- a vertex is placed, and those to which its edges lead are beside it
+abbrev pub after_add_vertex : ℕ → List Edge → List Stage → List Stage
+after_add_vertex v edges stages = beside_all (slice_set stages v Placed) edges

@@ -1,0 +1,148 @@
+//! How near vertices are to others, and their distance classes by that.
+ghost use Rattle.std.specs.Prelude.{◌≡◌, ◌<◌, ◌≤◌, ◌*◌, ◌^◌, length, map, All, IfOk};
+ghost use Rattle.port_graph.specs.Heads.{LeadToVertices};
+ghost use Rattle.spread_labels.specs.DistanceClasses.{AreDistanceSums, AreWithDistances, HasRoom, IsDistanceSum, IsDistanceSumOf, distance_classes_of, distance_class_at, distance_class_by, quarters_of, with_distance};
+ghost use Rattle.spread_labels.specs.Levels.{levels_of};
+ghost use Rattle.spread_labels.specs.Orders.{numbers_from};
+
+use crate::level::near_or_0;
+use port_graph::{Adjacency, distances};
+use std::alloc::{AllocError, Global};
+
+/// The distances of a vertex from some others.
+#[derive(Clone, Copy, Debug, PartialEq, Eq)]
+pub(crate) struct DistanceSum {
+    /// The least of them.
+    pub(crate) near: Option<usize>,
+    /// Their sum.
+    pub(crate) sum: u128,
+    /// How many they are.
+    pub(crate) count: usize,
+}
+
+/// What vertices are ordered and led by.
+#[derive(Drop)]
+pub struct Grades {
+    /// The distance class of each vertex: its distance from the nearest root, where its component has one, else four times its mean distance
+    /// from the leaf vertices of its component, cut off, and 0 where there are none.
+    pub distance_classes: Vec<u128>,
+    /// The level of each vertex: its distance from the nearest leaf vertex, and 0 where its component has none.
+    pub levels: Vec<usize>,
+}
+
+/// The distance classes and the levels of vertices. Takes a search in breadth from each root and each leaf vertex.
+pub fn grade(
+    alloc: Global,
+    edges: &Adjacency,
+    leaves: &[usize],
+    roots: &[usize],
+) -> Result<Grades, AllocError>
+    requires lead { LeadToVertices edges.now }
+    requires leaves { All (λ a. a < length edges.now) leaves.now }
+    requires roots { All (λ a. a < length edges.now) roots.now }
+    ensures distance_classes { IfOk result (λ grades. grades.distance_classes.items ≡ distance_classes_of edges.now leaves.now roots.now) }
+    ensures levels { IfOk result (λ grades. grades.levels.items ≡ levels_of edges.now leaves.now) }
+{
+    let near_roots = distance_sums(alloc, edges, roots)?;
+    let near_leaves = distance_sums(alloc, edges, leaves)?;
+    let distance_classes = distance_classes(alloc, &near_roots, &near_leaves)?;
+    let levels = near_or_0(alloc, &near_leaves)?;
+    Ok(Grades {
+        distance_classes,
+        levels,
+    })
+}
+
+/// The distance class of each vertex by its distances from roots and from leaf vertices.
+fn distance_classes(
+    alloc: Global,
+    roots: &[DistanceSum],
+    leaves: &[DistanceSum],
+) -> Result<Vec<u128>, AllocError>
+    requires all { length leaves.now ≡ length roots.now }
+    requires bounded { All IsDistanceSum leaves.now }
+    ensures { IfOk result (λ distance_classes. distance_classes.items
+        ≡ map (distance_class_at roots.now leaves.now) (numbers_from 0 (length roots.now))) }
+{
+    let mut distance_classes = Vec::with_capacity(alloc, roots.len())?;
+    for vertex in 0..roots.len() {
+        distance_classes.push(distance_class(roots[vertex], leaves[vertex]))?;
+    }
+    Ok(distance_classes)
+}
+
+/// The distance class of a vertex by its distances from roots and from leaf vertices.
+fn distance_class(roots: DistanceSum, leaves: DistanceSum) -> u128
+    requires { IsDistanceSum leaves }
+    ensures { result ≡ distance_class_by roots leaves }
+{
+    match roots.near {
+        Some(distance) => distance as u128,
+        None => quarters(leaves.sum, leaves.count),
+    }
+}
+
+/// Four times the mean, cut off; 0 of none.
+fn quarters(sum: u128, count: usize) -> u128
+    requires { sum ≤ count * 2 ^ 64 }
+    ensures { result ≡ quarters_of sum count }
+{
+    if count == 0 {
+        return 0;
+    }
+    let count = count as u128;
+    4 * (sum / count) + 4 * (sum % count) / count
+}
+
+/// The distances of each vertex from these.
+pub(crate) fn distance_sums(
+    alloc: Global,
+    edges: &Adjacency,
+    some: &[usize],
+) -> Result<Vec<DistanceSum>, AllocError>
+    requires lead { LeadToVertices edges.now }
+    requires some { All (λ a. a < length edges.now) some.now }
+    ensures distance_sums { IfOk result (λ distance_sums. AreDistanceSums edges.now some.now distance_sums.items) }
+    ensures bounded { IfOk result (λ distance_sums. All (IsDistanceSumOf (length some.now)) distance_sums.items) }
+{
+    let mut distance_sums = vec![in alloc; DistanceSum {
+        near: None,
+        sum: 0,
+        count: 0
+    }; edges.len()]?;
+    for from in some {
+        let distances = distances(alloc, edges, *from)?;
+        add_distances(&mut distance_sums, &distances);
+    }
+    Ok(distance_sums)
+}
+
+/// Each with the distance at its index.
+fn add_distances(distance_sums: &mut [DistanceSum], distances: &[Option<usize>])
+    requires all { length distance_sums.old ≡ length distances.now }
+    requires room { All HasRoom distance_sums.old }
+    ensures { AreWithDistances distance_sums.old distance_sums.new distances.now }
+{
+    for (i, distance_sum) in distance_sums.iter_mut().enumerate() {
+        *distance_sum = with(*distance_sum, distances[i]);
+    }
+}
+
+/// With a distance more.
+fn with(distance_sum: DistanceSum, distance: Option<usize>) -> DistanceSum
+    requires { HasRoom distance_sum }
+    ensures { result ≡ with_distance distance_sum distance }
+{
+    match distance {
+        None => distance_sum,
+        Some(distance) => DistanceSum {
+            near: Some(
+                distance_sum
+                    .near
+                    .map_or(distance, |near| distance.min(near)),
+            ),
+            sum: distance_sum.sum + distance as u128,
+            count: distance_sum.count + 1,
+        },
+    }
+}

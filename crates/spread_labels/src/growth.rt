@@ -1,0 +1,116 @@
+//! The grown order.
+ghost use Rattle.std.specs.Prelude.{◌≡◌, ◌<◌, length, All, IfOk, MatchOption};
+ghost use Rattle.port_graph.specs.Heads.{LeadToVertices};
+ghost use Rattle.spread_labels.specs.LabelLaws.{IsSymmetric};
+ghost use Rattle.spread_labels.specs.Orders.{order};
+ghost use Rattle.spread_labels.specs.Keys.{before_by};
+ghost use Rattle.spread_labels.specs.Stages.{earlier_of, earliest_at, is_stage, next_at, after_add_vertex};
+
+use crate::vertex_key::VertexKey;
+use port_graph::{Adjacency, Edge};
+use std::alloc::{AllocError, Global};
+
+/// How far a vertex has come.
+#[derive(Clone, Copy, Debug, PartialEq, Eq)]
+pub(crate) enum Stage {
+    /// It is not placed, and has no edge to a vertex that is.
+    Left,
+    /// It is not placed, and has such an edge.
+    Beside,
+    /// It is placed.
+    Placed,
+}
+
+/// The vertices in their grown order: next comes the one of the earliest key among those with an edge to one that is placed; where
+/// there is none, the earliest of all that are left. Of equal keys the lesser vertex's is earlier. Takes a step for each pair of
+/// vertices and for each edge.
+pub fn grown_order(
+    alloc: Global,
+    edges: &Adjacency,
+    keys: &[VertexKey],
+) -> Result<Vec<usize>, AllocError>
+    requires keys { length keys.now ≡ length edges.now }
+    requires lead { LeadToVertices edges.now }
+    requires symmetric { IsSymmetric edges.now }
+    ensures { IfOk result (λ vertices. vertices.items ≡ order edges.now (before_by keys.now)) }
+{
+    let mut stages = vec![in alloc; Stage::Left; edges.len()]?;
+    let mut vertices = Vec::with_capacity(alloc, edges.len())?;
+    for _ in 0..edges.len() {
+        if let Some(vertex) = next_vertex(keys, &stages) {
+            vertices.push(vertex)?;
+            add_vertex(edges.at(vertex), vertex, &mut stages);
+        }
+    }
+    Ok(vertices)
+}
+
+/// The vertex that is placed next.
+fn next_vertex(keys: &[VertexKey], stages: &[Stage]) -> Option<usize>
+    requires { length stages.now ≡ length keys.now }
+    ensures next { result ≡ next_at (before_by keys.now) stages.now (length keys.now) }
+    ensures vertex { MatchOption result (Unit {0}) (λ vertex. vertex < length keys.now) }
+{
+    match earliest(keys, stages, Stage::Beside) {
+        Some(vertex) => Some(vertex),
+        None => earliest(keys, stages, Stage::Left),
+    }
+}
+
+/// The vertex of the earliest key among those at a stage.
+fn earliest(keys: &[VertexKey], stages: &[Stage], stage: Stage) -> Option<usize>
+    requires { length stages.now ≡ length keys.now }
+    ensures earliest { result ≡ earliest_at (before_by keys.now) stages.now stage (length keys.now) }
+    ensures vertex { MatchOption result (Unit {0}) (λ vertex. vertex < length keys.now) }
+{
+    let mut found = None;
+    for vertex in 0..keys.len() {
+        if is_at(stages[vertex], stage) {
+            found = Some(earlier(keys, found, vertex));
+        }
+    }
+    found
+}
+
+/// Whether a stage is this one.
+fn is_at(one: Stage, stage: Stage) -> bool
+    ensures { result ≡ is_stage one stage }
+{
+    one == stage
+}
+
+/// The earlier of a vertex that was found, if one was, and another.
+pub(crate) fn earlier(keys: &[VertexKey], found: Option<usize>, vertex: usize) -> usize
+    requires vertex { vertex < length keys.now }
+    requires found { MatchOption found (Unit {0}) (λ other. other < length keys.now) }
+    ensures { result ≡ earlier_of (before_by keys.now) found vertex }
+{
+    match found {
+        Some(other) if !is_before(keys, vertex, other) => other,
+        _ => vertex,
+    }
+}
+
+/// Whether one vertex has the earlier key.
+fn is_before(keys: &[VertexKey], one: usize, other: usize) -> bool
+    requires one { one < length keys.now }
+    requires other { other < length keys.now }
+    ensures { result ≡ before_by keys.now one other }
+{
+    let (one_key, other_key) = (keys[one], keys[other]);
+    one_key.is_less(&other_key) || (!other_key.is_less(&one_key) && one < other)
+}
+
+/// A vertex is placed, and those to which its edges lead are beside it.
+fn add_vertex(edges: &[Edge], vertex: usize, stages: &mut [Stage])
+    requires vertex { vertex < length stages.old }
+    requires lead { All (λ edge. edge.to < length stages.old) edges.now }
+    ensures { stages.new ≡ after_add_vertex vertex edges.now stages.old }
+{
+    stages[vertex] = Stage::Placed;
+    for edge in edges {
+        if is_at(stages[edge.to], Stage::Left) {
+            stages[edge.to] = Stage::Beside;
+        }
+    }
+}

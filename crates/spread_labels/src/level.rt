@@ -1,0 +1,110 @@
+//! The levels of vertices, and the digit weights of levels.
+ghost use Rattle.std.specs.Prelude.{◌≡◌, ◌<◌, ◌*◌, suc, map, filter, min, length, All, IfOk, unwrap_or};
+ghost use Rattle.port_graph.specs.Heads.{LeadToVertices};
+ghost use Rattle.spread_labels.specs.Levels.{greatest, is_rise, digit_weight_of, digit_weights_of, width_of};
+ghost use Rattle.spread_labels.specs.Orders.{numbers_from};
+
+use crate::distance_class::DistanceSum;
+use port_graph::{Adjacency, Edge};
+use std::alloc::{AllocError, Global};
+
+/// No LID is over it.
+const GREATEST_WEIGHT: usize = 65536;
+
+/// The least of the distances of each, and 0 where there are none.
+pub(crate) fn near_or_0(
+    alloc: Global,
+    distance_sums: &[DistanceSum],
+) -> Result<Vec<usize>, AllocError>
+    ensures { IfOk result (λ found. found.items ≡ map (λ distance_sum. unwrap_or distance_sum.near 0) distance_sums.now) }
+{
+    distance_sums
+        .iter()
+        .map(|distance_sum| distance_sum.near.unwrap_or(0))
+        .collect(alloc)
+}
+
+/// The digit weight of the level of each vertex: the product of the widths of all lesser levels, and at most 65536. The width of a level is
+/// the most edges to higher vertices that a vertex of it has, and at least 1. Takes a step for each edge at each level.
+pub fn digit_weights(
+    alloc: Global,
+    edges: &Adjacency,
+    levels: &[usize],
+) -> Result<Vec<usize>, AllocError>
+    requires all { length levels.now ≡ length edges.now }
+    requires lead { LeadToVertices edges.now }
+    ensures { IfOk result (λ digit_weights. digit_weights.items ≡ digit_weights_of edges.now levels.now) }
+{
+    let by_level = digit_weights_by_level(alloc, edges, levels)?;
+    let mut digit_weights = Vec::with_capacity(alloc, levels.len())?;
+    for level in levels {
+        digit_weights.push(by_level[*level])?;
+    }
+    Ok(digit_weights)
+}
+
+/// The digit weight of each level up to the greatest.
+fn digit_weights_by_level(
+    alloc: Global,
+    edges: &Adjacency,
+    levels: &[usize],
+) -> Result<Vec<usize>, AllocError>
+    requires all { length levels.now ≡ length edges.now }
+    requires lead { LeadToVertices edges.now }
+    ensures { IfOk result (λ digit_weights. digit_weights.items
+        ≡ map (digit_weight_of edges.now levels.now) (numbers_from 0 (suc (greatest 0 levels.now)))) }
+{
+    let mut digit_weights = Vec::new(alloc);
+    let mut digit_weight = 1;
+    digit_weights.push(digit_weight)?;
+    for level in 0..greatest_of(levels) {
+        digit_weight = next_digit_weight(digit_weight, width(edges, levels, level));
+        digit_weights.push(digit_weight)?;
+    }
+    Ok(digit_weights)
+}
+
+/// The digit weight of the next level, by the digit weight and the width of one.
+fn next_digit_weight(digit_weight: usize, width: usize) -> usize
+    ensures { result ≡ min (digit_weight * width) 65536 }
+{
+    digit_weight.saturating_mul(width).min(GREATEST_WEIGHT)
+}
+
+/// The greatest level, and 0 of none.
+fn greatest_of(levels: &[usize]) -> usize
+    ensures { result ≡ greatest 0 levels.now }
+{
+    let mut found = 0;
+    for level in levels {
+        found = (*level).max(found);
+    }
+    found
+}
+
+/// The width of a level.
+fn width(edges: &Adjacency, levels: &[usize], level: usize) -> usize
+    requires all { length levels.now ≡ length edges.now }
+    requires lead { LeadToVertices edges.now }
+    ensures { result ≡ width_of edges.now levels.now level }
+{
+    let mut width = 1;
+    for vertex in 0..edges.len() {
+        if levels[vertex] == level {
+            width = rises(edges.at(vertex), vertex, levels).max(width);
+        }
+    }
+    width
+}
+
+/// How many of the edges of a vertex lead to higher vertices.
+fn rises(edges: &[Edge], vertex: usize, levels: &[usize]) -> usize
+    requires vertex { vertex < length levels.now }
+    requires lead { All (λ edge. edge.to < length levels.now) edges.now }
+    ensures { result ≡ length (filter (is_rise levels.now vertex) edges.now) }
+{
+    edges
+        .iter()
+        .filter(|edge| levels[vertex] < levels[edge.to])
+        .count()
+}

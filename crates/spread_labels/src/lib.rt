@@ -1,0 +1,25 @@
+//! Routes by labels: how far from the target each vertex gets its label, in rounds, and which edges gave it.
+#![tactic(auto)]
+
+mod candidate_edges;
+mod distance_class;
+mod growth;
+mod label;
+mod label_lists;
+mod labels;
+pub mod laws;
+mod level;
+mod vertex_key;
+mod vertex_keys;
+mod vertex_positions;
+
+pub use candidate_edges::{candidates, chosen};
+pub use distance_class::{Grades, grade};
+pub use growth::grown_order;
+pub use label::{Label, Mark};
+pub use label_lists::MarkLists;
+pub use labels::marks;
+pub use level::digit_weights;
+pub use vertex_key::VertexKey;
+pub use vertex_keys::keys;
+pub use vertex_positions::{by_positions, positions};

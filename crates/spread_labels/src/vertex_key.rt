@@ -1,0 +1,21 @@
+ghost use Rattle.std.specs.Prelude.{◌≡◌};
+ghost use Rattle.spread_labels.specs.Keys.{key_less};
+
+/// What vertices are ordered by: the distance class first, and then the distance.
+#[derive(Clone, Copy, Debug, PartialEq, Eq)]
+pub struct VertexKey {
+    /// The distance class of the vertex.
+    pub distance_class: u128,
+    /// Its distance from the first of its component.
+    pub distance: usize,
+}
+
+impl VertexKey {
+    /// Whether it is the earlier one.
+    pub(crate) fn is_less(&self, other: &VertexKey) -> bool
+        ensures { result ≡ key_less self.now other.now }
+    {
+        self.distance_class < other.distance_class
+            || (self.distance_class == other.distance_class && self.distance < other.distance)
+    }
+}

@@ -1,0 +1,108 @@
+//! The keys of vertices by their distance classes.
+ghost use Rattle.std.specs.Prelude.{◌≡◌, ◌<◌, length, IfOk, MatchOption};
+ghost use Rattle.port_graph.specs.Heads.{AreDistances, LeadToVertices};
+ghost use Rattle.spread_labels.specs.Firsts.{AreFar, FillsIn, by_distance_class, first_among, first_at, keys_of};
+ghost use Rattle.spread_labels.specs.LabelLaws.{IsSymmetric};
+
+use crate::growth::earlier;
+use crate::vertex_key::VertexKey;
+use port_graph::{Adjacency, distances};
+use std::alloc::{AllocError, Global};
+
+/// The key of each vertex: its distance class, and its distance from the first of its component, which is the one of the least distance class, and of
+/// those the least. Takes two searches in breadth for each component.
+pub fn keys(
+    alloc: Global,
+    edges: &Adjacency,
+    distance_classes: &[u128],
+) -> Result<Vec<VertexKey>, AllocError>
+    requires lead { LeadToVertices edges.now }
+    requires symmetric { IsSymmetric edges.now }
+    requires all { length distance_classes.now ≡ length edges.now }
+    ensures { IfOk result (λ keys. keys.items ≡ keys_of edges.now distance_classes.now) }
+{
+    let by_distance_class = by_distance_class(alloc, distance_classes)?;
+    let far = far(alloc, edges, &by_distance_class)?;
+    let mut keys = Vec::with_capacity(alloc, edges.len())?;
+    for vertex in 0..edges.len() {
+        keys.push(VertexKey {
+            distance_class: distance_classes[vertex],
+            distance: far[vertex].unwrap_or(0),
+        })?;
+    }
+    Ok(keys)
+}
+
+/// Keys by the distance class alone.
+fn by_distance_class(alloc: Global, distance_classes: &[u128]) -> Result<Vec<VertexKey>, AllocError>
+    ensures { IfOk result (λ keys. keys.items ≡ by_distance_class distance_classes.now) }
+{
+    let keys = distance_classes.iter().map(|distance_class| VertexKey {
+        distance_class: *distance_class,
+        distance: 0,
+    });
+    keys.collect(alloc)
+}
+
+/// How far each vertex is from the first of its component.
+fn far(
+    alloc: Global,
+    edges: &Adjacency,
+    keys: &[VertexKey],
+) -> Result<Vec<Option<usize>>, AllocError>
+    requires lead { LeadToVertices edges.now }
+    requires symmetric { IsSymmetric edges.now }
+    requires all { length keys.now ≡ length edges.now }
+    ensures { IfOk result (λ far. AreFar edges.now keys.now (length edges.now) far.items) }
+{
+    let mut far = vec![in alloc; None; edges.len()]?;
+    for vertex in 0..edges.len() {
+        if far[vertex].is_none() {
+            let found = from_first(alloc, edges, keys, vertex)?;
+            fill(&mut far, &found);
+        }
+    }
+    Ok(far)
+}
+
+/// The distances of all vertices from the first of a vertex's component.
+fn from_first(
+    alloc: Global,
+    edges: &Adjacency,
+    keys: &[VertexKey],
+    vertex: usize,
+) -> Result<Vec<Option<usize>>, AllocError>
+    requires lead { LeadToVertices edges.now }
+    requires all { length keys.now ≡ length edges.now }
+    requires vertex { vertex < length edges.now }
+    ensures { IfOk result (λ found. AreDistances edges.now (first_at edges.now keys.now vertex) found.items) }
+{
+    let near = distances(alloc, edges, vertex)?;
+    let first = first(keys, &near).unwrap_or(vertex);
+    distances(alloc, edges, first)
+}
+
+/// Puts the distance of each vertex where there is none yet.
+fn fill(far: &mut [Option<usize>], found: &[Option<usize>])
+    requires { length far.old ≡ length found.now }
+    ensures { FillsIn far.old found.now far.new }
+{
+    for (i, slot) in far.iter_mut().enumerate() {
+        *slot = slot.or(found[i]);
+    }
+}
+
+/// The vertex of the earliest key among those that have a distance.
+fn first(keys: &[VertexKey], distances: &[Option<usize>]) -> Option<usize>
+    requires { length distances.now ≡ length keys.now }
+    ensures first { result ≡ first_among keys.now distances.now }
+    ensures vertex { MatchOption result (Unit {0}) (λ vertex. vertex < length keys.now) }
+{
+    let mut found = None;
+    for vertex in 0..keys.len() {
+        if distances[vertex].is_some() {
+            found = Some(earlier(keys, found, vertex));
+        }
+    }
+    found
+}

@@ -1,0 +1,54 @@
+//! The positions of vertices in an order, and the graph by them.
+ghost use Rattle.std.specs.Prelude.{◌≡◌, ◌<◌, ℕ, map, length, All, Contains, IfOk};
+ghost use Rattle.port_graph.specs.Heads.{LeadToVertices};
+ghost use Rattle.spread_labels.specs.Orders.{by_position};
+ghost use Rattle.spread_labels.specs.Positions.{ArePositions, StandOnce, to_position};
+
+use port_graph::{Adjacency, Edge};
+use std::alloc::{AllocError, Global};
+
+/// The position of each of so many vertices in an order.
+pub fn positions(alloc: Global, vertices: &[usize], count: usize) -> Result<Vec<usize>, AllocError>
+    requires { StandOnce count vertices.now }
+    ensures { IfOk result (λ positions. ArePositions count vertices.now positions.items) }
+{
+    let mut positions = vec![in alloc; 0; count]?;
+    for (position, vertex) in vertices.iter().enumerate() {
+        positions[*vertex] = position;
+    }
+    Ok(positions)
+}
+
+/// The edges of the vertex at each position of an order, to positions. Takes a step for each edge.
+pub fn by_positions(
+    alloc: Global,
+    edges: &Adjacency,
+    vertices: &[usize],
+    positions: &[usize],
+) -> Result<Adjacency, AllocError>
+    requires lead { LeadToVertices edges.now }
+    requires all { (s : ℕ) → s < length edges.now → Contains vertices.now s }
+    requires positions { ArePositions (length edges.now) vertices.now positions.now }
+    ensures { IfOk result (λ placed. placed ≡ by_position edges.now vertices.now) }
+{
+    let mut placed = Adjacency::new(alloc);
+    for vertex in vertices {
+        let row = to_positions(alloc, edges.at(*vertex), positions)?;
+        placed.push_vertex(&row)?;
+    }
+    Ok(placed)
+}
+
+/// Edges to vertices, as edges to the positions of these.
+fn to_positions(alloc: Global, edges: &[Edge], positions: &[usize]) -> Result<Vec<Edge>, AllocError>
+    requires { All (λ edge. edge.to < length positions.now) edges.now }
+    ensures { IfOk result (λ found. found.items ≡ map (to_position positions.now) edges.now) }
+{
+    edges
+        .iter()
+        .map(|edge| Edge {
+            port: edge.port,
+            to: positions[edge.to],
+        })
+        .collect(alloc)
+}

@@ -1,0 +1,59 @@
+-- A rule that spreads routes over the wires: by marks in an order that grows, and by a choice among the edges that gave a switch its mark.
+use Rattle.std.specs.Prelude.{ℕ, List, map, length, Option, option_map}
+use Rattle.port_graph.specs.declared.edge.Edge.{Edge}
+use Rattle.spread_labels.specs.declared.vertex_key.VertexKey.{VertexKey}
+use Rattle.spread_labels.specs.Labels.{candidates}
+use Rattle.spread_labels.specs.Candidates.{chosen}
+use Rattle.spread_labels.specs.Ways.{cost, channel_number}
+use Rattle.spread_labels.specs.Orders.{order, at_position, position_of, positioned_edge}
+use Rattle.spread_labels.specs.Keys.{before_by}
+use Rattle.spread_labels.specs.EveryPair.{grown}
+use Rattle.updown_routes.specs.SwitchEdges.{SwitchEdges}
+use Rattle.updown_routes.specs.Graph.{guids_of}
+use Rattle.updown_routes.specs.GraphLaws.{IsGraph}
+use Rattle.updown_routes.specs.Routing.{Routing, IsRouting}
+
+-- what the rule is handed: the key of each switch, by rising GUID, and a number by which a packet for a LID takes one of some edges of the switch at a position
+pub record Spreading : Type 0 where
+  pub keys : List VertexKey
+  pub number : ℕ → ℕ → List Edge → ℕ
+
+-- the edges of each switch, to the indices of switches
+abbrev pub by_index : List SwitchEdges → List (List Edge)
+by_index graph = map (λ c. map (positioned_edge (guids_of graph)) c.edges) graph
+
+-- the indices of the switches in the order that grows by these keys
+abbrev pub order_by_keys : List SwitchEdges → List VertexKey → List ℕ
+order_by_keys graph keys = order (by_index graph) (before_by keys)
+
+-- the position of a switch there
+abbrev pub position : List SwitchEdges → List VertexKey → ℕ → ℕ
+position graph keys g = position_of (order_by_keys graph keys) (position_of (guids_of graph) g)
+
+-- the switch at a position
+abbrev pub switch_there : List SwitchEdges → List VertexKey → ℕ → ℕ
+switch_there graph keys p = at_position (guids_of graph) (at_position (order_by_keys graph keys) p)
+
+-- the edges of the switch at each position, to positions
+abbrev pub by_positions : List SwitchEdges → List VertexKey → List (List Edge)
+by_positions graph keys = grown (by_index graph) (before_by keys)
+
+-- of these edges the one whose number a LID has, counted round
+abbrev pub taken : Spreading → ℕ → ℕ → List Edge → Option Edge
+taken by lid p edges = chosen edges (by.number lid p edges)
+
+-- the edge by which a packet for a LID leaves the switch at a position for the one at another
+abbrev pub edge_to : List SwitchEdges → Spreading → ℕ → ℕ → ℕ → Option Edge
+edge_to graph by lid p q = taken by lid p (candidates (by_positions graph by.keys) q p)
+
+-- the rule: the port of that edge; the cost and the channels by positions
+abbrev pub spread : List SwitchEdges → Spreading → Routing
+spread graph by = record {
+  next = λ lid s t. option_map (λ e. e.port) (edge_to graph by lid (position graph by.keys s) (position graph by.keys t));
+  cost = λ s t. cost (by_positions graph by.keys) (position graph by.keys t) (position graph by.keys s);
+  channel = λ a b. channel_number (length (by_positions graph by.keys)) (position graph by.keys a) (position graph by.keys b);
+}
+
+-- that is a rule of routing, whatever the keys, and whatever edges the LIDs take
+abbrev pub SpreadIsRouting : Type 0
+SpreadIsRouting = (graph : List SwitchEdges) (by : Spreading) → IsGraph graph → IsRouting graph (spread graph by)

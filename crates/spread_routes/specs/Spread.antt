@@ -1,0 +1,74 @@
+-- The rule by the wires, the leaf switches and the roots alone: the keys, and which of its edges a LID takes.
+use Rattle.std.specs.Prelude.{ℕ, Bool, List, map, filter, length, nat_lt, ◌+◌, ◌/◌, ◌%◌, slice_index, if◌then◌else◌}
+use Rattle.std.specs.List.{list_any}
+use Rattle.port_graph.specs.declared.edge.Edge.{Edge}
+use Rattle.spread_labels.specs.declared.vertex_key.VertexKey.{VertexKey}
+use Rattle.spread_labels.specs.DistanceClasses.{distance_classes_of}
+use Rattle.spread_labels.specs.Firsts.{keys_of}
+use Rattle.spread_labels.specs.Levels.{levels_of, digit_weight_of}
+use Rattle.spread_labels.specs.Orders.{at_position, position_of}
+use Rattle.updown_routes.specs.SwitchEdges.{SwitchEdges}
+use Rattle.updown_routes.specs.Graph.{guids_of}
+use Rattle.updown_routes.specs.GraphLaws.{IsGraph}
+use Rattle.updown_routes.specs.Routing.{Routing, IsRouting}
+use Rattle.spread_routes.specs.declared.lid_digit.LidDigit.{LidDigit}
+use Rattle.spread_routes.specs.Rule.{by_index, order_by_keys, spread}
+
+-- what the rule goes by: the wires, and of each switch, by rising GUID, its key and its level
+pub record Grading : Type 0 where
+  pub graph : List SwitchEdges
+  pub keys : List VertexKey
+  pub levels : List ℕ
+
+-- the level of the switch at a position
+abbrev pub level_there : Grading → ℕ → ℕ
+level_there by p = slice_index by.levels (at_position (order_by_keys by.graph by.keys) p)
+
+-- what a switch goes by, by its index: its level, the digit weight of that level, and the rest of its GUID by 31
+abbrev pub lid_digit_at : List SwitchEdges → List ℕ → ℕ → LidDigit
+lid_digit_at graph levels i = record {
+  level = slice_index levels i;
+  digit_weight = digit_weight_of (by_index graph) levels (slice_index levels i);
+  offset = at_position (guids_of graph) i % 31;
+}
+
+-- the switch at a position
+abbrev pub lid_digit_there : Grading → ℕ → LidDigit
+lid_digit_there by p = lid_digit_at by.graph by.levels (at_position (order_by_keys by.graph by.keys) p)
+
+-- whether one of some edges leads from the switch at a position to a higher one
+abbrev pub goes_higher : Grading → ℕ → List Edge → Bool
+goes_higher by p edges = list_any (λ e. nat_lt (level_there by p) (level_there by e.to)) edges
+
+-- the number of a LID at a switch: where it can go higher a digit of the LID, by the digit weight of the level, else the LID; moved by the offset
+abbrev pub number_by : LidDigit → Bool → ℕ → ℕ
+number_by lid_digit higher lid = (if higher then lid / lid_digit.digit_weight else lid) + lid_digit.offset
+
+-- the same at the switch at a position, where these edges can be taken
+abbrev pub number_there : Grading → ℕ → ℕ → List Edge → ℕ
+number_there by lid p edges = number_by (lid_digit_there by p) (goes_higher by p edges) lid
+
+-- the rule by that
+abbrev pub spread_at : Grading → Routing
+spread_at by = spread by.graph (record { keys = by.keys; number = number_there by })
+
+-- those of some switches that the graph has, by their indices
+abbrev pub indices_of : List SwitchEdges → List ℕ → List ℕ
+indices_of graph guids = filter (λ i. nat_lt i (length graph)) (map (position_of (guids_of graph)) guids)
+
+-- the keys of switches by the distance classes that the leaf switches and the roots give
+abbrev pub keys_by : List SwitchEdges → List ℕ → List ℕ → List VertexKey
+keys_by graph leaves roots = keys_of (by_index graph) (distance_classes_of (by_index graph) (indices_of graph leaves) (indices_of graph roots))
+
+-- what the leaf switches and the roots give
+abbrev pub grading_of : List SwitchEdges → List ℕ → List ℕ → Grading
+grading_of graph leaves roots =
+    record { graph = graph; keys = keys_by graph leaves roots; levels = levels_of (by_index graph) (indices_of graph leaves) }
+
+-- the whole rule
+unfoldable pub spread_by : List SwitchEdges → List ℕ → List ℕ → Routing
+spread_by graph leaves roots = spread_at (grading_of graph leaves roots)
+
+-- it is a rule of routing
+abbrev pub SpreadByIsRouting : Type 0
+SpreadByIsRouting = (graph : List SwitchEdges) (leaves roots : List ℕ) → IsGraph graph → IsRouting graph (spread_by graph leaves roots)

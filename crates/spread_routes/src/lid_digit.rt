@@ -1,0 +1,87 @@
+//! What switches go by when they choose among edges.
+ghost use Rattle.std.specs.Prelude.{◌≡◌, ◌<◌, All, IfOk, length, map, nat_lt, slice_index_or};
+ghost use Rattle.std.specs.List.{list_any};
+ghost use Rattle.port_graph.specs.Heads.{LeadToVertices};
+ghost use Rattle.spread_routes.specs.Rule.{by_index};
+ghost use Rattle.spread_routes.specs.Spread.{number_by, lid_digit_at};
+ghost use Rattle.spread_routes.specs.Tables.{no_lid_digit};
+
+use port_graph::{Adjacency, Edge};
+use smp_bytes::Lid;
+use spread_labels::digit_weights;
+use std::alloc::{AllocError, Global};
+use updown_routes::Graph;
+
+/// What a switch goes by.
+#[derive(Clone, Copy, Debug, PartialEq, Eq)]
+pub(crate) struct LidDigit {
+    /// How far the nearest leaf switch is.
+    pub(crate) level: usize,
+    /// What a digit of a LID counts at that level.
+    pub(crate) digit_weight: usize,
+    /// The rest of its GUID by 31.
+    pub(crate) offset: u8,
+}
+
+impl LidDigit {
+    /// The number of a LID where an edge leads to a higher switch, or where none does.
+    pub(crate) fn number(&self, is_higher: bool, lid: Lid) -> usize
+        requires { 0 < self.now.digit_weight }
+        ensures { result ≡ number_by self.now is_higher lid }
+    {
+        let lid = usize::from(lid.number());
+        let digit = if is_higher {
+            lid / self.digit_weight
+        } else {
+            lid
+        };
+        digit + usize::from(self.offset)
+    }
+}
+
+/// The LID digit of the switch at each position of an order.
+pub(crate) fn lid_digits(
+    alloc: Global,
+    graph: &Graph,
+    edges: &Adjacency,
+    levels: &[usize],
+    order: &[usize],
+) -> Result<Vec<LidDigit>, AllocError>
+    requires edges { edges.now ≡ by_index graph.now }
+    requires lead { LeadToVertices edges.now }
+    requires levels { length levels.now ≡ length graph.now }
+    requires order { All (λ i. i < length graph.now) order.now }
+    ensures { IfOk result (λ lid_digits.
+        lid_digits.items ≡ map (lid_digit_at graph.now levels.now) order.now) }
+{
+    let digit_weights = digit_weights(alloc, edges, levels)?;
+    let guids = graph.switches();
+    let mut lid_digits = Vec::with_capacity(alloc, order.len())?;
+    for index in order {
+        lid_digits.push(LidDigit {
+            level: levels[*index],
+            digit_weight: digit_weights[*index],
+            offset: (guids[*index].number() % 31) as u8,
+        })?;
+    }
+    Ok(lid_digits)
+}
+
+/// Whether one of some edges leads to a switch higher than this one.
+pub(crate) fn is_higher(lid_digits: &[LidDigit], lid_digit: &LidDigit, edges: &[Edge]) -> bool
+    requires { All (λ edge. edge.to < length lid_digits.now) edges.now }
+    ensures { result ≡ list_any (λ edge. nat_lt lid_digit.now.level
+        (slice_index_or lid_digits.now edge.to no_lid_digit).level) edges.now }
+{
+    edges
+        .iter()
+        .any(|edge| lid_digit.level < level_at(lid_digits, edge.to))
+}
+
+/// The level at a position.
+fn level_at(lid_digits: &[LidDigit], position: usize) -> usize
+    requires { position < length lid_digits.now }
+    ensures { result ≡ (slice_index_or lid_digits.now position no_lid_digit).level }
+{
+    lid_digits[position].level
+}

@@ -1,0 +1,180 @@
+ghost use Rattle.std.specs.Prelude.{◌≡◌, ◌<◌, IfOk, OnOk, filter, length, map, option_map};
+ghost use Rattle.port_graph.specs.Heads.{LeadToVertices, edges_at};
+ghost use Rattle.spread_labels.specs.Candidates.{chosen, is_nearer};
+ghost use Rattle.updown_routes.specs.GraphLaws.{IsGraph};
+ghost use Rattle.spread_routes.specs.Rule.{by_index, by_positions};
+ghost use Rattle.spread_routes.specs.Spread.{grading_of, number_by};
+ghost use Rattle.spread_routes.specs.Tables.{ports_among, ports_towards};
+
+use crate::index::{by_index, indices};
+use crate::lid_digit::{LidDigit, is_higher, lid_digits};
+use port_graph::{Adjacency, Edge};
+use smp_bytes::{Guid, Lid, PortNum};
+use spread_labels::{
+    Grades, MarkLists, VertexKey, by_positions, candidates, chosen, grade, grown_order, keys,
+    marks, positions,
+};
+use std::alloc::{AllocError, Global};
+use std::marker::Model;
+use updown_routes::Graph;
+
+/// Routes of a graph that spread over its wires.
+#[derive(Drop)]
+pub struct Spread<'g> {
+    graph: &'g Graph,
+    /// The key of each switch, by rising GUID.
+    keys: Vec<VertexKey>,
+    /// The level of each, by rising GUID.
+    levels: Vec<usize>,
+    /// The position of each, by rising GUID.
+    positions: Vec<usize>,
+    /// The edges of the switch at each position, to positions.
+    edges: Adjacency,
+    /// The LID digit of the switch at each position.
+    lid_digits: Vec<LidDigit>,
+}
+
+impl<'g> Model for Spread<'g> {
+    ghost use Rattle.spread_routes.specs.Spread.{Grading};
+    ghost use Rattle.spread_routes.specs.Tables.{IsByPositions};
+
+    ghost Value = { Grading };
+
+    ghost view = { λ a. record {
+      graph = a.graph.now;
+      keys = a.keys.items;
+      levels = a.levels.items;
+    } };
+
+    ghost invariant = { λ a. IsByPositions
+        (record { graph = a.graph.now; keys = a.keys.items; levels = a.levels.items })
+        a.edges a.positions.items a.lid_digits.items };
+}
+
+impl<'g> Spread<'g> {
+    /// The routes by the leaf switches, and by roots, of which there may be none. GUIDs that are no switch of the graph
+    /// count for nothing. Takes a search in breadth from each leaf switch and each root, and two for each component.
+    pub fn of(
+        alloc: Global,
+        graph: &'g Graph,
+        leaves: &[Guid],
+        roots: &[Guid],
+    ) -> Result<Self, AllocError>
+        ensures { IfOk result (λ spread. spread ≡ grading_of graph.now leaves.now roots.now) }
+    {
+        let edges = by_index(alloc, graph)?;
+        let leaves = indices(alloc, graph, leaves)?;
+        let roots = indices(alloc, graph, roots)?;
+        let Grades {
+            distance_classes,
+            levels,
+        } = grade(alloc, &edges, &leaves, &roots)?;
+        let keys = keys(alloc, &edges, &distance_classes)?;
+        Spread::by_keys(alloc, graph, &edges, keys, levels)
+    }
+
+    /// The routes by the keys and the levels of switches.
+    fn by_keys(
+        alloc: Global,
+        graph: &'g Graph,
+        edges: &Adjacency,
+        keys: Vec<VertexKey>,
+        levels: Vec<usize>,
+    ) -> Result<Self, AllocError>
+        requires edges { edges.now ≡ by_index graph.now }
+        requires lead { LeadToVertices edges.now }
+        requires is_graph { IsGraph graph.now }
+        requires keys { length keys.items ≡ length graph.now }
+        requires levels { length levels.items ≡ length graph.now }
+        ensures { IfOk result (λ spread. spread
+            ≡ record { graph = graph.now; keys = keys.items; levels = levels.items }) }
+    {
+        let order = grown_order(alloc, edges, &keys)?;
+        let positions = positions(alloc, &order, edges.len())?;
+        let lid_digits = lid_digits(alloc, graph, edges, &levels, &order)?;
+        let edges = by_positions(alloc, edges, &order, &positions)?;
+        Ok(Spread {
+            graph,
+            keys,
+            levels,
+            positions,
+            edges,
+            lid_digits,
+        })
+    }
+
+    /// The ports by which packets for these LIDs leave each switch, by rising GUID, for the one at an index: they replace
+    /// what the rows held. None at that one, and where no way leads there. Takes a step for each edge, and for each switch in each of
+    /// as many rounds as the greatest cost; and then one for each edge and for each LID at each switch.
+    pub fn ports_to(
+        &self,
+        alloc: Global,
+        target: usize,
+        lids: &[Lid],
+        rows: &mut [Vec<Option<PortNum>>],
+    ) -> Result<(), AllocError>
+        requires target { target < length self.now.graph }
+        requires rows { length rows.old ≡ length self.now.graph }
+        ensures { OnOk result
+            (map (λ row. row.items) rows.new ≡ ports_towards self.now lids.now target) }
+    {
+        let marks = marks(alloc, &self.edges, self.positions[target])?;
+        let mut edges = Vec::new(alloc);
+        let positions = self.positions.as_slice();
+        for (index, position) in positions.iter().enumerate() {
+            self.ports_at(&marks, *position, lids, &mut edges, &mut rows[index])?;
+        }
+        Ok(())
+    }
+
+    /// The ports that LIDs take at the switch at a position, by these marks, instead of what the row held. The edges that gave its mark
+    /// replace those that were found before.
+    fn ports_at(
+        &self,
+        marks: &MarkLists,
+        position: usize,
+        lids: &[Lid],
+        edges: &mut Vec<Edge>,
+        row: &mut Vec<Option<PortNum>>,
+    ) -> Result<(), AllocError>
+        requires position { position < length (by_positions self.now.graph self.now.keys) }
+        requires marks { length marks.now ≡ length (by_positions self.now.graph self.now.keys) }
+        ensures { OnOk result (row.new.items ≡ ports_among self.now lids.now position
+            (filter (is_nearer position marks.now)
+            (edges_at (by_positions self.now.graph self.now.keys) position))) }
+    {
+        candidates(edges, self.edges.at(position), position, marks)?;
+        let lid_digit = self.lid_digits[position];
+        let is_higher = is_higher(&self.lid_digits, &lid_digit, edges);
+        ports_of(row, edges, &lid_digit, is_higher, lids)
+    }
+}
+
+/// The ports of the edges that LIDs take, instead of what the row held.
+fn ports_of(
+    row: &mut Vec<Option<PortNum>>,
+    edges: &[Edge],
+    lid_digit: &LidDigit,
+    is_higher: bool,
+    lids: &[Lid],
+) -> Result<(), AllocError>
+    requires { 0 < lid_digit.now.digit_weight }
+    ensures { OnOk result (row.new.items ≡ map (λ lid. option_map (λ edge. edge.port)
+        (chosen edges.now (number_by lid_digit.now is_higher lid))) lids.now) }
+{
+    row.clear();
+    for lid in lids {
+        row.push(port_of(edges, lid_digit, is_higher, *lid))?;
+    }
+    Ok(())
+}
+
+/// The port of the edge that a LID takes.
+fn port_of(edges: &[Edge], lid_digit: &LidDigit, is_higher: bool, lid: Lid) -> Option<PortNum>
+    requires { 0 < lid_digit.now.digit_weight }
+    ensures { result ≡ option_map (λ edge. edge.port)
+        (chosen edges.now (number_by lid_digit.now is_higher lid)) }
+{
+    let edge = chosen(edges, lid_digit.number(is_higher, lid))?;
+    Some(edge.port)
+}

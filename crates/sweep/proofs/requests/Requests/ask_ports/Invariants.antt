@@ -1,8 +1,0 @@
--- The ports so far are asked.
-use Rattle.fact_store.specs.declared.report.Context.TheVariants.{About}
-use Rattle.sweep.specs.Finding.{port_questions}
-use Rattle.sweep.specs.Requests.{HasAsked}
-use Rattle.sweep.proofs.requests.Requests.ask_ports.Given as goal
-
-abbrev pub invariant-loop-port : goal.invariant-loop-port
-invariant-loop-port l = HasAsked (port_questions 0 l.port l.vertex.path (About l.vertex.guid)) l.fn.self l.self

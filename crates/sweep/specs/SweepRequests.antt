@@ -1,0 +1,18 @@
+-- The requests of a sweep: those that wait for a reply, and those that are to be sent.
+use Rattle.std.specs.Prelude.{◌≡◌, ℕ, ◌+◌, ◌≤◌, List, ◌++◌, length}
+use Rattle.sweep.specs.declared.request.Request.{Request}
+use Rattle.sweep.specs.Sweep.{Asking, numbered}
+
+-- the number of the next request, and for how many more there is memory
+pub record SweepRequests : Type 0 where
+  pub next : ℕ
+  pub outstanding : List Request
+  pub queued : List Request
+  pub room : ℕ
+
+-- these questions more, at the end of the queue
+pub record HasAsked (asked : List Asking) (old new : SweepRequests) : Type 0 where
+  pub next : new.next ≡ old.next + length asked
+  pub outstanding : new.outstanding ≡ old.outstanding
+  pub queued : new.queued ≡ old.queued ++ numbered old.next asked
+  pub room : old.room ≤ new.room + length asked

@@ -1,0 +1,276 @@
+ghost use Rattle.std.specs.Prelude.{◌≡◌, ◌==◌, ◌+◌, ◌<◌, ◌≤◌, ◌^◌, [], length, slice_get, option_copied, option_map, OnOk, true};
+ghost use Rattle.sweep.specs.Finding.{too_far_by, with_vertex, with_state, with_state_of};
+ghost use Rattle.std.specs.Vec.{vec_capacity, vec_len};
+ghost use Rattle.sweep.specs.Discovered.{Discovered};
+ghost use Rattle.sweep.specs.Order.{AreInOrder, IsIndexFor, has_key, is_before, passes_at, placed};
+ghost use Rattle.sweep.specs.Sweep.{vertex_at, first_vertex, state_at, state_key, vertex_key};
+
+use crate::finding::{Finding, Onward, PortFinding};
+use crate::vertex::{SeenState, Vertex};
+use attr_codec::PortState;
+use page_list::PageList;
+use smp_bytes::{Guid, PortNum};
+use std::alloc::{AllocError, Global};
+use std::marker::Model;
+
+/// What a sweep has found. Contracts see the vertices, the states of ports, how many ports lead too
+/// far, and for how many more there is memory.
+#[derive(Drop)]
+pub(crate) struct Discovered {
+    /// In the order of GUIDs and ports, as are the states.
+    vertices: Vec<Vertex>,
+    seen: PageList<SeenState>,
+    too_far: u64,
+}
+
+impl Model for Discovered {
+    ghost use Rattle.std.specs.Prelude.{◌-◌};
+    ghost use Rattle.std.specs.Vec.{vec_capacity, vec_len};
+    ghost use Rattle.sweep.specs.Discovered.{Discovered};
+
+    ghost Value = { Discovered };
+
+    ghost view = { λ a. record { reached = a.vertices.items; states = a.seen.items; too_far = a.too_far; vertex_room = vec_capacity a.vertices - vec_len a.vertices; state_room = a.seen.room } };
+}
+
+/// By GUID, and under one GUID by port.
+fn is_before(a: (Guid, PortNum), b: (Guid, PortNum)) -> bool
+    ensures { result ≡ is_before a b }
+{
+    a.0 < b.0 || a.0 == b.0 && a.1 < b.1
+}
+
+/// Where a vertex is, or would be. Halves the indices at each step.
+fn vertex_index(vertices: &[Vertex], guid: Guid, port: PortNum) -> usize
+    requires { AreInOrder vertex_key vertices.now }
+    ensures { IsIndexFor vertex_key (guid, port) vertices.now result }
+{
+    vertices.partition_point(|vertex| is_before((vertex.guid, vertex.port), (guid, port)))
+}
+
+/// Where a port's state is, or would be. Halves the indices at each step.
+fn state_index(seen: &PageList<SeenState>, guid: Guid, port: PortNum) -> usize
+    requires { AreInOrder state_key seen.now.items }
+    ensures { IsIndexFor state_key (guid, port) seen.now.items result }
+{
+    let mut low = 0;
+    let mut high = seen.len();
+    while low < high {
+        let middle = low + (high - low) / 2;
+        let state = seen.get(middle).unwrap();
+        if is_before((state.guid, state.port), (guid, port)) {
+            low = middle + 1;
+        } else {
+            high = middle;
+        }
+    }
+    low
+}
+
+fn vertex_in(vertices: &[Vertex], index: usize) -> Option<&Vertex>
+    ensures { option_copied result ≡ slice_get vertices.now index }
+{
+    vertices.get(index)
+}
+
+fn state_of(seen: Option<SeenState>) -> Option<PortState>
+    ensures { result ≡ option_map (λ p. p.state) seen }
+{
+    match seen {
+        Some(seen) => Some(seen.state),
+        None => None,
+    }
+}
+
+/// Whether the vertex at an index has this GUID and port.
+fn is_vertex(vertices: &[Vertex], index: usize, guid: Guid, port: PortNum) -> bool
+    ensures { result ≡ passes_at (has_key vertex_key guid port) vertices.now index }
+{
+    match vertices.get(index) {
+        Some(vertex) => vertex.guid == guid && vertex.port == port,
+        None => false,
+    }
+}
+
+/// Whether the vertex at an index has this GUID.
+fn is_vertex_of(vertices: &[Vertex], index: usize, guid: Guid) -> bool
+    ensures { result ≡ passes_at (λ r. r.guid == guid) vertices.now index }
+{
+    match vertices.get(index) {
+        Some(vertex) => vertex.guid == guid,
+        None => false,
+    }
+}
+
+/// Whether the state at an index has this GUID and port.
+fn is_state(seen: &PageList<SeenState>, index: usize, guid: Guid, port: PortNum) -> bool
+    ensures { result ≡ passes_at (has_key state_key guid port) seen.now.items index }
+{
+    match seen.get(index) {
+        Some(state) => state.guid == guid && state.port == port,
+        None => false,
+    }
+}
+
+fn first_of(vertices: &[Vertex], guid: Guid) -> Option<&Vertex>
+    requires { AreInOrder vertex_key vertices.now }
+    ensures { option_copied result ≡ first_vertex vertices.now guid }
+{
+    let index = vertex_index(vertices, guid, PortNum::new(0));
+    if is_vertex_of(vertices, index, guid) {
+        vertex_in(vertices, index)
+    } else {
+        None
+    }
+}
+
+fn vertex_at(vertices: &[Vertex], guid: Guid, port: PortNum) -> Option<&Vertex>
+    requires { AreInOrder vertex_key vertices.now }
+    ensures { option_copied result ≡ vertex_at vertices.now guid port }
+{
+    let index = vertex_index(vertices, guid, port);
+    if is_vertex(vertices, index, guid, port) {
+        vertex_in(vertices, index)
+    } else {
+        None
+    }
+}
+
+fn state_at(seen: &PageList<SeenState>, guid: Guid, port: PortNum) -> Option<PortState>
+    requires { AreInOrder state_key seen.now.items }
+    ensures { result ≡ state_at seen.now.items guid port }
+{
+    let index = state_index(seen, guid, port);
+    if is_state(seen, index, guid, port) {
+        state_of(seen.get(index))
+    } else {
+        None
+    }
+}
+
+impl Discovered {
+    /// Nothing yet. Takes no memory.
+    pub(crate) fn new(alloc: Global) -> Self
+        ensures reached { result.reached ≡ [] }
+        ensures states { result.states ≡ [] }
+        ensures too_far { result.too_far ≡ 0 }
+    {
+        Discovered {
+            vertices: Vec::new(alloc),
+            seen: PageList::new(alloc),
+            too_far: 0,
+        }
+    }
+
+    pub(crate) fn too_far(&self) -> u64
+        ensures { result ≡ self.now.too_far }
+    {
+        self.too_far
+    }
+
+    pub(crate) fn vertices(&self) -> &[Vertex]
+        ensures { result.now ≡ self.now.reached }
+    {
+        &self.vertices
+    }
+
+    /// Memory for one more of each.
+    pub(crate) fn reserve(&mut self) -> Result<(), AllocError>
+        ensures reached { self.new.reached ≡ self.old.reached }
+        ensures states { self.new.states ≡ self.old.states }
+        ensures too_far { self.new.too_far ≡ self.old.too_far }
+        ensures vertex_room { OnOk result (1 ≤ self.new.vertex_room) }
+        ensures state_room { OnOk result (1 ≤ self.new.state_room) }
+    {
+        self.vertices.reserve(1)?;
+        self.seen.reserve(1)
+    }
+
+    /// The first vertex of a node. Takes a search.
+    pub(crate) fn first_of(&self, guid: Guid) -> Option<&Vertex>
+        requires { AreInOrder vertex_key self.now.reached }
+        ensures { option_copied result ≡ first_vertex self.now.reached guid }
+    {
+        first_of(&self.vertices, guid)
+    }
+
+    /// The vertex of a GUID and a port. Takes a search.
+    pub(crate) fn vertex(&self, guid: Guid, port: PortNum) -> Option<&Vertex>
+        requires { AreInOrder vertex_key self.now.reached }
+        ensures { option_copied result ≡ vertex_at self.now.reached guid port }
+    {
+        vertex_at(&self.vertices, guid, port)
+    }
+
+    /// The state of a port. Takes a search.
+    pub(crate) fn state(&self, guid: Guid, port: PortNum) -> Option<PortState>
+        requires { AreInOrder state_key self.now.states }
+        ensures { result ≡ state_at self.now.states guid port }
+    {
+        state_at(&self.seen, guid, port)
+    }
+
+    /// Puts in what a reply brings up, unless it is there. Takes no memory.
+    pub(crate) fn put(&mut self, finding: Finding)
+        requires reached { AreInOrder vertex_key self.old.reached }
+        requires states { AreInOrder state_key self.old.states }
+        requires vertex_room { 1 ≤ self.old.vertex_room }
+        requires state_room { 1 ≤ self.old.state_room }
+        requires countable { self.old.too_far < 2 ^ 32 }
+        ensures reached { self.new.reached ≡ with_vertex finding self.old.reached }
+        ensures states { self.new.states ≡ with_state finding self.old.states }
+        ensures too_far { self.new.too_far ≡ self.old.too_far + too_far_by finding }
+    {
+        match finding {
+            Finding::Nothing => {}
+            Finding::NewVertex(vertex) => put_vertex(&mut self.vertices, vertex),
+            Finding::Port(found) => {
+                put_state_of(&mut self.seen, &found);
+                if found.onward == Onward::TooFar {
+                    self.too_far += 1;
+                }
+            }
+        }
+    }
+}
+
+/// Puts a vertex in at its index, unless there is one. Moves those behind it.
+fn put_vertex(vertices: &mut Vec<Vertex>, vertex: Vertex)
+    requires order { AreInOrder vertex_key vertices.old.items }
+    requires room { vec_len vertices.old < vec_capacity vertices.old }
+    ensures { vertices.new.items ≡ placed vertex_key vertex vertices.old.items }
+{
+    let index = vertex_index(vertices, vertex.guid, vertex.port);
+    if is_vertex(vertices, index, vertex.guid, vertex.port) {
+        return;
+    }
+    match vertices.insert(index, vertex) {
+        Ok(()) => {}
+        Err(_) => unreachable!(),
+    }
+}
+
+/// Puts the state that a port says in at its index, unless its number is reserved.
+fn put_state_of(states: &mut PageList<SeenState>, found: &PortFinding)
+    requires order { AreInOrder state_key states.old.items }
+    requires room { 0 < states.old.room }
+    ensures { states.new.items
+        ≡ with_state_of found.now.guid found.now.port found.now.state states.old.items }
+{
+    if let Some(state) = found.state {
+        let (guid, port) = (found.guid, found.port);
+        put_state(states, SeenState { guid, port, state });
+    }
+}
+
+/// Puts a port's state in at its index, unless there is one. Moves no more than a page.
+fn put_state(states: &mut PageList<SeenState>, seen: SeenState)
+    requires order { AreInOrder state_key states.old.items }
+    requires room { 0 < states.old.room }
+    ensures { states.new.items ≡ placed state_key seen states.old.items }
+{
+    let index = state_index(states, seen.guid, seen.port);
+    if !is_state(states, index, seen.guid, seen.port) {
+        states.insert(index, seen);
+    }
+}

@@ -1,0 +1,37 @@
+ghost use Rattle.std.specs.Prelude.{◌≡◌};
+ghost use Rattle.smp_bytes.specs.NodeType.{is_switch};
+
+use attr_codec::PortState;
+use smp_bytes::{Guid, NodeType, Path, PortNum};
+
+/// A vertex that a reply came from: a switch under port 0, or an adapter under the port that was
+/// reached.
+#[derive(Debug, Drop)]
+pub struct Vertex {
+    pub guid: Guid,
+    pub port: PortNum,
+    /// As the node's first reply said.
+    pub kind: NodeType,
+    /// How many ports it has, as its first reply said.
+    pub ports: u8,
+    /// The port by which the request came.
+    pub arrival: PortNum,
+    /// The ports that lead there.
+    pub path: Path<63>,
+}
+
+impl Vertex {
+    pub(crate) fn is_switch(&self) -> bool
+        ensures { result ≡ is_switch self.now.kind }
+    {
+        self.kind == NodeType::Switch
+    }
+}
+
+/// The state of a port as a reply said it.
+#[derive(Clone, Copy, Debug, PartialEq, Eq)]
+pub struct SeenState {
+    pub guid: Guid,
+    pub port: PortNum,
+    pub state: PortState,
+}

@@ -1,0 +1,40 @@
+-- The wires up and down of switches that are known by their positions in an order.
+use Rattle.std.specs.Prelude.{◌≡◌, ◌<◌, ℕ, List, map, filter, length, Contains, nat_lt, slice_index}
+use Rattle.port_graph.specs.declared.edge.Edge.{Edge}
+use Rattle.port_graph.specs.Slopes.{ups_at, downs_at}
+use Rattle.port_graph.specs.Heads.{edges_at}
+use Rattle.updown_routes.specs.SwitchEdges.{SwitchEdges}
+use Rattle.updown_routes.specs.Ranks.{slopes_of}
+use Rattle.updown_routes.specs.Wiring.{switch_at}
+
+-- the switch at a position, where the order has its index
+abbrev pub switch_at_position : List SwitchEdges → List ℕ → ℕ → ℕ
+switch_at_position graph order p = switch_at graph (slice_index order p)
+
+-- an edge to a position, by the GUID of the switch there
+abbrev pub by_position : List SwitchEdges → List ℕ → Edge → Edge
+by_position graph order e = record { port = e.port; to = switch_at_position graph order e.to }
+
+-- an edge to an index, by the position of that index
+abbrev pub at_position : List ℕ → Edge → Edge
+at_position positions e = record { port = e.port; to = slice_index positions e.to }
+
+-- the edges to lesser positions, and those to greater
+abbrev pub ups_from : ℕ → List Edge → List Edge
+ups_from p edges = filter (λ e. nat_lt e.to p) edges
+
+abbrev pub downs_from : ℕ → List Edge → List Edge
+downs_from p edges = filter (λ e. nat_lt p e.to) edges
+
+-- the wires up and down of the switch at a position
+pub record IsAtPosition (graph : List SwitchEdges) (order : List ℕ) (p : ℕ) (ups downs : List Edge) : Type 0 where
+  pub up : ups_at (slopes_of graph) (switch_at_position graph order p) ≡ map (by_position graph order) ups
+  pub down : downs_at (slopes_of graph) (switch_at_position graph order p) ≡ map (by_position graph order) downs
+  pub to_lesser : (e : Edge) → Contains ups e → e.to < p
+  pub to_position : (e : Edge) → Contains downs e → e.to < length order
+
+-- of each switch, at its position
+pub record AreAtPositions (graph : List SwitchEdges) (order : List ℕ) (ups downs : List (List Edge)) : Type 0 where
+  pub all_up : length ups ≡ length order
+  pub all_down : length downs ≡ length order
+  pub each : (p : ℕ) → p < length order → IsAtPosition graph order p (edges_at ups p) (edges_at downs p)

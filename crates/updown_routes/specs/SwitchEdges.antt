@@ -1,0 +1,8 @@
+-- A switch among the wires.
+use Rattle.std.specs.Prelude.{ℕ, List}
+use Rattle.port_graph.specs.declared.edge.Edge.{Edge}
+
+-- a usable switch and its wires to others, by rising port
+pub record SwitchEdges : Type 0 where
+  pub guid : ℕ
+  pub edges : List Edge

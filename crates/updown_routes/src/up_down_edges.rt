@@ -1,0 +1,78 @@
+ghost use Rattle.std.specs.Prelude.{◌≡◌, ◌<◌, All, IfOk, length, map};
+ghost use Rattle.updown_routes.specs.Graph.{guids_of};
+ghost use Rattle.updown_routes.specs.Order.{IsOrder, ArePositions};
+ghost use Rattle.updown_routes.specs.Positions.{at_position, ups_from, downs_from, AreAtPositions};
+ghost use Rattle.updown_routes.specs.Ranks.{rank_of};
+
+use crate::graph::Graph;
+use port_graph::{Adjacency, Edge};
+use std::alloc::{AllocError, Global};
+
+/// The wires of the switch at each position of an order, to positions.
+#[derive(Drop)]
+pub(crate) struct UpDownEdges {
+    /// Up, to lesser positions.
+    pub(crate) ups: Adjacency,
+    /// Down, to greater positions.
+    pub(crate) downs: Adjacency,
+}
+
+impl UpDownEdges {
+    /// The wires up and down of each switch, where the order is that of ranks and GUIDs and has
+    /// these positions.
+    pub(crate) fn of(
+        alloc: Global,
+        graph: &Graph,
+        order: &[usize],
+        positions: &[usize],
+    ) -> Result<Self, AllocError>
+        requires order { IsOrder (map (rank_of graph.now) (guids_of graph.now)) order.now }
+        requires positions { ArePositions order.now positions.now }
+        ensures { IfOk result (λ slopes. AreAtPositions graph.now order.now slopes.ups slopes.downs) }
+    {
+        let mut ups = Adjacency::new(alloc);
+        let mut downs = Adjacency::new(alloc);
+        for (position, index) in order.iter().enumerate() {
+            let edges = to_positions(alloc, graph.edges(*index), positions)?;
+            ups.push_vertex(&ups_from(alloc, position, &edges)?)?;
+            downs.push_vertex(&downs_from(alloc, position, &edges)?)?;
+        }
+        Ok(UpDownEdges { ups, downs })
+    }
+}
+
+/// Edges to indices, as edges to the positions of these.
+fn to_positions(alloc: Global, edges: &[Edge], positions: &[usize]) -> Result<Vec<Edge>, AllocError>
+    requires { All (λ edge. edge.to < length positions.now) edges.now }
+    ensures { IfOk result (λ found. found.items ≡ map (at_position positions.now) edges.now) }
+{
+    edges
+        .iter()
+        .map(|edge| Edge {
+            port: edge.port,
+            to: positions[edge.to],
+        })
+        .collect(alloc)
+}
+
+/// The edges to lesser positions.
+fn ups_from(alloc: Global, position: usize, edges: &[Edge]) -> Result<Vec<Edge>, AllocError>
+    ensures { IfOk result (λ ups. ups.items ≡ ups_from position edges.now) }
+{
+    edges
+        .iter()
+        .copied()
+        .filter(|edge| edge.to < position)
+        .collect(alloc)
+}
+
+/// The edges to greater positions.
+fn downs_from(alloc: Global, position: usize, edges: &[Edge]) -> Result<Vec<Edge>, AllocError>
+    ensures { IfOk result (λ downs. downs.items ≡ downs_from position edges.now) }
+{
+    edges
+        .iter()
+        .copied()
+        .filter(|edge| position < edge.to)
+        .collect(alloc)
+}
