@@ -7,7 +7,8 @@ import pathlib
 import subprocess
 import sys
 
-ROOT = pathlib.Path(__file__).resolve().parent.parent
+from paths import ROOT
+
 TEST = pathlib.Path(sys.argv[0]).name
 # A block of a plan's text: how many entries it has, their digits, and the entry that says that no way leads.
 ENTRIES, DIGITS, NO_WAY = 64, 128, 255
@@ -89,8 +90,8 @@ class Row:
         self.numbers, self.ends = range(1), None
 
 
-def read_rows(folder=ROOT / "tools" / "runs"):
-    """The rows of all files, and the texts that they name. `tools/test-runs` says what is in the files."""
+def read_rows(folder=ROOT / "tests" / "runs"):
+    """The rows of all files, and the texts that they name. `tests/test-runs` says what is in the files."""
     rows, texts = [], {}
     for file in sorted(folder.glob("*.rows")):
         lines = None

@@ -1,7 +1,8 @@
-"""Inputs past each size at which a program could stop for want of room in what it counts by, for `./at-scale`. What is printed is
+"""Inputs past each size at which a program could stop for want of room in what it counts by, for `tests/at-scale`. What is printed is
 compared as a whole: with what is known of a tree, with the same by another way, or with what has to come of it."""
 import itertools
 
+import paths  # noqa: F401
 import record_files as make
 import sample_audits as audits
 from scale import Fabric, Run, Tree, chain, check, levels

@@ -1,4 +1,4 @@
-"""How the cost of commands grows, for `./at-scale`: each at a size and at twice the size, by counted instructions. `perf` counts
+"""How the cost of commands grows, for `tests/at-scale`: each at a size and at twice the size, by counted instructions. `perf` counts
 them where the machine has it, else `valgrind`. Where neither does, processor time is taken, the least of some runs, and twice as
 much is allowed; the bounds on instructions are left out then."""
 import concurrent.futures
@@ -7,6 +7,7 @@ import os
 import re
 import subprocess
 
+import paths  # noqa: F401
 import record_files as make
 from scale import Fabric, Tree, check
 

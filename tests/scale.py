@@ -1,8 +1,9 @@
-"""Runs of the program on large inputs, for `./at-scale`: what they print and cost, and fabrics whose answers are known."""
+"""Runs of the program on large inputs, for `tests/at-scale`: what they print and cost, and fabrics whose answers are known."""
 import itertools
 import os
 import subprocess
 
+import paths  # noqa: F401
 import record_files as make
 import sample_audits as audits
 from built_program import DIGITS, ENTRIES, NO_WAY

@@ -1,15 +1,16 @@
-"""What `tools/test-files` tries of whole rounds, over scripts that stand in for a subnet, in its room."""
+"""What `tests/test-files` tries of whole rounds, over scripts that stand in for a subnet, in its room."""
 
 import contextlib
 import fcntl
 import json
 import os
-import pathlib
 import re
 import signal
 import subprocess
 import sys
 import time
+
+import paths
 
 # Stand in for a subnet: what it says and holds is in the folder fab. A recording is there the text of its facts.
 FAKE_RECORD = """#!/bin/sh
@@ -187,7 +188,7 @@ def watched(room):
     """Rounds go on until a signal, one line for each."""
     words = [
         sys.executable,
-        pathlib.Path(__file__).parent / "round",
+        paths.TOOLS / "round",
         "rd",
         "--ibsm",
         "./ibsm",

@@ -3,6 +3,7 @@
 A row is what stands behind `ibsm` on the command line, and how the run ends by docs/FORMATS.md; a word in capitals is a
 file, which `files` makes. Or it is the bytes of a file that is called FILE, and how `facts` of it ends.
 """
+import paths  # noqa: F401
 import record_files as make
 from built_program import prints, refused, says
 
