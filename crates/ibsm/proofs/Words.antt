@@ -1,5 +1,5 @@
 -- What the words of the command line name.
-use Rattle.std.proofs.Common.{◌≡◌, ℕ, Bool, List, [], ◌∷◌, true, false, IsTrue, ◌↔◌, Option, None, Some, refl, subst, sym, ap, ◌∙◌}
+use Rattle.std.proofs.Common.{◌≡◌, ◌⊎◌, inl, inr, IsSome, ℕ, Bool, List, [], ◌∷◌, true, false, IsTrue, ◌↔◌, Option, None, Some, refl, subst, sym, ap, ◌∙◌}
 use Rattle.std.specs.Prelude.{codes, find, is_some, map, option_map, option_and_then, slice_get, if◌then◌else◌}
 use Rattle.std.proofs.lemmas.Option.{slice_get-map}
 use Rattle.std.specs.Str.{bytes_eq}
@@ -9,6 +9,7 @@ use Rattle.clap.specs.Walk.{Row, row_of, rows_of, Text}
 use Rattle.clap.specs.declared.parser.matches.Found.{Found}
 use Rattle.clap.specs.declared.parser.matches.MatchedArg.{MatchedArg}
 use Rattle.ibsm.specs.Asked.{RootsLackSpread, values_in}
+use Rattle.ibsm.specs.Unasked.{IsNoLmc, IsNoRule, LacksPlan, LacksRooted}
 
 found_values : (name : List ℕ) (es : List Entry)
     → option_map raw_values (option_map (λ e. e.1) (find (λ e. bytes_eq e.0.now name) es)) ≡ values_in name (map row_of es)
@@ -19,11 +20,12 @@ found_values name (e ∷ es) =
       | false ↦ found_values name es
     ]
 
--- the values that a subcommand's matches hold are those behind the subcommand
-pub named : (o : Option (Text × List Row)) (found : Found) (name : List ℕ) (names : List (List ℕ)) → Some (rows_of found) ≡ option_map (λ p. p.1) o
-    → Some names ≡ option_map raw_values (matched_of found name) → option_and_then (λ s. values_in name s.1) o ≡ Some names
-named None found name names e f = absurd (cc)
-named (Some p) found name names e f =
+-- the values that a subcommand's matches hold are those behind the subcommand, and where they hold none there are none
+pub values_are : (o : Option (Text × List Row)) (found : Found) (name : List ℕ) (values : Option (List (List ℕ)))
+    → Some (rows_of found) ≡ option_map (λ p. p.1) o → values ≡ option_map raw_values (matched_of found name)
+    → option_and_then (λ s. values_in name s.1) o ≡ values
+values_are None found name values e f = absurd (cc)
+values_are (Some p) found name values e f =
     let same : rows_of found ≡ p.1 = cc in
     ap (values_in name) (sym same) ∙ sym (f ∙ found_values name found.entries.items)
 
@@ -75,3 +77,36 @@ pub none_lack : (o : Option (Text × List Row)) → None ≡ option_map (λ p. p
     (option_and_then (λ s. option_and_then (λ vs. slice_get vs 0) (values_in (codes "routing") s.1)) o)
 none_lack None e = (λ t. absurd (cc), λ h. let is = h.0 in absurd (cc))
 none_lack (Some p) e = absurd (cc)
+
+-- what is lacking there is so of the words that are named ---------------------------------------------
+
+-- one word
+pub word_lacks : (Lacks : Option (List ℕ) → Type 0) (o : Option (Text × List Row)) (found : Found) (name : List ℕ) → Some (rows_of found) ≡ option_map (λ p. p.1) o
+    → Lacks (first_value found name) → Lacks (option_and_then (λ s. option_and_then (λ vs. slice_get vs 0) (values_in name s.1)) o)
+word_lacks Lacks o found name e lacks = subst Lacks (sym (first_is o found name e)) lacks
+
+-- roots, or the rule that takes them
+pub rooted_lacks : (o : Option (Text × List Row)) (found : Found) → Some (rows_of found) ≡ option_map (λ p. p.1) o
+    → LacksRooted (first_value found (codes "routing")) (first_value found (codes "roots"))
+    → LacksRooted (option_and_then (λ s. option_and_then (λ vs. slice_get vs 0) (values_in (codes "routing") s.1)) o)
+    (option_and_then (λ s. option_and_then (λ vs. slice_get vs 0) (values_in (codes "roots") s.1)) o)
+rooted_lacks o found e (inl none) = inl (first_is o found (codes "roots") e ∙ none)
+rooted_lacks o found e (inr other) = inr (λ is. other (sym (first_is o found (codes "routing") e) ∙ is))
+
+-- a text of a run
+pub text_lacks : (o : Option (Text × List Row)) (found : Found) → Some (rows_of found) ≡ option_map (λ p. p.1) o
+    → (first_value found (codes "TOPOLOGY") ≡ None) ⊎ (first_value found (codes "SCHEDULE") ≡ None)
+    → (option_and_then (λ s. option_and_then (λ vs. slice_get vs 0) (values_in (codes "TOPOLOGY") s.1)) o ≡ None)
+    ⊎ (option_and_then (λ s. option_and_then (λ vs. slice_get vs 0) (values_in (codes "SCHEDULE") s.1)) o ≡ None)
+text_lacks o found e (inl none) = inl (first_is o found (codes "TOPOLOGY") e ∙ none)
+text_lacks o found e (inr none) = inr (first_is o found (codes "SCHEDULE") e ∙ none)
+
+-- what a plan needs
+pub plan_lacks : (o : Option (Text × List Row)) (found : Found) → Some (rows_of found) ≡ option_map (λ p. p.1) o
+    → LacksPlan (first_value found (codes "lmc")) (first_value found (codes "routing")) (first_value found (codes "roots"))
+    → LacksPlan (option_and_then (λ s. option_and_then (λ vs. slice_get vs 0) (values_in (codes "lmc") s.1)) o)
+    (option_and_then (λ s. option_and_then (λ vs. slice_get vs 0) (values_in (codes "routing") s.1)) o)
+    (option_and_then (λ s. option_and_then (λ vs. slice_get vs 0) (values_in (codes "roots") s.1)) o)
+plan_lacks o found e (inl lmc) = inl (word_lacks IsNoLmc o found (codes "lmc") e lmc)
+plan_lacks o found e (inr (inl rule)) = inr (inl (word_lacks IsNoRule o found (codes "routing") e rule))
+plan_lacks o found e (inr (inr roots)) = inr (inr (word_lacks IsSome o found (codes "roots") e roots))

@@ -4,4 +4,5 @@ pub mod Ending
 pub mod Opening
 pub mod Plans
 pub mod RootedRuns
+pub mod Unasked
 pub mod Whose

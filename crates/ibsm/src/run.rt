@@ -1,10 +1,11 @@
 //! One run of the program.
-ghost use Rattle.std.specs.Prelude.{◌≡◌, ◌⊎◌, ◌↔◌, None, Some, IfSome, IsSome, IsTrue, codes, is_some, map, length, slice_get, false, true};
+ghost use Rattle.std.specs.Prelude.{◌≡◌, ◌≢◌, ◌⊎◌, ◌↔◌, None, Some, IfSome, IsSome, IsTrue, codes, is_some, map, length, slice_get, false, true};
 ghost use Rattle.clap.specs.Matches.{subcommand_name_of};
 ghost use Rattle.clap.specs.Matches.{first_value, found_of};
 ghost use Rattle.schedule_run.specs.Prints.{Prints};
 ghost use Rattle.ibsm.specs.Asked.{AnswersWords, AsksRule, AuditsWords, HasLmc, HasNoRoots, HasRule, IsFloor, IsLmc, IsRule, PlansWords};
 ghost use Rattle.ibsm.specs.Asked.{RootsLackSpread, RunsRootedWords, RunsWords, files_named, word_named, word_of};
+ghost use Rattle.ibsm.specs.Unasked.{AsksNothing, IsNoFloor, IsNoLmc, IsNoRule, LacksFiles, LacksPlan, LacksRooted, LacksTexts};
 
 use crate::arguments::{
     AUDIT, FACTS, FILE, FLOOR, JOIN, LMC, PLAN, ROOTS, ROUTING, RUN, SCHEDULE, SPREAD, TABLES,
@@ -136,6 +137,7 @@ where
     ensures failed { result ≡ ExitStatus.Failed
         → AuditsWords (R.answers rt.now) R.Opened.left R.Opened.has_failed matches.now
         (⟦<ToWrite<O> as Sink>⟧.written output.old) (⟦<ToWrite<O> as Sink>⟧.written output.new) false }
+    ensures usage { result ≡ ExitStatus.Usage → AsksNothing matches.now }
 {
     if let Some((topology, schedule, planning)) = run_asked(rt.alloc(), matches) {
         return run_or_explain(rt, &[topology, schedule], &planning, output, errors);
@@ -163,6 +165,11 @@ pub(crate) fn asked<'m, 'a>(matches: &'m ArgMatches<'a>) -> Option<(Invocation, 
     ensures rule { IfSome result (λ asked. HasRule (word_named (codes "routing") matches.now) asked.0.output) }
     ensures no_roots { IfSome result (λ asked. HasNoRoots (word_named (codes "roots") matches.now) asked.0.output) }
     ensures files { IfSome result (λ asked. files_named matches.now ≡ Some (map (λ n. n.now) asked.1.now)) }
+    ensures no_facts { result ≡ None → subcommand_name_of matches.now ≡ Some (codes "facts") → LacksFiles matches.now }
+    ensures no_join { result ≡ None → subcommand_name_of matches.now ≡ Some (codes "join") → LacksFiles matches.now }
+    ensures no_plan { result ≡ None → subcommand_name_of matches.now ≡ Some (codes "plan")
+        → LacksFiles matches.now ⊎ LacksPlan (word_named (codes "lmc") matches.now) (word_named (codes "routing") matches.now)
+        (word_named (codes "roots") matches.now) }
 {
     let (name, words) = matches.subcommand()?;
     let output = output_of(name, words)?;
@@ -176,6 +183,9 @@ fn output_of(name: &str, words: &ArgMatches<'_>) -> Option<Output>
     ensures lmc { IfSome result (HasLmc (first_value (found_of words.now) (codes "lmc"))) }
     ensures rule { IfSome result (HasRule (first_value (found_of words.now) (codes "routing"))) }
     ensures no_roots { IfSome result (HasNoRoots (first_value (found_of words.now) (codes "roots"))) }
+    ensures none { result ≡ None → (name.now ≢ codes "facts") × (name.now ≢ codes "join") × ((name.now ≡ codes "plan")
+        → LacksPlan (first_value (found_of words.now) (codes "lmc")) (first_value (found_of words.now) (codes "routing"))
+        (first_value (found_of words.now) (codes "roots"))) }
 {
     match name {
         FACTS => Some(Output::Facts),
@@ -192,7 +202,8 @@ fn output_of(name: &str, words: &ArgMatches<'_>) -> Option<Output>
 
 /// The floor that the words behind a subcommand ask for, 1 where they ask for none.
 fn floor_of(words: &ArgMatches<'_>) -> Option<Generation>
-    ensures { IfSome result (IsFloor (first_value (found_of words.now) (codes "floor"))) }
+    ensures floor { IfSome result (IsFloor (first_value (found_of words.now) (codes "floor"))) }
+    ensures none { result ≡ None → IsNoFloor (first_value (found_of words.now) (codes "floor")) }
 {
     let number = match words.get_str(FLOOR) {
         Some(text) => text.parse::<u32>().ok()?,
@@ -203,7 +214,8 @@ fn floor_of(words: &ArgMatches<'_>) -> Option<Generation>
 
 /// The LMC that the words behind a subcommand ask for, 0 where they ask for none.
 fn lmc_of(words: &ArgMatches<'_>) -> Option<Lmc>
-    ensures { IfSome result (IsLmc (first_value (found_of words.now) (codes "lmc"))) }
+    ensures lmc { IfSome result (IsLmc (first_value (found_of words.now) (codes "lmc"))) }
+    ensures none { result ≡ None → IsNoLmc (first_value (found_of words.now) (codes "lmc")) }
 {
     let number = match words.get_str(LMC) {
         Some(text) => text.parse::<u8>().ok()?,
@@ -214,7 +226,8 @@ fn lmc_of(words: &ArgMatches<'_>) -> Option<Lmc>
 
 /// The rule of routing that the words behind a subcommand ask for, up and down where they ask for none.
 fn rule_of(words: &ArgMatches<'_>) -> Option<RuleKind>
-    ensures { IfSome result (IsRule (first_value (found_of words.now) (codes "routing"))) }
+    ensures rule { IfSome result (IsRule (first_value (found_of words.now) (codes "routing"))) }
+    ensures none { result ≡ None → IsNoRule (first_value (found_of words.now) (codes "routing")) }
 {
     match words.get_str(ROUTING) {
         None => Some(RuleKind::UpDown),
@@ -235,6 +248,8 @@ pub(crate) fn run_asked<'a>(
     ensures lmc { IfSome result (λ names. IsLmc (word_named (codes "lmc") matches.now) names.2.lmc) }
     ensures rule { IfSome result (λ names. AsksRule (word_named (codes "routing") matches.now) names.2.rule) }
     ensures no_roots { IsSome result → word_named (codes "roots") matches.now ≡ None }
+    ensures none { result ≡ None → subcommand_name_of matches.now ≡ Some (codes "run") → LacksTexts matches.now
+        ⊎ LacksPlan (word_named (codes "lmc") matches.now) (word_named (codes "routing") matches.now) (word_named (codes "roots") matches.now) }
 {
     let (name, words) = matches.subcommand()?;
     if name != RUN || has_roots(words) {
@@ -252,6 +267,8 @@ pub(crate) fn run_asked<'a>(
 fn texts_of<'a>(words: &ArgMatches<'a>) -> Option<(&'a str, &'a str)>
     ensures topology { IfSome result (λ texts. first_value (found_of words.now) (codes "TOPOLOGY") ≡ Some texts.0.now) }
     ensures schedule { IfSome result (λ texts. first_value (found_of words.now) (codes "SCHEDULE") ≡ Some texts.1.now) }
+    ensures none { result ≡ None → (first_value (found_of words.now) (codes "TOPOLOGY") ≡ None)
+        ⊎ (first_value (found_of words.now) (codes "SCHEDULE") ≡ None) }
 {
     let topology = words.get_str(TOPOLOGY)?;
     Some((topology, words.get_str(SCHEDULE)?))
@@ -261,6 +278,8 @@ fn texts_of<'a>(words: &ArgMatches<'a>) -> Option<(&'a str, &'a str)>
 fn roots_of<'a>(words: &ArgMatches<'a>) -> Option<&'a str>
     ensures named { IfSome result (λ roots. first_value (found_of words.now) (codes "roots") ≡ Some roots.now) }
     ensures rule { IsSome result → first_value (found_of words.now) (codes "routing") ≡ Some (codes "spread") }
+    ensures none { result ≡ None → LacksRooted (first_value (found_of words.now) (codes "routing"))
+        (first_value (found_of words.now) (codes "roots")) }
 {
     let roots = words.get_str(ROOTS)?;
     if is_spread(words) { Some(roots) } else { None }
@@ -276,6 +295,9 @@ pub(crate) fn rooted_run_asked<'a>(
     ensures roots { IfSome result (λ asked. word_named (codes "roots") matches.now ≡ Some asked.1.now) }
     ensures topology { IfSome result (λ asked. word_named (codes "TOPOLOGY") matches.now ≡ Some asked.2.now) }
     ensures schedule { IfSome result (λ asked. word_named (codes "SCHEDULE") matches.now ≡ Some asked.3.now) }
+    ensures none { result ≡ None → subcommand_name_of matches.now ≡ Some (codes "run") → LacksTexts matches.now
+        ⊎ (IsNoLmc (word_named (codes "lmc") matches.now)
+        ⊎ LacksRooted (word_named (codes "routing") matches.now) (word_named (codes "roots") matches.now)) }
 {
     let (name, words) = matches.subcommand()?;
     if name != RUN {
@@ -298,6 +320,9 @@ pub(crate) fn rooted_asked<'m, 'a>(
     ensures rule { IsSome result → word_named (codes "routing") matches.now ≡ Some (codes "spread") }
     ensures roots { IfSome result (λ asked. word_named (codes "roots") matches.now ≡ Some asked.1.now) }
     ensures files { IfSome result (λ asked. files_named matches.now ≡ Some (map (λ n. n.now) asked.2.now)) }
+    ensures none { result ≡ None → subcommand_name_of matches.now ≡ Some (codes "plan") → LacksFiles matches.now
+        ⊎ (IsNoLmc (word_named (codes "lmc") matches.now)
+        ⊎ LacksRooted (word_named (codes "routing") matches.now) (word_named (codes "roots") matches.now)) }
 {
     let (name, words) = matches.subcommand()?;
     if name != PLAN {
@@ -317,6 +342,8 @@ pub(crate) fn audit_asked<'m, 'a>(
     ensures tables { IfSome result (λ asked. word_named (codes "TABLES") matches.now ≡ Some asked.0.now) }
     ensures floor { IfSome result (λ asked. IsFloor (word_named (codes "floor") matches.now) asked.1) }
     ensures files { IfSome result (λ asked. files_named matches.now ≡ Some (map (λ n. n.now) asked.2.now)) }
+    ensures none { result ≡ None → subcommand_name_of matches.now ≡ Some (codes "audit")
+        → LacksFiles matches.now ⊎ (word_named (codes "TABLES") matches.now ≡ None) }
 {
     let (name, words) = matches.subcommand()?;
     if name != AUDIT {
