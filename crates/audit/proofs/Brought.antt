@@ -14,7 +14,7 @@ use Rattle.audit.specs.declared.next_hop.NextHop.{NextHop}
 use Rattle.audit.specs.Edges.{edge_by, edge_of}
 use Rattle.audit.specs.declared.owners.Owner.{Owner}
 use Rattle.audit.specs.Network.{row_of, node_of, sender_of, IsNetwork}
-use Rattle.audit.specs.NextHops.{by_entry, cause_of, next_hops_of, entry_among, next_hop_by, next_hop_of, first_hop, AreBrought, AreBlocks}
+use Rattle.audit.specs.NextHops.{by_entry, cause_of, next_hops_of, entry_among, next_hop_by, next_hop_of, first_hop, switch_step, switch_step_by, switch_step_of, AreBrought, AreBlocks}
 use Rattle.audit.specs.Tables.{owners_of, index_of, top_of, block_at, entry_in, entry_at, entry_for, counted}
 use Rattle.audit.specs.WalkEnds.{onward, end_of, IsEndOf, HaveEnded}
 
@@ -81,3 +81,13 @@ module _ (cells : Cells) (held : HeldPlan) (lid number : ℕ) (rows : List (List
       each_edge : (gs : List ℕ) → map (edge_of rows lid) (map (node_of cells held) gs) ≡ map (λ g. edge_by (row_of cells g) (entry_for held lid g)) gs
       each_edge [] = refl
       each_edge (g ∷ gs) = λ i. edge_by (row_of cells g) (counted lid (top_of held g) (entry_is g (index_of held g) refl i)) ∷ each_edge gs i
+
+  -- and what the switches do by their entries
+  pub switch_steps_are : (nodes : List AuditedSwitch) (guids : List ℕ) → nodes ≡ map (node_of cells held) guids
+      → map (switch_step_of (owners_of held lid) rows lid) nodes ≡ map (switch_step cells held lid) guids
+  switch_steps_are nodes guids e = ap (map (switch_step_of (owners_of held lid) rows lid)) e ∙ each_switch guids
+    where
+      each_switch : (gs : List ℕ) → map (switch_step_of (owners_of held lid) rows lid) (map (node_of cells held) gs) ≡ map (switch_step cells held lid) gs
+      each_switch [] = refl
+      each_switch (g ∷ gs) = λ i.
+          switch_step_by (owners_of held lid) lid (node_of cells held g) (counted lid (top_of held g) (entry_is g (index_of held g) refl i)) ∷ each_switch gs i

@@ -18,6 +18,7 @@ use Rattle.audit.specs.declared.senders.Sender.{Sender}
 use Rattle.audit.specs.declared.audited_switch.AuditedSwitch.{AuditedSwitch}
 use Rattle.audit.specs.declared.next_hop.NextHop.{NextHop}
 use Rattle.audit.specs.declared.next_hop.NextHop.TheVariants.{To, Ends}
+use Rattle.audit.specs.declared.switch_step.SwitchStep.{SwitchStep}
 use Rattle.audit.specs.Network.{row_of, sender_of}
 use Rattle.audit.specs.Tables.{owners_of, is_owner, is_same_end, counted, entry_for, entry_in, block_at, top_of}
 use Rattle.audit.specs.WalkEnds.{IsEndOf, after, end_of}
@@ -58,6 +59,21 @@ next_hop_by owners lid node entry = by_entry owners node.guid (cause_by node.por
 
 abbrev pub next_hop_of : List EndPort → List (List ℕ) → ℕ → AuditedSwitch → NextHop
 next_hop_of owners rows lid node = next_hop_by owners lid node (counted lid node.top (entry_among rows node.index lid))
+
+-- a usable switch with its entry for the LID, and what it does by that
+abbrev pub switch_step : Cells → HeldPlan → ℕ → ℕ → SwitchStep
+switch_step cells held lid g = record {
+  switch = g;
+  entry = entry_for held lid g;
+  hop = by_entry (owners_of held lid) g (cause_of cells held lid g) (row_of cells g) (entry_for held lid g);
+}
+
+-- the same of a switch with its index, its top and its row, by the blocks of a number
+abbrev pub switch_step_by : List EndPort → ℕ → AuditedSwitch → ℕ → SwitchStep
+switch_step_by owners lid node entry = record { switch = node.guid; entry = entry; hop = next_hop_by owners lid node entry }
+
+abbrev pub switch_step_of : List EndPort → List (List ℕ) → ℕ → AuditedSwitch → SwitchStep
+switch_step_of owners rows lid node = switch_step_by owners lid node (counted lid node.top (entry_among rows node.index lid))
 
 -- a switch's own packet begins there; an adapter port takes its own LID, and sends any other out by its own port
 abbrev pub sent : List EndPort → EndPort → Option ℕ → Far → NextHop

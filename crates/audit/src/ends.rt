@@ -211,7 +211,7 @@ fn is_at(port: &EndPort, end: &Option<End>) -> bool
 }
 
 /// Whether two end ports are one.
-fn is_same_end(port: &EndPort, other: &EndPort) -> bool
+pub(crate) fn is_same_end(port: &EndPort, other: &EndPort) -> bool
     ensures { result ≡ is_same_end port.now other.now }
 {
     other.node == port.node && other.port == port.port

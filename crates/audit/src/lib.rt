@@ -14,7 +14,8 @@ mod network;
 mod next_hop;
 mod next_hops;
 mod owners;
-mod walk_ends;
+mod switch_step;
+pub mod walk_ends;
 
 pub use arrival::first_failure;
 pub use end::{Cause, End, Failure};
@@ -23,6 +24,7 @@ pub use far_end::Far;
 pub use network::{Blocks, Network};
 pub use next_hop::NextHop;
 pub use senders::Sender;
+pub use switch_step::SwitchStep;
 
 mod senders;
 #[cfg(test)]

@@ -1,20 +1,23 @@
 ghost use Rattle.std.specs.Prelude.{◌≡◌, ◌<◌, ◌/◌, IfOk, length, map, slice_get};
+ghost use Rattle.std.specs.Option.{option_map_or};
 ghost use Rattle.fact_store.specs.View.{cells_of};
 ghost use Rattle.subnet_view.specs.EndPorts.{end_ports};
 ghost use Rattle.subnet_view.specs.Reading.{switches};
 ghost use Rattle.audit.specs.Edges.{edges_of, greatest_top};
 ghost use Rattle.audit.specs.Network.{far_by, sender_of};
-ghost use Rattle.audit.specs.NextHops.{AreBlocks, AreBrought, entry_by};
-ghost use Rattle.audit.specs.Tables.{is_owner};
+ghost use Rattle.audit.specs.NextHops.{AreBlocks, AreBrought, entry_by, switch_step};
+ghost use Rattle.audit.specs.Ends.{is_sole};
+ghost use Rattle.audit.specs.Tables.{is_owner, owners_of, top_of};
 
 use crate::audited_switch::{AuditedSwitch, greatest_top, nodes};
 use crate::blocks::{blocks, numbers};
 use crate::ends::Ends;
 use crate::entry::entry_for;
 use crate::far_end::Far;
-use crate::next_hops::{edges, steps};
-use crate::owners::{Owner, owners, owners_of};
+use crate::next_hops::{edges, steps, switch_steps};
+use crate::owners::{Owner, is_sole_owner, owners, owners_of};
 use crate::senders::{Sender, all_begin, firsts, sources};
+use crate::switch_step::SwitchStep;
 use crate::walk_ends::ends;
 use fact_store::{Refused, Store};
 use plan_file::{Held, HeldLid};
@@ -141,6 +144,50 @@ impl<'a> Network<'a> {
             owners,
             walks,
         )
+    }
+
+    /// The entry of each usable switch for a LID, by rising GUID, and what the switch does by it. Takes a step for each
+    /// switch; and where several end ports hold the LID, a walk over the LIDs that are held.
+    pub fn switch_steps(
+        &self,
+        alloc: Global,
+        blocks: &Blocks,
+        lid: Lid,
+    ) -> Result<Vec<SwitchStep>, AllocError>
+        requires held { AreBlocks self.now.held blocks.now.number blocks.now.rows.items }
+        requires number { blocks.now.number ≡ lid / 64 }
+        ensures { IfOk result (λ steps. steps.items
+            ≡ map (switch_step (cells_of self.now.facts) self.now.held lid) (switches (cells_of self.now.facts))) }
+    {
+        let owners = owners_of(alloc, self.held, &self.owners, lid)?;
+        switch_steps(alloc, &self.nodes, &owners, &blocks.rows, lid)
+    }
+
+    /// The end ports that hold a LID. Takes a step or two where there are not several, and else a walk over the LIDs that
+    /// are held.
+    pub fn owners(&self, alloc: Global, lid: Lid) -> Result<Vec<EndPort>, AllocError>
+        ensures { IfOk result (λ owners. owners.items ≡ owners_of self.now.held lid) }
+    {
+        owners_of(alloc, self.held, &self.owners, lid)
+    }
+
+    /// Whether no other end port holds the LID of a line. It takes no memory, and a step or two where there are not
+    /// several, and else a walk over the LIDs that are held.
+    pub fn is_sole_owner(&self, line: &HeldLid) -> bool
+        ensures { result ≡ is_sole line.now.port (owners_of self.now.held line.now.lid) }
+    {
+        is_sole_owner(self.held, &self.owners, line)
+    }
+
+    /// The top of the usable switch at an index, by rising GUID, and 0 where there is none or it is not held. Takes one
+    /// step.
+    pub fn top(&self, index: usize) -> Lid
+        ensures { result ≡ option_map_or (top_of self.now.held) (slice_get (switches (cells_of self.now.facts)) index) 0 }
+    {
+        match self.nodes.get(index) {
+            Some(node) => node.top,
+            None => Lid::new(0),
+        }
     }
 
     /// For each usable switch, by rising GUID, the port by which it sends packets for a LID on to another usable

@@ -1,6 +1,6 @@
 //! What becomes of packets for one LID at each switch.
 ghost use Rattle.std.specs.Prelude.{◌≡◌, IfOk, map};
-ghost use Rattle.audit.specs.NextHops.{at_port, cause_by, entry_among, first_hop, over, next_hop_of};
+ghost use Rattle.audit.specs.NextHops.{at_port, cause_by, entry_among, first_hop, over, next_hop_by, next_hop_of, switch_step_of};
 ghost use Rattle.audit.specs.Edges.{edge_of, edge_to};
 ghost use Rattle.audit.specs.Tables.{counted, is_owner};
 
@@ -9,6 +9,7 @@ use crate::end::{Cause, End};
 use crate::far_end::Far;
 use crate::next_hop::NextHop;
 use crate::senders::Sender;
+use crate::switch_step::SwitchStep;
 use port_graph::Edge;
 use smp_bytes::{Guid, Lid, PortNum};
 use std::alloc::{AllocError, Global};
@@ -44,6 +45,13 @@ fn step_at(owners: &[EndPort], rows: &[[u8; 64]], lid: Lid, node: &AuditedSwitch
     ensures { result ≡ next_hop_of owners.now rows.now lid node.now }
 {
     let entry = counted(lid, node.top, entry_among(rows, node.index, lid));
+    step_by(owners, lid, node, entry)
+}
+
+/// What a switch does by its entry.
+fn step_by(owners: &[EndPort], lid: Lid, node: &AuditedSwitch, entry: u8) -> NextHop
+    ensures { result ≡ next_hop_by owners.now lid node.now entry }
+{
     if entry == 0 {
         return NextHop::Ends(End::Taken(EndPort {
             node: node.guid,
@@ -57,6 +65,39 @@ fn step_at(owners: &[EndPort], rows: &[[u8; 64]], lid: Lid, node: &AuditedSwitch
         )),
         Far::Switch(index) => NextHop::To(index),
         Far::Port(port) => NextHop::Ends(at_port(owners, &port)),
+    }
+}
+
+/// The entry of each switch, and what it does.
+pub(crate) fn switch_steps(
+    alloc: Global,
+    nodes: &[AuditedSwitch],
+    owners: &[EndPort],
+    rows: &[[u8; 64]],
+    lid: Lid,
+) -> Result<Vec<SwitchStep>, AllocError>
+    ensures { IfOk result (λ steps. steps.items ≡ map (switch_step_of owners.now rows.now lid) nodes.now) }
+{
+    nodes
+        .iter()
+        .map(|node| switch_step_at(owners, rows, lid, node))
+        .collect(alloc)
+}
+
+/// The entry of a switch, and what it does.
+fn switch_step_at(
+    owners: &[EndPort],
+    rows: &[[u8; 64]],
+    lid: Lid,
+    node: &AuditedSwitch,
+) -> SwitchStep
+    ensures { result ≡ switch_step_of owners.now rows.now lid node.now }
+{
+    let entry = counted(lid, node.top, entry_among(rows, node.index, lid));
+    SwitchStep {
+        switch: node.guid,
+        entry,
+        hop: step_by(owners, lid, node, entry),
     }
 }
 

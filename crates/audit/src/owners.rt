@@ -1,9 +1,11 @@
 //! Who holds each LID.
 ghost use Rattle.std.specs.Prelude.{◌≡◌, [], ◌∷◌, IfOk, slice_index_or, slice_set};
 ghost use Rattle.audit.specs.declared.owners.Owner.TheVariants.{Several};
+ghost use Rattle.audit.specs.Ends.{is_sole};
 ghost use Rattle.audit.specs.Owners.{AreOwners, owner_more};
 ghost use Rattle.audit.specs.Tables.{owners_of};
 
+use crate::ends::is_same_end;
 use plan_file::{Held, HeldLid};
 use smp_bytes::Lid;
 use std::alloc::{AllocError, Global};
@@ -99,4 +101,28 @@ fn all_owners_of(alloc: Global, held: &Held, lid: Lid) -> Result<Vec<EndPort>, A
         .filter(|held| held.lid == lid)
         .map(|held| held.port)
         .collect(alloc)
+}
+
+/// Whether no other end port holds the LID of a line, by who holds each. Takes a step or two where there are not several,
+/// and else a walk over all LIDs that are held.
+pub(crate) fn is_sole_owner(held: &Held, owners: &[Owner], line: &HeldLid) -> bool
+    requires { AreOwners held.now.lids owners.now }
+    ensures { result ≡ is_sole line.now.port (owners_of held.now line.now.lid) }
+{
+    match owner_at(owners, line.lid) {
+        Owner::Nobody => true,
+        Owner::Sole(port) => is_same_end(&line.port, &port),
+        Owner::Several => is_sole_of_all(held, line),
+    }
+}
+
+/// Whether no other end port holds the LID of a line. Takes a walk over all LIDs that are held.
+fn is_sole_of_all(held: &Held, line: &HeldLid) -> bool
+    ensures { result ≡ is_sole line.now.port (owners_of held.now line.now.lid) }
+{
+    held.lids()
+        .iter()
+        .filter(|held| held.lid == line.lid)
+        .map(|held| held.port)
+        .all(|owner| is_same_end(&line.port, &owner))
 }

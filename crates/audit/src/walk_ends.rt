@@ -10,7 +10,7 @@ use std::alloc::{AllocError, Global};
 /// What the walks from the switches come to, by what each switch does: those that have not ended then go on
 /// for ever. A round takes a step for each switch, and there are as many rounds as the longest walk's length
 /// has binary digits, and one more where some go round for ever.
-pub(crate) fn ends(alloc: Global, steps: Vec<NextHop>) -> Result<Vec<NextHop>, AllocError>
+pub fn ends(alloc: Global, steps: Vec<NextHop>) -> Result<Vec<NextHop>, AllocError>
     ensures { IfOk result (λ ends. HaveEnded steps.items ends.items) }
 {
     let mut jumps = steps;
@@ -34,7 +34,7 @@ fn count_onward(jumps: &[NextHop]) -> usize
 }
 
 /// Whether it comes to a switch.
-fn is_to(step: &NextHop) -> bool
+pub fn is_to(step: &NextHop) -> bool
     ensures { result ≡ is_to step.now }
 {
     matches!(step, NextHop::To(_))
@@ -48,7 +48,7 @@ fn doubled(alloc: Global, jumps: &[NextHop]) -> Result<Vec<NextHop>, AllocError>
 }
 
 /// The next step, by those of the switches.
-pub(crate) fn onward(steps: &[NextHop], step: NextHop) -> NextHop
+pub fn onward(steps: &[NextHop], step: NextHop) -> NextHop
     ensures { result ≡ onward steps.now step }
 {
     match step {
@@ -58,7 +58,7 @@ pub(crate) fn onward(steps: &[NextHop], step: NextHop) -> NextHop
 }
 
 /// Where the walk ends that goes on from a step; None where it goes on for ever.
-pub(crate) fn end_of(step: NextHop) -> Option<End>
+pub fn end_of(step: NextHop) -> Option<End>
     ensures { result ≡ end_of step }
 {
     match step {

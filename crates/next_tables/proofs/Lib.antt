@@ -1,5 +1,12 @@
+pub mod Assembled
+pub mod ByLid
 pub mod Entries
+pub mod InStep
+pub mod Listed
 pub mod Mixtures
 pub mod Plain
+pub mod StepLaws
 pub mod Steps
+pub mod Taken
 pub mod Waits
+pub mod Whole

@@ -1,6 +1,8 @@
 //! The laws of a step from the tables that switches hold towards those of a plan.
 ghost use Rattle.next_tables.specs.Mixtures.{NoneIsLost, NoneGoesRound, EndInThePlan, StillIsThePlan, HealInTwo, NextDeliverOrDrop};
 ghost use Rattle.next_tables.specs.Mixtures.{MixturesWaitSo, NoCycleInStep};
+ghost use Rattle.next_tables.specs.StepLaws.{StepsEndInThePlan, StepsHealInTwo};
+ghost use Rattle.next_tables.specs.StepLaws.{NextTablesAreSo, StepsFollowTheRule, StepsLoseNone, StepsSendNoneRound};
 
 /// A packet that the held tables deliver is delivered by whatever mixtures of these and the next ones, also where they change
 /// while it travels.
@@ -41,4 +43,35 @@ pub fn mixtures_wait_so()
 /// Where numbers of channels rise over these, channels never wait in a cycle, whatever the mixtures.
 pub fn no_cycle_in_step()
     ensures law { NoCycleInStep }
+{}
+
+/// What `next_tables` answers has the plan's owners, and at each usable switch the greater of its tops and the next entry for
+/// each LID.
+pub fn next_tables_are_so()
+    ensures law { NextTablesAreSo }
+{}
+
+/// So the rule holds for a LID that one end port alone holds in the tables held and in the plan.
+pub fn steps_follow_the_rule()
+    ensures law { StepsFollowTheRule }
+{}
+
+/// What `next_tables` answers loses no packet for a LID that one end port alone holds in the tables held and in the plan.
+pub fn steps_lose_none()
+    ensures law { StepsLoseNone }
+{}
+
+/// And it sends none round.
+pub fn steps_send_none_round()
+    ensures law { StepsSendNoneRound }
+{}
+
+/// Asked again and again, it comes to the plan.
+pub fn steps_end_in_the_plan()
+    ensures law { StepsEndInThePlan }
+{}
+
+/// And after two steps each packet arrives that does so by the plan.
+pub fn steps_heal_in_two()
+    ensures law { StepsHealInTwo }
 {}

@@ -2,4 +2,17 @@
 //! no packet that arrived is lost.
 #![tactic(auto)]
 
+mod across;
+mod columns;
+mod fault;
 pub mod laws;
+mod next_entries;
+mod order;
+mod step;
+
+pub use fault::StepFault;
+pub use order::step_order;
+pub use step::next_tables;
+
+#[cfg(test)]
+mod tests;

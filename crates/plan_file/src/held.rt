@@ -69,6 +69,17 @@ impl Held {
         }
     }
 
+    /// These LIDs with their end ports, switches and blocks.
+    pub fn of(lids: Vec<HeldLid>, switches: Vec<HeldSwitch>, blocks: Vec<HeldBlock>) -> Self
+        ensures { result ≡ record { lids = lids.items; switches = switches.items; blocks = blocks.items } }
+    {
+        Held {
+            lids,
+            switches,
+            blocks,
+        }
+    }
+
     /// The LIDs, each with an end port that holds it: by the first LID of that one, and then by end port.
     pub fn lids(&self) -> &[HeldLid]
         ensures { result.now ≡ self.now.lids }

@@ -1,0 +1,12 @@
+use crate::next_hop::NextHop;
+use smp_bytes::Guid;
+
+/// A usable switch's entry for a LID, and what the switch does by it.
+#[derive(Clone, Copy, Debug, PartialEq, Eq)]
+pub struct SwitchStep {
+    pub switch: Guid,
+    /// The entry that counts; 255 is none.
+    pub entry: u8,
+    /// What becomes of a packet there.
+    pub hop: NextHop,
+}

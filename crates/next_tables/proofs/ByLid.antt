@@ -1,0 +1,78 @@
+-- The entries of all usable switches for a LID.
+use Rattle.std.proofs.Common.{◌≡◌, ℕ, ◌+◌, List, [], ◌∷◌, ◌++◌, length, refl, sym, ap, ◌∙◌, arith, Option, None, Some}
+use Rattle.std.specs.Prelude.{map, replicate}
+use Rattle.std.specs.List.{range_with_len}
+use Rattle.std.proofs.lemmas.List.{map-append}
+use Rattle.std.proofs.lemmas.List.FromFn.{map-range_with_len_more}
+use Rattle.subnet_view.specs.declared.end_port.EndPort.{EndPort}
+use Rattle.subnet_view.specs.Reading.{Cells, switches}
+use Rattle.plan_file.specs.declared.held.HeldLid.{HeldLid}
+use Rattle.plan_file.specs.Held.{HeldPlan}
+use Rattle.audit.specs.declared.switch_step.SwitchStep.{SwitchStep}
+use Rattle.audit.specs.NextHops.{AreBlocks, switch_step}
+use Rattle.audit.specs.Tables.{owners_of, entry_for}
+use Rattle.next_tables.specs.SwitchSteps.{next_of}
+use Rattle.next_tables.specs.NextTables.{column_of, if_owned, keeper, next_at, next_for}
+use Rattle.next_tables.proofs.Listed.{listed, twice_mapped}
+
+-- so many that are one
+same_each : (x : ℕ) (gs : List ℕ) → map (λ (g : ℕ). x) gs ≡ replicate (length gs) x
+same_each x [] = refl
+same_each x (g ∷ gs) = ap (λ ys. x ∷ ys) (same_each x gs)
+
+module _ (cells : Cells) (held plan : HeldPlan) (lid : ℕ) where
+  abbrev gs : List ℕ
+  gs = switches cells
+
+  abbrev column_by : List EndPort → Option EndPort → List ℕ
+  column_by planned kept = map (next_for cells held plan lid planned kept) gs
+
+  -- by those who hold the LID
+  by_owners : (planned owners : List EndPort) → planned ≡ owners_of plan lid → owners ≡ owners_of held lid
+      → column_by planned (keeper planned owners) ≡ column_of cells held plan lid
+  unfolding next_at
+  by_owners planned owners p h = λ i. column_by (p i) (keeper (p i) (h i))
+
+  -- a LID that nobody has
+  pub nobodys : (entries : List ℕ) (planned : List EndPort) → planned ≡ owners_of plan lid → planned ≡ [] → (count : ℕ) → count ≡ length gs
+      → entries ≡ replicate count 255 → entries ≡ column_of cells held plan lid
+  nobodys entries planned p none count all e =
+      let empty : column_by planned (keeper planned (owners_of held lid)) ≡ map (λ (g : ℕ). 255) gs = ap (λ (es : List EndPort). column_by es (keeper es (owners_of held lid))) none in
+      e ∙ ap (λ n. replicate n 255) all ∙ sym (same_each 255 gs) ∙ sym empty ∙ by_owners planned (owners_of held lid) p refl
+
+  -- one that one end port keeps
+  pub kept : (entries : List ℕ) (planned owners : List EndPort) (port : EndPort) (hs ps : List SwitchStep) → planned ≡ owners_of plan lid → owners ≡ owners_of held lid
+      → Some port ≡ keeper planned owners → hs ≡ map (switch_step cells held lid) gs → ps ≡ map (switch_step cells plan lid) gs
+      → entries ≡ next_of port hs ps → entries ≡ column_of cells held plan lid
+  kept entries planned owners port hs ps p h k hs_are ps_are e =
+      let line : HeldLid = record { lid = lid; port = port } in
+      e ∙ (λ i. next_of port (hs_are i) (ps_are i)) ∙ listed cells held plan line
+      ∙ ap (column_by planned) k ∙ by_owners planned owners p h
+
+  owned_is : (planned : List EndPort) (entry : ℕ) → (planned ≡ [] → ⊥) → if_owned planned entry ≡ entry
+  owned_is [] entry some = absurd (some refl)
+  owned_is (e ∷ planned) entry some = refl
+
+  owned_each : (planned : List EndPort) (xs : List ℕ) → (planned ≡ [] → ⊥) → map (λ g. if_owned planned (entry_for plan lid g)) xs ≡ map (entry_for plan lid) xs
+  owned_each planned [] some = refl
+  owned_each planned (x ∷ xs) some = λ i. owned_is planned (entry_for plan lid x) some i ∷ owned_each planned xs some i
+
+  -- and any other that the plan has
+  pub others : (entries : List ℕ) (planned owners : List EndPort) (ps : List SwitchStep) → planned ≡ owners_of plan lid → owners ≡ owners_of held lid
+      → (planned ≡ [] → ⊥) → None ≡ keeper planned owners → ps ≡ map (switch_step cells plan lid) gs
+      → entries ≡ map (λ (x : SwitchStep). x.entry) ps → entries ≡ column_of cells held plan lid
+  others entries planned owners ps p h some k ps_are e =
+      e ∙ ap (map (λ (x : SwitchStep). x.entry)) ps_are ∙ twice_mapped (λ (x : SwitchStep). x.entry) (switch_step cells plan lid) gs
+      ∙ sym (owned_each planned gs some) ∙ ap (column_by planned) k ∙ by_owners planned owners p h
+
+-- the columns so far
+pub record SoFar (cells : Cells) (held plan : HeldPlan) (count held_number plan_number : ℕ) (held_rows plan_rows columns : List (List ℕ)) : Type 0 where
+  pub held_blocks : AreBlocks held held_number held_rows
+  pub plan_blocks : AreBlocks plan plan_number plan_rows
+  pub columns_are : columns ≡ map (column_of cells held plan) (range_with_len 0 count)
+
+-- a column more
+pub column_more : {C : Type 0} (F : ℕ → List ℕ) (entries : C → List ℕ) (old new : List C) (c : C) (n : ℕ) → map entries old ≡ map F (range_with_len 0 n)
+    → new ≡ old ++ c ∷ [] → entries c ≡ F n → map entries new ≡ map F (range_with_len 0 (n + 1))
+column_more F entries old new c n h e k =
+    ap (map entries) e ∙ map-append entries old (c ∷ []) ∙ (λ i. h i ++ (k i ∷ [])) ∙ sym (map-range_with_len_more F 0 n n (omega arith))

@@ -1,0 +1,92 @@
+-- The tables to write next, whole.
+use Rattle.std.specs.Prelude.{◌≡◌, ℕ, ◌+◌, ◌*◌, Bool, true, false, List, [], ◌∷◌, Option, None, Some, map, max, not, option_map, if◌then◌else◌}
+use Rattle.std.specs.List.{find, range_with_len}
+use Rattle.subnet_view.specs.declared.end_port.EndPort.{EndPort}
+use Rattle.subnet_view.specs.Reading.{Cells, switches}
+use Rattle.lft_blocks.specs.Entries.{block_count}
+use Rattle.lft_blocks.specs.Plan.{SwitchTable}
+use Rattle.plan_file.specs.declared.held.HeldLid.{HeldLid}
+use Rattle.plan_file.specs.declared.held.HeldSwitch.{HeldSwitch}
+use Rattle.plan_file.specs.Held.{HeldPlan}
+use Rattle.plan_file.specs.Printed.{blocks_of}
+use Rattle.audit.specs.Ends.{is_sole}
+use Rattle.audit.specs.Tables.{owners_of, is_same_end, entry_for, top_of}
+use Rattle.next_tables.specs.declared.fault.StepFault.{StepFault}
+use Rattle.next_tables.specs.declared.fault.StepFault.TheVariants.{Moves, Memory}
+use Rattle.next_tables.specs.Next.{next_entry}
+
+-- another end port holds the LID of the line
+abbrev pub moves : HeldPlan → HeldLid → Bool
+moves held line = not (is_sole line.port (owners_of held line.lid))
+
+-- the first LID that the plan gives to an end port and the held tables to another
+abbrev pub first_moved : HeldPlan → HeldPlan → Option ℕ
+first_moved held plan = option_map (λ line. line.lid) (find (moves held) plan.lids)
+
+-- the end port, where it alone is one of these
+abbrev pub kept_by : EndPort → List EndPort → Option EndPort
+kept_by e [] = None
+kept_by e (x ∷ []) = if is_same_end e x then Some e else None
+kept_by e (x ∷ y ∷ xs) = None
+
+-- the end port that alone holds a LID in the plan and in the held tables, by those that hold it in each
+abbrev pub keeper : List EndPort → List EndPort → Option EndPort
+keeper [] held = None
+keeper (e ∷ []) held = kept_by e held
+keeper (e ∷ x ∷ es) held = None
+
+-- the plan's entry for a LID, and none where the plan has it not
+abbrev pub if_owned : List EndPort → ℕ → ℕ
+if_owned [] entry = 255
+if_owned (e ∷ es) entry = entry
+
+abbrev pub next_for : Cells → HeldPlan → HeldPlan → ℕ → List EndPort → Option EndPort → ℕ → ℕ
+next_for cells held plan lid planned None g = if_owned planned (entry_for plan lid g)
+next_for cells held plan lid planned (Some port) g = next_entry cells held plan (record { lid = lid; port = port }) g
+
+-- the next entry of a usable switch for a LID: by the rule where one end port alone holds the LID in both, else the plan's
+unfoldable pub next_at : Cells → HeldPlan → HeldPlan → ℕ → ℕ → ℕ
+next_at cells held plan lid g = next_for cells held plan lid (owners_of plan lid) (keeper (owners_of plan lid) (owners_of held lid)) g
+
+-- those of all usable switches
+abbrev pub column_of : Cells → HeldPlan → HeldPlan → ℕ → List ℕ
+column_of cells held plan lid = map (next_at cells held plan lid) (switches cells)
+
+-- the end port of a line alone holds its LID, in the plan and in the held tables
+pub record IsKept (held plan : HeldPlan) (line : HeldLid) : Type 0 where
+  pub in_plan : owners_of plan line.lid ≡ line.port ∷ []
+  pub in_held : owners_of held line.lid ≡ line.port ∷ []
+
+-- the greater of a switch's tops
+abbrev pub next_top : HeldPlan → HeldPlan → ℕ → ℕ
+next_top held plan g = max (top_of held g) (top_of plan g)
+
+abbrev pub next_switch : HeldPlan → HeldPlan → ℕ → HeldSwitch
+next_switch held plan g = record { guid = g; top = next_top held plan g }
+
+-- its blocks, up to that of its top
+abbrev pub next_block : Cells → HeldPlan → HeldPlan → ℕ → ℕ → List ℕ
+next_block cells held plan g b = map (λ i. next_at cells held plan (64 * b + i) g) (range_with_len 0 64)
+
+abbrev pub next_table : Cells → HeldPlan → HeldPlan → ℕ → SwitchTable
+next_table cells held plan g = record {
+  guid = g;
+  blocks = map (next_block cells held plan g) (range_with_len 0 (block_count (Some (next_top held plan g))));
+}
+
+-- the plan's LIDs; and the usable switches with the greater of their tops, and their next entries
+unfoldable pub next_tables : Cells → HeldPlan → HeldPlan → HeldPlan
+next_tables cells held plan = record {
+  lids = plan.lids;
+  switches = map (next_switch held plan) (switches cells);
+  blocks = blocks_of 0 (map (next_table cells held plan) (switches cells));
+}
+
+-- why there are none, memory aside
+abbrev pub step_fault : Option ℕ → Option StepFault
+step_fault None = None
+step_fault (Some lid) = Some (Moves lid)
+
+abbrev pub is_memory : StepFault → Bool
+is_memory (Moves lid) = false
+is_memory Memory = true

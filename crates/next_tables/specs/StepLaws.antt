@@ -1,0 +1,61 @@
+-- What the next tables bring, of a LID that one end port alone holds in the tables held and in the plan.
+use Rattle.std.specs.Prelude.{◌≡◌, ◌≤◌, ℕ, zero, suc, Contains, Some, slice_get}
+use Rattle.subnet_view.specs.declared.end_port.EndPort.{EndPort}
+use Rattle.subnet_view.specs.Reading.{Cells, switches}
+use Rattle.plan_file.specs.declared.held.HeldLid.{HeldLid}
+use Rattle.plan_file.specs.Held.{HeldPlan}
+use Rattle.audit.specs.declared.end.End.{End}
+use Rattle.audit.specs.declared.end.End.TheVariants.{Taken}
+use Rattle.audit.specs.declared.next_hop.NextHop.TheVariants.{To, Ends}
+use Rattle.audit.specs.Tables.{entry_for, owners_of, top_of}
+use Rattle.audit.specs.WalkEnds.{after}
+use Rattle.audit.specs.NextHops.{IsBrought, next_hops_of}
+use Rattle.next_tables.specs.Mixtures.{IsBroughtBy, IsLoose, IsMixed}
+use Rattle.next_tables.specs.Next.{IsNext}
+use Rattle.next_tables.specs.NextTables.{IsKept, next_at, next_tables, next_top}
+
+-- tables that have the plan's owners, and at each usable switch the greater top and the next entry for each LID
+pub record AreNextTables (cells : Cells) (held plan next : HeldPlan) : Type 0 where
+  pub owners : (lid : ℕ) → owners_of next lid ≡ owners_of plan lid
+  pub tops : (g : ℕ) → Contains (switches cells) g → top_of next g ≡ next_top held plan g
+  pub entries : (g lid : ℕ) → Contains (switches cells) g → entry_for next lid g ≡ next_at cells held plan lid g
+
+abbrev pub NextTablesAreSo : Type 0
+NextTablesAreSo = (cells : Cells) (held plan : HeldPlan) → AreNextTables cells held plan (next_tables cells held plan)
+
+-- so the rule holds for a LID that one end port alone holds in both
+abbrev pub StepsFollowTheRule : Type 0
+StepsFollowTheRule = (cells : Cells) (held plan : HeldPlan) (line : HeldLid) → IsKept held plan line → IsNext cells held plan line (next_tables cells held plan)
+
+-- a packet that the tables held deliver at the end port is delivered there by whatever mixtures of these and the next ones
+abbrev pub StepsLoseNone : Type 0
+StepsLoseNone =
+    (cells : Cells) (held plan : HeldPlan) (line : HeldLid) → IsKept held plan line
+    → (mixed : ℕ → HeldPlan) → ((k : ℕ) → IsLoose cells held (next_tables cells held plan) line.lid (mixed k))
+    → (source : EndPort) → IsBrought cells held line.lid source (Some (Taken line.port)) → IsBroughtBy cells mixed line.lid source (Taken line.port)
+
+-- one that they do not send round for ever is sent round by none of these mixtures
+abbrev pub StepsSendNoneRound : Type 0
+StepsSendNoneRound =
+    (cells : Cells) (held plan : HeldPlan) (line : HeldLid) → IsKept held plan line
+    → (mixed : ℕ → HeldPlan) → ((k : ℕ) → IsMixed cells held (next_tables cells held plan) line.lid (mixed k))
+    → (source : EndPort) (end : End) → IsBrought cells held line.lid source (Some end) → (last : End) × IsBroughtBy cells mixed line.lid source last
+
+-- the tables after so many steps towards a plan
+abbrev pub stepped : Cells → HeldPlan → HeldPlan → ℕ → HeldPlan
+stepped cells plan held zero = held
+stepped cells plan held (suc n) = next_tables cells (stepped cells plan held n) plan
+
+-- a switch from which the plan's way meets n switches has the plan's entry after n steps, and from then on
+abbrev pub StepsEndInThePlan : Type 0
+StepsEndInThePlan =
+    (cells : Cells) (held plan : HeldPlan) (line : HeldLid) → IsKept held plan line
+    → (i g n m : ℕ) → slice_get (switches cells) i ≡ Some g → after n (next_hops_of cells plan line.lid) (To i) ≡ Ends (Taken line.port) → n ≤ m
+    → entry_for (stepped cells plan held m) line.lid g ≡ entry_for plan line.lid g
+
+-- after two steps each packet arrives that does so by the plan
+abbrev pub StepsHealInTwo : Type 0
+StepsHealInTwo =
+    (cells : Cells) (held plan : HeldPlan) (line : HeldLid) → IsKept held plan line
+    → (source : EndPort) → IsBrought cells plan line.lid source (Some (Taken line.port))
+    → IsBrought cells (stepped cells plan held 2) line.lid source (Some (Taken line.port))

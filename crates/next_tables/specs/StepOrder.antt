@@ -1,0 +1,78 @@
+-- Channels that wait for each other in a step, by whatever mixtures, and their order.
+use Rattle.std.specs.Prelude.{◌≡◌, ◌↔◌, ◌⊎◌, ◌<◌, ◌≤◌, ◌*◌, ℕ, List, [], ◌∷◌, Option, length}
+use Rattle.port_graph.specs.declared.edge.Edge.{Edge}
+use Rattle.subnet_view.specs.Reading.{Cells, switches}
+use Rattle.plan_file.specs.Held.{HeldPlan}
+use Rattle.audit_channels.specs.Orders.{Follows}
+use Rattle.audit_channels.specs.declared.order.ChannelOrder.{ChannelOrder}
+use Rattle.audit_channels.specs.declared.order.ChannelOrder.TheVariants.{Rises, Cycle}
+use Rattle.next_tables.specs.declared.across.StepTurn.{StepTurn}
+use Rattle.next_tables.specs.Mixtures.{TakesAcross, TakesInStep, WaitsInStep, RiseInStep}
+
+-- a packet does not leave a vertex by one column, and the next by the other
+abbrev pub TakesNone : List (Option Edge) → List (Option Edge) → ℕ → Type 0
+TakesNone before now vertex = (channel next : ℕ) → TakesAcross before now vertex channel next → ⊥
+
+-- the two, which are channels of so many vertices
+pub record IsTurn (before now : List (Option Edge)) (vertex : ℕ) (turn : StepTurn) : Type 0 where
+  pub takes : TakesAcross before now vertex turn.channel turn.next
+  pub channel_within : turn.channel < 256 * length before
+  pub next_within : turn.next < 256 * length now
+
+-- at one of the first vertices
+abbrev pub TakesAmong : ℕ → List (Option Edge) → List (Option Edge) → ℕ → ℕ → Type 0
+TakesAmong count before now channel next = (vertex : ℕ) × (vertex < count) × TakesAcross before now vertex channel next
+
+-- the same, and that the channels that are taken across at the first vertices follow each other
+pub record IsWithSome (count : ℕ) (old : List (List ℕ)) (before now : List (Option Edge)) (new : List (List ℕ)) : Type 0 where
+  pub as_many : length new ≡ length old
+  pub follows : (a b : ℕ) → Follows new a b ↔ (Follows old a b ⊎ TakesAmong count before now a b)
+
+-- of all
+abbrev pub IsWithAcross : List (List ℕ) → List (Option Edge) → List (Option Edge) → List (List ℕ) → Type 0
+IsWithAcross old before now new = IsWithSome (length before) old before now new
+
+-- the same, and that all those follow each other of which the one is taken by either column, and then the other by either
+pub record IsWithStep (old : List (List ℕ)) (held next : List (Option Edge)) (new : List (List ℕ)) : Type 0 where
+  pub as_many : length new ≡ length old
+  pub follows : (a b : ℕ) → Follows new a b ↔ (Follows old a b ⊎ TakesInStep held next a b)
+
+-- packets for some LID wait so, whether or not an end port holds it
+pub record WaitsFor (cells : Cells) (held next : HeldPlan) (a b : ℕ) : Type 0 where
+  pub lid : ℕ
+  pub is_lid : 1 ≤ lid
+  pub waits : WaitsInStep cells held next lid a b
+
+-- of each channel of each switch, those that packets that hold it wait for
+pub record AreWaits (cells : Cells) (held next : HeldPlan) (waits : List (List ℕ)) : Type 0 where
+  pub as_many : length waits ≡ 256 * length (switches cells)
+  pub follows : (a b : ℕ) → Follows waits a b ↔ WaitsFor cells held next a b
+
+-- each channel of each switch has a number, and those that it waits for have greater ones
+pub record NumbersRise (cells : Cells) (held next : HeldPlan) (numbers : List ℕ) : Type 0 where
+  pub as_many : length numbers ≡ 256 * length (switches cells)
+  pub rise : RiseInStep cells held next numbers
+
+-- each of some channels waits for the next, and the last for another
+abbrev pub WaitOn : Cells → HeldPlan → HeldPlan → ℕ → List ℕ → ℕ → Type 0
+WaitOn cells held next channel [] last = WaitsFor cells held next channel last
+WaitOn cells held next channel (c ∷ later) last = WaitsFor cells held next channel c × WaitOn cells held next c later last
+
+-- channels of which each waits for the next, and the last for the first
+abbrev pub WaitInCycle : Cells → HeldPlan → HeldPlan → List ℕ → Type 0
+WaitInCycle cells held next [] = ⊥
+WaitInCycle cells held next (channel ∷ later) = WaitOn cells held next channel later channel
+
+-- numbers that rise, or a cycle
+abbrev pub IsStepOrder : Cells → HeldPlan → HeldPlan → ChannelOrder → Type 0
+IsStepOrder cells held next (Rises numbers) = NumbersRise cells held next numbers.items
+IsStepOrder cells held next (Cycle channels) = WaitInCycle cells held next channels.items
+
+-- no cycle has fewer channels than these
+abbrev pub NoneShorter : Cells → HeldPlan → HeldPlan → List ℕ → Type 0
+NoneShorter cells held next channels = (cycle : List ℕ) → WaitInCycle cells held next cycle → length channels ≤ length cycle
+
+-- where it is a cycle, none has fewer channels
+abbrev pub IsShortestInStep : Cells → HeldPlan → HeldPlan → ChannelOrder → Type 0
+IsShortestInStep cells held next (Rises numbers) = Unit {0}
+IsShortestInStep cells held next (Cycle channels) = NoneShorter cells held next channels.items

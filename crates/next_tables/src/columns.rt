@@ -1,0 +1,111 @@
+//! The next entries, LID by LID.
+ghost use Rattle.std.specs.Prelude.{◌≡◌, ◌==◌, ◌≤◌, ◌*◌, ◌/◌, IfOk, length, map, replicate};
+ghost use Rattle.std.specs.List.{range_with_len};
+ghost use Rattle.fact_store.specs.View.{cells_of};
+ghost use Rattle.subnet_view.specs.Reading.{switches};
+ghost use Rattle.audit.specs.NextHops.{AreBlocks};
+ghost use Rattle.next_tables.specs.NextTables.{column_of, keeper, kept_by};
+
+use crate::next_entries::{is_same_end, next_entries};
+use audit::{Blocks, Network, SwitchStep};
+use smp_bytes::Lid;
+use std::alloc::{AllocError, Global};
+use subnet_view::EndPort;
+
+/// The entries of all usable switches for each LID of so many blocks, from LID 0 on.
+pub(crate) fn columns(
+    alloc: Global,
+    held: &Network,
+    plan: &Network,
+    count: usize,
+) -> Result<Vec<Vec<u8>>, AllocError>
+    requires facts { plan.now.facts ≡ held.now.facts }
+    requires few { count ≤ 1024 }
+    ensures { IfOk result (λ columns. map (λ column. column.items) columns.items
+        ≡ map (column_of (cells_of held.now.facts) held.now.held plan.now.held) (range_with_len 0 (64 * count))) }
+{
+    let mut columns = Vec::with_capacity(alloc, 64 * count)?;
+    let mut held_blocks = held.blocks(alloc, 0)?;
+    let mut plan_blocks = plan.blocks(alloc, 0)?;
+    for number in 0..64 * count {
+        let lid = Lid::new(number as u16);
+        held_blocks = held.blocks_for(alloc, held_blocks, lid)?;
+        plan_blocks = plan.blocks_for(alloc, plan_blocks, lid)?;
+        let column = column(alloc, held, plan, &held_blocks, &plan_blocks, lid)?;
+        columns.push(column)?;
+    }
+    Ok(columns)
+}
+
+/// The entries of all usable switches for a LID.
+fn column(
+    alloc: Global,
+    held: &Network,
+    plan: &Network,
+    held_blocks: &Blocks,
+    plan_blocks: &Blocks,
+    lid: Lid,
+) -> Result<Vec<u8>, AllocError>
+    requires facts { plan.now.facts ≡ held.now.facts }
+    requires held { AreBlocks held.now.held held_blocks.now.number held_blocks.now.rows.items }
+    requires held_number { held_blocks.now.number ≡ lid / 64 }
+    requires plan { AreBlocks plan.now.held plan_blocks.now.number plan_blocks.now.rows.items }
+    requires plan_number { plan_blocks.now.number ≡ lid / 64 }
+    ensures { IfOk result (λ column. column.items
+        ≡ column_of (cells_of held.now.facts) held.now.held plan.now.held lid) }
+{
+    let planned = plan.owners(alloc, lid)?;
+    if is_nobodys(&planned) {
+        return no_entries(alloc, held.switch_count());
+    }
+    let plan_steps = plan.switch_steps(alloc, plan_blocks, lid)?;
+    let owners = held.owners(alloc, lid)?;
+    match keeper(&planned, &owners) {
+        Some(port) => {
+            let held_steps = held.switch_steps(alloc, held_blocks, lid)?;
+            next_entries(alloc, &port, &held_steps, &plan_steps)
+        }
+        None => entries(alloc, &plan_steps),
+    }
+}
+
+/// Whether no end port is one of these.
+fn is_nobodys(owners: &[EndPort]) -> bool
+    ensures { result ≡ (length owners.now == 0) }
+{
+    owners.is_empty()
+}
+
+/// So many entries that are none.
+fn no_entries(alloc: Global, count: usize) -> Result<Vec<u8>, AllocError>
+    ensures { IfOk result (λ entries. entries.items ≡ replicate count 255) }
+{
+    vec![in alloc; 255; count]
+}
+
+/// The entries of the switches.
+fn entries(alloc: Global, steps: &[SwitchStep]) -> Result<Vec<u8>, AllocError>
+    ensures { IfOk result (λ entries. entries.items ≡ map (λ step. step.entry) steps.now) }
+{
+    steps.iter().map(|step| step.entry).collect(alloc)
+}
+
+/// The end port that alone holds a LID in the plan and in the tables held, by those that hold it in each.
+fn keeper(planned: &[EndPort], held: &[EndPort]) -> Option<EndPort>
+    ensures { result ≡ keeper planned.now held.now }
+{
+    match planned {
+        [port] => kept_by(port, held),
+        _ => None,
+    }
+}
+
+/// The end port, where it alone is one of these.
+fn kept_by(port: &EndPort, held: &[EndPort]) -> Option<EndPort>
+    ensures { result ≡ kept_by port.now held.now }
+{
+    match held {
+        [other] if is_same_end(port, other) => Some(*port),
+        _ => None,
+    }
+}
