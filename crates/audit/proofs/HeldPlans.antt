@@ -14,7 +14,7 @@ use Rattle.lid_assign.specs.Lids.{Given, IsNoRoom, lids, owner_of}
 use Rattle.lid_assign.specs.Lids.{top_of as lid_top}
 use Rattle.lid_assign.proofs.LidLaws.{lids_law}
 use Rattle.subnet_view.specs.declared.end_port.EndPort.{EndPort}
-use Rattle.updown_routes.specs.Routing.{Routing}
+use Rattle.subnet_view.specs.Routing.{Routing}
 use Rattle.lft_blocks.specs.Rules.{RuleValue, routing_by}
 use Rattle.lft_blocks.specs.Entries.{Next, attachment_of_lid, blocks, block_count}
 use Rattle.lft_blocks.specs.Plan.{SwitchTable, PlanValue, plan_of, tables_of}

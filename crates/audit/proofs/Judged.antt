@@ -20,7 +20,7 @@ use Rattle.std.proofs.lemmas.Bool.{ltb-false}
 use Rattle.std.proofs.lemmas.List.Sums.{fails_before_first}
 use Rattle.std.proofs.lemmas.List.Quantifiers.{position-Some}
 use Rattle.text_words.proofs.Splits.{unfound}
-use Rattle.updown_routes.proofs.Components.{same_tests}
+use Rattle.subnet_view.proofs.Components.{same_tests}
 use Rattle.audit.specs.NextHops.{AreBrought, AreBlocks, IsBrought, LineIsRight, AllArrive, IsFailureOf, is_at}
 use Rattle.audit.specs.Tables.{is_owner, is_same_end}
 

@@ -18,14 +18,14 @@ use Rattle.subnet_view.proofs.WireEnds.{linked, across_back}
 use Rattle.subnet_view.proofs.WireLaws.{wire_law}
 use Rattle.port_graph.specs.declared.edge.Edge.{Edge}
 use Rattle.lid_assign.specs.Lids.{IsNoRoom, lids, owner_of, top_of}
-use Rattle.updown_routes.specs.SwitchEdges.{SwitchEdges}
-use Rattle.updown_routes.specs.Graph.{graph_of}
-use Rattle.updown_routes.specs.GraphLaws.{IsSwitch}
-use Rattle.updown_routes.specs.Ranks.{in_one_component, root_of}
-use Rattle.updown_routes.specs.Routing.{Routing, Passes, FollowsRule}
-use Rattle.updown_routes.proofs.Components.{component_itself, component_symm, component_trans, joined, rooted}
-use Rattle.updown_routes.proofs.Graphs.{edge_is_wire, edge_to_usable, graph_law, wire_end}
-use Rattle.updown_routes.proofs.Switches.{graph_guids, switch_usable, usable_switch}
+use Rattle.subnet_view.specs.SwitchEdges.{SwitchEdges}
+use Rattle.subnet_view.specs.Graph.{graph_of}
+use Rattle.subnet_view.specs.GraphLaws.{IsSwitch}
+use Rattle.subnet_view.specs.Components.{in_one_component, root_of}
+use Rattle.subnet_view.specs.Routing.{Routing, Passes, FollowsRule}
+use Rattle.subnet_view.proofs.Components.{component_itself, component_symm, component_trans, joined, rooted}
+use Rattle.subnet_view.proofs.Graphs.{edge_is_wire, edge_to_usable, graph_law, wire_end}
+use Rattle.subnet_view.proofs.GraphSwitches.{graph_guids, switch_usable, usable_switch}
 use Rattle.lft_blocks.specs.Rules.{RuleValue, routing_by}
 use Rattle.lft_blocks.proofs.RulesRoute.{rules_are_routings}
 use Rattle.lft_blocks.specs.Entries.{attachment_of}

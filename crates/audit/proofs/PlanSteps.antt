@@ -18,9 +18,9 @@ use Rattle.subnet_view.proofs.WireEnds.{linked, across_back}
 use Rattle.subnet_view.proofs.WireLaws.{wire_law}
 use Rattle.port_graph.specs.declared.edge.Edge.{Edge}
 use Rattle.lid_assign.specs.Lids.{lids, owner_of}
-use Rattle.updown_routes.specs.Routing.{Routing}
-use Rattle.updown_routes.proofs.Graphs.{wire_end}
-use Rattle.updown_routes.proofs.Switches.{switch_usable}
+use Rattle.subnet_view.specs.Routing.{Routing}
+use Rattle.subnet_view.proofs.Graphs.{wire_end}
+use Rattle.subnet_view.proofs.GraphSwitches.{switch_usable}
 use Rattle.lft_blocks.specs.Entries.{attachment_of, port_to}
 use Rattle.lft_blocks.proofs.HeldEntries.{entry_of as planned_entry, entry_by_attachment}
 use Rattle.audit.specs.Edges.{edge_to, edge_by}

@@ -9,8 +9,7 @@ use crate::far_ends::{FarEnds, row_of};
 use plan_file::Held;
 use smp_bytes::{Guid, Lid};
 use std::alloc::{AllocError, Global};
-use subnet_view::Wires;
-use updown_routes::port_count;
+use subnet_view::{Wires, port_count};
 
 /// A usable switch.
 #[derive(Drop)]

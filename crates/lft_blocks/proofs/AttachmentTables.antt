@@ -12,11 +12,11 @@ use Rattle.std.specs.List.Sorted.{IsStrictlyIncreasing}
 use Rattle.std.specs.Cmp.{both_ways}
 use Rattle.fact_store.specs.View.{Facts, cells_of}
 use Rattle.subnet_view.specs.Reading.{switches}
-use Rattle.updown_routes.proofs.Switches.{switches_increase}
-use Rattle.updown_routes.specs.SwitchEdges.{SwitchEdges}
-use Rattle.updown_routes.specs.Graph.{guids_of}
+use Rattle.subnet_view.proofs.GraphSwitches.{switches_increase}
+use Rattle.subnet_view.specs.SwitchEdges.{SwitchEdges}
+use Rattle.subnet_view.specs.Graph.{guids_of}
 use Rattle.updown_routes.specs.Ports.{next_port_at}
-use Rattle.updown_routes.specs.Routing.{updown}
+use Rattle.updown_routes.specs.Updown.{updown}
 use Rattle.lft_blocks.specs.declared.attachment.Attachment.{Attachment}
 use Rattle.lft_blocks.specs.Entries.{Next, port_to, entry, blocks}
 use Rattle.lft_blocks.specs.Attachments.{meant, IsIndexed, AreIndexed, AreWithin, row_of, entry_in, block_in, table_in}

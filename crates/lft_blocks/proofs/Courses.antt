@@ -16,10 +16,10 @@ use Rattle.subnet_view.specs.declared.end_port.EndPort.{EndPort}
 use Rattle.subnet_view.specs.Reading.{Cells, is_usable}
 use Rattle.lid_assign.specs.Lids.{lids}
 use Rattle.port_graph.specs.declared.edge.Edge.{Edge}
-use Rattle.updown_routes.specs.Graph.{graph_of}
-use Rattle.updown_routes.specs.Routing.{Routing, Passes, FollowsRule}
-use Rattle.updown_routes.proofs.Graphs.{edge_is_wire}
-use Rattle.updown_routes.proofs.PartWires.{IsTold, SwitchIn, switch_at_index, switch_in_part, switch_usable, edge_in_fabric}
+use Rattle.subnet_view.specs.Graph.{graph_of}
+use Rattle.subnet_view.specs.Routing.{Routing, Passes, FollowsRule}
+use Rattle.subnet_view.proofs.Graphs.{edge_is_wire}
+use Rattle.subnet_view.proofs.PartWires.{IsTold, SwitchIn, switch_at_index, switch_in_part, switch_usable, edge_in_fabric}
 use Rattle.lft_blocks.specs.Entries.{attachment_of}
 use Rattle.lft_blocks.specs.Arrival.{guid_at}
 use Rattle.lft_blocks.proofs.HeldEntries.{entry_of, owned_to_top, owned_from_one, entry_by_attachment, held_entry}

@@ -28,8 +28,8 @@ use Rattle.subnet_view.proofs.Members.{contains_cases, contains_none}
 use Rattle.subnet_view.proofs.Taken.{found_in}
 use Rattle.subnet_view.proofs.WireLaws.{wire_law}
 use Rattle.lid_assign.specs.Lids.{lids, range_of, top_of}
-use Rattle.updown_routes.specs.Graph.{graph_of}
-use Rattle.updown_routes.specs.Routing.{updown}
+use Rattle.subnet_view.specs.Graph.{graph_of}
+use Rattle.updown_routes.specs.Updown.{updown}
 use Rattle.lft_blocks.specs.Rules.{up_and_down}
 use Rattle.lft_blocks.specs.Plan.{plan_of, block_at}
 use Rattle.lft_blocks.specs.PlanLaws.{HasBlock, block_of}

@@ -13,7 +13,7 @@ use Rattle.subnet_view.proofs.UsableSwitches.{usable_law}
 use Rattle.lid_assign.specs.Lids.{Given, lids, owner_of, top_of, AreLids}
 use Rattle.lid_assign.proofs.Owners.{given-from_owner}
 use Rattle.lid_assign.proofs.Tops.{at_most_top}
-use Rattle.updown_routes.specs.Routing.{Routing}
+use Rattle.subnet_view.specs.Routing.{Routing}
 use Rattle.lft_blocks.specs.Entries.{attachment_of, attachment_of_lid, port_to, entry, block_count}
 use Rattle.lft_blocks.specs.Plan.{plan_by, block_at}
 use Rattle.lft_blocks.specs.PlanLaws.{HasBlock, block_of}

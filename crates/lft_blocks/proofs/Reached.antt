@@ -16,16 +16,16 @@ use Rattle.subnet_view.proofs.EndPortList.{end_ports_law}
 use Rattle.lid_assign.specs.Lids.{IsNoRoom, lids, owner_of}
 use Rattle.lid_assign.proofs.LidLaws.{lids_law}
 use Rattle.lid_assign.proofs.Owners.{owners_are_inverse}
-use Rattle.updown_routes.specs.Graph.{graph_of}
-use Rattle.updown_routes.specs.Ranks.{in_one_component}
-use Rattle.updown_routes.specs.Routing.{Routing, IsRouting, stops, Leads}
-use Rattle.updown_routes.proofs.Components.{component_itself}
+use Rattle.subnet_view.specs.Graph.{graph_of}
+use Rattle.subnet_view.specs.Components.{in_one_component}
+use Rattle.subnet_view.specs.Routing.{Routing, IsRouting, stops, Leads}
+use Rattle.subnet_view.proofs.Components.{component_itself}
 use Rattle.lft_blocks.specs.Rules.{RuleValue, routing_by}
 use Rattle.lft_blocks.proofs.RulesRoute.{rules_are_routings}
-use Rattle.updown_routes.proofs.Switches.{usable_switch}
-use Rattle.updown_routes.proofs.Graphs.{graph_law}
-use Rattle.updown_routes.proofs.PartWires.{IsTold, SwitchIn, one_index, switch_at_index}
-use Rattle.updown_routes.proofs.Joined.{LiesAt, HasAttachment, itself, by_wire, Meets, same, wired, apart, own_attachment, switch_in_graph, joined_meet}
+use Rattle.subnet_view.proofs.GraphSwitches.{usable_switch}
+use Rattle.subnet_view.proofs.Graphs.{graph_law}
+use Rattle.subnet_view.proofs.PartWires.{IsTold, SwitchIn, one_index, switch_at_index}
+use Rattle.subnet_view.proofs.Joined.{LiesAt, HasAttachment, itself, by_wire, Meets, same, wired, apart, own_attachment, switch_in_graph, joined_meet}
 use Rattle.lft_blocks.specs.Plan.{plan_by, plan_of}
 use Rattle.lft_blocks.specs.Arrival.{guid_at, is_between_switches, switch_hops, switches_met, HoldsPlan, IsInForceWithin, IsRoutedWay}
 use Rattle.lft_blocks.specs.Arrival.{EveryPacketArrives, PacketsArriveByEachRouting, PacketsArriveWhereCovered}

@@ -9,9 +9,8 @@ use Rattle.fabric_model.specs.Fabric.{Fabric, is_switch_at}
 use Rattle.fabric_model.specs.Forwarding.{Hop}
 use Rattle.subnet_view.specs.Reading.{Cells}
 use Rattle.port_graph.specs.declared.edge.Edge.{Edge}
-use Rattle.updown_routes.specs.Graph.{graph_of}
-use Rattle.updown_routes.specs.Channels.{numbers_along}
-use Rattle.updown_routes.specs.Routing.{Routing, FollowsRule, stops, Leads}
+use Rattle.subnet_view.specs.Graph.{graph_of}
+use Rattle.subnet_view.specs.Routing.{numbers_along, Routing, FollowsRule, stops, Leads}
 use Rattle.lft_blocks.specs.Arrival.{guid_at, is_between_switches, switch_hops, switches_met, last_or, IsCostAlong, IsRoutedWay}
 use Rattle.lft_blocks.proofs.Courses.{Follows}
 

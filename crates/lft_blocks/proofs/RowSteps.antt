@@ -12,8 +12,8 @@ use Rattle.spread_labels.specs.Orders.{numbers_from}
 use Rattle.port_graph.proofs.SearchSteps.{all_from_contained}
 use Rattle.spread_labels.proofs.Earlier.{filter_more, numbers_more}
 use Rattle.spread_labels.proofs.Growing.{numbers_below, numbers_there}
-use Rattle.updown_routes.specs.SwitchEdges.{SwitchEdges}
-use Rattle.updown_routes.specs.Graph.{guids_of}
+use Rattle.subnet_view.specs.SwitchEdges.{SwitchEdges}
+use Rattle.subnet_view.specs.Graph.{guids_of}
 use Rattle.lft_blocks.specs.declared.attachment.Attachment.{Attachment}
 use Rattle.lft_blocks.specs.Entries.{Next, port_to, entry, blocks}
 use Rattle.lft_blocks.specs.Attachments.{meant, AreWithin, AreIndexed}

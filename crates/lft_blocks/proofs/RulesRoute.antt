@@ -2,9 +2,9 @@
 use Rattle.std.proofs.Common.{ap}
 use Rattle.std.specs.Prelude.{None, Some}
 use Rattle.fact_store.specs.View.{cells_of}
-use Rattle.updown_routes.specs.Graph.{graph_of}
-use Rattle.updown_routes.specs.Routing.{updown}
-use Rattle.updown_routes.proofs.Graphs.{graph_law}
+use Rattle.subnet_view.specs.Graph.{graph_of}
+use Rattle.updown_routes.specs.Updown.{updown}
+use Rattle.subnet_view.proofs.Graphs.{graph_law}
 use Rattle.updown_routes.proofs.Routed.{updown_is_routing}
 use Rattle.spread_routes.specs.LeafSwitches.{leaf_switches_of}
 use Rattle.lft_blocks.specs.Rules.{RulesAreRoutings, RulesStay}

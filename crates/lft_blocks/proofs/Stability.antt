@@ -9,7 +9,7 @@ use Rattle.subnet_view.specs.declared.end_port.EndPort.{EndPort}
 use Rattle.subnet_view.proofs.BesideClaims.{is_claim, switch_same, usable_same, count_same, switches_same, across_same, attached_same}
 use Rattle.lid_assign.specs.Lids.{lids, owner_of, top_of}
 use Rattle.lid_assign.proofs.Staying.{same_but_claims, lids_settle}
-use Rattle.updown_routes.specs.Graph.{edge_at, graph_of}
+use Rattle.subnet_view.specs.Graph.{edge_at, graph_of}
 use Rattle.spread_routes.specs.LeafSwitches.{leaf_switches_of, is_leaf, has_adapter_at}
 use Rattle.lft_blocks.specs.Rules.{RuleValue}
 use Rattle.lft_blocks.proofs.RulesRoute.{rules_stay}

@@ -16,8 +16,8 @@ use Rattle.subnet_view.specs.Reading.{Cells}
 use Rattle.subnet_view.specs.Wires.{across}
 use Rattle.subnet_view.specs.Agreement.{Part, WholeFabric, IsEndPortIn, IsPortNamed, HasEndPort, HasWire, AgreesOn}
 use Rattle.lid_assign.specs.Lids.{IsNoRoom, lids, owner_of}
-use Rattle.updown_routes.specs.Graph.{graph_of}
-use Rattle.updown_routes.specs.Routing.{updown}
+use Rattle.subnet_view.specs.Graph.{graph_of}
+use Rattle.updown_routes.specs.Updown.{updown}
 use Rattle.lft_blocks.specs.Rules.{up_and_down}
 use Rattle.lft_blocks.specs.Entries.{attachment_of, port_to}
 use Rattle.lft_blocks.specs.Plan.{plan_of}

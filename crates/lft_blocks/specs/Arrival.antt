@@ -14,8 +14,8 @@ use Rattle.subnet_view.specs.declared.end_port.EndPort.{EndPort}
 use Rattle.subnet_view.specs.Reading.{Cells}
 use Rattle.subnet_view.specs.Agreement.{Part, WholeFabric, IsEndPortIn, IsPortNamed, HasEndPort, AgreesOn, Covers}
 use Rattle.lid_assign.specs.Lids.{IsNoRoom, range_of, owner_of, top_of}
-use Rattle.updown_routes.specs.Graph.{graph_of}
-use Rattle.updown_routes.specs.Routing.{Routing, IsRouting}
+use Rattle.subnet_view.specs.Graph.{graph_of}
+use Rattle.subnet_view.specs.Routing.{Routing, IsRouting}
 use Rattle.lft_blocks.specs.Rules.{RuleValue, routing_by}
 use Rattle.lft_blocks.specs.Plan.{PlanValue, plan_by, plan_of, block_at}
 

@@ -2,7 +2,7 @@
 use Rattle.std.specs.Prelude.{◌≡◌, ◌<◌, ℕ, ◌+◌, ◌*◌, List, map, length, Option, None, MatchOption, ◌==◌, unwrap_or, option_map, slice_index, slice_index_or, if◌then◌else◌}
 use Rattle.std.specs.Option.{option_map_or}
 use Rattle.std.specs.List.{range_with_len}
-use Rattle.updown_routes.specs.SwitchEdges.{SwitchEdges}
+use Rattle.subnet_view.specs.SwitchEdges.{SwitchEdges}
 use Rattle.updown_routes.specs.Ports.{next_port_at}
 use Rattle.lft_blocks.specs.declared.attachment.Attachment.{Attachment}
 use Rattle.lft_blocks.specs.Plan.{SwitchTable}

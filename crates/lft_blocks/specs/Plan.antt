@@ -4,7 +4,7 @@ use Rattle.std.specs.List.{find}
 use Rattle.std.specs.List.Sorted.{IsStrictlyIncreasing}
 use Rattle.subnet_view.specs.Reading.{Cells, switches}
 use Rattle.lid_assign.specs.Lids.{Given, lids, top_of}
-use Rattle.updown_routes.specs.Routing.{Routing}
+use Rattle.subnet_view.specs.Routing.{Routing}
 use Rattle.lft_blocks.specs.Rules.{RuleValue, routing_by}
 use Rattle.lft_blocks.specs.Entries.{Next, attachment_of_lid, block_count, blocks}
 
@@ -21,6 +21,10 @@ pub record PlanValue : Type 0 where
 -- the table of each of these switches
 abbrev pub tables_of : (ℕ → Option (ℕ × ℕ)) → Next → ℕ → List ℕ → List SwitchTable
 tables_of attachments next count guids = map (λ s. record { guid = s; blocks = blocks attachments next count s }) guids
+
+-- the tables of a view by a rule of routing, where end ports have these LIDs
+abbrev pub tables_by : Routing → Cells → Given → List SwitchTable
+tables_by rule cells given = tables_of (attachment_of_lid cells given) rule.next (block_count (top_of given)) (switches cells)
 
 -- the plan of a view by a rule of routing and under an LMC
 abbrev pub plan_by : Routing → ℕ → Cells → PlanValue

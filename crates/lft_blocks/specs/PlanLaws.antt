@@ -5,7 +5,7 @@ use Rattle.subnet_view.specs.declared.end_port.EndPort.{EndPort}
 use Rattle.subnet_view.specs.Reading.{Cells, IsUsable}
 use Rattle.lid_assign.specs.Lids.{IsNoRoom, lids, lid_of, top_of}
 use Rattle.lid_assign.specs.Stability.{IsClaimed, GrowsFrom}
-use Rattle.updown_routes.specs.Routing.{Routing}
+use Rattle.subnet_view.specs.Routing.{Routing}
 use Rattle.lft_blocks.specs.Rules.{RuleValue}
 use Rattle.lft_blocks.specs.Entries.{Next, attachment_of_lid, entry, block, block_count, blocks}
 use Rattle.lft_blocks.specs.Plan.{plan_by, plan_of, block_at}

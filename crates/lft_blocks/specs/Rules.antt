@@ -2,8 +2,9 @@
 use Rattle.std.specs.Prelude.{◌≡◌, ℕ, List, Option, None, Some}
 use Rattle.fact_store.specs.View.{Facts, cells_of}
 use Rattle.subnet_view.specs.Reading.{Cells}
-use Rattle.updown_routes.specs.Graph.{graph_of}
-use Rattle.updown_routes.specs.Routing.{Routing, IsRouting, updown}
+use Rattle.subnet_view.specs.Graph.{graph_of}
+use Rattle.subnet_view.specs.Routing.{Routing, IsRouting}
+use Rattle.updown_routes.specs.Updown.{updown}
 use Rattle.lft_blocks.specs.declared.rule.Rule.{Rule}
 use Rattle.lft_blocks.specs.declared.rule.Rule.TheVariants.{UpDown, Spread}
 use Rattle.spread_routes.specs.LeafSwitches.{leaf_switches_of}

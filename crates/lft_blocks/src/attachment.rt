@@ -3,7 +3,7 @@ ghost use Rattle.fact_store.specs.View.{cells_of};
 ghost use Rattle.std.specs.List.Sorted.{IsStrictlyIncreasing};
 ghost use Rattle.subnet_view.specs.Reading.{switches};
 ghost use Rattle.lid_assign.specs.Lids.{top_of};
-ghost use Rattle.updown_routes.specs.Wiring.{IsIndexIn};
+ghost use Rattle.subnet_view.specs.SwitchGraph.{IsIndexIn};
 ghost use Rattle.lft_blocks.specs.Entries.{attachment_of, attachment_of_lid, block_count};
 ghost use Rattle.lft_blocks.specs.Attachments.{IsIndexed, AreIndexed};
 

@@ -17,6 +17,7 @@ mod updown_table;
 pub use block::block_count;
 pub use lid_assign::LidFault as PlanFault;
 pub use plan::Plan;
-pub use plan_text::{write_block, write_lid, write_plan, write_switch};
+pub use plan_text::{write_block, write_lid, write_lids, write_plan, write_switch};
 pub use planning::Planning;
 pub use rule::Rule;
+pub use table::Table;

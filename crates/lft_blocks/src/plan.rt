@@ -1,18 +1,19 @@
-ghost use Rattle.std.specs.Prelude.{◌≡◌, ◌≤◌, IfOk, length};
+ghost use Rattle.std.specs.Prelude.{◌≡◌, ◌≤◌, None, Some, IfOk, length};
 ghost use Rattle.std.specs.Option.{option_copied};
 ghost use Rattle.std.specs.List.Sorted.{IsStrictlyIncreasing};
 ghost use Rattle.fact_store.specs.View.{cells_of};
 ghost use Rattle.smp_bytes.specs.Judges.{JudgesButFor};
 ghost use Rattle.lid_assign.specs.LidFault.{is_memory, lid_fault, no_room};
 ghost use Rattle.lid_assign.specs.Lids.{top_of};
-ghost use Rattle.updown_routes.specs.Graph.{graph_of, guids_of};
-ghost use Rattle.updown_routes.specs.Routing.{updown};
-ghost use Rattle.lft_blocks.specs.Entries.{attachment_of_lid, block_count};
-ghost use Rattle.lft_blocks.specs.Rules.{rule_of};
+ghost use Rattle.subnet_view.specs.Graph.{guids_of};
+ghost use Rattle.subnet_view.specs.Reading.{switches};
+ghost use Rattle.updown_routes.specs.Updown.{updown};
+ghost use Rattle.lft_blocks.specs.Entries.{block_count};
+ghost use Rattle.lft_blocks.specs.Rules.{routing_by, rule_of};
 ghost use Rattle.lft_blocks.specs.Arrival.{EveryPacketArrivesBy};
 ghost use Rattle.lft_blocks.specs.Attachments.{AreWithin};
 ghost use Rattle.lft_blocks.specs.TableRows.{attachment_by_index};
-ghost use Rattle.lft_blocks.specs.Plan.{tables_of, plan_by, block_at, switches_of};
+ghost use Rattle.lft_blocks.specs.Plan.{tables_of, tables_by, plan_by, block_at, switches_of};
 
 use crate::Rule;
 use crate::attachment::{Attachment, attachments, index_of};
@@ -26,7 +27,7 @@ use lid_assign::{LidFault as PlanFault, LidMap, assign};
 use smp_bytes::{Guid, Lid};
 use std::alloc::Global;
 use std::marker::Model;
-use subnet_view::Wires;
+use subnet_view::{SwitchGraph, Wires};
 use updown_routes::{Graph, Routes};
 
 /// The plan of a view: the LID of each end port, and the blocks of each usable switch.
@@ -66,11 +67,10 @@ impl Plan {
     {
         let lids = assign(alloc, store, lmc)?;
         let wires = Wires::of(alloc, store)?;
-        let graph = Graph::of(alloc, &wires)?;
-        let tables = tables_of(alloc, &wires, &graph, &lids, rule)?;
+        let (switches, tables) = tables_of(alloc, &wires, &lids, rule)?;
         Ok(Plan {
             lids,
-            switches: graph.into_switches(),
+            switches,
             tables,
         })
     }
@@ -108,44 +108,66 @@ impl Plan {
     }
 
     /// The table of each usable switch, by rising GUID.
-    pub(crate) fn tables(&self) -> &[Table]
+    pub fn tables(&self) -> &[Table]
         ensures { result.now ≡ self.now.tables }
     {
         &self.tables
     }
 }
 
-/// The table of each usable switch, by rising GUID.
+/// The usable switches, by rising GUID, and the table of each.
 fn tables_of(
     alloc: Global,
     wires: &Wires,
-    graph: &Graph,
     lids: &LidMap,
     rule: &Rule,
-) -> Result<Vec<Table>, Refused>
-    requires { graph.now ≡ graph_of (cells_of wires.now) }
-    ensures { IfOk result (λ tables. tables.items
-        ≡ tables_of (attachment_of_lid (cells_of wires.now) lids.now)
-        (rule_of rule.now (cells_of wires.now)).next
-        (block_count (top_of lids.now)) (guids_of graph.now)) }
+) -> Result<(Vec<Guid>, Vec<Table>), Refused>
+    ensures switches { IfOk result (λ found. found.0.items ≡ switches (cells_of wires.now)) }
+    ensures tables { IfOk result (λ found. found.1.items
+        ≡ tables_by (rule_of rule.now (cells_of wires.now)) (cells_of wires.now) lids.now) }
 {
-    let guids = graph.switches();
-    let count = block_count(lids.top());
-    let attachments = attachments(alloc, wires, guids, lids, count)?;
     match rule {
-        Rule::UpDown => Ok(updown_tables(alloc, graph, &attachments, count)?),
-        Rule::Spread { roots } => Ok(spread_tables(
-            alloc,
-            wires,
-            graph,
-            &attachments,
-            roots,
-            count,
-        )?),
+        Rule::UpDown => by_updown(alloc, wires, lids),
+        Rule::Spread { roots } => by_spread(alloc, wires, lids, roots),
     }
 }
 
+/// The same by the rule that spreads.
+fn by_spread(
+    alloc: Global,
+    wires: &Wires,
+    lids: &LidMap,
+    roots: &[Guid],
+) -> Result<(Vec<Guid>, Vec<Table>), Refused>
+    ensures switches { IfOk result (λ found. found.0.items ≡ switches (cells_of wires.now)) }
+    ensures tables { IfOk result (λ found. found.1.items
+        ≡ tables_by (routing_by (Some roots.now) (cells_of wires.now)) (cells_of wires.now) lids.now) }
+{
+    let graph = SwitchGraph::of(alloc, wires)?;
+    let count = block_count(lids.top());
+    let attachments = attachments(alloc, wires, graph.switches(), lids, count)?;
+    let tables = spread_tables(alloc, wires, &graph, &attachments, roots, count)?;
+    Ok((graph.into_switches(), tables))
+}
+
 /// The same by routes that go up and then down.
+fn by_updown(
+    alloc: Global,
+    wires: &Wires,
+    lids: &LidMap,
+) -> Result<(Vec<Guid>, Vec<Table>), Refused>
+    ensures switches { IfOk result (λ found. found.0.items ≡ switches (cells_of wires.now)) }
+    ensures tables { IfOk result (λ found. found.1.items
+        ≡ tables_by (routing_by None (cells_of wires.now)) (cells_of wires.now) lids.now) }
+{
+    let graph = Graph::of(alloc, wires)?;
+    let count = block_count(lids.top());
+    let attachments = attachments(alloc, wires, graph.switches(), lids, count)?;
+    let tables = updown_tables(alloc, &graph, &attachments, count)?;
+    Ok((graph.into_switches(), tables))
+}
+
+/// The table of each switch of a graph, by routes that go up and then down.
 fn updown_tables(
     alloc: Global,
     graph: &Graph,

@@ -28,8 +28,8 @@ pub fn write_plan<W: Sink>(sink: &mut W, plan: &Plan) -> Result<(), WriteFault>
     sink.flush()
 }
 
-/// Writes a line for each LID, rising.
-fn write_lids<W: Sink>(sink: &mut W, lids: &LidMap) -> Result<(), WriteFault>
+/// Writes a line for each LID, rising, and none where there is no end port.
+pub fn write_lids<W: Sink>(sink: &mut W, lids: &LidMap) -> Result<(), WriteFault>
     ensures { WritesPart W.written W.has_failed result sink.old sink.new (lids_text lids.now) }
 {
     for lid in lids.lids() {

@@ -2,7 +2,7 @@
 ghost use Rattle.std.specs.Prelude.{◌≡◌, ◌<◌, ◌≤◌, ◌*◌, [], All, IfOk, length, map, replicate};
 ghost use Rattle.std.specs.List.{range_with_len};
 ghost use Rattle.fact_store.specs.View.{cells_of};
-ghost use Rattle.updown_routes.specs.Graph.{graph_of, guids_of};
+ghost use Rattle.subnet_view.specs.Graph.{graph_of, guids_of};
 ghost use Rattle.spread_routes.specs.LeafSwitches.{leaf_switches_of};
 ghost use Rattle.spread_routes.specs.Spread.{spread_at, spread_by};
 ghost use Rattle.lft_blocks.specs.Attachments.{AreWithin};
@@ -16,14 +16,13 @@ use smp_bytes::{Guid, PortNum};
 use spread_routes::{Spread, leaf_switches};
 use std::alloc::{AllocError, Global};
 use std::mem;
-use subnet_view::Wires;
-use updown_routes::Graph;
+use subnet_view::{SwitchGraph, Wires};
 
 /// The table of each switch by the rule that spreads, by these roots.
 pub(crate) fn spread_tables(
     alloc: Global,
     wires: &Wires,
-    graph: &Graph,
+    graph: &SwitchGraph,
     attachments: &[Option<Attachment>],
     roots: &[Guid],
     count: usize,

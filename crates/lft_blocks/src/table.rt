@@ -1,35 +1,39 @@
-ghost use Rattle.std.specs.Prelude.{◌≡◌, ◌<◌, slice_get};
+ghost use Rattle.std.specs.Prelude.{◌≡◌, ◌≤◌, length, slice_get};
 ghost use Rattle.std.specs.Option.{option_copied};
 
 use crate::block::blocks;
 use smp_bytes::Guid;
 use std::marker::Model;
 
-/// The forwarding table of a switch.
+/// The forwarding table of a switch: no block comes after that of the greatest LID that a packet can name.
 #[derive(Drop)]
-pub(crate) struct Table {
+pub struct Table {
     pub(crate) guid: Guid,
     pub(crate) blocks: Vec<[u8; 64]>,
 }
 
 impl Model for Table {
+    ghost use Rattle.std.specs.Prelude.{◌≤◌, length};
     ghost use Rattle.lft_blocks.specs.Plan.{SwitchTable};
 
     ghost Value = { SwitchTable };
 
     ghost view = { λ a. record { guid = a.guid; blocks = a.blocks.items } };
+
+    ghost invariant = { λ a. length a.blocks.items ≤ 1024 };
 }
 
 impl Table {
     /// The table of a switch with these blocks.
     pub(crate) fn new(guid: Guid, blocks: Vec<[u8; 64]>) -> Self
+        requires { length blocks.items ≤ 1024 }
         ensures { result ≡ record { guid = guid; blocks = blocks.items } }
     {
         Table { guid, blocks }
     }
 
     /// The GUID of the switch.
-    pub(crate) fn guid(&self) -> Guid
+    pub fn guid(&self) -> Guid
         ensures { result ≡ self.now.guid }
     {
         self.guid
@@ -43,8 +47,9 @@ impl Table {
     }
 
     /// The blocks from 0 on.
-    pub(crate) fn blocks(&self) -> &[[u8; 64]]
-        ensures { result.now ≡ self.now.blocks }
+    pub fn blocks(&self) -> &[[u8; 64]]
+        ensures blocks { result.now ≡ self.now.blocks }
+        ensures few { length result.now ≤ 1024 }
     {
         &self.blocks
     }

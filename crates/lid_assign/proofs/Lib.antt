@@ -7,6 +7,7 @@ pub mod Uniqueness
 pub mod Counting
 pub mod Tops
 pub mod Owners
+pub mod Unicast
 pub mod RisingLids
 pub mod Staying
 pub mod Walked

@@ -36,9 +36,10 @@ node_port_cmp a b = ordering_then (nat_cmp a.0 b.0) (nat_cmp a.1 b.1)
 abbrev pub ByPort : List (EndPort × ℕ) → BTreeMap (ℕ × ℕ) ℕ → Type 0
 ByPort given lids = (e : EndPort) → get node_port_cmp lids (e.node, e.port) ≡ lid_among given e
 
--- a map's tables
+-- a map's tables, of end ports that have unicast LIDs
 pub record IsIndexed (given : Given) (owners : List (Option EndPort)) (lids : BTreeMap (ℕ × ℕ) ℕ) (top : Option ℕ) (rising : List ℕ) : Type 0 where
   pub owned : AreOwners given owners
   pub has_lids : ByPort given.ports lids
   pub greatest : top ≡ top_of given
   pub rise : rising ≡ rising_lids given
+  pub unicast : AreBelow 0xC000 given.lmc given.ports

@@ -1,4 +1,4 @@
-ghost use Rattle.std.specs.Prelude.{◌≡◌, ◌+◌, ◌<◌, ◌≤◌, ◌^◌, length, vec_len, IfOk, max, unwrap_or};
+ghost use Rattle.std.specs.Prelude.{◌≡◌, ◌+◌, ◌<◌, ◌≤◌, ◌^◌, length, vec_len, IfOk, IfSome, max, unwrap_or};
 ghost use Rattle.lid_assign.specs.Ranges.{range_at, width_of};
 ghost use Rattle.lid_assign.specs.Lids.{owner_of, lid_of, lmc_of, top_of, top_among, end_of, last_of, rising_lids};
 ghost use Rattle.lid_assign.specs.Indexed.{AreOwners, AreOwnersMore, AreLidMarks, AreBelow, ByPort, marked_from};
@@ -79,7 +79,8 @@ impl LidMap {
 
     /// The end port whose range has a number. Takes one step.
     pub fn owner(&self, lid: Lid) -> Option<EndPort>
-        ensures { result ≡ owner_of self.now lid }
+        ensures owner { result ≡ owner_of self.now lid }
+        ensures unicast { IfSome result (λ port. lid < 0xC000) }
     {
         self.owners
             .get(usize::from(lid.number()))

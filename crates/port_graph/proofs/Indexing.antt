@@ -90,15 +90,15 @@ module _ (ups downs : List (List Edge)) (are : AreSlopes ups downs) where
   down_is s t =
       (λ i. shortest (λ a. map (λ e. e.to) (downs_indexed a i)) (all_indexed i) s t) ∙ shortest_turned (heads downs) (heads ups) are.back_up are.back_down (length ups) s t
 
-  abbrev height : ℕ → ℕ
+  abbrev pub height : ℕ → ℕ
   height s = min s (length ups)
 
-  falls : (s : ℕ) (e : Edge) → Contains (ups_at (indexed ups downs) s) e → height e.to < height s
+  pub falls : (s : ℕ) (e : Edge) → Contains (ups_at (indexed ups downs) s) e → height e.to < height s
   falls s e h =
       let k = subst (λ (xs : List Edge). Contains xs e) (ups_indexed s) h in
       omega (arith, are.rise s e k, edges_below ups s e k)
 
-  bounded : (s : ℕ) → height s ≤ length (indexed ups downs)
+  pub bounded : (s : ℕ) → height s ≤ length (indexed ups downs)
   bounded s = omega (arith, all_indexed)
 
   module _ (t : ℕ) (distances costs : List (Option ℕ)) (lengths : AreDistances ups t distances) (all : AreCosts ups distances (length ups) costs) where

@@ -9,6 +9,9 @@ pub mod SearchSteps
 pub mod Renaming
 pub mod Indexing
 pub mod CostSteps
+pub mod LaneSteps
 pub mod NextPorts
 pub mod Named
 pub mod DistanceLaws
+pub mod LaneRoutes
+pub mod Rows

@@ -38,7 +38,7 @@ none_below edges numbers number n e h =
     not_zero None = refl
     not_zero (Some n) = elim (suc n == 0) as (λ t. (suc n == 0) ≡ t → t ≡ false) [ true ↦ λ q. absurd (omega (arith, eqb-true (suc n) 0 q)) | false ↦ λ q. refl ] refl
 
-find_same : {X : Type 0} (p q : X → Bool) (xs : List X) → ((x : X) → Contains xs x → p x ≡ q x) → find p xs ≡ find q xs
+pub find_same : {X : Type 0} (p q : X → Bool) (xs : List X) → ((x : X) → Contains xs x → p x ≡ q x) → find p xs ≡ find q xs
 find_same p q [] h = refl
 find_same p q (x ∷ xs) h =
     ap₂ (λ (t : Bool) (o : Option _). cond t (Some x) o) (h x (contains_here x xs)) (find_same p q xs (λ y k. h y (contains_later x y xs k)))

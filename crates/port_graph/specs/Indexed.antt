@@ -1,5 +1,5 @@
 -- Slopes whose vertices are the numbers from 0 on.
-use Rattle.std.specs.Prelude.{◌≡◌, ◌<◌, ℕ, suc, List, [], ◌∷◌, length, Contains, Option, None, Some, is_some, option_map, slice_index_or, if◌then◌else◌}
+use Rattle.std.specs.Prelude.{◌≡◌, ◌<◌, ℕ, suc, List, [], ◌∷◌, length, map, Contains, Option, None, Some, is_some, option_map, slice_index_or, if◌then◌else◌}
 use Rattle.std.specs.List.{filter_map, find}
 use Rattle.port_graph.specs.declared.edge.Edge.{Edge}
 use Rattle.port_graph.specs.Heads.{edges_at, heads}
@@ -59,6 +59,10 @@ port_by ups downs distances costs a =
 pub record AreNextPorts (ups downs : List (List Edge)) (target : ℕ) (ports : List (Option ℕ)) : Type 0 where
   pub all : length ports ≡ length ups
   pub next : (a : ℕ) → a < length ups → slice_index_or ports a None ≡ next_port (indexed ups downs) a target
+
+-- the next ports between these vertices: for each as a target those of each
+abbrev pub ports_between : List (List Edge) → List (List Edge) → List ℕ → List (List (Option ℕ))
+ports_between ups downs vertices = map (λ t. map (λ s. next_port (indexed ups downs) s t) vertices) vertices
 
 -- from a vertex with a cost a way by next ports leads to the target, first up and then down, over as many edges as the cost
 abbrev pub WaysLaw : Type 0

@@ -5,3 +5,4 @@ pub mod Spans
 pub mod Heads
 pub mod Searches
 pub mod Indexed
+pub mod Lanes

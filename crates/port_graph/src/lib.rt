@@ -6,10 +6,12 @@ mod adjacency;
 mod cost;
 mod distance;
 mod edge;
+mod lanes;
 pub mod laws;
 mod next_port;
+mod side_by_side;
 
 pub use adjacency::Adjacency;
 pub use distance::distances;
 pub use edge::Edge;
-pub use next_port::next_ports;
+pub use side_by_side::next_ports_between;

@@ -11,7 +11,7 @@ use std::alloc::{AllocError, Global};
 /// The next port of each vertex to the target: where a walk down leads there, the first port down to a
 /// vertex one nearer; else the first port up to a vertex of least cost. None at the target, and where no
 /// route leads to it. Takes a step for each vertex and each edge.
-pub fn next_ports(
+pub(crate) fn next_ports(
     alloc: Global,
     ups: &Adjacency,
     downs: &Adjacency,

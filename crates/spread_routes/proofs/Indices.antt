@@ -14,12 +14,12 @@ use Rattle.spread_labels.specs.LabelLaws.{IsSymmetric}
 use Rattle.spread_labels.specs.Orders.{at_position, position_of, positioned_edge}
 use Rattle.spread_labels.proofs.ByPositions.{position_less, position_at}
 use Rattle.spread_labels.proofs.Growing.{contains_at}
-use Rattle.updown_routes.specs.SwitchEdges.{SwitchEdges}
-use Rattle.updown_routes.specs.Graph.{guids_of, neighbors}
-use Rattle.updown_routes.specs.Graph.{edges_at as wires_at}
-use Rattle.updown_routes.specs.GraphLaws.{IsGraph, IsSwitch}
-use Rattle.updown_routes.specs.Ranks.{distance, in_one_component}
-use Rattle.updown_routes.proofs.Components.{is_some_of, walk_of}
+use Rattle.subnet_view.specs.SwitchEdges.{SwitchEdges}
+use Rattle.subnet_view.specs.Graph.{guids_of, neighbors}
+use Rattle.subnet_view.specs.Graph.{edges_at as wires_at}
+use Rattle.subnet_view.specs.GraphLaws.{IsGraph, IsSwitch}
+use Rattle.subnet_view.specs.Components.{distance, in_one_component}
+use Rattle.subnet_view.proofs.Components.{is_some_of, walk_of}
 use Rattle.spread_routes.specs.Rule.{by_index}
 
 -- the row at the index of a switch is made of its wires

@@ -11,10 +11,10 @@ use Rattle.spread_labels.specs.LabelLaws.{IsGrownGraph}
 use Rattle.spread_labels.specs.Orders.{at_position, position_of, positioned_edge, IsGrownOrder}
 use Rattle.spread_labels.specs.Keys.{before_by}
 use Rattle.spread_labels.proofs.ByPositions.{orders_in_words, position_less, position_at, leads}
-use Rattle.updown_routes.specs.SwitchEdges.{SwitchEdges}
-use Rattle.updown_routes.specs.Graph.{guids_of}
-use Rattle.updown_routes.specs.Graph.{edges_at as wires_at}
-use Rattle.updown_routes.specs.GraphLaws.{IsGraph, IsSwitch}
+use Rattle.subnet_view.specs.SwitchEdges.{SwitchEdges}
+use Rattle.subnet_view.specs.Graph.{guids_of}
+use Rattle.subnet_view.specs.Graph.{edges_at as wires_at}
+use Rattle.subnet_view.specs.GraphLaws.{IsGraph, IsSwitch}
 use Rattle.spread_routes.specs.Rule.{by_index, by_positions, order_by_keys, position, switch_there}
 use Rattle.spread_routes.proofs.Indices.{as_many, leads_below, there_and_back, wire_at, index_within, switch_of_index, index_of_switch}
 

@@ -19,10 +19,10 @@ use Rattle.spread_labels.specs.RoundMarks.{AreMarksAfter}
 use Rattle.spread_labels.proofs.Nearer.{candidates_are_nearer}
 use Rattle.spread_labels.proofs.ByPositions.{position_less}
 use Rattle.spread_labels.proofs.Widths.{greatest_from}
-use Rattle.updown_routes.specs.SwitchEdges.{SwitchEdges}
-use Rattle.updown_routes.specs.Graph.{guids_of}
-use Rattle.updown_routes.specs.GraphLaws.{IsGraph}
-use Rattle.updown_routes.specs.Wiring.{switch_at}
+use Rattle.subnet_view.specs.SwitchEdges.{SwitchEdges}
+use Rattle.subnet_view.specs.Graph.{guids_of}
+use Rattle.subnet_view.specs.GraphLaws.{IsGraph}
+use Rattle.subnet_view.specs.SwitchGraph.{switch_at}
 use Rattle.spread_routes.specs.declared.lid_digit.LidDigit.{LidDigit}
 use Rattle.spread_routes.specs.Rule.{Spreading, by_index, by_positions, order_by_keys, position, edge_to}
 use Rattle.spread_routes.specs.Spread.{Grading, goes_higher, number_there, spread_at, lid_digit_there}

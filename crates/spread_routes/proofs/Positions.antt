@@ -1,19 +1,18 @@
 -- Switches by their indices, as the code finds them.
 use Rattle.std.proofs.Common.{◌≡◌, ◌<◌, ◌+◌, ◌++◌, ℕ, zero, suc, List, [], ◌∷◌, refl, sym, ap, ◌∙◌, subst, arith, true, false, cond, Bool, ◌==◌, length, map, take, get_or, All, append-nil}
 use Rattle.std.proofs.lemmas.Bool.{lt-ltb, le-ltb, eqb-true}
-use Rattle.std.proofs.lemmas.List.{get_or-map, get_or_default, map-append, take_more}
+use Rattle.std.proofs.lemmas.List.{ext_get_or, get_or-map, get_or_default, map-append, take_more}
 use Rattle.std.specs.Prelude.{Contains, None, Some, filter, nat_lt}
 use Rattle.smp_bytes.proofs.Members.{contains_here, contains_later}
 use Rattle.port_graph.specs.declared.edge.Edge.{Edge}
 use Rattle.port_graph.specs.Heads.{edges_at}
 use Rattle.port_graph.proofs.Counts.{length_map}
-use Rattle.spread_labels.specs.Orders.{numbers_from, position_of, positioned_edge}
+use Rattle.spread_labels.specs.Orders.{position_of, positioned_edge}
 use Rattle.spread_labels.proofs.Earlier.{filter_more}
-use Rattle.spread_labels.proofs.Numbers.{made_all}
-use Rattle.updown_routes.specs.SwitchEdges.{SwitchEdges}
-use Rattle.updown_routes.specs.Graph.{guids_of}
-use Rattle.updown_routes.specs.GraphLaws.{IsGraph}
-use Rattle.updown_routes.specs.Wiring.{AreEdgesAt, IsIndexIn, LeadBelow, by_guid, switch_at}
+use Rattle.subnet_view.specs.SwitchEdges.{SwitchEdges}
+use Rattle.subnet_view.specs.Graph.{guids_of}
+use Rattle.subnet_view.specs.GraphLaws.{IsGraph}
+use Rattle.subnet_view.specs.SwitchGraph.{AreEdgesAt, AreEdgesByIndex, IsIndexIn, LeadBelow, by_guid, switch_at}
 use Rattle.spread_labels.proofs.Growing.{contains_at}
 use Rattle.spread_labels.specs.declared.vertex_key.VertexKey.{VertexKey}
 use Rattle.spread_labels.specs.Positions.{ArePositions, StandOnce}
@@ -31,12 +30,6 @@ module _ (graph : List SwitchEdges) where
   named : length (guids_of graph) ≡ length graph
   named = length_map (λ (c : SwitchEdges). c.guid) graph
 
-  -- rows of all indices are the rows
-  pub all_rows : (i : ℕ) (edges : List (List Edge)) → i ≡ length graph → edges ≡ map (edges_at (by_index graph)) (numbers_from 0 i) → edges ≡ by_index graph
-  all_rows i edges ended are =
-      are ∙ ap (λ n. map (edges_at (by_index graph)) (numbers_from 0 n)) ended
-      ∙ sym (made_all (edges_at (by_index graph)) (length graph) (by_index graph) [] indexed (λ k h. refl))
-
   module _ (good : IsGraph graph) where
     -- edges by GUIDs and back
     turned : (es : List Edge) → LeadBelow (length graph) es → map (positioned_edge (guids_of graph)) (map (by_guid (guids_of graph)) es) ≡ es
@@ -46,12 +39,19 @@ module _ (graph : List SwitchEdges) where
         (λ i. record { port = e.port; to = here i } ∷ turned es (λ x h. lead x (contains_later e x es h)) i)
 
     -- the row of a switch
-    pub row_by_index : (i : ℕ) (es : List Edge) → i < length graph → LeadBelow (length graph) es → AreEdgesAt graph i es → es ≡ edges_at (by_index graph) i
+    row_by_index : (i : ℕ) (es : List Edge) → i < length graph → LeadBelow (length graph) es → AreEdgesAt graph i es → es ≡ edges_at (by_index graph) i
     row_by_index i es h lead are =
         let below : i < length (guids_of graph) = omega (arith, named) in
         sym (turned es lead) ∙ ap (map (positioned_edge (guids_of graph))) are
         ∙ sym (rows (positioned_edge (guids_of graph)) graph (switch_at graph i) (contains_at (guids_of graph) i below))
         ∙ ap (edges_at (by_index graph)) (index_of_switch graph good i below)
+
+    -- edges to indices are these edges
+    pub edges_are : (edges : List (List Edge)) → AreEdgesByIndex graph edges → edges ≡ by_index graph
+    edges_are edges by =
+        ext_get_or [] edges (by_index graph) (by.as_many ∙ sym indexed)
+        (λ i h. let below : i < length graph = omega (arith, by.as_many) in
+        row_by_index i (edges_at edges i) below (λ e k. omega (arith, by.to_switches i e k, by.as_many)) (by.each i below))
 
   -- the indices of the first GUIDs
   abbrev pub AreIndices : List ℕ → ℕ → List ℕ → Type 0

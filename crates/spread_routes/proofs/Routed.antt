@@ -21,12 +21,11 @@ use Rattle.spread_labels.proofs.Following.{ways_in_words}
 use Rattle.spread_labels.proofs.Rising.{channels_in_words}
 use Rattle.spread_labels.proofs.Reach.{reached_in_words}
 use Rattle.spread_labels.proofs.ByPositions.{walk_by_positions}
-use Rattle.updown_routes.specs.SwitchEdges.{SwitchEdges}
-use Rattle.updown_routes.specs.Graph.{guids_of}
-use Rattle.updown_routes.specs.GraphLaws.{IsGraph, IsSwitch}
-use Rattle.updown_routes.specs.Ranks.{in_one_component}
-use Rattle.updown_routes.specs.Routing.{Passes, FollowsRule, Leads, stops}
-use Rattle.updown_routes.specs.Channels.{numbers_along}
+use Rattle.subnet_view.specs.SwitchEdges.{SwitchEdges}
+use Rattle.subnet_view.specs.Graph.{guids_of}
+use Rattle.subnet_view.specs.GraphLaws.{IsGraph, IsSwitch}
+use Rattle.subnet_view.specs.Components.{in_one_component}
+use Rattle.subnet_view.specs.Routing.{Passes, FollowsRule, Leads, stops, numbers_along}
 use Rattle.spread_routes.specs.Rule.{Spreading, by_index, by_positions, order_by_keys, position, switch_there, edge_to, spread, SpreadIsRouting}
 use Rattle.spread_routes.proofs.Indices.{leads_below, there_and_back, index_within, walk_between}
 use Rattle.spread_routes.proofs.Names.{grows, is_grown_graph, position_within, switch_at_position, position_of_switch, switch_inside, named, is_named}

@@ -8,10 +8,10 @@ use Rattle.spread_labels.specs.Ways.{cost, channel_number}
 use Rattle.spread_labels.specs.Orders.{order, at_position, position_of, positioned_edge}
 use Rattle.spread_labels.specs.Keys.{before_by}
 use Rattle.spread_labels.specs.EveryPair.{grown}
-use Rattle.updown_routes.specs.SwitchEdges.{SwitchEdges}
-use Rattle.updown_routes.specs.Graph.{guids_of}
-use Rattle.updown_routes.specs.GraphLaws.{IsGraph}
-use Rattle.updown_routes.specs.Routing.{Routing, IsRouting}
+use Rattle.subnet_view.specs.SwitchEdges.{SwitchEdges}
+use Rattle.subnet_view.specs.Graph.{guids_of}
+use Rattle.subnet_view.specs.GraphLaws.{IsGraph}
+use Rattle.subnet_view.specs.Routing.{Routing, IsRouting}
 
 -- what the rule is handed: the key of each switch, by rising GUID, and a number by which a packet for a LID takes one of some edges of the switch at a position
 pub record Spreading : Type 0 where

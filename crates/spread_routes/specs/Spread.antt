@@ -7,10 +7,10 @@ use Rattle.spread_labels.specs.DistanceClasses.{distance_classes_of}
 use Rattle.spread_labels.specs.Firsts.{keys_of}
 use Rattle.spread_labels.specs.Levels.{levels_of, digit_weight_of}
 use Rattle.spread_labels.specs.Orders.{at_position, position_of}
-use Rattle.updown_routes.specs.SwitchEdges.{SwitchEdges}
-use Rattle.updown_routes.specs.Graph.{guids_of}
-use Rattle.updown_routes.specs.GraphLaws.{IsGraph}
-use Rattle.updown_routes.specs.Routing.{Routing, IsRouting}
+use Rattle.subnet_view.specs.SwitchEdges.{SwitchEdges}
+use Rattle.subnet_view.specs.Graph.{guids_of}
+use Rattle.subnet_view.specs.GraphLaws.{IsGraph}
+use Rattle.subnet_view.specs.Routing.{Routing, IsRouting}
 use Rattle.spread_routes.specs.declared.lid_digit.LidDigit.{LidDigit}
 use Rattle.spread_routes.specs.Rule.{by_index, order_by_keys, spread}
 

@@ -6,8 +6,7 @@ ghost use Rattle.spread_routes.specs.LeafSwitches.{leaf_switches_of, is_leaf, ha
 
 use smp_bytes::{Guid, PortNum};
 use std::alloc::{AllocError, Global};
-use subnet_view::{Wires, is_usable};
-use updown_routes::port_count;
+use subnet_view::{Wires, is_usable, port_count};
 
 /// Of the usable switches those that an adapter port is wired to, by rising GUID. Takes two searches for each port of a switch.
 pub fn leaf_switches(alloc: Global, wires: &Wires, guids: &[Guid]) -> Result<Vec<Guid>, AllocError>

@@ -10,7 +10,7 @@ use port_graph::{Adjacency, Edge};
 use smp_bytes::Lid;
 use spread_labels::digit_weights;
 use std::alloc::{AllocError, Global};
-use updown_routes::Graph;
+use subnet_view::SwitchGraph;
 
 /// What a switch goes by.
 #[derive(Clone, Copy, Debug, PartialEq, Eq)]
@@ -42,7 +42,7 @@ impl LidDigit {
 /// The LID digit of the switch at each position of an order.
 pub(crate) fn lid_digits(
     alloc: Global,
-    graph: &Graph,
+    graph: &SwitchGraph,
     edges: &Adjacency,
     levels: &[usize],
     order: &[usize],

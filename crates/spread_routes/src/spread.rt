@@ -1,12 +1,11 @@
 ghost use Rattle.std.specs.Prelude.{◌≡◌, ◌<◌, IfOk, OnOk, filter, length, map, option_map};
-ghost use Rattle.port_graph.specs.Heads.{LeadToVertices, edges_at};
+ghost use Rattle.port_graph.specs.Heads.{edges_at};
 ghost use Rattle.spread_labels.specs.Candidates.{chosen, is_nearer};
-ghost use Rattle.updown_routes.specs.GraphLaws.{IsGraph};
-ghost use Rattle.spread_routes.specs.Rule.{by_index, by_positions};
+ghost use Rattle.spread_routes.specs.Rule.{by_positions};
 ghost use Rattle.spread_routes.specs.Spread.{grading_of, number_by};
 ghost use Rattle.spread_routes.specs.Tables.{ports_among, ports_towards};
 
-use crate::index::{by_index, indices};
+use crate::index::indices;
 use crate::lid_digit::{LidDigit, is_higher, lid_digits};
 use port_graph::{Adjacency, Edge};
 use smp_bytes::{Guid, Lid, PortNum};
@@ -16,12 +15,12 @@ use spread_labels::{
 };
 use std::alloc::{AllocError, Global};
 use std::marker::Model;
-use updown_routes::Graph;
+use subnet_view::SwitchGraph;
 
 /// Routes of a graph that spread over its wires.
 #[derive(Drop)]
 pub struct Spread<'g> {
-    graph: &'g Graph,
+    graph: &'g SwitchGraph,
     /// The key of each switch, by rising GUID.
     keys: Vec<VertexKey>,
     /// The level of each, by rising GUID.
@@ -56,39 +55,36 @@ impl<'g> Spread<'g> {
     /// count for nothing. Takes a search in breadth from each leaf switch and each root, and two for each component.
     pub fn of(
         alloc: Global,
-        graph: &'g Graph,
+        graph: &'g SwitchGraph,
         leaves: &[Guid],
         roots: &[Guid],
     ) -> Result<Self, AllocError>
         ensures { IfOk result (λ spread. spread ≡ grading_of graph.now leaves.now roots.now) }
     {
-        let edges = by_index(alloc, graph)?;
+        let edges = graph.adjacency();
         let leaves = indices(alloc, graph, leaves)?;
         let roots = indices(alloc, graph, roots)?;
         let Grades {
             distance_classes,
             levels,
-        } = grade(alloc, &edges, &leaves, &roots)?;
-        let keys = keys(alloc, &edges, &distance_classes)?;
-        Spread::by_keys(alloc, graph, &edges, keys, levels)
+        } = grade(alloc, edges, &leaves, &roots)?;
+        let keys = keys(alloc, edges, &distance_classes)?;
+        Spread::by_keys(alloc, graph, keys, levels)
     }
 
     /// The routes by the keys and the levels of switches.
     fn by_keys(
         alloc: Global,
-        graph: &'g Graph,
-        edges: &Adjacency,
+        graph: &'g SwitchGraph,
         keys: Vec<VertexKey>,
         levels: Vec<usize>,
     ) -> Result<Self, AllocError>
-        requires edges { edges.now ≡ by_index graph.now }
-        requires lead { LeadToVertices edges.now }
-        requires is_graph { IsGraph graph.now }
         requires keys { length keys.items ≡ length graph.now }
         requires levels { length levels.items ≡ length graph.now }
         ensures { IfOk result (λ spread. spread
             ≡ record { graph = graph.now; keys = keys.items; levels = levels.items }) }
     {
+        let edges = graph.adjacency();
         let order = grown_order(alloc, edges, &keys)?;
         let positions = positions(alloc, &order, edges.len())?;
         let lid_digits = lid_digits(alloc, graph, edges, &levels, &order)?;

@@ -18,3 +18,15 @@ pub mod EndsInStep
 pub mod EndSearch
 pub mod EndPairs
 pub mod NextEndPort
+pub mod Walked
+pub mod Rising
+pub mod PortsRise
+pub mod GraphSwitches
+pub mod EdgeLists
+pub mod Graphs
+pub mod SwitchSearch
+pub mod SwitchGraphs
+pub mod Components
+pub mod FoundRoots
+pub mod PartWires
+pub mod Joined

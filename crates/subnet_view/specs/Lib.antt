@@ -5,3 +5,10 @@ pub mod Wires
 pub mod WireEnds
 pub mod Agreement
 pub mod NextEndPort
+pub mod SwitchEdges
+pub mod Graph
+pub mod GraphLaws
+pub mod Components
+pub mod SwitchGraph
+pub mod Roots
+pub mod Routing

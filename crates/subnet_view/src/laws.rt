@@ -1,5 +1,6 @@
-//! What the readings of a view mean.
+//! What the readings of a view mean, and what the graph of switches is.
 ghost use Rattle.subnet_view.specs.EndPorts.{EndPortLaw, EndPortsLaw};
+ghost use Rattle.subnet_view.specs.GraphLaws.{GraphLaw, SwitchLaw, EdgeLaw};
 ghost use Rattle.subnet_view.specs.Reading.{UsableLaw, SwitchesLaw};
 ghost use Rattle.subnet_view.specs.Wires.{WireLaw, WiresGoBothWays, AttachedLaw};
 
@@ -38,4 +39,20 @@ pub fn wires_go_both_ways()
 /// a wire leads from the one to the other.
 pub fn attachment_is_in_words()
     ensures { AttachedLaw }
+{}
+
+/// What facts give is a graph: its switches stand by rising GUID, each with its edges by rising
+/// port, and each wire leads to a switch that has a wire back.
+pub fn facts_give_a_graph()
+    ensures { GraphLaw }
+{}
+
+/// The switches of the graph are the usable ones.
+pub fn switches_are_the_usable_ones()
+    ensures { SwitchLaw }
+{}
+
+/// The edges of a switch are the wires from it to usable switches.
+pub fn edges_are_wires_among_switches()
+    ensures { EdgeLaw }
 {}

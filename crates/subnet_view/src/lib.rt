@@ -1,4 +1,4 @@
-//! What a view of a subnet says: its usable switches, its end ports and its wires.
+//! What a view of a subnet says: its usable switches, its end ports and its wires, and the graph of switches.
 #![tactic(auto)]
 
 mod cell_cursor;
@@ -7,13 +7,16 @@ mod end_port_walk;
 pub mod laws;
 mod port_reader;
 mod reading;
+mod root;
 mod switch;
+mod switch_graph;
 mod wire_ends;
 mod wires;
 
 pub use end_port::{EndPort, count_end_ports, end_ports, is_end_port};
 pub use end_port_walk::next_end_port;
-pub use reading::{cap, claim, port_guid};
+pub use reading::{cap, claim, port_count, port_guid};
 pub use switch::{is_usable, switches, usable_guid};
+pub use switch_graph::SwitchGraph;
 pub use wire_ends::{attached, wire};
 pub use wires::Wires;

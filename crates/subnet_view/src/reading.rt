@@ -1,7 +1,7 @@
 ghost use Rattle.std.specs.Prelude.{◌≡◌, Some};
 ghost use Rattle.fact_store.specs.Known.{guid_in, kind_in, peer_in, value_in};
 ghost use Rattle.fact_store.specs.View.{cells_of};
-ghost use Rattle.subnet_view.specs.Reading.{node_of, port_guid_of, link_of, claim_of, cap_of, up_of, is_up, is_switch_in, is_switch_node, is_counted};
+ghost use Rattle.subnet_view.specs.Reading.{node_of, port_count_of, port_guid_of, link_of, claim_of, cap_of, up_of, is_up, is_switch_in, is_switch_node, is_counted};
 
 use crate::end_port::EndPort;
 use fact_store::{Cell, Sighting, Store, Value};
@@ -14,6 +14,16 @@ pub(crate) fn node(store: &Store, node: Guid) -> Option<(NodeType, u8)>
     ensures { result ≡ node_of (cells_of store.now) node }
 {
     store.node(node)
+}
+
+/// The number of a node's ports, and 0 where the node is not known.
+pub fn port_count(store: &Store, guid: Guid) -> u8
+    ensures { result ≡ port_count_of (cells_of store.now) guid }
+{
+    match store.node(guid) {
+        Some((_, ports)) => ports,
+        None => 0,
+    }
 }
 
 /// The GUID of a port.

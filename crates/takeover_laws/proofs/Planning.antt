@@ -14,8 +14,8 @@ use Rattle.subnet_view.proofs.EndPortList.{end_ports_law}
 use Rattle.subnet_view.proofs.Members.{contains_here, contains_later, contains_cases, contains_none}
 use Rattle.subnet_view.proofs.UsableSwitches.{switches_law}
 use Rattle.subnet_view.proofs.WireLaws.{wire_law}
-use Rattle.updown_routes.specs.SwitchEdges.{SwitchEdges}
-use Rattle.updown_routes.specs.Graph.{edge_at, edges_of, graph_of}
+use Rattle.subnet_view.specs.SwitchEdges.{SwitchEdges}
+use Rattle.subnet_view.specs.Graph.{edge_at, edges_of, graph_of}
 use Rattle.spread_routes.specs.LeafSwitches.{leaf_switches_of, is_leaf, has_adapter_at}
 use Rattle.lft_blocks.specs.Rules.{RuleValue}
 use Rattle.lft_blocks.proofs.RulesRoute.{rules_stay}

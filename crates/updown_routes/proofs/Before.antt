@@ -3,14 +3,14 @@ use Rattle.std.proofs.Common.{◌≡◌, ◌≤◌, ◌<◌, ℕ, List, [], ◌�
 use Rattle.std.proofs.lemmas.Bool.{ltb-true, lt-ltb, eqb-true, eq-eqb}
 use Rattle.std.specs.Prelude.{nat_lt, filter, Contains, unwrap_or}
 use Rattle.smp_bytes.proofs.Members.{contains_filter, contains-from_filter}
-use Rattle.subnet_view.proofs.Apart.{contains_map}
 use Rattle.port_graph.specs.declared.edge.Edge.{Edge}
 use Rattle.port_graph.proofs.Counts.{filtered_less, filtered_all, length_map}
 use Rattle.port_graph.specs.Slopes.{ups_at, downs_at}
-use Rattle.updown_routes.specs.SwitchEdges.{SwitchEdges}
-use Rattle.updown_routes.specs.Graph.{edges_at}
+use Rattle.subnet_view.specs.SwitchEdges.{SwitchEdges}
+use Rattle.subnet_view.specs.Graph.{edges_at}
+use Rattle.subnet_view.specs.GraphLaws.{IsGraph}
+use Rattle.subnet_view.proofs.EdgeLists.{has_end}
 use Rattle.updown_routes.specs.Ranks.{is_before, rank_of, slope_of, slopes_of}
-use Rattle.updown_routes.specs.GraphLaws.{IsGraph}
 
 -- the order ------------------------------------------------------------------------
 
@@ -55,10 +55,6 @@ lex_below_trans r a s b t c (tied e h) (tied f k) = tied (e ∙ f) (omega arith)
 pub never_below : (r a : ℕ) → LexBelow r a r a → ⊥
 never_below r a (lesser h) = omega arith
 never_below r a (tied e h) = omega arith
-
--- what an edge of a list leads to is one of the ends of the list
-pub has_end : (es : List Edge) (e : Edge) → Contains es e → Contains (map (λ x. x.to) es) e.to
-has_end es e h = contains_map (λ (x : Edge). x.to) es e h
 
 module _ (graph : List SwitchEdges) where
   -- a switch's rank, and 0 of what has none

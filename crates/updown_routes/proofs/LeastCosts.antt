@@ -12,15 +12,18 @@ use Rattle.port_graph.proofs.WalkLemmas.{shortest_is}
 use Rattle.port_graph.proofs.Lists.{contains_map, contains_filter_map, contains-from_filter_map, has_least, least_is_one, find_none}
 use Rattle.port_graph.proofs.Paths.{walk_append}
 use Rattle.port_graph.proofs.Costs.{none_less, not_zero}
-use Rattle.updown_routes.specs.SwitchEdges.{SwitchEdges}
-use Rattle.updown_routes.specs.Graph.{edges_at, neighbors}
-use Rattle.updown_routes.specs.Ranks.{in_one_component, slopes_of}
-use Rattle.updown_routes.specs.GraphLaws.{IsGraph, IsSwitch}
-use Rattle.updown_routes.specs.RouteLaws.{CostLaw, NoCostBetween}
-use Rattle.updown_routes.proofs.Before.{height, height_falls, height_bounded, ups_are, downs_are, has_end}
-use Rattle.updown_routes.proofs.Components.{walk_joins, joined, down_distance_law}
-use Rattle.updown_routes.proofs.Ranks.{one_shortest}
+use Rattle.subnet_view.specs.SwitchEdges.{SwitchEdges}
+use Rattle.subnet_view.specs.Graph.{edges_at, neighbors}
+use Rattle.subnet_view.specs.Components.{in_one_component}
+use Rattle.subnet_view.specs.GraphLaws.{IsGraph, IsSwitch}
+use Rattle.subnet_view.proofs.EdgeLists.{has_end}
+use Rattle.subnet_view.proofs.Components.{walk_joins, joined}
 use Rattle.port_graph.proofs.Costs as costs
+use Rattle.updown_routes.specs.Ranks.{slopes_of}
+use Rattle.updown_routes.specs.RouteLaws.{CostLaw, NoCostBetween}
+use Rattle.updown_routes.proofs.Before.{height, height_falls, height_bounded, ups_are, downs_are}
+use Rattle.updown_routes.proofs.ComponentCosts.{down_distance_law}
+use Rattle.updown_routes.proofs.Ranks.{one_shortest}
 
 -- there is one cost
 pub one_cost : (slopes : List Slope) (s t m n : ℕ) → IsCost slopes s t m → IsCost slopes s t n → m ≡ n

@@ -9,12 +9,12 @@ use Rattle.port_graph.specs.Routes.{IsDownDistance, IsCost, IsPortDown, IsPortUp
 use Rattle.port_graph.proofs.WalkLemmas.{shortest_is, shortest_step, shortest_zero}
 use Rattle.port_graph.proofs.Lists.{found, contains_map}
 use Rattle.port_graph.proofs.Costs.{port_at_target, port_where_down, port_where_up, same_at, same_from, at_no_cost}
-use Rattle.updown_routes.specs.SwitchEdges.{SwitchEdges}
-use Rattle.updown_routes.specs.Graph.{edges_at}
+use Rattle.subnet_view.specs.SwitchEdges.{SwitchEdges}
+use Rattle.subnet_view.specs.Graph.{edges_at}
+use Rattle.subnet_view.specs.GraphLaws.{IsGraph, IsSwitch}
+use Rattle.subnet_view.proofs.Rising.{Rises, rises, rises_filter, find_least}
 use Rattle.updown_routes.specs.Ranks.{slopes_of, is_before}
-use Rattle.updown_routes.specs.GraphLaws.{IsGraph, IsSwitch}
 use Rattle.updown_routes.specs.RouteLaws.{NextPortLaw}
-use Rattle.updown_routes.proofs.Rising.{Rises, rises, rises_filter, find_least}
 use Rattle.updown_routes.proofs.Before.{height, height_falls, height_bounded, ups_filter, downs_filter}
 use Rattle.updown_routes.proofs.Ranks.{one_shortest}
 use Rattle.updown_routes.proofs.LeastCosts.{up_leads, down_leads, down_distance_is, no_walk_down, at_most_by, best_up, cost_is_least, cost_is, no_port}

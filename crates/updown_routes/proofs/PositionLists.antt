@@ -11,11 +11,11 @@ use Rattle.port_graph.specs.declared.edge.Edge.{Edge}
 use Rattle.port_graph.specs.Heads.{edges_at as edges_by_index}
 use Rattle.port_graph.proofs.Counts.{length_map}
 use Rattle.port_graph.proofs.Lists.{contains_map}
-use Rattle.updown_routes.specs.SwitchEdges.{SwitchEdges}
-use Rattle.updown_routes.specs.Graph.{guids_of, edges_at}
-use Rattle.updown_routes.specs.GraphLaws.{IsGraph}
+use Rattle.subnet_view.specs.SwitchEdges.{SwitchEdges}
+use Rattle.subnet_view.specs.Graph.{guids_of, edges_at}
+use Rattle.subnet_view.specs.GraphLaws.{IsGraph}
+use Rattle.subnet_view.specs.SwitchGraph.{by_guid, switch_at, LeadBelow}
 use Rattle.updown_routes.specs.Ranks.{rank_of, is_before}
-use Rattle.updown_routes.specs.Wiring.{by_guid, switch_at, LeadBelow}
 use Rattle.updown_routes.specs.Order.{goes_before, IsOrder, ArePositions}
 use Rattle.updown_routes.specs.Positions.{switch_at_position, by_position, at_position, ups_from, downs_from, IsAtPosition}
 use Rattle.updown_routes.proofs.Before.{lex_below, lex_below_trans, never_below, ups_filter, downs_filter}

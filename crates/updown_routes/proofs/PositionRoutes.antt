@@ -19,23 +19,23 @@ use Rattle.port_graph.proofs.Lists.{contains_map, nothing_there}
 use Rattle.port_graph.proofs.Indexing.{edges_below, all_indexed}
 use Rattle.port_graph.proofs.Renaming.{next_port_renamed}
 use Rattle.port_graph.proofs.Named.{AreNamed, renamed}
-use Rattle.updown_routes.specs.SwitchEdges.{SwitchEdges}
-use Rattle.updown_routes.specs.Graph.{guids_of, edges_at}
-use Rattle.updown_routes.specs.GraphLaws.{IsGraph, IsSwitch}
-use Rattle.updown_routes.specs.Ranks.{rank_of, is_before, slope_of, slopes_of, distance, in_one_component}
-use Rattle.updown_routes.specs.Wiring.{IsIndexOf}
+use Rattle.subnet_view.specs.SwitchEdges.{SwitchEdges}
+use Rattle.subnet_view.specs.Graph.{guids_of, edges_at}
+use Rattle.subnet_view.specs.GraphLaws.{IsGraph, IsSwitch}
+use Rattle.subnet_view.specs.Components.{distance, in_one_component}
+use Rattle.subnet_view.specs.SwitchGraph.{IsIndexOf}
+use Rattle.subnet_view.proofs.EdgeLists.{has_end}
+use Rattle.subnet_view.proofs.Components.{is_some_of, walk_of, walk_ends}
+use Rattle.subnet_view.proofs.Walked.{map_same, IsMapped, mapped_more}
+use Rattle.subnet_view.proofs.SwitchGraphs.{apart_by_index}
+use Rattle.updown_routes.specs.Ranks.{rank_of, is_before, slope_of, slopes_of}
 use Rattle.updown_routes.specs.Order.{IsOrder, ArePositions}
 use Rattle.updown_routes.specs.Positions.{switch_at_position, by_position, AreAtPositions}
 use Rattle.updown_routes.specs.Ports.{ports_to, ports_of, next_port_at, port_rows}
-use Rattle.updown_routes.proofs.Before.{ups_filter, downs_filter, ups_are, downs_are, ups_have, downs_have, has_end}
-use Rattle.updown_routes.proofs.Components.{is_some_of, walk_of}
+use Rattle.updown_routes.proofs.Before.{ups_filter, downs_filter, ups_are, downs_are, ups_have, downs_have}
 use Rattle.updown_routes.proofs.LeastCosts.{no_cost_between}
 use Rattle.updown_routes.proofs.Orders.{names_each_once}
 use Rattle.updown_routes.proofs.PositionLists.{position_back}
-use Rattle.updown_routes.proofs.Ranks.{walk_ends}
-use Rattle.updown_routes.proofs.RootByRoot.{map_same}
-use Rattle.updown_routes.proofs.Walked.{IsMapped, mapped_more}
-use Rattle.updown_routes.proofs.Wirings.{apart_by_index}
 
 -- a map of renamed elements
 map_moved : {X Y Z : Type 0} (f : Y → Z) (g : X → Y) (h : X → Z) (xs : List X) → ((x : X) → Contains xs x → f (g x) ≡ h x) → map f (map g xs) ≡ map h xs

@@ -1,17 +1,20 @@
 -- Each switch has the rank that the words say, and the order by rank and GUID is total.
-use Rattle.std.proofs.Common.{◌≡◌, ◌⊎◌, ℕ, zero, suc, inl, inr, sym, ap, ◌∙◌, subst, arith, true, false, map, length}
+use Rattle.std.proofs.Common.{◌≡◌, ◌⊎◌, ℕ, inl, inr, sym, ap, ◌∙◌, subst, arith, true, false, map, length}
 use Rattle.std.proofs.lemmas.Bool.{cases_order, false_from_ne_true, true≢false}
 use Rattle.std.specs.Prelude.{Option, Some, MatchOption, unwrap_or, List, Contains}
-use Rattle.port_graph.specs.Walks.{Walk, IsShortest}
+use Rattle.port_graph.specs.Walks.{IsShortest}
 use Rattle.port_graph.proofs.WalkLemmas.{shortest_is}
-use Rattle.updown_routes.specs.SwitchEdges.{SwitchEdges}
-use Rattle.updown_routes.specs.Graph.{edges_at, neighbors}
-use Rattle.updown_routes.specs.Ranks.{distance, in_one_component, root_of, rank_of, is_before}
-use Rattle.updown_routes.specs.GraphLaws.{IsGraph, IsSwitch}
+use Rattle.subnet_view.specs.SwitchEdges.{SwitchEdges}
+use Rattle.subnet_view.specs.Graph.{edges_at, neighbors}
+use Rattle.subnet_view.specs.Components.{distance, in_one_component, root_of}
+use Rattle.subnet_view.specs.GraphLaws.{IsGraph, IsSwitch}
+use Rattle.subnet_view.proofs.Rising.{find_least, numbers_rise}
+use Rattle.subnet_view.proofs.EdgeLists.{has_end}
+use Rattle.subnet_view.proofs.Components.{is_some_of, walk_joins, walk_of, walk_ends, joined, rooted}
+use Rattle.updown_routes.specs.Ranks.{rank_of, is_before}
 use Rattle.updown_routes.specs.RankLaws.{IsRoot, HasRank, RankLaw, BeforeLaw, SlopeLaw}
-use Rattle.updown_routes.proofs.Rising.{find_least, numbers_rise}
-use Rattle.updown_routes.proofs.Before.{rank, LexBelow, lesser, tied, lex_below, below_lex, before_trans, not_before_itself, ups_are, downs_are, ups_have, downs_have, has_end}
-use Rattle.updown_routes.proofs.Components.{is_some_of, walk_joins, walk_of, joined, rank_is, rooted}
+use Rattle.updown_routes.proofs.Before.{rank, LexBelow, lesser, tied, lex_below, below_lex, before_trans, not_before_itself, ups_are, downs_are, ups_have, downs_have}
+use Rattle.updown_routes.proofs.ComponentCosts.{rank_is}
 
 -- shortest walks have one length
 pub one_shortest : (next : ℕ → List ℕ) (a b m n : ℕ) → IsShortest next a b m → IsShortest next a b n → m ≡ n
@@ -52,11 +55,6 @@ module _ (graph : List SwitchEdges) where
   before_asymm a b h = false_from_ne_true (is_before graph b a) (λ k. true≢false (sym (before_trans graph a b a h k) ∙ not_before_itself graph a))
 
 module _ (graph : List SwitchEdges) (good : IsGraph graph) where
-  -- a walk from a switch ends at one
-  pub walk_ends : (n a b : ℕ) → IsSwitch graph a → Walk (neighbors graph) a b n → IsSwitch graph b
-  walk_ends zero a b h e = subst (λ (x : ℕ). IsSwitch graph x) e h
-  walk_ends (suc n) a b h (c, s, w) = walk_ends n c b (good.leads_to_switch a c s) w
-
   is_root : (a r : ℕ) → IsSwitch graph a → root_of graph a ≡ Some r → IsRoot graph a r
   is_root a r h e =
       let guids : List ℕ = map (λ (c : SwitchEdges). c.guid) graph in
@@ -64,7 +62,7 @@ module _ (graph : List SwitchEdges) (good : IsGraph graph) where
       let d = is_some_of (distance graph a r) f.passes in
       record {
         reached = (d.0, walk_of graph good a r d.0 d.1);
-        least = λ b n w. let j = walk_joins graph good n a b h w in f.least b (walk_ends n a b h w) (joined graph good a b j.0 j.1);
+        least = λ b n w. let j = walk_joins graph good n a b h w in f.least b (walk_ends graph good n a b h w) (joined graph good a b j.0 j.1);
       }
 
   -- each switch has a rank, and it is the one in words

@@ -8,16 +8,18 @@ use Rattle.port_graph.specs.declared.edge.Edge.{Edge}
 use Rattle.port_graph.specs.Slopes.{Slope}
 use Rattle.port_graph.specs.Routes.{Climbs, Descends}
 use Rattle.port_graph.proofs.Counts.{filtered_le, filtered_less}
-use Rattle.updown_routes.specs.SwitchEdges.{SwitchEdges}
-use Rattle.updown_routes.specs.Graph.{guids_of, neighbors}
-use Rattle.updown_routes.specs.GraphLaws.{IsGraph, IsSwitch}
-use Rattle.updown_routes.specs.Ranks.{in_one_component, is_before, slopes_of}
-use Rattle.updown_routes.specs.Channels.{component_size, position_of, channel_number, numbers_along, ChannelLaw}
+use Rattle.subnet_view.specs.SwitchEdges.{SwitchEdges}
+use Rattle.subnet_view.specs.Graph.{guids_of, neighbors}
+use Rattle.subnet_view.specs.GraphLaws.{IsGraph, IsSwitch}
+use Rattle.subnet_view.specs.Components.{in_one_component}
+use Rattle.subnet_view.specs.Routing.{numbers_along}
+use Rattle.subnet_view.proofs.Components.{walk_joins, joined, component_itself, component_symm, component_trans}
+use Rattle.subnet_view.proofs.Rising.{RisesFrom, risen_from}
+use Rattle.updown_routes.specs.Ranks.{is_before, slopes_of}
+use Rattle.updown_routes.specs.Channels.{component_size, position_of, channel_number, ChannelLaw}
 use Rattle.updown_routes.proofs.Before.{before_trans, not_before_itself, ups_are, downs_are}
-use Rattle.updown_routes.proofs.Components.{walk_joins, joined, component_itself, component_symm, component_trans}
 use Rattle.updown_routes.proofs.Ranks.{before_asymm}
 use Rattle.updown_routes.proofs.LeastCosts.{up_leads, down_leads}
-use Rattle.updown_routes.proofs.Rising.{RisesFrom, risen_from}
 
 module _ {X : Type 0} (p q : X → Bool) (more : (x : X) → p x ≡ true → q x ≡ true) (xs : List X) where
   counted_le : count_by p xs ≤ count_by q xs

@@ -9,11 +9,13 @@ use Rattle.std.specs.Option.{option_or}
 use Rattle.std.specs.List.{find}
 use Rattle.smp_bytes.proofs.Members.{contains_here, contains_later, contains_cases, contains_none}
 use Rattle.port_graph.proofs.Counts.{length_map}
-use Rattle.updown_routes.specs.SwitchEdges.{SwitchEdges}
-use Rattle.updown_routes.specs.Graph.{guids_of}
-use Rattle.updown_routes.specs.GraphLaws.{IsGraph, IsSwitch}
-use Rattle.updown_routes.specs.Ranks.{distance, in_one_component, rank_of}
-use Rattle.updown_routes.proofs.Components.{find_same, same_tests, component_symm, component_trans}
+use Rattle.subnet_view.specs.SwitchEdges.{SwitchEdges}
+use Rattle.subnet_view.specs.Graph.{guids_of}
+use Rattle.subnet_view.specs.GraphLaws.{IsGraph, IsSwitch}
+use Rattle.subnet_view.specs.Components.{distance, in_one_component}
+use Rattle.subnet_view.proofs.Components.{find_same, same_tests, component_symm, component_trans}
+use Rattle.subnet_view.proofs.Walked.{map_same}
+use Rattle.updown_routes.specs.Ranks.{rank_of}
 
 -- the distance from the first of these that reaches the switch
 abbrev pub first_distance : List SwitchEdges → List ℕ → ℕ → Option ℕ
@@ -23,11 +25,6 @@ first_distance graph (root ∷ roots) v = option_or (distance graph root v) (fir
 -- the ranks that the first so many roots give
 abbrev pub AreRanksOf : List SwitchEdges → ℕ → List (Option ℕ) → Type 0
 AreRanksOf graph n ranks = ranks ≡ map (first_distance graph (take n (guids_of graph))) (guids_of graph)
-
--- a map is that of another function that gives the same
-pub map_same : {X Y : Type 0} (f g : X → Y) (xs : List X) → ((x : X) → Contains xs x → f x ≡ g x) → map f xs ≡ map g xs
-map_same f g [] h = refl
-map_same f g (x ∷ xs) h = let first = h x (contains_here x xs) in let rest = map_same f g xs (λ y k. h y (contains_later x y xs k)) in λ i. first i ∷ rest i
 
 or_none : (o : Option ℕ) → option_or o None ≡ o
 or_none None = refl

@@ -8,11 +8,12 @@ use Rattle.std.specs.List.{AllByRecursion}
 use Rattle.port_graph.specs.declared.edge.Edge.{Edge}
 use Rattle.port_graph.specs.Slopes.{Slope, cost}
 use Rattle.port_graph.specs.Routes.{Climbs, Descends, GoesBy, CostsFall}
-use Rattle.updown_routes.specs.SwitchEdges.{SwitchEdges}
+use Rattle.subnet_view.specs.SwitchEdges.{SwitchEdges}
+use Rattle.subnet_view.specs.Routing.{Passes, FollowsRule, stops}
 use Rattle.updown_routes.specs.Ranks.{slopes_of}
-use Rattle.updown_routes.specs.Routing.{Passes, FollowsRule, stops, updown, UpdownIsRouting}
+use Rattle.updown_routes.specs.Updown.{updown, UpdownIsRouting}
 use Rattle.updown_routes.proofs.Before.{ups_are, downs_are}
-use Rattle.updown_routes.proofs.Components.{cost_in_component}
+use Rattle.updown_routes.proofs.ComponentCosts.{cost_in_component}
 use Rattle.updown_routes.proofs.RisingChannels.{channels_rise}
 use Rattle.updown_routes.proofs.Ways.{way_law}
 

@@ -1,12 +1,13 @@
 -- The numbers of channels. They rise along each way, so packets never wait for each other in a credit loop.
-use Rattle.std.specs.Prelude.{ℕ, ◌+◌, ◌-◌, List, [], ◌∷◌, ◌++◌, count_by, ◌&&◌, if◌then◌else◌}
+use Rattle.std.specs.Prelude.{ℕ, ◌+◌, ◌-◌, List, ◌++◌, count_by, ◌&&◌, if◌then◌else◌}
 use Rattle.std.specs.List.Sorted.{IsStrictlyIncreasing}
-use Rattle.port_graph.specs.declared.edge.Edge.{Edge}
 use Rattle.port_graph.specs.Routes.{Way}
-use Rattle.updown_routes.specs.SwitchEdges.{SwitchEdges}
-use Rattle.updown_routes.specs.Graph.{guids_of}
-use Rattle.updown_routes.specs.GraphLaws.{IsGraph, IsSwitch}
-use Rattle.updown_routes.specs.Ranks.{in_one_component, is_before, slopes_of}
+use Rattle.subnet_view.specs.SwitchEdges.{SwitchEdges}
+use Rattle.subnet_view.specs.Graph.{guids_of}
+use Rattle.subnet_view.specs.GraphLaws.{IsGraph, IsSwitch}
+use Rattle.subnet_view.specs.Components.{in_one_component}
+use Rattle.subnet_view.specs.Routing.{numbers_along}
+use Rattle.updown_routes.specs.Ranks.{is_before, slopes_of}
 
 -- how many switches the component of a switch has
 abbrev pub component_size : List SwitchEdges → ℕ → ℕ
@@ -19,11 +20,6 @@ position_of graph b = count_by (λ a. in_one_component graph b a && is_before gr
 -- the number of a wire that is taken from a into b: the size of the component less the position of b for a wire up, and plus that position for a wire down
 abbrev pub channel_number : List SwitchEdges → ℕ → ℕ → ℕ
 channel_number graph a b = if is_before graph b a then component_size graph b - position_of graph b else component_size graph b + position_of graph b
-
--- the numbers of the wires that are taken in turn from a switch
-abbrev pub numbers_along : (ℕ → ℕ → ℕ) → ℕ → List Edge → List ℕ
-numbers_along number s [] = []
-numbers_along number s (e ∷ es) = number s e.to ∷ numbers_along number e.to es
 
 -- the channel numbers rise along each way by next ports
 abbrev pub ChannelLaw : Type 0

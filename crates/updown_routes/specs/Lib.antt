@@ -1,13 +1,8 @@
-pub mod SwitchEdges
-pub mod Graph
-pub mod GraphLaws
 pub mod Ranks
 pub mod RankLaws
 pub mod RouteLaws
 pub mod Channels
-pub mod Routing
-pub mod Wiring
+pub mod Updown
 pub mod Order
 pub mod Positions
 pub mod Ports
-pub mod Roots

@@ -3,9 +3,9 @@ use Rattle.std.specs.Prelude.{◌≡◌, ◌<◌, ℕ, List, map, filter, length
 use Rattle.port_graph.specs.declared.edge.Edge.{Edge}
 use Rattle.port_graph.specs.Slopes.{ups_at, downs_at}
 use Rattle.port_graph.specs.Heads.{edges_at}
-use Rattle.updown_routes.specs.SwitchEdges.{SwitchEdges}
+use Rattle.subnet_view.specs.SwitchEdges.{SwitchEdges}
+use Rattle.subnet_view.specs.SwitchGraph.{switch_at}
 use Rattle.updown_routes.specs.Ranks.{slopes_of}
-use Rattle.updown_routes.specs.Wiring.{switch_at}
 
 -- the switch at a position, where the order has its index
 abbrev pub switch_at_position : List SwitchEdges → List ℕ → ℕ → ℕ

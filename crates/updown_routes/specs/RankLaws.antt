@@ -3,9 +3,9 @@ use Rattle.std.specs.Prelude.{◌≡◌, ◌<◌, ◌≤◌, ◌↔◌, ◌⊎�
 use Rattle.port_graph.specs.declared.edge.Edge.{Edge}
 use Rattle.port_graph.specs.Walks.{Walk, IsShortest}
 use Rattle.port_graph.specs.Slopes.{ups_at, downs_at}
-use Rattle.updown_routes.specs.SwitchEdges.{SwitchEdges}
-use Rattle.updown_routes.specs.Graph.{edges_at, neighbors}
-use Rattle.updown_routes.specs.GraphLaws.{IsGraph, IsSwitch}
+use Rattle.subnet_view.specs.SwitchEdges.{SwitchEdges}
+use Rattle.subnet_view.specs.Graph.{edges_at, neighbors}
+use Rattle.subnet_view.specs.GraphLaws.{IsGraph, IsSwitch}
 use Rattle.updown_routes.specs.Ranks.{rank_of, is_before, slopes_of}
 
 -- the root of a switch's component: it can be reached, and no switch with a lesser GUID can

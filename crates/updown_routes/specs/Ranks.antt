@@ -1,21 +1,10 @@
 -- Ranks, and what is up and down.
-use Rattle.std.specs.Prelude.{ℕ, Bool, List, map, filter, length, Option, is_some, ◌==◌, ◌&&◌, ◌||◌, nat_lt, unwrap_or, option_and_then}
-use Rattle.std.specs.List.{find}
-use Rattle.port_graph.specs.Walks.{shortest}
+use Rattle.std.specs.Prelude.{◌≡◌, ℕ, Bool, List, map, filter, Option, ◌==◌, ◌&&◌, ◌||◌, nat_lt, unwrap_or, option_and_then}
 use Rattle.port_graph.specs.Slopes.{Slope}
-use Rattle.updown_routes.specs.SwitchEdges.{SwitchEdges}
-use Rattle.updown_routes.specs.Graph.{guids_of, neighbors}
-
--- the fewest wires between two switches; none where they lie in different components
-abbrev pub distance : List SwitchEdges → ℕ → ℕ → Option ℕ
-distance graph a b = shortest (neighbors graph) (length graph) a b
-
-abbrev pub in_one_component : List SwitchEdges → ℕ → ℕ → Bool
-in_one_component graph a b = is_some (distance graph a b)
-
--- the least GUID of a switch's component
-abbrev pub root_of : List SwitchEdges → ℕ → Option ℕ
-root_of graph a = find (in_one_component graph a) (guids_of graph)
+use Rattle.subnet_view.specs.SwitchEdges.{SwitchEdges}
+use Rattle.subnet_view.specs.Graph.{guids_of}
+use Rattle.subnet_view.specs.GraphLaws.{IsGraph}
+use Rattle.subnet_view.specs.Components.{distance, root_of}
 
 -- the fewest wires from the root
 abbrev pub rank_of : List SwitchEdges → ℕ → Option ℕ
@@ -31,3 +20,8 @@ slope_of graph c = record { guid = c.guid; ups = filter (λ e. is_before graph e
 
 abbrev pub slopes_of : List SwitchEdges → List Slope
 slopes_of graph = map (slope_of graph) graph
+
+-- a graph, and the ranks of its switches
+pub record IsRanked (graph : List SwitchEdges) (ranks : List (Option ℕ)) : Type 0 where
+  pub is_graph : IsGraph graph
+  pub are_ranks : ranks ≡ map (rank_of graph) (guids_of graph)

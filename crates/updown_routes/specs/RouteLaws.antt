@@ -4,9 +4,10 @@ use Rattle.std.specs.List.{filter_map}
 use Rattle.port_graph.specs.Walks.{HasNoWalk}
 use Rattle.port_graph.specs.Slopes.{ups_at, below, down_distance, least_of, cost, next_port}
 use Rattle.port_graph.specs.Routes.{IsDownDistance, IsRoute, IsCost, IsNextPort, Way}
-use Rattle.updown_routes.specs.SwitchEdges.{SwitchEdges}
-use Rattle.updown_routes.specs.GraphLaws.{IsGraph, IsSwitch}
-use Rattle.updown_routes.specs.Ranks.{slopes_of, in_one_component}
+use Rattle.subnet_view.specs.SwitchEdges.{SwitchEdges}
+use Rattle.subnet_view.specs.GraphLaws.{IsGraph, IsSwitch}
+use Rattle.subnet_view.specs.Components.{in_one_component}
+use Rattle.updown_routes.specs.Ranks.{slopes_of}
 
 -- the length of a shortest walk down, and none where no walk down leads to the target
 abbrev pub DownDistanceLaw : Type 0

@@ -1,38 +1,37 @@
 ghost use Rattle.std.specs.Prelude.{◌≡◌, ◌<◌, IfOk, length, map, slice_get};
 ghost use Rattle.fact_store.specs.View.{cells_of};
-ghost use Rattle.updown_routes.specs.Graph.{graph_of, guids_of};
-ghost use Rattle.updown_routes.specs.GraphLaws.{IsGraph};
-ghost use Rattle.updown_routes.specs.Ranks.{rank_of, root_of};
-ghost use Rattle.updown_routes.specs.Wiring.{AreEdgesAt, IsIndexIn, LeadBelow};
+ghost use Rattle.subnet_view.specs.Graph.{graph_of, guids_of};
+ghost use Rattle.subnet_view.specs.GraphLaws.{IsGraph};
+ghost use Rattle.subnet_view.specs.Components.{root_of};
+ghost use Rattle.subnet_view.specs.SwitchGraph.{AreEdgesAt, IsIndexIn, LeadBelow};
+ghost use Rattle.updown_routes.specs.Ranks.{rank_of};
 
 use crate::rank::ranks;
-use crate::root::roots;
-use crate::wiring::Wiring;
 use fact_store::Refused;
 use port_graph::Edge;
 use smp_bytes::Guid;
 use std::alloc::{AllocError, Global};
 use std::marker::Model;
-use subnet_view::Wires;
+use subnet_view::{SwitchGraph, Wires};
 
 /// The usable switches of a subnet, the wires between them, and their ranks.
 #[derive(Drop)]
 pub struct Graph {
-    wiring: Wiring,
+    graph: SwitchGraph,
     /// The rank of each switch, by rising GUID.
     ranks: Vec<Option<usize>>,
 }
 
 impl Model for Graph {
     ghost use Rattle.std.specs.Prelude.{List};
-    ghost use Rattle.updown_routes.specs.SwitchEdges.{SwitchEdges};
-    ghost use Rattle.updown_routes.specs.Wiring.{IsRanked};
+    ghost use Rattle.subnet_view.specs.SwitchEdges.{SwitchEdges};
+    ghost use Rattle.updown_routes.specs.Ranks.{IsRanked};
 
     ghost Value = { List SwitchEdges };
 
-    ghost view = { λ a. a.wiring };
+    ghost view = { λ a. a.graph };
 
-    ghost invariant = { λ a. IsRanked a.wiring a.ranks.items };
+    ghost invariant = { λ a. IsRanked a.graph a.ranks.items };
 }
 
 impl Graph {
@@ -42,9 +41,9 @@ impl Graph {
     pub fn of(alloc: Global, wires: &Wires) -> Result<Self, Refused>
         ensures { IfOk result (λ graph. graph ≡ graph_of (cells_of wires.now)) }
     {
-        let wiring = Wiring::of(alloc, wires)?;
-        let ranks = ranks(alloc, &wiring)?;
-        Ok(Graph { wiring, ranks })
+        let graph = SwitchGraph::of(alloc, wires)?;
+        let ranks = ranks(alloc, &graph)?;
+        Ok(Graph { graph, ranks })
     }
 
     /// How many switches there are. It is held.
@@ -52,35 +51,35 @@ impl Graph {
         ensures count { result ≡ length self.now }
         ensures is_graph { IsGraph self.now }
     {
-        self.wiring.len()
+        self.graph.len()
     }
 
     /// The switches, by rising GUID.
     pub fn switches(&self) -> &[Guid]
         ensures { result.now ≡ guids_of self.now }
     {
-        self.wiring.guids()
+        self.graph.switches()
     }
 
     /// The same, handed out.
     pub fn into_switches(self) -> Vec<Guid>
         ensures { result.items ≡ guids_of self }
     {
-        self.wiring.into_guids()
+        self.graph.into_switches()
     }
 
     /// The switch at an index, by rising GUID from 0 on. Takes one step.
     pub fn switch(&self, index: usize) -> Option<Guid>
         ensures { result ≡ slice_get (guids_of self.now) index }
     {
-        self.wiring.switch(index)
+        self.graph.switch(index)
     }
 
     /// The index of a switch. Takes a search.
     pub fn index_of(&self, switch: Guid) -> Option<usize>
         ensures { IsIndexIn (guids_of self.now) switch result }
     {
-        self.wiring.index_of(switch)
+        self.graph.index_of(switch)
     }
 
     /// The number of wires from the root of its component to a switch; none for another GUID.
@@ -88,7 +87,7 @@ impl Graph {
     pub fn rank(&self, switch: Guid) -> Option<usize>
         ensures { result ≡ rank_of self.now switch }
     {
-        let index = self.wiring.index_of(switch)?;
+        let index = self.graph.index_of(switch)?;
         self.ranks[index]
     }
 
@@ -97,7 +96,7 @@ impl Graph {
     pub fn roots(&self, alloc: Global) -> Result<Vec<Option<Guid>>, AllocError>
         ensures { IfOk result (λ roots. roots.items ≡ map (root_of self.now) (guids_of self.now)) }
     {
-        roots(alloc, &self.wiring)
+        self.graph.roots(alloc)
     }
 
     /// The ranks of the switches, by rising GUID.
@@ -115,6 +114,6 @@ impl Graph {
         ensures to_switches { LeadBelow (length self.now) result.now }
         ensures is_graph { IsGraph self.now }
     {
-        self.wiring.edges(index)
+        self.graph.edges(index)
     }
 }

@@ -1,25 +1,8 @@
-//! The laws of the graph of switches, of ranks and of routes.
-ghost use Rattle.updown_routes.specs.GraphLaws.{GraphLaw, SwitchLaw, EdgeLaw};
+//! The laws of ranks and of routes.
 ghost use Rattle.updown_routes.specs.RankLaws.{RankLaw, BeforeLaw, SlopeLaw};
 ghost use Rattle.updown_routes.specs.Channels.{ChannelLaw};
-ghost use Rattle.updown_routes.specs.Routing.{UpdownIsRouting};
+ghost use Rattle.updown_routes.specs.Updown.{UpdownIsRouting};
 ghost use Rattle.updown_routes.specs.RouteLaws.{DownDistanceLaw, CostLaw, CostRecursion, NextPortLaw, WayLaw, NoCostBetween, CostInComponent};
-
-/// What facts give is a graph: its switches stand by rising GUID, each with its edges by rising
-/// port, and each wire leads to a switch that has a wire back.
-pub fn facts_give_a_graph()
-    ensures { GraphLaw }
-{}
-
-/// The switches of the graph are the usable ones.
-pub fn switches_are_the_usable_ones()
-    ensures { SwitchLaw }
-{}
-
-/// The edges of a switch are the wires from it to usable switches.
-pub fn edges_are_wires_among_switches()
-    ensures { EdgeLaw }
-{}
 
 /// Each switch has a rank: the length of a shortest walk from the switch with the least GUID of
 /// those that can be reached.

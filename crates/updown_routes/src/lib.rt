@@ -5,11 +5,8 @@ mod graph;
 pub mod laws;
 mod positions;
 mod rank;
-mod root;
 mod routes;
 mod up_down_edges;
-mod wiring;
 
 pub use graph::Graph;
 pub use routes::Routes;
-pub use wiring::port_count;

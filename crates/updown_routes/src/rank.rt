@@ -1,20 +1,20 @@
 ghost use Rattle.std.specs.Prelude.{◌≡◌, IfOk, length, map};
-ghost use Rattle.updown_routes.specs.Graph.{guids_of};
+ghost use Rattle.subnet_view.specs.Graph.{guids_of};
 ghost use Rattle.updown_routes.specs.Order.{FillsIn};
 ghost use Rattle.updown_routes.specs.Ranks.{rank_of};
 
-use crate::wiring::Wiring;
 use std::alloc::{AllocError, Global};
+use subnet_view::SwitchGraph;
 
 /// The rank of each switch. A switch that no switch before it reaches is the root of its component,
 /// and the ranks there are the distances from it: a search for each component.
-pub(crate) fn ranks(alloc: Global, wiring: &Wiring) -> Result<Vec<Option<usize>>, AllocError>
-    ensures { IfOk result (λ ranks. ranks.items ≡ map (rank_of wiring.now) (guids_of wiring.now)) }
+pub(crate) fn ranks(alloc: Global, graph: &SwitchGraph) -> Result<Vec<Option<usize>>, AllocError>
+    ensures { IfOk result (λ ranks. ranks.items ≡ map (rank_of graph.now) (guids_of graph.now)) }
 {
-    let mut ranks = vec![in alloc; None; wiring.len()]?;
-    for root in 0..wiring.len() {
+    let mut ranks = vec![in alloc; None; graph.len()]?;
+    for root in 0..graph.len() {
         if ranks[root].is_none() {
-            let distances = wiring.distances(alloc, root)?;
+            let distances = graph.distances(alloc, root)?;
             fill(&mut ranks, &distances);
         }
     }

@@ -1,5 +1,5 @@
-ghost use Rattle.std.specs.Prelude.{◌≡◌, ◌<◌, All, IfOk, None, length, map, slice_index_or};
-ghost use Rattle.port_graph.specs.Indexed.{indexed, AreSlopes};
+ghost use Rattle.std.specs.Prelude.{◌≡◌, ◌<◌, All, IfOk, length, map};
+ghost use Rattle.port_graph.specs.Indexed.{AreSlopes};
 ghost use Rattle.port_graph.specs.Slopes.{next_port};
 ghost use Rattle.updown_routes.specs.Ports.{next_port_at, port_rows};
 ghost use Rattle.updown_routes.specs.Ranks.{slopes_of};
@@ -8,7 +8,7 @@ use crate::graph::Graph;
 use crate::positions::{order, positions};
 use crate::up_down_edges::UpDownEdges;
 use fact_store::Refused;
-use port_graph::next_ports;
+use port_graph::next_ports_between;
 use smp_bytes::{Guid, PortNum};
 use std::alloc::{AllocError, Global};
 use std::marker::Model;
@@ -23,7 +23,7 @@ pub struct Routes<'g> {
 
 impl<'g> Model for Routes<'g> {
     ghost use Rattle.std.specs.Prelude.{List, map};
-    ghost use Rattle.updown_routes.specs.SwitchEdges.{SwitchEdges};
+    ghost use Rattle.subnet_view.specs.SwitchEdges.{SwitchEdges};
     ghost use Rattle.updown_routes.specs.Ports.{IsRouted};
 
     ghost Value = { List SwitchEdges };
@@ -76,27 +76,5 @@ fn towards(
     ensures { IfOk result (λ towards. map (λ ports. ports.items) towards.items
         ≡ port_rows slopes.now.ups slopes.now.downs positions.now) }
 {
-    let mut towards = Vec::with_capacity(alloc, positions.len())?;
-    for target in positions {
-        let found = next_ports(alloc, &slopes.ups, &slopes.downs, *target)?;
-        towards.push(at_positions(alloc, &found, positions)?)?;
-    }
-    Ok(towards)
-}
-
-/// The ports at these positions.
-fn at_positions(
-    alloc: Global,
-    ports: &[Option<PortNum>],
-    positions: &[usize],
-) -> Result<Vec<Option<PortNum>>, AllocError>
-    requires { All (λ p. p < length ports.now) positions.now }
-    ensures { IfOk result (λ found.
-        found.items ≡ map (λ p. slice_index_or ports.now p None) positions.now) }
-{
-    let mut found = Vec::with_capacity(alloc, positions.len())?;
-    for position in positions {
-        found.push(ports[*position])?;
-    }
-    Ok(found)
+    next_ports_between(alloc, &slopes.ups, &slopes.downs, positions)
 }

@@ -1,5 +1,5 @@
 ghost use Rattle.std.specs.Prelude.{◌≡◌, ◌<◌, All, IfOk, length, map};
-ghost use Rattle.updown_routes.specs.Graph.{guids_of};
+ghost use Rattle.subnet_view.specs.Graph.{guids_of};
 ghost use Rattle.updown_routes.specs.Order.{IsOrder, ArePositions};
 ghost use Rattle.updown_routes.specs.Positions.{at_position, ups_from, downs_from, AreAtPositions};
 ghost use Rattle.updown_routes.specs.Ranks.{rank_of};

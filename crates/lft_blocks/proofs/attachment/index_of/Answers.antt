@@ -1,4 +1,4 @@
-use Rattle.updown_routes.proofs.SwitchSearch.{index_found}
+use Rattle.subnet_view.proofs.SwitchSearch.{index_found}
 use Rattle.lft_blocks.proofs.attachment.index_of.Goals as goal
 
 pub returns : goal.returns

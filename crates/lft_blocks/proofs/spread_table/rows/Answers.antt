@@ -2,10 +2,10 @@ use Rattle.std.proofs.Common.{◌≡◌, ◌<◌, ◌+◌, [], ℕ, List, Vec, G
 use Rattle.std.proofs.lemmas.List.{get_or-map, length-map, with_items_is}
 use Rattle.std.specs.Prelude.{Option, slice_index_or}
 use Rattle.std.specs.Vec.{with_items}
-use Rattle.updown_routes.specs.Graph.{guids_of}
-use Rattle.updown_routes.specs.Wiring.{switch_at}
+use Rattle.subnet_view.specs.Graph.{guids_of}
+use Rattle.subnet_view.specs.SwitchGraph.{switch_at}
 use Rattle.port_graph.proofs.Counts.{length_map}
-use Rattle.updown_routes.specs.SwitchEdges.{SwitchEdges}
+use Rattle.subnet_view.specs.SwitchEdges.{SwitchEdges}
 use Rattle.spread_routes.specs.Spread.{Grading, spread_at}
 use Rattle.spread_routes.specs.Tables.{ports_between, ports_towards}
 use Rattle.lft_blocks.specs.declared.attachment.Attachment.{Attachment}

@@ -1,5 +1,5 @@
 use Rattle.std.proofs.Common.{◌≡◌, length}
-use Rattle.updown_routes.specs.Graph.{guids_of}
+use Rattle.subnet_view.specs.Graph.{guids_of}
 use Rattle.spread_routes.specs.Spread.{spread_at}
 use Rattle.lft_blocks.specs.TableRows.{AreRows}
 use Rattle.lft_blocks.proofs.spread_table.rows.Given as goal

@@ -1,10 +1,10 @@
 use Rattle.std.proofs.Common.{◌≡◌, ◌≢◌, ◌+◌, ◌++◌, ◌∷◌, [], List, ℕ, sym, ap, ◌∙◌, arith, map, length}
 use Rattle.std.proofs.lemmas.Grind.{get_or_default_zero}
 use Rattle.std.proofs.lemmas.List.{get_or_default, get_or-set_other, length-set}
-use Rattle.std.proofs.lemmas.List.FromFn.{map-range_with_len_more}
+use Rattle.std.proofs.lemmas.List.FromFn.{length-map-range_with_len, map-range_with_len_more}
 use Rattle.std.specs.Prelude.{slice_index_or}
 use Rattle.std.specs.List.{range_with_len}
-use Rattle.lft_blocks.specs.TableRows.{blocks_of_row, table_of_row}
+use Rattle.lft_blocks.specs.TableRows.{block_of_row, blocks_of_row, table_of_row}
 use Rattle.lft_blocks.proofs.spread_table.tables_of.Goals as goal
 
 pub loop-own-preserved : goal.loop-own-preserved
@@ -27,3 +27,8 @@ loop-own-preserved c =
       λ k h. (let other : k ≢ own = λ e. absurd (omega (arith, h, e)) in
           get_or-set_other c.loop-own.rows own k c.replace-row.new.dest [] other ∙ c.loop-own.invariant.2 k (omega (arith, h))),
     )
+
+pub new-requires : goal.new-requires
+new-requires c =
+    let count = ap length c.in_ok-blocks.ensures ∙ length-map-range_with_len (block_of_row c.replace-row.result) 0 c.args.count in
+    omega (arith, count, c.requires.few)

@@ -1,6 +1,6 @@
 use Rattle.std.proofs.Common.{◌+◌, sym, ap, ◌∙◌, subst}
-use Rattle.updown_routes.specs.Graph.{guids_of}
-use Rattle.updown_routes.specs.Wiring.{IsIndexIn}
+use Rattle.subnet_view.specs.Graph.{guids_of}
+use Rattle.subnet_view.specs.SwitchGraph.{IsIndexIn}
 use Rattle.spread_routes.proofs.Positions.{AreIndices, index_more, index_none}
 use Rattle.spread_routes.proofs.index.indices.Goals as goal
 use Rattle.spread_routes.proofs.index.indices.Goals.{in-Some+in_ok-push, in_default}

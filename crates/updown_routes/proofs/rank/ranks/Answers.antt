@@ -4,8 +4,8 @@ use Rattle.std.proofs.lemmas.List.{with_items_is, get_or_default}
 use Rattle.std.specs.Prelude.{Option, None, Some, is_some}
 use Rattle.std.specs.Option.{option_or}
 use Rattle.port_graph.proofs.Counts.{length_map}
-use Rattle.updown_routes.specs.SwitchEdges.{SwitchEdges}
-use Rattle.updown_routes.specs.Graph.{guids_of}
+use Rattle.subnet_view.specs.SwitchEdges.{SwitchEdges}
+use Rattle.subnet_view.specs.Graph.{guids_of}
 use Rattle.updown_routes.proofs.RootByRoot.{first_distance, AreRanksOf, no_ranks, ranks_filled, ranks_passed, all_ranks}
 use Rattle.updown_routes.proofs.rank.ranks.Goals as goal
 use Rattle.updown_routes.proofs.rank.ranks.Goals.{then-is_none+in_ok-distances, else-is_none}
@@ -19,7 +19,7 @@ filled {X} C follows not_some = follows same
     same (Some x) h = absurd (not_some x h)
 
 pub loop-root-init : goal.loop-root-init
-loop-root-init c = no_ranks c.args.wiring.now c.in_ok-ranks.ranks.items
+loop-root-init c = no_ranks c.args.graph.now c.in_ok-ranks.ranks.items
     (filled _ c.in_ok-ranks.ensures.items_if_clones_equal (λ x k. k) ∙ ap (λ m. replicate m None) c.len.ensures.count)
 
 -- the items are those written
@@ -28,7 +28,7 @@ written n graph new items e are = e ∙ are
 
 pub loop-root-preserved : goal.loop-root-preserved
 loop-root-preserved c =
-    let graph = c.args.wiring.now in
+    let graph = c.args.graph.now in
     let guids : List ℕ = guids_of graph in
     let root = c.loop-root.root in
     let ranks = c.loop-root.ranks.items in
@@ -47,5 +47,5 @@ loop-root-preserved c =
     ]
 
 pub returns : goal.returns
-returns c = all_ranks c.args.wiring.now c.len.ensures.is_graph c.loop-root.root c.loop-root.ranks.items
-    (omega (arith, c.loop-root-test.false, c.len-root-end.ensures.count, length_map (λ (x : SwitchEdges). x.guid) c.args.wiring.now)) c.loop-root.invariant
+returns c = all_ranks c.args.graph.now c.len.ensures.is_graph c.loop-root.root c.loop-root.ranks.items
+    (omega (arith, c.loop-root-test.false, c.len-root-end.ensures.count, length_map (λ (x : SwitchEdges). x.guid) c.args.graph.now)) c.loop-root.invariant

@@ -3,7 +3,7 @@ use Rattle.std.proofs.Common.{◌≡◌, ◌/◌, ◌%◌, ◌∙◌, List, sym,
 use Rattle.std.specs.Prelude.{None, Some, slice_get}
 use Rattle.std.specs.Option.{option_copied}
 use Rattle.fact_store.specs.View.{cells_of}
-use Rattle.updown_routes.proofs.Walked.{copied_item}
+use Rattle.subnet_view.proofs.Walked.{copied_item}
 use Rattle.audit.specs.declared.far_end.Far.TheVariants.{Nothing}
 use Rattle.audit.specs.declared.audited_switch.AuditedSwitch.{AuditedSwitch}
 use Rattle.audit.specs.Network.{Seen, far_by}

@@ -1,13 +1,11 @@
-use Rattle.std.proofs.Common.{ap, sym, subst, ◌∙◌}
-use Rattle.fact_store.specs.View.{Facts, cells_of}
+use Rattle.std.proofs.Common.{sym, subst, ◌∙◌}
+use Rattle.fact_store.specs.View.{cells_of}
 use Rattle.lid_assign.specs.Lids.{top_of}
-use Rattle.updown_routes.specs.Graph.{graph_of, guids_of}
-use Rattle.updown_routes.proofs.Switches.{graph_guids}
 use Rattle.lft_blocks.specs.Rules.{rule_of, value_of}
 use Rattle.lft_blocks.proofs.RulesRoute.{rules_are_routings}
 use Rattle.lft_blocks.specs.Entries.{attachment_of_lid, block_count}
 use Rattle.lft_blocks.specs.Arrival.{EveryPacketArrivesBy}
-use Rattle.lft_blocks.specs.Plan.{PlanValue, tables_of}
+use Rattle.lft_blocks.specs.Plan.{PlanValue, tables_by, tables_of}
 use Rattle.lft_blocks.proofs.AttachmentTables.{switches_rise, are_tables}
 use Rattle.lft_blocks.proofs.Reached.{packets_arrive_by_each_routing}
 use Rattle.lft_blocks.proofs.Rooms.{has_room}
@@ -15,26 +13,22 @@ use Rattle.lft_blocks.proofs.plan.Plan.of.Goals as goal
 
 pub invariant_of-result : goal.invariant_of-result
 invariant_of-result c =
-    let facts = c.args.store.now in
+    let facts = c.in_ok-wires.wires in
     let lids = c.in_ok-lids.lids in
-    let cells = cells_of c.in_ok-wires.wires in
+    let cells = cells_of facts in
     let next = (rule_of c.args.rule.now cells).next in
     let count = block_count (top_of lids) in
-    let guids = c.into_switches.result.items in
-    let given = c.in_ok-graph.ensures ∙ ap (λ (f : Facts). graph_of (cells_of f)) c.in_ok-wires.ensures in
-    let theirs = c.into_switches.ensures ∙ ap guids_of given ∙ graph_guids (cells_of facts) in
-    are_tables (attachment_of_lid cells lids) next count guids c.in_ok-tables.tables.items (switches_rise facts guids theirs)
-    (c.in_ok-tables.ensures ∙ ap (tables_of (attachment_of_lid cells lids) next count) (sym c.into_switches.ensures))
+    let guids = c.in_ok-switches.switches.items in
+    let theirs = c.in_ok-switches.ensures.switches in
+    are_tables (attachment_of_lid cells lids) next count guids c.in_ok-switches.tables.items (switches_rise facts guids theirs)
+    (c.in_ok-switches.ensures.tables ∙ (λ i. tables_of (attachment_of_lid cells lids) next count (sym theirs i)))
 
 pub returns-clause-plan : goal.returns-clause-plan
 returns-clause-plan c =
-    let cells = cells_of c.args.store.now in
     let rule = c.args.rule.now in
     let lids = c.in_ok-lids.ensures.lids in
-    let graph = c.in_ok-graph.ensures ∙ ap (λ (f : Facts). graph_of (cells_of f)) c.in_ok-wires.ensures in
-    let guids = ap guids_of graph ∙ graph_guids cells in
-    let tables = c.in_ok-tables.ensures
-    ∙ (λ j. tables_of (attachment_of_lid (cells_of (c.in_ok-wires.ensures j)) (lids j)) (rule_of rule (cells_of (c.in_ok-wires.ensures j))).next (block_count (top_of (lids j))) (guids j)) in
+    let tables = c.in_ok-switches.ensures.tables
+    ∙ (λ j. tables_by (rule_of rule (cells_of (c.in_ok-wires.ensures j))) (cells_of (c.in_ok-wires.ensures j)) (lids j)) in
     λ i. record { given = lids i; tables = tables i }
 
 pub returns-clause-arrives : goal.returns-clause-arrives

@@ -1,7 +1,7 @@
--- The graph is the wiring.
+-- The graph has the edges.
 use Rattle.std.proofs.Common.{subst, List, length}
-use Rattle.updown_routes.specs.SwitchEdges.{SwitchEdges}
-use Rattle.updown_routes.specs.Wiring.{LeadBelow}
+use Rattle.subnet_view.specs.SwitchEdges.{SwitchEdges}
+use Rattle.subnet_view.specs.SwitchGraph.{LeadBelow}
 use Rattle.updown_routes.proofs.graph.Graph.edges.Goals as goal
 
 pub returns-clause-to_switches : goal.returns-clause-to_switches

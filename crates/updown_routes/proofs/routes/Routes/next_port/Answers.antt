@@ -1,11 +1,11 @@
 -- By the indices of the two, where both are switches.
 use Rattle.std.proofs.Common.{sym, ap, ◌∙◌, List}
 use Rattle.port_graph.specs.Slopes.{next_port}
-use Rattle.updown_routes.specs.SwitchEdges.{SwitchEdges}
-use Rattle.updown_routes.specs.Graph.{guids_of}
+use Rattle.subnet_view.specs.SwitchEdges.{SwitchEdges}
+use Rattle.subnet_view.specs.Graph.{guids_of}
+use Rattle.subnet_view.proofs.SwitchSearch.{index_in}
 use Rattle.updown_routes.specs.Ports.{next_port_at}
 use Rattle.updown_routes.specs.Ranks.{slopes_of}
-use Rattle.updown_routes.proofs.SwitchSearch.{index_in}
 use Rattle.updown_routes.proofs.PositionRoutes.{port_by_index, no_port_from, no_port_to}
 use Rattle.updown_routes.proofs.routes.Routes.next_port.Goals as goal
 

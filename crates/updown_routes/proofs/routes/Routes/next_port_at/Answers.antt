@@ -3,10 +3,10 @@ use Rattle.std.proofs.Common.{◌≡◌, sym, ap, ◌∙◌, List, ℕ, Vec, Glo
 use Rattle.std.proofs.lemmas.Option.{slice_get-map}
 use Rattle.std.specs.Prelude.{Option, Some, option_map, option_and_then, slice_get}
 use Rattle.std.specs.Option.{option_copied, option_flatten}
-use Rattle.updown_routes.specs.SwitchEdges.{SwitchEdges}
+use Rattle.subnet_view.specs.SwitchEdges.{SwitchEdges}
+use Rattle.subnet_view.proofs.Walked.{copied_item}
 use Rattle.updown_routes.specs.Ports.{ports_of, next_port_at}
 use Rattle.updown_routes.proofs.PositionRoutes.{port_in_rows}
-use Rattle.updown_routes.proofs.Walked.{copied_item}
 use Rattle.updown_routes.proofs.routes.Routes.next_port_at.Goals as goal
 
 pub returns : goal.returns

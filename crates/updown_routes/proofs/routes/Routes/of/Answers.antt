@@ -2,7 +2,7 @@
 use Rattle.std.proofs.Common.{◌<◌, sym, ap, ◌∙◌, subst, List, ℕ, map, length}
 use Rattle.std.specs.Prelude.{All, Option}
 use Rattle.std.specs.Slice.Sort.{NamesEachOnce}
-use Rattle.updown_routes.specs.Graph.{guids_of}
+use Rattle.subnet_view.specs.Graph.{guids_of}
 use Rattle.updown_routes.specs.Order.{IsOrder, ArePositions}
 use Rattle.updown_routes.specs.Positions.{AreAtPositions}
 use Rattle.updown_routes.specs.Ports.{port_rows}

@@ -3,8 +3,8 @@ use Rattle.std.proofs.Common.{◌≡◌, ◌<◌, ◌+◌, ◌++◌, ◌∷◌, 
 use Rattle.port_graph.specs.declared.edge.Edge.{Edge}
 use Rattle.port_graph.proofs.Counts.{length_map}
 use Rattle.subnet_view.proofs.Taken.{all_from}
-use Rattle.updown_routes.specs.SwitchEdges.{SwitchEdges}
-use Rattle.updown_routes.specs.Graph.{guids_of}
+use Rattle.subnet_view.specs.SwitchEdges.{SwitchEdges}
+use Rattle.subnet_view.specs.Graph.{guids_of}
 use Rattle.updown_routes.specs.Ranks.{rank_of}
 use Rattle.updown_routes.specs.Positions.{at_position, ups_from, downs_from}
 use Rattle.updown_routes.proofs.PositionLists.{AreAtPositionsTo, row_at_position, one_more_position}

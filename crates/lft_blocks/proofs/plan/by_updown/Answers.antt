@@ -1,0 +1,36 @@
+-- The tables of the graph are those of the view.
+use Rattle.std.proofs.Common.{◌≡◌, List, ℕ, ap, sym, ◌∙◌, subst}
+use Rattle.std.specs.Prelude.{Option}
+use Rattle.std.specs.List.Sorted.{IsStrictlyIncreasing}
+use Rattle.fact_store.specs.View.{cells_of}
+use Rattle.subnet_view.specs.SwitchEdges.{SwitchEdges}
+use Rattle.subnet_view.specs.Graph.{guids_of}
+use Rattle.subnet_view.specs.Reading.{switches}
+use Rattle.updown_routes.specs.Updown.{updown}
+use Rattle.subnet_view.proofs.GraphSwitches.{graph_guids, switches_rise}
+use Rattle.lft_blocks.specs.declared.attachment.Attachment.{Attachment}
+use Rattle.lft_blocks.specs.Entries.{attachment_of_lid, block_count}
+use Rattle.lft_blocks.specs.Attachments.{AreIndexed}
+use Rattle.lft_blocks.specs.Plan.{tables_of}
+use Rattle.lft_blocks.proofs.RowSteps.{same_attachments}
+use Rattle.lft_blocks.proofs.plan.by_updown.Goals as goal
+
+pub attachments-requires-clause-switches : goal.attachments-requires-clause-switches
+attachments-requires-clause-switches c = c.switches.ensures ∙ ap guids_of c.in_ok-graph.ensures ∙ graph_guids (cells_of c.args.wires.now)
+
+pub updown_tables-requires-clause-rising : goal.updown_tables-requires-clause-rising
+updown_tables-requires-clause-rising c =
+    subst (λ (g : List SwitchEdges). IsStrictlyIncreasing (guids_of g)) (sym c.in_ok-graph.ensures) (switches_rise c.args.wires.now)
+
+pub returns-clause-switches : goal.returns-clause-switches
+returns-clause-switches c = c.into_switches.ensures ∙ ap guids_of c.in_ok-graph.ensures ∙ graph_guids (cells_of c.args.wires.now)
+
+pub returns-clause-tables : goal.returns-clause-tables
+returns-clause-tables c =
+    let cells = cells_of c.args.wires.now in
+    let graph = c.in_ok-graph.graph in
+    let attachments = attachment_of_lid cells c.args.lids.now in
+    let guids : guids_of graph ≡ switches cells = ap guids_of c.in_ok-graph.ensures ∙ graph_guids cells in
+    let are = subst (λ (x : List ℕ × List (Option Attachment)). AreIndexed x.0 attachments x.1) (λ i. (c.switches.ensures i, sym c.deref.ensures.value i)) c.in_ok-attachments.ensures.indexed in
+    let counted = c.block_count-count.ensures.count ∙ ap block_count c.top.ensures in
+    c.in_ok-tables.ensures ∙ (λ i. tables_of (same_attachments (guids_of graph) attachments c.deref.result.now are i) (updown (c.in_ok-graph.ensures i)).next (counted i) (guids i))

@@ -1,0 +1,113 @@
+ghost use Rattle.std.specs.Prelude.{◌≡◌, ◌<◌, All, IfSome, cond, length, nat_lt, slice_index, ◌==◌};
+ghost use Rattle.port_graph.specs.Lanes.{EachLane, IsOneMore, at, nearer, nearest_by, port_in};
+
+use crate::edge::Edge;
+use smp_bytes::PortNum;
+
+/// As many targets are routed to side by side.
+pub(crate) const LANES: usize = 16;
+
+/// Stands for no number in a lane.
+const NONE: u8 = 255;
+
+/// In each lane a number, and the port that leads to a vertex with a lesser one.
+#[derive(Clone, Copy)]
+pub(crate) struct Hops {
+    pub(crate) numbers: [u8; LANES],
+    pub(crate) ports: [u8; LANES],
+}
+
+/// In each lane the least number of the vertices to which the edges lead, and the port of the first edge to
+/// one that has it.
+pub(crate) fn nearest(edges: &[Edge], numbers: &[[u8; LANES]]) -> Hops
+    requires { All (λ edge. edge.to < length numbers.now) edges.now }
+    ensures { EachLane (λ k. (slice_index result.numbers k, slice_index result.ports k)
+        ≡ nearest_by (λ vertex. at numbers.now vertex k) edges.now) }
+{
+    let mut nearest = Hops {
+        numbers: [NONE; LANES],
+        ports: [0; LANES],
+    };
+    for edge in edges {
+        take_nearer(&mut nearest, &numbers[edge.to], edge.port.number());
+    }
+    nearest
+}
+
+/// Takes the numbers that are less than those found, with the port that leads to them.
+fn take_nearer(found: &mut Hops, numbers: &[u8; LANES], port: u8)
+    ensures { EachLane (λ k. (slice_index found.new.numbers k, slice_index found.new.ports k)
+        ≡ nearer (slice_index found.old.numbers k, slice_index found.old.ports k) (slice_index numbers.now k) port) }
+{
+    for lane in 0..LANES {
+        let number = numbers[lane];
+        let is_nearer = number < found.numbers[lane];
+        found.numbers[lane] = if is_nearer {
+            number
+        } else {
+            found.numbers[lane]
+        };
+        found.ports[lane] = if is_nearer { port } else { found.ports[lane] };
+    }
+}
+
+/// One more than each number. None where one gets too great for a lane.
+pub(crate) fn one_more(numbers: &[u8; LANES]) -> Option<[u8; LANES]>
+    ensures { IfSome result (λ more. EachLane (λ k. IsOneMore (slice_index numbers.now k) (slice_index more k))) }
+{
+    let mut more = [NONE; LANES];
+    let mut is_too_great = false;
+    for lane in 0..LANES {
+        let number = numbers[lane];
+        is_too_great = is_too_great | (number == NONE - 1);
+        more[lane] = number.saturating_add(1);
+    }
+    if is_too_great { None } else { Some(more) }
+}
+
+/// 0 in the lanes whose target this vertex is.
+pub(crate) fn set_at_target(numbers: &mut [u8; LANES], targets: &[usize; LANES], vertex: usize)
+    ensures { EachLane (λ k. slice_index numbers.new k
+        ≡ cond (slice_index targets.now k == vertex) 0 (slice_index numbers.old k)) }
+{
+    for lane in 0..LANES {
+        numbers[lane] = if targets[lane] == vertex {
+            0
+        } else {
+            numbers[lane]
+        };
+    }
+}
+
+/// Takes what others have where there is no number.
+pub(crate) fn fill_in(hops: &mut Hops, others: &Hops)
+    ensures numbers { EachLane (λ k. slice_index hops.new.numbers k
+        ≡ cond (nat_lt (slice_index hops.old.numbers k) 255) (slice_index hops.old.numbers k) (slice_index others.now.numbers k)) }
+    ensures ports { EachLane (λ k. slice_index hops.new.ports k
+        ≡ cond (nat_lt (slice_index hops.old.numbers k) 255) (slice_index hops.old.ports k) (slice_index others.now.ports k)) }
+{
+    for lane in 0..LANES {
+        let is_known = hops.numbers[lane] < NONE;
+        hops.numbers[lane] = if is_known {
+            hops.numbers[lane]
+        } else {
+            others.numbers[lane]
+        };
+        hops.ports[lane] = if is_known {
+            hops.ports[lane]
+        } else {
+            others.ports[lane]
+        };
+    }
+}
+
+/// The port that a lane says.
+pub(crate) fn port_in(number: u8, port: u8) -> Option<PortNum>
+    ensures { result ≡ port_in number port }
+{
+    if 0 < number && number < NONE {
+        Some(PortNum::new(port))
+    } else {
+        None
+    }
+}

@@ -1,0 +1,239 @@
+ghost use Rattle.std.specs.Prelude.{◌≡◌, ◌==◌, ◌<◌, true, All, IfOk, IfSome, length, map, slice_index, slice_index_or};
+ghost use Rattle.port_graph.specs.Indexed.{AreSlopes, indexed, ports_between};
+ghost use Rattle.port_graph.specs.Lanes.{EachLane, AreRouted, IsBlock, IsStepDown, IsStepUp, at, nearest_by, port_in, target_in};
+ghost use Rattle.port_graph.specs.Slopes.{next_port};
+
+use crate::adjacency::Adjacency;
+use crate::edge::Edge;
+use crate::lanes::{Hops, LANES, fill_in, nearest, one_more, port_in, set_at_target};
+use crate::next_port::next_ports;
+use smp_bytes::PortNum;
+use std::alloc::{AllocError, Global};
+
+/// The next ports between these vertices: for each of them as a target those of each. Takes a step for each
+/// vertex and each edge for 16 targets at a time; where a cost is greater than 254, for each target.
+pub fn next_ports_between(
+    alloc: Global,
+    ups: &Adjacency,
+    downs: &Adjacency,
+    vertices: &[usize],
+) -> Result<Vec<Vec<Option<PortNum>>>, AllocError>
+    requires slopes { AreSlopes ups.now downs.now }
+    requires vertices { All (λ vertex. vertex < length ups.now) vertices.now }
+    ensures { IfOk result (λ rows. map (λ ports. ports.items) rows.items
+        ≡ ports_between ups.now downs.now vertices.now) }
+{
+    let mut rows = Vec::with_capacity(alloc, vertices.len())?;
+    let mut block = Block::new(alloc, ups.len())?;
+    'block: while rows.len() < vertices.len() {
+        let first = rows.len();
+        block.route(ups, downs, targets_from(vertices, first));
+        let count = LANES.min(vertices.len() - first);
+        for lane in 0..count {
+            rows.push(block.row(alloc, ups, downs, lane, vertices)?)?;
+        }
+    }
+    Ok(rows)
+}
+
+/// The vertices from an index on, as far as there are lanes; where they end, the last.
+fn targets_from(vertices: &[usize], first: usize) -> [usize; LANES]
+    requires { first < length vertices.now }
+    ensures { EachLane (λ k. slice_index result k ≡ target_in vertices.now first k) }
+{
+    let last = vertices.len() - 1 - first;
+    let mut targets = [0; LANES];
+    for lane in 0..LANES {
+        targets[lane] = vertices[first + lane.min(last)];
+    }
+    targets
+}
+
+/// A target in each lane, with the costs of all vertices and their next ports to it.
+#[derive(Drop)]
+struct Block {
+    targets: [usize; LANES],
+    /// Whether the costs have room in the lanes.
+    is_routed: bool,
+    numbers: Vec<[u8; LANES]>,
+    ports: Vec<[u8; LANES]>,
+}
+
+impl Block {
+    /// For so many vertices.
+    fn new(alloc: Global, count: usize) -> Result<Self, AllocError>
+        ensures numbers { IfOk result (λ block. length block.numbers.items ≡ count) }
+        ensures ports { IfOk result (λ block. length block.ports.items ≡ count) }
+    {
+        Ok(Block {
+            targets: [0; LANES],
+            is_routed: false,
+            numbers: vec![in alloc; [0; LANES]; count]?,
+            ports: vec![in alloc; [0; LANES]; count]?,
+        })
+    }
+
+    /// Routes to these targets.
+    fn route(&mut self, ups: &Adjacency, downs: &Adjacency, targets: [usize; LANES])
+        requires slopes { AreSlopes ups.now downs.now }
+        requires numbers { length self.old.numbers.items ≡ length ups.now }
+        requires ports { length self.old.ports.items ≡ length ups.now }
+        requires targets { EachLane (λ k. slice_index targets k < length ups.now) }
+        ensures targets { self.new.targets ≡ targets }
+        ensures routed { IsBlock ups.now downs.now self.new.is_routed targets self.new.numbers.items self.new.ports.items }
+    {
+        self.targets = targets;
+        self.is_routed = route_in_lanes(ups, downs, &targets, &mut self.numbers, &mut self.ports);
+    }
+
+    /// The next ports of these vertices to the target of a lane.
+    fn row(
+        &self,
+        alloc: Global,
+        ups: &Adjacency,
+        downs: &Adjacency,
+        lane: usize,
+        vertices: &[usize],
+    ) -> Result<Vec<Option<PortNum>>, AllocError>
+        requires slopes { AreSlopes ups.now downs.now }
+        requires routed { IsBlock ups.now downs.now self.now.is_routed self.now.targets self.now.numbers.items self.now.ports.items }
+        requires lane { lane < 16 }
+        requires target { slice_index self.now.targets lane < length ups.now }
+        requires vertices { All (λ vertex. vertex < length ups.now) vertices.now }
+        ensures { IfOk result (λ found. found.items
+            ≡ map (λ vertex. next_port (indexed ups.now downs.now) vertex (slice_index self.now.targets lane)) vertices.now) }
+    {
+        if self.is_routed {
+            ports_in_lane(alloc, &self.numbers, &self.ports, lane, vertices)
+        } else {
+            ports_at(
+                alloc,
+                &next_ports(alloc, ups, downs, self.targets[lane])?,
+                vertices,
+            )
+        }
+    }
+}
+
+/// The costs of all vertices and their next ports, in each lane to its target: down distances from the last
+/// vertex to the first, and then costs from the first to the last. False where one is too great for a lane.
+fn route_in_lanes(
+    ups: &Adjacency,
+    downs: &Adjacency,
+    targets: &[usize; LANES],
+    numbers: &mut [[u8; LANES]],
+    ports: &mut [[u8; LANES]],
+) -> bool
+    requires slopes { AreSlopes ups.now downs.now }
+    requires numbers { length numbers.old ≡ length ups.now }
+    requires ports { length ports.old ≡ length ups.now }
+    requires targets { EachLane (λ k. slice_index targets.now k < length ups.now) }
+    ensures { result ≡ true → EachLane (λ k. AreRouted ups.now downs.now (slice_index targets.now k) k numbers.new ports.new) }
+{
+    let mut vertex = ups.len();
+    'down: while vertex > 0 {
+        vertex -= 1;
+        match down_from(downs.at(vertex), numbers, targets, vertex) {
+            Some(hops) => {
+                let its_numbers = hops.numbers;
+                let its_ports = hops.ports;
+                numbers[vertex] = its_numbers;
+                ports[vertex] = its_ports;
+            }
+            None => return false,
+        }
+    }
+    'up: for vertex in 0..ups.len() {
+        let distances = numbers[vertex];
+        let ports_down = ports[vertex];
+        let down = Hops {
+            numbers: distances,
+            ports: ports_down,
+        };
+        match up_from(ups.at(vertex), numbers, down) {
+            Some(hops) => {
+                let its_numbers = hops.numbers;
+                let its_ports = hops.ports;
+                numbers[vertex] = its_numbers;
+                ports[vertex] = its_ports;
+            }
+            None => return false,
+        }
+    }
+    true
+}
+
+/// The down distances of a vertex by those of the vertices that are down from it, and its ports down.
+fn down_from(
+    downs: &[Edge],
+    numbers: &[[u8; LANES]],
+    targets: &[usize; LANES],
+    vertex: usize,
+) -> Option<Hops>
+    requires { All (λ edge. edge.to < length numbers.now) downs.now }
+    ensures { IfSome result (λ hops. EachLane (λ k. IsStepDown (slice_index targets.now k == vertex)
+        (nearest_by (λ a. at numbers.now a k) downs.now) (slice_index hops.numbers k) (slice_index hops.ports k))) }
+{
+    let nearest = nearest(downs, numbers);
+    let mut distances = one_more(&nearest.numbers)?;
+    set_at_target(&mut distances, targets, vertex);
+    Some(Hops {
+        numbers: distances,
+        ports: nearest.ports,
+    })
+}
+
+/// The costs of a vertex by those of the vertices that are up from it, and its ports up, where it has no down
+/// distance.
+fn up_from(ups: &[Edge], numbers: &[[u8; LANES]], down: Hops) -> Option<Hops>
+    requires { All (λ edge. edge.to < length numbers.now) ups.now }
+    ensures { IfSome result (λ hops. EachLane (λ k. IsStepUp (slice_index down.numbers k) (slice_index down.ports k)
+        (nearest_by (λ a. at numbers.now a k) ups.now) (slice_index hops.numbers k) (slice_index hops.ports k))) }
+{
+    let nearest = nearest(ups, numbers);
+    let up = Hops {
+        numbers: one_more(&nearest.numbers)?,
+        ports: nearest.ports,
+    };
+    let mut hops = down;
+    fill_in(&mut hops, &up);
+    Some(hops)
+}
+
+/// The ports of these vertices in a lane.
+fn ports_in_lane(
+    alloc: Global,
+    numbers: &[[u8; LANES]],
+    ports: &[[u8; LANES]],
+    lane: usize,
+    vertices: &[usize],
+) -> Result<Vec<Option<PortNum>>, AllocError>
+    requires lane { lane < 16 }
+    requires numbers { All (λ vertex. vertex < length numbers.now) vertices.now }
+    requires ports { All (λ vertex. vertex < length ports.now) vertices.now }
+    ensures { IfOk result (λ found.
+        found.items ≡ map (λ vertex. port_in (at numbers.now vertex lane) (at ports.now vertex lane)) vertices.now) }
+{
+    let mut found = Vec::with_capacity(alloc, vertices.len())?;
+    for vertex in vertices {
+        found.push(port_in(numbers[*vertex][lane], ports[*vertex][lane]))?;
+    }
+    Ok(found)
+}
+
+/// The ports of these vertices.
+fn ports_at(
+    alloc: Global,
+    ports: &[Option<PortNum>],
+    vertices: &[usize],
+) -> Result<Vec<Option<PortNum>>, AllocError>
+    requires { All (λ vertex. vertex < length ports.now) vertices.now }
+    ensures { IfOk result (λ found.
+        found.items ≡ map (λ vertex. slice_index_or ports.now vertex None) vertices.now) }
+{
+    let mut found = Vec::with_capacity(alloc, vertices.len())?;
+    for vertex in vertices {
+        found.push(ports[*vertex])?;
+    }
+    Ok(found)
+}

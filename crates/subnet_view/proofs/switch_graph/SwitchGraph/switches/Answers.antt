@@ -1,0 +1,7 @@
+-- The graph has the GUIDs.
+use Rattle.std.proofs.Common.{sym, ◌∙◌}
+use Rattle.subnet_view.proofs.SwitchGraphs.{guids_are}
+use Rattle.subnet_view.proofs.switch_graph.SwitchGraph.switches.Goals as goal
+
+pub returns : goal.returns
+returns c = c.deref.ensures.value ∙ sym (guids_are c.self.inside.guids.items c.self.inside.edges c.self.invariant c.args.self.now c.self.view_is)

@@ -1,0 +1,17 @@
+-- Switches of one component, and its root.
+use Rattle.std.specs.Prelude.{ℕ, Bool, List, length, Option, is_some}
+use Rattle.std.specs.List.{find}
+use Rattle.port_graph.specs.Walks.{shortest}
+use Rattle.subnet_view.specs.SwitchEdges.{SwitchEdges}
+use Rattle.subnet_view.specs.Graph.{guids_of, neighbors}
+
+-- the fewest wires between two switches; none where they lie in different components
+abbrev pub distance : List SwitchEdges → ℕ → ℕ → Option ℕ
+distance graph a b = shortest (neighbors graph) (length graph) a b
+
+abbrev pub in_one_component : List SwitchEdges → ℕ → ℕ → Bool
+in_one_component graph a b = is_some (distance graph a b)
+
+-- the least GUID of a switch's component
+abbrev pub root_of : List SwitchEdges → ℕ → Option ℕ
+root_of graph a = find (in_one_component graph a) (guids_of graph)

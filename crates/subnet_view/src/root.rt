@@ -1,0 +1,37 @@
+//! The roots of components.
+ghost use Rattle.std.specs.Prelude.{◌≡◌, IfOk, length, map};
+ghost use Rattle.subnet_view.specs.Components.{root_of};
+ghost use Rattle.subnet_view.specs.Graph.{guids_of};
+ghost use Rattle.subnet_view.specs.Roots.{FillsIn};
+
+use crate::switch_graph::SwitchGraph;
+use smp_bytes::Guid;
+use std::alloc::{AllocError, Global};
+
+/// The root of each switch's component. A switch that no switch before it reaches is the root of its
+/// component: a search for each component.
+pub(crate) fn roots(alloc: Global, graph: &SwitchGraph) -> Result<Vec<Option<Guid>>, AllocError>
+    ensures { IfOk result (λ roots. roots.items ≡ map (root_of graph.now) (guids_of graph.now)) }
+{
+    let mut roots = vec![in alloc; None; graph.len()]?;
+    for index in 0..graph.len() {
+        if roots[index].is_none() {
+            let distances = graph.distances(alloc, index)?;
+            let root = graph.switches()[index];
+            fill(&mut roots, &distances, root);
+        }
+    }
+    Ok(roots)
+}
+
+/// Puts a root where there is none yet, and a distance from it.
+fn fill(roots: &mut [Option<Guid>], distances: &[Option<usize>], root: Guid)
+    requires { length roots.old ≡ length distances.now }
+    ensures { FillsIn roots.old distances.now root roots.new }
+{
+    for (i, slot) in roots.iter_mut().enumerate() {
+        if slot.is_none() && distances[i].is_some() {
+            *slot = Some(root);
+        }
+    }
+}

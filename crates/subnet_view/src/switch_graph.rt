@@ -1,0 +1,178 @@
+ghost use Rattle.std.specs.Prelude.{◌≡◌, ◌<◌, IfOk, IfSome, length, map, option_map, slice_get};
+ghost use Rattle.std.specs.List.Sorted.{IsStrictlyIncreasing};
+ghost use Rattle.fact_store.specs.View.{cells_of};
+ghost use Rattle.port_graph.specs.Heads.{LeadToVertices};
+ghost use Rattle.subnet_view.specs.Components.{root_of};
+ghost use Rattle.subnet_view.specs.Graph.{edge_at, edges_of, graph_of, guids_of};
+ghost use Rattle.subnet_view.specs.GraphLaws.{IsGraph};
+ghost use Rattle.subnet_view.specs.Reading.{switches};
+ghost use Rattle.subnet_view.specs.SwitchGraph.{by_guid, distances_from, AreEdgesAt, AreEdgesByIndex};
+ghost use Rattle.subnet_view.specs.SwitchGraph.{IsIndexIn, LeadBelow};
+
+use crate::reading::port_count;
+use crate::root::roots;
+use crate::switch::switches;
+use crate::wires::Wires;
+use fact_store::Refused;
+use port_graph::{Adjacency, Edge};
+use smp_bytes::{Guid, PortNum};
+use std::alloc::{AllocError, Global};
+use std::marker::Model;
+
+/// The usable switches and the wires between them.
+#[derive(Drop)]
+pub struct SwitchGraph {
+    /// The switches by rising GUID. An edge leads to an index among them.
+    guids: Vec<Guid>,
+    /// The edges of each switch, by rising port.
+    edges: Adjacency,
+}
+
+impl Model for SwitchGraph {
+    ghost use Rattle.std.specs.Prelude.{List};
+    ghost use Rattle.subnet_view.specs.SwitchEdges.{SwitchEdges};
+    ghost use Rattle.subnet_view.specs.SwitchGraph.{named, IsSwitchGraph};
+
+    ghost Value = { List SwitchEdges };
+
+    ghost view = { λ a. named a.guids.items a.edges };
+
+    ghost invariant = { λ a. IsSwitchGraph a.guids.items a.edges };
+}
+
+impl SwitchGraph {
+    /// The usable switches of the view with the wires between them. Takes two searches among the
+    /// wires for each port of a switch, and one among the switches for each wire.
+    pub fn of(alloc: Global, wires: &Wires) -> Result<Self, Refused>
+        ensures { IfOk result (λ graph. graph ≡ graph_of (cells_of wires.now)) }
+    {
+        let guids = switches(alloc, wires.store())?;
+        let edges = edges(alloc, wires, &guids)?;
+        Ok(SwitchGraph { guids, edges })
+    }
+
+    /// How many switches there are. It is held.
+    pub fn len(&self) -> usize
+        ensures count { result ≡ length self.now }
+        ensures is_graph { IsGraph self.now }
+    {
+        self.guids.len()
+    }
+
+    /// The switches, by rising GUID.
+    pub fn switches(&self) -> &[Guid]
+        ensures { result.now ≡ guids_of self.now }
+    {
+        &self.guids
+    }
+
+    /// The same, handed out.
+    pub fn into_switches(self) -> Vec<Guid>
+        ensures { result.items ≡ guids_of self }
+    {
+        self.guids
+    }
+
+    /// The switch at an index. Takes one step.
+    pub fn switch(&self, index: usize) -> Option<Guid>
+        ensures { result ≡ slice_get (guids_of self.now) index }
+    {
+        self.guids.get(index).copied()
+    }
+
+    /// The index of a switch. Takes a search.
+    pub fn index_of(&self, switch: Guid) -> Option<usize>
+        ensures { IsIndexIn (guids_of self.now) switch result }
+    {
+        index_of(&self.guids, switch)
+    }
+
+    /// The edges of the switch at an index, which lead to indices. Takes one step.
+    pub fn edges(&self, index: usize) -> &[Edge]
+        requires { index < length self.now }
+        ensures edges { AreEdgesAt self.now index result.now }
+        ensures to_switches { LeadBelow (length self.now) result.now }
+    {
+        self.edges.at(index)
+    }
+
+    /// The edges of each switch, by rising GUID, which lead to indices.
+    pub fn adjacency(&self) -> &Adjacency
+        ensures edges { AreEdgesByIndex self.now result.now }
+        ensures is_graph { IsGraph self.now }
+    {
+        &self.edges
+    }
+
+    /// The distances from the switch at an index to each switch. Takes a search in breadth.
+    pub fn distances(&self, alloc: Global, from: usize) -> Result<Vec<Option<usize>>, AllocError>
+        requires { from < length self.now }
+        ensures { IfOk result (λ found. found.items ≡ distances_from self.now from) }
+    {
+        port_graph::distances(alloc, &self.edges, from)
+    }
+
+    /// The root of each switch's component, by rising GUID: the least GUID there. Takes a search in
+    /// breadth for each component.
+    pub fn roots(&self, alloc: Global) -> Result<Vec<Option<Guid>>, AllocError>
+        ensures { IfOk result (λ roots. roots.items ≡ map (root_of self.now) (guids_of self.now)) }
+    {
+        roots(alloc, self)
+    }
+}
+
+/// The edges of each switch, where the GUIDs are those of the usable switches.
+fn edges(alloc: Global, wires: &Wires, guids: &[Guid]) -> Result<Adjacency, AllocError>
+    requires { guids.now ≡ switches (cells_of wires.now) }
+    ensures wires { IfOk result (λ edges.
+        map (map (by_guid guids.now)) edges ≡ map (edges_of (cells_of wires.now)) guids.now) }
+    ensures to_switches { IfOk result (λ edges. LeadToVertices edges) }
+{
+    let mut edges = Adjacency::new(alloc);
+    for guid in guids {
+        let found = edges_of(alloc, wires, guids, *guid)?;
+        edges.push_vertex(&found)?;
+    }
+    Ok(edges)
+}
+
+/// The wires from a switch to switches, by rising port.
+fn edges_of(
+    alloc: Global,
+    wires: &Wires,
+    guids: &[Guid],
+    guid: Guid,
+) -> Result<Vec<Edge>, AllocError>
+    requires { guids.now ≡ switches (cells_of wires.now) }
+    ensures wires { IfOk result (λ found.
+        map (by_guid guids.now) found.items ≡ edges_of (cells_of wires.now) guid) }
+    ensures to_switches { IfOk result (λ found. LeadBelow (length guids.now) found.items) }
+{
+    let mut found = Vec::new(alloc);
+    for before in 0..port_count(wires.store(), guid) {
+        if let Some(edge) = edge_at(wires, guids, guid, PortNum::new(before + 1)) {
+            found.push(edge)?;
+        }
+    }
+    Ok(found)
+}
+
+/// The wire in a port, where it leads to a switch. Takes two searches among the wires, and one among
+/// the switches where there is one.
+fn edge_at(wires: &Wires, guids: &[Guid], guid: Guid, port: PortNum) -> Option<Edge>
+    requires { guids.now ≡ switches (cells_of wires.now) }
+    ensures wire { option_map (by_guid guids.now) result ≡ edge_at (cells_of wires.now) guid port }
+    ensures to_switch { IfSome result (λ e. e.to < length guids.now) }
+{
+    let (far, _) = wires.across(guid, port)?;
+    let to = index_of(guids, far)?;
+    Some(Edge { port, to })
+}
+
+/// The index of a GUID among GUIDs that rise. A search.
+fn index_of(guids: &[Guid], guid: Guid) -> Option<usize>
+    requires { IsStrictlyIncreasing guids.now }
+    ensures { IsIndexIn guids.now guid result }
+{
+    guids.binary_search(&guid).ok()
+}

@@ -1,7 +1,0 @@
--- The graph has the GUIDs.
-use Rattle.std.proofs.Common.{sym, ◌∙◌}
-use Rattle.updown_routes.proofs.Wirings.{guids_are}
-use Rattle.updown_routes.proofs.wiring.Wiring.guids.Goals as goal
-
-pub returns : goal.returns
-returns c = c.deref.ensures.value ∙ sym (guids_are c.self.inside.guids.items c.self.inside.edges c.self.invariant c.args.self.now c.self.view_is)

@@ -1,0 +1,16 @@
+-- Up and then down as a rule of routing.
+use Rattle.std.specs.Prelude.{List}
+use Rattle.port_graph.specs.Slopes.{cost, next_port}
+use Rattle.subnet_view.specs.SwitchEdges.{SwitchEdges}
+use Rattle.subnet_view.specs.GraphLaws.{IsGraph}
+use Rattle.subnet_view.specs.Routing.{Routing, IsRouting}
+use Rattle.updown_routes.specs.Ranks.{slopes_of}
+use Rattle.updown_routes.specs.Channels.{channel_number}
+
+-- down where that leads to the target, else up; by the least port, for every LID alike
+abbrev pub updown : List SwitchEdges → Routing
+updown graph = record { next = λ lid s t. next_port (slopes_of graph) s t; cost = cost (slopes_of graph); channel = channel_number graph }
+
+-- that is such a rule
+abbrev pub UpdownIsRouting : Type 0
+UpdownIsRouting = (graph : List SwitchEdges) → IsGraph graph → IsRouting graph (updown graph)
