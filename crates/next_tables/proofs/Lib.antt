@@ -1,8 +1,12 @@
 pub mod Assembled
+pub mod BeingWritten
 pub mod ByLid
+pub mod Changing
+pub mod ChangingFabric
 pub mod Entries
 pub mod InStep
 pub mod Listed
+pub mod NextText
 pub mod Mixtures
 pub mod Plain
 pub mod StepLaws

@@ -87,7 +87,7 @@ in_range steps (suc n) i e h =
       | inr more ↦ in_range steps n i e (sym (ap (after n steps) (past steps i (To i) more)) ∙ h)
     ]
 
-lost_not : (n g : ℕ) (port : EndPort) (steps : List NextHop) → after n steps (dropped g) ≡ Ends (Taken port) → ⊥
+pub lost_not : (n g : ℕ) (port : EndPort) (steps : List NextHop) → after n steps (dropped g) ≡ Ends (Taken port) → ⊥
 lost_not n g port steps h = let e : ◌≡◌ {A = NextHop} (dropped g) (Ends (Taken port)) = sym (after_ended n steps (Lost g NoEntry)) ∙ h in cc
 
 -- the same tables all the time

@@ -25,7 +25,7 @@ use Rattle.next_tables.proofs.Plain.{dropped, plain, plain_after, plain_after_by
 use Rattle.next_tables.proofs.Entries.{plain_mapped, planned, agree, choose, mend, drops, emptied_entry, mix, loose, steps_long, agreed_long, mending_long, steps_at}
 
 -- what stands at an index
-at_index : (xs : List ℕ) (i x d : ℕ) → slice_get xs i ≡ Some x → slice_index_or xs i d ≡ x
+pub at_index : (xs : List ℕ) (i x d : ℕ) → slice_get xs i ≡ Some x → slice_index_or xs i d ≡ x
 at_index [] i x d e = cc
 at_index (y ∷ xs) zero x d e = same_Some y x e
 at_index (y ∷ xs) (suc i) x d e = at_index xs i x d e

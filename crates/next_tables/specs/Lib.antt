@@ -1,7 +1,9 @@
 pub mod Assembled
+pub mod ChangingFabric
 pub mod Mixtures
 pub mod Next
 pub mod NextTables
+pub mod NextText
 pub mod StepLaws
 pub mod StepOrder
 pub mod SwitchSteps

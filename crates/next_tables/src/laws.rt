@@ -1,6 +1,8 @@
 //! The laws of a step from the tables that switches hold towards those of a plan.
+ghost use Rattle.next_tables.specs.ChangingFabric.{PacketsArriveWhileTablesChange, WrittenTablesAreInChange};
 ghost use Rattle.next_tables.specs.Mixtures.{NoneIsLost, NoneGoesRound, EndInThePlan, StillIsThePlan, HealInTwo, NextDeliverOrDrop};
 ghost use Rattle.next_tables.specs.Mixtures.{MixturesWaitSo, NoCycleInStep};
+ghost use Rattle.next_tables.specs.NextText.{NextTextsAreRead, StepTextsAreRead};
 ghost use Rattle.next_tables.specs.StepLaws.{StepsEndInThePlan, StepsHealInTwo};
 ghost use Rattle.next_tables.specs.StepLaws.{NextTablesAreSo, StepsFollowTheRule, StepsLoseNone, StepsSendNoneRound};
 
@@ -74,4 +76,28 @@ pub fn steps_end_in_the_plan()
 /// And after two steps each packet arrives that does so by the plan.
 pub fn steps_heal_in_two()
     ensures law { StepsHealInTwo }
+{}
+
+/// In a fabric whose switches go over to what `next_tables` answers, each at its own time, a packet that the tables held
+/// deliver at the end port that alone holds its LID, in these and in the plan, is delivered there meanwhile: where what is
+/// joined to an end port is as the facts say, and held the tables when the change began. It takes at most twice as many wires
+/// as there are usable switches, and one more.
+pub fn packets_arrive_while_tables_change()
+    ensures law { PacketsArriveWhileTablesChange }
+{}
+
+/// While tops and blocks of its switches are written, in any order, a fabric is in such a change.
+pub fn written_tables_are_in_change()
+    ensures law { WrittenTablesAreInChange }
+{}
+
+/// The text of the next tables, with the plan's LIDs in front, has no fault, and is read as these tables, where the numbers
+/// of the facts, of the tables held and of the plan are in their ranges.
+pub fn next_texts_are_read()
+    ensures law { NextTextsAreRead }
+{}
+
+/// So it is from what any text says towards the plan of each view with room, as a store holds it.
+pub fn step_texts_are_read()
+    ensures law { StepTextsAreRead }
 {}

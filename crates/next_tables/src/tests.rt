@@ -1,8 +1,10 @@
 //! Steps of a triangle of switches, each with an adapter.
 use super::*;
+use attr_codec::Lmc;
 use audit::Network;
 use audit_channels::ChannelOrder;
 use fact_store::{Cell, Key, Sighting, Store, Value};
+use lft_blocks::{Plan, Rule};
 use plan_file::{Held, parse};
 use smp_bytes::{Generation, Guid, NodeType, PortNum};
 use std::alloc::Global;
@@ -133,6 +135,18 @@ fn is_same(one: &Held, other: &Held) -> bool {
     one.lids() == other.lids()
         && one.switches() == other.switches()
         && one.blocks() == other.blocks()
+}
+
+#[test]
+fn a_plan_has_the_tables_of_its_text(rt: HostRuntime) -> Result<(), Fail> {
+    let alloc = rt.alloc();
+    let store = triangle(alloc, true)?;
+    let lmc = Lmc::new(0).ok_or("0")?;
+    let plan = Plan::of(alloc, &store, lmc, &Rule::UpDown)?;
+    let tables = Held::of_plan(alloc, &plan)?;
+    let wanted = held(alloc, LIDS, CUT)?;
+    assert!(rt; is_same(&tables, &wanted));
+    Ok(())
 }
 
 #[test]

@@ -7,4 +7,6 @@ pub mod OwnedLids
 pub mod Passes
 pub mod PlanRanges
 pub mod Printed
+pub mod ReadRanges
+pub mod TablesText
 pub mod WordsPrinted

@@ -5,13 +5,13 @@ use Rattle.std.proofs.lemmas.Bool.{eqb-false}
 use Rattle.std.proofs.lemmas.Option.{same_Some, none-some}
 use Rattle.fact_store.specs.View.{Facts, cells_of}
 use Rattle.port_graph.specs.declared.edge.Edge.{Edge}
-use Rattle.updown_routes.specs.SwitchEdges.{SwitchEdges}
-use Rattle.updown_routes.specs.Graph.{edges_at, graph_of}
-use Rattle.updown_routes.specs.GraphLaws.{IsSwitch}
-use Rattle.updown_routes.specs.Ranks.{in_one_component}
-use Rattle.updown_routes.specs.Routing.{Routing, FollowsRule, Passes}
-use Rattle.updown_routes.proofs.Components.{cost_in_component}
-use Rattle.updown_routes.proofs.Graphs.{graph_law}
+use Rattle.subnet_view.specs.SwitchEdges.{SwitchEdges}
+use Rattle.subnet_view.specs.Graph.{edges_at, graph_of}
+use Rattle.subnet_view.specs.GraphLaws.{IsSwitch}
+use Rattle.subnet_view.specs.Components.{in_one_component}
+use Rattle.subnet_view.specs.Routing.{Routing, FollowsRule, Passes}
+use Rattle.updown_routes.proofs.ComponentCosts.{cost_in_component}
+use Rattle.subnet_view.proofs.Graphs.{graph_law}
 use Rattle.updown_routes.proofs.LeastCosts.{no_cost_between}
 use Rattle.spread_labels.specs.declared.label.Mark.{Mark}
 use Rattle.spread_labels.specs.Labels.{candidates_by, marks}

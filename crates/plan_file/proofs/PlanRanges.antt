@@ -43,11 +43,11 @@ use Rattle.subnet_view.proofs.EndPortList.{end_ports_law}
 use Rattle.subnet_view.proofs.UsableSwitches.{switches_law}
 use Rattle.lft_blocks.specs.Plan.{tables_of, plan_of}
 use Rattle.port_graph.specs.declared.edge.Edge.{Edge}
-use Rattle.updown_routes.specs.Graph.{graph_of, edges_at}
-use Rattle.updown_routes.specs.GraphLaws.{IsSwitch}
+use Rattle.subnet_view.specs.Graph.{graph_of, edges_at}
+use Rattle.subnet_view.specs.GraphLaws.{IsSwitch}
 use Rattle.lft_blocks.specs.Rules.{RuleValue, routing_by}
-use Rattle.updown_routes.proofs.Graphs.{edge_is_wire}
-use Rattle.updown_routes.proofs.Switches.{graph_guids, switches_rise}
+use Rattle.subnet_view.proofs.Graphs.{edge_is_wire}
+use Rattle.subnet_view.proofs.GraphSwitches.{graph_guids, switches_rise}
 use Rattle.lft_blocks.specs.Entries.{attachment_of, attachment_of_lid, port_to, entry, block, block_count}
 use Rattle.lft_blocks.proofs.AttachmentSwitches.{attachment_is_switch}
 use Rattle.plan_file.proofs.NextPorts.{next_is_edge}
@@ -127,6 +127,9 @@ module _ (facts : Facts) (range : AreInRange facts) where
   edge_small : (s : ℕ) (x : Edge) → Contains (edges_at (graph_of cells) s) x → x.port ≤ 254
   edge_small s x there = let is = edge_is_wire cells s x there in (wire_small s x.port x.to is.end_port is.wire).0
 
+  pub switch_small : (s : ℕ) → Contains (switches cells) s → s < 2 ^ 64
+  switch_small s there = let usable = ((switches_law facts).0 s).0 there in node_small s (ap is_some usable.1)
+
   -- under a rule and an LMC
   module _ (rule : RuleValue) (lmc : ℕ) where
     abbrev next : ℕ → ℕ → ℕ → Option ℕ
@@ -184,9 +187,6 @@ module _ (facts : Facts) (range : AreInRange facts) where
     all_blocks : (s : ℕ) (bs : List ℕ) → Contains (switches cells) s → AllByRecursion IsBlock (map (block (attachment_of_lid cells (lids lmc cells)) next s) bs)
     all_blocks s [] there = tt
     all_blocks s (b ∷ bs) there = (is_block s b there, all_blocks s bs there)
-
-    switch_small : (s : ℕ) → Contains (switches cells) s → s < 2 ^ 64
-    switch_small s there = let usable = ((switches_law facts).0 s).0 there in node_small s (ap is_some usable.1)
 
     all_tables : (count : ℕ) (guids : List ℕ) → count ≤ 768 → ((s : ℕ) → Contains guids s → Contains (switches cells) s)
         → AllByRecursion IsTableInRange (tables_of (attachment_of_lid cells (lids lmc cells)) next count guids)

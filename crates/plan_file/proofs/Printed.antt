@@ -20,9 +20,12 @@ use Rattle.plan_file.specs.declared.item.Item.TheVariants.{Lid, Switch, Block}
 use Rattle.plan_file.specs.declared.last_lines.LastLines.{LastLines}
 use Rattle.plan_file.specs.Held.{HeldPlan, LidRange, lids_of, nothing_held}
 use Rattle.plan_file.specs.Printed.{range_from, owned_range, owned_lids, blocks_from, blocks_of, with_top, held_plan, IsLidInRange, IsBlock, IsTableInRange, IsPlanInRange, PrintedPlansAreRead}
+use Rattle.plan_file.specs.PrintedTables.{AreTops, PrintedTablesAreRead, Says, held_under, with_own_top}
+use Rattle.plan_file.specs.TablesText.{next_text}
 use Rattle.plan_file.specs.Reading.{start, last_lines_after, first_fault_from, items_from, held_with, held_by, first_fault, held_of}
 use Rattle.plan_file.proofs.LinesPrinted.{IsBelow, IsBeforeSwitch, IsRangeRight, lid_passes, switch_passes, block_passes}
 use Rattle.plan_file.proofs.Passes.{Passes, passes_none, passes_then}
+use Rattle.plan_file.proofs.TablesText.{tables_are_text}
 
 -- numbers that rise from above another
 abbrev Rises : ℕ → List ℕ → Type 0
@@ -118,8 +121,11 @@ blocks_pass lid guid next number (block ∷ blocks) h all few =
     }
 
 -- switches with their blocks
-abbrev table_items : ℕ → SwitchTable → List Item
-table_items top table = Switch (with_top top table) ∷ map block_item (enumerate_from 0 table.blocks)
+abbrev table_items : (ℕ → ℕ) → SwitchTable → List Item
+table_items top table = Switch (with_own_top top table) ∷ map block_item (enumerate_from 0 table.blocks)
+
+abbrev own_text : (ℕ → ℕ) → SwitchTable → List ℕ
+own_text top table = table_text (top table.guid) table
 
 abbrev Follow : Option ℕ → List SwitchTable → Type 0
 Follow last [] = Unit {0}
@@ -133,25 +139,25 @@ follow : (tables : List SwitchTable) → IsStrictlyIncreasing (map (λ t. t.guid
 follow [] h = tt
 follow (table ∷ tables) h = (tt, follow_from table.guid tables h)
 
-record TablesPass (index : LastLines) (top : ℕ) (tables : List SwitchTable) : Type 0 where
+record TablesPass (index : LastLines) (top : ℕ → ℕ) (tables : List SwitchTable) : Type 0 where
   after : LastLines
-  passes : Passes index (flat_map (table_text top) tables) (flat_map (table_items top) tables) after
+  passes : Passes index (flat_map (own_text top) tables) (flat_map (table_items top) tables) after
 
-tables_pass : (index : LastLines) (top : ℕ) (tables : List SwitchTable) → top ≤ 0xBFFF → AllByRecursion IsTableInRange tables → Follow index.switch tables
-    → TablesPass index top tables
+tables_pass : (index : LastLines) (top : ℕ → ℕ) (tables : List SwitchTable) → AreTops top tables → AllByRecursion IsTableInRange tables
+    → Follow index.switch tables → TablesPass index top tables
 tables_pass index top [] most all rise = record { after = index; passes = passes_none index }
 tables_pass index top (table ∷ tables) most all rise =
     let guid = table.guid in
     let few = all.0.few in
     let blocks = blocks_pass index.lid guid 0 0 table.blocks (omega arith) all.0.blocks (omega arith) in
     let behind : LastLines = below_switch index.lid guid blocks.end in
-    let one : Passes index (table_text top table) (table_items top table) behind =
-    passes_then index (below_switch index.lid guid 0) behind (switch_line top guid) (blocks_text table.blocks) (Switch (with_top top table) ∷ [])
-    (map block_item (enumerate_from 0 table.blocks)) (switch_passes index top guid most all.0.guid rise.0) blocks.passes in
-    let rest = tables_pass behind top tables most all.1 rise.1 in
+    let one : Passes index (own_text top table) (table_items top table) behind =
+    passes_then index (below_switch index.lid guid 0) behind (switch_line (top guid) guid) (blocks_text table.blocks) (Switch (with_own_top top table) ∷ [])
+    (map block_item (enumerate_from 0 table.blocks)) (switch_passes index (top guid) guid most.0 all.0.guid rise.0) blocks.passes in
+    let rest = tables_pass behind top tables most.1 all.1 rise.1 in
     record {
       after = rest.after;
-      passes = passes_then index behind rest.after (table_text top table) (flat_map (table_text top) tables) (table_items top table)
+      passes = passes_then index behind rest.after (own_text top table) (flat_map (own_text top) tables) (table_items top table)
           (flat_map (table_items top) tables) one rest.passes;
     }
 
@@ -180,33 +186,33 @@ with_tables h switches blocks = record h { switches = switches; blocks = blocks 
 one_more : (switches : List HeldSwitch) (s : HeldSwitch) → length (switches ++ s ∷ []) ≡ suc (length switches)
 one_more switches s = omega (arith, length-append switches (s ∷ []))
 
-held_table : (h : HeldPlan) (top : ℕ) (table : SwitchTable)
+held_table : (h : HeldPlan) (top : ℕ → ℕ) (table : SwitchTable)
     → held_by h (table_items top table)
-    ≡ with_tables h (h.switches ++ with_top top table ∷ []) (h.blocks ++ blocks_from (length h.switches) 0 table.blocks)
+    ≡ with_tables h (h.switches ++ with_own_top top table ∷ []) (h.blocks ++ blocks_from (length h.switches) 0 table.blocks)
 held_table h top table =
-    let s = with_top top table in
+    let s = with_own_top top table in
     let index : length (h.switches ++ s ∷ []) - 1 ≡ length h.switches = omega (arith, one_more h.switches s) in
     held_blocks (held_with h (Switch s)) (enumerate_from 0 table.blocks)
     ∙ ap (λ n. with_tables h (h.switches ++ s ∷ []) (h.blocks ++ map (at_switch n) (enumerate_from 0 table.blocks))) index
 
-held_tables : (h : HeldPlan) (top : ℕ) (tables : List SwitchTable)
+held_tables : (h : HeldPlan) (top : ℕ → ℕ) (tables : List SwitchTable)
     → held_by h (flat_map (table_items top) tables)
-    ≡ with_tables h (h.switches ++ map (with_top top) tables) (h.blocks ++ blocks_of (length h.switches) tables)
+    ≡ with_tables h (h.switches ++ map (with_own_top top) tables) (h.blocks ++ blocks_of (length h.switches) tables)
 held_tables h top [] =
     ap (λ ss. with_tables h ss h.blocks) (sym (append-nil h.switches)) ∙ ap (with_tables h (h.switches ++ [])) (sym (append-nil h.blocks))
 held_tables h top (table ∷ tables) =
-    let s = with_top top table in
+    let s = with_own_top top table in
     let own = blocks_from (length h.switches) 0 table.blocks in
     let next = with_tables h (h.switches ++ s ∷ []) (h.blocks ++ own) in
     held_append h (table_items top table) (flat_map (table_items top) tables)
     ∙ ap (λ g. held_by g (flat_map (table_items top) tables)) (held_table h top table)
     ∙ held_tables next top tables
-    ∙ ap (λ ss. with_tables h ss ((h.blocks ++ own) ++ blocks_of (length (h.switches ++ s ∷ [])) tables)) (append_assoc h.switches (s ∷ []) (map (with_top top) tables))
-    ∙ ap (λ n. with_tables h (h.switches ++ s ∷ map (with_top top) tables) ((h.blocks ++ own) ++ blocks_of n tables)) (one_more h.switches s)
-    ∙ ap (with_tables h (h.switches ++ s ∷ map (with_top top) tables)) (append_assoc h.blocks own (blocks_of (suc (length h.switches)) tables))
+    ∙ ap (λ ss. with_tables h ss ((h.blocks ++ own) ++ blocks_of (length (h.switches ++ s ∷ [])) tables)) (append_assoc h.switches (s ∷ []) (map (with_own_top top) tables))
+    ∙ ap (λ n. with_tables h (h.switches ++ s ∷ map (with_own_top top) tables) ((h.blocks ++ own) ++ blocks_of n tables)) (one_more h.switches s)
+    ∙ ap (with_tables h (h.switches ++ s ∷ map (with_own_top top) tables)) (append_assoc h.blocks own (blocks_of (suc (length h.switches)) tables))
 
 -- all of it
-abbrev plan_items : ℕ → PlanValue → List Item
+abbrev plan_items : (ℕ → ℕ) → PlanValue → List Item
 plan_items top plan = map Lid (filter_map (owned_range plan.given) (rising_lids plan.given)) ++ flat_map (table_items top) plan.tables
 
 above_zero : (given : Given) (ns : List ℕ) (k : ℕ) → AllByRecursion (IsLidInRange given) ns → k < length ns → 0 < get_or ns k 0
@@ -214,16 +220,16 @@ above_zero given [] k all h = absurd (omega arith)
 above_zero given (n ∷ ns) zero all h = let some = all.0.some in omega arith
 above_zero given (n ∷ ns) (suc k) all h = above_zero given ns k all.1 (omega arith)
 
-whole_passes : (plan : PlanValue) (top : ℕ) → IsPlanInRange plan → top ≤ 0xBFFF
-    → (after : LastLines) × Passes start (lids_text plan.given ++ flat_map (table_text top) plan.tables) (plan_items top plan) after
-whole_passes plan top range most =
+whole_passes : (top : ℕ → ℕ) (plan : PlanValue) → IsPlanInRange plan → AreTops top plan.tables
+    → (after : LastLines) × Passes start (lids_text plan.given ++ flat_map (own_text top) plan.tables) (plan_items top plan) after
+whole_passes top plan range most =
     let given = plan.given in
     let lids = lids_pass given start 0 (rising_lids given) range.lmc range.lids tt
     (rises_from 0 (rising_lids given) (λ k h. above_zero given (rising_lids given) k range.lids h) (rising_lids_law given).1) in
     let middle : LastLines = record start { lid = lids.last } in
     let tables = tables_pass middle top plan.tables most range.tables (follow plan.tables range.rising) in (
       tables.after,
-      passes_then start middle tables.after (lids_text given) (flat_map (table_text top) plan.tables)
+      passes_then start middle tables.after (lids_text given) (flat_map (own_text top) plan.tables)
           (map Lid (filter_map (owned_range given) (rising_lids given))) (flat_map (table_items top) plan.tables) lids.passes tables.passes,
     )
 
@@ -238,34 +244,53 @@ all_passes text items after h =
       ap (λ t. held_by nothing_held (items_from 1 start (lines t))) (sym whole) ∙ ap (held_by nothing_held) (goes.said ∙ append-nil items),
     )
 
-held_whole : (plan : PlanValue) (top : ℕ) → held_by nothing_held (plan_items top plan)
-    ≡ record { lids = owned_lids plan.given; switches = map (with_top top) plan.tables; blocks = blocks_of 0 plan.tables }
-held_whole plan top =
+held_whole : (top : ℕ → ℕ) (plan : PlanValue) → held_by nothing_held (plan_items top plan) ≡ held_under top plan
+held_whole top plan =
     let ranges = filter_map (owned_range plan.given) (rising_lids plan.given) in
     held_append nothing_held (map Lid ranges) (flat_map (table_items top) plan.tables)
     ∙ ap (λ h. held_by h (flat_map (table_items top) plan.tables)) (held_lids nothing_held ranges)
     ∙ held_tables (record { lids = owned_lids plan.given; switches = []; blocks = [] }) top plan.tables
 
-read_with_top : (plan : PlanValue) (top : ℕ) → top_of plan.given ≡ Some top → IsPlanInRange plan
-    → (first_fault (plan_text plan) ≡ None) × (held_of (plan_text plan) ≡ held_plan plan)
+says_whole : (top : ℕ → ℕ) (plan : PlanValue) → IsPlanInRange plan → AreTops top plan.tables
+    → Says (lids_text plan.given ++ flat_map (own_text top) plan.tables) (held_under top plan)
+says_whole top plan range most =
+    let passes = whole_passes top plan range most in
+    let read = all_passes (lids_text plan.given ++ flat_map (own_text top) plan.tables) (plan_items top plan) passes.0 passes.1 in
+    (read.0, read.1 ∙ held_whole top plan)
+
+-- a text, and what it says, by another name
+says_as : (text same : List ℕ) (held told : HeldPlan) → text ≡ same → held ≡ told → Says text held → Says same told
+says_as text same held told t h says = (ap first_fault (sym t) ∙ says.0, ap held_of (sym t) ∙ says.1 ∙ h)
+
+-- tables with tops of their own
+pub tables_are_read : PrintedTablesAreRead
+tables_are_read top plan range most =
+    let text : lids_text plan.given ++ flat_map (own_text top) plan.tables ≡ next_text plan.given (held_under top plan) =
+    ap (λ t. lids_text plan.given ++ t) (sym (tables_are_text top 0 plan.tables)) in
+    says_as (lids_text plan.given ++ flat_map (own_text top) plan.tables) (next_text plan.given (held_under top plan))
+    (held_under top plan) (held_under top plan) text refl (says_whole top plan range most)
+
+-- one top for all
+same_tops : (top : ℕ) (tables : List SwitchTable) → top ≤ 0xBFFF → AreTops (λ _. top) tables
+same_tops top [] most = tt
+same_tops top (table ∷ tables) most = (most, same_tops top tables most)
+
+read_with_top : (plan : PlanValue) (top : ℕ) → top_of plan.given ≡ Some top → IsPlanInRange plan → Says (plan_text plan) (held_plan plan)
 read_with_top plan top e range =
-    let passes = whole_passes plan top range (range.top top e) in
-    let read = all_passes (lids_text plan.given ++ flat_map (table_text top) plan.tables) (plan_items top plan) passes.0 passes.1 in
-    let text : lids_text plan.given ++ flat_map (table_text top) plan.tables ≡ plan_text plan = rw e refl in
-    let held : held_by nothing_held (plan_items top plan) ≡ held_plan plan = held_whole plan top ∙ rw e refl in
-    (ap first_fault (sym text) ∙ read.0, ap held_of (sym text) ∙ read.1 ∙ held)
+    let text : lids_text plan.given ++ flat_map (own_text (λ _. top)) plan.tables ≡ plan_text plan = rw e refl in
+    let held : held_under (λ _. top) plan ≡ held_plan plan = rw e refl in
+    says_as (lids_text plan.given ++ flat_map (own_text (λ _. top)) plan.tables) (plan_text plan) (held_under (λ _. top) plan) (held_plan plan) text held
+    (says_whole (λ _. top) plan range (same_tops top plan.tables (range.top top e)))
 
 abbrev with_ports : ℕ → List (EndPort × ℕ) → List SwitchTable → PlanValue
 with_ports lmc ports tables = record { given = record { lmc = lmc; ports = ports }; tables = tables }
 
-no_lids : (lmc : ℕ) (tables : List SwitchTable) → (first_fault (plan_text (with_ports lmc [] tables)) ≡ None)
-    × (held_of (plan_text (with_ports lmc [] tables)) ≡ nothing_held)
+no_lids : (lmc : ℕ) (tables : List SwitchTable) → Says (plan_text (with_ports lmc [] tables)) nothing_held
 unfolding first_fault held_of
 no_lids lmc tables = (refl, refl)
 
 read_given : (lmc : ℕ) (ports : List (EndPort × ℕ)) (tables : List SwitchTable) → IsPlanInRange (with_ports lmc ports tables)
-    → (first_fault (plan_text (with_ports lmc ports tables)) ≡ None)
-    × (held_of (plan_text (with_ports lmc ports tables)) ≡ held_plan (with_ports lmc ports tables))
+    → Says (plan_text (with_ports lmc ports tables)) (held_plan (with_ports lmc ports tables))
 read_given lmc [] tables range = no_lids lmc tables
 read_given lmc (x ∷ ports) tables range = read_with_top (with_ports lmc (x ∷ ports) tables) _ refl range
 

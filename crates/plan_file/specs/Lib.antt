@@ -1,6 +1,8 @@
 pub mod Held
+pub mod TablesText
 pub mod TextLine
 pub mod Printed
+pub mod PrintedTables
 pub mod Reading
 pub mod Reads
 pub mod PlanTextFault

@@ -1,9 +1,12 @@
-ghost use Rattle.std.specs.Prelude.{◌≡◌, ◌+◌, ◌^◌, ◌≤◌, ◌++◌, IfOk, OnOk};
+ghost use Rattle.std.specs.Prelude.{◌≡◌, ◌<◌, ◌++◌, IfOk, OnOk, map};
 ghost use Rattle.plan_file.specs.Held.{lids_of, nothing_held};
+ghost use Rattle.plan_file.specs.Printed.{blocks_of, held_plan, owned_lids, with_top};
 ghost use Rattle.plan_file.specs.Reading.{held_with};
 
 use crate::item::{HeldRange, Item};
+use crate::plan_tables::{blocks_of, owned_lids, with_top};
 use attr_codec::Lmc;
+use lft_blocks::Plan;
 use smp_bytes::{Guid, Lid};
 use std::alloc::{AllocError, Global};
 use std::marker::Model;
@@ -67,6 +70,31 @@ impl Held {
             switches: Vec::new(alloc),
             blocks: Vec::new(alloc),
         }
+    }
+
+    /// The tables of a plan, as reading its text gives them: the LIDs of its end ports, and its switches, each with the
+    /// greatest LID as its top. Takes a step for each LID and each block.
+    pub fn of_plan(alloc: Global, plan: &Plan) -> Result<Self, AllocError>
+        ensures { IfOk result (λ held. held ≡ held_plan plan.now) }
+    {
+        match plan.top() {
+            Some(top) => Held::under_top(alloc, plan, top),
+            None => Ok(Held::new(alloc)),
+        }
+    }
+
+    /// The same, where this is the greatest LID.
+    fn under_top(alloc: Global, plan: &Plan, top: Lid) -> Result<Self, AllocError>
+        ensures { IfOk result (λ held. held ≡ record {
+          lids = owned_lids plan.now.given;
+          switches = map (with_top top) plan.now.tables;
+          blocks = blocks_of 0 plan.now.tables;
+        }) }
+    {
+        let lids = owned_lids(alloc, plan.lids())?;
+        let switches = with_top(alloc, top, plan.tables())?;
+        let blocks = blocks_of(alloc, plan.tables())?;
+        Ok(Held::of(lids, switches, blocks))
     }
 
     /// These LIDs with their end ports, switches and blocks.
@@ -140,8 +168,12 @@ fn push_range(lids: &mut Vec<HeldLid>, range: HeldRange) -> Result<(), AllocErro
 }
 
 /// As many LIDs more as an LMC says, from this one on.
-fn push_lids(lids: &mut Vec<HeldLid>, first: &HeldLid, lmc: Lmc) -> Result<(), AllocError>
-    requires { first.now.lid + 2 ^ lmc ≤ 0xC000 }
+pub(crate) fn push_lids(
+    lids: &mut Vec<HeldLid>,
+    first: &HeldLid,
+    lmc: Lmc,
+) -> Result<(), AllocError>
+    requires { first.now.lid < 0xC000 }
     ensures { OnOk result (lids.new.items
         ≡ lids.old.items ++ lids_of (record { first = first.now; lmc = lmc })) }
 {
