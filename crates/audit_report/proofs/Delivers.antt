@@ -23,13 +23,13 @@ use Rattle.subnet_view.specs.Agreement.{Part, IsEndPortIn, IsPortNamed}
 use Rattle.subnet_view.proofs.EndPortList.{end_ports_law}
 use Rattle.subnet_view.proofs.WireLaws.{wire_law}
 use Rattle.plan_file.specs.Held.{HeldPlan}
-use Rattle.updown_routes.specs.Graph.{graph_of}
-use Rattle.updown_routes.specs.Ranks.{root_of}
-use Rattle.updown_routes.proofs.Components.{rooted, same_root}
-use Rattle.updown_routes.proofs.Graphs.{graph_law}
-use Rattle.updown_routes.proofs.Joined.{HasAttachment, LiesAt, Meets, apart, by_wire, itself, joined_meet, same, switch_in_graph, wired}
-use Rattle.updown_routes.proofs.PartWires.{IsTold, known_type, switch_at_index, switch_known, switch_port, switch_usable}
-use Rattle.updown_routes.proofs.Switches.{usable_switch}
+use Rattle.subnet_view.specs.Graph.{graph_of}
+use Rattle.subnet_view.specs.Components.{root_of}
+use Rattle.subnet_view.proofs.Components.{rooted, same_root}
+use Rattle.subnet_view.proofs.Graphs.{graph_law}
+use Rattle.subnet_view.proofs.Joined.{HasAttachment, LiesAt, Meets, apart, by_wire, itself, joined_meet, same, switch_in_graph, wired}
+use Rattle.subnet_view.proofs.PartWires.{IsTold, known_type, switch_at_index, switch_known, switch_port, switch_usable}
+use Rattle.subnet_view.proofs.GraphSwitches.{usable_switch}
 use Rattle.lft_blocks.specs.Entries.{attachment_of}
 use Rattle.audit.specs.declared.end.End.TheVariants.{Taken}
 use Rattle.audit.specs.Fabrics.{IsSeenIn}

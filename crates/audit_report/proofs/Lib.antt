@@ -1,7 +1,7 @@
+pub mod Audits
 pub mod Counted
 pub mod Delivers
 pub mod Disputes
-pub mod Faults
 pub mod Firsts
 pub mod Judged
 pub mod Missing

@@ -11,8 +11,8 @@ use Rattle.subnet_view.specs.Wires.{across}
 use Rattle.subnet_view.proofs.Members.{contains_none}
 use Rattle.subnet_view.proofs.WireEnds.{same_port}
 use Rattle.lid_assign.specs.Lids.{IsNoRoom, lids, top_of}
-use Rattle.updown_routes.specs.Graph.{graph_of}
-use Rattle.updown_routes.specs.Ranks.{root_of}
+use Rattle.subnet_view.specs.Graph.{graph_of}
+use Rattle.subnet_view.specs.Components.{root_of}
 use Rattle.lft_blocks.specs.Rules.{RuleValue}
 use Rattle.lft_blocks.specs.Entries.{attachment_of}
 use Rattle.lft_blocks.specs.Plan.{plan_of}

@@ -15,13 +15,12 @@ use Rattle.subnet_view.specs.Wires.{across}
 use Rattle.subnet_view.specs.declared.end_port.EndPort.{EndPort}
 use Rattle.port_graph.specs.declared.edge.Edge.{Edge}
 use Rattle.lid_assign.specs.Lids.{IsNoRoom, greatest, lids, owner_of, top_of}
-use Rattle.updown_routes.specs.Channels.{numbers_along}
-use Rattle.updown_routes.specs.SwitchEdges.{SwitchEdges}
-use Rattle.updown_routes.specs.Graph.{graph_of}
-use Rattle.updown_routes.specs.GraphLaws.{IsSwitch}
-use Rattle.updown_routes.specs.Routing.{Routing, Leads, Passes, FollowsRule}
-use Rattle.updown_routes.proofs.Graphs.{edge_is_wire}
-use Rattle.updown_routes.proofs.Switches.{graph_guids}
+use Rattle.subnet_view.specs.Routing.{numbers_along, Routing, Leads, Passes, FollowsRule}
+use Rattle.subnet_view.specs.SwitchEdges.{SwitchEdges}
+use Rattle.subnet_view.specs.Graph.{graph_of}
+use Rattle.subnet_view.specs.GraphLaws.{IsSwitch}
+use Rattle.subnet_view.proofs.Graphs.{edge_is_wire}
+use Rattle.subnet_view.proofs.GraphSwitches.{graph_guids}
 use Rattle.lft_blocks.specs.Entries.{attachment_of, port_to}
 use Rattle.lft_blocks.proofs.AttachmentSwitches.{attachment_is_switch}
 use Rattle.lft_blocks.specs.Rules.{RuleValue, routing_by}

@@ -5,8 +5,8 @@ use Rattle.std.specs.Option.{option_map_or}
 use Rattle.subnet_view.specs.declared.end_port.EndPort.{EndPort}
 use Rattle.subnet_view.specs.Reading.{Cells}
 use Rattle.subnet_view.specs.Wires.{across, is_at}
-use Rattle.updown_routes.specs.Graph.{graph_of}
-use Rattle.updown_routes.specs.Ranks.{root_of}
+use Rattle.subnet_view.specs.Graph.{graph_of}
+use Rattle.subnet_view.specs.Components.{root_of}
 use Rattle.lft_blocks.specs.Entries.{attachment_of}
 use Rattle.audit.specs.Tables.{is_same_end}
 use Rattle.audit_channels.specs.Ways.{is_adapter}

@@ -453,7 +453,11 @@ fn write_hundredths<W: Sink>(sink: &mut W, number: u64) -> Result<(), WriteFault
 }
 
 /// Writes the line of a cycle, each channel as the switch and the port by which packets take it.
-fn write_cycle<W: Sink>(sink: &mut W, network: &Network, cycle: &[usize]) -> Result<(), WriteFault>
+pub fn write_cycle<W: Sink>(
+    sink: &mut W,
+    network: &Network,
+    cycle: &[usize],
+) -> Result<(), WriteFault>
     ensures { WritesPart W.written W.has_failed result sink.old sink.new
         (cycle_line (cells_of network.now.facts) cycle.now) }
 {

@@ -10,7 +10,6 @@ mod first_few;
 pub mod laws;
 mod packet_tally;
 mod pairs;
-mod read_tables;
 mod report;
 mod sent_packet;
 mod site;
@@ -18,5 +17,5 @@ mod survey;
 mod unmatched;
 
 pub use audit_run::run_audit;
-pub use audit_text::write_audit;
+pub use audit_text::{write_audit, write_cycle};
 pub use report::Audit;

@@ -2,8 +2,8 @@
 ghost use Rattle.std.specs.Prelude.{◌≡◌, Contains, IfOk, count_by, find, map};
 ghost use Rattle.fact_store.specs.View.{cells_of};
 ghost use Rattle.subnet_view.specs.EndPorts.{end_ports};
-ghost use Rattle.updown_routes.specs.Graph.{graph_of, guids_of};
-ghost use Rattle.updown_routes.specs.Ranks.{root_of};
+ghost use Rattle.subnet_view.specs.Graph.{graph_of, guids_of};
+ghost use Rattle.subnet_view.specs.Components.{root_of};
 ghost use Rattle.audit.specs.Tables.{is_same_end};
 ghost use Rattle.audit_channels.specs.Ways.{is_adapter};
 ghost use Rattle.audit_report.specs.Sites.{IsCensus, are_adapters, are_joined, are_joined_adapters};
@@ -13,8 +13,7 @@ use audit_channels::is_adapter;
 use fact_store::{Refused, Store};
 use smp_bytes::{Guid, PortNum};
 use std::alloc::{AllocError, Global};
-use subnet_view::{EndPort, Wires, end_ports, is_usable};
-use updown_routes::Graph;
+use subnet_view::{EndPort, SwitchGraph, Wires, end_ports, is_usable};
 
 /// Where an end port lies.
 #[derive(Clone, Copy, Debug, PartialEq, Eq)]
@@ -158,7 +157,7 @@ pub(crate) fn sites(alloc: Global, store: &Store) -> Result<Vec<Site>, Refused>
         ≡ map (site_of (cells_of store.now)) (end_ports (cells_of store.now))) }
 {
     let wires = Wires::of(alloc, store)?;
-    let graph = Graph::of(alloc, &wires)?;
+    let graph = SwitchGraph::of(alloc, &wires)?;
     let roots = graph.roots(alloc)?;
     let ports = end_ports(alloc, store)?;
     Ok(sites_of(alloc, &wires, &graph, &roots, &ports)?)
@@ -168,7 +167,7 @@ pub(crate) fn sites(alloc: Global, store: &Store) -> Result<Vec<Site>, Refused>
 fn sites_of(
     alloc: Global,
     wires: &Wires,
-    graph: &Graph,
+    graph: &SwitchGraph,
     roots: &[Option<Guid>],
     ports: &[EndPort],
 ) -> Result<Vec<Site>, AllocError>
@@ -184,7 +183,7 @@ fn sites_of(
 }
 
 /// Where an end port lies.
-fn site_of(wires: &Wires, graph: &Graph, roots: &[Option<Guid>], port: &EndPort) -> Site
+fn site_of(wires: &Wires, graph: &SwitchGraph, roots: &[Option<Guid>], port: &EndPort) -> Site
     requires graph { graph.now ≡ graph_of (cells_of wires.now) }
     requires roots { roots.now ≡ map (root_of graph.now) (guids_of graph.now) }
     ensures { result ≡ site_of (cells_of wires.now) port.now }
@@ -199,7 +198,12 @@ fn site_of(wires: &Wires, graph: &Graph, roots: &[Option<Guid>], port: &EndPort)
 }
 
 /// The root of an end port's component.
-fn root_at(wires: &Wires, graph: &Graph, roots: &[Option<Guid>], port: &EndPort) -> Option<Guid>
+fn root_at(
+    wires: &Wires,
+    graph: &SwitchGraph,
+    roots: &[Option<Guid>],
+    port: &EndPort,
+) -> Option<Guid>
     requires graph { graph.now ≡ graph_of (cells_of wires.now) }
     requires roots { roots.now ≡ map (root_of graph.now) (guids_of graph.now) }
     ensures { result ≡ root_at (cells_of wires.now) port.now }

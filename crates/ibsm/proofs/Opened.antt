@@ -90,34 +90,3 @@ all_opened answers names files h = record { one_each = h.held.one_each; opened =
 pub pushed : {X E : Type 0} (r : Result (Unit {0}) E) (xs ys : List X) (x : X) → ys ≡ (if is_ok r then xs ++ x ∷ [] else xs) → is_err r ≡ false → ys ≡ xs ++ x ∷ []
 pushed (Ok u) xs ys x e h = e
 pushed (Err fault) xs ys x e h = absurd (cc)
-
--- two files as the parts of their list
-two_are : {S : Type 0} (front back : List S) (one other : S) → length front ≡ 1 → length (front ++ back) ≡ 2
-    → front ++ back ≡ get_or front 0 one ∷ get_or back 0 other ∷ []
-two_are [] back one other f n = absurd (omega arith)
-two_are (x ∷ []) [] one other f n = absurd (omega arith)
-two_are (x ∷ []) (y ∷ []) one other f n = refl
-two_are (x ∷ []) (y ∷ z ∷ zs) one other f n = absurd (omega arith)
-two_are (x ∷ y ∷ xs) back one other f n = absurd (omega arith)
-
-pub two_opened : {S : Type 0} (answers : List ℕ → Result S OpenFault → Type 0) (names : List (Bor (List ℕ))) (files front back : List S) (one other : S)
-    → AreOpened answers names files → length names ≡ 2 → files ≡ front ++ back → length front ≡ 1
-    → AreOpened answers names (get_or front 0 one ∷ get_or back 0 other ∷ [])
-two_opened {S} answers names files front back one other opened two parts f =
-    let Opened : List S → Type 0 = AreOpened answers names in
-    subst Opened (parts ∙ two_are front back one other f (ap length (sym parts) ∙ opened.one_each ∙ two)) opened
-
--- the one file that was opened by a name
-pub one_opened : {S : Type 0} (answers : List ℕ → Result S OpenFault → Type 0) (name : Bor (List ℕ)) (files : List S)
-    → AreOpened answers (name ∷ []) files → (file : S) × answers name.now (Ok file)
-one_opened answers name [] opened = let none = opened.one_each in absurd (omega arith)
-one_opened answers name (file ∷ files) opened = (file, opened.opened 0 name file refl refl)
-
--- and it as the first of its list
-pub one_at : {S : Type 0} (answers : List ℕ → Result S OpenFault → Type 0) (name : Bor (List ℕ)) (files : List S) (x : S)
-    → AreOpened answers (name ∷ []) files → x ≡ get_or files 0 x → AreOpened answers (name ∷ []) (x ∷ [])
-one_at answers name [] x opened e = let none = opened.one_each in absurd (omega arith)
-one_at {S} answers name (file ∷ []) x opened e =
-    let Opened : S → Type 0 = λ f. AreOpened answers (name ∷ []) (f ∷ []) in
-    subst Opened (sym e) opened
-one_at answers name (file ∷ other ∷ files) x opened e = let two = opened.one_each in absurd (omega arith)

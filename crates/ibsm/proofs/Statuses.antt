@@ -1,4 +1,4 @@
--- No fault ends the program as an audit that does not pass.
+-- No fault ends the program as an audit that does not pass, or as words that ask for nothing.
 use Rattle.std.proofs.Common.{◌≡◌, ◌∙◌, ◌⊎◌, Bool, true, false, cond, sym, inl, inr, List, ℕ, Option}
 use Rattle.std.specs.Borrow.{Bor}
 use Rattle.record_file.specs.declared.file_fault.FileFault.{FileFault}
@@ -8,46 +8,49 @@ use Rattle.sm_cli.specs.TextFault.{is_of_text}
 use Rattle.sm_cli.specs.declared.fault.Fault.{Fault}
 use Rattle.sm_cli.specs.declared.fault.Fault.TheVariants.{Open, File, Text, NoRoom, Write, Memory}
 use Rattle.sm_cli.specs.declared.exit_status.ExitStatus.{ExitStatus}
-use Rattle.sm_cli.specs.declared.exit_status.ExitStatus.TheVariants.{Done, Failed, Refused, Memory as NoMemory}
-use Rattle.sm_cli.specs.declared.whose_fault.WhoseFault.{WhoseFault}
-use Rattle.sm_cli.specs.declared.whose_fault.WhoseFault.TheVariants as whose
+use Rattle.sm_cli.specs.declared.exit_status.ExitStatus.TheVariants.{Done, Failed, Usage, Refused, InputOutput, Memory as NoMemory}
+use Rattle.std.specs.Prelude.{◌≢◌}
 use Rattle.ibsm.specs.Ending.{SaysWhy}
-use Rattle.ibsm.specs.Whose.{SaysWhose, status_of_whose}
 
-of_file : (fault : FileFault) → file_status fault ≡ Failed → ⊥
-of_file Magic e = cc
-of_file (Truncated offset) e = cc
-of_file (BadReport index fault) e = cc
-of_file (BadCell index) e = cc
-of_file (CellOrder index) e = cc
-of_file Read e = cc
-of_file NoMemoryForFile e = cc
-of_file TooLong e = cc
-of_file BadFloor e = cc
+-- a status that is none of the three that faults end with
+abbrev IsOther : ExitStatus → Type 0
+IsOther status = (Refused ≢ status) × (InputOutput ≢ status) × (NoMemory ≢ status)
 
-of_text : (b : Bool) → cond b Refused NoMemory ≡ Failed → ⊥
-of_text true e = cc
-of_text false e = cc
+of_file : (other : ExitStatus) → IsOther other → (fault : FileFault) → file_status fault ≢ other
+of_file other is Magic = is.0
+of_file other is (Truncated offset) = is.0
+of_file other is (BadReport index fault) = is.0
+of_file other is (BadCell index) = is.0
+of_file other is (CellOrder index) = is.0
+of_file other is Read = is.1
+of_file other is NoMemoryForFile = is.2
+of_file other is TooLong = is.0
+of_file other is BadFloor = is.0
 
-pub never_failed : (fault : Fault) → status_of fault ≡ Failed → ⊥
-never_failed (Open input) e = cc
-never_failed (File input fault) e = of_file fault e
-never_failed (Text input fault) e = of_text (is_of_text fault) e
-never_failed (NoRoom why) e = cc
-never_failed Write e = cc
-never_failed Memory e = cc
+of_text : (other : ExitStatus) → IsOther other → (b : Bool) → cond b Refused NoMemory ≢ other
+of_text other is true = is.0
+of_text other is false = is.2
 
-pub not_failed : (names : List (Bor (List ℕ))) (IsFault : Fault → Type 0) (status : ExitStatus) (errors errors' : Option (List ℕ)) (errors_failed : Bool)
-    → (status ≡ Done) ⊎ SaysWhy names IsFault status errors errors' errors_failed → status ≡ Failed → ⊥
-not_failed names IsFault status errors errors' errors_failed (inl done) e = cc
-not_failed names IsFault status errors errors' errors_failed (inr says) e = never_failed says.fault (sym says.ends ∙ e)
+of_fault : (other : ExitStatus) → IsOther other → (fault : Fault) → status_of fault ≢ other
+of_fault other is (Open input) = is.1
+of_fault other is (File input fault) = of_file other is fault
+of_fault other is (Text input fault) = of_text other is (is_of_text fault)
+of_fault other is (NoRoom why) = is.0
+of_fault other is Write = is.1
+of_fault other is Memory = is.2
 
-pub whose_never_failed : (fault : WhoseFault) → status_of_whose fault ≡ Failed → ⊥
-whose_never_failed (whose.Text fault) e = never_failed fault e
-whose_never_failed (whose.Files fault) e = never_failed fault e
+pub never_failed : (fault : Fault) → status_of fault ≢ Failed
+never_failed fault = of_fault Failed (λ e. cc, λ e. cc, λ e. cc) fault
 
-pub whose_not_failed : (text : Bor (List ℕ)) (names : List (Bor (List ℕ))) (IsFault : WhoseFault → Type 0) (status : ExitStatus)
-    (errors errors' : Option (List ℕ)) (errors_failed : Bool)
-    → (status ≡ Done) ⊎ SaysWhose text names IsFault status errors errors' errors_failed → status ≡ Failed → ⊥
-whose_not_failed text names IsFault status errors errors' errors_failed (inl done) e = cc
-whose_not_failed text names IsFault status errors errors' errors_failed (inr says) e = whose_never_failed says.fault (sym says.ends ∙ e)
+pub never_usage : (fault : Fault) → status_of fault ≢ Usage
+never_usage fault = of_fault Usage (λ e. cc, λ e. cc, λ e. cc) fault
+
+pub never_done : (fault : Fault) → status_of fault ≢ Done
+never_done fault = of_fault Done (λ e. cc, λ e. cc, λ e. cc) fault
+
+-- so a task that was begun does not end as words that ask for nothing
+pub not_usage : (names : List (Bor (List ℕ))) (IsFault : Fault → Type 0) (status : ExitStatus) (errors errors' : Option (List ℕ)) (errors_failed : Bool)
+    → (status ≡ Done) ⊎ ((status ≡ Failed) ⊎ SaysWhy names IsFault status errors errors' errors_failed) → status ≡ Usage → ⊥
+not_usage names IsFault status errors errors' errors_failed (inl done) e = cc
+not_usage names IsFault status errors errors' errors_failed (inr (inl failed)) e = cc
+not_usage names IsFault status errors errors' errors_failed (inr (inr says)) e = never_usage says.fault (sym says.ends ∙ e)

@@ -1,15 +1,17 @@
 -- What the words of the command line name.
 use Rattle.std.proofs.Common.{◌≡◌, ◌⊎◌, inl, inr, IsSome, ℕ, Bool, List, [], ◌∷◌, true, false, IsTrue, ◌↔◌, Option, None, Some, refl, subst, sym, ap, ◌∙◌}
-use Rattle.std.specs.Prelude.{codes, find, is_some, map, option_map, option_and_then, slice_get, if◌then◌else◌}
-use Rattle.std.proofs.lemmas.Option.{slice_get-map}
+use Rattle.std.specs.Prelude.{IfSome, codes, find, is_some, map, option_map, option_and_then, slice_get, if◌then◌else◌}
+use Rattle.std.proofs.lemmas.Option.{same_Some, slice_get-map}
 use Rattle.std.specs.Str.{bytes_eq}
 use Rattle.clap.specs.Facts.{Entry}
-use Rattle.clap.specs.Matches.{first_value, matched_of, raw_values}
+use Rattle.clap.specs.Matches.{first_value, matched_of, raw_values, subcommand_name_of}
+use Rattle.clap.specs.Simple.{subcommand_rows_of}
 use Rattle.clap.specs.Walk.{Row, row_of, rows_of, Text}
+use Rattle.clap.specs.declared.parser.matches.ArgMatches.{ArgMatches}
 use Rattle.clap.specs.declared.parser.matches.Found.{Found}
 use Rattle.clap.specs.declared.parser.matches.MatchedArg.{MatchedArg}
-use Rattle.ibsm.specs.Asked.{RootsLackSpread, values_in}
-use Rattle.ibsm.specs.Unasked.{IsNoLmc, IsNoRule, LacksPlan, LacksRooted}
+use Rattle.ibsm.specs.Asked.{Asks, AsksTask, RootsLackSpread, files_named, names_asked, names_in, values_in, word_named}
+use Rattle.ibsm.specs.declared.task.Task.{Task}
 
 found_values : (name : List ℕ) (es : List Entry)
     → option_map raw_values (option_map (λ e. e.1) (find (λ e. bytes_eq e.0.now name) es)) ≡ values_in name (map row_of es)
@@ -44,21 +46,37 @@ first_is (Some p) found name e =
     ∙ sym (ap (option_and_then (λ vs. slice_get vs 0)) (found_values name found.entries.items))
     ∙ sym (first_of (matched_of found name))
 
--- that it is
-pub first_named : (o : Option (Text × List Row)) (found : Found) (name value : List ℕ) → Some (rows_of found) ≡ option_map (λ p. p.1) o
-    → Some value ≡ first_value found name
-    → option_and_then (λ s. option_and_then (λ vs. slice_get vs 0) (values_in name s.1)) o ≡ Some value
-first_named o found name value e f = first_is o found name e ∙ sym f
+-- so the words of all arguments are those that a subcommand's matches hold
+pub words_are : (matches : ArgMatches) (found : Found) → Some (rows_of found) ≡ option_map (λ p. p.1) (subcommand_rows_of matches)
+    → word_named matches ≡ first_value found
+words_are matches found e = λ i name. first_is (subcommand_rows_of matches) found name e i
 
-no_value : (o : Option (List ℕ)) → is_some o ≡ false → o ≡ None
-no_value None e = refl
-no_value (Some value) e = absurd (cc)
+-- and so are the names of inputs
+pub names_are : (matches : ArgMatches) (found : Found) (task : Task) → Some (rows_of found) ≡ option_map (λ p. p.1) (subcommand_rows_of matches)
+    → names_in (first_value found) (option_map raw_values (matched_of found (codes "FILE"))) task ≡ names_asked matches task
+names_are matches found task e =
+    let files : files_named matches ≡ option_map raw_values (matched_of found (codes "FILE")) =
+    values_are (subcommand_rows_of matches) found (codes "FILE") _ e refl in
+    ap (λ word. names_in word (option_map raw_values (matched_of found (codes "FILE"))) task) (sym (words_are matches found e))
+    ∙ ap (λ names. names_in (word_named matches) names task) (sym files)
 
--- and that there is none
-pub none_named : (o : Option (Text × List Row)) (found : Found) (name : List ℕ) → Some (rows_of found) ≡ option_map (λ p. p.1) o
-    → is_some (first_value found name) ≡ false
-    → option_and_then (λ s. option_and_then (λ vs. slice_get vs 0) (values_in name s.1)) o ≡ None
-none_named o found name e f = first_is o found name e ∙ no_value (first_value found name) f
+-- and what they ask for
+pub asks_are : (matches : ArgMatches) (found : Found) (command : List ℕ) (asked : Option Task) → Some command ≡ subcommand_name_of matches
+    → Some (rows_of found) ≡ option_map (λ p. p.1) (subcommand_rows_of matches) → IfSome asked (AsksTask (first_value found) command)
+    → IfSome asked (Asks matches)
+asks_are matches found command None name e asks = tt
+asks_are matches found command (Some task) name e asks = record {
+  command = command;
+  named = sym name;
+  asked = subst (λ (word : List ℕ → Option (List ℕ)). AsksTask word command task) (sym (words_are matches found e)) asks;
+}
+
+pub asks_behind : (matches : ArgMatches) (found : Found) (command : List ℕ) (task : Task) → Some command ≡ subcommand_name_of matches
+    → Some (rows_of found) ≡ option_map (λ p. p.1) (subcommand_rows_of matches) → Asks matches task → AsksTask (first_value found) command task
+asks_behind matches found command task name e asks =
+    let same : asks.command ≡ command = same_Some _ _ (sym asks.named ∙ sym name) in
+    subst (λ (word : List ℕ → Option (List ℕ)). AsksTask word command task) (words_are matches found e)
+    (subst (λ (c : List ℕ). AsksTask (word_named matches) c task) same asks.asked)
 
 -- roots that lack their rule there lack it among the words that are named
 pub lack_named : (o : Option (Text × List Row)) (found : Found) (b : Bool) → Some (rows_of found) ≡ option_map (λ p. p.1) o
@@ -77,36 +95,3 @@ pub none_lack : (o : Option (Text × List Row)) → None ≡ option_map (λ p. p
     (option_and_then (λ s. option_and_then (λ vs. slice_get vs 0) (values_in (codes "routing") s.1)) o)
 none_lack None e = (λ t. absurd (cc), λ h. let is = h.0 in absurd (cc))
 none_lack (Some p) e = absurd (cc)
-
--- what is lacking there is so of the words that are named ---------------------------------------------
-
--- one word
-pub word_lacks : (Lacks : Option (List ℕ) → Type 0) (o : Option (Text × List Row)) (found : Found) (name : List ℕ) → Some (rows_of found) ≡ option_map (λ p. p.1) o
-    → Lacks (first_value found name) → Lacks (option_and_then (λ s. option_and_then (λ vs. slice_get vs 0) (values_in name s.1)) o)
-word_lacks Lacks o found name e lacks = subst Lacks (sym (first_is o found name e)) lacks
-
--- roots, or the rule that takes them
-pub rooted_lacks : (o : Option (Text × List Row)) (found : Found) → Some (rows_of found) ≡ option_map (λ p. p.1) o
-    → LacksRooted (first_value found (codes "routing")) (first_value found (codes "roots"))
-    → LacksRooted (option_and_then (λ s. option_and_then (λ vs. slice_get vs 0) (values_in (codes "routing") s.1)) o)
-    (option_and_then (λ s. option_and_then (λ vs. slice_get vs 0) (values_in (codes "roots") s.1)) o)
-rooted_lacks o found e (inl none) = inl (first_is o found (codes "roots") e ∙ none)
-rooted_lacks o found e (inr other) = inr (λ is. other (sym (first_is o found (codes "routing") e) ∙ is))
-
--- a text of a run
-pub text_lacks : (o : Option (Text × List Row)) (found : Found) → Some (rows_of found) ≡ option_map (λ p. p.1) o
-    → (first_value found (codes "TOPOLOGY") ≡ None) ⊎ (first_value found (codes "SCHEDULE") ≡ None)
-    → (option_and_then (λ s. option_and_then (λ vs. slice_get vs 0) (values_in (codes "TOPOLOGY") s.1)) o ≡ None)
-    ⊎ (option_and_then (λ s. option_and_then (λ vs. slice_get vs 0) (values_in (codes "SCHEDULE") s.1)) o ≡ None)
-text_lacks o found e (inl none) = inl (first_is o found (codes "TOPOLOGY") e ∙ none)
-text_lacks o found e (inr none) = inr (first_is o found (codes "SCHEDULE") e ∙ none)
-
--- what a plan needs
-pub plan_lacks : (o : Option (Text × List Row)) (found : Found) → Some (rows_of found) ≡ option_map (λ p. p.1) o
-    → LacksPlan (first_value found (codes "lmc")) (first_value found (codes "routing")) (first_value found (codes "roots"))
-    → LacksPlan (option_and_then (λ s. option_and_then (λ vs. slice_get vs 0) (values_in (codes "lmc") s.1)) o)
-    (option_and_then (λ s. option_and_then (λ vs. slice_get vs 0) (values_in (codes "routing") s.1)) o)
-    (option_and_then (λ s. option_and_then (λ vs. slice_get vs 0) (values_in (codes "roots") s.1)) o)
-plan_lacks o found e (inl lmc) = inl (word_lacks IsNoLmc o found (codes "lmc") e lmc)
-plan_lacks o found e (inr (inl rule)) = inr (inl (word_lacks IsNoRule o found (codes "routing") e rule))
-plan_lacks o found e (inr (inr roots)) = inr (inr (word_lacks IsSome o found (codes "roots") e roots))

@@ -1,32 +1,21 @@
--- What the command line asks for.
-use Rattle.std.specs.Prelude.{◌≡◌, ◌≢◌, Bool, List, [], ◌∷◌, ℕ, Option, None, Some, IsSome, Result, codes, find, map, option_map, option_and_then, slice_get}
-use Rattle.std.specs.Borrow.{Bor}
+-- What the words of the command line ask for: a task, and the names of its inputs.
+use Rattle.std.specs.Prelude.{◌≡◌, ◌≢◌, ◌≤◌, Bool, true, false, List, [], ◌∷◌, ◌++◌, ℕ, Option, None, Some, IsSome, codes, find, option_map, option_and_then, slice_get, if◌then◌else◌}
 use Rattle.std.specs.Str.{bytes_eq}
-use Rattle.std.specs.Str.Parse.{digits_value, without_leading_plus}
+use Rattle.std.specs.Str.Parse.{IsNumeral, digits_value, without_leading_plus}
 use Rattle.clap.specs.Matches.{subcommand_name_of}
 use Rattle.clap.specs.Simple.{subcommand_rows_of}
 use Rattle.clap.specs.Walk.{Row}
 use Rattle.clap.specs.declared.parser.matches.ArgMatches.{ArgMatches}
-use Rattle.sm_cli.specs.declared.run.Invocation.{Invocation}
-use Rattle.sm_cli.specs.declared.run.Output.{Output}
-use Rattle.sm_cli.specs.declared.run.Output.TheVariants.{Facts, Join, Plan}
-use Rattle.sm_cli.specs.declared.rooted.RootedPlan.{RootedPlan}
-use Rattle.sm_cli.specs.declared.run.RuleKind.{RuleKind}
-use Rattle.sm_cli.specs.declared.run.RuleKind.TheVariants.{UpDown, Spread}
-use Rattle.sm_cli.specs.Kinds.{value_of_kind}
-use Rattle.lft_blocks.specs.Rules.{RuleValue}
-use Rattle.lft_blocks.specs.Planning.{Planning}
-use Rattle.ibsm.specs.declared.opener.OpenFault.{OpenFault}
-use Rattle.ibsm.specs.Audits.{AuditsFiles}
-use Rattle.ibsm.specs.Ending.{AnswersFiles, RunsFiles}
-use Rattle.ibsm.specs.Plans.{PlansFiles}
-use Rattle.ibsm.specs.RootedRuns.{RunsRootedFiles}
+use Rattle.sm_cli.specs.Asked.{rule_for}
+use Rattle.sm_cli.specs.declared.asked.Output.{Output}
+use Rattle.sm_cli.specs.declared.asked.Output.TheVariants.{Facts, Join, Plan}
+use Rattle.sm_cli.specs.declared.asked.RuleAsked.{RuleAsked}
+use Rattle.sm_cli.specs.declared.asked.RuleAsked.TheVariants.{UpDown, Spread, SpreadFromRoots}
+use Rattle.next_run.specs.declared.run_step.StepAsked.{StepAsked}
+use Rattle.ibsm.specs.declared.task.Task.{Task}
+use Rattle.ibsm.specs.declared.task.Task.TheVariants.{Answer, Audit, Next, Run}
 
--- the subcommand that asks for an output
-abbrev pub word_of : Output → List ℕ
-word_of Facts = codes "facts"
-word_of Join = codes "join"
-word_of (Plan lmc kind) = codes "plan"
+-- words -----------------------------------------------------------------------------------------
 
 -- the values of the argument with this name
 abbrev pub values_in : List ℕ → List Row → Option (List (List ℕ))
@@ -37,121 +26,117 @@ abbrev pub files_named : ArgMatches → Option (List (List ℕ))
 files_named matches = option_and_then (λ s. values_in (codes "FILE") s.1) (subcommand_rows_of matches)
 
 -- the word that is the argument with this name behind the subcommand
-abbrev pub word_named : List ℕ → ArgMatches → Option (List ℕ)
-word_named name matches = option_and_then (λ s. option_and_then (λ values. slice_get values 0) (values_in name s.1)) (subcommand_rows_of matches)
+abbrev pub word_named : ArgMatches → List ℕ → Option (List ℕ)
+word_named matches name = option_and_then (λ s. option_and_then (λ values. slice_get values 0) (values_in name s.1)) (subcommand_rows_of matches)
 
--- the floor is the number that the word writes in decimal; without a word it is 1
+-- tasks -----------------------------------------------------------------------------------------
+
+-- the word writes this number in decimal, from a least to a greatest
+pub record Writes (least most : ℕ) (word : List ℕ) (number : ℕ) : Type 0 where
+  pub numeral : IsNumeral 10 (without_leading_plus word)
+  pub is : number ≡ digits_value 10 (without_leading_plus word)
+  pub not_less : least ≤ number
+  pub not_more : number ≤ most
+
+-- the floor is the number of the word; without a word it is 1
 abbrev pub IsFloor : Option (List ℕ) → ℕ → Type 0
 IsFloor None floor = floor ≡ 1
-IsFloor (Some word) floor = floor ≡ digits_value 10 (without_leading_plus word)
+IsFloor (Some word) floor = Writes 1 4294967295 word floor
 
--- the LMC is the number that the word writes in decimal; without a word it is 0
+-- the LMC is the number of the word; without a word it is 0
 abbrev pub IsLmc : Option (List ℕ) → ℕ → Type 0
 IsLmc None lmc = lmc ≡ 0
-IsLmc (Some word) lmc = lmc ≡ digits_value 10 (without_leading_plus word)
+IsLmc (Some word) lmc = Writes 0 7 word lmc
 
--- so is that of a plan
-abbrev pub HasLmc : Option (List ℕ) → Output → Type 0
-HasLmc word Facts = Unit {0}
-HasLmc word Join = Unit {0}
-HasLmc word (Plan lmc kind) = IsLmc word lmc
+-- the word names the rule that goes up and down, as none does
+abbrev pub IsUpDown : Option (List ℕ) → Type 0
+IsUpDown None = Unit {0}
+IsUpDown (Some word) = word ≡ codes "updown"
 
--- the word that names a rule of routing
-abbrev pub rule_word : RuleKind → List ℕ
-rule_word UpDown = codes "updown"
-rule_word Spread = codes "spread"
-
--- the rule is the one that the word names; without a word it is up and down
-abbrev pub IsRule : Option (List ℕ) → RuleKind → Type 0
-IsRule None kind = kind ≡ UpDown
-IsRule (Some word) kind = word ≡ rule_word kind
-
--- so is this rule, which has no roots
-pub record AsksRule (word : Option (List ℕ)) (rule : RuleValue) : Type 0 where
-  pub kind : RuleKind
-  pub named : IsRule word kind
-  pub is : rule ≡ value_of_kind kind
-
--- a plan goes by that rule
-abbrev pub HasRule : Option (List ℕ) → Output → Type 0
-HasRule word Facts = Unit {0}
-HasRule word Join = Unit {0}
-HasRule word (Plan lmc kind) = IsRule word kind
-
--- and from no roots
-abbrev pub HasNoRoots : Option (List ℕ) → Output → Type 0
-HasNoRoots word Facts = Unit {0}
-HasNoRoots word Join = Unit {0}
-HasNoRoots word (Plan lmc kind) = word ≡ None
+-- the rule is the one that a word names, with the roots of a text where that is named, which the rule that spreads alone takes
+abbrev pub IsRule : Option (List ℕ) → Option (List ℕ) → RuleAsked → Type 0
+IsRule routing roots UpDown = IsUpDown routing × (roots ≡ None)
+IsRule routing roots Spread = (routing ≡ Some (codes "spread")) × (roots ≡ None)
+IsRule routing roots SpreadFromRoots = (routing ≡ Some (codes "spread")) × IsSome roots
 
 -- roots are named, and another rule than the one that takes them, or none
 abbrev pub RootsLackSpread : Option (List ℕ) → Option (List ℕ) → Type 0
-RootsLackSpread roots rule = IsSome roots × (rule ≢ Some (codes "spread"))
+RootsLackSpread roots routing = IsSome roots × (routing ≢ Some (codes "spread"))
 
--- the words ask for a command, and the files that they name were read and answered
-pub record AnswersWords {S : Type 0} (answers : List ℕ → Result S OpenFault → Type 0) (left : S → Option (List ℕ)) (has_failed : S → Bool)
-    (matches : ArgMatches) (written written' : Option (List ℕ)) : Type 0 where
-  pub command : Invocation
-  pub asked : subcommand_name_of matches ≡ Some (word_of command.output)
-  pub floor : IsFloor (word_named (codes "floor") matches) command.floor
-  pub lmc : HasLmc (word_named (codes "lmc") matches) command.output
-  pub rule : HasRule (word_named (codes "routing") matches) command.output
-  pub no_roots : HasNoRoots (word_named (codes "roots") matches) command.output
-  pub names : List (Bor (List ℕ))
-  pub named : files_named matches ≡ Some (map (λ name. name.now) names)
-  pub answered : AnswersFiles answers left has_failed command names written written'
+-- plans have this LMC, and go by this rule, as the words of their arguments say
+pub record PlansBy (word : List ℕ → Option (List ℕ)) (lmc : ℕ) (rule : RuleAsked) : Type 0 where
+  pub lmc_named : IsLmc (word (codes "lmc")) lmc
+  pub rule_named : IsRule (word (codes "routing")) (word (codes "roots")) rule
 
--- the words ask for a run of a schedule, and those that they name were run; this holds of what the run prints
-pub record RunsWords {S : Type 0} (answers : List ℕ → Result S OpenFault → Type 0) (left : S → Option (List ℕ)) (has_failed : S → Bool)
-    (matches : ArgMatches) (prints : List ℕ → Type 0) : Type 0 where
-  pub asked : subcommand_name_of matches ≡ Some (codes "run")
-  pub topology : Bor (List ℕ)
-  pub schedule : Bor (List ℕ)
-  pub topology_named : word_named (codes "TOPOLOGY") matches ≡ Some topology.now
-  pub schedule_named : word_named (codes "SCHEDULE") matches ≡ Some schedule.now
-  pub planning : Planning
-  pub lmc_asked : IsLmc (word_named (codes "lmc") matches) planning.lmc
-  pub rule_asked : AsksRule (word_named (codes "routing") matches) planning.rule
-  pub no_roots : word_named (codes "roots") matches ≡ None
-  pub run : RunsFiles answers left has_failed (topology ∷ schedule ∷ []) planning prints
+-- a command asks for an output, by the words of its arguments
+abbrev pub AsksOutput : (List ℕ → Option (List ℕ)) → List ℕ → Output → Type 0
+AsksOutput word command Facts = command ≡ codes "facts"
+AsksOutput word command Join = command ≡ codes "join"
+AsksOutput word command (Plan lmc rule) = (command ≡ codes "plan") × PlansBy word lmc rule
 
--- the words ask for an audit, and the tables and the files that they name were read, and how packets fare was written
-pub record AuditsWords {S : Type 0} (answers : List ℕ → Result S OpenFault → Type 0) (left : S → Option (List ℕ)) (has_failed : S → Bool)
-    (matches : ArgMatches) (written written' : Option (List ℕ)) (passed : Bool) : Type 0 where
-  pub asked : subcommand_name_of matches ≡ Some (codes "audit")
-  pub floor : ℕ
-  pub floor_asked : IsFloor (word_named (codes "floor") matches) floor
-  pub tables : Bor (List ℕ)
-  pub tables_named : word_named (codes "TABLES") matches ≡ Some tables.now
-  pub names : List (Bor (List ℕ))
-  pub named : files_named matches ≡ Some (map (λ name. name.now) names)
-  pub audited : AuditsFiles answers left has_failed floor tables names written written' passed
+-- words ask for a step
+pub record AsksStep (word : List ℕ → Option (List ℕ)) (step : StepAsked) : Type 0 where
+  pub plan : PlansBy word step.lmc step.rule
+  pub floor : IsFloor (word (codes "floor")) step.floor
 
--- the words ask for a plan from roots by the rule that spreads, and the roots and the files that they name were read, and the plan was written
-pub record PlansWords {S : Type 0} (answers : List ℕ → Result S OpenFault → Type 0) (left : S → Option (List ℕ)) (has_failed : S → Bool)
-    (matches : ArgMatches) (written written' : Option (List ℕ)) : Type 0 where
-  pub command : subcommand_name_of matches ≡ Some (codes "plan")
-  pub asked : RootedPlan
-  pub floor : IsFloor (word_named (codes "floor") matches) asked.floor
-  pub lmc : IsLmc (word_named (codes "lmc") matches) asked.lmc
-  pub rule : word_named (codes "routing") matches ≡ Some (codes "spread")
-  pub roots : Bor (List ℕ)
-  pub roots_named : word_named (codes "roots") matches ≡ Some roots.now
-  pub names : List (Bor (List ℕ))
-  pub named : files_named matches ≡ Some (map (λ name. name.now) names)
-  pub planned : PlansFiles answers left has_failed asked roots names written written'
+-- and so for a task
+abbrev pub AsksTask : (List ℕ → Option (List ℕ)) → List ℕ → Task → Type 0
+AsksTask word command (Answer request) = AsksOutput word command request.output × IsFloor (word (codes "floor")) request.floor
+AsksTask word command (Audit floor) = (command ≡ codes "audit") × IsFloor (word (codes "floor")) floor
+AsksTask word command (Next asked) = (command ≡ codes "next") × AsksStep word asked
+AsksTask word command (Run lmc rule) = (command ≡ codes "run") × PlansBy word lmc rule
 
--- the words ask for a run from roots by the rule that spreads, and those that they name were read and run; this holds of what the run prints
-pub record RunsRootedWords {S : Type 0} (answers : List ℕ → Result S OpenFault → Type 0) (left : S → Option (List ℕ)) (has_failed : S → Bool)
-    (matches : ArgMatches) (prints : List ℕ → Type 0) : Type 0 where
-  pub command : subcommand_name_of matches ≡ Some (codes "run")
-  pub lmc : ℕ
-  pub lmc_asked : IsLmc (word_named (codes "lmc") matches) lmc
-  pub rule : word_named (codes "routing") matches ≡ Some (codes "spread")
-  pub roots : Bor (List ℕ)
-  pub roots_named : word_named (codes "roots") matches ≡ Some roots.now
-  pub topology : Bor (List ℕ)
-  pub schedule : Bor (List ℕ)
-  pub topology_named : word_named (codes "TOPOLOGY") matches ≡ Some topology.now
-  pub schedule_named : word_named (codes "SCHEDULE") matches ≡ Some schedule.now
-  pub run : RunsRootedFiles answers left has_failed lmc roots (topology ∷ schedule ∷ []) prints
+-- the words ask for a task
+pub record Asks (matches : ArgMatches) (task : Task) : Type 0 where
+  pub command : List ℕ
+  pub named : subcommand_name_of matches ≡ Some command
+  pub asked : AsksTask (word_named matches) command task
+
+-- inputs ----------------------------------------------------------------------------------------
+
+-- the text of roots that a rule takes
+abbrev pub roots_asked : (List ℕ → Option (List ℕ)) → RuleAsked → Option (List (List ℕ))
+roots_asked word UpDown = Some []
+roots_asked word Spread = Some []
+roots_asked word SpreadFromRoots = option_map (λ roots. roots ∷ []) (word (codes "roots"))
+
+-- by which rule a task plans; where it does not, by one that takes no text
+abbrev pub rule_of_task : Task → RuleAsked
+rule_of_task (Answer request) = rule_for request.output
+rule_of_task (Audit floor) = UpDown
+rule_of_task (Next asked) = asked.rule
+rule_of_task (Run lmc rule) = rule
+
+-- the other texts that a task takes
+abbrev pub texts_asked : (List ℕ → Option (List ℕ)) → Task → Option (List (List ℕ))
+texts_asked word (Answer request) = Some []
+texts_asked word (Audit floor) = option_map (λ tables. tables ∷ []) (word (codes "TABLES"))
+texts_asked word (Next asked) = option_map (λ tables. tables ∷ []) (word (codes "TABLES"))
+texts_asked word (Run lmc rule) =
+    option_and_then (λ topology. option_map (λ schedule. topology ∷ schedule ∷ []) (word (codes "SCHEDULE"))) (word (codes "TOPOLOGY"))
+
+-- whether it takes files
+abbrev pub takes_files : Task → Bool
+takes_files (Answer request) = true
+takes_files (Audit floor) = true
+takes_files (Next asked) = true
+takes_files (Run lmc rule) = false
+
+-- its files, where these are named
+abbrev pub files_asked : Option (List (List ℕ)) → Task → Option (List (List ℕ))
+files_asked files task = if takes_files task then files else Some []
+
+-- names before others, where all are there
+abbrev pub followed_by : Option (List (List ℕ)) → Option (List (List ℕ)) → Option (List (List ℕ))
+followed_by first later = option_and_then (λ names. option_map (λ others. names ++ others) later) first
+
+-- the names of the inputs of a task, in the order in which they are read
+abbrev pub names_in : (List ℕ → Option (List ℕ)) → Option (List (List ℕ)) → Task → Option (List (List ℕ))
+names_in word files task = followed_by (roots_asked word (rule_of_task task)) (followed_by (texts_asked word task) (files_asked files task))
+
+abbrev pub names_asked : ArgMatches → Task → Option (List (List ℕ))
+names_asked matches task = names_in (word_named matches) (files_named matches) task
+
+-- the words ask for no task all of whose inputs are named
+abbrev pub AsksNothing : ArgMatches → Type 0
+AsksNothing matches = (task : Task) → Asks matches task → names_asked matches task ≡ None

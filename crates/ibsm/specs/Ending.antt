@@ -1,67 +1,98 @@
--- How a run over files ends: its status, and the line on standard error that says why.
-use Rattle.std.specs.Prelude.{◌≡◌, ◌⊎◌, Bool, List, [], ◌∷◌, ℕ, Option, Some, None, Result, IsTrue, slice_get}
-use Rattle.std.specs.Io.KnownBytes.{Appends}
+-- How a task over files ends: what was done, or its status and the line on standard error that says why.
+use Rattle.std.specs.Prelude.{◌≡◌, ◌⊎◌, ◌≤◌, ◌+◌, Bool, true, false, List, [], ℕ, Option, Some, None, Result, IsTrue, map, slice_get}
 use Rattle.std.specs.Borrow.{Bor}
-use Rattle.sm_cli.specs.FaultText.{fault_text, program_line}
+use Rattle.clap.specs.declared.parser.matches.ArgMatches.{ArgMatches}
+use Rattle.sm_cli.specs.Asked.{rule_for, texts_for}
 use Rattle.sm_cli.specs.ExitStatus.{status_of}
+use Rattle.sm_cli.specs.FaultText.{fault_text, program_line}
 use Rattle.sm_cli.specs.Run.{HasAnswered, IsFaultOf}
-use Rattle.lft_blocks.specs.Planning.{Planning}
-use Rattle.schedule_run.specs.Run.{HasRun, IsRunFault}
+use Rattle.sm_cli.specs.declared.exit_status.ExitStatus.{ExitStatus}
+use Rattle.sm_cli.specs.declared.exit_status.ExitStatus.TheVariants.{Done, Failed}
 use Rattle.sm_cli.specs.declared.fault.Fault.{Fault}
 use Rattle.sm_cli.specs.declared.fault.Fault.TheVariants.{Open, File, Text, NoRoom, Write, Memory}
-use Rattle.sm_cli.specs.declared.exit_status.ExitStatus.{ExitStatus}
-use Rattle.sm_cli.specs.declared.run.Invocation.{Invocation}
+use Rattle.audit_report.specs.RunAudit.{HasAudited, IsAuditFault}
+use Rattle.next_run.specs.RunNext.{HasStepped, IsSaid, IsStepFault}
+use Rattle.schedule_run.specs.Run.{HasRun, IsRunFault}
+use Rattle.ibsm.specs.Asked.{Asks, names_asked}
 use Rattle.ibsm.specs.declared.opener.OpenFault.{OpenFault}
+use Rattle.ibsm.specs.declared.task.Task.{Task}
+use Rattle.ibsm.specs.declared.task.Task.TheVariants.{Answer, Audit, Next, Run}
 use Rattle.ibsm.specs.Opening.{AreOpened, IsOpenFault}
 
--- the files with these names were opened and read, and what they say together was written
-pub record AnswersFiles {S : Type 0} (answers : List ℕ → Result S OpenFault → Type 0) (left : S → Option (List ℕ)) (has_failed : S → Bool)
-    (command : Invocation) (names : List (Bor (List ℕ))) (written written' : Option (List ℕ)) : Type 0 where
+-- what is done ----------------------------------------------------------------------------------
+
+-- a task has as many inputs as it takes texts, or more
+abbrev pub TakesInputs : Task → ℕ → Type 0
+TakesInputs (Answer request) count = texts_for (rule_for request.output) ≤ count
+TakesInputs (Audit floor) count = 1 ≤ count
+TakesInputs (Next asked) count = texts_for asked.rule + 1 ≤ count
+TakesInputs (Run lmc rule) count = count ≡ texts_for rule + 2
+
+-- what a task does with open inputs, where this holds of what it prints, and this of what it says on standard error; what judges nothing passes
+abbrev pub Does : {S : Type 0} → (S → Option (List ℕ)) → (S → Bool) → Task → List S → List S → (List ℕ → Type 0) → (List ℕ → Type 0) → Bool → Type 0
+Does left has_failed (Answer request) olds news prints says passed = (passed ≡ true) × HasAnswered left has_failed request olds news prints
+Does left has_failed (Audit floor) olds news prints says passed = HasAudited left has_failed floor olds news prints passed
+Does left has_failed (Next asked) olds news prints says passed = HasStepped left has_failed asked olds news prints says passed
+Does left has_failed (Run lmc rule) olds news prints says passed = (passed ≡ true) × HasRun left has_failed lmc rule olds news prints
+
+-- a step alone says something on standard error where it is done
+abbrev pub StaysSilent : {E : Type 0} → Task → E → E → Type 0
+StaysSilent (Next asked) errors errors' = Unit {0}
+StaysSilent task errors errors' = errors' ≡ errors
+
+-- the files with these names were opened, and the task was done with them
+pub record Performs {S : Type 0} (answers : List ℕ → Result S OpenFault → Type 0) (left : S → Option (List ℕ)) (has_failed : S → Bool) (task : Task)
+    (names : List (Bor (List ℕ))) (prints says : List ℕ → Type 0) (passed : Bool) : Type 0 where
   pub olds : List S
   pub news : List S
   pub opened : AreOpened answers names olds
-  pub answered : HasAnswered left has_failed command olds news written written'
+  pub does : Does left has_failed task olds news prints says passed
 
--- they were opened, and a run over them ends with the fault
+-- the words ask for a task, and it was done with the inputs that they name
+pub record PerformsWords {S : Type 0} (answers : List ℕ → Result S OpenFault → Type 0) (left : S → Option (List ℕ)) (has_failed : S → Bool)
+    (matches : ArgMatches) (prints says : List ℕ → Type 0) (passed : Bool) : Type 0 where
+  pub task : Task
+  pub asked : Asks matches task
+  pub names : List (Bor (List ℕ))
+  pub named : names_asked matches task ≡ Some (map (λ name. name.now) names)
+  pub performed : Performs answers left has_failed task names prints says passed
+
+-- what the program ends with where all is done, and where what was audited does not pass
+abbrev pub status_after : Bool → ExitStatus
+status_after true = Done
+status_after false = Failed
+
+-- faults ----------------------------------------------------------------------------------------
+
+-- why a task over open inputs ends early; where memory was refused as a run went on, this holds of what it would have printed
+abbrev pub IsFaultOver : {S : Type 0} → (S → Option (List ℕ)) → (S → Bool) → (S → ℕ) → Task → List S → List S → (List ℕ → Type 0) → Bool → Fault → Type 0
+IsFaultOver left has_failed interruptions (Answer request) olds news prints output_failed fault =
+    IsFaultOf left has_failed interruptions request olds news output_failed fault
+IsFaultOver left has_failed interruptions (Audit floor) olds news prints output_failed fault =
+    IsAuditFault left has_failed interruptions floor olds news output_failed fault
+IsFaultOver left has_failed interruptions (Next asked) olds news prints output_failed fault =
+    IsStepFault left has_failed interruptions asked olds news output_failed fault
+IsFaultOver left has_failed interruptions (Run lmc rule) olds news prints output_failed fault =
+    IsRunFault left has_failed interruptions lmc rule olds news prints output_failed fault
+
+-- the files were opened, and the task over them ends with the fault
 pub record FailsOverFiles {S : Type 0} (answers : List ℕ → Result S OpenFault → Type 0) (left : S → Option (List ℕ)) (has_failed : S → Bool)
-    (interruptions : S → ℕ) (command : Invocation) (names : List (Bor (List ℕ))) (output_failed : Bool) (fault : Fault) : Type 0 where
+    (interruptions : S → ℕ) (task : Task) (names : List (Bor (List ℕ))) (prints : List ℕ → Type 0) (output_failed : Bool) (fault : Fault) : Type 0 where
   pub olds : List S
   pub news : List S
   pub opened : AreOpened answers names olds
-  pub fails : IsFaultOf left has_failed interruptions command olds news output_failed fault
+  pub fails : IsFaultOver left has_failed interruptions task olds news prints output_failed fault
 
--- why the files with these names are not answered: they are not open, or a run over them ends early
-abbrev pub IsAnswersFault : {S : Type 0} → (List ℕ → Result S OpenFault → Type 0) → (S → Option (List ℕ)) → (S → Bool) → (S → ℕ)
-    → Invocation → List (Bor (List ℕ)) → Bool → Fault → Type 0
-IsAnswersFault answers left has_failed interruptions command names output_failed fault =
-    IsOpenFault answers names fault ⊎ FailsOverFiles answers left has_failed interruptions command names output_failed fault
+-- why a task is not done: its files are not open, or it ends early
+abbrev pub IsTaskFault : {S : Type 0} → (List ℕ → Result S OpenFault → Type 0) → (S → Option (List ℕ)) → (S → Bool) → (S → ℕ)
+    → Task → List (Bor (List ℕ)) → (List ℕ → Type 0) → Bool → Fault → Type 0
+IsTaskFault answers left has_failed interruptions task names prints output_failed fault =
+    IsOpenFault answers names fault ⊎ FailsOverFiles answers left has_failed interruptions task names prints output_failed fault
 
--- the files with both names were opened and read, and what they say was run, and managers planned so; this holds of what the run prints
-pub record RunsFiles {S : Type 0} (answers : List ℕ → Result S OpenFault → Type 0) (left : S → Option (List ℕ)) (has_failed : S → Bool)
-    (names : List (Bor (List ℕ))) (planning : Planning) (prints : List ℕ → Type 0) : Type 0 where
-  pub topology : S
-  pub topology' : S
-  pub schedule : S
-  pub schedule' : S
-  pub opened : AreOpened answers names (topology ∷ schedule ∷ [])
-  pub run : HasRun left has_failed left has_failed topology topology' schedule schedule' planning prints
-
--- they were opened, and the run of them ends with the fault
-pub record FailsToRunFiles {S : Type 0} (answers : List ℕ → Result S OpenFault → Type 0) (left : S → Option (List ℕ)) (has_failed : S → Bool)
-    (interruptions : S → ℕ) (names : List (Bor (List ℕ))) (planning : Planning) (prints : List ℕ → Type 0) (output_failed : Bool) (fault : Fault) : Type 0 where
-  pub topology : S
-  pub topology' : S
-  pub schedule : S
-  pub schedule' : S
-  pub opened : AreOpened answers names (topology ∷ schedule ∷ [])
-  pub fails : IsRunFault left has_failed interruptions left has_failed interruptions topology topology' schedule schedule' planning prints output_failed fault
-
--- why the files with both names are not run: they are not open, or the run of them ends early, and this holds of what it
--- would have printed where memory was refused
-abbrev pub IsRunsFault : {S : Type 0} → (List ℕ → Result S OpenFault → Type 0) → (S → Option (List ℕ)) → (S → Bool) → (S → ℕ)
-    → List (Bor (List ℕ)) → Planning → (List ℕ → Type 0) → Bool → Fault → Type 0
-IsRunsFault answers left has_failed interruptions names planning prints output_failed fault =
-    IsOpenFault answers names fault ⊎ FailsToRunFiles answers left has_failed interruptions names planning prints output_failed fault
+-- a run may stop when some of it was printed
+abbrev pub MayStop : Task → Type 0
+MayStop (Run lmc rule) = Unit {0}
+MayStop task = ⊥
 
 -- the name of a file, and nothing where there is no file of that input
 abbrev pub name_at : Option (Bor (List ℕ)) → List ℕ
@@ -80,10 +111,6 @@ name_of names Memory = []
 -- the line that says a fault of a run over the files with these names
 abbrev pub fault_line : List (Bor (List ℕ)) → Fault → List ℕ
 fault_line names fault = program_line (fault_text (name_of names fault) fault)
-
--- the line was written on standard error, or that has failed
-abbrev pub IsSaid : Option (List ℕ) → Option (List ℕ) → Bool → List ℕ → Type 0
-IsSaid errors errors' has_failed line = IsTrue has_failed ⊎ Appends errors errors' line
 
 -- a run over the files with these names ends with the status of a fault that it has, which is said on standard error
 pub record SaysWhy (names : List (Bor (List ℕ))) (IsFault : Fault → Type 0) (status : ExitStatus) (errors errors' : Option (List ℕ))

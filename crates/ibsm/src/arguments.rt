@@ -15,6 +15,9 @@ pub(crate) const PLAN: &str = "plan";
 /// The subcommand that audits tables.
 pub(crate) const AUDIT: &str = "audit";
 
+/// The subcommand that prints the tables to write next.
+pub(crate) const NEXT: &str = "next";
+
 /// The subcommand that runs a schedule.
 pub(crate) const RUN: &str = "run";
 
@@ -63,6 +66,9 @@ const PLAN_END: &str =
 const AUDIT_END: &str =
     "Exit status:\n  0  the tables pass\n  1  they do not pass, and what was printed says why\n  2  the command line is wrong\n  3  a file is refused\n  4  a file cannot be opened or read, or the output takes no more\n  5  out of memory\n\nExample:\n  ibsm audit held.tables fabric.reports";
 
+const NEXT_END: &str =
+    "Exit status:\n  0  done, and no mixture of both tables can make a credit loop\n  1  done, and the credit loop on standard error can come about while they are written\n  2  the command line is wrong\n  3  a file is refused, a LID moves, or there is no room for the LIDs\n  4  a file cannot be opened or read, or the output takes no more\n  5  out of memory\n\nExample:\n  ibsm next held.tables fabric.reports > next.tables";
+
 const RUN_END: &str =
     "Exit status:\n  0  done\n  2  the command line is wrong\n  3  a file is refused\n  4  a file cannot be opened or read, or the output takes no more\n  5  out of memory\n\nExample:\n  ibsm run triangle.topology bring_up.schedule";
 
@@ -73,6 +79,7 @@ pub(crate) fn command_line<'a>(alloc: Global) -> Result<Command<'a>, AllocError>
         .subcommand(join(alloc)?)?
         .subcommand(plan(alloc)?)?
         .subcommand(audit(alloc)?)?
+        .subcommand(next(alloc)?)?
         .subcommand(run(alloc)?)
 }
 
@@ -128,6 +135,24 @@ fn audit<'a>(alloc: Global) -> Result<Command<'a>, AllocError> {
         ))?
         .arg(files(alloc))?
         .arg(floor(alloc))
+}
+
+fn next<'a>(alloc: Global) -> Result<Command<'a>, AllocError> {
+    Command::new(alloc, NEXT)
+        .about(
+            "Prints the tables to write next, from those that switches hold towards the plan of the facts of all the files, so that no packet which arrives is lost meanwhile",
+        )
+        .after_help(NEXT_END)
+        .arg(text(
+            alloc,
+            TABLES,
+            "The LIDs that ports hold and the forwarding tables of switches, as plan prints them",
+        ))?
+        .arg(files(alloc))?
+        .arg(floor(alloc))?
+        .arg(lmc(alloc))?
+        .arg(routing(alloc))?
+        .arg(roots(alloc))
 }
 
 fn run<'a>(alloc: Global) -> Result<Command<'a>, AllocError> {
@@ -205,6 +230,7 @@ fn roots<'a>(alloc: Global) -> Arg<'a> {
 /// What is wrong where roots are named behind the subcommand, and another rule of routing than the one that takes them.
 pub(crate) fn roots_without_spread(alloc: Global, name: Option<&str>) -> Result<Error, AllocError> {
     let mut command = match name {
+        Some(NEXT) => next(alloc)?.bin_name("ibsm next")?,
         Some(RUN) => run(alloc)?.bin_name("ibsm run")?,
         _ => plan(alloc)?.bin_name("ibsm plan")?,
     };

@@ -1,24 +1,27 @@
-//! The subcommands that read files.
-ghost use Rattle.std.specs.Prelude.{◌≡◌, ◌⊎◌, [], ◌∷◌, Err, length, IfOk, IfErr, OnOk, OnErr, IsTrue};
+//! A task over files of some names.
+ghost use Rattle.std.specs.Prelude.{◌≡◌, ◌⊎◌, ◌≤◌, Err, length, IfOk, IfErr, OnOk, OnErr, IsTrue, false, true};
+ghost use Rattle.std.specs.Io.KnownBytes.{Appends};
 ghost use Rattle.sm_cli.specs.ExitStatus.{status_of};
-ghost use Rattle.schedule_run.specs.Prints.{Prints, PrintsSome};
-ghost use Rattle.ibsm.specs.Ending.{AnswersFiles, IsAnswersFault, IsRunsFault, IsSaid, RunsFiles, SaysWhy};
-ghost use Rattle.ibsm.specs.Ending.{fault_line, name_of};
+ghost use Rattle.schedule_run.specs.Prints.{PrintsSome};
+ghost use Rattle.next_run.specs.RunNext.{IsSaid};
+ghost use Rattle.ibsm.specs.Ending.{IsTaskFault, MayStop, Performs, SaysWhy, StaysSilent, TakesInputs};
+ghost use Rattle.ibsm.specs.Ending.{fault_line, name_of, status_after};
 ghost use Rattle.ibsm.specs.Opening.{AreOpened, IsOpenFault};
-ghost use Rattle.ibsm.specs.Whose.{IsOpenFaultOf, status_of_whose, whose_line};
 
 use crate::opener::{OpenFault, Opener};
+use crate::task::Task;
+use audit_report::run_audit;
 use byte_io::{Sink, ToWrite};
-use lft_blocks::Planning;
+use next_run::run_next;
 use schedule_run::run_schedule;
-use sm_cli::{ExitStatus, Fault, Invocation, WhoseFault, run_files, write_fault};
+use sm_cli::{ExitStatus, Fault, run_files, write_fault};
 use std::io::Write;
 
-/// Does what the command asks for with the files of these names, and says on `errors` why it cannot.
-/// All are opened before the first is read.
-pub(crate) fn answer_or_explain<R, O, E>(
+/// Does a task over the files of these names, which are its inputs in the order in which they are read, and says on
+/// `errors` why it cannot. All are opened before the first is read.
+pub(crate) fn perform_or_explain<R, O, E>(
     rt: &R,
-    command: Invocation,
+    task: Task,
     names: &[&str],
     output: &mut ToWrite<O>,
     errors: &mut ToWrite<E>,
@@ -27,91 +30,85 @@ where
     R: Opener + AllocGlobal,
     O: Write,
     E: Write,
-    ensures done { result ≡ ExitStatus.Done → AnswersFiles (R.answers rt.now)
-        R.Opened.left R.Opened.has_failed command names.now
-        (⟦<ToWrite<O> as Sink>⟧.written output.old) (⟦<ToWrite<O> as Sink>⟧.written output.new) }
-    ensures flushed { result ≡ ExitStatus.Done → IsTrue (⟦<ToWrite<O> as Sink>⟧.is_flushed output.new) }
-    ensures silent { result ≡ ExitStatus.Done → errors.new ≡ errors.old }
-    ensures says_why { (result ≡ ExitStatus.Done) ⊎ SaysWhy names.now
-        (IsAnswersFault (R.answers rt.now) R.Opened.left R.Opened.has_failed R.Opened.interruptions
-        command names.now (⟦<ToWrite<O> as Sink>⟧.has_failed output.new))
+    requires { TakesInputs task (length names.now) }
+    ensures done { result ≡ ExitStatus.Done → Performs (R.answers rt.now) R.Opened.left R.Opened.has_failed task names.now
+        (Appends (⟦<ToWrite<O> as Sink>⟧.written output.old) (⟦<ToWrite<O> as Sink>⟧.written output.new))
+        (IsSaid (⟦<ToWrite<E> as Sink>⟧.written errors.old) (⟦<ToWrite<E> as Sink>⟧.written errors.new)
+        (⟦<ToWrite<E> as Sink>⟧.has_failed errors.new)) true }
+    ensures failed { result ≡ ExitStatus.Failed → Performs (R.answers rt.now) R.Opened.left R.Opened.has_failed task names.now
+        (Appends (⟦<ToWrite<O> as Sink>⟧.written output.old) (⟦<ToWrite<O> as Sink>⟧.written output.new))
+        (IsSaid (⟦<ToWrite<E> as Sink>⟧.written errors.old) (⟦<ToWrite<E> as Sink>⟧.written errors.new)
+        (⟦<ToWrite<E> as Sink>⟧.has_failed errors.new)) false }
+    ensures flushed { (result ≡ ExitStatus.Done) ⊎ (result ≡ ExitStatus.Failed)
+        → IsTrue (⟦<ToWrite<O> as Sink>⟧.is_flushed output.new) }
+    ensures silent { (result ≡ ExitStatus.Done) ⊎ (result ≡ ExitStatus.Failed) → StaysSilent task errors.old errors.new }
+    ensures says_why { (result ≡ ExitStatus.Done) ⊎ (result ≡ ExitStatus.Failed) ⊎ SaysWhy names.now
+        (IsTaskFault (R.answers rt.now) R.Opened.left R.Opened.has_failed R.Opened.interruptions task names.now
+        (PrintsSome ⟦<ToWrite<O> as Sink>⟧.written ⟦<ToWrite<O> as Sink>⟧.has_failed output.old output.new)
+        (⟦<ToWrite<O> as Sink>⟧.has_failed output.new))
         result (⟦<ToWrite<E> as Sink>⟧.written errors.old)
         (⟦<ToWrite<E> as Sink>⟧.written errors.new) (⟦<ToWrite<E> as Sink>⟧.has_failed errors.new) }
-    ensures nothing_written { (result ≡ ExitStatus.Done)
-        ⊎ IsTrue (⟦<ToWrite<O> as Sink>⟧.has_failed output.new) ⊎ (output.new ≡ output.old) }
+    ensures nothing_written { (result ≡ ExitStatus.Done) ⊎ (result ≡ ExitStatus.Failed)
+        ⊎ (result ≡ ExitStatus.InputOutput) ⊎ (MayStop task × (result ≡ ExitStatus.Memory)) ⊎ (output.new ≡ output.old) }
 {
-    match answer(rt, command, names, output) {
-        Ok(()) => ExitStatus::Done,
+    match perform(rt, task, names, output, errors) {
+        Ok(passed) => status_after(passed),
         Err(fault) => say(errors, names, &fault),
     }
 }
 
-/// Runs a schedule in the fabric of a topology, and says on `errors` why it cannot. Managers plan as is said. The names are those of the topology and
-/// of the schedule.
-pub(crate) fn run_or_explain<R, O, E>(
+/// What the program ends with where all is done, and where what was audited does not pass.
+fn status_after(passed: bool) -> ExitStatus
+    ensures { result ≡ status_after passed }
+{
+    if passed {
+        ExitStatus::Done
+    } else {
+        ExitStatus::Failed
+    }
+}
+
+/// Does a task over the files of these names; answers whether what it judges passes.
+fn perform<R, O, E>(
     rt: &R,
+    task: Task,
     names: &[&str],
-    planning: &Planning,
     output: &mut ToWrite<O>,
     errors: &mut ToWrite<E>,
-) -> ExitStatus
+) -> Result<bool, Fault>
 where
     R: Opener + AllocGlobal,
     O: Write,
     E: Write,
-    requires { length names.now ≡ 2 }
-    ensures done { result ≡ ExitStatus.Done → RunsFiles (R.answers rt.now)
-        R.Opened.left R.Opened.has_failed names.now planning.now
-        (Prints ⟦<ToWrite<O> as Sink>⟧.written ⟦<ToWrite<O> as Sink>⟧.has_failed output.old output.new) }
-    ensures flushed { result ≡ ExitStatus.Done → IsTrue (⟦<ToWrite<O> as Sink>⟧.is_flushed output.new) }
-    ensures silent { result ≡ ExitStatus.Done → errors.new ≡ errors.old }
-    ensures says_why { (result ≡ ExitStatus.Done) ⊎ SaysWhy names.now
-        (IsRunsFault (R.answers rt.now) R.Opened.left R.Opened.has_failed R.Opened.interruptions
-        names.now planning.now (PrintsSome ⟦<ToWrite<O> as Sink>⟧.written ⟦<ToWrite<O> as Sink>⟧.has_failed output.old output.new)
-        (⟦<ToWrite<O> as Sink>⟧.has_failed output.new))
-        result (⟦<ToWrite<E> as Sink>⟧.written errors.old)
-        (⟦<ToWrite<E> as Sink>⟧.written errors.new) (⟦<ToWrite<E> as Sink>⟧.has_failed errors.new) }
-    ensures nothing_written { (result ≡ ExitStatus.Refused) → (output.new ≡ output.old) }
-{
-    if let Err(fault) = run(rt, names, planning, output) {
-        return say(errors, names, &fault);
-    }
-    ExitStatus::Done
-}
-
-/// Runs the schedule of the second file in the fabric of the first one.
-fn run<R, O>(
-    rt: &R,
-    names: &[&str],
-    planning: &Planning,
-    output: &mut ToWrite<O>,
-) -> Result<(), Fault>
-where
-    R: Opener + AllocGlobal,
-    O: Write,
-    requires { length names.now ≡ 2 }
-    ensures done { OnOk result (RunsFiles (R.answers rt.now)
-        R.Opened.left R.Opened.has_failed names.now planning.now
-        (Prints ⟦<ToWrite<O> as Sink>⟧.written ⟦<ToWrite<O> as Sink>⟧.has_failed output.old output.new)) }
+    requires { TakesInputs task (length names.now) }
+    ensures done { IfOk result (Performs (R.answers rt.now) R.Opened.left R.Opened.has_failed task names.now
+        (Appends (⟦<ToWrite<O> as Sink>⟧.written output.old) (⟦<ToWrite<O> as Sink>⟧.written output.new))
+        (IsSaid (⟦<ToWrite<E> as Sink>⟧.written errors.old) (⟦<ToWrite<E> as Sink>⟧.written errors.new)
+        (⟦<ToWrite<E> as Sink>⟧.has_failed errors.new))) }
     ensures flushed { OnOk result (IsTrue (⟦<ToWrite<O> as Sink>⟧.is_flushed output.new)) }
-    ensures refused { IfErr result (IsRunsFault (R.answers rt.now)
-        R.Opened.left R.Opened.has_failed R.Opened.interruptions
-        names.now planning.now (PrintsSome ⟦<ToWrite<O> as Sink>⟧.written ⟦<ToWrite<O> as Sink>⟧.has_failed output.old output.new)
+    ensures refused { IfErr result (IsTaskFault (R.answers rt.now) R.Opened.left R.Opened.has_failed R.Opened.interruptions task names.now
+        (PrintsSome ⟦<ToWrite<O> as Sink>⟧.written ⟦<ToWrite<O> as Sink>⟧.has_failed output.old output.new)
         (⟦<ToWrite<O> as Sink>⟧.has_failed output.new)) }
-    ensures nothing_written { OnErr result ((result ≡ Err Fault.Write) ⊎ (result ≡ Err Fault.Memory) ⊎ (output.new ≡ output.old)) }
+    ensures nothing_written { OnErr result ((result ≡ Err Fault.Write)
+        ⊎ (MayStop task × (result ≡ Err Fault.Memory)) ⊎ (output.new ≡ output.old)) }
+    ensures silent { OnOk result (StaysSilent task errors.old errors.new) }
+    ensures nothing_said { OnErr result (errors.new ≡ errors.old) }
 {
-    match open_all(rt, names) {
-        Ok(mut files) => {
-            let (topology, schedule) = files.split_at_mut(1);
-            run_schedule(
-                rt.alloc(),
-                &mut topology[0],
-                &mut schedule[0],
-                planning,
-                output,
-            )
-        }
-        Err(fault) => Err(fault),
+    let mut inputs = match open_all(rt, names) {
+        Ok(inputs) => inputs,
+        Err(fault) => return Err(fault),
+    };
+    match task {
+        Task::Answer(request) => match run_files(rt.alloc(), &mut inputs, request, output) {
+            Ok(()) => Ok(true),
+            Err(fault) => Err(fault),
+        },
+        Task::Audit(floor) => run_audit(rt.alloc(), &mut inputs, floor, output),
+        Task::Next(asked) => run_next(rt.alloc(), &mut inputs, asked, output, errors),
+        Task::Run(lmc, rule) => match run_schedule(rt.alloc(), &mut inputs, lmc, rule, output) {
+            Ok(()) => Ok(true),
+            Err(fault) => Err(fault),
+        },
     }
 }
 
@@ -123,48 +120,6 @@ pub(crate) fn say<E: Write>(errors: &mut ToWrite<E>, names: &[&str], fault: &Fau
 {
     let _ = write_fault(errors, fault, name_of(names, fault));
     fault.status()
-}
-
-/// Says the fault of a run over a text and the files with these names, and what the program ends with.
-pub(crate) fn say_whose<E: Write>(
-    errors: &mut ToWrite<E>,
-    text: &str,
-    names: &[&str],
-    fault: &WhoseFault,
-) -> ExitStatus
-    ensures status { result ≡ status_of_whose fault.now }
-    ensures said { IsSaid (⟦<ToWrite<E> as Sink>⟧.written errors.old) (⟦<ToWrite<E> as Sink>⟧.written errors.new)
-        (⟦<ToWrite<E> as Sink>⟧.has_failed errors.new) (whose_line text.entry names.now fault.now) }
-{
-    match fault {
-        WhoseFault::Text(fault) => say(errors, &[text], fault),
-        WhoseFault::Files(fault) => say(errors, names, fault),
-    }
-}
-
-/// Writes what the command asks for of all that the files with these names say.
-fn answer<R, O>(
-    rt: &R,
-    command: Invocation,
-    names: &[&str],
-    output: &mut ToWrite<O>,
-) -> Result<(), Fault>
-where
-    R: Opener + AllocGlobal,
-    O: Write,
-    ensures done { OnOk result (AnswersFiles (R.answers rt.now)
-        R.Opened.left R.Opened.has_failed command names.now
-        (⟦<ToWrite<O> as Sink>⟧.written output.old) (⟦<ToWrite<O> as Sink>⟧.written output.new)) }
-    ensures flushed { OnOk result (IsTrue (⟦<ToWrite<O> as Sink>⟧.is_flushed output.new)) }
-    ensures refused { IfErr result (IsAnswersFault (R.answers rt.now)
-        R.Opened.left R.Opened.has_failed R.Opened.interruptions
-        command names.now (⟦<ToWrite<O> as Sink>⟧.has_failed output.new)) }
-    ensures nothing_written { OnErr result ((result ≡ Err Fault.Write) ⊎ (output.new ≡ output.old)) }
-{
-    match open_all(rt, names) {
-        Ok(mut files) => run_files(rt.alloc(), &mut files, command, output),
-        Err(fault) => Err(fault),
-    }
 }
 
 /// Opens the files with these names, in their order. Where memory is wanting the names behind are
@@ -188,28 +143,6 @@ where
         Ok(files)
     } else {
         Err(Fault::Memory)
-    }
-}
-
-/// Opens the file of a text, and then those with these names.
-pub(crate) fn open_behind_text<R>(
-    rt: &R,
-    text: &str,
-    names: &[&str],
-) -> Result<(Vec<R::Opened>, Vec<R::Opened>), WhoseFault>
-where
-    R: Opener + AllocGlobal,
-    ensures text { IfOk result (λ opened. AreOpened (R.answers rt.now) (text.entry ∷ []) opened.0.items) }
-    ensures files { IfOk result (λ opened. AreOpened (R.answers rt.now) names.now opened.1.items) }
-    ensures refused { IfErr result (IsOpenFaultOf (R.answers rt.now) text.entry names.now) }
-{
-    let texts = match open_all(rt, &[text]) {
-        Ok(texts) => texts,
-        Err(fault) => return Err(WhoseFault::Text(fault)),
-    };
-    match open_all(rt, names) {
-        Ok(files) => Ok((texts, files)),
-        Err(fault) => Err(WhoseFault::Files(fault)),
     }
 }
 

@@ -2,12 +2,10 @@
 #![tactic(auto)]
 
 mod arguments;
-mod audits;
 mod files;
 mod opener;
-mod plans;
-mod rooted_runs;
 mod run;
+mod task;
 
 use std::process::ExitCode;
 

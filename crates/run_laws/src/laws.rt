@@ -8,11 +8,11 @@ ghost use Rattle.run_laws.specs.Repeats.{TextsDecideOutput};
 use byte_io::{Sink, Source};
 
 /// A run is repeatable: where it ends well, and its sources held these bytes as it began, exactly
-/// `run_text` of the two texts was written. So equal texts give equal bytes, whatever they are read
-/// from and written to.
+/// `run_text` of the two texts was written, of managers that plan under the LMC by the rule. So equal texts give equal
+/// bytes, whatever they are read from and written to.
 #[tactic(auto, using(crate::proofs::Repeated::texts_decide_output))]
-pub fn texts_decide_output<T: Source, S: Source, W: Sink>()
-    ensures { TextsDecideOutput T.left T.has_failed S.left S.has_failed W.written W.has_failed }
+pub fn texts_decide_output<S: Source, W: Sink>()
+    ensures { TextsDecideOutput S.left S.has_failed W.written }
 {}
 
 /// What stands behind a schedule changes nothing of what it prints.

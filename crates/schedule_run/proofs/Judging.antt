@@ -1,5 +1,5 @@
 -- What is found wrong with texts is their first fault.
-use Rattle.std.proofs.Common.{◌≡◌, ◌∙◌, ℕ, true, false, List, Option, None, Some, Result, Ok, Err, refl, sym, ap, subst, arith}
+use Rattle.std.proofs.Common.{◌≡◌, ◌∙◌, ℕ, ◌+◌, inl, inr, true, false, List, Option, None, Some, Result, Ok, Err, refl, sym, ap, subst, arith}
 use Rattle.std.specs.Prelude.{if◌then◌else◌}
 use Rattle.std.specs.Str.{IsUtf8, is_utf8}
 use Rattle.std.proofs.lemmas.Str.{is_utf8-from_IsUtf8, IsUtf8-from_is_utf8}
@@ -29,48 +29,52 @@ not_utf8 bytes h = elim (is_utf8 bytes) as (λ b. is_utf8 bytes ≡ b → b ≡ 
 
 -- a topology ----------------------------------------------------------------------------------
 
-pub spelled_badly : (text script : List ℕ) → ¬ (IsUtf8 text) → RefusesTexts text script (Text 0 NotUtf8)
-spelled_badly text script h = record {
-  refused = (omega arith, λ of_text. ap (λ b. if b then fault_behind (topology_of text) script else Some (Text 0 NotUtf8)) (not_utf8 text h));
+pub spelled_badly : (first : ℕ) (text script : List ℕ) → ¬ (IsUtf8 text) → RefusesTexts first text script (Text first NotUtf8)
+spelled_badly first text script h = record {
+  refused = (inl refl, λ of_text. ap (λ b. if b then fault_behind first (topology_of text) script else Some (Text first NotUtf8)) (not_utf8 text h));
   hides = tt;
   hides_in_schedule = λ layout tells. tt;
 }
 
-found : (text script : List ℕ) (told : Result Layout TopoFault) → IsUtf8 text → topology_of text ≡ told → input_fault text script ≡ fault_behind told script
-found text script told h e =
-    ap (λ b. if b then fault_behind (topology_of text) script else Some (Text 0 NotUtf8)) (is_utf8-from_IsUtf8 text h) ∙ ap (λ r. fault_behind r script) e
+found : (first : ℕ) (text script : List ℕ) (told : Result Layout TopoFault) → IsUtf8 text → topology_of text ≡ told
+    → input_fault first text script ≡ fault_behind first told script
+found first text script told h e =
+    ap (λ b. if b then fault_behind first (topology_of text) script else Some (Text first NotUtf8)) (is_utf8-from_IsUtf8 text h)
+    ∙ ap (λ r. fault_behind first r script) e
 
-topology_found : (text script : List ℕ) (fault : TopoFault) → IsUtf8 text → topology_of text ≡ Err fault → IsRefused (input_fault text script) (Text 0 (Topology fault))
-topology_found text script fault h e = (omega arith, λ of_text. found text script (Err fault) h e)
+topology_found : (first : ℕ) (text script : List ℕ) (fault : TopoFault) → IsUtf8 text → topology_of text ≡ Err fault
+    → IsRefused first (input_fault first text script) (Text first (Topology fault))
+topology_found first text script fault h e = (inl refl, λ of_text. found first text script (Err fault) h e)
 
-topology_judged : (text script : List ℕ) (fault : TopoFault) → IsUtf8 text → topologies.IsRefused fault (topology_of text)
-    → IsRefused (input_fault text script) (Text 0 (Topology fault))
-topology_judged text script topology.Memory h e = (omega arith, λ of_text. cc)
-topology_judged text script (topology.Syntax line) h e = topology_found text script _ h e
-topology_judged text script (topology.Name line) h e = topology_found text script _ h e
-topology_judged text script (topology.Ports line) h e = topology_found text script _ h e
-topology_judged text script (topology.Peer line) h e = topology_found text script _ h e
-topology_judged text script (topology.Port line) h e = topology_found text script _ h e
-topology_judged text script (topology.Linked line) h e = topology_found text script _ h e
-topology_judged text script (topology.GuidRange line) h e = topology_found text script _ h e
-topology_judged text script (topology.TooManyNodes line) h e = topology_found text script _ h e
+topology_judged : (first : ℕ) (text script : List ℕ) (fault : TopoFault) → IsUtf8 text → topologies.IsRefused fault (topology_of text)
+    → IsRefused first (input_fault first text script) (Text first (Topology fault))
+topology_judged first text script topology.Memory h e = (inl refl, λ of_text. cc)
+topology_judged first text script (topology.Syntax line) h e = topology_found first text script _ h e
+topology_judged first text script (topology.Name line) h e = topology_found first text script _ h e
+topology_judged first text script (topology.Ports line) h e = topology_found first text script _ h e
+topology_judged first text script (topology.Peer line) h e = topology_found first text script _ h e
+topology_judged first text script (topology.Port line) h e = topology_found first text script _ h e
+topology_judged first text script (topology.Linked line) h e = topology_found first text script _ h e
+topology_judged first text script (topology.GuidRange line) h e = topology_found first text script _ h e
+topology_judged first text script (topology.TooManyNodes line) h e = topology_found first text script _ h e
 
-hides_links : (text : List ℕ) (fault : TopoFault) → (fault ≡ topology.Memory → first_line_fault text ≡ None) → HidesLinksAlone text (Text 0 (Topology fault))
-hides_links text topology.Memory h = h refl
-hides_links text (topology.Syntax line) h = tt
-hides_links text (topology.Name line) h = tt
-hides_links text (topology.Ports line) h = tt
-hides_links text (topology.Peer line) h = tt
-hides_links text (topology.Port line) h = tt
-hides_links text (topology.Linked line) h = tt
-hides_links text (topology.GuidRange line) h = tt
-hides_links text (topology.TooManyNodes line) h = tt
+hides_links : (first : ℕ) (text : List ℕ) (fault : TopoFault) → (fault ≡ topology.Memory → first_line_fault text ≡ None)
+    → HidesLinksAlone text (Text first (Topology fault))
+hides_links first text topology.Memory h = h refl
+hides_links first text (topology.Syntax line) h = tt
+hides_links first text (topology.Name line) h = tt
+hides_links first text (topology.Ports line) h = tt
+hides_links first text (topology.Peer line) h = tt
+hides_links first text (topology.Port line) h = tt
+hides_links first text (topology.Linked line) h = tt
+hides_links first text (topology.GuidRange line) h = tt
+hides_links first text (topology.TooManyNodes line) h = tt
 
-pub topology_refused : (text script : List ℕ) (fault : TopoFault) → IsUtf8 text → topologies.IsRefused fault (topology_of text)
-    → (fault ≡ topology.Memory → first_line_fault text ≡ None) → RefusesTexts text script (Text 0 (Topology fault))
-topology_refused text script fault h e hides = record {
-  refused = topology_judged text script fault h e;
-  hides = hides_links text fault hides;
+pub topology_refused : (first : ℕ) (text script : List ℕ) (fault : TopoFault) → IsUtf8 text → topologies.IsRefused fault (topology_of text)
+    → (fault ≡ topology.Memory → first_line_fault text ≡ None) → RefusesTexts first text script (Text first (Topology fault))
+topology_refused first text script fault h e hides = record {
+  refused = topology_judged first text script fault h e;
+  hides = hides_links first text fault hides;
   hides_in_schedule = λ layout tells. tt;
 }
 
@@ -79,54 +83,57 @@ told_topology text layout h e = record { utf8 = is_utf8-from_IsUtf8 text h; told
 
 -- a schedule ----------------------------------------------------------------------------------
 
-pub script_spelled_badly : (nodes : List Node) (text : List ℕ) → ¬ (IsUtf8 text) → RefusesScript nodes text (Text 1 NotUtf8)
-script_spelled_badly nodes text h = record {
-  refused = (omega arith, λ of_text. ap (λ b. if b then fault_of_script (schedule_of nodes text) else Some (Text 1 NotUtf8)) (not_utf8 text h));
+pub script_spelled_badly : (first : ℕ) (nodes : List Node) (text : List ℕ) → ¬ (IsUtf8 text) → RefusesScript first nodes text (Text (first + 1) NotUtf8)
+script_spelled_badly first nodes text h = record {
+  refused = (inr refl, λ of_text. ap (λ b. if b then fault_of_script (first + 1) (schedule_of nodes text) else Some (Text (first + 1) NotUtf8)) (not_utf8 text h));
   hides = tt;
   no_topology = λ topology. tt;
 }
 
-pub script_found : (nodes : List Node) (text : List ℕ) (told : Result Script ScheduleFault) → IsUtf8 text → schedule_of nodes text ≡ told
-    → schedule_fault nodes text ≡ fault_of_script told
-script_found nodes text told h e =
-    ap (λ b. if b then fault_of_script (schedule_of nodes text) else Some (Text 1 NotUtf8)) (is_utf8-from_IsUtf8 text h) ∙ ap fault_of_script e
+pub script_found : (input : ℕ) (nodes : List Node) (text : List ℕ) (told : Result Script ScheduleFault) → IsUtf8 text → schedule_of nodes text ≡ told
+    → schedule_fault input nodes text ≡ fault_of_script input told
+script_found input nodes text told h e =
+    ap (λ b. if b then fault_of_script input (schedule_of nodes text) else Some (Text input NotUtf8)) (is_utf8-from_IsUtf8 text h)
+    ∙ ap (fault_of_script input) e
 
-schedule_judged : (nodes : List Node) (text : List ℕ) (fault : ScheduleFault) → IsUtf8 text → schedules.IsRefused fault (schedule_of nodes text)
-    → IsRefused (schedule_fault nodes text) (Text 1 (Schedule fault))
-schedule_judged nodes text schedule.Memory h e = (omega arith, λ of_text. cc)
-schedule_judged nodes text (schedule.Syntax line) h e = (omega arith, λ of_text. script_found nodes text _ h e)
-schedule_judged nodes text (schedule.Name line) h e = (omega arith, λ of_text. script_found nodes text _ h e)
-schedule_judged nodes text (schedule.Seat line) h e = (omega arith, λ of_text. script_found nodes text _ h e)
+schedule_judged : (first : ℕ) (nodes : List Node) (text : List ℕ) (fault : ScheduleFault) → IsUtf8 text → schedules.IsRefused fault (schedule_of nodes text)
+    → IsRefused first (schedule_fault (first + 1) nodes text) (Text (first + 1) (Schedule fault))
+schedule_judged first nodes text schedule.Memory h e = (inr refl, λ of_text. cc)
+schedule_judged first nodes text (schedule.Syntax line) h e = (inr refl, λ of_text. script_found (first + 1) nodes text _ h e)
+schedule_judged first nodes text (schedule.Name line) h e = (inr refl, λ of_text. script_found (first + 1) nodes text _ h e)
+schedule_judged first nodes text (schedule.Seat line) h e = (inr refl, λ of_text. script_found (first + 1) nodes text _ h e)
 
-hides_below : (nodes : List Node) (text : List ℕ) (fault : ScheduleFault) → (fault ≡ schedule.Memory → IsSoundOrCrowded nodes (lines text))
-    → HidesBelowManagers nodes text (Text 1 (Schedule fault))
-hides_below nodes text schedule.Memory h = h refl
-hides_below nodes text (schedule.Syntax line) h = tt
-hides_below nodes text (schedule.Name line) h = tt
-hides_below nodes text (schedule.Seat line) h = tt
+hides_below : (input : ℕ) (nodes : List Node) (text : List ℕ) (fault : ScheduleFault) → (fault ≡ schedule.Memory → IsSoundOrCrowded nodes (lines text))
+    → HidesBelowManagers nodes text (Text input (Schedule fault))
+hides_below input nodes text schedule.Memory h = h refl
+hides_below input nodes text (schedule.Syntax line) h = tt
+hides_below input nodes text (schedule.Name line) h = tt
+hides_below input nodes text (schedule.Seat line) h = tt
 
-pub schedule_refused : (nodes : List Node) (text : List ℕ) (fault : ScheduleFault) → IsUtf8 text → schedules.IsRefused fault (schedule_of nodes text)
-    → (fault ≡ schedule.Memory → IsSoundOrCrowded nodes (lines text)) → RefusesScript nodes text (Text 1 (Schedule fault))
-schedule_refused nodes text fault h e hides = record {
-  refused = schedule_judged nodes text fault h e;
-  hides = hides_below nodes text fault hides;
+pub schedule_refused : (first : ℕ) (nodes : List Node) (text : List ℕ) (fault : ScheduleFault) → IsUtf8 text → schedules.IsRefused fault (schedule_of nodes text)
+    → (fault ≡ schedule.Memory → IsSoundOrCrowded nodes (lines text)) → RefusesScript first nodes text (Text (first + 1) (Schedule fault))
+schedule_refused first nodes text fault h e hides = record {
+  refused = schedule_judged first nodes text fault h e;
+  hides = hides_below (first + 1) nodes text fault hides;
   no_topology = λ topology. tt;
 }
 
 -- both ----------------------------------------------------------------------------------------
 
-pub behind : (text script : List ℕ) (layout : Layout) → TellsTopology text layout → input_fault text script ≡ schedule_fault layout.nodes script
-behind text script layout tells =
-    ap (λ b. if b then fault_behind (topology_of text) script else Some (Text 0 NotUtf8)) tells.utf8 ∙ ap (λ r. fault_behind r script) tells.told
+pub behind : (first : ℕ) (text script : List ℕ) (layout : Layout) → TellsTopology text layout
+    → input_fault first text script ≡ schedule_fault (first + 1) layout.nodes script
+behind first text script layout tells =
+    ap (λ b. if b then fault_behind first (topology_of text) script else Some (Text first NotUtf8)) tells.utf8
+    ∙ ap (λ r. fault_behind first r script) tells.told
 
 one_layout : (text : List ℕ) (x y : Layout) → TellsTopology text x → TellsTopology text y → x ≡ y
 one_layout text x y a b = let e = a.told in let f = b.told in cc
 
 -- a schedule that is refused behind a sound topology
-pub refused_behind : (text script : List ℕ) (layout : Layout) (fault : Fault) → TellsTopology text layout → RefusesScript layout.nodes script fault
-    → RefusesTexts text script fault
-refused_behind text script layout fault tells r = record {
-  refused = subst (λ (o : Option Fault). IsRefused o fault) (sym (behind text script layout tells)) r.refused;
+pub refused_behind : (first : ℕ) (text script : List ℕ) (layout : Layout) (fault : Fault) → TellsTopology text layout
+    → RefusesScript first layout.nodes script fault → RefusesTexts first text script fault
+refused_behind first text script layout fault tells r = record {
+  refused = subst (λ (o : Option Fault). IsRefused first o fault) (sym (behind first text script layout tells)) r.refused;
   hides = r.no_topology text;
   hides_in_schedule = λ told also.
       let same : layout ≡ told = one_layout text layout told tells also in

@@ -1,4 +1,3 @@
-pub mod FromRoots
 pub mod Held
 pub mod Judging
 pub mod Merging
@@ -9,5 +8,7 @@ pub mod Running
 pub mod Seating
 pub mod Seats
 pub mod Sending
+pub mod Switches
 pub mod Turns
+pub mod TwoTexts
 pub mod Written

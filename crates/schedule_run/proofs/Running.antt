@@ -1,16 +1,20 @@
 -- A run of two texts that are sound: what it prints, and why it ends early.
-use Rattle.lft_blocks.specs.Planning.{Planning}
-use Rattle.std.proofs.Common.{◌≡◌, ◌∙◌, ℕ, Bool, List, Option, sym, ap, subst}
+use Rattle.std.proofs.Common.{◌≡◌, ◌∙◌, ◌++◌, ℕ, Bool, List, Option, None, Some, inl, inr, refl, sym, ap, subst}
 use Rattle.topo_file.specs.Topology.{Layout}
 use Rattle.schedule_file.specs.Schedule.{Script}
-use Rattle.sm_cli.specs.declared.fault.Fault.{Fault}
-use Rattle.sm_cli.specs.declared.fault.Fault.TheVariants as faults
+use Rattle.lft_blocks.specs.Planning.{Planning}
+use Rattle.lft_blocks.specs.Rules.{RuleValue}
+use Rattle.sm_cli.specs.InputRule.{IsRuleRead, rule_fault}
+use Rattle.sm_cli.specs.declared.asked.RuleAsked.{RuleAsked}
+use Rattle.sm_cli.specs.declared.fault.Fault.TheVariants.{Text}
+use Rattle.sm_cli.specs.declared.text_fault.TextFault.{TextFault}
 use Rattle.schedule_run.specs.Commands.{run_text, schedule_text, script_text, topology_text}
-use Rattle.schedule_run.specs.Prints.{PrintsSome, PrintsUnless}
-use Rattle.schedule_run.specs.Run.{AreTold, HasRun, IsInputFault, IsRunFault, Tells, fault_of_run}
+use Rattle.schedule_run.specs.Prints.{Prints, PrintsSome, PrintsUnless}
+use Rattle.schedule_run.specs.Run.{AreTold, HasRun, HaveTold, IsRunFault, StopsEarly, Tells, fault_of_run, has_switch}
 use Rattle.schedule_run.specs.declared.run_fault.RunFault.{RunFault}
 use Rattle.schedule_run.specs.declared.run_fault.RunFault.TheVariants.{Write, Memory}
 use Rattle.schedule_run.proofs.Printing.{failed_with}
+use Rattle.std.specs.Io.KnownBytes.{Appends}
 
 -- what they tell is run
 pub runs_text : (planning : Planning) (topology schedule : List ℕ) (layout : Layout) (script : Script) → Tells topology schedule layout script
@@ -18,31 +22,67 @@ pub runs_text : (planning : Planning) (topology schedule : List ℕ) (layout : L
 runs_text planning topology schedule layout script tells =
     sym (ap (λ r. topology_text planning r schedule) tells.topology_told.told ∙ ap (schedule_text planning layout) tells.schedule_told)
 
-module _ {T S : Type 0} (left : T → Option (List ℕ)) (has_failed : T → Bool) (left' : S → Option (List ℕ)) (has_failed' : S → Bool)
-    (old new : T) (old' new' : S) where
-  -- a run of what is refused would end so too
-  pub not_run : (interruptions : T → ℕ) (interruptions' : S → ℕ) (planning : Planning) (prints : List ℕ → Type 0) (sink_failed : Bool) (fault : Fault)
-      → IsInputFault left has_failed interruptions left' has_failed' interruptions' old new old' new' fault
-      → IsRunFault left has_failed interruptions left' has_failed' interruptions' old new old' new' planning prints sink_failed fault
-  not_run interruptions interruptions' planning prints sink_failed (faults.Open index) h = h
-  not_run interruptions interruptions' planning prints sink_failed (faults.File index fault) h = h
-  not_run interruptions interruptions' planning prints sink_failed (faults.Text index fault) h = h
-  not_run interruptions interruptions' planning prints sink_failed (faults.NoRoom why) h = h
-  not_run interruptions interruptions' planning prints sink_failed faults.Write h = absurd h
-  not_run interruptions interruptions' planning prints sink_failed faults.Memory h = absurd h
+module _ {S : Type 0} (left : S → Option (List ℕ)) (has_failed : S → Bool) (lmc : ℕ) (asked : RuleAsked) (olds roots roots' texts texts' : List S)
+    (were : olds ≡ roots ++ texts) (rule : RuleValue) (layout : Layout) (script : Script) (rule_read : IsRuleRead left has_failed asked roots roots' rule)
+    (told : AreTold left has_failed texts texts' layout script) where
+  abbrev all_told : HaveTold left has_failed asked olds (roots' ++ texts') rule layout script
+  all_told = record {
+    roots = roots;
+    roots' = roots';
+    texts = texts;
+    texts' = texts';
+    were = were;
+    are = refl;
+    rule_read = rule_read;
+    told = told;
+  }
 
-  module _ (planning : Planning) (layout : Layout) (script : Script)
-      (told : AreTold left has_failed left' has_failed' old new old' new' layout script) where
-    pub has_run : (prints : List ℕ → Type 0) → prints (script_text planning layout script)
-        → HasRun left has_failed left' has_failed' old new old' new' planning prints
-    has_run prints p = record {
-      texts = told.texts;
-      printed = subst prints (runs_text planning told.texts.topology told.texts.schedule layout script told.tells) p;
+  -- managers can't plan by the roots
+  pub roots_refused : (interruptions : S → ℕ) (prints : List ℕ → Type 0) (sink_failed : Bool) (why : TextFault)
+      → rule_fault (has_switch layout.nodes) asked rule ≡ Some why
+      → IsRunFault left has_failed interruptions lmc asked olds (roots' ++ texts') prints sink_failed (Text 0 why)
+  roots_refused interruptions prints sink_failed why e = inr (inr (inl (record {
+    rule = rule;
+    layout = layout;
+    script = script;
+    read = all_told;
+    why = why;
+    is = refl;
+    refused = e;
+  })))
+
+  module _ (sound : rule_fault (has_switch layout.nodes) asked rule ≡ None) (planning : Planning) (by : planning ≡ record { lmc = lmc; rule = rule }) where
+    has_run : (prints : List ℕ → Type 0) → prints (script_text planning layout script) → HasRun left has_failed lmc asked olds (roots' ++ texts') prints
+    has_run prints p =
+        let Printed : Planning → Type 0 = λ way. prints (run_text way told.topology told.schedule) in record {
+          rule = rule;
+          layout = layout;
+          script = script;
+          read = all_told;
+          sound = sound;
+          printed = subst Printed by (subst prints (runs_text planning told.topology told.schedule layout script told.tells) p);
+        }
+
+    -- what was printed was appended
+    pub has_printed : {W : Type 0} (written : W → Option (List ℕ)) (failed : W → Bool) (sink sink' : W)
+        → Prints written failed sink sink' (script_text planning layout script)
+        → HasRun left has_failed lmc asked olds (roots' ++ texts') (Appends (written sink) (written sink'))
+    has_printed written failed sink sink' p = has_run (Appends (written sink) (written sink')) p.grown
+
+    stops : {W : Type 0} (written : W → Option (List ℕ)) (failed : W → Bool) (fault : RunFault) (sink sink' : W)
+        → PrintsUnless written failed (failed_with fault) sink sink' (script_text planning layout script)
+        → StopsEarly left has_failed lmc asked olds (roots' ++ texts') (PrintsSome written failed sink sink') (failed sink') (fault_of_run fault)
+    stops written failed Write sink sink' p = record {
+      rule = rule;
+      layout = layout;
+      script = script;
+      read = all_told;
+      sound = sound;
+      failed = p;
     }
+    stops written failed Memory sink sink' p = has_run (PrintsSome written failed sink sink') p
 
-    pub run_fails : {W : Type 0} (written : W → Option (List ℕ)) (sink_failed : W → Bool) (interruptions : T → ℕ) (interruptions' : S → ℕ) (fault : RunFault)
-        (sink sink' : W) → PrintsUnless written sink_failed (failed_with fault) sink sink' (script_text planning layout script)
-        → IsRunFault left has_failed interruptions left' has_failed' interruptions' old new old' new' planning (PrintsSome written sink_failed sink sink')
-        (sink_failed sink') (fault_of_run fault)
-    run_fails written sink_failed interruptions interruptions' Write sink sink' p = record { texts = told.texts; failed = p }
-    run_fails written sink_failed interruptions interruptions' Memory sink sink' p = has_run (PrintsSome written sink_failed sink sink') p
+    pub run_fails : {W : Type 0} (interruptions : S → ℕ) (written : W → Option (List ℕ)) (failed : W → Bool) (fault : RunFault) (sink sink' : W)
+        → PrintsUnless written failed (failed_with fault) sink sink' (script_text planning layout script)
+        → IsRunFault left has_failed interruptions lmc asked olds (roots' ++ texts') (PrintsSome written failed sink sink') (failed sink') (fault_of_run fault)
+    run_fails interruptions written failed fault sink sink' p = inr (inr (inr (stops written failed fault sink sink' p)))

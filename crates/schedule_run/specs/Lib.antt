@@ -3,7 +3,6 @@ pub mod Flights
 pub mod Lines
 pub mod Prints
 pub mod Refusals
-pub mod Rooted
 pub mod Run
 pub mod Tables
 pub mod World

@@ -1,7 +1,8 @@
--- A run of a schedule: its two texts are read, and then judged; the topology comes first.
-use Rattle.lft_blocks.specs.Planning.{Planning}
-use Rattle.std.specs.Prelude.{◌≡◌, ◌⊎◌, ◌<◌, ℕ, Bool, true, List, Option, Some, None, Result, Ok, Err, IsTrue, if◌then◌else◌}
+-- A run of a schedule: its inputs are read in order, the text of roots where managers plan from some, the topology and the schedule, and then judged.
+use Rattle.std.specs.Prelude.{◌≡◌, ◌⊎◌, ◌+◌, ◌&&◌, ◌==◌, ℕ, Bool, true, List, [], ◌∷◌, ◌++◌, Option, Some, None, Result, Ok, Err, IsTrue, if◌then◌else◌}
+use Rattle.std.specs.List.{list_any}
 use Rattle.std.specs.Str.{is_utf8}
+use Rattle.smp_bytes.specs.NodeType.{is_switch}
 use Rattle.record_file.specs.Whole.{IsReadWhole, FailsToRead}
 use Rattle.record_file.specs.declared.file_fault.FileFault.{FileFault}
 use Rattle.topo_file.specs.FirstFault.{first_line_fault}
@@ -15,9 +16,15 @@ use Rattle.schedule_file.specs.FirstFault.{IsSoundOrCrowded}
 use Rattle.schedule_file.specs.Schedule.{Script, schedule_of}
 use Rattle.schedule_file.specs.declared.fault.ScheduleFault.{ScheduleFault}
 use Rattle.schedule_file.specs.declared.fault.ScheduleFault.TheVariants as schedules
+use Rattle.lft_blocks.specs.Rules.{RuleValue}
+use Rattle.sm_cli.specs.Asked.{texts_for}
+use Rattle.sm_cli.specs.InputRule.{IsRuleRead, rule_fault}
+use Rattle.sm_cli.specs.Run.{RefusesRule}
 use Rattle.sm_cli.specs.TextFault.{is_of_text}
+use Rattle.sm_cli.specs.declared.asked.RuleAsked.{RuleAsked}
 use Rattle.sm_cli.specs.declared.fault.Fault.{Fault}
 use Rattle.sm_cli.specs.declared.fault.Fault.TheVariants.{File, Text, Write, Memory}
+use Rattle.sm_cli.specs.declared.text_fault.TextFault.{TextFault}
 use Rattle.sm_cli.specs.declared.text_fault.TextFault.TheVariants.{NotUtf8, Topology, Schedule}
 use Rattle.schedule_run.specs.Commands.{run_text}
 use Rattle.schedule_run.specs.declared.run_fault.RunFault.{RunFault}
@@ -25,33 +32,33 @@ use Rattle.schedule_run.specs.declared.run_fault.RunFault.TheVariants as runs
 
 -- judging ---------------------------------------------------------------------------------------
 
--- what is wrong with a schedule, by what its text says
-abbrev pub fault_of_script : Result Script ScheduleFault → Option Fault
-fault_of_script (Ok script) = None
-fault_of_script (Err fault) = Some (Text 1 (Schedule fault))
+-- what is wrong with the schedule at an input, by what its text says
+abbrev pub fault_of_script : ℕ → Result Script ScheduleFault → Option Fault
+fault_of_script input (Ok script) = None
+fault_of_script input (Err fault) = Some (Text input (Schedule fault))
 
--- what is wrong with the text of a schedule for a fabric that has these nodes
-abbrev pub schedule_fault : List Node → List ℕ → Option Fault
-schedule_fault nodes text = if is_utf8 text then fault_of_script (schedule_of nodes text) else Some (Text 1 NotUtf8)
+-- what is wrong with its text for a fabric that has these nodes
+abbrev pub schedule_fault : ℕ → List Node → List ℕ → Option Fault
+schedule_fault input nodes text = if is_utf8 text then fault_of_script input (schedule_of nodes text) else Some (Text input NotUtf8)
 
--- what is wrong with a topology or, where it is sound, with the text of the schedule
-abbrev pub fault_behind : Result Layout TopoFault → List ℕ → Option Fault
-fault_behind (Ok layout) schedule = schedule_fault layout.nodes schedule
-fault_behind (Err fault) schedule = Some (Text 0 (Topology fault))
+-- what is wrong with the topology at an input or, where it is sound, with the text of the schedule behind it
+abbrev pub fault_behind : ℕ → Result Layout TopoFault → List ℕ → Option Fault
+fault_behind input (Ok layout) schedule = schedule_fault (input + 1) layout.nodes schedule
+fault_behind input (Err fault) schedule = Some (Text input (Topology fault))
 
--- the first fault of the texts of a topology and of a schedule, where they have one: that one is at input 0, and this at 1
-abbrev pub input_fault : List ℕ → List ℕ → Option Fault
-input_fault topology schedule = if is_utf8 topology then fault_behind (topology_of topology) schedule else Some (Text 0 NotUtf8)
+-- the first fault of the texts of a topology, which is at an input, and of a schedule, at the next one, where they have a fault
+abbrev pub input_fault : ℕ → List ℕ → List ℕ → Option Fault
+input_fault input topology schedule = if is_utf8 topology then fault_behind input (topology_of topology) schedule else Some (Text input NotUtf8)
 
 -- the bytes tell this topology
 pub record TellsTopology (text : List ℕ) (layout : Layout) : Type 0 where
   pub utf8 : is_utf8 text ≡ true
   pub told : topology_of text ≡ Ok layout
 
--- a fault is the one that is found, or out of memory
-abbrev pub IsRefused : Option Fault → Fault → Type 0
-IsRefused found (Text input fault) = (input < 2) × (is_of_text fault ≡ true → found ≡ Some (Text input fault))
-IsRefused found fault = ⊥
+-- a fault of one of the two texts, of which the first is at an input, is the one that is found, or out of memory
+abbrev pub IsRefused : ℕ → Option Fault → Fault → Type 0
+IsRefused first found (Text input fault) = ((input ≡ first) ⊎ (input ≡ first + 1)) × (is_of_text fault ≡ true → found ≡ Some (Text input fault))
+IsRefused first found fault = ⊥
 
 -- out of memory for a topology hides no fault of a line, but for a link's peer and ports
 abbrev pub HidesLinksAlone : List ℕ → Fault → Type 0
@@ -63,101 +70,154 @@ abbrev pub HidesBelowManagers : List Node → List ℕ → Fault → Type 0
 HidesBelowManagers nodes schedule (Text input (Schedule schedules.Memory)) = IsSoundOrCrowded nodes (lines schedule)
 HidesBelowManagers nodes schedule _ = Unit {0}
 
--- the text of a schedule is refused for its first fault, or memory was wanting as it was judged
-pub record RefusesScript (nodes : List Node) (text : List ℕ) (fault : Fault) : Type 0 where
-  pub refused : IsRefused (schedule_fault nodes text) fault
+-- the text of a schedule, behind the topology at an input, is refused for its first fault, or memory was wanting as it was judged
+pub record RefusesScript (first : ℕ) (nodes : List Node) (text : List ℕ) (fault : Fault) : Type 0 where
+  pub refused : IsRefused first (schedule_fault (first + 1) nodes text) fault
   pub hides : HidesBelowManagers nodes text fault
   pub no_topology : (topology : List ℕ) → HidesLinksAlone topology fault
 
 -- the texts are refused for their first fault, or memory was wanting as they were judged
-pub record RefusesTexts (topology schedule : List ℕ) (fault : Fault) : Type 0 where
-  pub refused : IsRefused (input_fault topology schedule) fault
+pub record RefusesTexts (first : ℕ) (topology schedule : List ℕ) (fault : Fault) : Type 0 where
+  pub refused : IsRefused first (input_fault first topology schedule) fault
   pub hides : HidesLinksAlone topology fault
   pub hides_in_schedule : (layout : Layout) → TellsTopology topology layout → HidesBelowManagers layout.nodes schedule fault
 
 -- reading ---------------------------------------------------------------------------------------
 
+-- there are two sources, and these are they: a topology's and a schedule's
+pub record AreTexts {S : Type 0} (sources : List S) : Type 0 where
+  pub topology : S
+  pub schedule : S
+  pub are : sources ≡ topology ∷ schedule ∷ []
+
 -- both sources were read to their ends, and these are their bytes
-pub record AreRead {T S : Type 0} (left : T → Option (List ℕ)) (has_failed : T → Bool) (left' : S → Option (List ℕ)) (has_failed' : S → Bool)
-    (old new : T) (old' new' : S)
-    (topology schedule : List ℕ) : Type 0 where
+pub record AreRead {S : Type 0} (left : S → Option (List ℕ)) (has_failed : S → Bool) (old new : S) (old' new' : S) (topology schedule : List ℕ) : Type 0 where
   pub topology_read : IsReadWhole left has_failed old new topology
-  pub schedule_read : IsReadWhole left' has_failed' old' new' schedule
+  pub schedule_read : IsReadWhole left has_failed old' new' schedule
 
 -- the topology can't be read whole, and the schedule was not touched
-pub record FailsAtTopology {T S : Type 0} (left : T → Option (List ℕ)) (has_failed : T → Bool) (interruptions : T → ℕ) (old new : T) (old' new' : S)
+pub record FailsAtTopology {S : Type 0} (left : S → Option (List ℕ)) (has_failed : S → Bool) (interruptions : S → ℕ) (first : ℕ) (old new old' new' : S)
     (input : ℕ) (fault : FileFault) : Type 0 where
-  pub first : input ≡ 0
+  pub is_first : input ≡ first
   pub fails : FailsToRead left has_failed interruptions old new fault
   pub untouched : new' ≡ old'
 
 -- the topology was read, and the schedule can't be read whole
-pub record FailsAtSchedule {T S : Type 0} (left : T → Option (List ℕ)) (has_failed : T → Bool) (left' : S → Option (List ℕ)) (has_failed' : S → Bool)
-    (interruptions' : S → ℕ) (old new : T) (old' new' : S) (input : ℕ) (fault : FileFault) : Type 0 where
-  pub second : input ≡ 1
+pub record FailsAtSchedule {S : Type 0} (left : S → Option (List ℕ)) (has_failed : S → Bool) (interruptions : S → ℕ) (first : ℕ) (old new old' new' : S)
+    (input : ℕ) (fault : FileFault) : Type 0 where
+  pub is_second : input ≡ first + 1
   pub topology : List ℕ
   pub read : IsReadWhole left has_failed old new topology
-  pub fails : FailsToRead left' has_failed' interruptions' old' new' fault
+  pub fails : FailsToRead left has_failed interruptions old' new' fault
 
--- the fault is that of the source that can't be read whole, the topology's first
-abbrev pub FailsToReadThem :
-    {T S : Type 0} → (T → Option (List ℕ)) → (T → Bool) → (T → ℕ) → (S → Option (List ℕ)) → (S → Bool) → (S → ℕ) → T → T → S → S → Fault → Type 0
-FailsToReadThem left has_failed interruptions left' has_failed' interruptions' old new old' new' (File input fault) =
-    FailsAtTopology left has_failed interruptions old new old' new' input fault
-    ⊎ FailsAtSchedule left has_failed left' has_failed' interruptions' old new old' new' input fault
-FailsToReadThem left has_failed interruptions left' has_failed' interruptions' old new old' new' fault = ⊥
+-- the fault is that of the source that can't be read whole, the topology's first, which is at this input
+abbrev pub FailsToReadThem : {S : Type 0} → (S → Option (List ℕ)) → (S → Bool) → (S → ℕ) → ℕ → S → S → S → S → Fault → Type 0
+FailsToReadThem left has_failed interruptions first old new old' new' (File input fault) =
+    FailsAtTopology left has_failed interruptions first old new old' new' input fault
+    ⊎ FailsAtSchedule left has_failed interruptions first old new old' new' input fault
+FailsToReadThem left has_failed interruptions first old new old' new' fault = ⊥
 
 -- the texts tell this topology and, for it, this schedule
 pub record Tells (topology schedule : List ℕ) (layout : Layout) (script : Script) : Type 0 where
   pub topology_told : TellsTopology topology layout
   pub schedule_told : schedule_of layout.nodes schedule ≡ Ok script
 
+-- both sources were read to their ends, and this is what they tell
+pub record AreTold {S : Type 0} (left : S → Option (List ℕ)) (has_failed : S → Bool) (olds news : List S) (layout : Layout) (script : Script) : Type 0 where
+  pub were : AreTexts olds
+  pub are : AreTexts news
+  pub topology : List ℕ
+  pub schedule : List ℕ
+  pub read : AreRead left has_failed were.topology are.topology were.schedule are.schedule topology schedule
+  pub tells : Tells topology schedule layout script
+
+-- they were read to their ends, and what they say is refused with this fault
+pub record AreRefused {S : Type 0} (left : S → Option (List ℕ)) (has_failed : S → Bool) (first : ℕ) (old new old' new' : S) (fault : Fault) : Type 0 where
+  pub topology : List ℕ
+  pub schedule : List ℕ
+  pub read : AreRead left has_failed old new old' new' topology schedule
+  pub refuses : RefusesTexts first topology schedule fault
+
+-- a source can't be read whole, or what both say is refused
+abbrev pub IsTextsFault : {S : Type 0} → (S → Option (List ℕ)) → (S → Bool) → (S → ℕ) → ℕ → S → S → S → S → Fault → Type 0
+IsTextsFault left has_failed interruptions first old new old' new' fault =
+    FailsToReadThem left has_failed interruptions first old new old' new' fault
+    ⊎ AreRefused left has_failed first old new old' new' fault
+
+-- why the two texts tell nothing, of which the first is at this input
+pub record AreNotTold {S : Type 0} (left : S → Option (List ℕ)) (has_failed : S → Bool) (interruptions : S → ℕ) (first : ℕ) (olds news : List S)
+    (fault : Fault) : Type 0 where
+  pub were : AreTexts olds
+  pub are : AreTexts news
+  pub why : IsTextsFault left has_failed interruptions first were.topology are.topology were.schedule are.schedule fault
+
+-- roots -----------------------------------------------------------------------------------------
+
+-- the node is a switch with this GUID
+abbrev pub is_switch_with : ℕ → Node → Bool
+is_switch_with guid node = is_switch node.kind && (node.guid == guid)
+
+-- one of the nodes is
+abbrev pub has_switch : List Node → ℕ → Bool
+has_switch nodes guid = list_any (is_switch_with guid) nodes
+
 -- running ---------------------------------------------------------------------------------------
 
--- both sources were read to their ends, and what they say has no fault
-pub record AreSound {T S : Type 0} (left : T → Option (List ℕ)) (has_failed : T → Bool) (left' : S → Option (List ℕ)) (has_failed' : S → Bool)
-    (old new : T) (old' new' : S) : Type 0 where
-  pub topology : List ℕ
-  pub schedule : List ℕ
-  pub read : AreRead left has_failed left' has_failed' old new old' new' topology schedule
-  pub sound : input_fault topology schedule ≡ None
+-- the inputs were read, the text that the rule takes and then topology and schedule: this is the rule, and this is what they tell
+pub record HaveTold {S : Type 0} (left : S → Option (List ℕ)) (has_failed : S → Bool) (asked : RuleAsked) (olds news : List S)
+    (rule : RuleValue) (layout : Layout) (script : Script) : Type 0 where
+  pub roots : List S
+  pub roots' : List S
+  pub texts : List S
+  pub texts' : List S
+  pub were : olds ≡ roots ++ texts
+  pub are : news ≡ roots' ++ texts'
+  pub rule_read : IsRuleRead left has_failed asked roots roots' rule
+  pub told : AreTold left has_failed texts texts' layout script
 
--- they are so, and this is what they tell
-pub record AreTold {T S : Type 0} (left : T → Option (List ℕ)) (has_failed : T → Bool) (left' : S → Option (List ℕ)) (has_failed' : S → Bool)
-    (old new : T) (old' new' : S) (layout : Layout) (script : Script) : Type 0 where
-  pub texts : AreSound left has_failed left' has_failed' old new old' new'
-  pub tells : Tells texts.topology texts.schedule layout script
-
--- they are so, and this holds of what their run under an LMC prints
-pub record HasRun {T S : Type 0} (left : T → Option (List ℕ)) (has_failed : T → Bool) (left' : S → Option (List ℕ)) (has_failed' : S → Bool)
-    (old new : T) (old' new' : S) (planning : Planning)
+-- all were read, each root that was asked for is a switch of the topology, and this holds of what the run of what they say by managers that plan so prints
+pub record HasRun {S : Type 0} (left : S → Option (List ℕ)) (has_failed : S → Bool) (lmc : ℕ) (asked : RuleAsked) (olds news : List S)
     (prints : List ℕ → Type 0) : Type 0 where
-  pub texts : AreSound left has_failed left' has_failed' old new old' new'
-  pub printed : prints (run_text planning texts.topology texts.schedule)
+  pub rule : RuleValue
+  pub layout : Layout
+  pub script : Script
+  pub read : HaveTold left has_failed asked olds news rule layout script
+  pub sound : rule_fault (has_switch layout.nodes) asked rule ≡ None
+  pub printed : prints (run_text (record { lmc = lmc; rule = rule }) read.told.topology read.told.schedule)
 
--- both sources were read to their ends, and what they say is refused with this fault
-pub record IsRefusedInput {T S : Type 0} (left : T → Option (List ℕ)) (has_failed : T → Bool) (left' : S → Option (List ℕ)) (has_failed' : S → Bool)
-    (old new : T) (old' new' : S)
-    (fault : Fault) : Type 0 where
-  pub topology : List ℕ
-  pub schedule : List ℕ
-  pub read : AreRead left has_failed left' has_failed' old new old' new' topology schedule
-  pub refuses : RefusesTexts topology schedule fault
+-- faults ----------------------------------------------------------------------------------------
 
--- why nothing is run: a source can't be read whole, or what both say is refused
-abbrev pub IsInputFault :
-    {T S : Type 0} → (T → Option (List ℕ)) → (T → Bool) → (T → ℕ) → (S → Option (List ℕ)) → (S → Bool) → (S → ℕ) → T → T → S → S → Fault → Type 0
-IsInputFault left has_failed interruptions left' has_failed' interruptions' old new old' new' (File input fault) =
-    FailsToReadThem left has_failed interruptions left' has_failed' interruptions' old new old' new' (File input fault)
-IsInputFault left has_failed interruptions left' has_failed' interruptions' old new old' new' (Text input fault) =
-    IsRefusedInput left has_failed left' has_failed' old new old' new' (Text input fault)
-IsInputFault left has_failed interruptions left' has_failed' interruptions' old new old' new' fault = ⊥
+-- topology or schedule is refused behind the text that the rule takes
+pub record RefusesInput {S : Type 0} (left : S → Option (List ℕ)) (has_failed : S → Bool) (interruptions : S → ℕ) (asked : RuleAsked)
+    (olds news : List S) (fault : Fault) : Type 0 where
+  pub roots : List S
+  pub roots' : List S
+  pub texts : List S
+  pub texts' : List S
+  pub were : olds ≡ roots ++ texts
+  pub are : news ≡ roots' ++ texts'
+  pub rule : RuleValue
+  pub rule_read : IsRuleRead left has_failed asked roots roots' rule
+  pub why : AreNotTold left has_failed interruptions (texts_for asked) texts texts' fault
 
--- the texts are sound, and the output failed as they were run
-pub record FailsToWrite {T S : Type 0} (left : T → Option (List ℕ)) (has_failed : T → Bool) (left' : S → Option (List ℕ)) (has_failed' : S → Bool)
-    (old new : T) (old' new' : S)
+-- all were read, and managers can't plan by the roots
+pub record RefusesRoots {S : Type 0} (left : S → Option (List ℕ)) (has_failed : S → Bool) (asked : RuleAsked) (olds news : List S) (fault : Fault) : Type 0 where
+  pub rule : RuleValue
+  pub layout : Layout
+  pub script : Script
+  pub read : HaveTold left has_failed asked olds news rule layout script
+  pub why : TextFault
+  pub is : fault ≡ Text 0 why
+  pub refused : rule_fault (has_switch layout.nodes) asked rule ≡ Some why
+
+-- nothing is refused, and the output failed as it was run
+pub record FailsToWrite {S : Type 0} (left : S → Option (List ℕ)) (has_failed : S → Bool) (asked : RuleAsked) (olds news : List S)
     (sink_failed : Bool) : Type 0 where
-  pub texts : AreSound left has_failed left' has_failed' old new old' new'
+  pub rule : RuleValue
+  pub layout : Layout
+  pub script : Script
+  pub read : HaveTold left has_failed asked olds news rule layout script
+  pub sound : rule_fault (has_switch layout.nodes) asked rule ≡ None
   pub failed : IsTrue sink_failed
 
 -- the fault of a run as one of the program
@@ -165,13 +225,17 @@ abbrev pub fault_of_run : RunFault → Fault
 fault_of_run runs.Write = Write
 fault_of_run runs.Memory = Memory
 
--- why a run ends early; where memory was refused as it went on, this holds of what it would have printed
-abbrev pub IsRunFault :
-    {T S : Type 0} → (T → Option (List ℕ)) → (T → Bool) → (T → ℕ) → (S → Option (List ℕ)) → (S → Bool) → (S → ℕ) → T → T → S → S → Planning → (List ℕ → Type 0)
-    → Bool → Fault → Type 0
-IsRunFault left has_failed interruptions left' has_failed' interruptions' old new old' new' planning prints sink_failed Write =
-    FailsToWrite left has_failed left' has_failed' old new old' new' sink_failed
-IsRunFault left has_failed interruptions left' has_failed' interruptions' old new old' new' planning prints sink_failed Memory =
-    HasRun left has_failed left' has_failed' old new old' new' planning prints
-IsRunFault left has_failed interruptions left' has_failed' interruptions' old new old' new' planning prints sink_failed fault =
-    IsInputFault left has_failed interruptions left' has_failed' interruptions' old new old' new' fault
+-- the run ended early; where memory was refused as it went on, this holds of what it would have printed
+abbrev pub StopsEarly : {S : Type 0} → (S → Option (List ℕ)) → (S → Bool) → ℕ → RuleAsked → List S → List S → (List ℕ → Type 0) → Bool → Fault → Type 0
+StopsEarly left has_failed lmc asked olds news prints sink_failed Write = FailsToWrite left has_failed asked olds news sink_failed
+StopsEarly left has_failed lmc asked olds news prints sink_failed Memory = HasRun left has_failed lmc asked olds news prints
+StopsEarly left has_failed lmc asked olds news prints sink_failed fault = ⊥
+
+-- why a run over open inputs ends early
+abbrev pub IsRunFault : {S : Type 0} → (S → Option (List ℕ)) → (S → Bool) → (S → ℕ) → ℕ → RuleAsked → List S → List S → (List ℕ → Type 0) → Bool
+    → Fault → Type 0
+IsRunFault left has_failed interruptions lmc asked olds news prints sink_failed fault =
+    RefusesRule left has_failed interruptions asked olds news fault
+    ⊎ (RefusesInput left has_failed interruptions asked olds news fault
+    ⊎ (RefusesRoots left has_failed asked olds news fault
+    ⊎ StopsEarly left has_failed lmc asked olds news prints sink_failed fault))

@@ -7,7 +7,7 @@ mod cables;
 mod lines;
 mod packets;
 mod refusals;
-mod rooted;
+mod roots;
 mod run;
 mod run_fault;
 mod show;
@@ -15,5 +15,4 @@ mod tables;
 mod texts;
 mod world;
 
-pub use rooted::run_rooted_schedule;
 pub use run::run_schedule;

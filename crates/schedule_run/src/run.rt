@@ -1,61 +1,78 @@
 //! The run of a schedule.
-ghost use Rattle.std.specs.Prelude.{◌≡◌, ◌⊎◌, Err, false, length, IfErr, OnOk, OnErr, IsTrue};
+ghost use Rattle.std.specs.Prelude.{◌≡◌, ◌⊎◌, ◌+◌, Err, false, length, IfErr, OnOk, OnErr, IsTrue};
+ghost use Rattle.std.specs.Io.KnownBytes.{Appends};
 ghost use Rattle.schedule_file.specs.Schedule.{IsScript, NamesManagers};
+ghost use Rattle.sm_cli.specs.Asked.{texts_for};
 ghost use Rattle.schedule_run.specs.Commands.{after_command, script_text};
-ghost use Rattle.schedule_run.specs.Prints.{Prints, PrintsSome, PrintsUnless};
+ghost use Rattle.schedule_run.specs.Prints.{PrintsSome, PrintsUnless};
 ghost use Rattle.schedule_run.specs.Run.{HasRun, IsRunFault};
 ghost use Rattle.schedule_run.specs.World.{value_of};
 
+use crate::roots::rule_fault;
 use crate::run_fault::RunFault;
 use crate::texts::{Setting, read_setting};
 use crate::world::World;
+use attr_codec::Lmc;
 use byte_io::{Sink, Source};
 use lft_blocks::Planning;
 use schedule_file::Command;
-use sm_cli::Fault;
+use sm_cli::{Fault, RuleAsked, read_rule};
 use std::alloc::Global;
 use topo_file::Topology;
 
-/// Runs a schedule in the simulated fabric of a topology, with managers that plan 2^LMC LIDs for each adapter port. Both are read to their ends, the topology
-/// first, and then judged, the topology first; then the commands are run in their order, and their
-/// output is flushed.
+/// Runs a schedule in the simulated fabric of a topology, with managers that plan 2^LMC LIDs for each adapter port by the
+/// rule that is asked for. The inputs are the text of roots, where one is asked for, the topology and the schedule. The
+/// roots are read to their end and judged, then both others are read to their ends, the topology first, and then judged,
+/// the topology first; then there has to be a root, where a text names them, and each has to be a switch of the topology.
+/// Then the commands are run in their order, and their output is flushed.
 ///
-/// What is written is `run_text` of the two texts: the lines of all commands in turn. Where an input
-/// is refused nothing is written; where memory is refused as the commands are run it is a beginning
-/// of that text; how much went out before a write failed is not said. What a fault says of a file is
-/// said of input 0 for the topology, and of input 1 for the schedule. A call that the fabric or a
-/// manager refuses is told by a line with its fault's name, and the run goes on; only out of memory
-/// ends it. `docs/FORMATS.md` has the table of the commands.
+/// What is written is `run_text` of the two texts: the lines of all commands in turn. Where an input is refused nothing is
+/// written; where memory is refused as the commands are run it is a beginning of that text; how much went out before a
+/// write failed is not said. A call that the fabric or a manager refuses is told by a line with its fault's name, and the
+/// run goes on; only out of memory ends it. `docs/FORMATS.md` has the table of the commands.
 ///
-/// It takes the memory of both texts, of the fabric and of what is in flight and known. A delivery
-/// takes one step where the packet of the least serial number is delivered, as `drain` does, and a
-/// search elsewhere, and what the manager takes for the packet where it comes to one.
-pub fn run_schedule<T: Source, S: Source, W: Sink>(
+/// It takes the memory of the texts, of the fabric and of what is in flight and known. A delivery takes one step where the
+/// packet of the least serial number is delivered, as `drain` does, and a search elsewhere, and what the manager takes for
+/// the packet where it comes to one. Roots take besides a walk over the nodes for each.
+pub fn run_schedule<S: Source, W: Sink>(
     alloc: Global,
-    topology: &mut T,
-    schedule: &mut S,
-    planning: &Planning,
+    inputs: &mut [S],
+    lmc: Lmc,
+    asked: RuleAsked,
     sink: &mut W,
 ) -> Result<(), Fault>
-    ensures done { OnOk result (HasRun T.left T.has_failed S.left S.has_failed
-        topology.old topology.new schedule.old schedule.new planning.now
-        (Prints W.written W.has_failed sink.old sink.new)) }
+    requires { length inputs.old ≡ texts_for asked + 2 }
+    ensures done { OnOk result (HasRun S.left S.has_failed lmc asked inputs.old inputs.new
+        (Appends (W.written sink.old) (W.written sink.new))) }
     ensures flushed { OnOk result (IsTrue (W.is_flushed sink.new)) }
     ensures sink_works { OnOk result (W.has_failed sink.new ≡ false) }
-    ensures refused { IfErr result (IsRunFault T.left T.has_failed T.interruptions
-        S.left S.has_failed S.interruptions
-        topology.old topology.new schedule.old schedule.new planning.now
+    ensures refused { IfErr result (IsRunFault S.left S.has_failed S.interruptions lmc asked
+        inputs.old inputs.new
         (PrintsSome W.written W.has_failed sink.old sink.new) (W.has_failed sink.new)) }
     ensures nothing_written { OnErr result ((result ≡ Err Fault.Write)
         ⊎ (result ≡ Err Fault.Memory) ⊎ (sink.new ≡ sink.old)) }
 {
-    let setting = read_setting(alloc, topology, schedule)?;
-    run(alloc, &setting, planning, sink)?;
-    Ok(())
+    let (roots, texts) = inputs.split_at_mut(asked.texts());
+    let rule = match read_rule(alloc, asked, roots) {
+        Ok(rule) => rule,
+        Err(fault) => return Err(fault),
+    };
+    let setting = match read_setting(alloc, asked.texts(), texts) {
+        Ok(setting) => setting,
+        Err(fault) => return Err(fault),
+    };
+    if let Some(fault) = rule_fault(asked, &rule, &setting.topology) {
+        return Err(Fault::Text { input: 0, fault });
+    }
+    let planning = Planning::new(lmc, rule);
+    match run(alloc, &setting, &planning, sink) {
+        Ok(()) => Ok(()),
+        Err(fault) => Err(Fault::from(fault)),
+    }
 }
 
 /// Runs the commands of a schedule, and flushes.
-pub(crate) fn run<W: Sink>(
+fn run<W: Sink>(
     alloc: Global,
     setting: &Setting,
     planning: &Planning,

@@ -1,7 +1,7 @@
-//! The two texts of a run: they are read, and then judged.
-ghost use Rattle.std.specs.Prelude.{◌≡◌, ℕ, List, IfOk, IfErr, Ok, OnOk, None};
+//! The texts of a topology and of a schedule: they are read, and then judged.
+ghost use Rattle.std.specs.Prelude.{◌≡◌, ◌+◌, ◌<◌, ℕ, List, IfOk, IfErr, Ok, OnOk, None, length};
 ghost use Rattle.schedule_file.specs.Schedule.{IsScript, schedule_of};
-ghost use Rattle.schedule_run.specs.Run.{AreRead, AreTold, FailsToReadThem, IsInputFault, RefusesScript, RefusesTexts, Tells};
+ghost use Rattle.schedule_run.specs.Run.{AreNotTold, AreRead, AreTold, FailsToReadThem, IsTextsFault, RefusesScript, RefusesTexts, Tells};
 ghost use Rattle.schedule_run.specs.Run.{TellsTopology, input_fault, schedule_fault};
 
 use byte_io::Source;
@@ -11,11 +11,6 @@ use sm_cli::{Fault, TextFault};
 use std::alloc::Global;
 use std::str;
 use topo_file::Topology;
-
-/// The indices of the texts among the words of the command line.
-const TOPOLOGY: usize = 0;
-
-const SCHEDULE: usize = 1;
 
 /// The bytes of a topology and of a schedule.
 #[derive(Drop)]
@@ -31,47 +26,57 @@ pub(crate) struct Setting {
     pub(crate) schedule: Schedule,
 }
 
-/// What both texts tell, or their first fault. Both are read to their ends, the topology first, and then judged.
-pub(crate) fn read_setting<T: Source, S: Source>(
+/// What both texts tell, or their first fault. Both are read to their ends, the topology first, and then judged. So many
+/// inputs come before them.
+pub(crate) fn read_setting<S: Source>(
     alloc: Global,
-    topology: &mut T,
-    schedule: &mut S,
+    before: usize,
+    texts: &mut [S],
 ) -> Result<Setting, Fault>
-    ensures told { IfOk result (λ setting. AreTold T.left T.has_failed S.left S.has_failed
-        topology.old topology.new schedule.old schedule.new
+    requires two { length texts.old ≡ 2 }
+    requires few { before < 2 }
+    ensures told { IfOk result (λ setting. AreTold S.left S.has_failed texts.old texts.new
         setting.topology setting.schedule) }
     ensures script { IfOk result (λ setting. IsScript setting.topology.nodes setting.schedule) }
-    ensures refused { IfErr result (IsInputFault T.left T.has_failed T.interruptions
-        S.left S.has_failed S.interruptions topology.old topology.new schedule.old schedule.new) }
+    ensures refused { IfErr result
+        (AreNotTold S.left S.has_failed S.interruptions before texts.old texts.new) }
 {
-    let texts = read_texts(alloc, topology, schedule)?;
-    let setting = judge(alloc, &texts)?;
-    Ok(setting)
+    let (topology, schedule) = texts.split_at_mut(1);
+    let texts = match read_texts(alloc, before, &mut topology[0], &mut schedule[0]) {
+        Ok(texts) => texts,
+        Err(fault) => return Err(fault),
+    };
+    match judge(alloc, before, &texts) {
+        Ok(setting) => Ok(setting),
+        Err(fault) => Err(fault),
+    }
 }
 
 /// The bytes of both texts, the topology's first.
-fn read_texts<T: Source, S: Source>(
+fn read_texts<S: Source>(
     alloc: Global,
-    topology: &mut T,
+    first: usize,
+    topology: &mut S,
     schedule: &mut S,
 ) -> Result<Texts, Fault>
-    ensures read { IfOk result (λ texts. AreRead T.left T.has_failed S.left S.has_failed
+    requires { first < 2 }
+    ensures read { IfOk result (λ texts. AreRead S.left S.has_failed
         topology.old topology.new schedule.old schedule.new
         texts.topology.items texts.schedule.items) }
-    ensures refused { IfErr result (FailsToReadThem T.left T.has_failed T.interruptions
-        S.left S.has_failed S.interruptions topology.old topology.new schedule.old schedule.new) }
+    ensures refused { IfErr result (FailsToReadThem S.left S.has_failed S.interruptions first
+        topology.old topology.new schedule.old schedule.new) }
 {
     let topology = match read_whole(alloc, topology) {
         Ok(bytes) => bytes,
         Err(fault) => return Err(Fault::File {
-            input: TOPOLOGY,
+            input: first,
             fault,
         }),
     };
     let schedule = match read_whole(alloc, schedule) {
         Ok(bytes) => bytes,
         Err(fault) => return Err(Fault::File {
-            input: SCHEDULE,
+            input: first + 1,
             fault,
         }),
     };
@@ -80,48 +85,55 @@ fn read_texts<T: Source, S: Source>(
 
 #[tactic(auto, using(crate::proofs::Judging::behind, crate::proofs::Judging::refused_behind))]
 /// What both texts tell, or their first fault: the topology is judged first.
-fn judge(alloc: Global, texts: &Texts) -> Result<Setting, Fault>
+fn judge(alloc: Global, first: usize, texts: &Texts) -> Result<Setting, Fault>
+    requires { first < 2 }
     ensures sound { OnOk result
-        (input_fault texts.now.topology.items texts.now.schedule.items ≡ None) }
+        (input_fault first texts.now.topology.items texts.now.schedule.items ≡ None) }
     ensures told { IfOk result (λ setting. Tells texts.now.topology.items
         texts.now.schedule.items setting.topology setting.schedule) }
     ensures script { IfOk result (λ setting. IsScript setting.topology.nodes setting.schedule) }
     ensures refused { IfErr result
-        (RefusesTexts texts.now.topology.items texts.now.schedule.items) }
+        (RefusesTexts first texts.now.topology.items texts.now.schedule.items) }
 {
-    let topology = judge_topology(alloc, &texts.topology)?;
-    let schedule = judge_schedule(alloc, &topology, &texts.schedule)?;
+    let topology = judge_topology(alloc, first, &texts.topology)?;
+    let schedule = judge_schedule(alloc, first, &topology, &texts.schedule)?;
     Ok(Setting { topology, schedule })
 }
 
 /// The topology that bytes tell.
-fn judge_topology(alloc: Global, bytes: &[u8]) -> Result<Topology, Fault>
+fn judge_topology(alloc: Global, first: usize, bytes: &[u8]) -> Result<Topology, Fault>
     ensures sound { IfOk result (λ topology. TellsTopology bytes.now topology) }
-    ensures refused { (schedule : List ℕ) → IfErr result (RefusesTexts bytes.now schedule) }
+    ensures refused { (schedule : List ℕ) → IfErr result (RefusesTexts first bytes.now schedule) }
 {
     let Ok(text) = str::from_utf8(bytes) else {
-        return Err(refused(TOPOLOGY, TextFault::NotUtf8));
+        return Err(refused(first, TextFault::NotUtf8));
     };
     match topo_file::parse(alloc, text) {
         Ok(topology) => Ok(topology),
-        Err(fault) => Err(refused(TOPOLOGY, TextFault::Topology(fault))),
+        Err(fault) => Err(refused(first, TextFault::Topology(fault))),
     }
 }
 
 /// The schedule for a topology that bytes tell.
-fn judge_schedule(alloc: Global, topology: &Topology, bytes: &[u8]) -> Result<Schedule, Fault>
-    ensures sound { OnOk result (schedule_fault topology.now.nodes bytes.now ≡ None) }
+fn judge_schedule(
+    alloc: Global,
+    first: usize,
+    topology: &Topology,
+    bytes: &[u8],
+) -> Result<Schedule, Fault>
+    requires { first < 2 }
+    ensures sound { OnOk result (schedule_fault (first + 1) topology.now.nodes bytes.now ≡ None) }
     ensures told { IfOk result (λ schedule.
         schedule_of topology.now.nodes bytes.now ≡ Ok schedule) }
     ensures script { IfOk result (IsScript topology.now.nodes) }
-    ensures refused { IfErr result (RefusesScript topology.now.nodes bytes.now) }
+    ensures refused { IfErr result (RefusesScript first topology.now.nodes bytes.now) }
 {
     let Ok(text) = str::from_utf8(bytes) else {
-        return Err(refused(SCHEDULE, TextFault::NotUtf8));
+        return Err(refused(first + 1, TextFault::NotUtf8));
     };
     match schedule_file::parse(alloc, text, topology) {
         Ok(schedule) => Ok(schedule),
-        Err(fault) => Err(refused(SCHEDULE, TextFault::Schedule(fault))),
+        Err(fault) => Err(refused(first + 1, TextFault::Schedule(fault))),
     }
 }
 

@@ -10,13 +10,14 @@ use Rattle.smp_bytes.proofs.Members.{contains_here, contains_later, contains_cas
 use Rattle.fact_store.specs.View.{view_at}
 use Rattle.fact_store.proofs.Views.{members_decide_view}
 use Rattle.record_file.specs.RecordFile.{floor_in, kept}
-use Rattle.sm_cli.specs.Run.{answer_to, floor_among}
+use Rattle.sm_cli.specs.InputFiles.{floor_among}
+use Rattle.sm_cli.specs.Run.{answer_to}
 use Rattle.sm_cli.specs.RunLaws.{AreSameFiles, FilesDecideAnswer, SightingsDecideAnswer}
 
 pub sightings_decide_answer : SightingsDecideAnswer
-sightings_decide_answer command files others same =
-    ap (answer_to command.output)
-    (members_decide_view (floor_among command.floor files) (flat_map kept files) (flat_map kept others) same.sightings
+sightings_decide_answer request rule files others same =
+    ap (answer_to request.output rule)
+    (members_decide_view (floor_among request.floor files) (flat_map kept files) (flat_map kept others) same.sightings
     ∙ ap (λ n. view_at n (flat_map kept others)) same.floors)
 
 -- the floor that was given is not above the greatest
@@ -68,11 +69,11 @@ kept_by_one (f ∷ files) x h =
     ]
 
 pub files_decide_answer : FilesDecideAnswer
-files_decide_answer command files others same =
-    sightings_decide_answer command files others (record {
+files_decide_answer request rule files others same =
+    sightings_decide_answer request rule files others (record {
       sightings = (
         λ x h. let i = kept_by_one files x h in kept_by_all others i.0 x (same.there i.0 i.1) i.2,
         λ x h. let i = kept_by_one others x h in kept_by_all files i.0 x (same.here i.0 i.1) i.2,
       );
-      floors = same_floors command.floor files others same;
+      floors = same_floors request.floor files others same;
     })

@@ -7,10 +7,12 @@ use Rattle.fact_store.specs.Merge.{merge}
 use Rattle.fact_store.proofs.Views.{view_of_both}
 use Rattle.record_file.specs.Laws.{AreParts}
 use Rattle.record_file.specs.RecordFile.{floor_in, kept}
-use Rattle.sm_cli.specs.declared.run.Invocation.{Invocation}
+use Rattle.lft_blocks.specs.Rules.{RuleValue}
+use Rattle.sm_cli.specs.declared.asked.Invocation.{Invocation}
 use Rattle.record_file.proofs.SplitFiles.{split_reports, split_store}
 use Rattle.record_file.proofs.StoreFiles.{read_back}
-use Rattle.sm_cli.specs.Run.{answer_to, facts_of, floor_among}
+use Rattle.sm_cli.specs.InputFiles.{facts_of, floor_among}
+use Rattle.sm_cli.specs.Run.{answer_to}
 use Rattle.sm_cli.specs.RunLaws.{JoinedFileStands, SplitFileStands, SplitStoreStands, StandFor}
 
 -- the greatest floor, where one of two was given
@@ -25,9 +27,9 @@ floor_among-both floor [] others = refl
 floor_among-both floor (f ∷ files) others = floor_among-both (max floor (floor_in f)) files others
 
 pub joined_file_stands : JoinedFileStands
-joined_file_stands command floor told files others joined is =
+joined_file_stands request rule floor told files others joined is =
     let read = read_back told joined (facts_of floor files) is in
-    let given = command.floor in
+    let given = request.floor in
     let mine = floor_among floor files in
     let theirs = floor_among given others in
     let before : floor_among (max given (floor_in joined)) others ≡ max (floor_in joined) theirs =
@@ -42,23 +44,23 @@ joined_file_stands command floor told files others joined is =
     ∙ sym (view_of_both mine theirs (flat_map kept files) (flat_map kept others))
     ∙ ap (view_at (max mine theirs)) (sym (flat_map-append kept files others))
     ∙ ap (λ n. view_at n (flat_map kept (files ++ others))) (sym after) in
-    (read.accepted, ap (answer_to command.output) same)
+    (read.accepted, ap (answer_to request.output rule) same)
 
-stand_for : (command : Invocation) (whole front back : List ℕ) (others : List (List ℕ)) → AreParts whole front back → StandFor command whole front back others
-stand_for command whole front back others parts =
-    let both : max command.floor (floor_in whole) ≡ max (max command.floor (floor_in front)) (floor_in back) =
+stand_for : (request : Invocation) (rule : RuleValue) (whole front back : List ℕ) (others : List (List ℕ)) → AreParts whole front back → StandFor request rule whole front back others
+stand_for request rule whole front back others parts =
+    let both : max request.floor (floor_in whole) ≡ max (max request.floor (floor_in front)) (floor_in back) =
     omega (arith, parts.front_floor, parts.back_floor) in record {
       front_accepted = parts.front_accepted;
       back_accepted = parts.back_accepted;
-      same = ap (λ n. answer_to command.output (view_at (floor_among n others) (kept whole ++ flat_map kept others))) both
-          ∙ ap (λ told. answer_to command.output (view_at (floor_among (max (max command.floor (floor_in front)) (floor_in back)) others) (told ++ flat_map kept others))) parts.together
-          ∙ ap (λ told. answer_to command.output (view_at (floor_among (max (max command.floor (floor_in front)) (floor_in back)) others) told))
+      same = ap (λ n. answer_to request.output rule (view_at (floor_among n others) (kept whole ++ flat_map kept others))) both
+          ∙ ap (λ told. answer_to request.output rule (view_at (floor_among (max (max request.floor (floor_in front)) (floor_in back)) others) (told ++ flat_map kept others))) parts.together
+          ∙ ap (λ told. answer_to request.output rule (view_at (floor_among (max (max request.floor (floor_in front)) (floor_in back)) others) told))
           (append_assoc (kept front) (kept back) (flat_map kept others));
     }
 
 pub split_file_stands : SplitFileStands
-split_file_stands command whole front back first second others w f b = stand_for command whole front back others (split_reports whole front back first second w f b)
+split_file_stands request rule whole front back first second others w f b = stand_for request rule whole front back others (split_reports whole front back first second w f b)
 
 pub split_store_stands : SplitStoreStands
-split_store_stands command told whole front back facts first second others w split f b =
-    stand_for command whole front back others (split_store told whole front back facts first second w split f b)
+split_store_stands request rule told whole front back facts first second others w split f b =
+    stand_for request rule whole front back others (split_store told whole front back facts first second w split f b)

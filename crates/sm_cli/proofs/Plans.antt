@@ -7,11 +7,9 @@ use Rattle.lid_assign.specs.declared.fault.NoRoom.{NoRoom as Room}
 use Rattle.lid_assign.specs.declared.fault.LidFault.{LidFault}
 use Rattle.lid_assign.specs.declared.fault.LidFault.TheVariants as lids
 use Rattle.sm_cli.specs.Faults.{fault_of_lids}
-use Rattle.sm_cli.specs.Run.{IsAnswerFault, IsWritingFault}
+use Rattle.sm_cli.specs.Run.{IsWritingFault}
 use Rattle.sm_cli.specs.declared.fault.Fault.{Fault}
 use Rattle.sm_cli.specs.declared.fault.Fault.TheVariants.{Open, File, Text, NoRoom, Write, Memory}
-use Rattle.sm_cli.specs.declared.run.Output.TheVariants as output
-use Rattle.sm_cli.specs.declared.run.RuleKind.{RuleKind}
 
 none_lacks : (o : Option Room) → lid_fault o ≡ None → o ≡ None
 none_lacks None e = refl
@@ -31,13 +29,3 @@ pub plan_fault : (lmc : ℕ) (facts : Facts) (sink_failed : Bool) (why : LidFaul
     → IsWritingFault lmc facts sink_failed fault
 plan_fault lmc facts sink_failed (lids.NoRoom why) fault e f = rw f (one_lacks (no_room lmc (cells_of facts)) why e)
 plan_fault lmc facts sink_failed lids.Memory fault e f = rw f (none_lacks (no_room lmc (cells_of facts)) e)
-
--- so it is with the plan that is asked for
-pub asked_plan : (lmc : ℕ) (kind : RuleKind) (facts : Facts) (sink_failed : Bool) (fault : Fault) → IsWritingFault lmc facts sink_failed fault
-    → IsAnswerFault (output.Plan lmc kind) facts sink_failed fault
-asked_plan lmc kind facts sink_failed (Open input) h = h
-asked_plan lmc kind facts sink_failed (File input fault) h = h
-asked_plan lmc kind facts sink_failed (Text input fault) h = h
-asked_plan lmc kind facts sink_failed (NoRoom why) h = h
-asked_plan lmc kind facts sink_failed Write h = h
-asked_plan lmc kind facts sink_failed Memory h = h

@@ -16,7 +16,7 @@ use Rattle.record_file.specs.RecordFile.{ending, facts_in, fault_first, fault_in
 use Rattle.record_file.specs.Head.{format_in}
 use Rattle.record_file.specs.declared.file_fault.FileFault.{FileFault}
 use Rattle.record_file.specs.declared.file_fault.FileFault.TheVariants.{Memory, Read}
-use Rattle.sm_cli.specs.Run.{AreReadAs, IsReadAs, IsReadAt, ReadsInto, Refuses, facts_of, floor_among}
+use Rattle.sm_cli.specs.InputFiles.{AreReadAs, IsReadAs, IsReadAt, ReadsInto, Refuses, facts_of, floor_among}
 
 -- a source is replaced by what is left of it
 pub there_after : {S : Type 0} (sources : List S) (input : ℕ) (after : S) → input < length sources → slice_get (set sources input after) input ≡ Some after

@@ -1,8 +1,10 @@
+pub mod Asked
+pub mod ExitStatus
 pub mod Faults
 pub mod FaultText
-pub mod ExitStatus
-pub mod Kinds
-pub mod Rooted
+pub mod InputFiles
+pub mod InputRule
+pub mod InputTables
 pub mod Run
 pub mod RunLaws
 pub mod TextFault

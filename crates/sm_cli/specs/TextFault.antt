@@ -10,7 +10,7 @@ use Rattle.roots_file.specs.declared.fault.RootsTextFault.TheVariants as roots
 use Rattle.roots_file.specs.RootsTextFault as root_texts
 use Rattle.smp_bytes.specs.Text.{guid_text}
 use Rattle.sm_cli.specs.declared.text_fault.TextFault.{TextFault}
-use Rattle.sm_cli.specs.declared.text_fault.TextFault.TheVariants.{NotUtf8, Topology, Schedule, Tables, Roots, NoRoot, NoSwitch}
+use Rattle.sm_cli.specs.declared.text_fault.TextFault.TheVariants.{NotUtf8, Topology, Schedule, Tables, Roots, NoRoot, NoSwitch, Moves}
 
 abbrev pub text_fault_line : TextFault → Option ℕ
 text_fault_line NotUtf8 = None
@@ -20,6 +20,7 @@ text_fault_line (Tables fault) = plans.fault_line fault
 text_fault_line (Roots fault) = root_texts.fault_line fault
 text_fault_line NoRoot = None
 text_fault_line (NoSwitch guid) = None
+text_fault_line (Moves lid) = None
 
 abbrev pub text_fault_word : TextFault → List ℕ
 text_fault_word NotUtf8 = codes "not UTF-8"
@@ -29,11 +30,17 @@ text_fault_word (Tables fault) = plans.fault_word fault
 text_fault_word (Roots fault) = root_texts.fault_word fault
 text_fault_word NoRoot = codes "no root"
 text_fault_word (NoSwitch guid) = codes "no usable switch"
+text_fault_word (Moves lid) = codes "moves"
 
 -- the GUID that the fault speaks of
 abbrev pub text_fault_guid : TextFault → Option ℕ
 text_fault_guid (NoSwitch guid) = Some guid
 text_fault_guid _ = None
+
+-- the LID that the fault speaks of
+abbrev pub text_fault_lid : TextFault → Option ℕ
+text_fault_lid (Moves lid) = Some lid
+text_fault_lid _ = None
 
 -- out of memory is not the text's
 abbrev pub is_of_text : TextFault → Bool
@@ -48,10 +55,16 @@ abbrev pub line_text : Option ℕ → List ℕ
 line_text None = []
 line_text (Some line) = codes "line " ++ decimal line ++ codes ": "
 
--- the GUID, behind that
+-- the LID, before that
+abbrev pub lid_before : Option ℕ → List ℕ
+lid_before None = []
+lid_before (Some lid) = codes "lid " ++ decimal lid ++ codes " "
+
+-- the GUID, behind it
 abbrev pub guid_behind : Option ℕ → List ℕ
 guid_behind None = []
 guid_behind (Some guid) = codes " " ++ guid_text guid
 
 abbrev pub said_of_text : TextFault → List ℕ
-said_of_text fault = line_text (text_fault_line fault) ++ text_fault_word fault ++ guid_behind (text_fault_guid fault)
+said_of_text fault =
+    line_text (text_fault_line fault) ++ lid_before (text_fault_lid fault) ++ text_fault_word fault ++ guid_behind (text_fault_guid fault)

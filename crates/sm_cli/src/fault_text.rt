@@ -1,7 +1,7 @@
 //! What the program says of a fault, one line that begins with its own name.
 ghost use Rattle.byte_io.specs.Writes.{Writes};
 ghost use Rattle.sm_cli.specs.FaultText.{name_text, number_text, cause_text, words_of, file_fault_text, text_fault_text, count_text, no_room_text, fault_text, program_line};
-ghost use Rattle.sm_cli.specs.TextFault.{guid_behind, line_text, said_of_text};
+ghost use Rattle.sm_cli.specs.TextFault.{guid_behind, lid_before, line_text, said_of_text};
 
 use crate::fault::Fault;
 use crate::text_fault::TextFault;
@@ -9,7 +9,7 @@ use byte_io::{Sink, WriteFault, write_guid, write_number};
 use fact_store::ReportFault;
 use lid_assign::NoRoom;
 use record_file::FileFault;
-use smp_bytes::Guid;
+use smp_bytes::{Guid, Lid};
 
 /// Writes the line of a fault; `name` is that of the file that it speaks of.
 pub fn write_fault<W: Sink>(sink: &mut W, fault: &Fault, name: &str) -> Result<(), WriteFault>
@@ -113,6 +113,7 @@ fn write_said<W: Sink>(sink: &mut W, fault: &TextFault) -> Result<(), WriteFault
     ensures writes { Writes W.written W.has_failed result sink.old sink.new (said_of_text fault.now) }
 {
     write_line_if_any(sink, fault.line())?;
+    write_lid_if_any(sink, fault.lid())?;
     sink.write(fault.word().as_bytes())?;
     write_guid_if_any(sink, fault.guid())
 }
@@ -126,6 +127,20 @@ fn write_line_if_any<W: Sink>(sink: &mut W, line: Option<usize>) -> Result<(), W
             sink.write(b"line ")?;
             write_number(sink, line as u64)?;
             sink.write(b": ")
+        }
+        None => sink.write(b""),
+    }
+}
+
+/// Writes the LID that a fault speaks of.
+fn write_lid_if_any<W: Sink>(sink: &mut W, lid: Option<Lid>) -> Result<(), WriteFault>
+    ensures writes { Writes W.written W.has_failed result sink.old sink.new (lid_before lid) }
+{
+    match lid {
+        Some(lid) => {
+            sink.write(b"lid ")?;
+            write_number(sink, u64::from(lid.number()))?;
+            sink.write(b" ")
         }
         None => sink.write(b""),
     }

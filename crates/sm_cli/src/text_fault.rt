@@ -1,7 +1,7 @@
 ghost use Rattle.std.specs.Prelude.{◌≡◌};
 
 use schedule_file::ScheduleFault;
-use smp_bytes::Guid;
+use smp_bytes::{Guid, Lid};
 use thiserror::Error;
 use topo_file::TopoFault;
 
@@ -29,17 +29,21 @@ pub enum TextFault {
     /// It names a root that is no usable switch of the facts, or no switch of the topology.
     #[error("no usable switch {0}")]
     NoSwitch(Guid),
+    /// It names tables that give this LID to another end port than the plan does.
+    #[error("lid {} moves", .0.number())]
+    Moves(Lid),
 }
 
 impl TextFault {
-    ghost use Rattle.sm_cli.specs.TextFault.{text_fault_guid, text_fault_line, text_fault_word, is_of_text};
+    ghost use Rattle.sm_cli.specs.TextFault.{text_fault_guid, text_fault_lid, text_fault_line, text_fault_word, is_of_text};
 
     /// The line that has the fault, from 1.
     pub fn line(&self) -> Option<usize>
         ensures { result ≡ text_fault_line self.now }
     {
         match self {
-            TextFault::NotUtf8 | TextFault::NoRoot | TextFault::NoSwitch(_) => None,
+            TextFault::NotUtf8 | TextFault::NoRoot | TextFault::NoSwitch(_) | TextFault::Moves(_) =>
+                None,
             TextFault::Topology(fault) => fault.line(),
             TextFault::Schedule(fault) => fault.line(),
             TextFault::Tables(fault) => fault.line(),
@@ -59,6 +63,7 @@ impl TextFault {
             TextFault::Roots(fault) => fault.word(),
             TextFault::NoRoot => "no root",
             TextFault::NoSwitch(_) => "no usable switch",
+            TextFault::Moves(_) => "moves",
         }
     }
 
@@ -68,6 +73,16 @@ impl TextFault {
     {
         match self {
             TextFault::NoSwitch(guid) => Some(*guid),
+            _ => None,
+        }
+    }
+
+    /// The LID that the fault speaks of.
+    pub fn lid(&self) -> Option<Lid>
+        ensures { result ≡ text_fault_lid self.now }
+    {
+        match self {
+            TextFault::Moves(lid) => Some(*lid),
             _ => None,
         }
     }

@@ -1,9 +1,18 @@
--- All were read.
-use Rattle.audit_report.proofs.Faults.{not_answered}
+-- The inputs were read.
+use Rattle.std.specs.Io.KnownBytes.{Appends}
+use Rattle.audit_report.proofs.Audits.{audited, not_audited}
 use Rattle.audit_report.proofs.audit_run.run_audit.Goals as goal
+
+pub returns-clause-done : goal.returns-clause-done
+returns-clause-done g c =
+    audited g.S.Source.left g.S.Source.has_failed c.args.floor c.args.inputs.now c.split_at_mut-tables.result.0.now c.read_tables.new.texts
+    c.split_at_mut-tables.result.1.now c.read_files.new.files c.split_at_mut-tables.ensures.value c.in-Ok.held c.in-Ok-read_files.store
+    c.in-Ok.ensures.read c.in-Ok-read_files.ensures.read c.answer.result (Appends (g.W.Sink.written c.args.sink.now) (g.W.Sink.written c.answer.new.sink))
+    c.answer.ensures.audited
 
 pub returns-clause-refused : goal.returns-clause-refused
 returns-clause-refused g c =
-    not_answered g.S.Source.left g.S.Source.has_failed g.S.Source.interruptions c.args.floor c.args.tables.now c.read_tables.new.tables c.args.sources.now.items
-    c.read_all.new.sources.items (g.W.Sink.has_failed c.answer.new.sink) c.in-Ok.held c.in-Ok-read_all.store c.in-Err-answer.fault
-    (record { tables_read = c.in-Ok.ensures.read; files_read = c.in-Ok-read_all.ensures.read }) c.in-Err-answer.ensures.refused
+    not_audited g.S.Source.left g.S.Source.has_failed c.args.floor c.args.inputs.now c.split_at_mut-tables.result.0.now c.read_tables.new.texts
+    c.split_at_mut-tables.result.1.now c.read_files.new.files c.split_at_mut-tables.ensures.value c.in-Ok.held c.in-Ok-read_files.store
+    c.in-Ok.ensures.read c.in-Ok-read_files.ensures.read g.S.Source.interruptions (g.W.Sink.has_failed c.answer.new.sink) c.answer.result
+    c.answer.ensures.refused

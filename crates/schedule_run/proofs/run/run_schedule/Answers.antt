@@ -1,19 +1,33 @@
-use Rattle.std.proofs.lemmas.Result.{err_from_is_err_and}
-use Rattle.schedule_run.specs.Prints.{Prints}
-use Rattle.schedule_run.proofs.Running.{has_run, run_fails}
+-- The inputs were read, and the run goes on.
+use Rattle.std.proofs.Common.{rules, ◌≡◌, ◌∙◌, None, arith, sym}
+use Rattle.lft_blocks.specs.Rules.{value_of}
+use Rattle.schedule_run.specs.Prints.{PrintsSome}
+use Rattle.schedule_run.proofs.Running.{has_printed, roots_refused, run_fails}
 use Rattle.schedule_run.proofs.run.run_schedule.Goals as goal
 
-pub returns-clause-done : goal.returns-clause-done
-returns-clause-done g c =
-    has_run g.T.Source.left g.T.Source.has_failed g.S.Source.left g.S.Source.has_failed c.args.topology.now c.read_setting.new.topology c.args.schedule.now
-    c.read_setting.new.schedule c.args.planning.now c.in_ok-setting.setting.topology c.in_ok-setting.setting.schedule c.in_ok-setting.ensures.told
-    (Prints g.W.Sink.written g.W.Sink.has_failed c.args.sink.now c.run.new.sink) c.in_ok-run.ensures.prints
+pub returns-in-Some-clause-refused : goal.returns-in-Some-clause-refused
+returns-in-Some-clause-refused g c =
+    roots_refused g.S.Source.left g.S.Source.has_failed c.args.lmc c.args.asked c.args.inputs.now c.split_at_mut-roots.result.0.now
+    c.read_rule.new.texts c.split_at_mut-roots.result.1.now c.read_setting.new.texts c.split_at_mut-roots.ensures.value (value_of c.in-Ok.rule)
+    c.in-Ok-read_setting.setting.topology c.in-Ok-read_setting.setting.schedule c.in-Ok.ensures.read c.in-Ok-read_setting.ensures.told
+    g.S.Source.interruptions (PrintsSome g.W.Sink.written g.W.Sink.has_failed c.args.sink.now c.args.sink.now) (g.W.Sink.has_failed c.args.sink.now)
+    c.in-Some.fault (sym c.rule_fault.ensures ∙ c.in-Some.is)
 
-pub returns-in_err-run-clause-refused : goal.returns-in_err-run-clause-refused
-returns-in_err-run-clause-refused g c =
-    let p = err_from_is_err_and c.from_residual-in_err-run.result c.from_residual-in_err-run.ensures.1 in
-    rw (p.1, p.2)
-    (run_fails g.T.Source.left g.T.Source.has_failed g.S.Source.left g.S.Source.has_failed c.args.topology.now c.read_setting.new.topology c.args.schedule.now
-    c.read_setting.new.schedule c.args.planning.now c.in_ok-setting.setting.topology c.in_ok-setting.setting.schedule c.in_ok-setting.ensures.told
-    g.W.Sink.written g.W.Sink.has_failed g.T.Source.interruptions g.S.Source.interruptions c.in_err-run.field-0.0
-    c.args.sink.now c.run.new.sink c.in_err-run.ensures.prints)
+pub returns-in-Ok-run-clause-done : goal.returns-in-Ok-run-clause-done
+returns-in-Ok-run-clause-done g c =
+    let none : c.rule_fault.result ≡ None = grind arith in
+    has_printed g.S.Source.left g.S.Source.has_failed c.args.lmc c.args.asked c.args.inputs.now c.split_at_mut-roots.result.0.now
+    c.read_rule.new.texts c.split_at_mut-roots.result.1.now c.read_setting.new.texts c.split_at_mut-roots.ensures.value (value_of c.in-Ok.rule)
+    c.in-Ok-read_setting.setting.topology c.in-Ok-read_setting.setting.schedule c.in-Ok.ensures.read c.in-Ok-read_setting.ensures.told
+    (sym c.rule_fault.ensures ∙ none) c.new-planning.result c.new-planning.ensures g.W.Sink.written g.W.Sink.has_failed c.args.sink.now c.run.new.sink
+    c.in-Ok-run.ensures.prints
+
+pub returns-clause-refused : goal.returns-clause-refused
+returns-clause-refused g c =
+    let none : c.rule_fault.result ≡ None = grind arith in
+    rw c.from.ensures
+    (run_fails g.S.Source.left g.S.Source.has_failed c.args.lmc c.args.asked c.args.inputs.now c.split_at_mut-roots.result.0.now
+    c.read_rule.new.texts c.split_at_mut-roots.result.1.now c.read_setting.new.texts c.split_at_mut-roots.ensures.value (value_of c.in-Ok.rule)
+    c.in-Ok-read_setting.setting.topology c.in-Ok-read_setting.setting.schedule c.in-Ok.ensures.read c.in-Ok-read_setting.ensures.told
+    (sym c.rule_fault.ensures ∙ none) c.new-planning.result c.new-planning.ensures g.S.Source.interruptions g.W.Sink.written g.W.Sink.has_failed
+    c.in-Err-run.fault c.args.sink.now c.run.new.sink c.in-Err-run.ensures.prints)

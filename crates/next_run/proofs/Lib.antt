@@ -1,0 +1,2 @@
+pub mod Stepped
+pub mod StepIs

@@ -1,0 +1,58 @@
+-- What was written and said is the step, as it is of the facts, of the tables held, and of the plan.
+use Rattle.std.proofs.Common.{◌≡◌, ◌∙◌, ◌==◌, ◌⊎◌, ◌↔◌, ℕ, Bool, true, List, [], ◌∷◌, Option, None, Some, Result, Ok, Err, IsTrue, length, ap, inl, inr, refl, subst, sym}
+use Rattle.std.proofs.lemmas.Bool.{eqb-true}
+use Rattle.std.proofs.lemmas.List.{nil_from_length}
+use Rattle.std.specs.Prelude.{OnErr, OnOk}
+use Rattle.std.specs.Io.KnownBytes.{Appends}
+use Rattle.byte_io.specs.declared.sink.WriteFault.{WriteFault}
+use Rattle.fact_store.specs.View.{Facts, cells_of}
+use Rattle.lid_assign.specs.LidFault.{lid_fault, no_room}
+use Rattle.lft_blocks.specs.Plan.{PlanValue, plan_of}
+use Rattle.lft_blocks.specs.Rules.{RuleValue}
+use Rattle.plan_file.specs.Held.{HeldPlan}
+use Rattle.plan_file.specs.Printed.{held_plan}
+use Rattle.plan_file.specs.TablesText.{next_text}
+use Rattle.next_tables.specs.NextTables.{first_moved, next_tables, step_fault}
+use Rattle.audit_report.specs.AuditText.{cycle_line}
+use Rattle.sm_cli.proofs.Plans.{has_room}
+use Rattle.next_run.specs.RunNext.{IsCycleInStep, IsSaid, IsStep, planned, stepped}
+
+none_moves : (o : Option ℕ) → step_fault o ≡ None → o ≡ None
+none_moves None e = refl
+none_moves (Some lid) e = absurd (cc)
+
+pub is_empty : (xs : List ℕ) → IsTrue (length xs == 0) ↔ (xs ≡ [])
+is_empty xs = (λ t. nil_from_length xs (eqb-true _ _ t), λ e. ap (λ ys. length ys == 0) e)
+
+-- a text was written, or that has failed
+pub was_said : (result : Result (Unit {0}) WriteFault) (written written' : Option (List ℕ)) (failed : Bool) (text : List ℕ)
+    → OnOk result (Appends written written' text) → OnErr result (IsTrue failed) → IsSaid written written' failed text
+was_said (Ok u) written written' failed text ok err = inr ok
+was_said (Err fault) written written' failed text ok err = inl err
+
+module _ (lmc : ℕ) (rule : RuleValue) (facts : Facts) (held : HeldPlan) (plan : PlanValue) (is_plan : plan ≡ plan_of rule lmc (cells_of facts))
+    (told_plan : HeldPlan) (is_told : told_plan ≡ held_plan plan) (known : Facts) (is_known : known ≡ facts) (before to next after : HeldPlan)
+    (is_before : before ≡ held) (is_to : to ≡ told_plan) (is_next : next ≡ next_tables (cells_of known) before to) (is_after : after ≡ next) where
+  to_is : to ≡ planned lmc rule facts
+  to_is = is_to ∙ is_told ∙ ap held_plan is_plan
+
+  next_is : next ≡ stepped lmc rule facts held
+  next_is =
+      is_next ∙ ap (λ f. next_tables (cells_of f) before to) is_known ∙ ap (λ h. next_tables (cells_of facts) h to) is_before
+      ∙ ap (next_tables (cells_of facts) held) to_is
+
+  pub step_is : (prints says : List ℕ → Type 0) (passed : Bool) (cycle : List ℕ) → lid_fault (no_room lmc (cells_of facts)) ≡ None
+      → step_fault (first_moved before to) ≡ None → IsCycleInStep (cells_of known) before after cycle → prints (next_text plan.given next)
+      → says (cycle_line (cells_of known) cycle) → IsTrue passed ↔ (cycle ≡ []) → IsStep lmc rule facts held prints says passed
+  step_is prints says passed cycle room still waits printed said judged = record {
+    has_room = has_room lmc facts room;
+    no_move = ap (λ h. first_moved h (planned lmc rule facts)) (sym is_before) ∙ ap (first_moved before) (sym to_is)
+        ∙ none_moves (first_moved before to) still;
+    written = subst prints (ap (λ p. next_text p.given next) is_plan ∙ ap (next_text (plan_of rule lmc (cells_of facts)).given) next_is) printed;
+    cycle = cycle;
+    waits = subst (λ (f : Facts). IsCycleInStep (cells_of f) held (stepped lmc rule facts held) cycle) is_known
+        (subst (λ (h : HeldPlan). IsCycleInStep (cells_of known) h (stepped lmc rule facts held) cycle) is_before
+        (subst (λ (n : HeldPlan). IsCycleInStep (cells_of known) before n cycle) (is_after ∙ next_is) waits));
+    said = subst (λ (f : Facts). says (cycle_line (cells_of f) cycle)) is_known said;
+    judged = judged;
+  }

@@ -1,0 +1,95 @@
+-- A step over inputs that are read one after the other: what is written, and why it ends early.
+use Rattle.std.proofs.Common.{◌≡◌, ◌∙◌, ◌+◌, ap, ℕ, Bool, List, ◌++◌, Option, None, Some, Result, Ok, Err, inl, inr, refl}
+use Rattle.std.specs.Prelude.{IfErr, IfOk}
+use Rattle.fact_store.specs.View.{Facts, cells_of}
+use Rattle.subnet_view.specs.Reading.{is_usable}
+use Rattle.lft_blocks.specs.Rules.{RuleValue}
+use Rattle.plan_file.specs.Held.{HeldPlan}
+use Rattle.sm_cli.specs.Asked.{texts_for}
+use Rattle.sm_cli.specs.InputFiles.{HasRead, IsRefusedFile}
+use Rattle.sm_cli.specs.InputRule.{IsRuleRead, rule_fault}
+use Rattle.sm_cli.specs.InputTables.{AreNoTables, AreTables}
+use Rattle.sm_cli.specs.declared.fault.Fault.{Fault}
+use Rattle.sm_cli.specs.declared.fault.Fault.TheVariants.{Text}
+use Rattle.sm_cli.specs.declared.text_fault.TextFault.{TextFault}
+use Rattle.next_run.specs.RunNext.{AreRead, HasStepped, Inputs, IsStep, IsStepFault, StopsStep}
+use Rattle.next_run.specs.declared.run_step.StepAsked.{StepAsked}
+
+-- a list is three parts, where its rest is two
+pub parted : {S : Type 0} (inputs roots others tables files : List S) → inputs ≡ roots ++ others → others ≡ tables ++ files
+    → inputs ≡ roots ++ (tables ++ files)
+parted inputs roots others tables files e f = e ∙ ap (λ rest. roots ++ rest) f
+
+module _ {S : Type 0} (left : S → Option (List ℕ)) (has_failed : S → Bool) (asked : StepAsked) (olds roots roots' tables tables' files files' : List S)
+    (were : olds ≡ roots ++ (tables ++ files)) (rule : RuleValue) (rule_read : IsRuleRead left has_failed asked.rule roots roots' rule) where
+  abbrev inputs_were : Inputs olds
+  inputs_were = record { roots = roots; tables = tables; files = files; are = were }
+
+  abbrev inputs_are : Inputs (roots' ++ (tables' ++ files'))
+  inputs_are = record { roots = roots'; tables = tables'; files = files'; are = refl }
+
+  -- the tables are refused
+  pub tables_refused : (interruptions : S → ℕ) (sink_failed : Bool) (fault : Fault)
+      → AreNoTables left has_failed interruptions (texts_for asked.rule) tables tables' fault → files' ≡ files
+      → IsStepFault left has_failed interruptions asked olds (roots' ++ (tables' ++ files')) sink_failed fault
+  tables_refused interruptions sink_failed fault why untouched = inr (inl (record {
+    were = inputs_were;
+    are = inputs_are;
+    rule = rule;
+    rule_read = rule_read;
+    why = why;
+    untouched = untouched;
+  }))
+
+  module _ (held : HeldPlan) (tables_read : AreTables left has_failed tables tables' held) where
+    -- a file is refused
+    pub files_refused : (interruptions : S → ℕ) (sink_failed : Bool) (fault : Fault)
+        → IsRefusedFile left has_failed interruptions (texts_for asked.rule + 1) files files' fault
+        → IsStepFault left has_failed interruptions asked olds (roots' ++ (tables' ++ files')) sink_failed fault
+    files_refused interruptions sink_failed fault why = inr (inr (inl (record {
+      were = inputs_were;
+      are = inputs_are;
+      rule = rule;
+      rule_read = rule_read;
+      held = held;
+      tables_read = tables_read;
+      why = why;
+    })))
+
+    module _ (facts : Facts) (files_read : HasRead left has_failed asked.floor files files' facts) where
+      abbrev all_read : AreRead left has_failed asked olds (roots' ++ (tables' ++ files')) rule held facts
+      all_read = record {
+        were = inputs_were;
+        are = inputs_are;
+        rule_read = rule_read;
+        tables_read = tables_read;
+        files_read = files_read;
+      }
+
+      -- no plan goes by the roots
+      pub roots_refused : (interruptions : S → ℕ) (sink_failed : Bool) (why : TextFault)
+          → rule_fault (is_usable (cells_of facts)) asked.rule rule ≡ Some why
+          → IsStepFault left has_failed interruptions asked olds (roots' ++ (tables' ++ files')) sink_failed (Text 0 why)
+      roots_refused interruptions sink_failed why e = inr (inr (inr (inl (record {
+        rule = rule;
+        held = held;
+        facts = facts;
+        read = all_read;
+        why = why;
+        is = refl;
+        refused = e;
+      }))))
+
+      module _ (sound : rule_fault (is_usable (cells_of facts)) asked.rule rule ≡ None) where
+        pub stepped : (result : Result Bool Fault) (prints says : List ℕ → Type 0) → IfOk result (IsStep asked.lmc rule facts held prints says)
+            → IfOk result (HasStepped left has_failed asked olds (roots' ++ (tables' ++ files')) prints says)
+        stepped (Ok passed) prints says step =
+            record { rule = rule; held = held; facts = facts; read = all_read; sound = sound; step = step }
+        stepped (Err fault) prints says step = tt
+
+        pub not_stepped : (interruptions : S → ℕ) (sink_failed : Bool) (result : Result Bool Fault)
+            → IfErr result (StopsStep (texts_for asked.rule) asked.lmc rule facts held sink_failed)
+            → IfErr result (IsStepFault left has_failed interruptions asked olds (roots' ++ (tables' ++ files')) sink_failed)
+        not_stepped interruptions sink_failed (Ok passed) stops = tt
+        not_stepped interruptions sink_failed (Err fault) stops =
+            inr (inr (inr (inr (record { rule = rule; held = held; facts = facts; read = all_read; sound = sound; stops = stops }))))

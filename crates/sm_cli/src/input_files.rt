@@ -1,0 +1,50 @@
+//! The files of a run: they are read in order, and what they say together is kept.
+ghost use Rattle.std.specs.Prelude.{◌≡◌, ◌+◌, ◌≤◌, length, IfErr, IfOk, OnOk};
+ghost use Rattle.sm_cli.specs.InputFiles.{HasRead, IsRefusedFile, ReadsInto, Refuses};
+
+use crate::fault::Fault;
+use byte_io::Source;
+use fact_store::Store;
+use record_file::{FileFault, absorb};
+use smp_bytes::Generation;
+use std::alloc::Global;
+
+/// All that the files say from a floor on, or the fault of the first that is refused. So many inputs come before them.
+pub fn read_files<S: Source>(
+    alloc: Global,
+    before: usize,
+    files: &mut [S],
+    floor: Generation,
+) -> Result<Store, Fault>
+    requires { before + length files.old ≤ usize.MAX }
+    ensures read { IfOk result (HasRead S.left S.has_failed floor files.old files.new) }
+    ensures refused { IfErr result
+        (IsRefusedFile S.left S.has_failed S.interruptions before files.old files.new) }
+{
+    let mut all = Store::new(alloc);
+    all.raise_floor(floor);
+    for index in 0..files.len() {
+        if let Err(fault) = read_into(&mut all, alloc, &mut files[index]) {
+            return Err(Fault::File {
+                input: before + index,
+                fault,
+            });
+        }
+    }
+    Ok(all)
+}
+
+/// Reads one file into a store of its own, and merges that into the store of all.
+fn read_into<S: Source>(all: &mut Store, alloc: Global, source: &mut S) -> Result<(), FileFault>
+    ensures read { OnOk result (ReadsInto S.left S.has_failed
+        source.old source.new all.old all.new) }
+    ensures refused { IfErr result (Refuses S.left S.has_failed S.interruptions
+        source.old source.new) }
+{
+    let mut store = Store::new(alloc);
+    absorb(source, &mut store)?;
+    match all.merge_owned(store) {
+        Ok(()) => Ok(()),
+        Err(_) => Err(FileFault::Memory),
+    }
+}
