@@ -36,7 +36,7 @@ class Room:
 
 
 def check_tree(room):
-    """34,272 adapters at 157 switches: over 200,000 facts, a plan of over 10 MB, and an audit whose sums are over 2^32."""
+    """34,272 adapters at 157 switches: over 200,000 facts, a plan of over 10 MB, an audit whose sums are over 2^32, and steps to the plan."""
     tree = levels(12, 12, 238)
     cells = tree.cells()
     plan = tree.plan()
@@ -47,6 +47,8 @@ def check_tree(room):
     room.prints(plan, "plan", *SPREAD, "tree")
     room.put("tree.plan", plan)
     room.prints(audit, "audit", "tree.plan", "tree")
+    for tables in "tree.plan", "/dev/null":
+        room.prints(plan, "next", tables, "tree")
     # Parts that overlap, in two groupings.
     names = "part0", "part1", "part2"
     for number, name in enumerate(names):
@@ -83,6 +85,7 @@ def check_ranges(room):
     # Its tables behind comments that are over 5 MB by themselves.
     room.put("long.plan", padded("# ", 80000) + tree.plan())
     room.prints(tree.audit()[2], "audit", "long.plan", "ranges")
+    room.prints(tree.plan(), "next", "long.plan", "ranges")
 
 
 def check_cells(room):
@@ -103,6 +106,7 @@ def check_switches(room):
         plan = room.run("plan", *options, "switches")
         lids.add(plan.partition(b"switch")[0])
         room.put("switches.plan", plan)
+        room.prints(plan, "next", *options, "switches.plan", "switches")
         lines = room.run("audit", "switches.plan", "switches").decode().splitlines(True)
         wanted = audits.counted(ends**2, adapters**2)
         check("".join(lines[:4]) == wanted and len(lines) == 7, f"the audit of a plan by {options}: {lines[:8]}")

@@ -17,6 +17,7 @@ FAKE_RECORD = """#!/bin/sh
 for word; do tables=$file; file=$word; done
 echo "$*" >>fab/asked
 cp fab/facts "$file"
+if [ -f fab/flaps ]; then mv fab/facts fab/kept; mv fab/flaps fab/facts; mv fab/kept fab/flaps; fi
 status=$(cat fab/status)
 [ "$status" = 0 ] && cp fab/held "$tables"
 [ "$status" = 0 ] || echo "record: NOT WHOLE: 1 requests without a reply" >&2
@@ -27,11 +28,22 @@ for word; do last=$word; done
 case $1 in
 facts) cat "$last" ;;
 plan) echo "$*" >>fab/planned; cat fab/plan ;;
+next)
+    echo "$*" >>fab/stepped
+    for word; do tables=$file; file=$word; done
+    if [ -f fab/moves ]; then cat fab/moves >&2; exit 3; fi
+    between=
+    for step in fab/step.*; do
+        if [ -f "$step" ] && [ -z "$between" ] && ! cmp -s "$tables" fab/plan && ! cmp -s "$tables" "$step"; then between=$step; fi
+    done
+    cat "${between:-fab/next}"
+    cat fab/loop >&2
+    grep -q none fab/loop ;;
 audit) cat fab/audit; grep -q ' arrive 25$' fab/audit ;;
 esac
 """
 FAKE_OPENSM = """#!/bin/sh
-trap 'cp fab/written fab/held; [ -f fab/deaf ] || echo "SUBNET UP" >>fab/log' HUP
+trap 'if [ -f fab/obeys ]; then cp rd/step.tables fab/held; else cp fab/written fab/held; fi; [ -f fab/deaf ] || echo "SUBNET UP" >>fab/log' HUP
 echo ready >>fab/log
 while :; do sleep 0.02; done
 """
@@ -76,10 +88,14 @@ def rounds(room):
         """A round ends so, and says so in status.json too."""
         printed = room.run(f"round rd --ibsm ./ibsm --record ./record --log fab/log {words}", status)
         told = json.loads(room.text("rd/status.json"))
+        steps = [
+            f"step {number}: {step['entries']} entries, {step['blocks']} blocks; {step['told']}; status {step['status']}\n"
+            for number, step in enumerate(told["steps"], 1)
+        ]
         wanted = {"status": status, "step": step, "verdict": told["verdict"]}
         room.check(all(told[word] == value for word, value in wanted.items()), f"round {words}: {told}")
         room.check(
-            verdict in told["verdict"] and printed == f"{step}: {told['verdict']}\n",
+            verdict in told["verdict"] and printed == f"{''.join(steps)}{told['step']}: {told['verdict']}\n",
             f"round {words}: says `{verdict}`, not `{told['verdict']}`",
         )
         room.check(
@@ -101,6 +117,9 @@ def rounds(room):
         log="",
         asked="",
         planned="",
+        stepped="",
+        next=plan,
+        loop="credit loop none\n",
     )
     told = ends("--look", 0, "compare", "looked only: 2 entries differ on 2 switches, blocks to write: 2")
     room.check(
@@ -165,9 +184,11 @@ def rounds(room):
             "holds",
             "the subnet does not hold the plan: 1 entries differ on 1 switches, blocks to write: 1; switch 0000000000000010 entries 1",
         )
-        fab(held=room.text("top.plan"), written=plan)
+        fab(held=room.text("top.plan"), written=plan, next=room.text("top.plan"))
         told = ends(f"--opensm {process}", 0, "audit", "the subnet holds the plan, but for greater tops on 1 switches")
         room.check(told["counts"]["tops_above"] == 1 and told["counts"]["differences"] == 0, "a greater top is no difference")
+        fab(next=plan)
+        by_steps(room, fab, ends, process)
         fab(held=room.text("round.plan"), deaf="")
         ends(f"--opensm {process} --wait 0.3", 1, "opensm", "fab/log does not say SUBNET UP within 0.3 seconds")
         fab(held=room.text("round.plan"))
@@ -182,6 +203,51 @@ def rounds(room):
     room.refused("round rd --ibsm ./ibsm --record ./nothing", "no program record", 4)
     for words in ("", "rd --lmc 8", "rd --opensm x", "rd --routing other"):
         room.run(f"round {words}", 2)
+
+
+def by_steps(room, fab, ends, process):
+    """Rounds whose plan is two steps away."""
+    facts, plan, held = (room.text(name) for name in ("t.facts", "t.plan", "round.plan"))
+    fab(held=held, obeys="", stepped="", log="ready\n", **{"step.1": room.text("hole.plan")})
+    told = ends(f"--opensm {process} --lmc 0", 0, "audit", "the subnet holds the plan")
+    none = {"told": "credit loop none", "status": 0}
+    room.check(
+        told["steps"] == [{"entries": 2, "blocks": 2} | none, {"entries": 1, "blocks": 1} | none],
+        f"two steps: {told['steps']}",
+    )
+    names = ["now", "after", "after"]
+    room.check(
+        room.text("fab/stepped") == "".join(f"next --lmc 0 rd/{name}.held rd/{name}.reports\n" for name in names)
+        and room.text("fab/log").count("UP") == 2
+        and room.text("fab/held") == plan,
+        "each from what is held then",
+    )
+    fab(held=held, loop="credit loop on one lane 0000000000000010/1 0000000000000020/1\n", log="ready\n")
+    written = room.text("rd/plan.lfts")
+    loop = "credit loop on one lane 0000000000000010/1 0000000000000020/1 (--loops)"
+    told = ends(f"--opensm {process}", 1, "next", f"step 1 is not written, since packets can wait in a loop meanwhile: {loop}")
+    room.check(
+        told["steps"][0]["status"] == 1 and room.text("fab/held") == held and room.text("rd/plan.lfts") == written,
+        "a step with a credit loop is not written",
+    )
+    told = ends(f"--opensm {process} --loops", 0, "audit", "the subnet holds the plan")
+    room.check([step["status"] for step in told["steps"]] == [1, 1], "but with --loops")
+    fab(held=held, stepped="", written=plan)
+    (room.path / "fab/obeys").unlink()
+    told = ends(f"--opensm {process} --at-once", 0, "audit", "the subnet holds the plan")
+    room.check(told["steps"] == [] and room.text("fab/stepped") == "", "--at-once takes no steps")
+    fab(held=held, loop="credit loop none\n", moves="ibsm: rd/now.held: lid 4 moves\n")
+    ends(f"--opensm {process}", 3, "next", "ibsm: ibsm: rd/now.held: lid 4 moves")
+    (room.path / "fab/moves").unlink()
+    fab(plan=room.text("hole.plan"))
+    ends(f"--opensm {process}", 3, "write", "opensm-files: nothing is written")
+    room.check(room.text("fab/held") == held, "nor is a step to a plan that may not be written")
+    # What is held stays as it is, and a table's size is another at each look.
+    fab(plan=plan, written=held, flaps=facts.replace("cap 0000000000000010 1024", "cap 0000000000000010 1025"))
+    told = ends(f"--opensm {process}", 1, "read-back", "after 6 steps another one is left")
+    fab(facts=facts, written=plan)
+    for name in ("flaps", "step.1"):
+        (room.path / "fab" / name).unlink()
 
 
 def watched(room):

@@ -44,7 +44,9 @@ class Run:
         text = said.read_text(errors="replace").strip()
         is_right = process.returncode == self.wanted
         check(is_right, f"{self.what}: exit status {process.returncode}; {text[:200]}")
-        check(not is_right or not text, f"{self.what}: says on standard error: {text[:200]}")
+        # Of the steps here none can make a credit loop.
+        said = "credit loop none" if self.command[1] == "next" else ""
+        check(not is_right or text == said, f"{self.what}: says on standard error: {text[:200]}")
         return used.ru_utime + used.ru_stime, used.ru_maxrss * 1024
 
     def again(self):

@@ -1,0 +1,170 @@
+"""The tables to write next, worked out from docs/MODEL.md, "From the tables that switches hold to a plan", apart from the program;
+and what becomes of packets that meet, at each switch and whenever they come there, an entry of one of several tables.
+
+A hop of a packet is a pair: ON and a switch, TAKEN and the end that took it, or LOST and None.
+"""
+import collections
+
+import paths  # noqa: F401
+from ibsm_texts import ENTRIES, NO_WAY, name_of
+
+ON, TAKEN, LOST = "on", "taken", "lost"
+NOWHERE = LOST, None
+
+
+class Tables:
+    """What is said in the form of a plan: the LIDs of ends, and tops and blocks of switches."""
+
+    def __init__(self, text=""):
+        self.ranges = []  # first LID, end, LMC
+        self.tops, self.blocks = {}, {}  # by GUID; by GUID and then by number
+        for line in text.splitlines():
+            head, first, *rest = line.split(" ")
+            if head == "lid":
+                guid, port = rest[0].split("/")
+                self.ranges.append((int(first), (int(guid, 16), int(port)), int(rest[2]) if rest[1:] else 0))
+            elif head == "switch":
+                at = int(first, 16)
+                self.tops[at], self.blocks[at] = int(rest[1]), {}
+            else:
+                self.blocks[at][int(first)] = bytes.fromhex(rest[0])
+
+    def owners(self):
+        """The ends that hold each LID."""
+        found = collections.defaultdict(list)
+        for first, end, lmc in self.ranges:
+            for lid in range(first, first + 2**lmc):
+                found[lid].append(end)
+        return found
+
+    def entry(self, guid, lid):
+        """The entry that counts."""
+        block = self.blocks.get(guid, {}).get(lid // ENTRIES)
+        return NO_WAY if block is None or lid == 0 or lid > self.tops[guid] else block[lid % ENTRIES]
+
+    def column(self, switches, lid):
+        return {guid: self.entry(guid, lid) for guid in switches}
+
+    def text(self):
+        lines = [f"lid {lid} {name_of(end)}" + (f" lmc {lmc}" if lmc else "") for lid, end, lmc in sorted(self.ranges)]
+        for guid, top in sorted(self.tops.items()):
+            lines.append(f"switch {guid:016x} top {top}")
+            lines += [f"block {number} {entries.hex()}" for number, entries in sorted(self.blocks[guid].items())]
+        return "".join(f"{line}\n" for line in lines)
+
+
+class Subnet:
+    """What counts of facts: the usable switches, the end ports, and where the wires in ports lead."""
+
+    def __init__(self, facts):
+        self.switches = sorted(guid for guid in facts.caps if facts.is_switch(guid))
+        self.ends = sorted(facts.port_guids)
+        wired = [end for end in facts.links if end[0] in self.switches or end in facts.port_guids]
+        self.wires = {end: far for end in wired if (far := facts.wire(end)) in wired}
+
+    def over(self, end, owners):
+        """The hop over the wire in a port."""
+        far = self.wires.get(end)
+        if far is None:
+            return NOWHERE
+        if far[0] in self.switches:
+            return ON, far[0]
+        return (TAKEN, far) if far in owners else NOWHERE
+
+    def hop(self, guid, entry, owners):
+        """What a switch does with a packet for a LID that these ends own."""
+        return (TAKEN, (guid, 0)) if entry == 0 else self.over((guid, entry), owners)
+
+    def hops(self, column, owners):
+        return {guid: self.hop(guid, entry, owners) for guid, entry in column.items()}
+
+    def sent(self, end, owners):
+        """The first hop of a packet of an end port."""
+        if end[0] in self.switches:
+            return ON, end[0]
+        return (TAKEN, end) if end in owners else self.over(end, owners)
+
+
+def walk(hops, hop):
+    """The switches that a packet meets from a hop on, and its last hop; None where it goes round."""
+    met = []
+    while hop[0] == ON:
+        if hop[1] in met:
+            return met, None
+        met.append(hop[1])
+        hop = hops[hop[1]]
+    return met, hop
+
+
+def ways(tables, hop):
+    """How a packet may end that meets at each switch any of its hops in these tables, the switches that it may meet, and whether
+    it may go round."""
+    met, ends, waiting = set(), set(), [hop]
+    while waiting:
+        kind, at = waiting.pop()
+        if kind != ON:
+            ends.add((kind, at))
+        elif at not in met:
+            met.add(at)
+            waiting += [hops[at] for hops in tables]
+    after = {guid: {hops[guid][1] for hops in tables if hops[guid][0] == ON} for guid in met}
+    over = set()
+    # Those from which every way ends, by and by.
+    while more := {guid for guid in met - over if after[guid] <= over}:
+        over |= more
+    return ends, met, over != met
+
+
+def next_column(subnet, held, planned, end):
+    """The next entries for a LID that the end alone holds, by the entries that are held and those of the plan."""
+    by_held, by_plan, there = subnet.hops(held, [end]), subnet.hops(planned, [end]), (TAKEN, end)
+    agreed = {guid: by_plan[guid] if held[guid] == planned[guid] else NOWHERE for guid in held}
+    delivers = {guid for guid in held if walk(by_held, (ON, guid))[1] == there}
+    mended = {guid: held[guid] if by_held[guid][0] == ON else planned[guid] for guid in held}
+    mending = {guid: there if guid in delivers else hop for guid, hop in subnet.hops(mended, [end]).items()}
+
+    def entry(guid):
+        if walk(agreed, by_plan[guid])[1] == there:
+            return planned[guid]
+        if guid in delivers:
+            return held[guid]
+        return mended[guid] if walk(mending, (ON, guid))[1] == there else NO_WAY
+
+    return {guid: entry(guid) for guid in held}
+
+
+def first_moved(held, plan):
+    """The least LID that the plan gives to an end and that another one holds."""
+    owners = held.owners()
+    return next((lid for lid, ends in sorted(plan.owners().items()) if set(owners[lid]) - set(ends)), None)
+
+
+def next_tables(subnet, held, plan):
+    made, before, after = Tables(), held.owners(), plan.owners()
+    made.ranges = plan.ranges
+    made.tops = {guid: max(held.tops.get(guid, 0), plan.tops[guid]) for guid in subnet.switches}
+    columns = {}
+    for lid, (end,) in after.items():
+        planned = plan.column(subnet.switches, lid)
+        columns[lid] = next_column(subnet, held.column(subnet.switches, lid), planned, end) if before[lid] == [end] else planned
+    for guid, top in made.tops.items():
+        entries = bytes(columns[lid][guid] if lid in columns else NO_WAY for lid in range((top // ENTRIES + 1) * ENTRIES))
+        made.blocks[guid] = {at // ENTRIES: entries[at : at + ENTRIES] for at in range(0, len(entries), ENTRIES)}
+    return made
+
+
+def waits(subnet, tables):
+    """The channels that packets for whichever LID may take after each channel, by an entry of any of these tables and then one of any:
+    each a switch and a port of it with a wire to a switch."""
+    found = collections.defaultdict(set)
+    for lid in range(1, max((max(them.tops.values(), default=0) for them in tables), default=0) + 1):
+        taken = {guid: set() for guid in subnet.switches}  # its ports with the switches there
+        for guid, ports in taken.items():
+            for entry in {them.entry(guid, lid) for them in tables} - {0}:
+                far = subnet.wires.get((guid, entry))
+                if far and far[0] in taken:
+                    ports.add((entry, far[0]))
+        for guid, ports in taken.items():
+            for port, far in ports:
+                found[guid, port].update((far, further) for further, _ in taken[far])
+    return found
