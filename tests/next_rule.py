@@ -154,9 +154,9 @@ def next_tables(subnet, held, plan):
 
 
 def waits(subnet, tables):
-    """The channels that packets for whichever LID may take after each channel, by an entry of any of these tables and then one of any:
-    each a switch and a port of it with a wire to a switch."""
-    found = collections.defaultdict(set)
+    """The channels that packets for whichever LID may take after each channel, by an entry of any of these tables and then one of any,
+    with the least such LID: each channel is a switch and a port of it with a wire to a switch."""
+    found = collections.defaultdict(dict)
     for lid in range(1, max((max(them.tops.values(), default=0) for them in tables), default=0) + 1):
         taken = {guid: set() for guid in subnet.switches}  # its ports with the switches there
         for guid, ports in taken.items():
@@ -166,5 +166,6 @@ def waits(subnet, tables):
                     ports.add((entry, far[0]))
         for guid, ports in taken.items():
             for port, far in ports:
-                found[guid, port].update((far, further) for further, _ in taken[far])
+                for further, _ in taken[far]:
+                    found[guid, port].setdefault((far, further), lid)
     return found

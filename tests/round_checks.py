@@ -222,9 +222,9 @@ def by_steps(room, fab, ends, process):
         and room.text("fab/held") == plan,
         "each from what is held then",
     )
-    fab(held=held, loop="credit loop on one lane 0000000000000010/1 0000000000000020/1\n", log="ready\n")
+    fab(held=held, loop="credit loop on one lane 0000000000000010/1 0000000000000020/1\nlids 5 4\n", log="ready\n")
     written = room.text("rd/plan.lfts")
-    loop = "credit loop on one lane 0000000000000010/1 0000000000000020/1 (--loops)"
+    loop = "credit loop on one lane 0000000000000010/1 0000000000000020/1; lids 5 4 (--loops)"
     told = ends(f"--opensm {process}", 1, "next", f"step 1 is not written, since packets can wait in a loop meanwhile: {loop}")
     room.check(
         told["steps"][0]["status"] == 1 and room.text("fab/held") == held and room.text("rd/plan.lfts") == written,

@@ -1,12 +1,11 @@
 //! The channels that packets for one LID take in turn.
-ghost use Rattle.std.specs.Prelude.{◌≡◌, ◌<◌, ◌+◌, ◌*◌, ◌^◌, MatchOption, None, OnOk, length, slice_index_or};
-ghost use Rattle.audit_channels.specs.Columns.{IsWithColumn, IsTurn, TakesNone, number_of};
+ghost use Rattle.std.specs.Prelude.{◌≡◌, ◌<◌, ◌+◌, ◌*◌, ◌^◌, ◌↔◌, IsTrue, MatchOption, None, OnOk, length, slice_index_or};
+ghost use Rattle.audit_channels.specs.Columns.{IsTurn, IsWithAcross, IsWithColumn, TakesNone, number_of};
 
 use crate::waits::Waits;
 use port_graph::Edge;
 use std::alloc::AllocError;
 
-#[tactic(auto, using(crate::proofs::Columns::none_so_far, crate::proofs::Columns::nothing_more, crate::proofs::Columns::one_more))]
 /// That the channels by which packets for a LID leave follow each other, by the edge of each vertex for it. The channel
 /// of a vertex's edge has the number 256 times the vertex, and the edge's port. Takes a step for each vertex, and a walk
 /// over the channels that follow its own where the next is not known to.
@@ -15,12 +14,42 @@ pub fn add_column(waits: &mut Waits, column: &[Option<Edge>]) -> Result<(), Allo
     requires room { 256 * length column.now < 2 ^ 64 }
     ensures { OnOk result (IsWithColumn waits.old column.now waits.new) }
 {
-    for vertex in 0..column.len() {
-        if let Some(turn) = in_turn(column, vertex) {
+    add_across(waits, column, column)
+}
+
+#[tactic(auto, using(crate::proofs::Columns::none_so_far))]
+/// The same where packets leave a vertex by its edge in one column, and the next by its edge in another.
+pub fn add_across(
+    waits: &mut Waits,
+    before: &[Option<Edge>],
+    now: &[Option<Edge>],
+) -> Result<(), AllocError>
+    requires before { length waits.old ≡ 256 * length before.now }
+    requires now { length waits.old ≡ 256 * length now.now }
+    requires room { 256 * length before.now < 2 ^ 64 }
+    ensures { OnOk result (IsWithAcross waits.old before.now now.now waits.new) }
+{
+    for vertex in 0..before.len() {
+        if let Some(turn) = turn_at(before, now, vertex) {
             waits.add(turn.channel, turn.next)?;
         }
     }
     Ok(())
+}
+
+/// Whether two columns are one. Takes a step for each vertex, up to the first where they differ.
+pub fn is_same_column(column: &[Option<Edge>], other: &[Option<Edge>]) -> bool
+    ensures { IsTrue result ↔ (column.now ≡ other.now) }
+{
+    if column.len() != other.len() {
+        return false;
+    }
+    for (vertex, edge) in column.iter().enumerate() {
+        if *edge != other[vertex] {
+            return false;
+        }
+    }
+    true
 }
 
 /// Two channels that a packet takes in turn.
@@ -30,21 +59,22 @@ struct Turn {
     next: usize,
 }
 
-/// The channel by which a packet leaves a vertex, and that by which it leaves the next.
-fn in_turn(column: &[Option<Edge>], vertex: usize) -> Option<Turn>
-    requires room { 256 * length column.now < 2 ^ 64 }
-    ensures { MatchOption result (TakesNone column.now vertex) (IsTurn column.now vertex) }
+/// The channel by which a packet leaves a vertex by one column, and that by which it leaves the next by another.
+fn turn_at(before: &[Option<Edge>], now: &[Option<Edge>], vertex: usize) -> Option<Turn>
+    requires before { 256 * length before.now < 2 ^ 64 }
+    requires now { 256 * length now.now < 2 ^ 64 }
+    ensures { MatchOption result (TakesNone before.now now.now vertex) (IsTurn before.now now.now vertex) }
 {
-    let first = edge_of(column, vertex)?;
+    let first = edge_of(before, vertex)?;
     let to = first.to;
-    let second = edge_of(column, to)?;
+    let second = edge_of(now, to)?;
     let channel = number_of(vertex, first);
     let next = number_of(to, second);
     Some(Turn { channel, next })
 }
 
-/// The edge of a vertex.
-fn edge_of(column: &[Option<Edge>], vertex: usize) -> Option<Edge>
+/// The edge of a vertex, if it has one. Takes one step.
+pub fn edge_of(column: &[Option<Edge>], vertex: usize) -> Option<Edge>
     ensures { result ≡ slice_index_or column.now vertex None }
 {
     column.get(vertex).copied().flatten()

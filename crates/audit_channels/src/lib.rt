@@ -20,7 +20,7 @@ mod waits;
 mod way_tally;
 mod ways;
 
-pub use column::add_column;
+pub use column::{add_across, add_column, edge_of, is_same_column};
 pub use figures::Figures;
 pub use network_order::channel_order;
 pub use order::{ChannelOrder, order_channels};

@@ -1,9 +1,9 @@
-ghost use Rattle.std.specs.Prelude.{◌≡◌, ◌<◌, ◌*◌, ◌^◌, ◌↔◌, IfOk, IsTrue, OnOk, length};
+ghost use Rattle.std.specs.Prelude.{◌≡◌, ◌<◌, ◌*◌, ◌^◌, IfOk, OnOk, length};
 ghost use Rattle.fact_store.specs.View.{cells_of};
 ghost use Rattle.audit_channels.specs.Columns.{IsWithColumn};
 ghost use Rattle.audit_channels.specs.Waiting.{AreWaits, IsAdded};
 
-use crate::{Waits, add_column};
+use crate::{Waits, add_column, is_same_column};
 use audit::Network;
 use port_graph::Edge;
 use smp_bytes::Lid;
@@ -38,23 +38,8 @@ fn add_after(
     requires room { 256 * length column.now < 2 ^ 64 }
     ensures { OnOk result (IsWithColumn waits.old column.now waits.new) }
 {
-    if is_same(column, before) {
+    if is_same_column(column, before) {
         return Ok(());
     }
     add_column(waits, column)
-}
-
-/// Whether two columns are one.
-fn is_same(column: &[Option<Edge>], other: &[Option<Edge>]) -> bool
-    ensures { IsTrue result ↔ (column.now ≡ other.now) }
-{
-    if column.len() != other.len() {
-        return false;
-    }
-    for (vertex, edge) in column.iter().enumerate() {
-        if *edge != other[vertex] {
-            return false;
-        }
-    }
-    true
 }

@@ -13,9 +13,9 @@ use Rattle.plan_file.specs.Held.{HeldPlan}
 use Rattle.plan_file.specs.Printed.{held_plan}
 use Rattle.plan_file.specs.TablesText.{next_text}
 use Rattle.next_tables.specs.NextTables.{first_moved, next_tables, step_fault}
-use Rattle.audit_report.specs.AuditText.{cycle_line}
 use Rattle.sm_cli.proofs.Plans.{has_room}
-use Rattle.next_run.specs.RunNext.{IsCycleInStep, IsSaid, IsStep, planned, stepped}
+use Rattle.next_run.specs.LoopText.{loop_text}
+use Rattle.next_run.specs.RunNext.{IsLoopInStep, IsSaid, IsStep, planned, stepped}
 
 none_moves : (o : Option ℕ) → step_fault o ≡ None → o ≡ None
 none_moves None e = refl
@@ -41,18 +41,19 @@ module _ (lmc : ℕ) (rule : RuleValue) (facts : Facts) (held : HeldPlan) (plan 
       is_next ∙ ap (λ f. next_tables (cells_of f) before to) is_known ∙ ap (λ h. next_tables (cells_of facts) h to) is_before
       ∙ ap (next_tables (cells_of facts) held) to_is
 
-  pub step_is : (prints says : List ℕ → Type 0) (passed : Bool) (cycle : List ℕ) → lid_fault (no_room lmc (cells_of facts)) ≡ None
-      → step_fault (first_moved before to) ≡ None → IsCycleInStep (cells_of known) before after cycle → prints (next_text plan.given next)
-      → says (cycle_line (cells_of known) cycle) → IsTrue passed ↔ (cycle ≡ []) → IsStep lmc rule facts held prints says passed
-  step_is prints says passed cycle room still waits printed said judged = record {
+  pub step_is : (prints says : List ℕ → Type 0) (passed : Bool) (cycle lids : List ℕ) → lid_fault (no_room lmc (cells_of facts)) ≡ None
+      → step_fault (first_moved before to) ≡ None → IsLoopInStep (cells_of known) before after cycle lids → prints (next_text plan.given next)
+      → says (loop_text (cells_of known) cycle lids) → IsTrue passed ↔ (cycle ≡ []) → IsStep lmc rule facts held prints says passed
+  step_is prints says passed cycle lids room still waits printed said judged = record {
     has_room = has_room lmc facts room;
     no_move = ap (λ h. first_moved h (planned lmc rule facts)) (sym is_before) ∙ ap (first_moved before) (sym to_is)
         ∙ none_moves (first_moved before to) still;
     written = subst prints (ap (λ p. next_text p.given next) is_plan ∙ ap (next_text (plan_of rule lmc (cells_of facts)).given) next_is) printed;
     cycle = cycle;
-    waits = subst (λ (f : Facts). IsCycleInStep (cells_of f) held (stepped lmc rule facts held) cycle) is_known
-        (subst (λ (h : HeldPlan). IsCycleInStep (cells_of known) h (stepped lmc rule facts held) cycle) is_before
-        (subst (λ (n : HeldPlan). IsCycleInStep (cells_of known) before n cycle) (is_after ∙ next_is) waits));
-    said = subst (λ (f : Facts). says (cycle_line (cells_of f) cycle)) is_known said;
+    lids = lids;
+    waits = subst (λ (f : Facts). IsLoopInStep (cells_of f) held (stepped lmc rule facts held) cycle lids) is_known
+        (subst (λ (h : HeldPlan). IsLoopInStep (cells_of known) h (stepped lmc rule facts held) cycle lids) is_before
+        (subst (λ (n : HeldPlan). IsLoopInStep (cells_of known) before n cycle lids) (is_after ∙ next_is) waits));
+    said = subst (λ (f : Facts). says (loop_text (cells_of f) cycle lids)) is_known said;
     judged = judged;
   }

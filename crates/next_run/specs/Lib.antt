@@ -1,1 +1,2 @@
+pub mod LoopText
 pub mod RunNext

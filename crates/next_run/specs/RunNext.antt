@@ -12,8 +12,9 @@ use Rattle.plan_file.specs.TablesText.{next_text}
 use Rattle.next_tables.specs.NextTables.{first_moved, next_tables}
 use Rattle.next_tables.specs.declared.fault.StepFault.{StepFault}
 use Rattle.next_tables.specs.declared.fault.StepFault.TheVariants as steps
+use Rattle.next_tables.specs.LoopLids.{AreLoopLids}
 use Rattle.next_tables.specs.StepOrder.{NoneShorter, NumbersRise, WaitInCycle}
-use Rattle.audit_report.specs.AuditText.{cycle_line}
+use Rattle.next_run.specs.LoopText.{loop_text}
 use Rattle.sm_cli.specs.Asked.{texts_for}
 use Rattle.sm_cli.specs.InputFiles.{HasRead, IsRefusedFile}
 use Rattle.sm_cli.specs.InputRule.{IsRuleFault, IsRuleRead, rule_fault}
@@ -44,6 +45,10 @@ abbrev pub IsCycleInStep : Cells → HeldPlan → HeldPlan → List ℕ → Type
 IsCycleInStep cells held next [] = (numbers : List ℕ) × NumbersRise cells held next numbers
 IsCycleInStep cells held next (channel ∷ later) = WaitInCycle cells held next (channel ∷ later) × NoneShorter cells held next (channel ∷ later)
 
+-- these channels, and for each the least LID for which packets that hold it wait for the one after it
+abbrev pub IsLoopInStep : Cells → HeldPlan → HeldPlan → List ℕ → List ℕ → Type 0
+IsLoopInStep cells held next cycle lids = IsCycleInStep cells held next cycle × AreLoopLids cells held next cycle lids
+
 -- a text was written, or what it is written on has failed
 abbrev pub IsSaid : Option (List ℕ) → Option (List ℕ) → Bool → List ℕ → Type 0
 IsSaid written written' has_failed text = IsTrue has_failed ⊎ Appends written written' text
@@ -54,8 +59,9 @@ pub record IsStep (lmc : ℕ) (rule : RuleValue) (facts : Facts) (held : HeldPla
   pub no_move : first_moved held (planned lmc rule facts) ≡ None
   pub written : prints (step_text lmc rule facts held)
   pub cycle : List ℕ
-  pub waits : IsCycleInStep (cells_of facts) held (stepped lmc rule facts held) cycle
-  pub said : says (cycle_line (cells_of facts) cycle)
+  pub lids : List ℕ
+  pub waits : IsLoopInStep (cells_of facts) held (stepped lmc rule facts held) cycle lids
+  pub said : says (loop_text (cells_of facts) cycle lids)
   pub judged : IsTrue passed ↔ (cycle ≡ [])
 
 -- why there are no next tables, as a fault of a run in which the tables held are at an input

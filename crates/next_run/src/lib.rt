@@ -3,5 +3,6 @@
 #![tactic(auto)]
 
 mod run_step;
+mod step_loop;
 
 pub use run_step::{StepAsked, run_next};

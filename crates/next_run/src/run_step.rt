@@ -4,20 +4,19 @@ ghost use Rattle.std.specs.Io.KnownBytes.{Appends};
 ghost use Rattle.fact_store.specs.View.{cells_of};
 ghost use Rattle.lft_blocks.specs.Rules.{value_of};
 ghost use Rattle.sm_cli.specs.Asked.{texts_for};
-ghost use Rattle.next_run.specs.RunNext.{HasStepped, IsCycleInStep, IsSaid, IsStep, IsStepFault, StopsStep, fault_of_step};
+ghost use Rattle.next_run.specs.RunNext.{HasStepped, IsSaid, IsStep, IsStepFault, StopsStep, fault_of_step};
 
+use crate::step_loop::StepLoop;
 use attr_codec::Lmc;
 use audit::Network;
-use audit_channels::ChannelOrder;
-use audit_report::write_cycle;
 use byte_io::{Sink, Source};
 use fact_store::Store;
 use lft_blocks::{Plan, Rule};
-use next_tables::{StepFault, next_tables, step_order};
+use next_tables::{StepFault, next_tables};
 use plan_file::{Held, write_next};
 use sm_cli::{Fault, RuleAsked, TextFault, read_files, read_rule, read_tables, rule_fault};
 use smp_bytes::Generation;
-use std::alloc::{AllocError, Global};
+use std::alloc::Global;
 
 /// How a step is asked for.
 #[derive(Clone, Copy, Debug, PartialEq, Eq)]
@@ -32,10 +31,10 @@ pub struct StepAsked {
 
 /// Reads the text of roots, where one is asked for, then the text of tables that switches hold, and then the files in
 /// order; writes the tables to write next towards the plan of what the files say together, as text; and says on `told`, in a
-/// line as an audit's, whether channels can wait for each other by any mixture of both tables. Answers whether none can. The
-/// first fault counts; then that of the roots, that there is no room for the plan, and that a LID is given to another end
-/// port than the one that holds it. Where an input is refused, or memory is, nothing is written; how much went out before a
-/// write failed is not said.
+/// line as an audit's, whether channels can wait for each other by any mixture of both tables, and in another for which LIDs.
+/// Answers whether none can. The first fault counts; then that of the roots, that there is no room for the plan, and that a
+/// LID is given to another end port than the one that holds it. Where an input is refused, or memory is, nothing is written;
+/// how much went out before a write failed is not said.
 pub fn run_next<S: Source, W: Sink, E: Sink>(
     alloc: Global,
     inputs: &mut [S],
@@ -113,19 +112,12 @@ fn step<W: Sink, E: Sink>(
     let Ok(after) = Network::of(alloc, store, &next) else {
         return Err(Fault::Memory);
     };
-    let Ok(cycle) = cycle_in_step(alloc, &from, &after) else {
+    let Ok(found) = StepLoop::of(alloc, &from, &after) else {
         return Err(Fault::Memory);
     };
     write_next(sink, plan.lids(), &next)?;
-    let _ = write_cycle(told, &from, &cycle);
-    Ok(is_none(&cycle))
-}
-
-/// Whether there are no channels.
-fn is_none(channels: &[usize]) -> bool
-    ensures { IsTrue result ↔ (channels.now ≡ []) }
-{
-    channels.is_empty()
+    let _ = found.write(told, &from);
+    Ok(found.is_none())
 }
 
 /// Why there is no step, as a fault of a run in which the tables are at an input.
@@ -138,17 +130,5 @@ fn fault_of_step(input: usize, fault: &StepFault) -> Fault
             fault: TextFault::Moves(*lid),
         },
         StepFault::Memory => Fault::Memory,
-    }
-}
-
-/// Channels that wait for each other by some mixture of two tables, as few as there are; none where there are none.
-fn cycle_in_step(alloc: Global, held: &Network, next: &Network) -> Result<Vec<usize>, AllocError>
-    requires { next.now.facts ≡ held.now.facts }
-    ensures { IfOk result (λ cycle.
-        IsCycleInStep (cells_of held.now.facts) held.now.held next.now.held cycle.items) }
-{
-    match step_order(alloc, held, next)? {
-        ChannelOrder::Rises(_) => Ok(Vec::new(alloc)),
-        ChannelOrder::Cycle(channels) => Ok(channels),
     }
 }

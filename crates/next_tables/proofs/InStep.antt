@@ -85,7 +85,7 @@ module _ (cells : Cells) (held next : HeldPlan) where
           ]
 
   -- above both tops nothing is taken
-  above_both : (lid a b : ℕ) → max (greatest_top cells held) (greatest_top cells next) < lid → WaitsInStep cells held next lid a b → ⊥
+  pub above_both : (lid a b : ℕ) → max (greatest_top cells held) (greatest_top cells next) < lid → WaitsInStep cells held next lid a b → ⊥
   above_both lid a b past w =
       let one : greatest_top cells held < lid = omega arith in
       let other : greatest_top cells next < lid = omega arith in

@@ -6,6 +6,7 @@ pub mod ChangingFabric
 pub mod Entries
 pub mod InStep
 pub mod Listed
+pub mod LoopLids
 pub mod NextText
 pub mod Mixtures
 pub mod Plain

@@ -1,83 +1,12 @@
 -- The channels that packets for a LID take in turn across two columns, vertex by vertex.
-use Rattle.std.proofs.Common.{◌≡◌, ◌+◌, ℕ, List, length, refl, sym, ap, ◌∙◌, subst, arith, inl, inr, ◌⊎◌, Result, Ok, Err}
-use Rattle.std.specs.Prelude.{OnOk, Option, None, Some, slice_index_or}
-use Rattle.std.proofs.lemmas.Bool.{cases_lt}
+use Rattle.std.proofs.Common.{◌≡◌, ℕ, List, [], length, refl, sym, ◌∙◌, subst, inl, inr, ◌⊎◌, Result, Ok, Err}
+use Rattle.std.specs.Prelude.{OnOk, Option}
 use Rattle.port_graph.specs.declared.edge.Edge.{Edge}
-use Rattle.audit_channels.specs.Orders.{Follows, IsWith}
-use Rattle.audit_channels.specs.Columns.{number_of}
+use Rattle.audit_channels.specs.Orders.{Follows}
+use Rattle.audit_channels.specs.Columns.{IsWithAcross, IsWithColumn, TakesAmong}
 use Rattle.audit_channels.proofs.Columns.{within}
-use Rattle.next_tables.specs.declared.across.StepTurn.{StepTurn}
-use Rattle.next_tables.specs.Mixtures.{TakesAcross, TakesBy, TakesInStep}
-use Rattle.next_tables.specs.StepOrder.{IsTurn, IsWithAcross, IsWithSome, IsWithStep, TakesAmong, TakesNone}
-
-same_edge : (e f : Edge) → Some e ≡ Some f → e ≡ f
-same_edge e f h = cc
-
-module _ (old : List (List ℕ)) (before now : List (Option Edge)) where
-  pub none_so_far : IsWithSome 0 old before now old
-  none_so_far = record { as_many = refl; follows = λ a b. ((λ h. inl h), back a b) }
-    where
-      back : (a b : ℕ) → Follows old a b ⊎ TakesAmong 0 before now a b → Follows old a b
-      back a b (inl h) = h
-      back a b (inr t) = let less = t.1 in absurd (omega arith)
-
-  -- a vertex from which no two are taken in turn
-  pub nothing_more : (waits : List (List ℕ)) (vertex : ℕ) → IsWithSome vertex old before now waits
-      → TakesNone before now vertex → IsWithSome (vertex + 1) old before now waits
-  nothing_more waits vertex h none = record {
-    as_many = h.as_many;
-    follows = λ a b. ((λ f. more a b ((h.follows a b).0 f)), (λ t. (h.follows a b).1 (less a b t)));
-  }
-    where
-      more : (a b : ℕ) → Follows old a b ⊎ TakesAmong vertex before now a b → Follows old a b ⊎ TakesAmong (vertex + 1) before now a b
-      more a b (inl f) = inl f
-      more a b (inr t) = let below = t.1 in inr (t.0, omega arith, t.2)
-
-      less : (a b : ℕ) → Follows old a b ⊎ TakesAmong (vertex + 1) before now a b → Follows old a b ⊎ TakesAmong vertex before now a b
-      less a b (inl f) = inl f
-      less a b (inr t) =
-          elim (cases_lt t.0 vertex) [
-            | inl below ↦ inr (t.0, below, t.2)
-            | inr past ↦
-                let below = t.1 in
-                let at : t.0 ≡ vertex = omega arith in
-                absurd (none a b (subst (λ (v : ℕ). TakesAcross before now v a b) at t.2))
-          ]
-
-  -- one from which two are
-  pub one_more : (waits new : List (List ℕ)) (vertex : ℕ) (turn : StepTurn) → IsWithSome vertex old before now waits
-      → IsTurn before now vertex turn → IsWith waits turn.channel turn.next new → IsWithSome (vertex + 1) old before now new
-  one_more waits new vertex turn h is with_it = record {
-    as_many = with_it.as_many ∙ h.as_many;
-    follows = λ a b. ((λ f. more a b ((with_it.follows a b).0 f)), (λ t. (with_it.follows a b).1 (less a b t)));
-  }
-    where
-      earlier : (a b : ℕ) → Follows old a b ⊎ TakesAmong vertex before now a b → Follows old a b ⊎ TakesAmong (vertex + 1) before now a b
-      earlier a b (inl f) = inl f
-      earlier a b (inr t) = let below = t.1 in inr (t.0, omega arith, t.2)
-
-      more : (a b : ℕ) → Follows waits a b ⊎ ((a ≡ turn.channel) × (b ≡ turn.next)) → Follows old a b ⊎ TakesAmong (vertex + 1) before now a b
-      more a b (inl f) = earlier a b ((h.follows a b).0 f)
-      more a b (inr e) =
-          let first = subst (λ (n : ℕ). TakesAcross before now vertex n turn.next) (sym e.0) is.takes in
-          inr (vertex, omega arith, subst (λ (n : ℕ). TakesAcross before now vertex a n) (sym e.1) first)
-
-      less : (a b : ℕ) → Follows old a b ⊎ TakesAmong (vertex + 1) before now a b → Follows waits a b ⊎ ((a ≡ turn.channel) × (b ≡ turn.next))
-      less a b (inl f) = inl ((h.follows a b).1 (inl f))
-      less a b (inr t) =
-          elim (cases_lt t.0 vertex) [
-            | inl below ↦ inl ((h.follows a b).1 (inr (t.0, below, t.2)))
-            | inr past ↦
-                let below = t.1 in
-                let at : t.0 ≡ vertex = omega arith in
-                let this = subst (λ (v : ℕ). TakesAcross before now v a b) at t.2 in
-                let that = is.takes in
-                let one : this.first ≡ that.first = same_edge this.first that.first (sym this.leaves ∙ that.leaves) in
-                let to : this.first.to ≡ that.first.to = ap (λ (e : Edge). e.to) one in
-                let two : this.second ≡ that.second =
-                same_edge this.second that.second (sym this.leaves_there ∙ ap (λ (v : ℕ). slice_index_or now v None) to ∙ that.leaves_there) in
-                inr (this.channel_is ∙ ap (number_of vertex) one ∙ sym that.channel_is, this.next_is ∙ (λ i. number_of (to i) (two i)) ∙ sym that.next_is)
-          ]
+use Rattle.next_tables.specs.Mixtures.{TakesBy, TakesInStep}
+use Rattle.next_tables.specs.StepOrder.{IsAddedInStep, IsWithStep}
 
 -- at one of all vertices, or at any
 of_all : (before now : List (Option Edge)) (a b : ℕ) → TakesBy before now a b → TakesAmong (length before) before now a b
@@ -126,3 +55,50 @@ all_kinds old one two three new held next h k m n = record {
     back a b (inr (inr (inl t))) = from_two a b ((k.follows a b).1 (inr (of_all held next a b t)))
     back a b (inr (inr (inr (inl t)))) = from_three a b ((m.follows a b).1 (inr (of_all next held a b t)))
     back a b (inr (inr (inr (inr t)))) = (n.follows a b).1 (inr (of_all next next a b t))
+
+-- where both tables have the same edges, one kind is all
+pub one_kind : (old new : List (List ℕ)) (held next : List (Option Edge)) → held ≡ next → IsWithColumn old held new → IsWithStep old held next new
+one_kind old new held next same h =
+    subst (λ (column : List (Option Edge)). IsWithStep old held column new) same (record { as_many = h.as_many; follows = λ a b. (there a b, back a b) })
+  where
+    there : (a b : ℕ) → Follows new a b → Follows old a b ⊎ TakesInStep held held a b
+    there a b f = elim ((h.follows a b).0 f) [ inl o ↦ inl o | inr t ↦ inr (inl (of_any held held a b t)) ]
+
+    taken : (a b : ℕ) → TakesBy held held a b → Follows new a b
+    taken a b t = (h.follows a b).1 (inr (of_all held held a b t))
+
+    back : (a b : ℕ) → Follows old a b ⊎ TakesInStep held held a b → Follows new a b
+    back a b (inl f) = (h.follows a b).1 (inl f)
+    back a b (inr (inl t)) = taken a b t
+    back a b (inr (inr (inl t))) = taken a b t
+    back a b (inr (inr (inr (inl t)))) = taken a b t
+    back a b (inr (inr (inr (inr t)))) = taken a b t
+
+-- columns that have been added, and again
+pub none_added : (waits : List (List ℕ)) → IsAddedInStep [] [] waits
+none_added waits a b t = absurd (nothing t)
+  where
+    none : TakesBy [] [] a b → ⊥
+    none t = let leaves = t.1.leaves in cc
+
+    nothing : TakesInStep [] [] a b → ⊥
+    nothing (inl t) = none t
+    nothing (inr (inl t)) = none t
+    nothing (inr (inr (inl t))) = none t
+    nothing (inr (inr (inr t))) = none t
+
+pub is_added : (old new : List (List ℕ)) (held next : List (Option Edge)) → IsWithStep old held next new → IsAddedInStep held next new
+is_added old new held next h a b t = (h.follows a b).1 (inr t)
+
+pub again : (waits : List (List ℕ)) (held next held_before next_before : List (Option Edge)) → held ≡ held_before → next ≡ next_before
+    → IsAddedInStep held_before next_before waits → IsWithStep waits held next waits
+again waits held next held_before next_before e f added = record { as_many = refl; follows = λ a b. ((λ g. inl g), back a b) }
+  where
+    there : IsAddedInStep held next waits
+    there =
+        subst (λ (c : List (Option Edge)). IsAddedInStep c next waits) (sym e)
+        (subst (λ (c : List (Option Edge)). IsAddedInStep held_before c waits) (sym f) added)
+
+    back : (a b : ℕ) → Follows waits a b ⊎ TakesInStep held next a b → Follows waits a b
+    back a b (inl g) = g
+    back a b (inr t) = there a b t

@@ -1,5 +1,6 @@
 pub mod Assembled
 pub mod ChangingFabric
+pub mod LoopLids
 pub mod Mixtures
 pub mod Next
 pub mod NextTables

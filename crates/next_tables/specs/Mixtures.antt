@@ -1,7 +1,7 @@
 -- What becomes of packets while switches go over from the tables that they hold to the next ones, each block at its own time.
 use Rattle.std.specs.Prelude.{◌≡◌, ◌≤◌, ◌<◌, ◌⊎◌, ℕ, zero, suc, List, [], ◌∷◌, Contains, Option, None, Some, slice_get, slice_index_or}
 use Rattle.port_graph.specs.declared.edge.Edge.{Edge}
-use Rattle.audit_channels.specs.Columns.{number_of}
+use Rattle.audit_channels.specs.Columns.{TakesAcross}
 use Rattle.subnet_view.specs.declared.end_port.EndPort.{EndPort}
 use Rattle.subnet_view.specs.Reading.{Cells, switches}
 use Rattle.plan_file.specs.declared.held.HeldLid.{HeldLid}
@@ -85,16 +85,7 @@ HealInTwo =
     (cells : Cells) (plan : HeldPlan) (line : HeldLid) (tables : ℕ → HeldPlan) → AreSteps cells plan line tables
     → (source : EndPort) → IsBrought cells plan line.lid source (Some (Taken line.port)) → IsBrought cells (tables 2) line.lid source (Some (Taken line.port))
 
--- a packet leaves a switch by a channel, by the edges that switches have then, and the next by another, by those that they have when it comes there
-pub record TakesAcross (before now : List (Option Edge)) (switch channel next : ℕ) : Type 0 where
-  pub first : Edge
-  pub second : Edge
-  pub leaves : slice_index_or before switch None ≡ Some first
-  pub leaves_there : slice_index_or now first.to None ≡ Some second
-  pub channel_is : channel ≡ number_of switch first
-  pub next_is : next ≡ number_of first.to second
-
--- some switch
+-- a packet takes one channel and then another at some switch, by the edges that switches have then, and by those that they have when it comes to the next
 abbrev pub TakesBy : List (Option Edge) → List (Option Edge) → ℕ → ℕ → Type 0
 TakesBy before now channel next = (switch : ℕ) × TakesAcross before now switch channel next
 

@@ -6,36 +6,16 @@ use Rattle.plan_file.specs.Held.{HeldPlan}
 use Rattle.audit_channels.specs.Orders.{Follows}
 use Rattle.audit_channels.specs.declared.order.ChannelOrder.{ChannelOrder}
 use Rattle.audit_channels.specs.declared.order.ChannelOrder.TheVariants.{Rises, Cycle}
-use Rattle.next_tables.specs.declared.across.StepTurn.{StepTurn}
-use Rattle.next_tables.specs.Mixtures.{TakesAcross, TakesInStep, WaitsInStep, RiseInStep}
-
--- a packet does not leave a vertex by one column, and the next by the other
-abbrev pub TakesNone : List (Option Edge) → List (Option Edge) → ℕ → Type 0
-TakesNone before now vertex = (channel next : ℕ) → TakesAcross before now vertex channel next → ⊥
-
--- the two, which are channels of so many vertices
-pub record IsTurn (before now : List (Option Edge)) (vertex : ℕ) (turn : StepTurn) : Type 0 where
-  pub takes : TakesAcross before now vertex turn.channel turn.next
-  pub channel_within : turn.channel < 256 * length before
-  pub next_within : turn.next < 256 * length now
-
--- at one of the first vertices
-abbrev pub TakesAmong : ℕ → List (Option Edge) → List (Option Edge) → ℕ → ℕ → Type 0
-TakesAmong count before now channel next = (vertex : ℕ) × (vertex < count) × TakesAcross before now vertex channel next
-
--- the same, and that the channels that are taken across at the first vertices follow each other
-pub record IsWithSome (count : ℕ) (old : List (List ℕ)) (before now : List (Option Edge)) (new : List (List ℕ)) : Type 0 where
-  pub as_many : length new ≡ length old
-  pub follows : (a b : ℕ) → Follows new a b ↔ (Follows old a b ⊎ TakesAmong count before now a b)
-
--- of all
-abbrev pub IsWithAcross : List (List ℕ) → List (Option Edge) → List (Option Edge) → List (List ℕ) → Type 0
-IsWithAcross old before now new = IsWithSome (length before) old before now new
+use Rattle.next_tables.specs.Mixtures.{TakesInStep, WaitsInStep, RiseInStep}
 
 -- the same, and that all those follow each other of which the one is taken by either column, and then the other by either
 pub record IsWithStep (old : List (List ℕ)) (held next : List (Option Edge)) (new : List (List ℕ)) : Type 0 where
   pub as_many : length new ≡ length old
   pub follows : (a b : ℕ) → Follows new a b ↔ (Follows old a b ⊎ TakesInStep held next a b)
+
+-- those that are taken so follow each other
+abbrev pub IsAddedInStep : List (Option Edge) → List (Option Edge) → List (List ℕ) → Type 0
+IsAddedInStep held next waits = (a b : ℕ) → TakesInStep held next a b → Follows waits a b
 
 -- packets for some LID wait so, whether or not an end port holds it
 pub record WaitsFor (cells : Cells) (held next : HeldPlan) (a b : ℕ) : Type 0 where

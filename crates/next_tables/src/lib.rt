@@ -6,11 +6,13 @@ mod across;
 mod columns;
 mod fault;
 pub mod laws;
+mod lids_in_loop;
 mod next_entries;
 mod order;
 mod step;
 
 pub use fault::StepFault;
+pub use lids_in_loop::loop_lids;
 pub use order::step_order;
 pub use step::next_tables;
 

@@ -3,7 +3,7 @@ ghost use Rattle.std.specs.Prelude.{◌≡◌, IfOk};
 ghost use Rattle.fact_store.specs.View.{cells_of};
 ghost use Rattle.next_tables.specs.StepOrder.{AreWaits, IsShortestInStep, IsStepOrder};
 
-use crate::across::add_step;
+use crate::across::{Columns, add_step};
 use crate::step::greater;
 use audit::Network;
 use audit_channels::{ChannelOrder, Waits, order_channels};
@@ -14,7 +14,7 @@ use std::alloc::{AllocError, Global};
 /// Numbers of channels that rise along the way of every packet, by whatever mixtures of the tables held and the next ones,
 /// where there are such; or else channels that wait for each other in a cycle by some, as few as there are. The channels
 /// have the numbers that they have in `audit_channels::channel_order`. Takes what that does for both tables, and four steps
-/// in place of one.
+/// in place of one where they differ.
 pub fn step_order(alloc: Global, held: &Network, next: &Network) -> Result<ChannelOrder, AllocError>
     requires facts { next.now.facts ≡ held.now.facts }
     ensures order { IfOk result (λ found.
@@ -37,13 +37,19 @@ fn waits(alloc: Global, held: &Network, next: &Network) -> Result<Waits, AllocEr
     let mut waits = Waits::new(alloc, count)?;
     let mut held_blocks = held.blocks(alloc, 0)?;
     let mut next_blocks = next.blocks(alloc, 0)?;
+    let mut before = Columns::none(alloc);
     for below in 0..greater(held.greatest_top(), next.greatest_top()).number() {
         let lid = Lid::new(below + 1);
         held_blocks = held.blocks_for(alloc, held_blocks, lid)?;
         next_blocks = next.blocks_for(alloc, next_blocks, lid)?;
-        let before = held.edges(alloc, &held_blocks, lid)?;
-        let after = next.edges(alloc, &next_blocks, lid)?;
-        add_step(&mut waits, &before, &after)?;
+        let held_edges = held.edges(alloc, &held_blocks, lid)?;
+        let next_edges = next.edges(alloc, &next_blocks, lid)?;
+        let columns = Columns {
+            held: held_edges,
+            next: next_edges,
+        };
+        add_step(&mut waits, &before, &columns)?;
+        before = columns;
     }
     Ok(waits)
 }

@@ -1,13 +1,14 @@
 -- A LID more, and all of them.
-use Rattle.std.proofs.Common.{◌≡◌, ◌∙◌, ◌*◌, List, length, subst, ap, arith}
+use Rattle.std.proofs.Common.{◌≡◌, ◌∙◌, ◌*◌, List, [], length, subst, sym, ap, arith}
 use Rattle.std.specs.Prelude.{Option}
 use Rattle.port_graph.specs.declared.edge.Edge.{Edge}
 use Rattle.fact_store.specs.View.{Facts, cells_of}
 use Rattle.subnet_view.specs.Reading.{switches}
 use Rattle.audit.specs.Edges.{edges_of, greatest_top}
 use Rattle.audit_channels.proofs.Waiting.{some_is}
-use Rattle.next_tables.specs.StepOrder.{IsWithStep}
+use Rattle.next_tables.specs.StepOrder.{IsAddedInStep}
 use Rattle.next_tables.proofs.InStep.{none_so_far, more, all}
+use Rattle.next_tables.proofs.Taken.{is_added, none_added}
 use Rattle.next_tables.proofs.order.waits.Goals as goal
 
 pub loop-below-init : goal.loop-below-init
@@ -16,9 +17,13 @@ loop-below-init c =
     let product = some_is _ c.checked_mul.result c.in_ok-count.count _ c.checked_mul.ensures c.in_ok-count.ensures.ok_part in
     let all_switches = c.switch_count.ensures in
     let count : c.in_ok-count.count ≡ 256 * length (switches cells) = omega arith in
-    none_so_far cells c.args.held.now.held c.args.next.now.held c.in_ok-held_blocks.held_blocks.number c.in_ok-next_blocks.next_blocks.number c.in_ok-count.count
-    c.in_ok-held_blocks.held_blocks.rows.items c.in_ok-next_blocks.next_blocks.rows.items c.in_ok-waits.waits
-    c.in_ok-held_blocks.ensures.0 c.in_ok-next_blocks.ensures.0 c.in_ok-waits.ensures count
+    record {
+      so_far = none_so_far cells c.args.held.now.held c.args.next.now.held c.in_ok-held_blocks.held_blocks.number c.in_ok-next_blocks.next_blocks.number
+          c.in_ok-count.count c.in_ok-held_blocks.held_blocks.rows.items c.in_ok-next_blocks.next_blocks.rows.items c.in_ok-waits.waits
+          c.in_ok-held_blocks.ensures.0 c.in_ok-next_blocks.ensures.0 c.in_ok-waits.ensures count;
+      added = subst (λ (xs : List (Option Edge)). IsAddedInStep xs c.none-before.result.next.items c.in_ok-waits.waits) (sym c.none-before.ensures.held)
+          (subst (λ (xs : List (Option Edge)). IsAddedInStep [] xs c.in_ok-waits.waits) (sym c.none-before.ensures.next) (none_added c.in_ok-waits.waits));
+    }
 
 pub loop-below-preserved : goal.loop-below-preserved
 loop-below-preserved c =
@@ -26,18 +31,19 @@ loop-below-preserved c =
     let held = c.args.held.now.held in
     let next = c.args.next.now.held in
     let lid = c.new-lid.result in
-    let before = c.in_ok-before.before.items in
-    let after = c.in_ok-after.after.items in
+    let before = c.in_ok-held_edges.held_edges.items in
+    let after = c.in_ok-next_edges.next_edges.items in
     let old = c.loop-below.waits in
     let new = c.add_step.new.waits in
-    let with_it =
-    subst (λ (xs : List (Option Edge)). IsWithStep old before xs new) c.deref-in-loop-below.ensures.value
-    (subst (λ (xs : List (Option Edge)). IsWithStep old xs c.deref-in-loop-below.result.now new) c.deref.ensures.value c.in_ok-add_step.ensures) in
-    more cells held next c.loop-below.below lid c.loop-below.held_blocks.number c.loop-below.next_blocks.number
-    c.in_ok-held_blocks-2.held_blocks.number c.in_ok-next_blocks-2.next_blocks.number c.loop-below.held_blocks.rows.items c.loop-below.next_blocks.rows.items
-    c.in_ok-held_blocks-2.held_blocks.rows.items c.in_ok-next_blocks-2.next_blocks.rows.items old new before after c.loop-below.invariant
-    c.in_ok-held_blocks-2.ensures.0 c.in_ok-next_blocks-2.ensures.0 c.new-lid.ensures c.in_ok-before.ensures
-    (c.in_ok-after.ensures ∙ ap (λ (f : Facts). edges_of (cells_of f) next lid) c.requires.facts) with_it
+    let with_it = c.in_ok-add_step.ensures in
+    record {
+      so_far = more cells held next c.loop-below.below lid c.loop-below.held_blocks.number c.loop-below.next_blocks.number
+          c.in_ok-held_blocks-2.held_blocks.number c.in_ok-next_blocks-2.next_blocks.number c.loop-below.held_blocks.rows.items
+          c.loop-below.next_blocks.rows.items c.in_ok-held_blocks-2.held_blocks.rows.items c.in_ok-next_blocks-2.next_blocks.rows.items old new before after
+          c.loop-below.invariant.so_far c.in_ok-held_blocks-2.ensures.0 c.in_ok-next_blocks-2.ensures.0 c.new-lid.ensures c.in_ok-held_edges.ensures
+          (c.in_ok-next_edges.ensures ∙ ap (λ (f : Facts). edges_of (cells_of f) next lid) c.requires.facts) with_it;
+      added = is_added old new before after with_it;
+    }
 
 pub returns : goal.returns
 returns c =
@@ -49,4 +55,4 @@ returns c =
     let both = c.greater.ensures in
     let end = c.number-below-end.ensures in
     all cells held next c.loop-below.below c.loop-below.held_blocks.number c.loop-below.next_blocks.number c.loop-below.held_blocks.rows.items c.loop-below.next_blocks.rows.items
-    c.loop-below.waits c.loop-below.invariant (omega arith)
+    c.loop-below.waits c.loop-below.invariant.so_far (omega arith)

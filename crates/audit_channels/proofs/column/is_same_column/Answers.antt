@@ -1,7 +1,7 @@
 -- They agree at each index.
 use Rattle.std.proofs.Common.{refl, arith}
 use Rattle.audit_channels.proofs.Waiting.{same_columns}
-use Rattle.audit_channels.proofs.network_waits.is_same.Goals as goal
+use Rattle.audit_channels.proofs.column.is_same_column.Goals as goal
 
 pub returns : goal.returns
 returns c = (

@@ -1,0 +1,17 @@
+-- What is said of credit loops in a step.
+use Rattle.std.specs.Prelude.{ℕ, List, [], ◌∷◌, ◌++◌, codes, decimal}
+use Rattle.std.specs.List.{flat_map}
+use Rattle.subnet_view.specs.Reading.{Cells}
+use Rattle.audit_report.specs.AuditText.{cycle_line}
+
+abbrev pub lid_word : ℕ → List ℕ
+lid_word lid = codes " " ++ decimal lid
+
+-- the LIDs of its channels, if there are any
+abbrev pub lids_line : List ℕ → List ℕ
+lids_line [] = []
+lids_line (lid ∷ later) = codes "lids" ++ flat_map lid_word (lid ∷ later) ++ codes "\n"
+
+-- a loop as an audit says it, and for which LIDs its channels wait; or that there is none
+abbrev pub loop_text : Cells → List ℕ → List ℕ → List ℕ
+loop_text cells cycle lids = cycle_line cells cycle ++ lids_line lids

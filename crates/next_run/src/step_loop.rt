@@ -1,0 +1,89 @@
+//! A credit loop that can come about in a step, and its text.
+ghost use Rattle.std.specs.Prelude.{◌≡◌, ◌++◌, ◌↔◌, [], IfOk, IsTrue, codes};
+ghost use Rattle.std.specs.List.{flat_map};
+ghost use Rattle.fact_store.specs.View.{cells_of};
+ghost use Rattle.lft_blocks.specs.WritesPart.{WritesPart};
+ghost use Rattle.next_run.specs.LoopText.{lid_word, lids_line, loop_text};
+ghost use Rattle.next_run.specs.RunNext.{IsLoopInStep};
+
+use audit::Network;
+use audit_channels::ChannelOrder;
+use audit_report::write_cycle;
+use byte_io::{Sink, WriteFault, write_number};
+use next_tables::{loop_lids, step_order};
+use smp_bytes::Lid;
+use std::alloc::{AllocError, Global};
+
+/// Channels that wait for each other in a step; none where there is no credit loop.
+#[derive(Drop)]
+pub(crate) struct StepLoop {
+    pub channels: Vec<usize>,
+    /// For each channel the least LID for which packets that hold it wait for the one after it.
+    pub lids: Vec<Lid>,
+}
+
+impl StepLoop {
+    /// Channels that wait for each other by some mixture of two tables, as few as there are; none where there are none.
+    pub fn of(alloc: Global, held: &Network, next: &Network) -> Result<Self, AllocError>
+        requires { next.now.facts ≡ held.now.facts }
+        ensures { IfOk result (λ found. IsLoopInStep (cells_of held.now.facts) held.now.held next.now.held
+            found.channels.items found.lids.items) }
+    {
+        match step_order(alloc, held, next)? {
+            ChannelOrder::Rises(_) => Ok(StepLoop {
+                channels: Vec::new(alloc),
+                lids: Vec::new(alloc),
+            }),
+            ChannelOrder::Cycle(channels) => {
+                let lids = loop_lids(alloc, held, next, &channels)?;
+                Ok(StepLoop { channels, lids })
+            }
+        }
+    }
+
+    /// Whether there are no channels.
+    pub fn is_none(&self) -> bool
+        ensures { IsTrue result ↔ (self.now.channels.items ≡ []) }
+    {
+        self.channels.is_empty()
+    }
+
+    /// Writes the channels, and behind them their LIDs.
+    pub fn write<W: Sink>(&self, sink: &mut W, network: &Network) -> Result<(), WriteFault>
+        ensures { WritesPart W.written W.has_failed result sink.old sink.new
+            (loop_text (cells_of network.now.facts) self.now.channels.items self.now.lids.items) }
+    {
+        write_cycle(sink, network, &self.channels)?;
+        write_lids(sink, &self.lids)
+    }
+}
+
+/// Writes the line of LIDs, if there are any.
+fn write_lids<W: Sink>(sink: &mut W, lids: &[Lid]) -> Result<(), WriteFault>
+    ensures { WritesPart W.written W.has_failed result sink.old sink.new (lids_line lids.now) }
+{
+    if lids.is_empty() {
+        return Ok(());
+    }
+    sink.write(b"lids")?;
+    write_each_lid(sink, lids)?;
+    sink.write(b"\n")
+}
+
+/// Writes each of these LIDs.
+fn write_each_lid<W: Sink>(sink: &mut W, lids: &[Lid]) -> Result<(), WriteFault>
+    ensures { WritesPart W.written W.has_failed result sink.old sink.new (flat_map lid_word lids.now) }
+{
+    for lid in lids {
+        write_lid(sink, *lid)?;
+    }
+    Ok(())
+}
+
+/// Writes a LID behind a blank.
+fn write_lid<W: Sink>(sink: &mut W, lid: Lid) -> Result<(), WriteFault>
+    ensures { WritesPart W.written W.has_failed result sink.old sink.new (lid_word lid) }
+{
+    sink.write(b" ")?;
+    write_number(sink, u64::from(lid.number()))
+}

@@ -1,0 +1,45 @@
+-- For which LIDs packets wait in a credit loop of a step.
+use Rattle.std.specs.Prelude.{◌≡◌, ◌⊎◌, ◌<◌, ◌≤◌, ◌/◌, ℕ, List, [], ◌∷◌, ◌++◌, Option, length, slice_index_or}
+use Rattle.port_graph.specs.declared.edge.Edge.{Edge}
+use Rattle.subnet_view.specs.Reading.{Cells}
+use Rattle.plan_file.specs.Held.{HeldPlan}
+use Rattle.audit_channels.specs.Columns.{TakesAcross}
+use Rattle.next_tables.specs.Mixtures.{WaitsInStep}
+
+-- the least LID for which packets that hold one channel wait for another
+pub record IsLeastLid (cells : Cells) (held next : HeldPlan) (a b lid : ℕ) : Type 0 where
+  pub is_lid : 1 ≤ lid
+  pub waits : WaitsInStep cells held next lid a b
+  pub least : (other : ℕ) → 1 ≤ other → WaitsInStep cells held next other a b → lid ≤ other
+
+-- of channels in a circle, those that come after each
+abbrev pub turned : List ℕ → List ℕ
+turned [] = []
+turned (channel ∷ later) = later ++ channel ∷ []
+
+-- such a LID for each channel of a cycle, and the one after it
+pub record AreLoopLids (cells : Cells) (held next : HeldPlan) (cycle lids : List ℕ) : Type 0 where
+  pub as_many : length lids ≡ length cycle
+  pub each : (i : ℕ) → i < length cycle
+      → IsLeastLid cells held next (slice_index_or cycle i 0) (slice_index_or (turned cycle) i 0) (slice_index_or lids i 0)
+
+-- packets for one LID ----------------------------------------------------------------------------
+
+-- they leave the switch of a channel by it, and the next one by another, by the edges of each column
+abbrev pub TakesFrom : List (Option Edge) → List (Option Edge) → ℕ → ℕ → Type 0
+TakesFrom before now a b = TakesAcross before now (a / 256) a b
+
+-- by those of either
+abbrev pub TakesHere : List (Option Edge) → List (Option Edge) → ℕ → ℕ → Type 0
+TakesHere held next a b = TakesFrom held held a b ⊎ (TakesFrom held next a b ⊎ (TakesFrom next held a b ⊎ TakesFrom next next a b))
+
+-- a LID is noted for two channels where none was known (0) and its packets do so
+abbrev pub IsNoted : List (Option Edge) → List (Option Edge) → ℕ → ℕ → ℕ → ℕ → ℕ → Type 0
+IsNoted held next lid a b known new =
+    ((known ≡ 0) × TakesHere held next a b × (new ≡ lid)) ⊎ ((new ≡ known) × (known ≡ 0 → ¬ (TakesHere held next a b)))
+
+-- for each channel of a cycle, and the one after it
+pub record AreNoted (held next : List (Option Edge)) (lid : ℕ) (cycle after known new : List ℕ) : Type 0 where
+  pub as_many : length new ≡ length known
+  pub each : (i : ℕ) → i < length known
+      → IsNoted held next lid (slice_index_or cycle i 0) (slice_index_or after i 0) (slice_index_or known i 0) (slice_index_or new i 0)
