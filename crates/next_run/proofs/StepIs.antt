@@ -6,6 +6,7 @@ use Rattle.std.specs.Prelude.{OnErr, OnOk}
 use Rattle.std.specs.Io.KnownBytes.{Appends}
 use Rattle.byte_io.specs.declared.sink.WriteFault.{WriteFault}
 use Rattle.fact_store.specs.View.{Facts, cells_of}
+use Rattle.subnet_view.specs.Reading.{Cells}
 use Rattle.lid_assign.specs.LidFault.{lid_fault, no_room}
 use Rattle.lft_blocks.specs.Plan.{PlanValue, plan_of}
 use Rattle.lft_blocks.specs.Rules.{RuleValue}
@@ -14,8 +15,9 @@ use Rattle.plan_file.specs.Printed.{held_plan}
 use Rattle.plan_file.specs.TablesText.{next_text}
 use Rattle.next_tables.specs.NextTables.{first_moved, next_tables, step_fault}
 use Rattle.sm_cli.proofs.Plans.{has_room}
+use Rattle.next_tables.specs.StepOrder.{NoneShorter, WaitInCycle}
 use Rattle.next_run.specs.LoopText.{loop_text}
-use Rattle.next_run.specs.RunNext.{IsLoopInStep, IsSaid, IsStep, planned, stepped}
+use Rattle.next_run.specs.RunNext.{IsCycleInStep, IsLoopInStep, IsSaid, IsStep, planned, stepped}
 
 none_moves : (o : Option ℕ) → step_fault o ≡ None → o ≡ None
 none_moves None e = refl
@@ -23,6 +25,12 @@ none_moves (Some lid) e = absurd (cc)
 
 pub is_empty : (xs : List ℕ) → IsTrue (length xs == 0) ↔ (xs ≡ [])
 is_empty xs = (λ t. nil_from_length xs (eqb-true _ _ t), λ e. ap (λ ys. length ys == 0) e)
+
+-- channels that wait for each other are some
+pub some_cycle : (cells : Cells) (held next : HeldPlan) (channels : List ℕ) → WaitInCycle cells held next channels → NoneShorter cells held next channels
+    → IsCycleInStep cells held next channels
+some_cycle cells held next [] waits none = absurd waits
+some_cycle cells held next (channel ∷ later) waits none = (waits, none)
 
 -- a text was written, or that has failed
 pub was_said : (result : Result (Unit {0}) WriteFault) (written written' : Option (List ℕ)) (failed : Bool) (text : List ℕ)
