@@ -1,9 +1,10 @@
 -- A task over files that were opened: what was done, or why it ended early.
-use Rattle.std.proofs.Common.{◌≡◌, ℕ, Bool, List, Option, Result, Ok, Err, inr, subst, sym}
+use Rattle.std.proofs.Common.{◌≡◌, ◌∙◌, ◌⊎◌, ℕ, Bool, List, Option, Result, Ok, Err, inl, inr, refl, subst, sym}
 use Rattle.std.specs.Borrow.{Bor}
-use Rattle.std.specs.Prelude.{IfErr, IfOk}
+use Rattle.std.specs.Prelude.{IfErr, IfOk, OnErr}
 use Rattle.sm_cli.specs.declared.fault.Fault.{Fault}
-use Rattle.ibsm.specs.Ending.{Does, IsFaultOver, IsTaskFault, Performs}
+use Rattle.sm_cli.specs.declared.fault.Fault.TheVariants.{Write}
+use Rattle.ibsm.specs.Ending.{Does, IsFaultOver, IsTaskFault, KeepsOutput, Performs}
 use Rattle.ibsm.specs.Opening.{AreOpened}
 use Rattle.ibsm.specs.declared.opener.OpenFault.{OpenFault}
 use Rattle.ibsm.specs.declared.task.Task.{Task}
@@ -42,3 +43,16 @@ module _ {S : Type 0} (answers : List ℕ → Result S OpenFault → Type 0) (le
       → IfErr result (IsTaskFault answers left has_failed interruptions task names prints failed)
   err_is interruptions news prints failed (Ok passed) fails = tt
   err_is interruptions news prints failed (Err fault) fails = fault_is interruptions news prints failed fault fails
+
+same_fault : {T : Type 0} (fault other : Fault) → ◌≡◌ {A = Result T Fault} (Err fault) (Err other) → fault ≡ other
+same_fault fault other e = cc
+
+-- what a call over the files leaves of the output, the task leaves
+module _ {T : Type 0} (task : Task) (stays : Type 0) (result : Result T Fault) where
+  pub keeps : OnErr result ((result ≡ Err Write) ⊎ stays) → IfErr result (KeepsOutput task stays)
+  keeps h = of result refl h
+    where
+      of : (r : Result T Fault) → result ≡ r → OnErr r ((result ≡ Err Write) ⊎ stays) → IfErr r (KeepsOutput task stays)
+      of (Ok x) e k = tt
+      of (Err fault) e (inl written) = inl (same_fault fault Write (sym e ∙ written))
+      of (Err fault) e (inr same) = inr (inr same)

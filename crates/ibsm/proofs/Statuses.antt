@@ -1,5 +1,5 @@
 -- No fault ends the program as an audit that does not pass, or as words that ask for nothing.
-use Rattle.std.proofs.Common.{◌≡◌, ◌∙◌, ◌⊎◌, Bool, true, false, cond, sym, inl, inr, List, ℕ, Option}
+use Rattle.std.proofs.Common.{◌≡◌, ◌∙◌, ◌⊎◌, Bool, true, false, cond, refl, sym, inl, inr, List, ℕ, Option}
 use Rattle.std.specs.Borrow.{Bor}
 use Rattle.record_file.specs.declared.file_fault.FileFault.{FileFault}
 use Rattle.record_file.specs.declared.file_fault.FileFault.TheVariants.{Magic, Truncated, BadReport, BadCell, CellOrder, Read, Memory as NoMemoryForFile, TooLong, BadFloor}
@@ -10,7 +10,8 @@ use Rattle.sm_cli.specs.declared.fault.Fault.TheVariants.{Open, File, Text, NoRo
 use Rattle.sm_cli.specs.declared.exit_status.ExitStatus.{ExitStatus}
 use Rattle.sm_cli.specs.declared.exit_status.ExitStatus.TheVariants.{Done, Failed, Usage, Refused, InputOutput, Memory as NoMemory}
 use Rattle.std.specs.Prelude.{◌≢◌}
-use Rattle.ibsm.specs.Ending.{SaysWhy}
+use Rattle.ibsm.specs.Ending.{IsDone, SaysWhy, status_after}
+use Rattle.ibsm.specs.declared.task.Task.{Task}
 
 -- a status that is none of the three that faults end with
 abbrev IsOther : ExitStatus → Type 0
@@ -48,9 +49,25 @@ never_usage fault = of_fault Usage (λ e. cc, λ e. cc, λ e. cc) fault
 pub never_done : (fault : Fault) → status_of fault ≢ Done
 never_done fault = of_fault Done (λ e. cc, λ e. cc, λ e. cc) fault
 
+-- whether all passes is read off the status
+pub same_answer : (passed other : Bool) → status_after passed ≡ status_after other → passed ≡ other
+same_answer true true e = refl
+same_answer true false e = absurd (cc)
+same_answer false true e = absurd (cc)
+same_answer false false e = refl
+
+-- and no fault ends so
+pub never_after : (fault : Fault) (passed : Bool) → status_of fault ≡ status_after passed → ⊥
+never_after fault true e = never_done fault e
+never_after fault false e = never_failed fault e
+
+done_is_other : (passed : Bool) → status_after passed ≡ Usage → ⊥
+done_is_other true e = cc
+done_is_other false e = cc
+
 -- so a task that was begun does not end as words that ask for nothing
-pub not_usage : (names : List (Bor (List ℕ))) (IsFault : Fault → Type 0) (status : ExitStatus) (errors errors' : Option (List ℕ)) (errors_failed : Bool)
-    → (status ≡ Done) ⊎ ((status ≡ Failed) ⊎ SaysWhy names IsFault status errors errors' errors_failed) → status ≡ Usage → ⊥
-not_usage names IsFault status errors errors' errors_failed (inl done) e = cc
-not_usage names IsFault status errors errors' errors_failed (inr (inl failed)) e = cc
-not_usage names IsFault status errors errors' errors_failed (inr (inr says)) e = never_usage says.fault (sym says.ends ∙ e)
+pub not_usage : (task : Task) (names : List (Bor (List ℕ))) (IsFault : Fault → Type 0) (stays : Type 0) (status : ExitStatus)
+    (errors errors' : Option (List ℕ)) (errors_failed : Bool)
+    → IsDone status ⊎ SaysWhy task names IsFault stays status errors errors' errors_failed → status ≡ Usage → ⊥
+not_usage task names IsFault stays status errors errors' errors_failed (inl done) e = done_is_other done.0 (sym done.1 ∙ e)
+not_usage task names IsFault stays status errors errors' errors_failed (inr says) e = never_usage says.fault (sym says.ends ∙ e)

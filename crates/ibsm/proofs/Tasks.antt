@@ -14,7 +14,7 @@ use Rattle.sm_cli.specs.declared.asked.RuleAsked.{RuleAsked}
 use Rattle.sm_cli.specs.declared.asked.RuleAsked.TheVariants.{UpDown, Spread, SpreadFromRoots}
 use Rattle.ibsm.specs.Asked.{Asks, AsksOutput, AsksStep, AsksTask, IsFloor, IsLmc, IsRule, IsUpDown}
 use Rattle.ibsm.specs.Asked.{files_named, followed_by, names_asked, names_in, roots_asked, rule_of_task, texts_asked, word_named}
-use Rattle.ibsm.specs.Ending.{TakesInputs}
+use Rattle.ibsm.specs.Ending.{HasEnoughNames}
 use Rattle.next_run.specs.declared.run_step.StepAsked.{StepAsked}
 use Rattle.ibsm.specs.declared.task.Task.{Task}
 use Rattle.ibsm.specs.declared.task.Task.TheVariants.{Answer, Audit, Next, Run}
@@ -201,7 +201,7 @@ two_words (Some t) (Some s) xs e = ap length (sym (same_Some _ _ e))
 
 -- there are as many inputs as the task takes
 pub names_suffice : (word : List ℕ → Option (List ℕ)) (files : Option (List (List ℕ))) (task : Task) (names : List (List ℕ))
-    → names_in word files task ≡ Some names → TakesInputs task (length names)
+    → names_in word files task ≡ Some names → HasEnoughNames task (length names)
 names_suffice word files (Answer request) names e =
     let all = both_named (roots_asked word (rule_for request.output)) (followed_by (Some []) files) names e in
     let roots = roots_count word (rule_for request.output) all.0 all.2 in
@@ -229,7 +229,7 @@ names_suffice word files (Run lmc rule) names e =
     let others = rest.4 in omega arith
 
 pub inputs_suffice : (matches : ArgMatches) (task : Task) (names : List (Bor (List ℕ))) → Some (map (λ name. name.now) names) ≡ names_asked matches task
-    → TakesInputs task (length names)
+    → HasEnoughNames task (length names)
 inputs_suffice matches task names e =
-    subst (λ (count : ℕ). TakesInputs task count) (length-map names (λ name. name.now))
+    subst (λ (count : ℕ). HasEnoughNames task count) (length-map names (λ name. name.now))
     (names_suffice (word_named matches) (files_named matches) task (map (λ name. name.now) names) (sym e))

@@ -137,6 +137,6 @@ names_in word files task = followed_by (roots_asked word (rule_of_task task)) (f
 abbrev pub names_asked : ArgMatches → Task → Option (List (List ℕ))
 names_asked matches task = names_in (word_named matches) (files_named matches) task
 
--- the words ask for no task all of whose inputs are named
-abbrev pub AsksNothing : ArgMatches → Type 0
-AsksNothing matches = (task : Task) → Asks matches task → names_asked matches task ≡ None
+-- of each task that the words ask for an input is not named
+abbrev pub LacksInputs : ArgMatches → Type 0
+LacksInputs matches = (task : Task) → Asks matches task → names_asked matches task ≡ None

@@ -21,12 +21,12 @@ use Rattle.ibsm.specs.Opening.{AreOpened, IsOpenFault}
 
 -- what is done ----------------------------------------------------------------------------------
 
--- a task has as many inputs as it takes texts, or more
-abbrev pub TakesInputs : Task → ℕ → Type 0
-TakesInputs (Answer request) count = texts_for (rule_for request.output) ≤ count
-TakesInputs (Audit floor) count = 1 ≤ count
-TakesInputs (Next asked) count = texts_for asked.rule + 1 ≤ count
-TakesInputs (Run lmc rule) count = count ≡ texts_for rule + 2
+-- so many names are enough for the texts that a task takes; a run takes no files behind them
+abbrev pub HasEnoughNames : Task → ℕ → Type 0
+HasEnoughNames (Answer request) count = texts_for (rule_for request.output) ≤ count
+HasEnoughNames (Audit floor) count = 1 ≤ count
+HasEnoughNames (Next asked) count = texts_for asked.rule + 1 ≤ count
+HasEnoughNames (Run lmc rule) count = count ≡ texts_for rule + 2
 
 -- what a task does with open inputs, where this holds of what it prints, and this of what it says on standard error; what judges nothing passes
 abbrev pub Does : {S : Type 0} → (S → Option (List ℕ)) → (S → Bool) → Task → List S → List S → (List ℕ → Type 0) → (List ℕ → Type 0) → Bool → Type 0
@@ -35,7 +35,7 @@ Does left has_failed (Audit floor) olds news prints says passed = HasAudited lef
 Does left has_failed (Next asked) olds news prints says passed = HasStepped left has_failed asked olds news prints says passed
 Does left has_failed (Run lmc rule) olds news prints says passed = (passed ≡ true) × HasRun left has_failed lmc rule olds news prints
 
--- a step alone says something on standard error where it is done
+-- where a task is done, standard error stays as it was; but a step says there what it has to
 abbrev pub StaysSilent : {E : Type 0} → Task → E → E → Type 0
 StaysSilent (Next asked) errors errors' = Unit {0}
 StaysSilent task errors errors' = errors' ≡ errors
@@ -48,19 +48,27 @@ pub record Performs {S : Type 0} (answers : List ℕ → Result S OpenFault → 
   pub opened : AreOpened answers names olds
   pub does : Does left has_failed task olds news prints says passed
 
--- the words ask for a task, and it was done with the inputs that they name
-pub record PerformsWords {S : Type 0} (answers : List ℕ → Result S OpenFault → Type 0) (left : S → Option (List ℕ)) (has_failed : S → Bool)
-    (matches : ArgMatches) (prints says : List ℕ → Type 0) (passed : Bool) : Type 0 where
+-- the words ask for a task, and name its inputs
+pub record AsksWhole (matches : ArgMatches) : Type 0 where
   pub task : Task
-  pub asked : Asks matches task
+  pub is_asked : Asks matches task
   pub names : List (Bor (List ℕ))
   pub named : names_asked matches task ≡ Some (map (λ name. name.now) names)
-  pub performed : Performs answers left has_failed task names prints says passed
+
+-- so they do, and it was done with these
+pub record PerformsWords {S : Type 0} (answers : List ℕ → Result S OpenFault → Type 0) (left : S → Option (List ℕ)) (has_failed : S → Bool)
+    (matches : ArgMatches) (prints says : List ℕ → Type 0) (passed : Bool) : Type 0 where
+  pub asked : AsksWhole matches
+  pub performed : Performs answers left has_failed asked.task asked.names prints says passed
 
 -- what the program ends with where all is done, and where what was audited does not pass
 abbrev pub status_after : Bool → ExitStatus
 status_after true = Done
 status_after false = Failed
+
+-- all is done, whether or not it passes
+abbrev pub IsDone : ExitStatus → Type 0
+IsDone status = (passed : Bool) × (status ≡ status_after passed)
 
 -- faults ----------------------------------------------------------------------------------------
 
@@ -89,10 +97,14 @@ abbrev pub IsTaskFault : {S : Type 0} → (List ℕ → Result S OpenFault → T
 IsTaskFault answers left has_failed interruptions task names prints output_failed fault =
     IsOpenFault answers names fault ⊎ FailsOverFiles answers left has_failed interruptions task names prints output_failed fault
 
--- a run may stop when some of it was printed
-abbrev pub MayStop : Task → Type 0
-MayStop (Run lmc rule) = Unit {0}
-MayStop task = ⊥
+-- a run prints as it goes on, and may lack memory then; each other task prints once it is done
+abbrev pub PrintsAsItGoes : Task → Type 0
+PrintsAsItGoes (Run lmc rule) = Unit {0}
+PrintsAsItGoes task = ⊥
+
+-- where a task ends with a fault the output stays as it was, but where it took no more, or a run lacked memory
+abbrev pub KeepsOutput : Task → Type 0 → Fault → Type 0
+KeepsOutput task stays fault = (fault ≡ Write) ⊎ ((PrintsAsItGoes task × (fault ≡ Memory)) ⊎ stays)
 
 -- the name of a file, and nothing where there is no file of that input
 abbrev pub name_at : Option (Bor (List ℕ)) → List ℕ
@@ -112,10 +124,20 @@ name_of names Memory = []
 abbrev pub fault_line : List (Bor (List ℕ)) → Fault → List ℕ
 fault_line names fault = program_line (fault_text (name_of names fault) fault)
 
--- a run over the files with these names ends with the status of a fault that it has, which is said on standard error
-pub record SaysWhy (names : List (Bor (List ℕ))) (IsFault : Fault → Type 0) (status : ExitStatus) (errors errors' : Option (List ℕ))
-    (errors_failed : Bool) : Type 0 where
+-- a task over the files with these names has a fault: it ends with the fault's status, the fault is said on standard error,
+-- and the output stays
+pub record SaysWhy (task : Task) (names : List (Bor (List ℕ))) (IsFault : Fault → Type 0) (stays : Type 0) (status : ExitStatus)
+    (errors errors' : Option (List ℕ)) (errors_failed : Bool) : Type 0 where
   pub fault : Fault
   pub why : IsFault fault
+  pub kept : KeepsOutput task stays fault
   pub ends : status ≡ status_of fault
   pub said : IsSaid errors errors' errors_failed (fault_line names fault)
+
+-- so it is with the task that words ask for, over the files that they name
+pub record SaysWhyOfWords {S : Type 0} (answers : List ℕ → Result S OpenFault → Type 0) (left : S → Option (List ℕ)) (has_failed : S → Bool)
+    (interruptions : S → ℕ) (matches : ArgMatches) (prints : List ℕ → Type 0) (output_failed : Bool) (stays : Type 0) (status : ExitStatus)
+    (errors errors' : Option (List ℕ)) (errors_failed : Bool) : Type 0 where
+  pub asked : AsksWhole matches
+  pub says : SaysWhy asked.task asked.names (IsTaskFault answers left has_failed interruptions asked.task asked.names prints output_failed) stays status
+      errors errors' errors_failed

@@ -1,10 +1,10 @@
 //! A task over files of some names.
-ghost use Rattle.std.specs.Prelude.{◌≡◌, ◌⊎◌, ◌≤◌, Err, length, IfOk, IfErr, OnOk, OnErr, IsTrue, false, true};
+ghost use Rattle.std.specs.Prelude.{◌≡◌, ◌⊎◌, ◌≤◌, Bool, length, IfOk, IfErr, OnOk, OnErr, IsTrue, true};
 ghost use Rattle.std.specs.Io.KnownBytes.{Appends};
 ghost use Rattle.sm_cli.specs.ExitStatus.{status_of};
 ghost use Rattle.schedule_run.specs.Prints.{PrintsSome};
 ghost use Rattle.next_run.specs.RunNext.{IsSaid};
-ghost use Rattle.ibsm.specs.Ending.{IsTaskFault, MayStop, Performs, SaysWhy, StaysSilent, TakesInputs};
+ghost use Rattle.ibsm.specs.Ending.{HasEnoughNames, IsDone, IsTaskFault, KeepsOutput, Performs, SaysWhy, StaysSilent};
 ghost use Rattle.ibsm.specs.Ending.{fault_line, name_of, status_after};
 ghost use Rattle.ibsm.specs.Opening.{AreOpened, IsOpenFault};
 
@@ -30,26 +30,20 @@ where
     R: Opener + AllocGlobal,
     O: Write,
     E: Write,
-    requires { TakesInputs task (length names.now) }
-    ensures done { result ≡ ExitStatus.Done → Performs (R.answers rt.now) R.Opened.left R.Opened.has_failed task names.now
+    requires { HasEnoughNames task (length names.now) }
+    ensures done { (passed : Bool) → result ≡ status_after passed
+        → Performs (R.answers rt.now) R.Opened.left R.Opened.has_failed task names.now
         (Appends (⟦<ToWrite<O> as Sink>⟧.written output.old) (⟦<ToWrite<O> as Sink>⟧.written output.new))
         (IsSaid (⟦<ToWrite<E> as Sink>⟧.written errors.old) (⟦<ToWrite<E> as Sink>⟧.written errors.new)
-        (⟦<ToWrite<E> as Sink>⟧.has_failed errors.new)) true }
-    ensures failed { result ≡ ExitStatus.Failed → Performs (R.answers rt.now) R.Opened.left R.Opened.has_failed task names.now
-        (Appends (⟦<ToWrite<O> as Sink>⟧.written output.old) (⟦<ToWrite<O> as Sink>⟧.written output.new))
-        (IsSaid (⟦<ToWrite<E> as Sink>⟧.written errors.old) (⟦<ToWrite<E> as Sink>⟧.written errors.new)
-        (⟦<ToWrite<E> as Sink>⟧.has_failed errors.new)) false }
-    ensures flushed { (result ≡ ExitStatus.Done) ⊎ (result ≡ ExitStatus.Failed)
-        → IsTrue (⟦<ToWrite<O> as Sink>⟧.is_flushed output.new) }
-    ensures silent { (result ≡ ExitStatus.Done) ⊎ (result ≡ ExitStatus.Failed) → StaysSilent task errors.old errors.new }
-    ensures says_why { (result ≡ ExitStatus.Done) ⊎ (result ≡ ExitStatus.Failed) ⊎ SaysWhy names.now
+        (⟦<ToWrite<E> as Sink>⟧.has_failed errors.new)) passed }
+    ensures flushed { IsDone result → IsTrue (⟦<ToWrite<O> as Sink>⟧.is_flushed output.new) }
+    ensures silent { IsDone result → StaysSilent task errors.old errors.new }
+    ensures says_why { IsDone result ⊎ SaysWhy task names.now
         (IsTaskFault (R.answers rt.now) R.Opened.left R.Opened.has_failed R.Opened.interruptions task names.now
         (PrintsSome ⟦<ToWrite<O> as Sink>⟧.written ⟦<ToWrite<O> as Sink>⟧.has_failed output.old output.new)
         (⟦<ToWrite<O> as Sink>⟧.has_failed output.new))
-        result (⟦<ToWrite<E> as Sink>⟧.written errors.old)
+        (output.new ≡ output.old) result (⟦<ToWrite<E> as Sink>⟧.written errors.old)
         (⟦<ToWrite<E> as Sink>⟧.written errors.new) (⟦<ToWrite<E> as Sink>⟧.has_failed errors.new) }
-    ensures nothing_written { (result ≡ ExitStatus.Done) ⊎ (result ≡ ExitStatus.Failed)
-        ⊎ (result ≡ ExitStatus.InputOutput) ⊎ (MayStop task × (result ≡ ExitStatus.Memory)) ⊎ (output.new ≡ output.old) }
 {
     match perform(rt, task, names, output, errors) {
         Ok(passed) => status_after(passed),
@@ -80,17 +74,17 @@ where
     R: Opener + AllocGlobal,
     O: Write,
     E: Write,
-    requires { TakesInputs task (length names.now) }
-    ensures done { IfOk result (Performs (R.answers rt.now) R.Opened.left R.Opened.has_failed task names.now
+    requires { HasEnoughNames task (length names.now) }
+    ensures done { IfOk result (λ passed. Performs (R.answers rt.now) R.Opened.left R.Opened.has_failed task names.now
         (Appends (⟦<ToWrite<O> as Sink>⟧.written output.old) (⟦<ToWrite<O> as Sink>⟧.written output.new))
         (IsSaid (⟦<ToWrite<E> as Sink>⟧.written errors.old) (⟦<ToWrite<E> as Sink>⟧.written errors.new)
-        (⟦<ToWrite<E> as Sink>⟧.has_failed errors.new))) }
+        (⟦<ToWrite<E> as Sink>⟧.has_failed errors.new)) passed) }
     ensures flushed { OnOk result (IsTrue (⟦<ToWrite<O> as Sink>⟧.is_flushed output.new)) }
-    ensures refused { IfErr result (IsTaskFault (R.answers rt.now) R.Opened.left R.Opened.has_failed R.Opened.interruptions task names.now
+    ensures refused { IfErr result (IsTaskFault (R.answers rt.now) R.Opened.left R.Opened.has_failed R.Opened.interruptions
+        task names.now
         (PrintsSome ⟦<ToWrite<O> as Sink>⟧.written ⟦<ToWrite<O> as Sink>⟧.has_failed output.old output.new)
         (⟦<ToWrite<O> as Sink>⟧.has_failed output.new)) }
-    ensures nothing_written { OnErr result ((result ≡ Err Fault.Write)
-        ⊎ (MayStop task × (result ≡ Err Fault.Memory)) ⊎ (output.new ≡ output.old)) }
+    ensures kept { IfErr result (KeepsOutput task (output.new ≡ output.old)) }
     ensures silent { OnOk result (StaysSilent task errors.old errors.new) }
     ensures nothing_said { OnErr result (errors.new ≡ errors.old) }
 {

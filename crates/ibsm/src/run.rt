@@ -1,9 +1,10 @@
 //! One run of the program.
-ghost use Rattle.std.specs.Prelude.{◌≡◌, IfOk, false, true};
+ghost use Rattle.std.specs.Prelude.{◌≡◌, ◌⊎◌, Bool, IfOk, IsTrue};
 ghost use Rattle.std.specs.Io.KnownBytes.{Appends};
-ghost use Rattle.ibsm.specs.Asked.{AsksNothing};
+ghost use Rattle.ibsm.specs.Asked.{LacksInputs};
 ghost use Rattle.next_run.specs.RunNext.{IsSaid};
-ghost use Rattle.ibsm.specs.Ending.{PerformsWords};
+ghost use Rattle.schedule_run.specs.Prints.{PrintsSome};
+ghost use Rattle.ibsm.specs.Ending.{IsDone, PerformsWords, SaysWhyOfWords, status_after};
 
 use crate::arguments::{command_line, roots_without_spread};
 use crate::files::{perform_or_explain, say};
@@ -65,7 +66,6 @@ fn words<R: Env + Eprint + AllocGlobal>(rt: &R) -> Result<Option<Vec<String>>, A
     }
 }
 
-#[tactic(auto, using(crate::proofs::Statuses::not_usage))]
 /// Does what the words ask for, and says on `errors` why it cannot; an `Err` says that memory ran out before it was begun.
 fn dispatch<R, O, E>(
     rt: &R,
@@ -77,17 +77,19 @@ where
     R: Opener + AllocGlobal,
     O: Write,
     E: Write,
-    ensures done { IfOk result (λ status. status ≡ ExitStatus.Done
+    ensures done { IfOk result (λ status. (passed : Bool) → status ≡ status_after passed
         → PerformsWords (R.answers rt.now) R.Opened.left R.Opened.has_failed matches.now
         (Appends (⟦<ToWrite<O> as Sink>⟧.written output.old) (⟦<ToWrite<O> as Sink>⟧.written output.new))
         (IsSaid (⟦<ToWrite<E> as Sink>⟧.written errors.old) (⟦<ToWrite<E> as Sink>⟧.written errors.new)
-        (⟦<ToWrite<E> as Sink>⟧.has_failed errors.new)) true) }
-    ensures failed { IfOk result (λ status. status ≡ ExitStatus.Failed
-        → PerformsWords (R.answers rt.now) R.Opened.left R.Opened.has_failed matches.now
-        (Appends (⟦<ToWrite<O> as Sink>⟧.written output.old) (⟦<ToWrite<O> as Sink>⟧.written output.new))
-        (IsSaid (⟦<ToWrite<E> as Sink>⟧.written errors.old) (⟦<ToWrite<E> as Sink>⟧.written errors.new)
-        (⟦<ToWrite<E> as Sink>⟧.has_failed errors.new)) false) }
-    ensures usage { IfOk result (λ status. status ≡ ExitStatus.Usage → AsksNothing matches.now) }
+        (⟦<ToWrite<E> as Sink>⟧.has_failed errors.new)) passed) }
+    ensures flushed { IfOk result (λ status. IsDone status → IsTrue (⟦<ToWrite<O> as Sink>⟧.is_flushed output.new)) }
+    ensures says_why { IfOk result (λ status. IsDone status ⊎ ((status ≡ ExitStatus.Usage)
+        ⊎ SaysWhyOfWords (R.answers rt.now) R.Opened.left R.Opened.has_failed R.Opened.interruptions matches.now
+        (PrintsSome ⟦<ToWrite<O> as Sink>⟧.written ⟦<ToWrite<O> as Sink>⟧.has_failed output.old output.new)
+        (⟦<ToWrite<O> as Sink>⟧.has_failed output.new) (output.new ≡ output.old) status
+        (⟦<ToWrite<E> as Sink>⟧.written errors.old) (⟦<ToWrite<E> as Sink>⟧.written errors.new)
+        (⟦<ToWrite<E> as Sink>⟧.has_failed errors.new))) }
+    ensures usage { IfOk result (λ status. status ≡ ExitStatus.Usage → LacksInputs matches.now) }
 {
     let Some(task) = task_of(matches) else {
         return Ok(ExitStatus::Usage);

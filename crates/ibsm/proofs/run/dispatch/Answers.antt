@@ -1,5 +1,5 @@
 -- The words ask for a task, and name its inputs; or they ask for none.
-use Rattle.std.proofs.Common.{◌≡◌, ◌∙◌, ℕ, List, Option, None, Some, ap, refl, subst, sym}
+use Rattle.std.proofs.Common.{◌≡◌, ◌∙◌, ℕ, List, Option, None, Some, ap, inl, inr, refl, subst, sym}
 use Rattle.std.specs.Borrow.{Bor}
 use Rattle.std.specs.Prelude.{map, option_map}
 use Rattle.ibsm.specs.Asked.{names_asked}
@@ -17,31 +17,38 @@ perform_or_explain-requires g c =
     (ap (λ found. option_map (λ names. map (λ name. name.now) names.items) found) (sym c.in-Some-2.is) ∙ c.in_ok-names.ensures))
 
 pub returns-in-Some-2-clause-done : goal.returns-in-Some-2-clause-done
-returns-in-Some-2-clause-done g c = λ e.
+returns-in-Some-2-clause-done g c = λ passed e.
     let Named : List (Bor (List ℕ)) → Type 0 = λ names. Some (map (λ name. name.now) names) ≡ names_asked c.args.matches.now c.in-Some.task in
     record {
-      task = c.in-Some.task;
-      asked = c.in-Some.ensures.some;
-      names = c.deref.result.now;
-      named = sym (subst Named (sym c.deref.ensures.value)
-          (ap (λ found. option_map (λ names. map (λ name. name.now) names.items) found) (sym c.in-Some-2.is) ∙ c.in_ok-names.ensures));
-      performed = c.perform_or_explain.ensures.done e;
+      asked = record {
+        task = c.in-Some.task;
+        is_asked = c.in-Some.ensures.some;
+        names = c.deref.result.now;
+        named = sym (subst Named (sym c.deref.ensures.value)
+            (ap (λ found. option_map (λ names. map (λ name. name.now) names.items) found) (sym c.in-Some-2.is) ∙ c.in_ok-names.ensures));
+      };
+      performed = c.perform_or_explain.ensures.done passed e;
     }
 
-pub returns-in-Some-2-clause-failed : goal.returns-in-Some-2-clause-failed
-returns-in-Some-2-clause-failed g c = λ e.
+pub returns-in-Some-2-clause-says_why : goal.returns-in-Some-2-clause-says_why
+returns-in-Some-2-clause-says_why g c =
     let Named : List (Bor (List ℕ)) → Type 0 = λ names. Some (map (λ name. name.now) names) ≡ names_asked c.args.matches.now c.in-Some.task in
-    record {
-      task = c.in-Some.task;
-      asked = c.in-Some.ensures.some;
-      names = c.deref.result.now;
-      named = sym (subst Named (sym c.deref.ensures.value)
-          (ap (λ found. option_map (λ names. map (λ name. name.now) names.items) found) (sym c.in-Some-2.is) ∙ c.in_ok-names.ensures));
-      performed = c.perform_or_explain.ensures.failed e;
-    }
+    elim c.perform_or_explain.ensures.says_why [
+      | inl done ↦ inl done
+      | inr says ↦ inr (inr (record {
+        asked = record {
+          task = c.in-Some.task;
+          is_asked = c.in-Some.ensures.some;
+          names = c.deref.result.now;
+          named = sym (subst Named (sym c.deref.ensures.value)
+              (ap (λ found. option_map (λ names. map (λ name. name.now) names.items) found) (sym c.in-Some-2.is) ∙ c.in_ok-names.ensures));
+        };
+        says = says;
+      }))
+    ]
 
 pub returns-in-Some-2-clause-usage : goal.returns-in-Some-2-clause-usage
-returns-in-Some-2-clause-usage g c = λ e. absurd (not_usage _ _ _ _ _ _ c.perform_or_explain.ensures.says_why e)
+returns-in-Some-2-clause-usage g c = λ e. absurd (not_usage _ _ _ _ _ _ _ _ c.perform_or_explain.ensures.says_why e)
 
 pub returns-in-None-clause-usage : goal.returns-in-None-clause-usage
 returns-in-None-clause-usage g c = λ e.
