@@ -6,6 +6,7 @@ mod page;
 mod page_list;
 mod slot;
 mod split;
+mod starts;
 
 pub use iter::Iter;
 pub use page_list::PageList;

@@ -4,7 +4,8 @@ ghost use Rattle.page_list.specs.Listing.{Listing};
 
 use crate::iter::Iter;
 use crate::page::{PAGE, fill, insert_halved, insert_within};
-use crate::slot::{shift, slot_of};
+use crate::slot::slot_of;
+use crate::starts::Starts;
 use std::alloc::{AllocError, Global};
 use std::marker::Model;
 
@@ -14,7 +15,7 @@ pub struct PageList<T> {
     /// The items, in pages of at most `PAGE`.
     pub(crate) pages: Vec<Vec<T>>,
     /// The index of each page's first item.
-    pub(crate) starts: Vec<usize>,
+    pub(crate) starts: Starts,
     /// Pages with no items.
     spare: Vec<Vec<T>>,
     /// The number of items.
@@ -42,7 +43,7 @@ impl<T: Copy> PageList<T> {
     {
         PageList {
             pages: Vec::new(alloc),
-            starts: Vec::new(alloc),
+            starts: Starts::new(alloc),
             spare: Vec::new(alloc),
             len: 0,
             room: 0,
@@ -83,21 +84,6 @@ impl<T: Copy> PageList<T> {
         }
     }
 
-    /// The items from an index on.
-    pub fn iter_from(&self, i: usize) -> Iter<'_, T>
-        requires { i ≤ length self.now.items }
-        ensures { rest_of result ≡ drop i self.now.items }
-    {
-        if self.pages.is_empty() {
-            return self.iter();
-        }
-        let at = slot_of(&self.pages, &self.starts, i);
-        Iter {
-            page: &self.pages[at.page][at.offset..],
-            later: &self.pages[at.page + 1..],
-        }
-    }
-
     /// Puts another item where one is.
     pub fn set(&mut self, i: usize, item: T)
         requires { i < length self.old.items }
@@ -120,7 +106,7 @@ impl<T: Copy> PageList<T> {
             return;
         }
         let at = slot_of(&self.pages, &self.starts, i);
-        shift(&mut self.starts, at.page + 1);
+        self.starts.shift(at.page + 1);
         self.len += 1;
         self.room -= 1;
         if self.pages[at.page].len() < PAGE {
@@ -129,7 +115,7 @@ impl<T: Copy> PageList<T> {
         }
         let mut tail = self.spare.take_last();
         let head = insert_halved(&mut self.pages[at.page], &mut tail, at.offset, item);
-        insert_within(&mut self.starts, at.page + 1, i - at.offset + head);
+        self.starts.insert(at.page + 1, i - at.offset + head);
         insert_within(&mut self.pages, at.page + 1, tail);
     }
 
@@ -197,7 +183,7 @@ impl<T: Copy> PageList<T> {
         let mut page = self.spare.take_last();
         page.push_reserved(item);
         self.pages.push_reserved(page);
-        self.starts.push_reserved(self.len);
+        self.starts.push(self.len);
         self.len += 1;
         self.room -= 1;
     }

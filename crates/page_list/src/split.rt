@@ -50,8 +50,9 @@ impl<T: Copy> PageList<T> {
         ensures index { IsSplit low high most result.index }
     {
         let page = pages.middle();
-        let first = self.starts.get(page).copied();
-        let index = fair_index(low, high, most, first.unwrap_or(high));
+        let is_page = page < self.starts.len();
+        let wished = if is_page { self.starts.at(page) } else { high };
+        let index = fair_index(low, high, most, wished);
         let at = slot_near(&self.pages, &self.starts, page, index);
         Split {
             index,
