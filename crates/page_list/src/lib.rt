@@ -10,4 +10,5 @@ mod starts;
 
 pub use iter::Iter;
 pub use page_list::PageList;
+pub use slot::Slot;
 pub use split::{Pages, Split};

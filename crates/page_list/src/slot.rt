@@ -11,6 +11,9 @@ pub(crate) fn page_of(starts: &Starts, at: usize) -> usize
 {
     let mut low = 0;
     let mut high = starts.len();
+    if starts.at(high - 1) <= at {
+        return high - 1;
+    }
     while low + 1 < high {
         let middle = low + (high - low) / 2;
         if starts.at(middle) <= at {
@@ -24,11 +27,19 @@ pub(crate) fn page_of(starts: &Starts, at: usize) -> usize
 
 ghost use Rattle.page_list.specs.Pages.{items_of, starts_from, IsSlot};
 
-/// Where an item lies.
+/// Where an item lies in its list, which looks there first when it is handed back. Items that are put in move others,
+/// so nothing rests on it.
 #[derive(Clone, Copy)]
-pub(crate) struct Slot {
-    pub page: usize,
-    pub offset: usize,
+pub struct Slot {
+    pub(crate) page: usize,
+    pub(crate) offset: usize,
+}
+
+impl Slot {
+    /// Where the first item lies.
+    pub fn first() -> Self {
+        Slot { page: 0, offset: 0 }
+    }
 }
 
 /// Where the item at index `i` lies, or would.

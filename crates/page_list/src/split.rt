@@ -2,7 +2,7 @@ ghost use Rattle.std.specs.Prelude.{◌≡◌, ◌+◌, ◌*◌, ◌<◌, ◌≤
 ghost use Rattle.page_list.specs.Split.{IsSplit};
 
 use crate::page_list::PageList;
-use crate::slot::slot_near;
+use crate::slot::{Slot, slot_near};
 
 /// The pages in which a part of a list lies, where a search looks first. A split is fair whatever they
 /// say.
@@ -25,6 +25,8 @@ impl Pages {
 pub struct Split<T> {
     pub index: usize,
     pub item: T,
+    /// Where the item lies.
+    pub slot: Slot,
     pub before: Pages,
     pub after: Pages,
 }
@@ -57,6 +59,7 @@ impl<T: Copy> PageList<T> {
         Split {
             index,
             item: self.pages[at.page][at.offset],
+            slot: at,
             before: Pages {
                 first: pages.first,
                 end: if at.offset == 0 { at.page } else { at.page + 1 },

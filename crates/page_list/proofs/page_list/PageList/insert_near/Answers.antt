@@ -9,7 +9,7 @@ use Rattle.page_list.specs.Pages.{IsSlot, IsEmptyPage}
 use Rattle.page_list.proofs.Paged.{length-starts_from}
 use Rattle.page_list.proofs.CountedUp.{length-counted}
 use Rattle.page_list.proofs.Grown.{grown_pages, grown_items, halved_pages, halved_items, starts_below, head_end}
-use Rattle.page_list.proofs.page_list.PageList.insert.Goals as goal
+use Rattle.page_list.proofs.page_list.PageList.insert_near.Goals as goal
 
 pub shift-requires : goal.shift-requires
 shift-requires g c =
@@ -20,8 +20,8 @@ shift-requires g c =
 pub invariant_of-self : goal.invariant_of-self
 invariant_of-self g c =
     let room : c.args.self.now.room ≡ c.self.inside.room = λ i. (sym c.self.view_is i).room in
-    let k = c.slot_of-at.result.page in
-    let at : IsSlot c.self.inside.pages.items c.args.i k c.slot_of-at.result.offset = subst (λ (ps : List (Vec g.row.T.Denot Global)). IsSlot ps c.args.i k c.slot_of-at.result.offset) c.deref.ensures.value c.slot_of-at.ensures in
+    let k = c.slot_near-at.result.page in
+    let at : IsSlot c.self.inside.pages.items c.args.i k c.slot_near-at.result.offset = subst (λ (ps : List (Vec g.row.T.Denot Global)). IsSlot ps c.args.i k c.slot_near-at.result.offset) c.deref.ensures.value c.slot_near-at.ensures in
     let read : c.index.result.now ≡ c.index_mut.result.now = c.index.ensures ∙ get_or_default c.self.inside.pages.items k c.index.result.now c.index_mut.result.now at.there ∙ sym c.index_mut.ensures.value in
     grown_pages (record {
       were = c.self.invariant;
@@ -40,8 +40,8 @@ invariant_of-self g c =
 pub returns-then-len-lt-PAGE-clause-items : goal.returns-then-len-lt-PAGE-clause-items
 returns-then-len-lt-PAGE-clause-items g c =
     let room : c.args.self.now.room ≡ c.self.inside.room = λ i. (sym c.self.view_is i).room in
-    let k = c.slot_of-at.result.page in
-    let at : IsSlot c.self.inside.pages.items c.args.i k c.slot_of-at.result.offset = subst (λ (ps : List (Vec g.row.T.Denot Global)). IsSlot ps c.args.i k c.slot_of-at.result.offset) c.deref.ensures.value c.slot_of-at.ensures in
+    let k = c.slot_near-at.result.page in
+    let at : IsSlot c.self.inside.pages.items c.args.i k c.slot_near-at.result.offset = subst (λ (ps : List (Vec g.row.T.Denot Global)). IsSlot ps c.args.i k c.slot_near-at.result.offset) c.deref.ensures.value c.slot_near-at.ensures in
     let read : c.index.result.now ≡ c.index_mut.result.now = c.index.ensures ∙ get_or_default c.self.inside.pages.items k c.index.result.now c.index_mut.result.now at.there ∙ sym c.index_mut.ensures.value in
     grown_items {pages' = with_item c.self.inside.pages k c.insert_within.new.page} {starts' = c.shift.new.self} (record {
       were = c.self.invariant;
@@ -67,16 +67,16 @@ insert_halved-head-requires-clause-tail_roomy g c = (All-pop IsEmptyPage c.self.
 pub overflow_add-i : goal.overflow_add-i
 overflow_add-i g c =
     let room : c.args.self.now.room ≡ c.self.inside.room = λ i. (sym c.self.view_is i).room in
-    let k = c.slot_of-at.result.page in
-    let at : IsSlot c.self.inside.pages.items c.args.i k c.slot_of-at.result.offset = subst (λ (ps : List (Vec g.row.T.Denot Global)). IsSlot ps c.args.i k c.slot_of-at.result.offset) c.deref.ensures.value c.slot_of-at.ensures in
-    let end = head_end c.self.inside.pages.items c.args.i k c.slot_of-at.result.offset at c.index_mut-2.result.now c.index_mut-2.ensures.value c.args.item c.insert_halved-head.new.page.items c.insert_halved-head.new.tail.items c.insert_halved-head.ensures.items in
+    let k = c.slot_near-at.result.page in
+    let at : IsSlot c.self.inside.pages.items c.args.i k c.slot_near-at.result.offset = subst (λ (ps : List (Vec g.row.T.Denot Global)). IsSlot ps c.args.i k c.slot_near-at.result.offset) c.deref.ensures.value c.slot_near-at.ensures in
+    let end = head_end c.self.inside.pages.items c.args.i k c.slot_near-at.result.offset at c.index_mut-2.result.now c.index_mut-2.ensures.value c.args.item c.insert_halved-head.new.page.items c.insert_halved-head.new.tail.items c.insert_halved-head.ensures.items in
     omega (arith, end, room, c.requires.room, c.self.invariant.len_is, c.self.invariant.countable, c.insert_halved-head.ensures.length)
 
 pub insert-requires-clause-page : goal.insert-requires-clause-page
 insert-requires-clause-page g c =
     let room : c.args.self.now.room ≡ c.self.inside.room = λ i. (sym c.self.view_is i).room in
-    let k = c.slot_of-at.result.page in
-    let at : IsSlot c.self.inside.pages.items c.args.i k c.slot_of-at.result.offset = subst (λ (ps : List (Vec g.row.T.Denot Global)). IsSlot ps c.args.i k c.slot_of-at.result.offset) c.deref.ensures.value c.slot_of-at.ensures in
+    let k = c.slot_near-at.result.page in
+    let at : IsSlot c.self.inside.pages.items c.args.i k c.slot_near-at.result.offset = subst (λ (ps : List (Vec g.row.T.Denot Global)). IsSlot ps c.args.i k c.slot_near-at.result.offset) c.deref.ensures.value c.slot_near-at.ensures in
     omega (arith, at.there, ap length c.shift.ensures.items, length-counted c.self.inside.starts.items (k + 1), ap length c.self.invariant.starts_are, length-starts_from 0 c.self.inside.pages.items)
 
 pub insert-requires-clause-room : goal.insert-requires-clause-room
@@ -87,8 +87,8 @@ insert-requires-clause-room g c =
 pub invariant_of-self-2 : goal.invariant_of-self-2
 invariant_of-self-2 g c =
     let room : c.args.self.now.room ≡ c.self.inside.room = λ i. (sym c.self.view_is i).room in
-    let k = c.slot_of-at.result.page in
-    let at : IsSlot c.self.inside.pages.items c.args.i k c.slot_of-at.result.offset = subst (λ (ps : List (Vec g.row.T.Denot Global)). IsSlot ps c.args.i k c.slot_of-at.result.offset) c.deref.ensures.value c.slot_of-at.ensures in
+    let k = c.slot_near-at.result.page in
+    let at : IsSlot c.self.inside.pages.items c.args.i k c.slot_near-at.result.offset = subst (λ (ps : List (Vec g.row.T.Denot Global)). IsSlot ps c.args.i k c.slot_near-at.result.offset) c.deref.ensures.value c.slot_near-at.ensures in
     halved_pages (record {
       were = c.self.invariant;
       some = omega (arith, room, c.requires.room);
@@ -100,15 +100,15 @@ invariant_of-self-2 g c =
       tail_page = record { bounded = c.insert_halved-head.ensures.tail_bounded; roomy = c.insert_halved-head.ensures.tail_capacity };
       put = c.insert_within-2.ensures.items;
       capacity = c.insert_within-2.ensures.capacity;
-      moved = c.insert.ensures.items ∙ ap (λ s. insert s (k + 1) (c.args.i - c.slot_of-at.result.offset + c.insert_halved-head.result)) c.shift.ensures.items ∙ ap (λ n. insert (take (k + 1) c.self.inside.starts.items ++ map (λ m. m + 1) (drop (k + 1) c.self.inside.starts.items)) (k + 1) (c.args.i - c.slot_of-at.result.offset + n)) c.insert_halved-head.ensures.length;
+      moved = c.insert.ensures.items ∙ ap (λ s. insert s (k + 1) (c.args.i - c.slot_near-at.result.offset + c.insert_halved-head.result)) c.shift.ensures.items ∙ ap (λ n. insert (take (k + 1) c.self.inside.starts.items ++ map (λ m. m + 1) (drop (k + 1) c.self.inside.starts.items)) (k + 1) (c.args.i - c.slot_near-at.result.offset + n)) c.insert_halved-head.ensures.length;
       starts_room = omega (arith, c.insert.ensures.room, c.shift.ensures.room);
     })
 
 pub returns-clause-items : goal.returns-clause-items
 returns-clause-items g c =
     let room : c.args.self.now.room ≡ c.self.inside.room = λ i. (sym c.self.view_is i).room in
-    let k = c.slot_of-at.result.page in
-    let at : IsSlot c.self.inside.pages.items c.args.i k c.slot_of-at.result.offset = subst (λ (ps : List (Vec g.row.T.Denot Global)). IsSlot ps c.args.i k c.slot_of-at.result.offset) c.deref.ensures.value c.slot_of-at.ensures in
+    let k = c.slot_near-at.result.page in
+    let at : IsSlot c.self.inside.pages.items c.args.i k c.slot_near-at.result.offset = subst (λ (ps : List (Vec g.row.T.Denot Global)). IsSlot ps c.args.i k c.slot_near-at.result.offset) c.deref.ensures.value c.slot_near-at.ensures in
     halved_items {pages' = c.insert_within-2.new.page} {starts' = c.insert.new.self} {spare' = c.take_last-tail.new.self} (record {
       were = c.self.invariant;
       some = omega (arith, room, c.requires.room);
@@ -120,7 +120,7 @@ returns-clause-items g c =
       tail_page = record { bounded = c.insert_halved-head.ensures.tail_bounded; roomy = c.insert_halved-head.ensures.tail_capacity };
       put = c.insert_within-2.ensures.items;
       capacity = c.insert_within-2.ensures.capacity;
-      moved = c.insert.ensures.items ∙ ap (λ s. insert s (k + 1) (c.args.i - c.slot_of-at.result.offset + c.insert_halved-head.result)) c.shift.ensures.items ∙ ap (λ n. insert (take (k + 1) c.self.inside.starts.items ++ map (λ m. m + 1) (drop (k + 1) c.self.inside.starts.items)) (k + 1) (c.args.i - c.slot_of-at.result.offset + n)) c.insert_halved-head.ensures.length;
+      moved = c.insert.ensures.items ∙ ap (λ s. insert s (k + 1) (c.args.i - c.slot_near-at.result.offset + c.insert_halved-head.result)) c.shift.ensures.items ∙ ap (λ n. insert (take (k + 1) c.self.inside.starts.items ++ map (λ m. m + 1) (drop (k + 1) c.self.inside.starts.items)) (k + 1) (c.args.i - c.slot_near-at.result.offset + n)) c.insert_halved-head.ensures.length;
       starts_room = omega (arith, c.insert.ensures.room, c.shift.ensures.room);
     })
     ∙ ap (λ s. insert s c.args.i c.args.item) (λ i. (c.self.view_is i).items)
