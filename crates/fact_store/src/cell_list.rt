@@ -1,7 +1,7 @@
 ghost use Rattle.std.specs.Prelude.{◌≡◌, ◌+◌, ◌*◌, ◌<◌, ◌≤◌, ◌^◌, [], ◌∷◌, ◌++◌, IfOk, OnOk, length};
 ghost use Rattle.std.specs.Option.{option_to_list};
 ghost use Rattle.page_list.specs.Rest.{rest_of};
-ghost use Rattle.fact_store.specs.Cells.{AreCells, AreHeld};
+ghost use Rattle.fact_store.specs.Cells.{AreCells, AreHeld, IsSearched};
 ghost use Rattle.fact_store.specs.Comparisons.{compared_by_walk};
 ghost use Rattle.fact_store.specs.Merge.{join, merge, merge_maps};
 ghost use Rattle.fact_store.specs.Sighting.{IsSighting};
@@ -10,7 +10,7 @@ ghost use Rattle.fact_store.specs.View.{view, view_at};
 ghost use Rattle.fact_store.specs.Floor.{is_kept, kept};
 
 use crate::fingers::Fingers;
-use crate::search::{compare, index_of};
+use crate::search::{Found, compare, index_of};
 use crate::sighting::Sighting;
 use fact_join::Join;
 use page_list::{Iter, PageList, Slot};
@@ -37,14 +37,27 @@ pub(crate) fn put(cells: &mut PageList<Sighting>, fingers: &mut Fingers, sightin
 {
     let key = sighting.key();
     let found = index_of(cells, &key, fingers.of(&key));
-    let slot = match found.index {
+    let slot = put_found(cells, found, sighting);
+    fingers.put(&key, slot);
+}
+
+/// Does so where its key was found to have its cell, or not.
+fn put_found(cells: &mut PageList<Sighting>, found: Found, sighting: Sighting) -> Slot
+    requires cells { AreCells cells.old.items }
+    requires in_range { IsSighting sighting }
+    requires found { IsSearched sighting.0 cells.old.items found.index }
+    requires room { 0 < cells.old.room }
+    ensures cells { AreCells cells.new.items }
+    ensures put { seen cells.new.items ≡ merge_maps (seen cells.old.items) (seen (sighting ∷ [])) }
+    ensures room { cells.old.room ≤ cells.new.room + 1 }
+{
+    match found.index {
         Ok(index) => {
             let held = cells.get_near(index, found.near).unwrap();
             cells.set_near(index, join_cells(&held, &sighting), found.near)
         }
         Err(index) => cells.insert_near(index, sighting, found.near),
-    };
-    fingers.put(&key, slot);
+    }
 }
 
 /// The same, where a cell below the floor is left out.

@@ -1,4 +1,6 @@
-ghost use Rattle.std.specs.Prelude.{◌≡◌, ◌+◌, ◌<◌, ◌≤◌, ◌^◌, IfSome, length, option_map, slice_get};
+ghost use Rattle.std.specs.Prelude.{◌≡◌, ◌+◌, ◌<◌, ◌≤◌, ◌^◌, IfSome, length, slice_get};
+ghost use Rattle.std.specs.Option.{option_map_or};
+ghost use Rattle.std.specs.declared.cmp.Ordering.TheVariants.{Greater};
 ghost use Rattle.fact_store.specs.Cells.{AreCells, IsSearched};
 ghost use Rattle.fact_store.specs.Comparisons.{CountsSearch, HasDigits, IsBudget};
 ghost use Rattle.fact_store.specs.Key.{key_cmp};
@@ -34,41 +36,49 @@ pub(crate) fn index_of(cells: &PageList<Sighting>, key: &Key, finger: Slot) -> F
 {
     let len = cells.len();
     if len > 0 {
-        if let Some(Ordering::Less) = order_at(cells, len - 1, finger, key) {
-            return Found { index: Err(len), near: finger };
+        if let Ordering::Less = order_at(cells, len - 1, finger, key) {
+            return Found {
+                index: Err(len),
+                near: finger,
+            };
         }
     }
     match index_at(cells, key, finger) {
-        Some(index) => Found { index, near: finger },
+        Some(index) => Found {
+            index,
+            near: finger,
+        },
         None => find(cells, key).found,
     }
 }
 
 /// The same, if the key is that of the cell at the finger or comes right behind it, as two steps tell.
-fn index_at(
-    cells: &PageList<Sighting>,
-    key: &Key,
-    finger: Slot,
-) -> Option<Result<usize, usize>>
+fn index_at(cells: &PageList<Sighting>, key: &Key, finger: Slot) -> Option<Result<usize, usize>>
     requires { AreCells cells.now.items }
     ensures { IfSome result (IsSearched key.now cells.now.items) }
 {
     let index = cells.index_at(finger)?;
     let next = index.checked_add(1)?;
-    match (order_at(cells, index, finger, key), order_at(cells, next, finger, key)) {
-        (Some(Ordering::Equal), _) => Some(Ok(index)),
-        (Some(Ordering::Less), Some(Ordering::Equal)) => Some(Ok(next)),
-        (Some(Ordering::Less), Some(Ordering::Greater) | None) => Some(Err(next)),
-        _ => None,
+    match order_at(cells, index, finger, key) {
+        Ordering::Less => {}
+        Ordering::Equal => return Some(Ok(index)),
+        Ordering::Greater => return None,
+    }
+    match order_at(cells, next, finger, key) {
+        Ordering::Less => None,
+        Ordering::Equal => Some(Ok(next)),
+        Ordering::Greater => Some(Err(next)),
     }
 }
 
-/// How the key of the cell at an index stands to another, if there is one.
-fn order_at(cells: &PageList<Sighting>, i: usize, near: Slot, key: &Key) -> Option<Ordering>
-    ensures { result ≡ option_map (λ s. key_cmp s.0 key.now) (slice_get cells.now.items i) }
+/// How the key of the cell at an index stands to another. Past the end it is greater than any.
+fn order_at(cells: &PageList<Sighting>, i: usize, near: Slot, key: &Key) -> Ordering
+    ensures { result ≡ option_map_or (λ s. key_cmp s.0 key.now) (slice_get cells.now.items i) Greater }
 {
-    let held = cells.get_near(i, near)?;
-    Some(compare(&held.key(), key, &mut 0))
+    match cells.get_near(i, near) {
+        Some(held) => compare(&held.key(), key, &mut 0),
+        None => Ordering::Greater,
+    }
 }
 
 /// What a search finds.
@@ -107,14 +117,20 @@ pub(crate) fn find(cells: &PageList<Sighting>, key: &Key) -> SearchResult
             }
             Ordering::Equal => {
                 return SearchResult {
-                    found: Found { index: Ok(split.index), near },
+                    found: Found {
+                        index: Ok(split.index),
+                        near,
+                    },
                     steps: steps as u32,
                 };
             }
         }
     }
     SearchResult {
-        found: Found { index: Err(low), near },
+        found: Found {
+            index: Err(low),
+            near,
+        },
         steps: steps as u32,
     }
 }

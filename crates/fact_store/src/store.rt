@@ -203,7 +203,12 @@ impl Store {
     {
         let search = find(&self.cells, &key);
         let cell = match search.found.index {
-            Ok(index) => Some(self.cells.get_near(index, search.found.near).unwrap().cell()),
+            Ok(index) => Some(
+                self.cells
+                    .get_near(index, search.found.near)
+                    .unwrap()
+                    .cell(),
+            ),
             Err(_) => None,
         };
         (cell, search.steps)

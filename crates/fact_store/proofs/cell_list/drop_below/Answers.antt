@@ -7,11 +7,11 @@ use Rattle.fact_store.proofs.cell_list.drop_below.Goals.{then-is_at_least, else-
 
 pub loop-i-preserved : goal.loop-i-preserved
 loop-i-preserved c =
-    let at : slice_get c.loop-i.cells.items c.loop-i.i ≡ Some c.unwrap-sighting.result = sym c.get.ensures ∙ c.unwrap-sighting.ensures in
+    let at : slice_get c.loop-i.cells.items c.loop-i.i ≡ Some c.unwrap-sighting.result = sym c.get_near.ensures ∙ c.unwrap-sighting.ensures in
     elim c.if-is_at_least.branch [
       | then-is_at_least w ↦
           dropping_to c.args.floor c.args.cells.now.items (set c.loop-i.cells.items c.loop-i.left c.unwrap-sighting.result) c.if-is_at_least.cells.items (c.loop-i.i + 1) (c.loop-i.left + 1) c.if-is_at_least.left
-          (ap (λ l. l.items) w.cells-is ∙ w.set.ensures.items) w.left-is
+          (ap (λ l. l.items) w.cells-is ∙ w.set_near-near.ensures.items) w.left-is
           (dropping_kept c.args.floor c.args.cells.now.items c.loop-i.cells.items c.loop-i.i c.loop-i.left c.loop-i.invariant c.unwrap-sighting.result at (sym c.is_at_least.ensures ∙ w.if-is_at_least.true))
       | else-is_at_least w ↦
           dropping_to c.args.floor c.args.cells.now.items c.loop-i.cells.items c.if-is_at_least.cells.items (c.loop-i.i + 1) c.loop-i.left c.if-is_at_least.left
