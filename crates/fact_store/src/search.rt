@@ -43,7 +43,7 @@ pub(crate) fn index_of(cells: &PageList<Sighting>, key: &Key, finger: Slot) -> F
             };
         }
     }
-    match index_at(cells, key, finger) {
+    match index_at_finger(cells, key, finger) {
         Some(index) => Found {
             index,
             near: finger,
@@ -53,7 +53,11 @@ pub(crate) fn index_of(cells: &PageList<Sighting>, key: &Key, finger: Slot) -> F
 }
 
 /// The same, if the key is that of the cell at the finger or comes right behind it, as two steps tell.
-fn index_at(cells: &PageList<Sighting>, key: &Key, finger: Slot) -> Option<Result<usize, usize>>
+fn index_at_finger(
+    cells: &PageList<Sighting>,
+    key: &Key,
+    finger: Slot,
+) -> Option<Result<usize, usize>>
     requires { AreCells cells.now.items }
     ensures { IfSome result (IsSearched key.now cells.now.items) }
 {

@@ -4,7 +4,7 @@ use Rattle.std.specs.Prelude.{slice_get}
 use Rattle.std.specs.declared.cmp.Ordering.TheVariants.{Greater}
 use Rattle.fact_store.specs.Cells.{IsIndexFor}
 use Rattle.fact_store.proofs.Searches.{order_of, stands_at, stands_between}
-use Rattle.fact_store.proofs.search.index_at.Goals as goal
+use Rattle.fact_store.proofs.search.index_at_finger.Goals as goal
 
 pub returns-in-Equal-order_at : goal.returns-in-Equal-order_at
 returns-in-Equal-order_at c = stands_at c.args.key.now c.args.cells.now.items c.requires c.in_ok-next.next c.in-Equal-order_at.ensures
