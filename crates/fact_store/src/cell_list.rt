@@ -53,7 +53,7 @@ fn put_found(cells: &mut PageList<Sighting>, found: Found, sighting: Sighting) -
 {
     match found.index {
         Ok(index) => {
-            let held = cells.get_near(index, found.near).unwrap();
+            let held = *cells.get_near(index, found.near).unwrap();
             cells.set_near(index, join_cells(&held, &sighting), found.near)
         }
         Err(index) => cells.insert_near(index, sighting, found.near),
@@ -153,7 +153,7 @@ pub(crate) fn drop_below(cells: &mut PageList<Sighting>, floor: Generation)
     let mut left = 0;
     let mut near = Slot::first();
     for i in 0..cells.len() {
-        let sighting = cells.get_near(i, near).unwrap();
+        let sighting = *cells.get_near(i, near).unwrap();
         if is_at_least(&sighting, floor) {
             near = cells.set_near(left, sighting, near);
             left += 1;

@@ -28,12 +28,18 @@ pub(crate) struct Found {
     pub near: Slot,
 }
 
-/// Where a key has its cell, or would, to put one in there: behind the last cell, at the finger, or where a search finds
+/// Where a key has its cell, or would, to put one in there: at the finger, behind the last cell, or where a search finds
 /// it.
 pub(crate) fn index_of(cells: &PageList<Sighting>, key: &Key, finger: Slot) -> Found
     requires { AreCells cells.now.items }
     ensures { IsSearched key.now cells.now.items result.index }
 {
+    if let Some(index) = index_at_finger(cells, key, finger) {
+        return Found {
+            index,
+            near: finger,
+        };
+    }
     let len = cells.len();
     if len > 0 {
         if let Ordering::Less = order_at(cells, len - 1, finger, key) {
@@ -43,13 +49,7 @@ pub(crate) fn index_of(cells: &PageList<Sighting>, key: &Key, finger: Slot) -> F
             };
         }
     }
-    match index_at_finger(cells, key, finger) {
-        Some(index) => Found {
-            index,
-            near: finger,
-        },
-        None => find(cells, key).found,
-    }
+    find(cells, key).found
 }
 
 /// The same, if the key is that of the cell at the finger or comes right behind it, as two steps tell.

@@ -1,4 +1,4 @@
-ghost use Rattle.std.specs.Prelude.{◌≡◌, ◌+◌, ◌^◌, ◌<◌, ◌≤◌, [], ◌∷◌, ◌++◌, OnOk, OnErr, IfOk, IfSome, length, slice_get, slice_set, take, drop, insert};
+ghost use Rattle.std.specs.Prelude.{◌≡◌, ◌+◌, ◌^◌, ◌<◌, ◌≤◌, [], ◌∷◌, ◌++◌, OnOk, OnErr, IfOk, IfSome, length, option_copied, slice_get, slice_set, take, drop, insert};
 ghost use Rattle.page_list.specs.Rest.{rest_of};
 ghost use Rattle.page_list.specs.Listing.{Listing};
 
@@ -67,18 +67,18 @@ impl<T: Copy> PageList<T> {
     pub fn get(&self, i: usize) -> Option<T>
         ensures { result ≡ slice_get self.now.items i }
     {
-        self.get_near(i, Slot::first())
+        self.get_near(i, Slot::first()).copied()
     }
 
     /// The same, in one step where the page of the slot has the item.
-    pub fn get_near(&self, i: usize, near: Slot) -> Option<T>
-        ensures { result ≡ slice_get self.now.items i }
+    pub fn get_near(&self, i: usize, near: Slot) -> Option<&T>
+        ensures { option_copied result ≡ slice_get self.now.items i }
     {
         if i >= self.len {
             return None;
         }
         let at = slot_near(&self.pages, &self.starts, near.page, i);
-        Some(self.pages[at.page][at.offset])
+        Some(&self.pages[at.page][at.offset])
     }
 
     /// The index of what lies at a slot, if that is one of this list. Takes one step.

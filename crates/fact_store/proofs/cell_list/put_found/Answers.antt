@@ -1,6 +1,6 @@
 -- Where the key has a cell the two are joined, and else the cell goes in.
-use Rattle.std.proofs.Common.{◌≡◌, ℕ, sym, ◌∙◌, subst}
-use Rattle.std.specs.Prelude.{Some, Result, slice_get}
+use Rattle.std.proofs.Common.{◌≡◌, ℕ, sym, ap, ◌∙◌, subst}
+use Rattle.std.specs.Prelude.{Some, Result, option_copied, slice_get}
 use Rattle.fact_join.specs.declared.cell.Cell.{Cell}
 use Rattle.fact_store.specs.declared.key.Key.{Key}
 use Rattle.fact_store.specs.declared.value.Value.{Value}
@@ -14,17 +14,17 @@ some_key a b e = cc
 
 pub returns-in-Ok-clause-cells : goal.returns-in-Ok-clause-cells
 returns-in-Ok-clause-cells c =
-    let at : slice_get c.args.cells.now.items c.in-Ok.index ≡ Some c.unwrap-held.result = sym c.get_near.ensures ∙ c.unwrap-held.ensures in
+    let at : slice_get c.args.cells.now.items c.in-Ok.index ≡ Some c.unwrap.result.now = sym c.get_near.ensures ∙ ap option_copied c.unwrap.ensures in
     let found : (x : Cell Value) × (slice_get c.args.cells.now.items c.in-Ok.index ≡ Some (c.args.sighting.0, x)) = subst (λ (r : Result ℕ ℕ). IsSearched c.args.sighting.0 c.args.cells.now.items r) c.in-Ok.is c.requires.found in
-    let same : c.unwrap-held.result.0 ≡ c.args.sighting.0 = some_key c.unwrap-held.result (c.args.sighting.0, found.0) (sym at ∙ found.1) in
-    joined_cells c.args.cells.now.items c.requires.cells c.in-Ok.index c.args.sighting c.set_near.new.self.items c.unwrap-held.result at same c.join_cells.result c.join_cells.ensures.value c.join_cells.ensures.in_range c.set_near.ensures.items
+    let same : c.unwrap.result.now.0 ≡ c.args.sighting.0 = some_key c.unwrap.result.now (c.args.sighting.0, found.0) (sym at ∙ found.1) in
+    joined_cells c.args.cells.now.items c.requires.cells c.in-Ok.index c.args.sighting c.set_near.new.self.items c.unwrap.result.now at same c.join_cells.result c.join_cells.ensures.value c.join_cells.ensures.in_range c.set_near.ensures.items
 
 pub returns-in-Ok-clause-put : goal.returns-in-Ok-clause-put
 returns-in-Ok-clause-put c =
-    let at : slice_get c.args.cells.now.items c.in-Ok.index ≡ Some c.unwrap-held.result = sym c.get_near.ensures ∙ c.unwrap-held.ensures in
+    let at : slice_get c.args.cells.now.items c.in-Ok.index ≡ Some c.unwrap.result.now = sym c.get_near.ensures ∙ ap option_copied c.unwrap.ensures in
     let found : (x : Cell Value) × (slice_get c.args.cells.now.items c.in-Ok.index ≡ Some (c.args.sighting.0, x)) = subst (λ (r : Result ℕ ℕ). IsSearched c.args.sighting.0 c.args.cells.now.items r) c.in-Ok.is c.requires.found in
-    let same : c.unwrap-held.result.0 ≡ c.args.sighting.0 = some_key c.unwrap-held.result (c.args.sighting.0, found.0) (sym at ∙ found.1) in
-    joined_seen c.args.cells.now.items c.requires.cells c.in-Ok.index c.args.sighting c.set_near.new.self.items c.unwrap-held.result at same c.join_cells.result c.join_cells.ensures.value c.join_cells.ensures.in_range c.set_near.ensures.items
+    let same : c.unwrap.result.now.0 ≡ c.args.sighting.0 = some_key c.unwrap.result.now (c.args.sighting.0, found.0) (sym at ∙ found.1) in
+    joined_seen c.args.cells.now.items c.requires.cells c.in-Ok.index c.args.sighting c.set_near.new.self.items c.unwrap.result.now at same c.join_cells.result c.join_cells.ensures.value c.join_cells.ensures.in_range c.set_near.ensures.items
 
 pub returns-in-Err-clause-cells : goal.returns-in-Err-clause-cells
 returns-in-Err-clause-cells c =
