@@ -92,8 +92,9 @@ impl Store {
         }
     }
 
-    /// Adds what the sighting says to what is held, which is nothing where it is below the floor. Takes a search, and
-    /// moves no more than a page.
+    /// Adds what the sighting says to what is held, which is nothing where it is below the floor. Takes two comparisons
+    /// where its key comes behind the one of its kind that was put in last, or is that key or the next; else a search.
+    /// Moves no more than a page.
     pub fn add(&mut self, sighting: Sighting) -> Result<(), Refused>
         ensures ok { OnOk result (self.new ≡ merge self.old (view (sighting ∷ []))) }
         ensures err { OnErr result (self.new ≡ self.old) }
@@ -103,8 +104,8 @@ impl Store {
         Ok(())
     }
 
-    /// Adds all of them or, where memory runs out, none. A few take a search each; more are put in order first, and
-    /// then merged.
+    /// Adds all of them or, where memory runs out, none. A few are added one by one; more are put in order first,
+    /// and then merged.
     pub fn add_all(&mut self, sightings: &[Sighting]) -> Result<(), Refused>
         ensures ok { OnOk result (self.new ≡ merge self.old (view sightings.now)) }
         ensures err { OnErr result (self.new ≡ self.old) }

@@ -9,8 +9,8 @@ use std::marker::Model;
 /// How many indices are a group.
 const GROUP: usize = 64;
 
-/// The indices where pages begin, in order. All from one on are counted up by one for each index of its group and each
-/// later group.
+/// The indices where pages begin, in order, in groups of 64. To count up all from one on is to count up those of its own
+/// group, and what is added to each later one.
 #[derive(Drop)]
 pub(crate) struct Starts {
     /// Each index, less what is added to its group.
@@ -27,7 +27,10 @@ impl Model for Starts {
 
     ghost Value = { Listing ℕ };
 
-    ghost view = { λ a. record { items = raised a.added.items 0 a.starts.items; room = min (vec_capacity a.starts) (64 * vec_len a.added) - vec_len a.starts } };
+    ghost view = { λ a. record {
+      items = raised a.added.items 0 a.starts.items;
+      room = min (vec_capacity a.starts) (64 * vec_len a.added) - vec_len a.starts;
+    } };
 
     ghost invariant = { λ a. AreRaised a.starts a.added };
 }
@@ -58,7 +61,7 @@ impl Starts {
         self.starts[page] + self.added[page / GROUP]
     }
 
-    /// Each from `from` on is one more. Takes as many steps as there are in a group, and groups.
+    /// Each from `from` on is one more. Takes at most as many steps as a group has, and one for each later group.
     pub(crate) fn shift(&mut self, from: usize)
         requires fits { All (λ start. start + 1 < 2 ^ 64) self.old.items }
         ensures items { self.new.items
@@ -80,7 +83,7 @@ impl Starts {
         count_up(&mut self.added, group + 1, groups);
     }
 
-    /// Puts one in, where there is room. Walks all where the page is not the last.
+    /// Puts one in, where there is room. Walks all of them.
     pub(crate) fn insert(&mut self, page: usize, start: usize)
         requires page { page ≤ length self.old.items }
         requires room { 0 < self.old.room }
@@ -92,7 +95,7 @@ impl Starts {
         insert_within(&mut self.starts, page, start);
     }
 
-    /// Puts one at the end, where there is room.
+    /// Puts one at the end, where there is room. Walks all only where something was added to its group.
     pub(crate) fn push(&mut self, start: usize)
         requires room { 0 < self.old.room }
         ensures items { self.new.items ≡ self.old.items ++ start ∷ [] }
@@ -144,7 +147,8 @@ fn count_up(numbers: &mut [usize], from: usize, until: usize)
     requires until { until ≤ length numbers.old }
     requires fits { All (λ n. n + 1 < 2 ^ 64) (take until numbers.old) }
     ensures { numbers.new ≡ take from numbers.old
-        ++ (map (λ n. n + 1) (take (until - from) (drop from numbers.old)) ++ drop (until - from) (drop from numbers.old)) }
+        ++ (map (λ n. n + 1) (take (until - from) (drop from numbers.old))
+        ++ drop (until - from) (drop from numbers.old)) }
 {
     for i in from..until {
         numbers[i] += 1;
