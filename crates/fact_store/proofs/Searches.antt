@@ -4,7 +4,9 @@ use Rattle.std.proofs.Math.Nat.{pow-suc, pow-le-pow_right}
 use Rattle.std.proofs.Math.Pow.{pow-lt}
 use Rattle.std.proofs.lemmas.Bool.{cases_order}
 use Rattle.std.proofs.lemmas.Option.{slice_get_cases}
-use Rattle.std.specs.Prelude.{Some, slice_get}
+use Rattle.std.specs.Option.{option_map_or}
+use Rattle.std.specs.Prelude.{Option, None, Some, slice_get}
+use Rattle.std.specs.declared.cmp.Ordering.{Ordering}
 use Rattle.std.specs.declared.cmp.Ordering.TheVariants.{Less, Equal, Greater}
 use Rattle.fact_join.specs.declared.cell.Cell.{Cell}
 use Rattle.fact_store.specs.declared.key.Key.{Key}
@@ -12,7 +14,7 @@ use Rattle.fact_store.specs.declared.value.Value.{Value}
 use Rattle.fact_store.specs.Cells.{AreCells, IsIndexFor}
 use Rattle.fact_store.specs.Comparisons.{CountsSearch, HasDigits, IsBudget, Leaves, all, later, earlier, with_key, without}
 use Rattle.fact_store.specs.Key.{key_cmp}
-use Rattle.fact_store.proofs.Keys.{key_total}
+use Rattle.fact_store.proofs.Keys.{key_exact, key_total}
 use Rattle.fact_store.proofs.Orders.{greater_back}
 use Rattle.fact_store.proofs.CellOrder.{held, less_back, ends_at, rising_indices}
 
@@ -166,16 +168,46 @@ pub ends_without : (key : Key) (cells : List (Key × Cell Value)) (low high step
 ends_without key cells low high steps n h =
     record { compared = n.compared; is_search = without n.compared low high n.leaves h; counted = n.counted }
 
--- a key that comes after the last one goes in at the end
-pub behind_last : (key : Key) (cells : List (Key × Cell Value)) (are : AreCells cells) (last : Key × Cell Value) (m : ℕ) → m + 1 ≡ length cells → slice_get cells m ≡ Some last → key_cmp last.0 key ≡ Less → IsIndexFor key cells (length cells)
-behind_last key cells are last m end at less =
-    ends_at cells (length cells) key (held _ are.rising) (omega arith)
-    (λ j e h k. elim (cases_order j m) [
-      | inl i ↦ subst (λ (z : Key × Cell Value). key_cmp z.0 key ≡ Less) (some_is last e (sym at ∙ ap (slice_get cells) (sym i) ∙ k)) less
-      | inr (inl b) ↦ key_total.trans e.0 last.0 key (rising_indices cells (held _ are.rising) j m e last b k at) less
-      | inr (inr a) ↦ absurd (omega arith)
-    ])
-    (λ j e h k. elim (slice_get_cases cells j).1 [ inl w ↦ absurd (let low = w.1 in omega arith) | inr w ↦ absurd (cc) ])
-  where
-    some_is : (a b : Key × Cell Value) → Some a ≡ Some b → a ≡ b
-    some_is a b e = cc
+-- how the key of a cell stands to another; where there is none it is greater
+abbrev pub order_of : Key → Option (Key × Cell Value) → Ordering
+order_of key s = option_map_or (λ e. key_cmp e.0 key) s Greater
+
+-- a cell whose key is not greater is there
+less_there : (key : Key) (s : Option (Key × Cell Value)) → Less ≡ order_of key s → (e : Key × Cell Value) × (s ≡ Some e) × (key_cmp e.0 key ≡ Less)
+less_there key None h = absurd (cc)
+less_there key (Some e) h = (e, refl, sym h)
+
+equal_there : (key : Key) (s : Option (Key × Cell Value)) → Equal ≡ order_of key s → (e : Key × Cell Value) × (s ≡ Some e) × (key_cmp e.0 key ≡ Equal)
+equal_there key None h = absurd (cc)
+equal_there key (Some e) h = (e, refl, sym h)
+
+module _ (key : Key) (cells : List (Key × Cell Value)) (are : AreCells cells) (m : ℕ) where
+  -- the key has this cell
+  pub stands_at : Equal ≡ order_of key (slice_get cells m) → (x : Cell Value) × (slice_get cells m ≡ Some (key, x))
+  stands_at h =
+      let e = equal_there key (slice_get cells m) h in
+      let same : e.0.0 ≡ key = key_exact e.0.0 key e.2 in
+      (e.0.1, e.1 ∙ (λ i. Some (same i, e.0.1)))
+
+  -- a key after a cell, and before the next one if there is one, goes in between them
+  pub stands_between : Less ≡ order_of key (slice_get cells m) → Greater ≡ order_of key (slice_get cells (m + 1)) → IsIndexFor key cells (m + 1)
+  stands_between h g =
+      let e = less_there key (slice_get cells m) h in
+      let within : m < length cells = elim (slice_get_cases cells m).1 [ inl w ↦ w.1 | inr w ↦ absurd (cc) ] in
+      let up : IsNarrowed key cells (m + 1) (length cells) 1 = narrowed_up key cells are 0 (length cells) 0 m (not_narrowed key cells) (omega arith) within e.0 e.1 e.2 in
+      elim (slice_get_cases cells (m + 1)).1 [
+        | inl w ↦
+            let greater : key_cmp w.0.0 key ≡ Greater = sym (g ∙ ap (order_of key) w.2) in
+            let down : IsNarrowed key cells (m + 1) (m + 1) 2 = narrowed_down key cells are (m + 1) (length cells) 1 (m + 1) up (omega arith) w.1 w.0 w.2 greater in
+            ends_at cells (m + 1) key (held _ are.rising) (omega arith) down.below down.above
+        | inr w ↦ ends_at cells (m + 1) key (held _ are.rising) (omega arith) up.below (λ j f h k. up.above j f (omega (arith, w.0)) k)
+      ]
+
+-- a key after the last one goes in at the end
+pub behind_last : (key : Key) (cells : List (Key × Cell Value)) (are : AreCells cells) (m : ℕ) → m + 1 ≡ length cells → Less ≡ order_of key (slice_get cells m) → IsIndexFor key cells (length cells)
+behind_last key cells are m end less =
+    let none : Greater ≡ order_of key (slice_get cells (m + 1)) = elim (slice_get_cases cells (m + 1)).1 [
+      | inl w ↦ absurd (let low = w.1 in omega arith)
+      | inr w ↦ sym (ap (order_of key) w.1)
+    ] in
+    subst (IsIndexFor key cells) end (stands_between key cells are m less none)

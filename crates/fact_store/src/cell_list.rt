@@ -1,7 +1,7 @@
 ghost use Rattle.std.specs.Prelude.{◌≡◌, ◌+◌, ◌*◌, ◌<◌, ◌≤◌, ◌^◌, [], ◌∷◌, ◌++◌, IfOk, OnOk, length};
 ghost use Rattle.std.specs.Option.{option_to_list};
 ghost use Rattle.page_list.specs.Rest.{rest_of};
-ghost use Rattle.fact_store.specs.Cells.{AreCells, AreHeld};
+ghost use Rattle.fact_store.specs.Cells.{AreCells, AreHeld, IsSearched};
 ghost use Rattle.fact_store.specs.Comparisons.{compared_by_walk};
 ghost use Rattle.fact_store.specs.Merge.{join, merge, merge_maps};
 ghost use Rattle.fact_store.specs.Sighting.{IsSighting};
@@ -9,10 +9,11 @@ ghost use Rattle.fact_store.specs.Seen.{seen};
 ghost use Rattle.fact_store.specs.View.{view, view_at};
 ghost use Rattle.fact_store.specs.Floor.{is_kept, kept};
 
-use crate::search::{compare, index_of};
+use crate::fingers::Fingers;
+use crate::search::{Found, compare, index_of};
 use crate::sighting::Sighting;
 use fact_join::Join;
-use page_list::{Iter, PageList};
+use page_list::{Iter, PageList, Slot};
 use smp_bytes::Generation;
 use std::alloc::AllocError;
 use std::cmp::Ordering;
@@ -26,25 +27,46 @@ fn join_cells(first: &Sighting, second: &Sighting) -> Sighting
     Sighting::new(first.key(), first.cell().join(&second.cell())).unwrap()
 }
 
-/// Puts in a cell where its key has none, and else joins the two.
-pub(crate) fn put(cells: &mut PageList<Sighting>, sighting: Sighting)
+/// Puts in a cell where its key has none, and else joins the two. The finger of its kind goes there.
+pub(crate) fn put(cells: &mut PageList<Sighting>, fingers: &mut Fingers, sighting: Sighting)
     requires cells { AreCells cells.old.items }
     requires room { 0 < cells.old.room }
     ensures cells { AreCells cells.new.items }
     ensures put { seen cells.new.items ≡ merge_maps (seen cells.old.items) (seen (sighting ∷ [])) }
     ensures room { cells.old.room ≤ cells.new.room + 1 }
 {
-    match index_of(cells, &sighting.key()) {
+    let key = sighting.key();
+    let found = index_of(cells, &key, fingers.of(&key));
+    let slot = put_found(cells, found, sighting);
+    fingers.put(&key, slot);
+}
+
+/// Does so where its key was found to have its cell, or not.
+fn put_found(cells: &mut PageList<Sighting>, found: Found, sighting: Sighting) -> Slot
+    requires cells { AreCells cells.old.items }
+    requires in_range { IsSighting sighting }
+    requires found { IsSearched sighting.0 cells.old.items found.index }
+    requires room { 0 < cells.old.room }
+    ensures cells { AreCells cells.new.items }
+    ensures put { seen cells.new.items ≡ merge_maps (seen cells.old.items) (seen (sighting ∷ [])) }
+    ensures room { cells.old.room ≤ cells.new.room + 1 }
+{
+    match found.index {
         Ok(index) => {
-            let held = cells.get(index).unwrap();
-            cells.set(index, join_cells(&held, &sighting));
+            let held = *cells.get_near(index, found.near).unwrap();
+            cells.set_near(index, join_cells(&held, &sighting), found.near)
         }
-        Err(index) => cells.insert(index, sighting),
+        Err(index) => cells.insert_near(index, sighting, found.near),
     }
 }
 
 /// The same, where a cell below the floor is left out.
-pub(crate) fn put_kept(cells: &mut PageList<Sighting>, floor: Generation, sighting: Sighting)
+pub(crate) fn put_kept(
+    cells: &mut PageList<Sighting>,
+    fingers: &mut Fingers,
+    floor: Generation,
+    sighting: Sighting,
+)
     requires cells { AreHeld floor cells.old.items }
     requires room { 0 < cells.old.room }
     ensures cells { AreHeld floor cells.new.items }
@@ -53,7 +75,7 @@ pub(crate) fn put_kept(cells: &mut PageList<Sighting>, floor: Generation, sighti
     ensures room { cells.old.room ≤ cells.new.room + 1 }
 {
     if is_at_least(&sighting, floor) {
-        put(cells, sighting);
+        put(cells, fingers, sighting);
     }
 }
 
@@ -129,10 +151,11 @@ pub(crate) fn drop_below(cells: &mut PageList<Sighting>, floor: Generation)
     ensures { cells.new.items ≡ kept floor cells.old.items }
 {
     let mut left = 0;
+    let mut near = Slot::first();
     for i in 0..cells.len() {
-        let sighting = cells.get(i).unwrap();
+        let sighting = *cells.get_near(i, near).unwrap();
         if is_at_least(&sighting, floor) {
-            cells.set(left, sighting);
+            near = cells.set_near(left, sighting, near);
             left += 1;
         }
     }

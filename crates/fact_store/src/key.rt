@@ -1,4 +1,4 @@
-ghost use Rattle.std.specs.Prelude.{◌≡◌};
+ghost use Rattle.std.specs.Prelude.{◌≡◌, slice_index};
 
 use smp_bytes::{Guid, PortNum};
 use std::cmp::Ordering;
@@ -23,17 +23,51 @@ pub enum Key {
 impl Key {
     ghost use Rattle.fact_store.specs.Key.{key_numbers};
 
-    /// The index of its kind among the kinds, the GUID and the port; the port is 0 where there is none.
-    fn sort_key(self) -> [u64; 3]
-        ensures { result ≡ key_numbers self }
+    /// The number of its kind, the GUID and the port.
+    fn sort_key(&self) -> [u64; 3]
+        ensures { result ≡ key_numbers self.now }
     {
-        match self {
-            Key::Node(node) => [1, node.number(), 0],
-            Key::PortGuid(node, port) => [2, node.number(), u64::from(port.number())],
-            Key::Link(node, port) => [3, node.number(), u64::from(port.number())],
-            Key::Port(node, port) => [4, node.number(), u64::from(port.number())],
-            Key::Claim(node, port) => [5, node.number(), u64::from(port.number())],
-            Key::Cap(node) => [6, node.number(), 0],
+        [self.kind(), self.guid(), self.port()]
+    }
+
+    /// From 1 on, in the order of the kinds.
+    fn kind(&self) -> u64
+        ensures { result ≡ slice_index (key_numbers self.now) 0 }
+    {
+        match *self {
+            Key::Node(_) => 1,
+            Key::PortGuid(..) => 2,
+            Key::Link(..) => 3,
+            Key::Port(..) => 4,
+            Key::Claim(..) => 5,
+            Key::Cap(_) => 6,
+        }
+    }
+
+    /// The GUID of the node.
+    fn guid(&self) -> u64
+        ensures { result ≡ slice_index (key_numbers self.now) 1 }
+    {
+        match *self {
+            Key::Node(node)
+            | Key::PortGuid(node, _)
+            | Key::Link(node, _)
+            | Key::Port(node, _)
+            | Key::Claim(node, _)
+            | Key::Cap(node) => node.number(),
+        }
+    }
+
+    /// The port, and 0 where there is none.
+    fn port(&self) -> u64
+        ensures { result ≡ slice_index (key_numbers self.now) 2 }
+    {
+        match *self {
+            Key::Node(_) | Key::Cap(_) => 0,
+            Key::PortGuid(_, port)
+            | Key::Link(_, port)
+            | Key::Port(_, port)
+            | Key::Claim(_, port) => u64::from(port.number()),
         }
     }
 }

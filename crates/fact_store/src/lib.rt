@@ -3,6 +3,7 @@
 
 mod cell_list;
 mod cells;
+mod fingers;
 mod ingest;
 mod key;
 pub mod laws;

@@ -1,11 +1,13 @@
-ghost use Rattle.std.specs.Prelude.{◌≡◌, ◌+◌, ◌<◌, ◌≤◌, ◌^◌, length};
+ghost use Rattle.std.specs.Prelude.{◌≡◌, ◌+◌, ◌<◌, ◌≤◌, ◌^◌, IfSome, length, slice_get};
+ghost use Rattle.std.specs.Option.{option_map_or};
+ghost use Rattle.std.specs.declared.cmp.Ordering.TheVariants.{Greater};
 ghost use Rattle.fact_store.specs.Cells.{AreCells, IsSearched};
 ghost use Rattle.fact_store.specs.Comparisons.{CountsSearch, HasDigits, IsBudget};
 ghost use Rattle.fact_store.specs.Key.{key_cmp};
 
 use crate::key::Key;
 use crate::sighting::Sighting;
-use page_list::PageList;
+use page_list::{PageList, Slot};
 use std::cmp::Ordering;
 
 /// How one key stands to another, which is one step. A store compares keys by this alone.
@@ -18,27 +20,75 @@ pub(crate) fn compare(key: &Key, other: &Key, steps: &mut u128) -> Ordering
     key.cmp(other)
 }
 
-/// Where a key has its cell, or would, to put one in there: behind the last cell, as one step tells where keys come in
-/// their order, or where a search finds it.
-pub(crate) fn index_of(cells: &PageList<Sighting>, key: &Key) -> Result<usize, usize>
+/// Where a key has its cell, or would.
+#[derive(Clone, Copy)]
+pub(crate) struct Found {
+    pub index: Result<usize, usize>,
+    /// Where its cell may lie, or the one beside it.
+    pub near: Slot,
+}
+
+/// Where a key has its cell, or would, to put one in there: at the finger, behind the last cell, or where a search finds
+/// it.
+pub(crate) fn index_of(cells: &PageList<Sighting>, key: &Key, finger: Slot) -> Found
     requires { AreCells cells.now.items }
-    ensures { IsSearched key.now cells.now.items result }
+    ensures { IsSearched key.now cells.now.items result.index }
 {
+    if let Some(index) = index_at_finger(cells, key, finger) {
+        return Found {
+            index,
+            near: finger,
+        };
+    }
     let len = cells.len();
     if len > 0 {
-        let last = cells.get(len - 1).unwrap();
-        if let Ordering::Less = compare(&last.key(), key, &mut 0) {
-            return Err(len);
+        if let Ordering::Less = order_at(cells, len - 1, finger, key) {
+            return Found {
+                index: Err(len),
+                near: finger,
+            };
         }
     }
-    find(cells, key).index
+    find(cells, key).found
+}
+
+/// The same, if the key is that of the cell at the finger or comes right behind it, as two steps tell.
+fn index_at_finger(
+    cells: &PageList<Sighting>,
+    key: &Key,
+    finger: Slot,
+) -> Option<Result<usize, usize>>
+    requires { AreCells cells.now.items }
+    ensures { IfSome result (IsSearched key.now cells.now.items) }
+{
+    let index = cells.index_at(finger)?;
+    let next = index.checked_add(1)?;
+    match order_at(cells, index, finger, key) {
+        Ordering::Less => {}
+        Ordering::Equal => return Some(Ok(index)),
+        Ordering::Greater => return None,
+    }
+    match order_at(cells, next, finger, key) {
+        Ordering::Less => None,
+        Ordering::Equal => Some(Ok(next)),
+        Ordering::Greater => Some(Err(next)),
+    }
+}
+
+/// How the key of the cell at an index stands to another. Past the end it is greater than any.
+fn order_at(cells: &PageList<Sighting>, i: usize, near: Slot, key: &Key) -> Ordering
+    ensures { result ≡ option_map_or (λ s. key_cmp s.0 key.now) (slice_get cells.now.items i) Greater }
+{
+    match cells.get_near(i, near) {
+        Some(held) => compare(&held.key(), key, &mut 0),
+        None => Ordering::Greater,
+    }
 }
 
 /// What a search finds.
 #[derive(Clone, Copy)]
 pub(crate) struct SearchResult {
-    /// The index of the key's cell, or where it would go.
-    pub index: Result<usize, usize>,
+    pub found: Found,
     /// How many keys were compared with it.
     pub steps: u32,
 }
@@ -46,7 +96,7 @@ pub(crate) struct SearchResult {
 /// Where a key has its cell, or would. Each step leaves less than half of the next power of two.
 pub(crate) fn find(cells: &PageList<Sighting>, key: &Key) -> SearchResult
     requires { AreCells cells.now.items }
-    ensures index { IsSearched key.now cells.now.items result.index }
+    ensures index { IsSearched key.now cells.now.items result.found.index }
     ensures counted { CountsSearch key.now cells.now.items result.steps }
     ensures digits { HasDigits (length cells.now.items) result.steps }
 {
@@ -55,9 +105,11 @@ pub(crate) fn find(cells: &PageList<Sighting>, key: &Key) -> SearchResult
     let mut high = cells.len();
     let mut most = all_ones(high);
     let mut pages = cells.pages();
+    let mut near = Slot::first();
     while low < high {
         most /= 2;
         let split = cells.split(low, high, most, pages);
+        near = split.slot;
         match compare(&split.item.key(), key, &mut steps) {
             Ordering::Less => {
                 low = split.index + 1;
@@ -69,14 +121,20 @@ pub(crate) fn find(cells: &PageList<Sighting>, key: &Key) -> SearchResult
             }
             Ordering::Equal => {
                 return SearchResult {
-                    index: Ok(split.index),
+                    found: Found {
+                        index: Ok(split.index),
+                        near,
+                    },
                     steps: steps as u32,
                 };
             }
         }
     }
     SearchResult {
-        index: Err(low),
+        found: Found {
+            index: Err(low),
+            near,
+        },
         steps: steps as u32,
     }
 }

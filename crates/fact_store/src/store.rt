@@ -7,6 +7,7 @@ ghost use Rattle.fact_store.specs.Walk.{cells_left};
 
 use crate::cell_list::{drop_below, merge_cells, put_kept};
 use crate::cells::Cells;
+use crate::fingers::Fingers;
 use crate::key::Key;
 use crate::search::find;
 use crate::sighting::Sighting;
@@ -43,6 +44,8 @@ pub struct Store {
     floor: Generation,
     /// One cell for each key, in the order of keys.
     cells: PageList<Sighting>,
+    /// Where the last ones were put.
+    fingers: Fingers,
 }
 
 impl Model for Store {
@@ -67,6 +70,7 @@ impl Store {
         Store {
             floor: Generation::new(1).unwrap(),
             cells: PageList::new(alloc),
+            fingers: Fingers::new(),
         }
     }
 
@@ -88,19 +92,20 @@ impl Store {
         }
     }
 
-    /// Adds what the sighting says to what is held, which is nothing where it is below the floor. Takes a search, and
-    /// moves no more than a page.
+    /// Adds what the sighting says to what is held, which is nothing where it is below the floor. Takes two comparisons
+    /// where its key comes behind the one of its kind that was put in last, or is that key or the next; else a search.
+    /// Moves no more than a page.
     pub fn add(&mut self, sighting: Sighting) -> Result<(), Refused>
         ensures ok { OnOk result (self.new ≡ merge self.old (view (sighting ∷ []))) }
         ensures err { OnErr result (self.new ≡ self.old) }
     {
         self.cells.reserve(1)?;
-        put_kept(&mut self.cells, self.floor, sighting);
+        put_kept(&mut self.cells, &mut self.fingers, self.floor, sighting);
         Ok(())
     }
 
-    /// Adds all of them or, where memory runs out, none. A few take a search each; more are put in order first, and
-    /// then merged.
+    /// Adds all of them or, where memory runs out, none. A few are added one by one; more are put in order first,
+    /// and then merged.
     pub fn add_all(&mut self, sightings: &[Sighting]) -> Result<(), Refused>
         ensures ok { OnOk result (self.new ≡ merge self.old (view sightings.now)) }
         ensures err { OnErr result (self.new ≡ self.old) }
@@ -120,7 +125,7 @@ impl Store {
     {
         self.cells.reserve(sightings.len())?;
         for sighting in sightings {
-            put_kept(&mut self.cells, self.floor, *sighting);
+            put_kept(&mut self.cells, &mut self.fingers, self.floor, *sighting);
         }
         Ok(())
     }
@@ -151,7 +156,11 @@ impl Store {
         if self.floor != other.floor {
             drop_below(&mut cells, floor);
         }
-        *self = Store { floor, cells };
+        *self = Store {
+            floor,
+            cells,
+            fingers: Fingers::new(),
+        };
         Ok(steps)
     }
 
@@ -193,12 +202,17 @@ impl Store {
         ensures steps { HasDigits (length (cells_of self.now)) result.1 }
         ensures in_range { AreInRange self.now }
     {
-        let found = find(&self.cells, &key);
-        let cell = match found.index {
-            Ok(index) => Some(self.cells.get(index).unwrap().cell()),
+        let search = find(&self.cells, &key);
+        let cell = match search.found.index {
+            Ok(index) => Some(
+                self.cells
+                    .get_near(index, search.found.near)
+                    .unwrap()
+                    .cell(),
+            ),
             Err(_) => None,
         };
-        (cell, found.steps)
+        (cell, search.steps)
     }
 
     /// The number of keys that have a cell. It is held.

@@ -6,6 +6,7 @@ use Rattle.std.proofs.lemmas.List.Elements.{All-append, All-take, All-drop, All-
 use Rattle.std.specs.Prelude.{Vec, Some, All, insert}
 use Rattle.std.specs.Vec.{vec_capacity}
 use Rattle.std.specs.declared.alloc.Global.{Global}
+use Rattle.page_list.specs.Listing.{Listing}
 use Rattle.page_list.specs.Pages.{items_of, starts_from, IsPage, IsEmptyPage, IsSlot, ArePages}
 use Rattle.page_list.proofs.Paged.{items_of-split, items_of-set}
 
@@ -84,7 +85,7 @@ module _ {T : Type 0} where
         )
 
   -- a page had room
-  pub record IsGrown (pages pages' : Vec (Vec T Global) Global) (starts starts' : Vec ℕ Global) (spare : Vec (Vec T Global) Global) (len room i k j : ℕ) (p p' : Vec T Global) (x : T) : Type 0 where
+  pub record IsGrown (pages pages' : Vec (Vec T Global) Global) (starts starts' : Listing ℕ) (spare : Vec (Vec T Global) Global) (len room i k j : ℕ) (p p' : Vec T Global) (x : T) : Type 0 where
     pub were : ArePages pages starts spare len room
     pub some : 0 < room
     pub at : IsSlot pages.items i k j
@@ -95,9 +96,9 @@ module _ {T : Type 0} where
     pub put : pages'.items ≡ set pages.items k p'
     pub capacity : vec_capacity pages ≤ vec_capacity pages'
     pub moved : starts'.items ≡ take (k + 1) starts.items ++ map (λ n. n + 1) (drop (k + 1) starts.items)
-    pub starts_capacity : vec_capacity starts ≤ vec_capacity starts'
+    pub starts_room : starts.room ≤ starts'.room
 
-  module _ {pages pages' : Vec (Vec T Global) Global} {starts starts' : Vec ℕ Global} {spare : Vec (Vec T Global) Global} {len room i k j : ℕ} {p p' : Vec T Global} {x : T} (g : IsGrown pages pages' starts starts' spare len room i k j p p' x) where
+  module _ {pages pages' : Vec (Vec T Global) Global} {starts starts' : Listing ℕ} {spare : Vec (Vec T Global) Global} {len room i k j : ℕ} {p p' : Vec T Global} {x : T} (g : IsGrown pages pages' starts starts' spare len room i k j p p' x) where
     -- the page has one more
     one_more : length p'.items ≡ length p.items + 1
     one_more = omega (arith, ap length g.grown, length-insert p.items j x (g.at.upto p g.is))
@@ -126,11 +127,11 @@ module _ {T : Type 0} where
               (All-set IsPage pages.items k p' (record { bounded = omega (arith, one_more, g.short); roomy = omega (arith, g.roomy, was.roomy, ap (λ (q : Vec T Global). vec_capacity q) g.is) }) g.were.pages_are);
           spare_are = g.were.spare_are;
           pages_roomy = omega (arith, g.were.pages_roomy, g.capacity);
-          starts_roomy = omega (arith, g.were.starts_roomy, g.starts_capacity);
+          starts_roomy = omega (arith, g.were.starts_roomy, g.starts_room);
         }
 
   -- a page was full
-  pub record IsHalved (pages pages' : Vec (Vec T Global) Global) (starts starts' : Vec ℕ Global) (spare spare' : Vec (Vec T Global) Global) (len room i k j : ℕ) (p head tail empty : Vec T Global) (x : T) : Type 0 where
+  pub record IsHalved (pages pages' : Vec (Vec T Global) Global) (starts starts' : Listing ℕ) (spare spare' : Vec (Vec T Global) Global) (len room i k j : ℕ) (p head tail empty : Vec T Global) (x : T) : Type 0 where
     pub were : ArePages pages starts spare len room
     pub some : 0 < room
     pub at : IsSlot pages.items i k j
@@ -142,9 +143,9 @@ module _ {T : Type 0} where
     pub put : pages'.items ≡ insert (set pages.items k head) (k + 1) tail
     pub capacity : vec_capacity pages ≤ vec_capacity pages'
     pub moved : starts'.items ≡ insert (take (k + 1) starts.items ++ map (λ n. n + 1) (drop (k + 1) starts.items)) (k + 1) (i - j + length head.items)
-    pub starts_capacity : vec_capacity starts ≤ vec_capacity starts'
+    pub starts_room : starts.room ≤ starts'.room + 1
 
-  module _ {pages pages' : Vec (Vec T Global) Global} {starts starts' : Vec ℕ Global} {spare spare' : Vec (Vec T Global) Global} {len room i k j : ℕ} {p head tail empty : Vec T Global} {x : T} (g : IsHalved pages pages' starts starts' spare spare' len room i k j p head tail empty x) where
+  module _ {pages pages' : Vec (Vec T Global) Global} {starts starts' : Listing ℕ} {spare spare' : Vec (Vec T Global) Global} {len room i k j : ℕ} {p head tail empty : Vec T Global} {x : T} (g : IsHalved pages pages' starts starts' spare spare' len room i k j p head tail empty x) where
     -- both have one more
     both_more : length head.items + length tail.items ≡ length p.items + 1
     both_more = omega (arith, ap length g.halves, length-append head.items tail.items, length-insert p.items j x (g.at.upto p g.is))
@@ -182,5 +183,5 @@ module _ {T : Type 0} where
               (All-cons IsPage tail (drop (suc k) (set pages.items k head)) g.tail_page (All-drop IsPage (suc k) (set pages.items k head) set_are)));
           spare_are = (All-pop IsEmptyPage spare.items spare'.items (Some empty) g.taken g.were.spare_are).0;
           pages_roomy = omega (arith, g.were.pages_roomy, g.capacity);
-          starts_roomy = omega (arith, g.were.starts_roomy, g.starts_capacity);
+          starts_roomy = omega (arith, g.were.starts_roomy, g.starts_room);
         }

@@ -1,7 +1,10 @@
+pub mod CountedUp
 pub mod Grown
 pub mod Halves
+pub mod Inserted
 pub mod Opened
 pub mod Paged
+pub mod Raised
 pub mod Replaced
 pub mod Shifts
 pub mod Truncated

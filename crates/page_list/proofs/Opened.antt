@@ -5,12 +5,13 @@ use Rattle.std.proofs.lemmas.List.Elements.{All-push, All-pop}
 use Rattle.std.specs.Prelude.{Vec, Some, All}
 use Rattle.std.specs.Vec.{vec_capacity}
 use Rattle.std.specs.declared.alloc.Global.{Global}
+use Rattle.page_list.specs.Listing.{Listing}
 use Rattle.page_list.specs.Pages.{items_of, starts_from, IsPage, IsEmptyPage, ArePages}
 use Rattle.page_list.proofs.Paged.{items_of-push, starts_from-push}
 
 module _ {T : Type 0} where
   -- a page was opened
-  pub record IsOpened (pages pages' : Vec (Vec T Global) Global) (starts starts' : Vec ℕ Global) (spare spare' : Vec (Vec T Global) Global) (len room : ℕ) (page page' : Vec T Global) (x : T) : Type 0 where
+  pub record IsOpened (pages pages' : Vec (Vec T Global) Global) (starts starts' : Listing ℕ) (spare spare' : Vec (Vec T Global) Global) (len room : ℕ) (page page' : Vec T Global) (x : T) : Type 0 where
     pub were : ArePages pages starts spare len room
     pub some : 0 < room
     pub taken : spare.items ≡ spare'.items ++ page ∷ []
@@ -19,9 +20,9 @@ module _ {T : Type 0} where
     pub put : pages'.items ≡ pages.items ++ page' ∷ []
     pub capacity : vec_capacity pages' ≡ vec_capacity pages
     pub marked : starts'.items ≡ starts.items ++ len ∷ []
-    pub starts_capacity : vec_capacity starts' ≡ vec_capacity starts
+    pub starts_room : starts.room ≤ starts'.room + 1
 
-  module _ {pages pages' : Vec (Vec T Global) Global} {starts starts' : Vec ℕ Global} {spare spare' : Vec (Vec T Global) Global} {len room : ℕ} {page page' : Vec T Global} {x : T} (o : IsOpened pages pages' starts starts' spare spare' len room page page' x) where
+  module _ {pages pages' : Vec (Vec T Global) Global} {starts starts' : Listing ℕ} {spare spare' : Vec (Vec T Global) Global} {len room : ℕ} {page page' : Vec T Global} {x : T} (o : IsOpened pages pages' starts starts' spare spare' len room page page' x) where
     -- what was taken was empty
     empty_page : IsEmptyPage page
     empty_page = (All-pop IsEmptyPage spare.items spare'.items (Some page) o.taken o.were.spare_are).1
@@ -49,14 +50,14 @@ module _ {T : Type 0} where
           pages_are = subst (All IsPage) (sym o.put) (All-push IsPage pages.items page' o.were.pages_are (record { bounded = omega (arith, ap length one_item); roomy = omega (arith, o.page_capacity, empty_page.roomy) }));
           spare_are = (All-pop IsEmptyPage spare.items spare'.items (Some page) o.taken o.were.spare_are).0;
           pages_roomy = omega (arith, o.were.pages_roomy, o.capacity);
-          starts_roomy = omega (arith, o.were.starts_roomy, o.starts_capacity);
+          starts_roomy = omega (arith, o.were.starts_roomy, o.starts_room);
         }
 
   -- pages with more room
   pub with_room :
-      (pages pages' : Vec (Vec T Global) Global) (starts starts' : Vec ℕ Global) (spare spare' : Vec (Vec T Global) Global) (len room room' : ℕ) →
+      (pages pages' : Vec (Vec T Global) Global) (starts starts' : Listing ℕ) (spare spare' : Vec (Vec T Global) Global) (len room room' : ℕ) →
       ArePages pages starts spare len room → pages'.items ≡ pages.items → starts'.items ≡ starts.items → All IsEmptyPage spare'.items → len + room' < 2 ^ 64 → room' ≤ length spare'.items →
-      length pages.items + length spare'.items ≤ vec_capacity pages' → length pages.items + length spare'.items ≤ vec_capacity starts' → ArePages pages' starts' spare' len room'
+      length pages.items + length spare'.items ≤ vec_capacity pages' → length spare'.items ≤ starts'.room → ArePages pages' starts' spare' len room'
   with_room pages pages' starts starts' spare spare' len room room' were same as_before empty fits enough pages_roomy starts_roomy =
       record {
         starts_are = as_before ∙ were.starts_are ∙ ap (starts_from 0) (sym same);
@@ -66,5 +67,5 @@ module _ {T : Type 0} where
         pages_are = subst (All IsPage) (sym same) were.pages_are;
         spare_are = empty;
         pages_roomy = omega (arith, pages_roomy, ap length same);
-        starts_roomy = omega (arith, starts_roomy, ap length same);
+        starts_roomy = starts_roomy;
       }

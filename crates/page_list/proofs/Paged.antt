@@ -2,7 +2,7 @@
 use Rattle.std.proofs.Common.{◌≡◌, ℕ, zero, suc, ◌+◌, ◌-◌, ◌<◌, ◌≤◌, List, [], ◌∷◌, ◌++◌, length, get_or, set, take, drop, refl, sym, ap, ◌∙◌, subst, arith, ◌⊎◌, inl, inr, zero-add, add-one}
 use Rattle.std.proofs.lemmas.Bool.{cases_lt}
 use Rattle.std.proofs.lemmas.Option.{slice_get-get_or}
-use Rattle.std.proofs.lemmas.List.{append_assoc, append-nil, length-append, drop_all, get_or_default, drop-drop, drop_at, drop-append-le, take_rest}
+use Rattle.std.proofs.lemmas.List.{append_assoc, append-nil, length-append, drop_all, get_or_default}
 use Rattle.std.specs.Prelude.{Vec, Some, slice_get}
 use Rattle.std.specs.declared.alloc.Global.{Global}
 use Rattle.page_list.specs.Pages.{items_of, starts_from, IsSlot}
@@ -152,24 +152,3 @@ module _ {T : Type 0} where
   item_read read pages items i k j p x same view at is e h =
       let there : IsSlot pages i k j = subst (λ (ps : List (Vec T Global)). IsSlot ps i k j) same at in
       item_there pages i k j there p is x (there.within p is h) e ∙ ap (λ (s : List T). slice_get s i) view
-
-  -- what is left of all from an index on
-  pub drop_slot : (ps : List (Vec T Global)) (i k j : ℕ) (p : Vec T Global) → IsSlot ps i k j → p ≡ get_or ps k p → drop j p.items ++ items_of (drop (suc k) ps) ≡ drop i (items_of ps)
-  drop_slot ps i k j p at is =
-      sym (ap (λ (s : List T). drop i s) (items_of-split ps k p at.there is)
-      ∙ ap (λ (n : ℕ). drop n (items_of (take k ps) ++ p.items ++ items_of (drop (suc k) ps))) (sym at.counted)
-      ∙ sym (drop-drop j (length (items_of (take k ps))) (items_of (take k ps) ++ p.items ++ items_of (drop (suc k) ps)))
-      ∙ ap (drop j) (ap (drop (length (items_of (take k ps)))) (append_assoc (items_of (take k ps)) p.items (items_of (drop (suc k) ps))) ∙ drop_at (items_of (take k ps)) (p.items ++ items_of (drop (suc k) ps)) (length (items_of (take k ps))) refl)
-      ∙ drop-append-le j p.items (items_of (drop (suc k) ps)) (at.upto p is))
-
-  -- that the pages that are read are these
-  pub drop_read : (read pages : List (Vec T Global)) (items : List T) (i k j : ℕ) (p : Vec T Global) → read ≡ pages → items_of pages ≡ items → IsSlot read i k j → p ≡ get_or pages k p → drop j p.items ++ items_of (drop (k + 1) pages) ≡ drop i items
-  drop_read read pages items i k j p same view at is =
-      ap (λ (n : ℕ). drop j p.items ++ items_of (drop n pages)) (add-one k)
-      ∙ drop_slot pages i k j p (subst (λ (ps : List (Vec T Global)). IsSlot ps i k j) same at) is ∙ ap (drop i) view
-
-  -- slices that end where the lists do
-  pub parts_left : (part page : List T) (read pages : List (Vec T Global)) (j k : ℕ) → part ≡ page → read ≡ pages → take (length part - j) (drop j part) ++ items_of (take (length read - k) (drop k read)) ≡ drop j page ++ items_of (drop k pages)
-  parts_left part page read pages j k e f =
-      ap (λ (s : List T). s ++ items_of (take (length read - k) (drop k read))) (take_rest part j ∙ ap (drop j) e)
-      ∙ ap (λ (s : List (Vec T Global)). drop j page ++ items_of s) (take_rest read k ∙ ap (drop k) f)

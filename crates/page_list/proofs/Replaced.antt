@@ -5,6 +5,7 @@ use Rattle.std.proofs.lemmas.List.Elements.{All-set}
 use Rattle.std.specs.Prelude.{Vec, All}
 use Rattle.std.specs.Vec.{vec_capacity}
 use Rattle.std.specs.declared.alloc.Global.{Global}
+use Rattle.page_list.specs.Listing.{Listing}
 use Rattle.page_list.specs.Pages.{items_of, starts_from, IsPage, IsSlot, ArePages}
 use Rattle.page_list.proofs.Paged.{items_of-split, items_of-set}
 
@@ -23,7 +24,7 @@ module _ {T : Type 0} where
       ∙ ap (λ (s : List T). s ++ c) (set-append_right a b (length a) i x refl (omega arith) ∙ ap (λ (m : ℕ). a ++ set b m x) n)
 
   -- a page has another item
-  pub record IsReplaced (pages pages' : Vec (Vec T Global) Global) (starts : Vec ℕ Global) (spare : Vec (Vec T Global) Global) (len room i k j : ℕ) (p p' : Vec T Global) (x : T) : Type 0 where
+  pub record IsReplaced (pages pages' : Vec (Vec T Global) Global) (starts : Listing ℕ) (spare : Vec (Vec T Global) Global) (len room i k j : ℕ) (p p' : Vec T Global) (x : T) : Type 0 where
     pub were : ArePages pages starts spare len room
     pub at : IsSlot pages.items i k j
     pub within : i < length (items_of pages.items)
@@ -33,7 +34,7 @@ module _ {T : Type 0} where
     pub put : pages'.items ≡ set pages.items k p'
     pub capacity : vec_capacity pages ≤ vec_capacity pages'
 
-  module _ {pages pages' : Vec (Vec T Global) Global} {starts : Vec ℕ Global} {spare : Vec (Vec T Global) Global} {len room i k j : ℕ} {p p' : Vec T Global} {x : T} (g : IsReplaced pages pages' starts spare len room i k j p p' x) where
+  module _ {pages pages' : Vec (Vec T Global) Global} {starts : Listing ℕ} {spare : Vec (Vec T Global) Global} {len room i k j : ℕ} {p p' : Vec T Global} {x : T} (g : IsReplaced pages pages' starts spare len room i k j p p' x) where
     -- as many as before
     as_many : length p'.items ≡ length p.items
     as_many = ap length g.replaced ∙ length-set p.items j x

@@ -4,7 +4,7 @@ use Rattle.std.proofs.lemmas.List.{set-append_right, get_or-append_right, length
 use Rattle.std.proofs.lemmas.List.Edits.{map_over_more}
 
 -- the list, with those from `from` on and before `i` one more
-abbrev so_far : List ℕ → ℕ → ℕ → List ℕ
+abbrev pub so_far : List ℕ → ℕ → ℕ → List ℕ
 so_far s from n = take from s ++ (map (λ m. m + 1) (take n (drop from s)) ++ drop n (drop from s))
 
 -- as long as it was

@@ -6,6 +6,7 @@ use Rattle.std.proofs.lemmas.List.Elements.{All-set, All-take}
 use Rattle.std.specs.Prelude.{Vec, All}
 use Rattle.std.specs.Vec.{vec_capacity}
 use Rattle.std.specs.declared.alloc.Global.{Global}
+use Rattle.page_list.specs.Listing.{Listing}
 use Rattle.page_list.specs.Pages.{items_of, starts_from, IsPage, IsSlot, ArePages}
 use Rattle.page_list.proofs.Paged.{items_of-split}
 
@@ -28,7 +29,7 @@ module _ {T : Type 0} where
   take_middle a b c j h = take-append-le (length a + j) (a ++ b) c (omega (arith, length-append a b)) ∙ take-append-add a b j
 
   -- the pages up to that of an index stay, and that one up to its offset
-  pub record IsCut (pages pages' : Vec (Vec T Global) Global) (starts starts' : Vec ℕ Global) (spare : Vec (Vec T Global) Global) (len room i k j : ℕ) (p p' : Vec T Global) : Type 0 where
+  pub record IsCut (pages pages' : Vec (Vec T Global) Global) (starts starts' : Listing ℕ) (spare : Vec (Vec T Global) Global) (len room i k j : ℕ) (p p' : Vec T Global) : Type 0 where
     pub were : ArePages pages starts spare len room
     pub at : IsSlot pages.items i k j
     pub within : i < len
@@ -38,9 +39,9 @@ module _ {T : Type 0} where
     pub put : pages'.items ≡ take (suc k) (set pages.items k p')
     pub capacity : vec_capacity pages ≤ vec_capacity pages'
     pub marked : starts'.items ≡ take (suc k) starts.items
-    pub starts_capacity : vec_capacity starts ≤ vec_capacity starts'
+    pub starts_room : starts.room ≤ starts'.room
 
-  module _ {pages pages' : Vec (Vec T Global) Global} {starts starts' : Vec ℕ Global} {spare : Vec (Vec T Global) Global} {len room i k j : ℕ} {p p' : Vec T Global} (g : IsCut pages pages' starts starts' spare len room i k j p p') where
+  module _ {pages pages' : Vec (Vec T Global) Global} {starts starts' : Listing ℕ} {spare : Vec (Vec T Global) Global} {len room i k j : ℕ} {p p' : Vec T Global} (g : IsCut pages pages' starts starts' spare len room i k j p p') where
     -- the items before the index
     pub cut_items : items_of pages'.items ≡ take i (items_of pages.items)
     cut_items =
@@ -67,5 +68,5 @@ module _ {T : Type 0} where
               (All-set IsPage pages.items k p' (record { bounded = omega (arith, fewer, g.at.upto p g.is, was.bounded, ap (λ (q : Vec T Global). length q.items) g.is); roomy = omega (arith, g.roomy, was.roomy, ap (λ (q : Vec T Global). vec_capacity q) g.is) }) g.were.pages_are));
           spare_are = g.were.spare_are;
           pages_roomy = omega (arith, few, g.at.there, g.were.pages_roomy, g.capacity);
-          starts_roomy = omega (arith, few, g.at.there, g.were.starts_roomy, g.starts_capacity);
+          starts_roomy = omega (arith, few, g.at.there, g.were.starts_roomy, g.starts_room);
         }

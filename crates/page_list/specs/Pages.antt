@@ -4,6 +4,7 @@ use Rattle.std.specs.List.{flat_map}
 use Rattle.std.specs.Prelude.{Vec}
 use Rattle.std.specs.Vec.{vec_capacity}
 use Rattle.std.specs.declared.alloc.Global.{Global}
+use Rattle.page_list.specs.Listing.{Listing}
 
 -- the items of the pages, one page after another
 abbrev pub items_of : {T : Type 0} → List (Vec T Global) → List T
@@ -25,7 +26,7 @@ pub record IsEmptyPage {T : Type 0} (page : Vec T Global) : Type 0 where
   pub roomy : 256 ≤ vec_capacity page
 
 -- the indices are right, and each empty page can be put among the others with no further memory
-pub record ArePages {T : Type 0} (pages : Vec (Vec T Global) Global) (starts : Vec ℕ Global) (spare : Vec (Vec T Global) Global) (len room : ℕ) : Type 0 where
+pub record ArePages {T : Type 0} (pages : Vec (Vec T Global) Global) (starts : Listing ℕ) (spare : Vec (Vec T Global) Global) (len room : ℕ) : Type 0 where
   pub starts_are : starts.items ≡ starts_from 0 pages.items
   pub len_is : len ≡ length (items_of pages.items)
   pub countable : len + room < 2 ^ 64
@@ -33,7 +34,7 @@ pub record ArePages {T : Type 0} (pages : Vec (Vec T Global) Global) (starts : V
   pub pages_are : All IsPage pages.items
   pub spare_are : All IsEmptyPage spare.items
   pub pages_roomy : length pages.items + length spare.items ≤ vec_capacity pages
-  pub starts_roomy : length pages.items + length spare.items ≤ vec_capacity starts
+  pub starts_roomy : length spare.items ≤ starts.room
 
 -- the item at index i is the one at this offset in this page, or would stand there
 pub record IsSlot {T : Type 0} (pages : List (Vec T Global)) (i page offset : ℕ) : Type 0 where

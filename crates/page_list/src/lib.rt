@@ -6,7 +6,9 @@ mod page;
 mod page_list;
 mod slot;
 mod split;
+mod starts;
 
 pub use iter::Iter;
 pub use page_list::PageList;
+pub use slot::Slot;
 pub use split::{Pages, Split};

@@ -1,10 +1,11 @@
-ghost use Rattle.std.specs.Prelude.{◌≡◌, ◌+◌, ◌^◌, ◌<◌, ◌≤◌, [], ◌∷◌, ◌++◌, OnOk, OnErr, IfOk, length, slice_get, slice_set, take, drop, insert};
+ghost use Rattle.std.specs.Prelude.{◌≡◌, ◌+◌, ◌^◌, ◌<◌, ◌≤◌, [], ◌∷◌, ◌++◌, OnOk, OnErr, IfOk, IfSome, length, option_copied, slice_get, slice_set, take, drop, insert};
 ghost use Rattle.page_list.specs.Rest.{rest_of};
 ghost use Rattle.page_list.specs.Listing.{Listing};
 
 use crate::iter::Iter;
 use crate::page::{PAGE, fill, insert_halved, insert_within};
-use crate::slot::{shift, slot_of};
+use crate::slot::{Slot, slot_near, slot_of};
+use crate::starts::Starts;
 use std::alloc::{AllocError, Global};
 use std::marker::Model;
 
@@ -14,7 +15,7 @@ pub struct PageList<T> {
     /// The items, in pages of at most `PAGE`.
     pub(crate) pages: Vec<Vec<T>>,
     /// The index of each page's first item.
-    pub(crate) starts: Vec<usize>,
+    pub(crate) starts: Starts,
     /// Pages with no items.
     spare: Vec<Vec<T>>,
     /// The number of items.
@@ -42,7 +43,7 @@ impl<T: Copy> PageList<T> {
     {
         PageList {
             pages: Vec::new(alloc),
-            starts: Vec::new(alloc),
+            starts: Starts::new(alloc),
             spare: Vec::new(alloc),
             len: 0,
             room: 0,
@@ -61,15 +62,34 @@ impl<T: Copy> PageList<T> {
         self.len
     }
 
-    /// The item at an index. Takes as many steps as the number of pages has binary digits.
+    /// The item at an index. Takes as many steps as the number of pages has binary digits, and one where the last page
+    /// has it.
     pub fn get(&self, i: usize) -> Option<T>
         ensures { result ≡ slice_get self.now.items i }
+    {
+        self.get_near(i, Slot::first()).copied()
+    }
+
+    /// The same, in one step where the page of the slot has the item.
+    pub fn get_near(&self, i: usize, near: Slot) -> Option<&T>
+        ensures { option_copied result ≡ slice_get self.now.items i }
     {
         if i >= self.len {
             return None;
         }
-        let at = slot_of(&self.pages, &self.starts, i);
-        Some(self.pages[at.page][at.offset])
+        let at = slot_near(&self.pages, &self.starts, near.page, i);
+        Some(&self.pages[at.page][at.offset])
+    }
+
+    /// The index of what lies at a slot, if that is one of this list. Takes one step.
+    pub fn index_at(&self, slot: Slot) -> Option<usize>
+        ensures { IfSome result (λ i. i < length self.now.items) }
+    {
+        if slot.page >= self.starts.len() {
+            return None;
+        }
+        let index = self.starts.at(slot.page).checked_add(slot.offset)?;
+        if index < self.len { Some(index) } else { None }
     }
 
     /// The items in order.
@@ -83,29 +103,15 @@ impl<T: Copy> PageList<T> {
         }
     }
 
-    /// The items from an index on.
-    pub fn iter_from(&self, i: usize) -> Iter<'_, T>
-        requires { i ≤ length self.now.items }
-        ensures { rest_of result ≡ drop i self.now.items }
-    {
-        if self.pages.is_empty() {
-            return self.iter();
-        }
-        let at = slot_of(&self.pages, &self.starts, i);
-        Iter {
-            page: &self.pages[at.page][at.offset..],
-            later: &self.pages[at.page + 1..],
-        }
-    }
-
-    /// Puts another item where one is.
-    pub fn set(&mut self, i: usize, item: T)
+    /// Puts another item where one is, and says where that lies. Takes one step where the page of the slot has it.
+    pub fn set_near(&mut self, i: usize, item: T, near: Slot) -> Slot
         requires { i < length self.old.items }
         ensures items { self.new.items ≡ slice_set self.old.items i item }
         ensures room { self.new.room ≡ self.old.room }
     {
-        let at = slot_of(&self.pages, &self.starts, i);
+        let at = slot_near(&self.pages, &self.starts, near.page, i);
         self.pages[at.page][at.offset] = item;
+        at
     }
 
     /// Puts an item at an index, before the one that is there.
@@ -115,22 +121,35 @@ impl<T: Copy> PageList<T> {
         ensures items { self.new.items ≡ insert self.old.items i item }
         ensures room { self.old.room ≡ self.new.room + 1 }
     {
+        self.insert_near(i, item, Slot::first());
+    }
+
+    /// The same, and says where it lies. Finds its page in one step where that is the slot's. Moves what is behind it in
+    /// its page, and counts up the indices of at most 64 pages, and one number for each 64 more. A full page, one in a
+    /// hundred items or so, is halved: that moves the list of pages, and walks their indices.
+    pub fn insert_near(&mut self, i: usize, item: T, near: Slot) -> Slot
+        requires index { i ≤ length self.old.items }
+        requires room { 0 < self.old.room }
+        ensures items { self.new.items ≡ insert self.old.items i item }
+        ensures room { self.old.room ≡ self.new.room + 1 }
+    {
         if self.pages.is_empty() {
             self.open(item);
-            return;
+            return Slot::first();
         }
-        let at = slot_of(&self.pages, &self.starts, i);
-        shift(&mut self.starts, at.page + 1);
+        let at = slot_near(&self.pages, &self.starts, near.page, i);
+        self.starts.shift(at.page + 1);
         self.len += 1;
         self.room -= 1;
         if self.pages[at.page].len() < PAGE {
             insert_within(&mut self.pages[at.page], at.offset, item);
-            return;
+            return at;
         }
         let mut tail = self.spare.take_last();
         let head = insert_halved(&mut self.pages[at.page], &mut tail, at.offset, item);
-        insert_within(&mut self.starts, at.page + 1, i - at.offset + head);
+        self.starts.insert(at.page + 1, i - at.offset + head);
         insert_within(&mut self.pages, at.page + 1, tail);
+        slot_in_halves(at)
     }
 
     /// Room for so many more, or what room there was. Each may need a page of its own.
@@ -197,8 +216,19 @@ impl<T: Copy> PageList<T> {
         let mut page = self.spare.take_last();
         page.push_reserved(item);
         self.pages.push_reserved(page);
-        self.starts.push_reserved(self.len);
+        self.starts.push(self.len);
         self.len += 1;
         self.room -= 1;
+    }
+}
+
+/// Where an item of a full page lies when it was put in there, and the page halved for it.
+fn slot_in_halves(at: Slot) -> Slot {
+    if at.offset <= PAGE / 2 {
+        return at;
+    }
+    Slot {
+        page: at.page.saturating_add(1),
+        offset: at.offset - PAGE / 2,
     }
 }

@@ -2,7 +2,7 @@ ghost use Rattle.std.specs.Prelude.{◌≡◌, ◌+◌, ◌*◌, ◌<◌, ◌≤
 ghost use Rattle.page_list.specs.Split.{IsSplit};
 
 use crate::page_list::PageList;
-use crate::slot::slot_near;
+use crate::slot::{Slot, slot_near};
 
 /// The pages in which a part of a list lies, where a search looks first. A split is fair whatever they
 /// say.
@@ -25,6 +25,8 @@ impl Pages {
 pub struct Split<T> {
     pub index: usize,
     pub item: T,
+    /// Where the item lies.
+    pub slot: Slot,
     pub before: Pages,
     pub after: Pages,
 }
@@ -50,12 +52,14 @@ impl<T: Copy> PageList<T> {
         ensures index { IsSplit low high most result.index }
     {
         let page = pages.middle();
-        let first = self.starts.get(page).copied();
-        let index = fair_index(low, high, most, first.unwrap_or(high));
+        let is_page = page < self.starts.len();
+        let wished = if is_page { self.starts.at(page) } else { high };
+        let index = fair_index(low, high, most, wished);
         let at = slot_near(&self.pages, &self.starts, page, index);
         Split {
             index,
             item: self.pages[at.page][at.offset],
+            slot: at,
             before: Pages {
                 first: pages.first,
                 end: if at.offset == 0 { at.page } else { at.page + 1 },

@@ -1,6 +1,5 @@
 -- A spare page with the item.
-use Rattle.std.proofs.Common.{◌≡◌, arith, ap, length, ◌∙◌, ◌++◌, ◌∷◌, [], sym}
-use Rattle.page_list.proofs.Paged.{length-starts_from}
+use Rattle.std.proofs.Common.{◌≡◌, arith, ap, ◌∙◌, ◌++◌, ◌∷◌, [], sym}
 use Rattle.page_list.proofs.Opened.{opened_pages, opened_items}
 use Rattle.page_list.proofs.page_list.PageList.open.Goals as goal
 
@@ -9,10 +8,10 @@ take_last-page-requires g c =
     let room : c.args.self.now.room ≡ c.self.inside.room = λ i. (sym c.self.view_is i).room in
     omega (arith, room, c.requires.room, c.self.inside.spare.ok.0, c.self.invariant.spared)
 
-pub push_reserved-requires-3 : goal.push_reserved-requires-3
-push_reserved-requires-3 g c =
+pub push-requires : goal.push-requires
+push-requires g c =
     let room : c.args.self.now.room ≡ c.self.inside.room = λ i. (sym c.self.view_is i).room in
-    omega (arith, room, c.requires.room, c.self.inside.starts.ok.0, c.self.invariant.spared, c.self.invariant.starts_roomy, ap length c.self.invariant.starts_are, length-starts_from 0 c.self.inside.pages.items)
+    omega (arith, room, c.requires.room, c.self.invariant.spared, c.self.invariant.starts_roomy)
 
 pub invariant_of-self : goal.invariant_of-self
 invariant_of-self g c =
@@ -25,14 +24,14 @@ invariant_of-self g c =
       page_capacity = c.push_reserved.ensures.capacity;
       put = c.push_reserved-2.ensures.items;
       capacity = c.push_reserved-2.ensures.capacity;
-      marked = c.push_reserved-3.ensures.items;
-      starts_capacity = c.push_reserved-3.ensures.capacity;
+      marked = c.push.ensures.items;
+      starts_room = c.push.ensures.room;
     })
 
 pub returns-clause-items : goal.returns-clause-items
 returns-clause-items g c =
     let room : c.args.self.now.room ≡ c.self.inside.room = λ i. (sym c.self.view_is i).room in
-    opened_items {pages' = c.push_reserved-2.new.self} {starts' = c.push_reserved-3.new.self} {spare' = c.take_last-page.new.self} (record {
+    opened_items {pages' = c.push_reserved-2.new.self} {starts' = c.push.new.self} {spare' = c.take_last-page.new.self} (record {
       were = c.self.invariant;
       some = omega (arith, room, c.requires.room);
       taken = c.take_last-page.ensures.items;
@@ -40,7 +39,7 @@ returns-clause-items g c =
       page_capacity = c.push_reserved.ensures.capacity;
       put = c.push_reserved-2.ensures.items;
       capacity = c.push_reserved-2.ensures.capacity;
-      marked = c.push_reserved-3.ensures.items;
-      starts_capacity = c.push_reserved-3.ensures.capacity;
+      marked = c.push.ensures.items;
+      starts_room = c.push.ensures.room;
     })
     ∙ ap (λ s. s ++ c.args.item ∷ []) (λ i. (c.self.view_is i).items)

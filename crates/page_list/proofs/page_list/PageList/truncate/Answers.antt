@@ -20,7 +20,7 @@ invariant_of-self g c =
       put = c.truncate-2.ensures.items ∙ ap (λ (n : ℕ). take n (set c.self.inside.pages.items k c.truncate.new.self)) (add-one k);
       capacity = omega (arith, c.truncate-2.ensures.capacity);
       marked = c.truncate-3.ensures.items ∙ ap (λ (n : ℕ). take n c.self.inside.starts.items) (add-one k);
-      starts_capacity = omega (arith, c.truncate-3.ensures.capacity);
+      starts_room = c.truncate-3.ensures.room;
     })
 
 pub returns-clause-items : goal.returns-clause-items
@@ -38,6 +38,6 @@ returns-clause-items g c =
       put = c.truncate-2.ensures.items ∙ ap (λ (n : ℕ). take n (set c.self.inside.pages.items k c.truncate.new.self)) (add-one k);
       capacity = omega (arith, c.truncate-2.ensures.capacity);
       marked = c.truncate-3.ensures.items ∙ ap (λ (n : ℕ). take n c.self.inside.starts.items) (add-one k);
-      starts_capacity = omega (arith, c.truncate-3.ensures.capacity);
+      starts_room = c.truncate-3.ensures.room;
     })
     ∙ ap (take c.args.n) view

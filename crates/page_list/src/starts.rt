@@ -1,0 +1,167 @@
+ghost use Rattle.std.specs.Prelude.{◌≡◌, ◌+◌, ◌-◌, ◌*◌, ◌<◌, ◌≤◌, ◌^◌, [], ◌∷◌, ◌++◌, OnOk, ℕ, List, length, map, take, drop, insert, All, slice_index};
+ghost use Rattle.std.specs.Vec.{vec_len};
+ghost use Rattle.page_list.specs.Starts.{raised};
+
+use crate::page::insert_within;
+use std::alloc::{AllocError, Global};
+use std::marker::Model;
+
+/// How many indices are a group.
+const GROUP: usize = 64;
+
+/// The indices where pages begin, in order, in groups of 64. To count up all from one on is to count up those of its own
+/// group, and what is added to each later one.
+#[derive(Drop)]
+pub(crate) struct Starts {
+    /// Each index, less what is added to its group.
+    starts: Vec<usize>,
+    /// What is added to each index of a group.
+    added: Vec<usize>,
+}
+
+impl Model for Starts {
+    ghost use Rattle.std.specs.Prelude.{ℕ, ◌-◌, ◌*◌, min};
+    ghost use Rattle.std.specs.Vec.{vec_capacity, vec_len};
+    ghost use Rattle.page_list.specs.Listing.{Listing};
+    ghost use Rattle.page_list.specs.Starts.{AreRaised, raised};
+
+    ghost Value = { Listing ℕ };
+
+    ghost view = { λ a. record {
+      items = raised a.added.items 0 a.starts.items;
+      room = min (vec_capacity a.starts) (64 * vec_len a.added) - vec_len a.starts;
+    } };
+
+    ghost invariant = { λ a. AreRaised a.starts a.added };
+}
+
+impl Starts {
+    /// None, and no room.
+    pub(crate) fn new(alloc: Global) -> Self
+        ensures { result ≡ record { items = []; room = 0 } }
+    {
+        Starts {
+            starts: Vec::new(alloc),
+            added: Vec::new(alloc),
+        }
+    }
+
+    /// How many there are.
+    pub(crate) fn len(&self) -> usize
+        ensures { result ≡ length self.now.items }
+    {
+        self.starts.len()
+    }
+
+    /// Where a page begins.
+    pub(crate) fn at(&self, page: usize) -> usize
+        requires { page < length self.now.items }
+        ensures { result ≡ slice_index self.now.items page }
+    {
+        self.starts[page] + self.added[page / GROUP]
+    }
+
+    /// Each from `from` on is one more. Takes at most as many steps as a group has, and one for each later group.
+    pub(crate) fn shift(&mut self, from: usize)
+        requires fits { All (λ start. start + 1 < 2 ^ 64) self.old.items }
+        ensures items { self.new.items
+            ≡ take from self.old.items ++ map (λ start. start + 1) (drop from self.old.items) }
+        ensures room { self.new.room ≡ self.old.room }
+    {
+        let len = self.starts.len();
+        if from >= len {
+            return;
+        }
+        let group = from / GROUP;
+        let groups = (len - 1) / GROUP + 1;
+        let end = if group + 1 < groups {
+            (group + 1) * GROUP
+        } else {
+            len
+        };
+        count_up(&mut self.starts, from, end);
+        count_up(&mut self.added, group + 1, groups);
+    }
+
+    /// Puts one in, where there is room. Walks all of them.
+    pub(crate) fn insert(&mut self, page: usize, start: usize)
+        requires page { page ≤ length self.old.items }
+        requires room { 0 < self.old.room }
+        ensures items { self.new.items ≡ insert self.old.items page start }
+        ensures room { self.old.room ≤ self.new.room + 1 }
+    {
+        add_all(&mut self.starts, &self.added);
+        self.added.fill(0);
+        insert_within(&mut self.starts, page, start);
+    }
+
+    /// Puts one at the end, where there is room. Walks all only where something was added to its group.
+    pub(crate) fn push(&mut self, start: usize)
+        requires room { 0 < self.old.room }
+        ensures items { self.new.items ≡ self.old.items ++ start ∷ [] }
+        ensures room { self.old.room ≤ self.new.room + 1 }
+    {
+        let end = self.starts.len();
+        if self.added[end / GROUP] > 0 {
+            self.insert(end, start);
+        } else {
+            self.starts.push_reserved(start);
+        }
+    }
+
+    /// Room for so many more, or what room there was.
+    pub(crate) fn reserve(&mut self, n: usize) -> Result<(), AllocError>
+        ensures ok { OnOk result (n ≤ self.new.room) }
+        ensures room { self.old.room ≤ self.new.room }
+        ensures items { self.new.items ≡ self.old.items }
+    {
+        self.starts.reserve(n)?;
+        let groups = (self.starts.len() + n) / GROUP + 1;
+        open_groups(&mut self.added, groups)
+    }
+
+    /// Keeps the first `n`, if there are more.
+    pub(crate) fn truncate(&mut self, n: usize)
+        ensures items { self.new.items ≡ take n self.old.items }
+        ensures room { self.old.room ≤ self.new.room }
+    {
+        self.starts.truncate(n);
+    }
+}
+
+/// At least so many groups, with nothing added to new ones.
+fn open_groups(added: &mut Vec<usize>, groups: usize) -> Result<(), AllocError>
+    ensures ok { OnOk result (groups ≤ vec_len added.new) }
+    ensures groups { vec_len added.old ≤ vec_len added.new }
+    ensures same { (starts : List ℕ) → raised added.new.items 0 starts ≡ raised added.old.items 0 starts }
+{
+    if added.len() >= groups {
+        return Ok(());
+    }
+    added.resize(groups, 0)
+}
+
+/// Each number from `from` on and before `until` is one more.
+fn count_up(numbers: &mut [usize], from: usize, until: usize)
+    requires from { from ≤ until }
+    requires until { until ≤ length numbers.old }
+    requires fits { All (λ n. n + 1 < 2 ^ 64) (take until numbers.old) }
+    ensures { numbers.new ≡ take from numbers.old
+        ++ (map (λ n. n + 1) (take (until - from) (drop from numbers.old))
+        ++ drop (until - from) (drop from numbers.old)) }
+{
+    for i in from..until {
+        numbers[i] += 1;
+    }
+}
+
+/// Adds to each number what is added to its group.
+fn add_all(numbers: &mut [usize], added: &[usize])
+    requires grouped { length numbers.old ≤ 64 * length added.now }
+    requires fits { All (λ n. n < 2 ^ 64) (raised added.now 0 numbers.old) }
+    ensures { numbers.new ≡ raised added.now 0 numbers.old }
+{
+    for i in 0..numbers.len() {
+        numbers[i] += added[i / GROUP];
+    }
+}
