@@ -37,7 +37,8 @@ SameTakenInSameLines =
 -- behind a schedule the plans of two managers are printed alike
 pub record PrintsPlansAlike (planning : Planning) (topology : Layout) (script : Script) (seat other : ℕ) : Type 0 where
   pub plan : List ℕ
-  pub twice : script_text planning topology (and_lines script (Show seat Plan ∷ Show other Plan ∷ [])) ≡ script_text planning topology script ++ (plan ++ plan)
+  pub twice :
+      script_text planning topology (and_lines script (Show seat Plan ∷ Show other Plan ∷ [])) ≡ script_text planning topology script ++ (plan ++ plan)
 
 -- where they took in the same, and have one greatest floor
 abbrev pub SameTakenInPlansAlike : Type 0

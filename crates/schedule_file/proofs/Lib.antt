@@ -1,4 +1,6 @@
 pub mod FirstFault
 pub mod NameBytes
+pub mod Printed
+pub mod Ranges
 pub mod Scripts
 pub mod Serials

@@ -109,10 +109,12 @@ abbrev pub merge : List ℕ → List ℕ → Option NamedCommand
 merge one other = option_and_then (λ m. option_map (command.Merge m) (manager_name_in other)) (manager_name_in one)
 
 abbrev pub poll : List ℕ → List ℕ → Option NamedCommand
-poll name lid = option_and_then (λ m. option_map (λ n. command.Ask m (Poll n)) (number_up_to 0xFFFF lid)) (manager_name_in name)
+poll name lid =
+    option_and_then (λ m. option_map (λ n. command.Ask m (Poll n)) (number_up_to 0xFFFF lid)) (manager_name_in name)
 
 abbrev pub floor : List ℕ → List ℕ → Option NamedCommand
-floor name generation = option_and_then (λ m. option_map (command.Floor m) (generation_of generation)) (manager_name_in name)
+floor name generation =
+    option_and_then (λ m. option_map (command.Floor m) (generation_of generation)) (manager_name_in name)
 
 abbrev pub plug : List ℕ → List ℕ → Option NamedCommand
 plug one other = option_and_then (λ p. option_map (command.Plug p) (port_name other)) (port_name one)

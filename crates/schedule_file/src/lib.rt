@@ -4,6 +4,7 @@
 mod command;
 mod fault;
 mod first_fault;
+pub mod laws;
 mod line;
 mod manager_name;
 mod named;

@@ -135,7 +135,8 @@ after_fate w Repeat serial = after_fabric_call w (after_repeat w.fabric serial)
 -- such a line: the packet that is meant does; there is no last one where none is in flight
 unfoldable pub after_packet_line : WorldValue → Which → Fate → Outcome WorldValue
 after_packet_line w which fate =
-    option_map_or (after_fate w fate) (serial_of w.fabric.flights which) (shows (refusal_line (fabric_fault_name NoSuchPacket)) w)
+    option_map_or (after_fate w fate) (serial_of w.fabric.flights which)
+    (shows (refusal_line (fabric_fault_name NoSuchPacket)) w)
 
 -- `drain N`: the packet of the least serial number takes one step, at most so many times
 abbrev pub after_drain_line : WorldValue → ℕ → Outcome WorldValue
@@ -180,7 +181,8 @@ plan_or_refusal planning cells (Some fault) = manager_line fault
 abbrev pub text_of : Shown → SeatedValue → List ℕ
 text_of Facts s = facts_text s.manager.store
 text_of Plan s =
-    plan_or_refusal s.manager.planning (cells_of s.manager.store) (plan_fault s.manager.planning.lmc (cells_of s.manager.store))
+    plan_or_refusal s.manager.planning (cells_of s.manager.store)
+    (plan_fault s.manager.planning.lmc (cells_of s.manager.store))
 text_of Progress s = progress_line s.name (progress_of s.manager.sweep)
 text_of State s = state_line s.name s.manager.standing.state
 

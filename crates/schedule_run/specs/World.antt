@@ -1,5 +1,6 @@
 -- A world: a simulated fabric and the managers that sit in it; what calls on them leave, and which lines tell of them.
-use Rattle.std.specs.Prelude.{◌≡◌, ℕ, Bool, List, [], ◌∷◌, ◌++◌, length, map, slice_get, slice_set, Option, None, Some, Result, Ok, Err, OnOk}
+use Rattle.std.specs.Prelude.{◌≡◌, ℕ, Bool, List, [], ◌∷◌, ◌++◌, length, map, slice_get, slice_set, Option, None, Some}
+use Rattle.std.specs.Prelude.{Result, Ok, Err, OnOk}
 use Rattle.std.specs.Option.{option_map_or}
 use Rattle.fabric_model.specs.declared.cable.NodePort.{NodePort}
 use Rattle.fabric_sim.specs.declared.fault.FabricFault.{FabricFault}
@@ -111,9 +112,10 @@ after_send w seat = at_seat w seat (after_send_by w seat)
 
 -- calls --------------------------------------------------------------------------------------------
 
--- a call does what the outcome says: it leaves its world, and prints its text; where it ends early a beginning of it, and there are as many managers
-pub record Does {W : Type 0} (written : W → Option (List ℕ)) (has_failed : W → Bool) (old new : World) (result : Result (Unit {0}) RunFault)
-    (sink sink' : W) (outcome : Outcome WorldValue) : Type 0 where
+-- a call on a world does what an outcome says: there are as many managers as before, it leaves the outcome's world, and
+-- prints its text; where it ends early it says nothing of the world, and prints a beginning, or the output has failed
+pub record Does {W : Type 0} (written : W → Option (List ℕ)) (has_failed : W → Bool) (old new : World)
+    (result : Result (Unit {0}) RunFault) (sink sink' : W) (outcome : Outcome WorldValue) : Type 0 where
   pub managers : length new.managers.items ≡ length old.managers.items
   pub leaves : OnOk result (value_of new ≡ outcome.now)
   pub prints : PrintsUnless written has_failed result sink sink' outcome.text

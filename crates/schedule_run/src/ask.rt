@@ -1,8 +1,8 @@
 //! The commands to managers.
 ghost use Rattle.std.specs.Prelude.{◌≡◌, ◌≢◌, ◌<◌, Err, Some, length, slice_get, slice_set, IfOk, OnErr, OnOk};
 ghost use Rattle.sm_manager.specs.Manager.{after_merge, outstanding};
-ghost use Rattle.schedule_run.specs.Commands.{after_ask_line, after_asked, after_floor_line, after_give_up, after_manager_line};
-ghost use Rattle.schedule_run.specs.Commands.{after_merge_line, after_timeout_line, asked_fault};
+ghost use Rattle.schedule_run.specs.Commands.{after_ask_line, after_asked, after_floor_line, after_give_up};
+ghost use Rattle.schedule_run.specs.Commands.{after_manager_line, after_merge_line, after_timeout_line, asked_fault};
 ghost use Rattle.schedule_run.specs.World.{Does, value_of};
 ghost use Rattle.smp_bytes.specs.Judges.{JudgesButFor};
 ghost use Rattle.sm_manager.specs.Fault.{is_memory};

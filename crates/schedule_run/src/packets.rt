@@ -1,6 +1,7 @@
 //! The commands about packets in flight.
 ghost use Rattle.std.specs.Prelude.{◌≡◌, ◌<◌, length};
-ghost use Rattle.schedule_run.specs.Commands.{after_drain_line, after_fate, after_hand_up, after_packet_line, after_step, after_take};
+ghost use Rattle.schedule_run.specs.Commands.{after_drain_line, after_fate, after_hand_up};
+ghost use Rattle.schedule_run.specs.Commands.{after_packet_line, after_step, after_take};
 ghost use Rattle.schedule_run.specs.Flights.{serial_of};
 ghost use Rattle.schedule_run.specs.World.{Does, value_of};
 
