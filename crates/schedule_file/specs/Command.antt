@@ -1,9 +1,10 @@
 -- What a line says: nothing, a new manager, or a command with the names that it tells.
-use Rattle.std.specs.Prelude.{ℕ, ◌-◌, ◌^◌, List, [], ◌∷◌, Option, None, Some, option_map, option_and_then, codes, nat_le, ◌==◌, if◌then◌else◌}
+use Rattle.std.specs.Prelude.{ℕ, ◌-◌, ◌^◌, List, [], ◌∷◌, Option, None, Some, option_map, option_and_then, codes, decimal, nat_le, ◌==◌, if◌then◌else◌}
 use Rattle.std.specs.Str.{bytes_eq}
 use Rattle.text_words.specs.Text.{words}
 use Rattle.text_words.specs.NodeName.{name_in}
 use Rattle.text_words.specs.Number.{number_of}
+use Rattle.text_words.specs.Printed.{named_text}
 use Rattle.text_words.specs.Quoted.{enclosed, alone}
 use Rattle.schedule_file.specs.declared.command.Ask.{Ask}
 use Rattle.schedule_file.specs.declared.command.Ask.TheVariants.{Sweep, Write, Handover, Poll}
@@ -130,6 +131,49 @@ of_two word one other =
     else if bytes_eq word (codes "plug") then plug one other
     else if bytes_eq word (codes "ping") then ping one other
     else None
+
+-- the words of commands ---------------------------------------------------------------------
+
+-- a port, by the name of its node
+abbrev pub port_word : PortName → List ℕ
+port_word p = named_text p.node p.port
+
+abbrev pub which_word : Which → List ℕ
+which_word Last = codes "last"
+which_word (Serial serial) = decimal serial
+
+abbrev pub fate_word : Fate → List ℕ
+fate_word Deliver = codes "deliver"
+fate_word Lose = codes "lose"
+fate_word Repeat = codes "repeat"
+
+abbrev pub shown_word : Shown → List ℕ
+shown_word Facts = codes "facts"
+shown_word Plan = codes "plan"
+shown_word Progress = codes "progress"
+shown_word State = codes "state"
+
+abbrev pub ask_words : Ask → List ℕ → List (List ℕ)
+ask_words Sweep name = codes "sweep" ∷ name ∷ []
+ask_words Write name = codes "write" ∷ name ∷ []
+ask_words Handover name = codes "handover" ∷ name ∷ []
+ask_words (Poll lid) name = codes "poll" ∷ name ∷ decimal lid ∷ []
+
+-- the words of a command; those of a new manager say more of it
+abbrev pub named_words : NamedCommand → List (List ℕ)
+named_words (command.Manager name) = []
+named_words (command.Ask name what) = ask_words what name
+named_words (command.Timeout name) = codes "timeout" ∷ name ∷ []
+named_words (command.Floor name floor) = codes "floor" ∷ name ∷ decimal floor ∷ []
+named_words (command.Merge one other) = codes "merge" ∷ one ∷ other ∷ []
+named_words (command.Show name what) = shown_word what ∷ name ∷ []
+named_words (command.Packet which fate) = fate_word fate ∷ which_word which ∷ []
+named_words (command.Drain most) = codes "drain" ∷ decimal most ∷ []
+named_words (command.Cut p) = codes "cut" ∷ port_word p ∷ []
+named_words (command.Plug p q) = codes "plug" ∷ port_word p ∷ port_word q ∷ []
+named_words (command.Ping p lid) = codes "ping" ∷ port_word p ∷ decimal lid ∷ []
+named_words command.Tables = codes "tables" ∷ []
+named_words command.Flight = codes "flight" ∷ []
 
 -- lines ----------------------------------------------------------------------------------------
 

@@ -2,63 +2,14 @@
 use Rattle.std.specs.Prelude.{◌≡◌, ℕ, List, [], ◌∷◌, Ok, codes, decimal, map, slice_get}
 use Rattle.std.specs.Option.{option_map_or}
 use Rattle.fabric_model.specs.declared.cable.NodePort.{NodePort}
-use Rattle.text_words.specs.Printed.{lines_text, named_text}
+use Rattle.text_words.specs.Printed.{lines_text}
 use Rattle.topo_file.specs.declared.node.Node.{Node}
 use Rattle.topo_file.specs.Printed.{name_at}
-use Rattle.schedule_file.specs.declared.command.Ask.{Ask}
-use Rattle.schedule_file.specs.declared.command.Ask.TheVariants.{Sweep, Write, Handover, Poll}
 use Rattle.schedule_file.specs.declared.command.Command.TheVariants as command
-use Rattle.schedule_file.specs.declared.command.Fate.{Fate}
-use Rattle.schedule_file.specs.declared.command.Fate.TheVariants.{Deliver, Lose, Repeat}
-use Rattle.schedule_file.specs.declared.command.Shown.{Shown}
-use Rattle.schedule_file.specs.declared.command.Shown.TheVariants.{Facts, Plan, Progress, State}
-use Rattle.schedule_file.specs.declared.command.Which.{Which}
-use Rattle.schedule_file.specs.declared.command.Which.TheVariants.{Last, Serial}
 use Rattle.schedule_file.specs.declared.named.PortName.{PortName}
 use Rattle.schedule_file.specs.declared.schedule.Seat.{Seat}
-use Rattle.schedule_file.specs.Command.{NamedCommand}
+use Rattle.schedule_file.specs.Command.{named_words, port_word}
 use Rattle.schedule_file.specs.Schedule.{Script, SeatCommand, schedule_of}
-
--- a port, by the name of its node
-abbrev pub port_word : PortName → List ℕ
-port_word p = named_text p.node p.port
-
-abbrev pub which_word : Which → List ℕ
-which_word Last = codes "last"
-which_word (Serial serial) = decimal serial
-
-abbrev pub fate_word : Fate → List ℕ
-fate_word Deliver = codes "deliver"
-fate_word Lose = codes "lose"
-fate_word Repeat = codes "repeat"
-
-abbrev pub shown_word : Shown → List ℕ
-shown_word Facts = codes "facts"
-shown_word Plan = codes "plan"
-shown_word Progress = codes "progress"
-shown_word State = codes "state"
-
-abbrev pub ask_words : Ask → List ℕ → List (List ℕ)
-ask_words Sweep name = codes "sweep" ∷ name ∷ []
-ask_words Write name = codes "write" ∷ name ∷ []
-ask_words Handover name = codes "handover" ∷ name ∷ []
-ask_words (Poll lid) name = codes "poll" ∷ name ∷ decimal lid ∷ []
-
--- the words of a command; those of a new manager say more of it
-abbrev pub named_words : NamedCommand → List (List ℕ)
-named_words (command.Manager name) = []
-named_words (command.Ask name what) = ask_words what name
-named_words (command.Timeout name) = codes "timeout" ∷ name ∷ []
-named_words (command.Floor name floor) = codes "floor" ∷ name ∷ decimal floor ∷ []
-named_words (command.Merge one other) = codes "merge" ∷ one ∷ other ∷ []
-named_words (command.Show name what) = shown_word what ∷ name ∷ []
-named_words (command.Packet which fate) = fate_word fate ∷ which_word which ∷ []
-named_words (command.Drain most) = codes "drain" ∷ decimal most ∷ []
-named_words (command.Cut p) = codes "cut" ∷ port_word p ∷ []
-named_words (command.Plug p q) = codes "plug" ∷ port_word p ∷ port_word q ∷ []
-named_words (command.Ping p lid) = codes "ping" ∷ port_word p ∷ decimal lid ∷ []
-named_words command.Tables = codes "tables" ∷ []
-named_words command.Flight = codes "flight" ∷ []
 
 -- the names that a command tells of managers and ports
 abbrev pub manager_at : List Seat → ℕ → List ℕ
